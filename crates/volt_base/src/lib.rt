@@ -1,0 +1,15 @@
+//! What every crate of the database speaks of: numbers, bytes, log entries, and engines.
+//!
+//! An engine is one partition's tables. The cluster moves entries to it and knows no SQL: all that
+//! it may use of an engine is what the trait `Engine` says.
+#![tactic(auto)]
+
+mod bytes;
+mod engine;
+mod entry;
+mod numbers;
+
+pub use bytes::Bytes;
+pub use engine::{Engine, MakeEngine};
+pub use entry::{Applied, Entry, Outcome};
+pub use numbers::{CallNo, HostNo, PartNo, Pos, SlotNo, Stamp, Start, Term};
