@@ -12,4 +12,4 @@ mod numbers;
 pub use bytes::Bytes;
 pub use engine::{Engine, MakeEngine};
 pub use entry::{Applied, Entry, Outcome};
-pub use numbers::{CallNo, HostNo, PartNo, Pos, SlotNo, Stamp, Start, Term};
+pub use numbers::{CallNo, ClientNo, HostNo, PartNo, Pos, SlotNo, Stamp, Start, Term};

@@ -9,6 +9,9 @@ pub type SlotNo = u8;
 /// A partition, from 0 on.
 pub type PartNo = u8;
 
+/// A client, from 1 on.
+pub type ClientNo = u8;
+
 /// A call of the input, from 1 on, in the order of the script's lines.
 pub type CallNo = u32;
 

@@ -1,0 +1,61 @@
+-- A site keeps the log of its copy, and the tables that the log leads to.
+use Rattle.std.specs.Prelude.{ℕ, ◌==◌, if◌then◌else◌, Bool, List, [], ◌∷◌, ◌++◌, length, nat_lt}
+use Rattle.volt_base.specs.Semantics.{Semantics}
+use Rattle.volt_base.specs.declared.entry.Entry.{Entry}
+use Rattle.volt_base.specs.declared.entry.Entry.TheVariants.{Sp}
+use Rattle.volt_wire.specs.declared.actor.Actor.{Actor}
+use Rattle.volt_wire.specs.declared.actor.Actor.TheVariants.{Director, Client, Agent, Site}
+use Rattle.volt_wire.specs.declared.message.Msg.{Msg}
+use Rattle.volt_wire.specs.declared.message.Msg.TheVariants as msg
+use Rattle.cluster_model.specs.Actors.{Sends}
+
+-- the state after these entries
+abbrev pub replay : (S : Semantics) → S.State → List Entry → S.State
+replay S state [] = state
+replay S state (e ∷ es) = replay S (S.after state e) es
+
+-- a reply that waits until its entry is firm, and the agent's host and start that asked for it
+pub record Waiting : Type 0 where
+  pub host : ℕ
+  pub start : ℕ
+  pub call : ℕ
+  pub reply : List ℕ
+
+pub record SiteState : Type 0 where
+  -- all entries since the boot
+  pub log : List Entry
+  -- how many of them are on disk
+  pub on_disk : ℕ
+  -- the replies to entries that aren't firm yet, in order of the log
+  pub waiting : List Waiting
+
+-- what the log of site i has led to. The site of slot i has the copy of partition i.
+abbrev pub tables : (S : Semantics) → ℕ → SiteState → S.State
+tables S i s = replay S (S.opening i) s.log
+
+-- SpCall from an agent: the leader appends the call with this stamp as its point, and applies it. The
+-- reply is what the entry answers at its place in the log, and waits.
+abbrev pub site_after : (S : Semantics) → ℕ → ℕ → SiteState → Actor → Msg → SiteState
+site_after S stamp i s (Agent h) (msg.SpCall call start body) =
+    record s {
+      log = s.log ++ Sp call stamp body ∷ [];
+      waiting = s.waiting ++ record { host = h; start = start; call = call; reply = S.answer (tables S i s) (Sp call stamp body) } ∷ [];
+    }
+site_after S stamp i s from m = s
+
+-- a site owes its disk an entry
+abbrev pub owes : SiteState → Bool
+owes s = nat_lt s.on_disk (length s.log)
+
+-- Sync: all entries are on disk. The leader has no copies to wait for, so they are firm, and each reply
+-- that waited is sent.
+abbrev pub synced : SiteState → SiteState
+synced s = record s { on_disk = length s.log; waiting = [] }
+
+abbrev pub replies_to : ℕ → List Waiting → List Msg
+replies_to h [] = []
+replies_to h (w ∷ ws) = if w.host == h then msg.Reply w.call w.start w.reply ∷ replies_to h ws else replies_to h ws
+
+abbrev pub sync_sends : SiteState → Sends
+sync_sends s (Agent h) = replies_to h s.waiting
+sync_sends s b = []
