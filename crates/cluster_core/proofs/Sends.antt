@@ -1,0 +1,29 @@
+-- What an outbox holds for each actor after a message more.
+use Rattle.std.proofs.Common.{◌≡◌, zero, suc, Bool, true, false, List, [], ◌∷◌, ◌++◌, refl, ap, sym, ◌∙◌, append_assoc, arith}
+use Rattle.std.specs.Prelude.{if◌then◌else◌, Some}
+use Rattle.std.proofs.Math.Dec.{eqb-zero-suc}
+use Rattle.std.proofs.lemmas.List.{append-nil}
+use Rattle.volt_wire.specs.declared.actor.Actor.{Actor}
+use Rattle.volt_wire.specs.declared.actor.Actor.TheVariants.{Director, Client, Agent, Site}
+use Rattle.volt_wire.specs.declared.message.Msg.{Msg}
+use Rattle.volt_wire.specs.declared.message.Msg.TheVariants as msg
+use Rattle.cluster_model.specs.declared.state.Due.{Due}
+use Rattle.cluster_model.specs.Actors.{same, only}
+use Rattle.cluster_model.specs.Client.{submit_sends}
+use Rattle.cluster_core.specs.Outbox.{sent_to, SendsMore}
+
+chosen : (t : Bool) (m : Msg) (xs ys : List Msg) → (if t then m ∷ (xs ++ ys) else (xs ++ ys)) ≡ (if t then m ∷ xs else xs) ++ ys
+chosen true m xs ys = refl
+chosen false m xs ys = refl
+
+-- one message more is at the end of what its receiver gets
+pub sent_to-push : (b to : Actor) (m : Msg) (xs : List (Actor × Msg)) → sent_to b (xs ++ (to, m) ∷ []) ≡ sent_to b xs ++ only to m b
+sent_to-push b to m [] = refl
+sent_to-push b to m (x ∷ xs) = ap (λ (ys : List Msg). if same x.0 b then x.1 ∷ ys else ys) (sent_to-push b to m xs) ∙ chosen (same x.0 b) x.1 (sent_to b xs) (only to m b)
+
+-- a submitted call: the director is told, and the agent gets the call
+pub sends_submit : (old mid new : List (Actor × Msg)) (due : Due) (left : List Due)
+    → SendsMore old mid (only Director msg.Told)
+    → SendsMore mid new (only (Agent 0) (msg.Call due.call 1 due.part due.body))
+    → SendsMore old new (submit_sends (due ∷ left))
+sends_submit old mid new due left p q b = q b ∙ ap (λ (ys : List Msg). ys ++ only (Agent 0) (msg.Call due.call 1 due.part due.body) b) (p b) ∙ append_assoc (sent_to b old) (only Director msg.Told b) (only (Agent 0) (msg.Call due.call 1 due.part due.body) b)

@@ -1,0 +1,8 @@
+//! The world: its actors, the messages under way, and one event after another.
+#![tactic(auto)]
+
+mod agent;
+mod client;
+mod director;
+mod outbox;
+mod site;
