@@ -1,2 +1,4 @@
 pub mod Sends
 pub mod SiteSteps
+pub mod RouteLemmas
+pub mod ChannelLemmas

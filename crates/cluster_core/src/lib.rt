@@ -2,7 +2,9 @@
 #![tactic(auto)]
 
 mod agent;
+mod channels;
 mod client;
 mod director;
 mod outbox;
+mod route;
 mod site;

@@ -1,0 +1,18 @@
+use Rattle.std.proofs.Common.{◌≡◌, List, drop, ap, ◌∙◌, arith}
+use Rattle.std.proofs.lemmas.Bool.Decides.{nat_tests}
+use Rattle.volt_wire.specs.declared.message.Msg.{Msg}
+use Rattle.cluster_core.specs.Channels.{queue_of, shown}
+use Rattle.cluster_core.proofs.ChannelLemmas.{popped_back, popped_out}
+use Rattle.cluster_core.proofs.channels.Channels.pop.Goals as goal
+use Rattle.cluster_core.proofs.channels.Channels.pop.Goals.{then-not-is_empty+in_ok-put_queue, else-not-is_empty}
+
+pub returns-clause-others : goal.returns-clause-others
+returns-clause-others c =
+    let taken = c.take_queue-queue.ensures in
+    let left : c.pop_front-first.new.self.items ≡ drop 1 (queue_of (shown c.self.inside.queues.entries) c.args.from c.args.to) =
+    c.pop_front-first.ensures.rest ∙ ap (drop {A = Msg} 1) taken.queue in
+    rw (← c.self.view_is)
+    (elim c.if-not-is_empty.branch [
+      | then-not-is_empty+in_ok-put_queue w ↦ rw w.self-is (popped_back (queue_of (shown c.self.inside.queues.entries)) (queue_of (shown c.take_queue-queue.new.queues.entries)) _ c.args.from c.args.to _ left taken.others w.in_ok-put_queue.ensures)
+      | else-not-is_empty w ↦ rw w.self-is (popped_out (queue_of (shown c.self.inside.queues.entries)) _ c.args.from c.args.to _ left (grind (arith, nat_tests)) taken.others)
+    ])

@@ -1,0 +1,25 @@
+-- The messages under way, as a list of routes with their queues.
+use Rattle.std.specs.Prelude.{◌≡◌, ◌&&◌, if◌then◌else◌, List, [], ◌∷◌, map, Option, Some, None}
+use Rattle.std.specs.Global.{Global}
+use Rattle.std.specs.declared.collections.VecDeque.{VecDeque}
+use Rattle.volt_wire.specs.declared.actor.Actor.{Actor}
+use Rattle.volt_wire.specs.declared.message.Msg.{Msg}
+use Rattle.cluster_model.specs.Actors.{same}
+use Rattle.cluster_core.specs.declared.route.Route.{Route}
+
+-- the queue from one actor to another
+abbrev pub queue_of : List (Route × List Msg) → Actor → Actor → List Msg
+queue_of [] from to = []
+queue_of (e ∷ es) from to = if same to e.0.to && same from e.0.from then e.1 else queue_of es from to
+
+-- the entries of a map of queues, as that list
+abbrev pub shown : List (Route × VecDeque Msg Global) → List (Route × List Msg)
+shown es = map (λ e. (e.0, e.1.items)) es
+
+-- the channels with this queue on one route
+abbrev pub with_queue : (Actor → Actor → List Msg) → Route → List Msg → Actor → Actor → List Msg
+with_queue channel route queue from to = if same route.to to && same route.from from then queue else channel from to
+
+abbrev pub first_message : List Msg → Option Msg
+first_message [] = None
+first_message (m ∷ ms) = Some m
