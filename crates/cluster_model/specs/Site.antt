@@ -7,19 +7,13 @@ use Rattle.volt_wire.specs.declared.actor.Actor.{Actor}
 use Rattle.volt_wire.specs.declared.actor.Actor.TheVariants.{Director, Client, Agent, Site}
 use Rattle.volt_wire.specs.declared.message.Msg.{Msg}
 use Rattle.volt_wire.specs.declared.message.Msg.TheVariants as msg
+use Rattle.cluster_model.specs.declared.state.Waiting.{Waiting}
 use Rattle.cluster_model.specs.Actors.{Sends}
 
 -- the state after these entries
 abbrev pub replay : (S : Semantics) → S.State → List Entry → S.State
 replay S state [] = state
 replay S state (e ∷ es) = replay S (S.after state e) es
-
--- a reply that waits until its entry is firm, and the agent's host and start that asked for it
-pub record Waiting : Type 0 where
-  pub host : ℕ
-  pub start : ℕ
-  pub call : ℕ
-  pub reply : List ℕ
 
 pub record SiteState : Type 0 where
   -- all entries since the boot

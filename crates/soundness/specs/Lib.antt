@@ -2,3 +2,4 @@ pub mod Meaning
 pub mod Sound
 pub mod Tied
 pub mod Carries
+pub mod Law

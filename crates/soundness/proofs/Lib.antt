@@ -1,0 +1,5 @@
+pub mod Past
+pub mod Explained
+pub mod Channels
+pub mod Phases
+pub mod Law
