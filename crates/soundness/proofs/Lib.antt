@@ -2,4 +2,5 @@ pub mod Past
 pub mod Explained
 pub mod Channels
 pub mod Phases
+pub mod Steps
 pub mod Law

@@ -6,8 +6,9 @@ use Rattle.volt_base.specs.declared.entry.Entry.TheVariants.{Sp}
 use Rattle.volt_wire.specs.declared.message.Msg.{Msg}
 use Rattle.volt_wire.specs.declared.message.Msg.TheVariants as msg
 use Rattle.cluster_model.specs.Client.{may_submit}
-use Rattle.cluster_model.specs.Agent.{Pending}
-use Rattle.cluster_model.specs.Site.{Waiting, owes}
+use Rattle.cluster_model.specs.declared.state.Pending.{Pending}
+use Rattle.cluster_model.specs.declared.state.Waiting.{Waiting}
+use Rattle.cluster_model.specs.Site.{owes}
 use Rattle.cluster_model.specs.World.{World, due}
 use Rattle.soundness.specs.Meaning.{Meaning}
 use Rattle.soundness.specs.Carries.{Carries, world_calls}
@@ -142,7 +143,7 @@ module _ {A : Type 0} where
 -- under way.
 pub record Stands (S : Semantics) (M : Meaning) (h : Carries S M) (calls : List M.Call) (w : World) (past : List (Past M.Call)) (n : ℕ) (phase : Phase M.Call) (left : List M.Call) (told : ℕ) : Type 0 where
   pub number : n ≡ length past + 1
-  pub all : calls_of past ++ asked_of phase ++ left ≡ calls
+  pub all : calls_of past ++ (asked_of phase ++ left) ≡ calls
   pub client : w.clients 1 ≡ record { left = due 1 (next_of n phase) (world_calls M h.body left); pending = pending_of n phase; ended = map (ended_line h.reply_bytes) (lines_from M 1 (M.database []) past) }
   pub agent : w.agents 0 ≡ record { start = 1; pending = taken_of n phase }
   pub site : w.sites 0 ≡ record { log = entries_from h.body 1 past ++ entry_of h.body n phase; on_disk = length (entries_from h.body 1 past ++ firm_of h.body n phase); waiting = waiting_of (λ c. h.reply_bytes (M.reply (database_of M (M.database []) past) c)) n phase }
