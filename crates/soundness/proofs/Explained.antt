@@ -1,15 +1,128 @@
 -- The report of calls that ended one after another is sound.
-use Rattle.std.proofs.Common.{◌≡◌, ℕ, true, ◌+◌, ◌<◌, ◌≤◌, List, [], ◌∷◌, ◌++◌, length, map, Some}
-use Rattle.std.specs.List.{range_with_len}
+use Rattle.std.proofs.Common.{◌≡◌, ℕ, suc, zero, ◌==◌, ◌&&◌, ◌||◌, not, Bool, true, false, cond, nat_lt, nat_le, ◌+◌, ◌<◌, ◌≤◌, List, [], ◌∷◌, ◌++◌, length, map, Some, refl, sym, ap, ◌∙◌, subst, append_assoc, arith, add-one, count_by, filter}
+use Rattle.std.specs.List.{range_with_len, list_all, list_any, AllByRecursion}
+use Rattle.std.proofs.lemmas.List.{length_push}
+use Rattle.std.proofs.lemmas.List.Sums.{sum_by-cons}
+use Rattle.std.proofs.lemmas.Bool.{and_from, and_parts, eq-eqb, or_right, ne_eqb, lt-ltb, le-leb}
+use Rattle.std.proofs.lemmas.Bool.Decides.{nat_tests}
+use Rattle.volt_base.specs.declared.entry.Applied.{Applied}
 use Rattle.volt_wire.specs.declared.event.Event.{Event}
+use Rattle.volt_report.specs.Report.{ReportEnd, CallLine}
 use Rattle.soundness.specs.Meaning.{Meaning, Asked}
-use Rattle.soundness.specs.Sound.{Sound, is_answer}
+use Rattle.soundness.specs.Sound.{Sound, ShowsPart, is_answer, call_at, next, database_after, reply_in, is_call_of, front_with, times, has_no_double, is_between, is_in_time, IsReply, rises_from, is_in_copy}
 use Rattle.soundness.specs.Carries.{script}
-use Rattle.soundness.proofs.Past.{Past, calls_of, lines_from, Timed, report_of}
+use Rattle.soundness.proofs.Past.{Past, calls_of, applied_from, lines_from, database_of, Timed, Named, report_of, length-applied_from}
+
+-- ---- lists of calls that are numbered on
+
+-- a test that each call from number n on passes
+list_all-applied : {A : Type 0} (n : ℕ) (past : List (Past A)) (test : Applied → Bool) → ((a : Applied) → n ≤ a.call → a.call < n + length past → test a ≡ true) → list_all test (applied_from n past) ≡ true
+list_all-applied n [] test each = refl
+list_all-applied n (p ∷ past) test each =
+    and_from (test (record { call = n; point = p.point })) (list_all test (applied_from (n + 1) past)) (each (record { call = n; point = p.point }) (omega arith) (omega arith))
+      (list_all-applied (n + 1) past test (λ a l u. each a (omega arith) (omega arith)))
+
+-- a test that follows from another one for the calls from number n on
+list_all-from : {A : Type 0} (n : ℕ) (past : List (Past A)) (test other : Applied → Bool) → ((a : Applied) → n ≤ a.call → other a ≡ true → test a ≡ true) → list_all other (applied_from n past) ≡ true → list_all test (applied_from n past) ≡ true
+list_all-from n [] test other each h = refl
+list_all-from n (p ∷ past) test other each h =
+    let a : Applied = record { call = n; point = p.point } in
+    let parts = and_parts (other a) (list_all other (applied_from (n + 1) past)) h in
+    and_from (test a) (list_all test (applied_from (n + 1) past)) (each a (omega arith) parts.0)
+      (list_all-from (n + 1) past test other (λ b l. each b (omega arith)) parts.1)
+
+-- a test that each line from number n on passes
+list_all-lines : (M : Meaning) (n : ℕ) (d : M.Database) (past : List (Past M.Call)) (test : CallLine → Bool) → ((line : CallLine) → n ≤ line.call → line.call < n + length past → test line ≡ true) → list_all test (lines_from M n d past) ≡ true
+list_all-lines M n d [] test each = refl
+list_all-lines M n d (p ∷ past) test each =
+    let line : CallLine = record { call = n; client = 1; submitted = p.submitted; ended = p.ended; end = M.reply d p.call } in
+    and_from (test line) (list_all test (lines_from M (n + 1) (M.after d p.call) past)) (each line (omega arith) (omega arith))
+      (list_all-lines M (n + 1) (M.after d p.call) past test (λ x l u. each x (omega arith) (omega arith)))
+
+-- a fact that follows from another one for the lines from number n on
+AllByRecursion-lines : (M : Meaning) (n : ℕ) (d : M.Database) (past : List (Past M.Call)) (P Q : CallLine → Type 0) → ((line : CallLine) → n ≤ line.call → Q line → P line) → AllByRecursion Q (lines_from M n d past) → AllByRecursion P (lines_from M n d past)
+AllByRecursion-lines M n d [] P Q each h = tt
+AllByRecursion-lines M n d (p ∷ past) P Q each h =
+    (each _ (omega arith) h.0, AllByRecursion-lines M (n + 1) (M.after d p.call) past P Q (λ line l. each line (omega arith)) h.1)
+
+-- ---- each call stands in the list once
+
+count_by-cons : {X : Type 0} (test : X → Bool) (x : X) (xs : List X) → count_by test (x ∷ xs) ≡ cond (test x) 1 0 + count_by test xs
+count_by-cons test x xs = sum_by-cons (λ y. cond (test y) 1 0) x xs
+
+-- a number below the first isn't there
+times_below : {A : Type 0} (n : ℕ) (past : List (Past A)) (k : ℕ) → k < n → times k (applied_from n past) ≡ 0
+times_below n [] k l = refl
+times_below n (p ∷ past) k l =
+    let e = count_by-cons (λ a. a.call == k) (record { call = n; point = p.point }) (applied_from (n + 1) past) in
+    let i = times_below (n + 1) past k (omega arith) in
+    grind (arith, nat_tests, e, i)
+
+times_once : {A : Type 0} (n : ℕ) (past : List (Past A)) (k : ℕ) → n ≤ k → k < n + length past → times k (applied_from n past) ≡ 1
+times_once n [] k l u = absurd (omega arith)
+times_once n (p ∷ past) k l u = ?
+
+-- no later call has an earlier number
+none_below : {A : Type 0} (n : ℕ) (past : List (Past A)) (k : ℕ) → k < n → list_any (λ b. b.call == k) (applied_from n past) ≡ false
+none_below n [] k l = refl
+none_below n (p ∷ past) k l = rw (ne_eqb n k (omega arith)) (none_below (n + 1) past k (omega arith))
+
+no_double : {A : Type 0} (n : ℕ) (past : List (Past A)) → has_no_double (applied_from n past) ≡ true
+no_double n [] = refl
+no_double n (p ∷ past) = rw (none_below (n + 1) past n (omega arith)) (no_double (n + 1) past)
+
+-- ---- times
+
+in_time_below : (M : Meaning) (n : ℕ) (d : M.Database) (past : List (Past M.Call)) (a : Applied) → a.call < n → is_in_time (lines_from M n d past) a ≡ true
+in_time_below M n d past a l = list_all-lines M n d past _ (λ line f u. rw (ne_eqb line.call a.call (omega arith)))
+
+in_time : (M : Meaning) (n low high : ℕ) (d : M.Database) (past : List (Past M.Call)) → Timed low past high → list_all (is_in_time (lines_from M n d past)) (applied_from n past) ≡ true
+in_time M n low high d [] t = refl
+in_time M n low high d (p ∷ past) t = ?
+
+rises : {A : Type 0} (n low start high : ℕ) (past : List (Past A)) → low ≤ start → Timed start past high → rises_from low (applied_from n past) ≡ true
+rises n low start high [] l t = refl
+rises n low start high (p ∷ past) l t =
+    and_from (nat_le low p.point) (rises_from p.point (applied_from (n + 1) past)) (le-leb _ _ (omega (arith, t.0, t.1))) (rises (n + 1) p.point p.ended high past (omega (arith, t.2)) t.3)
+
+-- ---- what the calls are
+
+-- the calls of a script are named
+names : (M : Meaning) (before past : List (Past M.Call)) (n : ℕ) → n ≡ length before + 1 → Named M (script M (calls_of (before ++ past))).calls n past
+names M before [] n e = tt
+names M before (p ∷ past) n e = (?, subst (λ x. Named M (script M (calls_of x)).calls (n + 1) past) (append_assoc before (p ∷ []) past) (names M (before ++ p ∷ []) past (n + 1) (omega (arith, length_push before p, e))))
+
+module _ (M : Meaning) (past_all : List M.Call) where
+  database_is : (n : ℕ) (d : M.Database) (past : List (Past M.Call)) → Named M (script M past_all).calls n past → database_after M (script M past_all) d (applied_from n past) ≡ database_of M d past
+  database_is n d [] h = refl
+  database_is n d (p ∷ past) h = ?
+
+  replies_are : ((d : M.Database) (c : M.Call) → is_answer (M.reply d c) ≡ true) → (n : ℕ) (d : M.Database) (past : List (Past M.Call)) → Named M (script M past_all).calls n past → AllByRecursion (λ line. IsReply (is_answer line.end) (reply_in M (script M past_all) d (applied_from n past) line.call) line.end) (lines_from M n d past)
+  replies_are answers n d [] h = tt
+  replies_are answers n d (p ∷ past) h = (?, ?)
+
+-- ---- the copy
+
+-- where each call is the partition's, a front with all of them is the list
+front_with_all : (test : Applied → Bool) (list : List Applied) → list_all test list ≡ true → front_with test (length list) list ≡ list
+front_with_all test [] h = refl
+front_with_all test (a ∷ list) h = ?
+
+count_by_all : (test : Applied → Bool) (list : List Applied) → list_all test list ≡ true → count_by test list ≡ length list
+count_by_all test [] h = refl
+count_by_all test (a ∷ list) h = ?
+
+filter_all : (test : Applied → Bool) (list : List Applied) → list_all test list ≡ true → filter test list ≡ list
+filter_all test [] h = refl
+filter_all test (a ∷ list) h = ?
+
+all_there : (list : List Applied) → list_all (λ a. list_any (λ b. b.call == a.call) list) list ≡ true
+all_there list = ?
 
 pub report_is_sound : (M : Meaning) (past : List (Past M.Call)) (high : ℕ) (trace : List Event) → M.parts ≡ 1 → ((c : M.Call) → M.is_call_of 0 c ≡ true) → ((d : M.Database) (c : M.Call) → is_answer (M.reply d c) ≡ true) → Timed 0 past high → Sound M (script M (calls_of past)) (report_of M past trace)
 report_is_sound M past high trace one all answers timed = ?
 
 -- the lines have the numbers of the calls
 pub lines_numbered : (M : Meaning) (n : ℕ) (d : M.Database) (past : List (Past M.Call)) → map (λ line. line.call) (lines_from M n d past) ≡ range_with_len n (length past)
-lines_numbered M n d past = ?
+lines_numbered M n d [] = refl
+lines_numbered M n d (p ∷ past) = ap (λ x. n ∷ x) (lines_numbered M (n + 1) (M.after d p.call) past)

@@ -1,5 +1,5 @@
 -- The calls of a run that ended, as plain values, and what a report says of them.
-use Rattle.std.proofs.Common.{◌≡◌, ℕ, ◌+◌, ◌<◌, ◌≤◌, List, [], ◌∷◌, ◌++◌, length, map, Some, refl, sym, ap, ◌∙◌, append_assoc, append-nil, arith}
+use Rattle.std.proofs.Common.{◌≡◌, ℕ, suc, ◌+◌, ◌<◌, ◌≤◌, List, [], ◌∷◌, ◌++◌, length, map, Some, refl, sym, ap, ◌∙◌, append_assoc, append-nil, arith}
 use Rattle.volt_base.specs.Semantics.{Semantics}
 use Rattle.volt_base.specs.declared.entry.Applied.{Applied}
 use Rattle.volt_base.specs.declared.entry.Entry.{Entry}
@@ -98,3 +98,7 @@ applied_after_log S M h n s (p ∷ past) =
     applied_after_log S M h (n + 1) (S.after s (Sp n p.point (h.body p.call))) past
     ∙ (ap (λ x. x ++ applied_from (n + 1) past) (h.applied s n p.point p.call)
     ∙ append_assoc (S.applied s) (record { call = n; point = p.point } ∷ []) (applied_from (n + 1) past))
+
+pub length-applied_from : {A : Type 0} (n : ℕ) (past : List (Past A)) → length (applied_from n past) ≡ length past
+length-applied_from n [] = refl
+length-applied_from n (p ∷ past) = ap suc (length-applied_from (n + 1) past)
