@@ -123,8 +123,8 @@ quiet_is_sound S M h calls es is_run quiet =
     let e : calls_of past ≡ calls = sym (append-nil (calls_of past)) ∙ st.all in
     (report_of M past w.trace,
       shows_past S M h calls w past g.1 g.4 st,
-      subst (λ x. Sound M (script M x) (report_of M past w.trace)) e (report_is_sound M past (length w.trace) w.trace h.one_part h.all_calls h.is_answer st.timed),
-      lines_numbered M 1 (M.database []) past ∙ ap (range_with_len 1) (sym (length-map (λ p. p.call) past) ∙ ap length e))
+      subst (λ x. Sound M (script M x) (report_of M past w.trace)) e (report_is_sound M past (length w.trace) w.trace h.one_part h.all_calls st.timed),
+      lines_numbered M 1 (M.database []) past ∙ ap (range_with_len 1) (sym (length-map past (λ p. p.call)) ∙ ap length e))
 
 pub run_is_short : (S : Semantics) (M : Meaning) (h : Carries S M) (calls : List M.Call) (es : List Event) → IsRun S es (start_of S M h calls) → length es ≤ 7 * length calls
 run_is_short S M h calls es is_run =
