@@ -1,5 +1,5 @@
 -- The channels of a world with one client, one agent and one site.
-use Rattle.std.proofs.Common.{◌≡◌, ℕ, zero, suc, ◌==◌, ◌&&◌, Bool, true, false, if◌then◌else◌, List, [], ◌∷◌, ◌++◌, refl, ap, sym, subst, subst₂, ◌∙◌}
+use Rattle.std.proofs.Common.{◌≡◌, ◌==◌, ◌&&◌, Bool, true, false, if◌then◌else◌, List, [], ◌++◌, refl, ap, sym, subst, subst₂, ◌∙◌}
 use Rattle.std.proofs.lemmas.Bool.{false≢true, eqb-true, and_parts}
 use Rattle.volt_wire.specs.declared.actor.Actor.{Actor}
 use Rattle.volt_wire.specs.declared.actor.Actor.TheVariants.{Director, Client, Agent, Site}
@@ -75,6 +75,7 @@ each_used P told call sp reply answer (Agent h) (Client n) u =
 each_used P told call sp reply answer _ _ u = absurd (false≢true u)
 
 module _ (channel : Actor → Actor → List Msg) (tolds calls sps replies answers : List Msg) (h : Channels channel tolds calls sps replies answers) where
+  -- the director takes a word
   pub Channels-took_told : Channels (took channel (Client 1) Director) (rest tolds) calls sps replies answers
   Channels-took_told = record {
     told = ap rest h.told;
@@ -82,8 +83,10 @@ module _ (channel : Actor → Actor → List Msg) (tolds calls sps replies answe
     sp = h.sp;
     reply = h.reply;
     answer = h.answer;
-    other = λ a b u. took_nothing (same Director b && same (Client 1) a) (channel a b) (h.other a b u) }
+    other = λ a b u. took_nothing (same Director b && same (Client 1) a) (channel a b) (h.other a b u);
+  }
 
+  -- the agent takes a call
   pub Channels-took_call : Channels (took channel (Client 1) (Agent 0)) tolds (rest calls) sps replies answers
   Channels-took_call = record {
     told = h.told;
@@ -91,8 +94,10 @@ module _ (channel : Actor → Actor → List Msg) (tolds calls sps replies answe
     sp = h.sp;
     reply = h.reply;
     answer = h.answer;
-    other = λ a b u. took_nothing (same (Agent 0) b && same (Client 1) a) (channel a b) (h.other a b u) }
+    other = λ a b u. took_nothing (same (Agent 0) b && same (Client 1) a) (channel a b) (h.other a b u);
+  }
 
+  -- the site takes a call
   pub Channels-took_sp : Channels (took channel (Agent 0) (Site 0)) tolds calls (rest sps) replies answers
   Channels-took_sp = record {
     told = h.told;
@@ -100,8 +105,10 @@ module _ (channel : Actor → Actor → List Msg) (tolds calls sps replies answe
     sp = ap rest h.sp;
     reply = h.reply;
     answer = h.answer;
-    other = λ a b u. took_nothing (same (Site 0) b && same (Agent 0) a) (channel a b) (h.other a b u) }
+    other = λ a b u. took_nothing (same (Site 0) b && same (Agent 0) a) (channel a b) (h.other a b u);
+  }
 
+  -- the agent takes a reply
   pub Channels-took_reply : Channels (took channel (Site 0) (Agent 0)) tolds calls sps (rest replies) answers
   Channels-took_reply = record {
     told = h.told;
@@ -109,8 +116,10 @@ module _ (channel : Actor → Actor → List Msg) (tolds calls sps replies answe
     sp = h.sp;
     reply = ap rest h.reply;
     answer = h.answer;
-    other = λ a b u. took_nothing (same (Agent 0) b && same (Site 0) a) (channel a b) (h.other a b u) }
+    other = λ a b u. took_nothing (same (Agent 0) b && same (Site 0) a) (channel a b) (h.other a b u);
+  }
 
+  -- the client takes an answer
   pub Channels-took_answer : Channels (took channel (Agent 0) (Client 1)) tolds calls sps replies (rest answers)
   Channels-took_answer = record {
     told = h.told;
@@ -118,7 +127,8 @@ module _ (channel : Actor → Actor → List Msg) (tolds calls sps replies answe
     sp = h.sp;
     reply = h.reply;
     answer = ap rest h.answer;
-    other = λ a b u. took_nothing (same (Client 1) b && same (Agent 0) a) (channel a b) (h.other a b u) }
+    other = λ a b u. took_nothing (same (Client 1) b && same (Agent 0) a) (channel a b) (h.other a b u);
+  }
 
   -- what the client sends joins its channels
   pub Channels-sent_client : (sends : Sends) → ((b : Actor) → is_used (Client 1) b ≡ false → sends b ≡ []) → Channels (sent channel (Client 1) sends) (tolds ++ sends Director) (calls ++ sends (Agent 0)) sps replies answers
@@ -129,8 +139,10 @@ module _ (channel : Actor → Actor → List Msg) (tolds calls sps replies answe
     reply = h.reply;
     answer = h.answer;
     other = λ a b u. sent_nothing (same (Client 1) a) (channel a b) (sends b) (h.other a b u)
-      (λ s. n b (subst (λ x. is_used x b ≡ false) (sym (same-true (Client 1) a s)) u)) }
+        (λ s. n b (subst (λ x. is_used x b ≡ false) (sym (same-true (Client 1) a s)) u));
+  }
 
+  -- what the agent sends joins its channels
   pub Channels-sent_agent : (sends : Sends) → ((b : Actor) → is_used (Agent 0) b ≡ false → sends b ≡ []) → Channels (sent channel (Agent 0) sends) tolds calls (sps ++ sends (Site 0)) replies (answers ++ sends (Client 1))
   Channels-sent_agent sends n = record {
     told = h.told;
@@ -139,8 +151,10 @@ module _ (channel : Actor → Actor → List Msg) (tolds calls sps replies answe
     reply = h.reply;
     answer = ap (λ x. x ++ sends (Client 1)) h.answer;
     other = λ a b u. sent_nothing (same (Agent 0) a) (channel a b) (sends b) (h.other a b u)
-      (λ s. n b (subst (λ x. is_used x b ≡ false) (sym (same-true (Agent 0) a s)) u)) }
+        (λ s. n b (subst (λ x. is_used x b ≡ false) (sym (same-true (Agent 0) a s)) u));
+  }
 
+  -- what the site sends joins its channel
   pub Channels-sent_site : (sends : Sends) → ((b : Actor) → is_used (Site 0) b ≡ false → sends b ≡ []) → Channels (sent channel (Site 0) sends) tolds calls sps (replies ++ sends (Agent 0)) answers
   Channels-sent_site sends n = record {
     told = h.told;
@@ -149,4 +163,5 @@ module _ (channel : Actor → Actor → List Msg) (tolds calls sps replies answe
     reply = ap (λ x. x ++ sends (Agent 0)) h.reply;
     answer = h.answer;
     other = λ a b u. sent_nothing (same (Site 0) a) (channel a b) (sends b) (h.other a b u)
-      (λ s. n b (subst (λ x. is_used x b ≡ false) (sym (same-true (Site 0) a s)) u)) }
+        (λ s. n b (subst (λ x. is_used x b ≡ false) (sym (same-true (Site 0) a s)) u));
+  }

@@ -18,6 +18,7 @@ pub record Past (A : Type 0) : Type 0 where
   pub point : ℕ
   pub ended : ℕ
 
+-- what was called
 abbrev pub calls_of : {A : Type 0} → List (Past A) → List A
 calls_of past = map (λ p. p.call) past
 
@@ -67,18 +68,22 @@ report_of M past trace =
 
 -- ---- one call more
 
+-- its line is the last
 pub lines_push : (M : Meaning) (k n : ℕ) (d : M.Database) (past : List (Past M.Call)) (p : Past M.Call) → n ≡ length past + k → lines_from M k d (past ++ p ∷ []) ≡ lines_from M k d past ++ record { call = n; client = 1; submitted = p.submitted; ended = p.ended; end = M.reply (database_of M d past) p.call } ∷ []
 lines_push M k n d [] p e = ap (λ x. record { call = x; client = 1; submitted = p.submitted; ended = p.ended; end = M.reply d p.call } ∷ []) (omega (arith, sym e))
 lines_push M k n d (q ∷ past) p e = ap (λ x. record { call = k; client = 1; submitted = q.submitted; ended = q.ended; end = M.reply d q.call } ∷ x) (lines_push M (k + 1) n (M.after d q.call) past p (omega (arith, e)))
 
+-- its entry is the last
 pub entries_push : {A : Type 0} (body : A → List ℕ) (k n : ℕ) (past : List (Past A)) (p : Past A) → n ≡ length past + k → entries_from body k (past ++ p ∷ []) ≡ entries_from body k past ++ Sp n p.point (body p.call) ∷ []
 entries_push body k n [] p e = ap (λ x. Sp x p.point (body p.call) ∷ []) (omega (arith, sym e))
 entries_push body k n (q ∷ past) p e = ap (λ x. Sp k q.point (body q.call) ∷ x) (entries_push body (k + 1) n past p (omega (arith, e)))
 
+-- its stamps are the latest
 pub Timed-push : {A : Type 0} (low middle high : ℕ) (past : List (Past A)) (p : Past A) → Timed low past middle → middle ≤ p.submitted → p.submitted < p.point → p.point < p.ended → p.ended ≤ high → Timed low (past ++ p ∷ []) high
 Timed-push low middle high [] p t a b c d = (omega arith, b, c, d)
 Timed-push low middle high (q ∷ past) p t a b c d = (t.0, t.1, t.2, Timed-push q.ended middle high past p t.3 a b c d)
 
+-- time goes on
 pub Timed-later : {A : Type 0} (low high later : ℕ) (past : List (Past A)) → Timed low past high → high ≤ later → Timed low past later
 Timed-later low high later [] t l = omega arith
 Timed-later low high later (q ∷ past) t l = (t.0, t.1, t.2, Timed-later q.ended high later past t.3 l)
@@ -99,6 +104,7 @@ applied_after_log S M h n s (p ∷ past) =
     ∙ (ap (λ x. x ++ applied_from (n + 1) past) (h.applied s n p.point p.call)
     ∙ append_assoc (S.applied s) (record { call = n; point = p.point } ∷ []) (applied_from (n + 1) past))
 
+-- the serial list has each call
 pub length-applied_from : {A : Type 0} (n : ℕ) (past : List (Past A)) → length (applied_from n past) ≡ length past
 length-applied_from n [] = refl
 length-applied_from n (p ∷ past) = ap suc (length-applied_from (n + 1) past)

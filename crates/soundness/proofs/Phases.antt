@@ -1,5 +1,5 @@
 -- Where a run stands between two events: the calls that ended, how far the next one has come, and what is left.
-use Rattle.std.proofs.Common.{◌≡◌, ℕ, ◌+◌, ◌*◌, ◌==◌, ◌<◌, ◌≤◌, Bool, true, false, List, [], ◌∷◌, ◌++◌, length, map, replicate, Option, Some, None}
+use Rattle.std.proofs.Common.{◌≡◌, ℕ, ◌+◌, ◌*◌, ◌==◌, ◌<◌, ◌≤◌, false, List, [], ◌∷◌, ◌++◌, length, map, replicate, Option, Some, None}
 use Rattle.volt_base.specs.Semantics.{Semantics}
 use Rattle.volt_base.specs.declared.entry.Entry.{Entry}
 use Rattle.volt_base.specs.declared.entry.Entry.TheVariants.{Sp}
@@ -62,7 +62,7 @@ module _ {A : Type 0} where
   taken_of n (Replied c s p) = record { call = n; client = 1 } ∷ []
   taken_of n (Answered c s p) = []
 
-  -- its entry, and its entry once that is on disk
+  -- its entry
   abbrev pub entry_of : (A → List ℕ) → ℕ → Phase A → List Entry
   entry_of body n Idle = []
   entry_of body n (Called c s) = []
@@ -71,6 +71,7 @@ module _ {A : Type 0} where
   entry_of body n (Replied c s p) = Sp n p (body c) ∷ []
   entry_of body n (Answered c s p) = Sp n p (body c) ∷ []
 
+  -- its entry once that is on disk
   abbrev pub firm_of : (A → List ℕ) → ℕ → Phase A → List Entry
   firm_of body n Idle = []
   firm_of body n (Called c s) = []
@@ -88,7 +89,7 @@ module _ {A : Type 0} where
   waiting_of reply n (Replied c s p) = []
   waiting_of reply n (Answered c s p) = []
 
-  -- what is under way from the client to the agent, on to the site, and back
+  -- what is under way from the client to the agent
   abbrev pub calls_in : (A → List ℕ) → ℕ → Phase A → List Msg
   calls_in body n Idle = []
   calls_in body n (Called c s) = msg.Call n 1 (Some 0) (body c) ∷ []
@@ -97,6 +98,7 @@ module _ {A : Type 0} where
   calls_in body n (Replied c s p) = []
   calls_in body n (Answered c s p) = []
 
+  -- from the agent to the site
   abbrev pub sps_in : (A → List ℕ) → ℕ → Phase A → List Msg
   sps_in body n Idle = []
   sps_in body n (Called c s) = []
@@ -105,6 +107,7 @@ module _ {A : Type 0} where
   sps_in body n (Replied c s p) = []
   sps_in body n (Answered c s p) = []
 
+  -- from the site to the agent
   abbrev pub replies_in : (A → List ℕ) → ℕ → Phase A → List Msg
   replies_in reply n Idle = []
   replies_in reply n (Called c s) = []
@@ -113,6 +116,7 @@ module _ {A : Type 0} where
   replies_in reply n (Replied c s p) = msg.Reply n 1 (reply c) ∷ []
   replies_in reply n (Answered c s p) = []
 
+  -- from the agent to the client
   abbrev pub answers_in : (A → List ℕ) → ℕ → Phase A → List Msg
   answers_in reply n Idle = []
   answers_in reply n (Called c s) = []

@@ -36,13 +36,11 @@ pub fn quiet_runs_are_sound<C: Carried>()
         × Shows C.semantics C.carries.reply_bytes (run C.semantics es (start_of C.semantics C.meaning C.carries calls)) r
         × Sound C.meaning (script C.meaning calls) r
         × (map (λ line. line.call) r.calls ≡ range_with_len 1 (length calls)) }
-{
-}
+{}
 
 /// A run has at most seven events for each call.
 pub fn runs_are_short<C: Carried>()
     ensures { (calls : List C.meaning.Call) (es : List Event)
         → IsRun C.semantics es (start_of C.semantics C.meaning C.carries calls)
         → length es ≤ 7 * length calls }
-{
-}
+{}
