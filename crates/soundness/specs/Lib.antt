@@ -3,3 +3,4 @@ pub mod Sound
 pub mod Tied
 pub mod Carries
 pub mod Law
+pub mod Adding

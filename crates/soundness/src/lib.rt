@@ -44,3 +44,26 @@ pub fn runs_are_short<C: Carried>()
         → IsRun C.semantics es (start_of C.semantics C.meaning C.carries calls)
         → length es ≤ 7 * length calls }
 {}
+
+#[cfg(test)]
+mod tests {
+    use crate::{Carried, quiet_runs_are_sound, runs_are_short};
+
+    struct Adding;
+
+    impl Carried for Adding {
+        ghost use Rattle.soundness.specs.Adding.{adding, adding_engine, adding_carried};
+
+        ghost meaning = { adding };
+
+        ghost semantics = { adding_engine };
+
+        ghost carries = { adding_carried };
+    }
+
+    #[test]
+    fn the_laws_hold_of_an_engine_that_adds() {
+        quiet_runs_are_sound::<Adding>();
+        runs_are_short::<Adding>();
+    }
+}
