@@ -6,7 +6,7 @@ use Rattle.volt_base.specs.declared.entry.Entry.TheVariants.{Sp}
 use Rattle.volt_wire.specs.declared.input.WorldCall.{WorldCall}
 use Rattle.volt_report.specs.Report.{ReportEnd}
 use Rattle.volt_report.specs.Spelling.{table_line}
-use Rattle.soundness.specs.Meaning.{Meaning, Asked, Script}
+use Rattle.soundness.specs.Meaning.{Meaning, Script}
 use Rattle.soundness.specs.Sound.{is_answer}
 
 pub record Carries (S : Semantics) (M : Meaning) : Type 0 where

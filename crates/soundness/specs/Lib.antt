@@ -2,3 +2,5 @@ pub mod Meaning
 pub mod Sound
 pub mod Tied
 pub mod Carries
+pub mod Law
+pub mod Adding

@@ -1,5 +1,5 @@
 -- What calls mean on one plain database.
-use Rattle.std.specs.Prelude.{ℕ, Bool, List, Option}
+use Rattle.std.specs.Prelude.{ℕ, Bool, List}
 use Rattle.volt_report.specs.Report.{RowLine, ReportEnd}
 
 -- A plain database and what the calls of a deployment do to it. It knows no copy, message, log or disk.

@@ -2,7 +2,6 @@
 use Rattle.std.specs.Prelude.{ℕ, ◌≡◌, true, List, [], map}
 use Rattle.std.specs.List.{flat_map}
 use Rattle.volt_base.specs.Semantics.{Semantics}
-use Rattle.volt_wire.specs.declared.event.Event.{Event}
 use Rattle.volt_wire.specs.declared.input.Ended.{Ended}
 use Rattle.volt_report.specs.Report.{ReportEnd, CallLine, CopyLine, Report}
 use Rattle.volt_report.specs.Spelling.{table_line}

@@ -1,3 +1,69 @@
 //! When a report is sound, and when it is tied to a run; and the law that a run which ends quiet has
 //! a report that is both.
 #![tactic(auto)]
+
+ghost use Rattle.std.specs.Prelude.{◌≡◌, ◌*◌, ◌≤◌, List, length, map};
+ghost use Rattle.std.specs.List.{range_with_len};
+ghost use Rattle.volt_base.specs.Semantics.{Semantics};
+ghost use Rattle.volt_wire.specs.declared.event.Event.{Event};
+ghost use Rattle.volt_report.specs.Report.{Report};
+ghost use Rattle.cluster_model.specs.Runs.{run, IsRun, IsQuiet};
+ghost use Rattle.soundness.specs.Meaning.{Meaning};
+ghost use Rattle.soundness.specs.Sound.{Sound};
+ghost use Rattle.soundness.specs.Tied.{Shows};
+ghost use Rattle.soundness.specs.Carries.{Carries, script};
+ghost use Rattle.soundness.specs.Law.{start_of};
+
+/// A meaning of calls, and an engine that carries it out.
+pub trait Carried {
+    /// What calls mean.
+    ghost meaning: { Meaning };
+
+    /// What the entries of a log mean to the engine.
+    ghost semantics: { Semantics };
+
+    /// The engine does what the calls mean.
+    ghost carries: { Carries semantics meaning };
+}
+
+/// Every run that ends quiet has a report that shows its last world and is sound, and in which every
+/// call has ended.
+pub fn quiet_runs_are_sound<C: Carried>()
+    ensures { (calls : List C.meaning.Call) (es : List Event)
+        → IsRun C.semantics es (start_of C.semantics C.meaning C.carries calls)
+        → IsQuiet (run C.semantics es (start_of C.semantics C.meaning C.carries calls))
+        → (r : Report)
+        × Shows C.semantics C.carries.reply_bytes (run C.semantics es (start_of C.semantics C.meaning C.carries calls)) r
+        × Sound C.meaning (script C.meaning calls) r
+        × (map (λ line. line.call) r.calls ≡ range_with_len 1 (length calls)) }
+{}
+
+/// A run has at most seven events for each call.
+pub fn runs_are_short<C: Carried>()
+    ensures { (calls : List C.meaning.Call) (es : List Event)
+        → IsRun C.semantics es (start_of C.semantics C.meaning C.carries calls)
+        → length es ≤ 7 * length calls }
+{}
+
+#[cfg(test)]
+mod tests {
+    use crate::{Carried, quiet_runs_are_sound, runs_are_short};
+
+    struct Adding;
+
+    impl Carried for Adding {
+        ghost use Rattle.soundness.specs.Adding.{adding, adding_engine, adding_carried};
+
+        ghost meaning = { adding };
+
+        ghost semantics = { adding_engine };
+
+        ghost carries = { adding_carried };
+    }
+
+    #[test]
+    fn the_laws_hold_of_an_engine_that_adds() {
+        quiet_runs_are_sound::<Adding>();
+        runs_are_short::<Adding>();
+    }
+}

@@ -1,0 +1,6 @@
+pub mod Past
+pub mod Explained
+pub mod Channels
+pub mod Phases
+pub mod Steps
+pub mod Law

@@ -1,0 +1,72 @@
+-- An example: a database of one number, calls that add to it and answer what it was, and an engine that does so.
+use Rattle.std.specs.Prelude.{ℕ, ◌+◌, ◌==◌, true, List, [], ◌∷◌, ◌++◌, pos, refl}
+use Rattle.std.specs.List.{flat_map}
+use Rattle.volt_base.specs.Semantics.{Semantics}
+use Rattle.volt_base.specs.declared.entry.Applied.{Applied}
+use Rattle.volt_base.specs.declared.entry.Entry.{Entry}
+use Rattle.volt_base.specs.declared.entry.Entry.TheVariants.{Sp}
+use Rattle.volt_value.specs.declared.value.Value.TheVariants.{Int}
+use Rattle.volt_report.specs.Report.{RowLine, Kept}
+use Rattle.volt_report.specs.Spelling.{table_line, end_text}
+use Rattle.soundness.specs.Meaning.{Meaning}
+use Rattle.soundness.specs.Carries.{Carries}
+
+-- the one row of the one table
+abbrev pub rows_of : ℕ → List RowLine
+rows_of total = record { table = []; row = Int (pos total) ∷ [] } ∷ []
+
+abbrev pub adding : Meaning
+adding =
+    record {
+      Database = ℕ;
+      Call = ℕ;
+      database = λ rows. 0;
+      after = λ total n. total + n;
+      reply = λ total n. Kept ((Int (pos total) ∷ []) ∷ []);
+      parts = 1;
+      is_call_of = λ p n. p == 0;
+      part = λ p total. rows_of total;
+    }
+
+-- the number, and the calls that were applied
+pub record Tally : Type 0 where
+  pub total : ℕ
+  pub applied : List Applied
+
+-- what a body says to add
+abbrev pub amount : List ℕ → ℕ
+amount [] = 0
+amount (n ∷ body) = n
+
+abbrev pub tally_after : Tally → Entry → Tally
+tally_after s (Sp call point body) = record { total = s.total + amount body; applied = s.applied ++ record { call = call; point = point } ∷ [] }
+tally_after s e = s
+
+abbrev pub adding_engine : Semantics
+adding_engine =
+    record {
+      State = Tally;
+      opening = λ p. record { total = 0; applied = [] };
+      fits = λ s e. true;
+      after = tally_after;
+      answer = λ s e. end_text (Kept ((Int (pos s.total) ∷ []) ∷ []));
+      rows = λ s. flat_map table_line (rows_of s.total);
+      applied = λ s. s.applied;
+    }
+
+abbrev pub adding_carried : Carries adding_engine adding
+adding_carried =
+    record {
+      body = λ n. n ∷ [];
+      reply_bytes = end_text;
+      database = λ s. s.total;
+      opens = refl;
+      after = λ s call point n. refl;
+      answers = λ s call point n. refl;
+      is_answer = λ total n. refl;
+      opens_applied = refl;
+      applied = λ s call point n. refl;
+      rows = λ s. refl;
+      one_part = refl;
+      all_calls = λ n. refl;
+    }
