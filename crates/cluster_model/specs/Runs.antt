@@ -1,5 +1,5 @@
 -- Runs of the world, the order of its events, and how a run ends.
-use Rattle.std.specs.Prelude.{ℕ, ◌≡◌, Bool, true, false, List, [], ◌∷◌, ◌++◌, filter, map, length, Option, Some, None, nat_lt}
+use Rattle.std.specs.Prelude.{ℕ, ◌≡◌, ◌==◌, ◌&&◌, Bool, true, false, List, [], ◌∷◌, ◌++◌, filter, map, length, Option, Some, None, nat_lt}
 use Rattle.std.specs.List.{flat_map}
 use Rattle.volt_base.specs.Semantics.{Semantics}
 use Rattle.volt_base.specs.declared.entry.Applied.{Applied}
@@ -24,6 +24,18 @@ IsRun S (e ∷ es) w = (can w e ≡ true) × IsRun S es (step S w e)
 -- the actors of one host with one site, and one client, in their order
 abbrev pub actors : List Actor
 actors = Director ∷ Client 1 ∷ Agent 0 ∷ Site 0 ∷ []
+
+-- whether an actor, or an event, is one of these
+abbrev pub is_one_of_them : Actor → Bool
+is_one_of_them Director = true
+is_one_of_them (Client n) = n == 1
+is_one_of_them (Agent h) = h == 0
+is_one_of_them (Site i) = i == 0
+
+abbrev pub is_event_of_them : Event → Bool
+is_event_of_them (Deliver to from) = is_one_of_them to && is_one_of_them from
+is_event_of_them (Sync i) = i == 0
+is_event_of_them (Submit n) = n == 1
 
 -- All events of these actors in their order: Deliver by receiver and then sender, Sync by site, Submit by client.
 abbrev pub events : List Event
