@@ -1,4 +1,4 @@
-ghost use Rattle.std.specs.Prelude.{◌≡◌, ◌<◌, Some, None, remove, length, slice_index_or, OnOk, IfSome, IfNone};
+ghost use Rattle.std.specs.Prelude.{◌≡◌, ◌<◌, [], Some, None, remove, length, slice_index_or, OnOk, IfSome, IfNone};
 ghost use Rattle.cluster_model.specs.declared.state.Pending.{Pending};
 ghost use Rattle.cluster_model.specs.Agent.{agent_after, agent_sends, client_of, without};
 ghost use Rattle.cluster_core.specs.Outbox.{SendsMore};
@@ -27,6 +27,16 @@ impl Model for Agent {
 }
 
 impl Agent {
+    /// An agent that runs with this start and has taken no call.
+    pub fn new(alloc: Global, start: Start) -> Agent
+        ensures { result ≡ record { start = start; pending = [] } }
+    {
+        Agent {
+            start,
+            pending: Vec::new(alloc),
+        }
+    }
+
     /// Takes a message.
     pub fn take(&mut self, from: Actor, msg: Msg, out: &mut Outbox) -> Result<(), AllocError>
         ensures agent { OnOk result (self.new ≡ agent_after self.old from msg) }

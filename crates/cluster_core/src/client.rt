@@ -1,5 +1,6 @@
-ghost use Rattle.std.specs.Prelude.{◌≡◌, OnOk, IfOk};
+ghost use Rattle.std.specs.Prelude.{◌≡◌, [], None, OnOk, IfOk, All};
 ghost use Rattle.cluster_model.specs.Client.{may_submit, submitted, submit_sends, client_after};
+ghost use Rattle.cluster_model.specs.World.{due};
 ghost use Rattle.cluster_core.specs.Outbox.{SendsMore};
 
 use crate::outbox::Outbox;
@@ -8,7 +9,7 @@ use std::alloc::{AllocError, Global};
 use std::collections::VecDeque;
 use std::marker::Model;
 use volt_base::{Bytes, CallNo, ClientNo, Stamp};
-use volt_wire::{Actor, Ended, Msg};
+use volt_wire::{Actor, Ended, Msg, WorldCall};
 
 /// A client submits its calls one after another, and notes how each ended.
 #[derive(Drop)]
@@ -27,6 +28,28 @@ impl Model for Client {
 }
 
 impl Client {
+    /// A client that has all these calls to submit, numbered from 1.
+    pub fn new(alloc: Global, calls: &[WorldCall]) -> Result<Client, AllocError>
+        requires { All (λ call. call.client ≡ 1) calls.now }
+        ensures { IfOk result (λ client. client ≡ record { left = due 1 1 calls.now; pending = None; ended = [] }) }
+    {
+        let mut left = VecDeque::new(alloc);
+        let mut number = 1u32;
+        for call in calls {
+            left.push_back(Due {
+                body: call.body.copy(alloc)?,
+                call: number,
+                part: call.part,
+            })?;
+            number = number.checked_add(1).ok_or(AllocError)?;
+        }
+        Ok(Client {
+            left,
+            pending: None,
+            ended: Vec::new(alloc),
+        })
+    }
+
     /// Whether it may submit: a call is left, and none waits for its answer.
     pub fn may_submit(&self) -> bool
         ensures { result ≡ may_submit self.now.left self.now.pending }

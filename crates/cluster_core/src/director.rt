@@ -12,6 +12,13 @@ pub struct Director {
 }
 
 impl Director {
+    /// A director that was told of no call.
+    pub fn new() -> Director
+        ensures { result.told ≡ 0 }
+    {
+        Director { told: 0 }
+    }
+
     /// Takes a message: Told counts one. A count that passes its type is want of memory.
     pub fn take(&mut self, msg: Msg) -> Result<(), AllocError>
         ensures { OnOk result (self.new.told ≡ told_after self.old.told msg) }

@@ -30,6 +30,23 @@ pub struct Site<E: Engine> {
 }
 
 impl<E: Engine> Site<E> {
+    /// A site whose log is empty, with an engine that has nothing in it.
+    pub fn new(alloc: Global, slot: SlotNo, engine: E) -> Site<E>
+        ensures slot { result.slot ≡ slot }
+        ensures empty { E.state engine ≡ E.meaning.opening slot
+            → StandsForSite E.meaning slot result.log (E.state result.engine) (record { log = []; on_disk = 0; waiting = [] }) }
+    {
+        Site {
+            slot,
+            engine,
+            log: LogEnd {
+                end: 0,
+                on_disk: 0,
+                waiting: VecDeque::new(alloc),
+            },
+        }
+    }
+
     /// Whether it owes its disk an entry.
     pub fn owes(&self) -> bool
         ensures { (s : SiteState)

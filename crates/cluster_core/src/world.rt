@@ -1,4 +1,4 @@
-ghost use Rattle.std.specs.Prelude.{◌≡◌, true, [], OnOk};
+ghost use Rattle.std.specs.Prelude.{◌≡◌, true, [], OnOk, IfOk, All};
 ghost use Rattle.volt_wire.specs.declared.actor.Actor.{Actor};
 ghost use Rattle.cluster_model.specs.World as model;
 ghost use Rattle.cluster_model.specs.Runs.{is_one_of_them, is_event_of_them};
@@ -14,7 +14,7 @@ use crate::outbox::Outbox;
 use crate::site::Site;
 use std::alloc::{AllocError, Global};
 use volt_base::{MakeEngine, Stamp};
-use volt_wire::{Actor, Event};
+use volt_wire::{Actor, Event, WorldInput};
 
 /// The world of one host with one site, and one client: its actors, the messages under way, and the
 /// events so far.
@@ -32,6 +32,50 @@ pub struct World<M: MakeEngine> {
 }
 
 impl<M: MakeEngine> World<M> {
+    /// The first world of an input: nothing has happened, and each client has its calls to submit.
+    pub fn boot(alloc: Global, make: &M, input: &WorldInput) -> Result<World<M>, AllocError>
+        requires { All (λ call. call.client ≡ 1) input.now.calls.items }
+        ensures { IfOk result (λ world. StandsFor M.E.meaning M.E.state world (model.first_world input.now.calls.items)) }
+    {
+        Ok(World {
+            director: Director::new(),
+            client: Client::new(alloc, &input.calls)?,
+            agent: Agent::new(alloc, 1),
+            site: Site::new(alloc, 0, make.make(alloc, 0)?),
+            channels: Channels::new(alloc),
+            outbox: Outbox::new(alloc),
+            trace: Vec::new(alloc),
+            alloc,
+        })
+    }
+
+    /// One event, which has the next stamp. After want of memory the world may only be dropped.
+    pub fn step(&mut self, event: Event) -> Result<(), AllocError>
+        requires { is_event_of_them event ≡ true }
+        ensures { OnOk result ((w : model.World)
+            → StandsFor M.E.meaning M.E.state self.old w
+            → StandsFor M.E.meaning M.E.state self.new (model.step M.E.meaning w event)) }
+    {
+        let stamp = self.trace.len() as u64 + 1;
+        self.happen(stamp, event)?;
+        self.trace.push(event)?;
+        Ok(())
+    }
+
+    /// What an event does to the actors and the channels.
+    fn happen(&mut self, stamp: Stamp, event: Event) -> Result<(), AllocError>
+        requires { is_event_of_them event ≡ true }
+        ensures { OnOk result ((w : model.World)
+            → StandsFor M.E.meaning M.E.state self.old w
+            → StandsFor M.E.meaning M.E.state self.new (model.happens M.E.meaning stamp w event)) }
+    {
+        match event {
+            Event::Deliver { to, from } => self.deliver(stamp, to, from),
+            Event::Sync(_) => self.sync(stamp),
+            Event::Submit(_) => self.submit(stamp),
+        }
+    }
+
     /// The receiver takes the first message of a channel, if there is one.
     fn deliver(&mut self, stamp: Stamp, to: Actor, from: Actor) -> Result<(), AllocError>
         ensures { OnOk result ((w : model.World) → is_one_of_them to ≡ true
