@@ -1,1 +1,2 @@
 pub mod Semantics
+pub mod Spelling

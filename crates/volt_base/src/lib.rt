@@ -8,6 +8,7 @@ mod bytes;
 mod engine;
 mod entry;
 mod numbers;
+mod spelling;
 
 pub use bytes::Bytes;
 pub use engine::{Engine, MakeEngine};

@@ -1,0 +1,46 @@
+-- The one spelling of each entry of a log, as bytes.
+use Rattle.std.specs.Prelude.{◌≡◌, ℕ, ◌<◌, ◌^◌, List, [], ◌∷◌, ◌++◌, length, drop}
+use Rattle.std.specs.Int.{w16, w32, w64, to_be_bytes}
+use Rattle.volt_base.specs.declared.entry.Entry.{Entry}
+use Rattle.volt_base.specs.declared.entry.Entry.TheVariants.{Sp, Frag, Done}
+use Rattle.volt_base.specs.declared.entry.Outcome.{Outcome}
+use Rattle.volt_base.specs.declared.entry.Outcome.TheVariants.{Dropped, Kept, Aborted, Snapshot}
+
+-- four bytes of length, and that many bytes
+unfoldable pub body_bytes : List ℕ → List ℕ
+body_bytes body = to_be_bytes w32 (length body) ++ body
+
+-- which outcome it is, the call and the point
+unfoldable pub mark_bytes : ℕ → ℕ → ℕ → List ℕ
+mark_bytes kind call point = kind ∷ (to_be_bytes w32 call ++ to_be_bytes w64 point)
+
+-- where no call is applied, zeros stand for the call and the point
+unfoldable pub outcome_bytes : Outcome → List ℕ
+outcome_bytes Dropped = mark_bytes 0 0 0
+outcome_bytes (Kept call point) = mark_bytes 1 call point
+outcome_bytes (Aborted call point) = mark_bytes 2 call point
+outcome_bytes Snapshot = mark_bytes 3 0 0
+
+-- which entry it is, and its fields
+unfoldable pub entry_bytes : Entry → List ℕ
+entry_bytes (Sp call point body) = 1 ∷ (to_be_bytes w32 call ++ to_be_bytes w64 point ++ body_bytes body)
+entry_bytes (Frag m round body) = 2 ∷ (to_be_bytes w64 m ++ to_be_bytes w16 round ++ body_bytes body)
+entry_bytes (Done m outcome) = 3 ∷ (to_be_bytes w64 m ++ outcome_bytes outcome)
+
+-- what an engine is to run, where an entry has that
+abbrev pub body_of : Entry → List ℕ
+body_of (Sp call point body) = body
+body_of (Frag m round body) = body
+body_of (Done m outcome) = []
+
+-- each number of an outcome is in its range
+abbrev pub OutcomeFits : Outcome → Type 0
+OutcomeFits (Kept call point) = (call < 2 ^ 32) × (point < 2 ^ 64)
+OutcomeFits (Aborted call point) = (call < 2 ^ 32) × (point < 2 ^ 64)
+OutcomeFits _ = Unit {0}
+
+-- each number of an entry is in its range, and so is its body's length: what has a spelling
+abbrev pub Fits : Entry → Type 0
+Fits (Sp call point body) = (call < 2 ^ 32) × (point < 2 ^ 64) × (length body < 2 ^ 32)
+Fits (Frag m round body) = (m < 2 ^ 64) × (round < 2 ^ 16) × (length body < 2 ^ 32)
+Fits (Done m outcome) = (m < 2 ^ 64) × OutcomeFits outcome
