@@ -1,5 +1,5 @@
 -- The one spelling of each entry of a log, as bytes.
-use Rattle.std.specs.Prelude.{◌≡◌, ℕ, ◌<◌, ◌^◌, List, [], ◌∷◌, ◌++◌, length, drop}
+use Rattle.std.specs.Prelude.{◌≡◌, ◌≢◌, ℕ, ◌<◌, ◌≤◌, ◌^◌, List, [], ◌∷◌, ◌++◌, length, drop}
 use Rattle.std.specs.Int.{w16, w32, w64, to_be_bytes}
 use Rattle.volt_base.specs.declared.entry.Entry.{Entry}
 use Rattle.volt_base.specs.declared.entry.Entry.TheVariants.{Sp, Frag, Done}
@@ -44,3 +44,13 @@ abbrev pub Fits : Entry → Type 0
 Fits (Sp call point body) = (call < 2 ^ 32) × (point < 2 ^ 64) × (length body < 2 ^ 32)
 Fits (Frag m round body) = (m < 2 ^ 64) × (round < 2 ^ 16) × (length body < 2 ^ 32)
 Fits (Done m outcome) = (m < 2 ^ 64) × OutcomeFits outcome
+
+-- the first len bytes are the spelling of the entry
+pub record BeginsWith (bytes : List ℕ) (entry : Entry) (len : ℕ) : Type 0 where
+  pub spelled : bytes ≡ entry_bytes entry ++ drop len bytes
+  pub within : len ≤ length bytes
+  pub fits : Fits entry
+
+-- the bytes do not begin with the spelling of an entry
+abbrev pub BeginsWithNone : List ℕ → Type 0
+BeginsWithNone bytes = (entry : Entry) (rest : List ℕ) → Fits entry → bytes ≢ entry_bytes entry ++ rest

@@ -1,9 +1,10 @@
 //! Entries of a partition's log.
 
-ghost use Rattle.std.specs.Prelude.{◌≡◌, ◌<◌, ◌^◌, length, IfOk};
+ghost use Rattle.std.specs.Prelude.{◌≡◌, ℕ, ◌<◌, ◌^◌, List, ◌++◌, length, IfOk, IfSome, IfNone};
 
 use crate::bytes::Bytes;
 use crate::numbers::{CallNo, Stamp};
+use crate::reading::{Unread, read_entry};
 use crate::spelling::put_entry;
 use std::alloc::{AllocError, Global};
 
@@ -50,7 +51,8 @@ pub enum Entry {
 }
 
 impl Entry {
-    ghost use Rattle.volt_base.specs.Spelling.{entry_bytes, body_of};
+    ghost use Rattle.volt_base.specs.declared.entry.Entry.{Entry};
+    ghost use Rattle.volt_base.specs.Spelling.{entry_bytes, body_of, Fits, BeginsWith, BeginsWithNone};
 
     /// The one spelling of the entry. Its body has less than 2^32 bytes, so that the length of the
     /// body fits the four bytes that hold it.
@@ -61,5 +63,20 @@ impl Entry {
         let mut out = Vec::new(alloc);
         put_entry(&mut out, self)?;
         Ok(Bytes::from_vec(out))
+    }
+    /// The entry whose spelling the bytes begin with, and how many bytes that has. More bytes may
+    /// follow it. `None` where they begin with no entry's spelling. Only the body takes memory.
+    pub fn decode(alloc: Global, bytes: &[u8]) -> Result<Option<(Entry, usize)>, AllocError>
+        ensures found { IfOk result (λ read. IfSome read (λ found. BeginsWith bytes.now found.0 found.1)) }
+        ensures none { IfOk result (λ read. IfNone read (BeginsWithNone bytes.now)) }
+        // What was written is read again, whatever follows it.
+        ensures again { (entry : Entry) (rest : List ℕ) → Fits entry → bytes.now ≡ entry_bytes entry ++ rest
+            → IfOk result (λ read. read ≡ Some (entry, length (entry_bytes entry))) }
+    {
+        match read_entry(alloc, bytes) {
+            Ok((entry, rest)) => Ok(Some((entry, bytes.len() - rest.len()))),
+            Err(Unread::NoEntry) => Ok(None),
+            Err(Unread::NoMemory) => Err(AllocError),
+        }
     }
 }

@@ -8,9 +8,11 @@ mod bytes;
 mod engine;
 mod entry;
 mod numbers;
+mod reading;
 mod spelling;
 
 pub use bytes::Bytes;
 pub use engine::{Engine, MakeEngine};
 pub use entry::{Applied, Entry, Outcome};
 pub use numbers::{CallNo, HostNo, PartNo, Pos, SlotNo, Stamp, Start, Term};
+pub use spelling::one_spelling;

@@ -1,8 +1,9 @@
 //! An entry as bytes. Numbers are written with their high byte first.
 
-ghost use Rattle.std.specs.Prelude.{◌≡◌, ◌<◌, ◌^◌, ◌∷◌, ◌++◌, length, OnOk};
+ghost use Rattle.std.specs.Prelude.{◌≡◌, ℕ, ◌<◌, ◌^◌, List, ◌∷◌, ◌++◌, length, OnOk};
 ghost use Rattle.std.specs.Int.{w16, w64, to_be_bytes};
-ghost use Rattle.volt_base.specs.Spelling.{mark_bytes, outcome_bytes, body_bytes, entry_bytes, body_of};
+ghost use Rattle.volt_base.specs.declared.entry.Entry.{Entry};
+ghost use Rattle.volt_base.specs.Spelling.{mark_bytes, outcome_bytes, body_bytes, entry_bytes, body_of, Fits};
 
 use crate::bytes::Bytes;
 use crate::entry::{Entry, Outcome};
@@ -92,3 +93,8 @@ pub(crate) fn put_entry(out: &mut Vec<u8>, entry: &Entry) -> Result<(), AllocErr
         Entry::Done { m, outcome } => put_done(out, *m, *outcome),
     }
 }
+
+/// No spelling of an entry begins another's: bytes begin with the spelling of one entry at most.
+pub fn one_spelling()
+    ensures { (a b : Entry) (x y : List ℕ) → Fits a → Fits b → entry_bytes a ++ x ≡ entry_bytes b ++ y → (a ≡ b) × (x ≡ y) }
+{}
