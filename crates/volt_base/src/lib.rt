@@ -16,3 +16,6 @@ pub use engine::{Engine, MakeEngine};
 pub use entry::{Applied, Entry, Outcome};
 pub use numbers::{CallNo, HostNo, PartNo, Pos, SlotNo, Stamp, Start, Term};
 pub use spelling::one_spelling;
+
+#[cfg(test)]
+mod tests;
