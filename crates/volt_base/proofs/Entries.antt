@@ -28,7 +28,7 @@ sp_takes bytes x fits e =
     let e12 = Takes-then a.0.1 (to_be_bytes w64 b.0.0) b.0.1 (body_bytes c.0.0) c.0.1 t1.0 t2.0 in
     let e02 = Takes-then bytes (to_be_bytes w32 a.0.0) a.0.1 (to_be_bytes w64 b.0.0 ++ body_bytes c.0.0) c.0.1 t0.0 e12 in
     let made : Read = (Sp a.0.0 b.0.0 c.0.0, c.0.1) in
-    subst (λ (y : Read). Takes (1 ∷ bytes) (entry_bytes y.0) y.1 × Fits y.0) {x = made} (some_is made x c.2) (with_kind 1 bytes (to_be_bytes w32 a.0.0 ++ (to_be_bytes w64 b.0.0 ++ body_bytes c.0.0)) c.0.1 e02, (t0.1, t1.1, t2.1))
+    subst (λ (y : Read). Takes (1 ∷ bytes) (entry_bytes y.0) y.1 × Fits y.0) {x = made} (some_is made x c.2) (with_kind 1 bytes (to_be_bytes w32 a.0.0 ++ (to_be_bytes w64 b.0.0 ++ body_bytes c.0.0)) c.0.1 e02, record { numbers = (t0.1, t1.1); body = t2.1 })
 
 frag_takes : (bytes : List ℕ) (x : Read) → IsBytes bytes → frag_at bytes ≡ Some x → Takes (2 ∷ bytes) (entry_bytes x.0) x.1 × Fits x.0
 unfolding frag_at entry_bytes
@@ -42,7 +42,7 @@ frag_takes bytes x fits e =
     let e12 = Takes-then a.0.1 (to_be_bytes w16 b.0.0) b.0.1 (body_bytes c.0.0) c.0.1 t1.0 t2.0 in
     let e02 = Takes-then bytes (to_be_bytes w64 a.0.0) a.0.1 (to_be_bytes w16 b.0.0 ++ body_bytes c.0.0) c.0.1 t0.0 e12 in
     let made : Read = (Frag a.0.0 b.0.0 c.0.0, c.0.1) in
-    subst (λ (y : Read). Takes (2 ∷ bytes) (entry_bytes y.0) y.1 × Fits y.0) {x = made} (some_is made x c.2) (with_kind 2 bytes (to_be_bytes w64 a.0.0 ++ (to_be_bytes w16 b.0.0 ++ body_bytes c.0.0)) c.0.1 e02, (t0.1, t1.1, t2.1))
+    subst (λ (y : Read). Takes (2 ∷ bytes) (entry_bytes y.0) y.1 × Fits y.0) {x = made} (some_is made x c.2) (with_kind 2 bytes (to_be_bytes w64 a.0.0 ++ (to_be_bytes w16 b.0.0 ++ body_bytes c.0.0)) c.0.1 e02, record { numbers = (t0.1, t1.1); body = t2.1 })
 
 done_takes : (bytes : List ℕ) (x : Read) → IsBytes bytes → done_at bytes ≡ Some x → Takes (3 ∷ bytes) (entry_bytes x.0) x.1 × Fits x.0
 unfolding done_at entry_bytes
@@ -53,7 +53,7 @@ done_takes bytes x fits e =
     let t1 = outcome_takes a.0.1 b.0 t0.0.rest_fits b.1 in
     let e01 = Takes-then bytes (to_be_bytes w64 a.0.0) a.0.1 (outcome_bytes b.0.0) b.0.1 t0.0 t1.0 in
     let made : Read = (Done a.0.0 b.0.0, b.0.1) in
-    subst (λ (y : Read). Takes (3 ∷ bytes) (entry_bytes y.0) y.1 × Fits y.0) {x = made} (some_is made x b.2) (with_kind 3 bytes (to_be_bytes w64 a.0.0 ++ outcome_bytes b.0.0) b.0.1 e01, (t0.1, t1.1))
+    subst (λ (y : Read). Takes (3 ∷ bytes) (entry_bytes y.0) y.1 × Fits y.0) {x = made} (some_is made x b.2) (with_kind 3 bytes (to_be_bytes w64 a.0.0 ++ outcome_bytes b.0.0) b.0.1 e01, record { numbers = (t0.1, t1.1); body = omega arith })
 
 entry_takes : (bytes : List ℕ) (x : Read) → IsBytes bytes → entry_at bytes ≡ Some x → Takes bytes (entry_bytes x.0) x.1 × Fits x.0
 unfolding entry_at
@@ -71,13 +71,13 @@ pub entry_again : (entry : Entry) (rest : List ℕ) → Fits entry → entry_at 
 unfolding entry_at entry_bytes sp_at frag_at done_at
 entry_again (Sp call point body) rest fits =
     ap sp_at (three (to_be_bytes w32 call) (to_be_bytes w64 point) (body_bytes body) rest)
-    ∙ rw (number_again w32 (2 ^ 32) wide32 call (to_be_bytes w64 point ++ (body_bytes body ++ rest)) fits.0, number_again w64 (2 ^ 64) wide64 point (body_bytes body ++ rest) fits.1, body_again body rest fits.2) refl
+    ∙ rw (number_again w32 (2 ^ 32) wide32 call (to_be_bytes w64 point ++ (body_bytes body ++ rest)) fits.numbers.0, number_again w64 (2 ^ 64) wide64 point (body_bytes body ++ rest) fits.numbers.1, body_again body rest fits.body) refl
 entry_again (Frag m round body) rest fits =
     ap frag_at (three (to_be_bytes w64 m) (to_be_bytes w16 round) (body_bytes body) rest)
-    ∙ rw (number_again w64 (2 ^ 64) wide64 m (to_be_bytes w16 round ++ (body_bytes body ++ rest)) fits.0, number_again w16 (2 ^ 16) wide16 round (body_bytes body ++ rest) fits.1, body_again body rest fits.2) refl
+    ∙ rw (number_again w64 (2 ^ 64) wide64 m (to_be_bytes w16 round ++ (body_bytes body ++ rest)) fits.numbers.0, number_again w16 (2 ^ 16) wide16 round (body_bytes body ++ rest) fits.numbers.1, body_again body rest fits.body) refl
 entry_again (Done m outcome) rest fits =
     ap done_at (append_assoc (to_be_bytes w64 m) (outcome_bytes outcome) rest)
-    ∙ rw (number_again w64 (2 ^ 64) wide64 m (outcome_bytes outcome ++ rest) fits.0, outcome_again outcome rest fits.1) refl
+    ∙ rw (number_again w64 (2 ^ 64) wide64 m (outcome_bytes outcome ++ rest) fits.numbers.0, outcome_again outcome rest fits.numbers.1) refl
 
 -- an entry that was read takes what its spelling takes
 sizes : (bytes : List ℕ) (entry : Entry) (rest : List ℕ) → bytes ≡ entry_bytes entry ++ rest → length bytes ≡ length (entry_bytes entry) + length rest

@@ -28,13 +28,13 @@ Gives view (Err e) read = Fails e read
 abbrev pub number_at : Width → List ℕ → Option (ℕ × List ℕ)
 number_at w bytes = if nat_lt (length bytes) (byte_len w) then None else Some (from_be_bytes w (take (byte_len w) bytes), drop (byte_len w) bytes)
 
--- a length, and that many bytes
+-- a body behind its length, and the bytes after it
 unfoldable pub body_at : List ℕ → Option (List ℕ × List ℕ)
 body_at bytes = do
   len ← number_at w32 bytes
   if nat_lt (length len.1) len.0 then None else Some (take len.0 len.1, drop len.0 len.1)
 
--- which outcome it is, the call and the point
+-- the number of an outcome, the call and the point, and the bytes after them
 unfoldable pub mark_at : List ℕ → Option (ℕ × ℕ × ℕ × List ℕ)
 mark_at [] = None
 mark_at (kind ∷ bytes) = do

@@ -10,7 +10,7 @@ use Rattle.volt_base.specs.declared.entry.Outcome.TheVariants.{Dropped, Kept, Ab
 unfoldable pub body_bytes : List ℕ → List ℕ
 body_bytes body = to_be_bytes w32 (length body) ++ body
 
--- which outcome it is, the call and the point
+-- how a transaction ended: the number of the outcome, the call and the point
 unfoldable pub mark_bytes : ℕ → ℕ → ℕ → List ℕ
 mark_bytes kind call point = kind ∷ (to_be_bytes w32 call ++ to_be_bytes w64 point)
 
@@ -21,7 +21,7 @@ outcome_bytes (Kept call point) = mark_bytes 1 call point
 outcome_bytes (Aborted call point) = mark_bytes 2 call point
 outcome_bytes Snapshot = mark_bytes 3 0 0
 
--- which entry it is, and its fields
+-- the number of its kind, and its fields in their order, numbers with the high byte first
 unfoldable pub entry_bytes : Entry → List ℕ
 entry_bytes (Sp call point body) = 1 ∷ (to_be_bytes w32 call ++ to_be_bytes w64 point ++ body_bytes body)
 entry_bytes (Frag m round body) = 2 ∷ (to_be_bytes w64 m ++ to_be_bytes w16 round ++ body_bytes body)
@@ -39,11 +39,16 @@ OutcomeFits (Kept call point) = (call < 2 ^ 32) × (point < 2 ^ 64)
 OutcomeFits (Aborted call point) = (call < 2 ^ 32) × (point < 2 ^ 64)
 OutcomeFits _ = Unit {0}
 
--- each number of an entry is in its range, and so is its body's length: what has a spelling
-abbrev pub Fits : Entry → Type 0
-Fits (Sp call point body) = (call < 2 ^ 32) × (point < 2 ^ 64) × (length body < 2 ^ 32)
-Fits (Frag m round body) = (m < 2 ^ 64) × (round < 2 ^ 16) × (length body < 2 ^ 32)
-Fits (Done m outcome) = (m < 2 ^ 64) × OutcomeFits outcome
+-- each number of an entry is in its range
+abbrev pub NumbersFit : Entry → Type 0
+NumbersFit (Sp call point body) = (call < 2 ^ 32) × (point < 2 ^ 64)
+NumbersFit (Frag m round body) = (m < 2 ^ 64) × (round < 2 ^ 16)
+NumbersFit (Done m outcome) = (m < 2 ^ 64) × OutcomeFits outcome
+
+-- what has a spelling: each number fits the bytes that hold it, the length of the body too
+pub record Fits (entry : Entry) : Type 0 where
+  pub numbers : NumbersFit entry
+  pub body : length (body_of entry) < 2 ^ 32
 
 -- the first len bytes are the spelling of the entry
 pub record BeginsWith (bytes : List ℕ) (entry : Entry) (len : ℕ) : Type 0 where

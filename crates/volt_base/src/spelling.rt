@@ -3,7 +3,7 @@
 ghost use Rattle.std.specs.Prelude.{◌≡◌, ℕ, ◌<◌, ◌^◌, List, ◌∷◌, ◌++◌, length, OnOk};
 ghost use Rattle.std.specs.Int.{w16, w64, to_be_bytes};
 ghost use Rattle.volt_base.specs.declared.entry.Entry.{Entry};
-ghost use Rattle.volt_base.specs.Spelling.{mark_bytes, outcome_bytes, body_bytes, entry_bytes, body_of, Fits};
+ghost use Rattle.volt_base.specs.Spelling.{mark_bytes, outcome_bytes, body_bytes, entry_bytes, body_of, OutcomeFits, NumbersFit, Fits};
 
 use crate::bytes::Bytes;
 use crate::entry::{Entry, Outcome};
@@ -31,7 +31,8 @@ fn put_mark(out: &mut Vec<u8>, kind: u8, call: CallNo, point: Stamp) -> Result<(
 
 #[tactic(auto, unfolding(crate::specs::Spelling::outcome_bytes))]
 fn put_outcome(out: &mut Vec<u8>, outcome: Outcome) -> Result<(), AllocError>
-    ensures { OnOk result (out.new.items ≡ out.old.items ++ outcome_bytes outcome) }
+    ensures spelled { OnOk result (out.new.items ≡ out.old.items ++ outcome_bytes outcome) }
+    ensures fits { OutcomeFits outcome }
 {
     match outcome {
         Outcome::Dropped => put_mark(out, 0, 0, 0),
@@ -44,7 +45,8 @@ fn put_outcome(out: &mut Vec<u8>, outcome: Outcome) -> Result<(), AllocError>
 #[tactic(auto, unfolding(crate::specs::Spelling::mark_bytes, crate::specs::Spelling::entry_bytes))]
 fn put_sp(out: &mut Vec<u8>, call: CallNo, point: Stamp, body: &Bytes) -> Result<(), AllocError>
     requires { length body.now < 2 ^ 32 }
-    ensures { OnOk result (out.new.items ≡ out.old.items ++ entry_bytes (Entry.Sp call point body.now)) }
+    ensures { OnOk result (out.new.items
+        ≡ out.old.items ++ entry_bytes (Entry.Sp call point body.now)) }
 {
     put_mark(out, 1, call, point)?;
     put_body(out, body)
@@ -59,7 +61,8 @@ fn put_head(out: &mut Vec<u8>, kind: u8, m: u64) -> Result<(), AllocError>
 }
 
 fn put_round(out: &mut Vec<u8>, m: u64, round: u16) -> Result<(), AllocError>
-    ensures { OnOk result (out.new.items ≡ out.old.items ++ 2 ∷ (to_be_bytes w64 m ++ to_be_bytes w16 round)) }
+    ensures { OnOk result (out.new.items
+        ≡ out.old.items ++ 2 ∷ (to_be_bytes w64 m ++ to_be_bytes w16 round)) }
 {
     put_head(out, 2, m)?;
     out.extend_from_slice(&round.to_be_bytes())
@@ -68,7 +71,8 @@ fn put_round(out: &mut Vec<u8>, m: u64, round: u16) -> Result<(), AllocError>
 #[tactic(auto, unfolding(crate::specs::Spelling::entry_bytes))]
 fn put_frag(out: &mut Vec<u8>, m: u64, round: u16, body: &Bytes) -> Result<(), AllocError>
     requires { length body.now < 2 ^ 32 }
-    ensures { OnOk result (out.new.items ≡ out.old.items ++ entry_bytes (Entry.Frag m round body.now)) }
+    ensures { OnOk result (out.new.items
+        ≡ out.old.items ++ entry_bytes (Entry.Frag m round body.now)) }
 {
     put_round(out, m, round)?;
     put_body(out, body)
@@ -76,7 +80,9 @@ fn put_frag(out: &mut Vec<u8>, m: u64, round: u16, body: &Bytes) -> Result<(), A
 
 #[tactic(auto, unfolding(crate::specs::Spelling::entry_bytes))]
 fn put_done(out: &mut Vec<u8>, m: u64, outcome: Outcome) -> Result<(), AllocError>
-    ensures { OnOk result (out.new.items ≡ out.old.items ++ entry_bytes (Entry.Done m outcome)) }
+    ensures spelled { OnOk result (out.new.items
+        ≡ out.old.items ++ entry_bytes (Entry.Done m outcome)) }
+    ensures fits { OnOk result (OutcomeFits outcome) }
 {
     put_head(out, 3, m)?;
     put_outcome(out, outcome)
@@ -85,7 +91,8 @@ fn put_done(out: &mut Vec<u8>, m: u64, outcome: Outcome) -> Result<(), AllocErro
 /// Writes the spelling of an entry at the end.
 pub(crate) fn put_entry(out: &mut Vec<u8>, entry: &Entry) -> Result<(), AllocError>
     requires { length (body_of entry.now) < 2 ^ 32 }
-    ensures { OnOk result (out.new.items ≡ out.old.items ++ entry_bytes entry.now) }
+    ensures spelled { OnOk result (out.new.items ≡ out.old.items ++ entry_bytes entry.now) }
+    ensures fits { OnOk result (NumbersFit entry.now) }
 {
     match entry {
         Entry::Sp { call, point, body } => put_sp(out, *call, *point, body),
@@ -96,5 +103,6 @@ pub(crate) fn put_entry(out: &mut Vec<u8>, entry: &Entry) -> Result<(), AllocErr
 
 /// No spelling of an entry begins another's: bytes begin with the spelling of one entry at most.
 pub fn one_spelling()
-    ensures { (a b : Entry) (x y : List ℕ) → Fits a → Fits b → entry_bytes a ++ x ≡ entry_bytes b ++ y → (a ≡ b) × (x ≡ y) }
+    ensures { (a b : Entry) (x y : List ℕ) → Fits a → Fits b
+        → entry_bytes a ++ x ≡ entry_bytes b ++ y → (a ≡ b) × (x ≡ y) }
 {}

@@ -8,8 +8,8 @@ const BODY: [u8; 21] = [
 
 /// Call 1 at point 4 with that body.
 const SP: [u8; 38] = [
-    1, 0, 0, 0, 1, 0, 0, 0, 0, 0, 0, 0, 4, 0, 0, 0, 21, 0, 0, 2, 1, 0, 0, 0, 0, 0, 0, 0, 1, 1, 0, 0,
-    0, 0, 0, 0, 0, 10,
+    1, 0, 0, 0, 1, 0, 0, 0, 0, 0, 0, 0, 4, 0, 0, 0, 21, 0, 0, 2, 1, 0, 0, 0, 0, 0, 0, 0, 1, 1, 0,
+    0, 0, 0, 0, 0, 0, 10,
 ];
 
 /// Round 2 of transaction 258 with the body 7, 8, and a byte after it.
@@ -78,8 +78,12 @@ fn read(rt: HostRuntime) -> Result<(), Fail> {
 #[test]
 fn not_read(rt: HostRuntime) -> Result<(), Fail> {
     let alloc = rt.alloc();
-    let unknown_outcome = [3, 0, 0, 0, 0, 0, 0, 0, 6, 4, 0, 0, 0, 0, 0, 0, 0, 0, 0, 0, 0, 0];
-    let dropped_at_a_point = [3, 0, 0, 0, 0, 0, 0, 0, 6, 0, 0, 0, 0, 0, 0, 0, 0, 0, 0, 0, 0, 9];
+    let unknown_outcome = [
+        3, 0, 0, 0, 0, 0, 0, 0, 6, 4, 0, 0, 0, 0, 0, 0, 0, 0, 0, 0, 0, 0,
+    ];
+    let dropped_at_a_point = [
+        3, 0, 0, 0, 0, 0, 0, 0, 6, 0, 0, 0, 0, 0, 0, 0, 0, 0, 0, 0, 0, 9,
+    ];
     assert!(rt; Entry::decode(alloc, &[])?.is_none());
     assert!(rt; Entry::decode(alloc, &[4])?.is_none());
     assert!(rt; Entry::decode(alloc, &SP[..37])?.is_none());
