@@ -1,5 +1,5 @@
 -- What is read is spelled so, what is spelled so is read, and no spelling begins another.
-use Rattle.std.proofs.Common.{◌≡◌, ℕ, zero, suc, ◌+◌, ◌-◌, ◌^◌, ◌≤◌, List, [], ◌∷◌, ◌++◌, length, drop, Some, None, refl, sym, ap, subst, ◌∙◌, append_assoc, arith}
+use Rattle.std.proofs.Common.{◌≡◌, ℕ, zero, suc, ◌+◌, ◌-◌, ◌^◌, ◌<◌, ◌≤◌, List, [], ◌∷◌, ◌++◌, length, drop, Some, None, refl, sym, ap, subst, ◌∙◌, append_assoc, arith}
 use Rattle.std.specs.Int.{w16, w32, w64, to_be_bytes}
 use Rattle.std.proofs.lemmas.List.{drop_at, length-append}
 use Rattle.std.proofs.lemmas.Option.{none-some, some_pair_parts}
@@ -79,6 +79,13 @@ entry_again (Done m outcome) rest fits =
     ap done_at (append_assoc (to_be_bytes w64 m) (outcome_bytes outcome) rest)
     ∙ rw (number_again w64 (2 ^ 64) wide64 m (outcome_bytes outcome ++ rest) fits.numbers.0, outcome_again outcome rest fits.numbers.1) refl
 
+-- an entry is spelled by one byte at least
+spelled_by_some : (entry : Entry) → 0 < length (entry_bytes entry)
+unfolding entry_bytes
+spelled_by_some (Sp call point body) = omega arith
+spelled_by_some (Frag m round body) = omega arith
+spelled_by_some (Done m outcome) = omega arith
+
 -- an entry that was read takes what its spelling takes
 sizes : (bytes : List ℕ) (entry : Entry) (rest : List ℕ) → bytes ≡ entry_bytes entry ++ rest → length bytes ≡ length (entry_bytes entry) + length rest
 sizes bytes entry rest parts = ap (λ (x : List ℕ). length x) parts ∙ length-append (entry_bytes entry) rest
@@ -93,7 +100,7 @@ begins bytes entry rest fits e =
     let t = entry_takes bytes (entry, rest) fits e in
     let len : length (entry_bytes entry) ≡ length bytes - length rest = omega (arith, sizes bytes entry rest t.0.parts) in
     let after : drop (length bytes - length rest) bytes ≡ rest = ap (drop (length bytes - length rest)) t.0.parts ∙ drop_at (entry_bytes entry) rest (length bytes - length rest) len in
-    record { spelled = rw after t.0.parts; within = omega arith; fits = t.1 }
+    record { spelled = rw after t.0.parts; some = omega (arith, spelled_by_some entry); within = omega arith; fits = t.1 }
 
 -- what was read is the entry that is spelled in front
 pub read_again : (bytes : List ℕ) (found : Entry) (after : List ℕ) → entry_at bytes ≡ Some (found, after) → (entry : Entry) (rest : List ℕ) → Fits entry → bytes ≡ entry_bytes entry ++ rest → (found ≡ entry) × (length bytes - length after ≡ length (entry_bytes entry))

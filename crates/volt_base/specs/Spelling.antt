@@ -53,6 +53,7 @@ pub record Fits (entry : Entry) : Type 0 where
 -- the first len bytes are the spelling of the entry
 pub record BeginsWith (bytes : List ℕ) (entry : Entry) (len : ℕ) : Type 0 where
   pub spelled : bytes ≡ entry_bytes entry ++ drop len bytes
+  pub some : 0 < len
   pub within : len ≤ length bytes
   pub fits : Fits entry
 
