@@ -36,6 +36,20 @@ impl Bytes {
         Bytes { held }
     }
 
+    /// A copy.
+    pub fn copy(&self, alloc: Global) -> Result<Bytes, AllocError>
+        ensures { IfOk result (λ bytes. bytes ≡ self.now) }
+    {
+        Bytes::of(alloc, self.as_slice())
+    }
+
+    /// The bytes as a vector. They are not copied.
+    pub fn into_vec(self) -> Vec<u8>
+        ensures { result.items ≡ self }
+    {
+        self.held
+    }
+
     /// The bytes.
     pub fn as_slice(&self) -> &[u8]
         ensures { result.now ≡ self.now }

@@ -8,8 +8,14 @@ mod bytes;
 mod engine;
 mod entry;
 mod numbers;
+mod reading;
+mod spelling;
 
 pub use bytes::Bytes;
 pub use engine::{Engine, MakeEngine};
 pub use entry::{Applied, Entry, Outcome};
 pub use numbers::{CallNo, ClientNo, HostNo, PartNo, Pos, SlotNo, Stamp, Start, Term};
+pub use spelling::one_spelling;
+
+#[cfg(test)]
+mod tests;

@@ -1,0 +1,156 @@
+//! Reads an entry from the front of bytes. Numbers have their high byte first.
+
+ghost use Rattle.std.specs.Prelude.{◌≡◌};
+ghost use Rattle.std.specs.Int.{w16, w32, w64};
+ghost use Rattle.volt_base.specs.Reading.{Gives, number_at, body_at, mark_at, outcome_of, outcome_at, sp_at, frag_at, done_at, entry_at};
+
+use crate::bytes::Bytes;
+use crate::entry::{Entry, Outcome};
+use crate::numbers::{CallNo, Stamp};
+use std::alloc::{AllocError, Global};
+
+/// Why nothing was read.
+#[derive(Debug, Drop)]
+pub(crate) enum Unread {
+    /// No front of the bytes is what is read.
+    NoEntry,
+    NoMemory,
+}
+
+impl From<AllocError> for Unread {
+    ghost use Rattle.volt_base.specs.declared.reading.Unread.TheVariants.{NoMemory};
+
+    ghost from_gives = { λ _ e. e ≡ NoMemory };
+
+    fn from(_e: AllocError) -> Unread {
+        Unread::NoMemory
+    }
+}
+
+fn read_u16(bytes: &[u8]) -> Result<(u16, &[u8]), Unread>
+    ensures { Gives (λ x. (x.0, x.1.now)) result (number_at w16 bytes.now) }
+{
+    if bytes.len() < 2 {
+        return Err(Unread::NoEntry);
+    }
+    let (front, rest) = bytes.split_at(2);
+    let number = u16::from_be_bytes([front[0], front[1]]);
+    Ok((number, rest))
+}
+
+fn read_u32(bytes: &[u8]) -> Result<(u32, &[u8]), Unread>
+    ensures { Gives (λ x. (x.0, x.1.now)) result (number_at w32 bytes.now) }
+{
+    if bytes.len() < 4 {
+        return Err(Unread::NoEntry);
+    }
+    let (front, rest) = bytes.split_at(4);
+    let number = u32::from_be_bytes([front[0], front[1], front[2], front[3]]);
+    Ok((number, rest))
+}
+
+fn read_u64(bytes: &[u8]) -> Result<(u64, &[u8]), Unread>
+    ensures { Gives (λ x. (x.0, x.1.now)) result (number_at w64 bytes.now) }
+{
+    if bytes.len() < 8 {
+        return Err(Unread::NoEntry);
+    }
+    let (front, rest) = bytes.split_at(8);
+    let number = u64::from_be_bytes([
+        front[0], front[1], front[2], front[3], front[4], front[5], front[6], front[7],
+    ]);
+    Ok((number, rest))
+}
+
+#[tactic(auto, unfolding(crate::specs::Reading::body_at))]
+fn read_body(bytes: &[u8]) -> Result<(&[u8], &[u8]), Unread>
+    ensures { Gives (λ x. (x.0.now, x.1.now)) result (body_at bytes.now) }
+{
+    let (len, rest) = read_u32(bytes)?;
+    let len = len as usize;
+    if rest.len() < len {
+        return Err(Unread::NoEntry);
+    }
+    Ok(rest.split_at(len))
+}
+
+#[tactic(auto, unfolding(crate::specs::Reading::mark_at))]
+fn read_mark(bytes: &[u8]) -> Result<(u8, CallNo, Stamp, &[u8]), Unread>
+    ensures { Gives (λ x. (x.0, x.1, x.2, x.3.now)) result (mark_at bytes.now) }
+{
+    match bytes {
+        [] => Err(Unread::NoEntry),
+        [kind, rest @ ..] => {
+            let (call, rest) = read_u32(rest)?;
+            let (point, rest) = read_u64(rest)?;
+            Ok((*kind, call, point, rest))
+        }
+    }
+}
+
+fn known_outcome(kind: u8, call: CallNo, point: Stamp) -> Option<Outcome>
+    ensures { result ≡ outcome_of kind call point }
+{
+    match (kind, call, point) {
+        (0, 0, 0) => Some(Outcome::Dropped),
+        (1, _, _) => Some(Outcome::Kept { call, point }),
+        (2, _, _) => Some(Outcome::Aborted { call, point }),
+        (3, 0, 0) => Some(Outcome::Snapshot),
+        _ => None,
+    }
+}
+
+#[tactic(auto, unfolding(crate::specs::Reading::outcome_at))]
+fn read_outcome(bytes: &[u8]) -> Result<(Outcome, &[u8]), Unread>
+    ensures { Gives (λ x. (x.0, x.1.now)) result (outcome_at bytes.now) }
+{
+    let (kind, call, point, rest) = read_mark(bytes)?;
+    match known_outcome(kind, call, point) {
+        Some(outcome) => Ok((outcome, rest)),
+        None => Err(Unread::NoEntry),
+    }
+}
+
+#[tactic(auto, unfolding(crate::specs::Reading::sp_at))]
+fn read_sp(alloc: Global, bytes: &[u8]) -> Result<(Entry, &[u8]), Unread>
+    ensures { Gives (λ x. (x.0, x.1.now)) result (sp_at bytes.now) }
+{
+    let (call, rest) = read_u32(bytes)?;
+    let (point, rest) = read_u64(rest)?;
+    let (body, rest) = read_body(rest)?;
+    let body = Bytes::of(alloc, body)?;
+    Ok((Entry::Sp { call, point, body }, rest))
+}
+
+#[tactic(auto, unfolding(crate::specs::Reading::frag_at))]
+fn read_frag(alloc: Global, bytes: &[u8]) -> Result<(Entry, &[u8]), Unread>
+    ensures { Gives (λ x. (x.0, x.1.now)) result (frag_at bytes.now) }
+{
+    let (m, rest) = read_u64(bytes)?;
+    let (round, rest) = read_u16(rest)?;
+    let (body, rest) = read_body(rest)?;
+    let body = Bytes::of(alloc, body)?;
+    Ok((Entry::Frag { m, round, body }, rest))
+}
+
+#[tactic(auto, unfolding(crate::specs::Reading::done_at))]
+fn read_done(bytes: &[u8]) -> Result<(Entry, &[u8]), Unread>
+    ensures { Gives (λ x. (x.0, x.1.now)) result (done_at bytes.now) }
+{
+    let (m, rest) = read_u64(bytes)?;
+    let (outcome, rest) = read_outcome(rest)?;
+    Ok((Entry::Done { m, outcome }, rest))
+}
+
+/// The entry at the front of the bytes, and the bytes after it.
+#[tactic(auto, unfolding(crate::specs::Reading::entry_at))]
+pub(crate) fn read_entry(alloc: Global, bytes: &[u8]) -> Result<(Entry, &[u8]), Unread>
+    ensures { Gives (λ x. (x.0, x.1.now)) result (entry_at bytes.now) }
+{
+    match bytes {
+        [1, rest @ ..] => read_sp(alloc, rest),
+        [2, rest @ ..] => read_frag(alloc, rest),
+        [3, rest @ ..] => read_done(rest),
+        _ => Err(Unread::NoEntry),
+    }
+}
