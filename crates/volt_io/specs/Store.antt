@@ -1,5 +1,5 @@
 -- What was written to a sink over memory, and which of its calls fail.
-use Rattle.std.specs.Prelude.{ℕ, min, List, ◌++◌}
+use Rattle.std.specs.Prelude.{ℕ, min, List, [], ◌++◌}
 use Rattle.volt_io.specs.Supply.{one_more}
 
 -- a sink over memory
@@ -16,6 +16,10 @@ pub record Store : Type 0 where
   pub faults : ℕ
   -- how many of them found no memory; past the greatest u64 it stays there
   pub starved : ℕ
+
+-- a sink before its first call
+abbrev pub empty_store : List ℕ → ℕ → Store
+empty_store fail piece = record { written = []; fail = fail; piece = piece; call = 1; faults = 0; starved = 0 }
 
 -- how many bytes a call takes of a piece of this length
 abbrev pub taken_len : Store → ℕ → ℕ

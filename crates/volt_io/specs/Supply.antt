@@ -14,6 +14,10 @@ pub record Supply : Type 0 where
   -- how many calls failed; past the greatest u64 it stays there
   pub faults : ℕ
 
+-- a source of these bytes before its first call
+abbrev pub supply_of : List ℕ → List ℕ → ℕ → Supply
+supply_of bytes fail piece = record { left = bytes; fail = fail; piece = piece; call = 1; faults = 0 }
+
 -- one more, as far as a u64 counts
 abbrev pub one_more : ℕ → ℕ
 one_more n = min (n + 1) (2 ^ 64 - 1)

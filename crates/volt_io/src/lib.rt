@@ -2,6 +2,8 @@
 //! writers, and the two loops that all callers share.
 #![tactic(auto)]
 
+pub mod memory;
 pub mod sink;
 pub mod source;
+pub mod standard;
 pub mod transfer;
