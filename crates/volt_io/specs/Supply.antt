@@ -1,5 +1,6 @@
 -- What a source over memory has left, and which of its calls fail.
-use Rattle.std.specs.Prelude.{ℕ, ◌+◌, ◌-◌, ◌^◌, min, List, length, drop}
+use Rattle.std.specs.Prelude.{ℕ, min, List, length, drop}
+use Rattle.volt_io.specs.Faults.{one_more}
 
 -- a source over memory
 pub record Supply : Type 0 where
@@ -17,10 +18,6 @@ pub record Supply : Type 0 where
 -- a source of these bytes before its first call
 abbrev pub supply_of : List ℕ → List ℕ → ℕ → Supply
 supply_of bytes fail piece = record { left = bytes; fail = fail; piece = piece; call = 1; faults = 0 }
-
--- one more, as far as a u64 counts
-abbrev pub one_more : ℕ → ℕ
-one_more n = min (n + 1) (2 ^ 64 - 1)
 
 -- how many bytes a call gives into a place of this length
 abbrev pub given_len : Supply → ℕ → ℕ

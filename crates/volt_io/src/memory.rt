@@ -207,3 +207,44 @@ impl Sink for MemSink {
         self.faults
     }
 }
+
+#[cfg(test)]
+mod tests {
+    use super::*;
+    use std::test::Fail;
+
+    #[test]
+    fn source_gives_its_bytes_and_fails_by_its_list(rt: HostRuntime) -> Result<(), Fail> {
+        let bytes = b"abcde".to_vec(rt.alloc())?;
+        let fail = [2, 4].to_vec(rt.alloc())?;
+        let mut source = MemSource::with_piece(bytes, fail, 2);
+        let mut into = [0u8; 4];
+        let want = [
+            (Ok(2), *b"ab\0\0"),
+            (Err(ReadFailed), *b"ab\0\0"),
+            (Ok(2), *b"cd\0\0"),
+            (Err(ReadFailed), *b"cd\0\0"),
+            (Ok(1), *b"ed\0\0"),
+            (Ok(0), *b"ed\0\0"),
+        ];
+        for (count, held) in want {
+            assert_eq!(rt; source.read(&mut into), count);
+            assert_eq!(rt; into, held);
+        }
+        assert_eq!(rt; source.faults(), 2);
+        Ok(())
+    }
+
+    #[test]
+    fn sink_keeps_its_bytes_and_fails_by_its_list(rt: HostRuntime) -> Result<(), Fail> {
+        let fail = [2].to_vec(rt.alloc())?;
+        let mut sink = MemSink::with_piece(rt.alloc(), fail, 2);
+        assert_eq!(rt; sink.write(b"abc"), Ok(2));
+        assert_eq!(rt; sink.write(b"c"), Err(WriteFailed));
+        assert_eq!(rt; sink.write(b"c"), Ok(1));
+        assert_eq!(rt; sink.written(), b"abc".as_slice());
+        assert_eq!(rt; sink.faults(), 1);
+        assert_eq!(rt; sink.starved(), 0);
+        Ok(())
+    }
+}

@@ -1,8 +1,7 @@
 //! A source over any reader of std, and a sink over any writer. They are the edge to the outside:
 //! they tell no bytes, and no clause says what a file, a pipe or a terminal gives or takes.
 ghost use Rattle.std.specs.Prelude.{◌≡◌, ◌<◌, ◌≤◌, length, None, IfSome, IfOk, OnOk, OnErr};
-ghost use Rattle.volt_io.specs.Faults.{Rose};
-ghost use Rattle.volt_io.specs.Supply.{one_more};
+ghost use Rattle.volt_io.specs.Faults.{Rose, one_more};
 
 use crate::sink::{Sink, WriteFailed};
 use crate::source::{ReadFailed, Source};
@@ -161,4 +160,125 @@ fn write_some<W: Write>(writer: &mut W, piece: &[u8]) -> Option<usize>
         }
     }
     None
+}
+
+#[cfg(test)]
+mod tests {
+    use super::*;
+    use std::io;
+    use std::test::Fail;
+
+    // What a `Flaky` does after its interruptions.
+    #[derive(Clone, Copy, Drop)]
+    enum Then {
+        Moves,
+        MovesNothing,
+        Fails,
+    }
+
+    // A reader and a writer whose first calls are interrupted.
+    #[derive(Drop)]
+    struct Flaky {
+        interruptions: u64,
+        then: Then,
+    }
+
+    impl Flaky {
+        fn answer(&mut self) -> io::Result<usize>
+            ensures { IfOk result (λ n. n ≤ 1) }
+        {
+            if self.interruptions > 0 {
+                self.interruptions -= 1;
+                return Err(io::Error::from(ErrorKind::Interrupted));
+            }
+            match self.then {
+                Then::Moves => Ok(1),
+                Then::MovesNothing => Ok(0),
+                Then::Fails => Err(io::Error::from(ErrorKind::BrokenPipe)),
+            }
+        }
+    }
+
+    impl Read for Flaky {
+        fn read(&mut self, buf: &mut [u8]) -> io::Result<usize> {
+            let count = self.answer()?;
+            Ok(count.min(buf.len()))
+        }
+    }
+
+    impl Write for Flaky {
+        fn write(&mut self, buf: &[u8]) -> io::Result<usize> {
+            let count = self.answer()?;
+            Ok(count.min(buf.len()))
+        }
+
+        fn flush(&mut self) -> io::Result<()> {
+            Ok(())
+        }
+    }
+
+    #[test]
+    fn reads_what_the_reader_gives(rt: HostRuntime) -> Result<(), Fail> {
+        let bytes = b"abc";
+        let mut source = StdSource::new(bytes.as_slice());
+        let mut into = [0u8; 2];
+        assert_eq!(rt; source.read(&mut into)?, 2);
+        assert_eq!(rt; into, [b'a', b'b']);
+        assert_eq!(rt; source.read(&mut into)?, 1);
+        assert_eq!(rt; into[0], b'c');
+        assert_eq!(rt; source.read(&mut into)?, 0);
+        assert_eq!(rt; source.faults(), 0);
+        Ok(())
+    }
+
+    #[test]
+    fn counts_the_faults_of_a_reader(rt: HostRuntime) {
+        let cases = [
+            (0, Then::Moves, Ok(1)),
+            (999, Then::Moves, Ok(1)),
+            (1_000, Then::Moves, Err(ReadFailed)),
+            (3, Then::MovesNothing, Ok(0)),
+            (3, Then::Fails, Err(ReadFailed)),
+        ];
+        for (interruptions, then, want) in cases {
+            let mut source = StdSource::new(Flaky {
+                interruptions,
+                then,
+            });
+            let mut into = [0u8; 4];
+            assert_eq!(rt; source.read(&mut into), want, "after {interruptions}");
+            assert_eq!(rt; source.faults(), u64::from(want.is_err()));
+        }
+    }
+
+    #[test]
+    fn writes_to_the_writer(rt: HostRuntime) -> Result<(), Fail> {
+        let mut written = Vec::new(rt.alloc());
+        let mut sink = StdSink::new(&mut written);
+        assert_eq!(rt; sink.write(b"abc")?, 3);
+        assert_eq!(rt; sink.write(b"de")?, 2);
+        assert_eq!(rt; sink.faults(), 0);
+        drop(sink);
+        assert_eq!(rt; written.as_slice(), b"abcde".as_slice());
+        Ok(())
+    }
+
+    #[test]
+    fn counts_the_faults_of_a_writer(rt: HostRuntime) {
+        let cases = [
+            (0, Then::Moves, Ok(1)),
+            (999, Then::Moves, Ok(1)),
+            (1_000, Then::Moves, Err(WriteFailed)),
+            (3, Then::MovesNothing, Err(WriteFailed)),
+            (3, Then::Fails, Err(WriteFailed)),
+        ];
+        for (interruptions, then, want) in cases {
+            let mut sink = StdSink::new(Flaky {
+                interruptions,
+                then,
+            });
+            assert_eq!(rt; sink.write(b"abc"), want, "after {interruptions}");
+            assert_eq!(rt; sink.faults(), u64::from(want.is_err()));
+        }
+    }
 }

@@ -142,3 +142,63 @@ pub fn write_all<K: Sink>(sink: &mut K, text: &[u8]) -> Result<(), WriteFailed>
     }
     Ok(())
 }
+
+#[cfg(test)]
+mod tests {
+    use super::*;
+    use crate::memory::{MemSink, MemSource};
+    use std::test::Fail;
+
+    #[test]
+    fn reads_at_most_one_byte_past_the_limit(rt: HostRuntime) -> Result<(), Fail> {
+        for (limit, want) in [
+            (0, "a"),
+            (2, "abc"),
+            (4, "abcde"),
+            (5, "abcde"),
+            (9, "abcde"),
+        ] {
+            for piece in [1, 2, usize::MAX] {
+                let bytes = b"abcde".to_vec(rt.alloc())?;
+                let mut source = MemSource::with_piece(bytes, Vec::new(rt.alloc()), piece);
+                let read = read_to_end(rt.alloc(), &mut source, limit)?;
+                assert_eq!(rt; read.as_slice(), want.as_bytes(), "at {limit}");
+            }
+        }
+        Ok(())
+    }
+
+    #[test]
+    fn reads_more_than_one_piece(rt: HostRuntime) -> Result<(), Fail> {
+        let bytes = zeros(rt.alloc(), 200_000)?;
+        let mut source = MemSource::new(bytes, Vec::new(rt.alloc()));
+        let read = read_to_end(rt.alloc(), &mut source, 1_000_000)?;
+        assert_eq!(rt; read.len(), 200_000);
+        Ok(())
+    }
+
+    #[test]
+    fn tells_of_a_failed_read(rt: HostRuntime) -> Result<(), Fail> {
+        let bytes = b"abcde".to_vec(rt.alloc())?;
+        let mut source = MemSource::with_piece(bytes, [3].to_vec(rt.alloc())?, 1);
+        let read = read_to_end(rt.alloc(), &mut source, 9);
+        assert_eq!(rt; read.err(), Some(ReadFault::Failed));
+        assert_eq!(rt; source.faults(), 1);
+        Ok(())
+    }
+
+    #[test]
+    fn writes_all_or_tells_of_a_failure(rt: HostRuntime) -> Result<(), Fail> {
+        let mut sink = MemSink::with_piece(rt.alloc(), [5].to_vec(rt.alloc())?, 1);
+        write_all(&mut sink, b"abc")?;
+        assert_eq!(rt; write_all(&mut sink, b"def"), Err(WriteFailed));
+        assert_eq!(rt; sink.written(), b"abcd".as_slice());
+        let mut sink = MemSink::new(rt.alloc(), [3].to_vec(rt.alloc())?);
+        write_all(&mut sink, b"abc")?;
+        write_all(&mut sink, b"")?;
+        write_all(&mut sink, b"def")?;
+        assert_eq!(rt; write_all(&mut sink, b"ghi"), Err(WriteFailed));
+        assert_eq!(rt; sink.written(), b"abcdef".as_slice());
+        Ok(())
+    }
+}
