@@ -1,15 +1,10 @@
 -- One call after another, on what is told and on a count of faults.
-use Rattle.std.proofs.Common.{◌≡◌, ℕ, ◌+◌, ◌-◌, ◌≤◌, List, [], ◌++◌, length, take, drop, Option, None, Some, IfSome, refl, sym, ap, ◌∙◌, inl, inr, append_assoc, arith}
-use Rattle.std.proofs.lemmas.List.{take_at, take_all, append-nil, take-append-drop, take_rest}
+use Rattle.std.proofs.Common.{ℕ, ◌+◌, ◌-◌, ◌≤◌, List, ◌++◌, length, take, drop, Option, None, Some, sym, ap, ◌∙◌, inl, inr, append_assoc, arith}
+use Rattle.std.proofs.lemmas.List.{take-append-drop, take_rest}
 use Rattle.std.proofs.Math.Seq.{take-add}
 use Rattle.std.proofs.lemmas.Bool.{cases_lt}
 use Rattle.volt_io.specs.Faults.{Rose}
-use Rattle.volt_io.specs.Told.{Keeps, TakesFront, LosesFront, MovesFront, Appends, AppendsFrontOf}
-
--- no byte is taken yet
-pub TakesFront-none : (a : Option (List ℕ)) → TakesFront a a []
-TakesFront-none None = tt
-TakesFront-none (Some xs) = refl
+use Rattle.volt_io.specs.Told.{Keeps, TakesFront, LosesFront, Appends, AppendsFrontOf}
 
 -- a second front is taken after a first
 pub TakesFront-then : (a b c : Option (List ℕ)) (x y : List ℕ) → TakesFront a b x → TakesFront b c y → TakesFront a c (x ++ y)
@@ -19,10 +14,6 @@ TakesFront-then (Some xs) (Some ys) None x y p q = absurd q
 TakesFront-then (Some xs) (Some ys) (Some zs) x y p q =
     p ∙ (ap (λ l. x ++ l) q ∙ sym (append_assoc x y zs))
 
--- a second front moves behind a first
-pub TakesFront-moves : (a b c : Option (List ℕ)) (x y : List ℕ) → TakesFront a b x → MovesFront b c x y → TakesFront a c y
-TakesFront-moves a b c x y p q = rw q.2 (TakesFront-then a b c x q.0 p q.1)
-
 -- a failed read takes nothing more
 pub TakesFront-kept : (a b c : Option (List ℕ)) (x : List ℕ) → TakesFront a b x → Keeps b c → TakesFront a c x
 TakesFront-kept None b c x p q = tt
@@ -30,27 +21,9 @@ TakesFront-kept (Some xs) None c x p q = absurd p
 TakesFront-kept (Some xs) (Some ys) None x p q = absurd q
 TakesFront-kept (Some xs) (Some ys) (Some zs) x p q = p ∙ ap (λ l. x ++ l) (sym q)
 
--- what was taken is the front of that length
-pub TakesFront-front : (a b : Option (List ℕ)) (x : List ℕ) (n : ℕ) → TakesFront a b x → length x ≡ n → IfSome a (λ left. x ≡ take n left)
-TakesFront-front None b x n p h = tt
-TakesFront-front (Some xs) None x n p h = absurd p
-TakesFront-front (Some xs) (Some ys) x n p h = sym (ap (take n) p ∙ take_at x ys n h)
-
--- where nothing is left, what was taken is all there was
-pub TakesFront-all : (a b : Option (List ℕ)) (x : List ℕ) → TakesFront a b x → IfSome b (λ left. left ≡ []) → IfSome a (λ left. x ≡ left)
-TakesFront-all None b x p h = tt
-TakesFront-all (Some xs) None x p h = absurd p
-TakesFront-all (Some xs) (Some ys) x p h = sym (p ∙ (ap (λ l. x ++ l) h ∙ append-nil x))
-
--- all of a list is its front of any greater length
-pub front_of_all : (a : Option (List ℕ)) (x : List ℕ) (n : ℕ) → IfSome a (λ left. x ≡ left) → length x ≤ n → IfSome a (λ left. x ≡ take n left)
-front_of_all None x n p h = tt
-front_of_all (Some xs) x n p h = sym (ap (take n) (sym p) ∙ take_all n x h)
-
--- no byte is written yet
-pub Appends-none : (a : Option (List ℕ)) → Appends a a []
-Appends-none None = tt
-Appends-none (Some xs) = sym (append-nil xs)
+-- a front is lost after a first was taken
+pub LosesFront-then : (a b c : Option (List ℕ)) (x : List ℕ) → TakesFront a b x → LosesFront b c → LosesFront a c
+LosesFront-then a b c x p q = (x ++ q.0, TakesFront-then a b c x q.0 p q.1)
 
 -- a second text is written after a first
 pub Appends-then : (a b c : Option (List ℕ)) (x y : List ℕ) → Appends a b x → Appends b c y → Appends a c (x ++ y)
@@ -77,15 +50,17 @@ pub AppendsFrontOf-kept : (a b c : Option (List ℕ)) (text : List ℕ) (at : �
 AppendsFrontOf-kept a b c text at p q =
     (take at text, (drop at text, sym (take-append-drop at text)), Appends-kept a b c (take at text) p q)
 
--- a second front is lost after a first
-pub LosesFront-then : (a b c : Option (List ℕ)) (x : List ℕ) → TakesFront a b x → LosesFront b c → LosesFront a c
-LosesFront-then a b c x p q = (x ++ q.0, TakesFront-then a b c x q.0 p q.1)
+-- a first text is written, and then a front of a second
+pub AppendsFrontOf-then : (a b c : Option (List ℕ)) (x y : List ℕ) → Appends a b x → AppendsFrontOf b c y → AppendsFrontOf a c (x ++ y)
+AppendsFrontOf-then a b c x y p q =
+    (x ++ q.0, (q.1.0, ap (λ l. x ++ l) q.1.1 ∙ sym (append_assoc x q.0 q.1.0)), Appends-then a b c x q.0 p q.2)
 
--- a failed read takes nothing more
-pub LosesFront-kept : (a b c : Option (List ℕ)) (x : List ℕ) → TakesFront a b x → Keeps b c → LosesFront a c
-LosesFront-kept a b c x p q = (x, TakesFront-kept a b c x p q)
+-- a front of a text is a front of a longer one
+pub AppendsFrontOf-longer : (a b : Option (List ℕ)) (x y : List ℕ) → AppendsFrontOf a b x → AppendsFrontOf a b (x ++ y)
+AppendsFrontOf-longer a b x y p =
+    (p.0, (p.1.0 ++ y, ap (λ l. l ++ y) p.1.1 ∙ append_assoc p.0 p.1.0 y), p.2)
 
 -- a count that rose in a later call rose over all the calls
-pub Rose-earlier : (a b c : ℕ) → a ≤ b → b ≤ c → Rose b c → Rose a c
-Rose-earlier a b c low high rose =
+pub Rose-from_later : (a b c : ℕ) → a ≤ b → b ≤ c → Rose b c → Rose a c
+Rose-from_later a b c low high rose =
     elim rose [ inl more ↦ inl (omega arith) | inr full ↦ elim (cases_lt a c) [ inl more ↦ inl more | inr same ↦ inr (omega arith) ] ]

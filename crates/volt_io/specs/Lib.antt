@@ -2,3 +2,4 @@ pub mod Faults
 pub mod Told
 pub mod Supply
 pub mod Store
+pub mod Words

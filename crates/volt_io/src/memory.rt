@@ -1,5 +1,5 @@
 //! A source and a sink over memory. They tell their bytes, and fail as they are told to.
-ghost use Rattle.std.specs.Prelude.{◌≡◌, ◌+◌, ◌-◌, ◌^◌, ◌<◌, ◌≤◌, ◌↔◌, [], ◌++◌, Some, Contains, drop, length, take, IsErr, IfOk, OnErr};
+ghost use Rattle.std.specs.Prelude.{◌≡◌, ◌-◌, ◌^◌, ◌<◌, ◌≤◌, ◌↔◌, [], ◌++◌, Some, Contains, drop, length, take, IsErr, IfOk, OnErr};
 ghost use Rattle.volt_io.specs.Faults.{Rose};
 ghost use Rattle.volt_io.specs.Supply.{supply_of, given_len, after_giving, after_failed_read};
 ghost use Rattle.volt_io.specs.Store.{empty_store, taken_len, after_taking, after_failed_write, after_starved_write};
@@ -71,13 +71,16 @@ impl Source for MemSource {
     fn read(&mut self, into: &mut [u8]) -> Result<usize, ReadFailed>
         requires { 0 < length into.old }
 
+        // When it fails.
         ensures fails { IsErr result ↔ Contains self.old.fail self.old.call }
         ensures failed { OnErr result (self.new ≡ after_failed_read self.old) }
 
+        // What it gives.
         ensures given { IfOk result (λ n. n ≡ given_len self.old (length into.old)) }
         ensures bytes { IfOk result (λ n. into.new ≡ take n self.old.left ++ drop n into.old) }
         ensures after { IfOk result (λ n. self.new ≡ after_giving self.old n) }
 
+        // As each source.
         ensures ends { IfOk result (λ n. (n ≡ 0) ↔ (self.old.left ≡ [])) }
         ensures rises { OnErr result (Rose self.old.faults self.new.faults) }
         ensures never_falls { self.old.faults ≤ self.new.faults }
@@ -176,13 +179,18 @@ impl Sink for MemSink {
     fn write(&mut self, piece: &[u8]) -> Result<usize, WriteFailed>
         requires { 0 < length piece.now }
 
+        // When it fails, and for which cause.
         ensures fails { Contains self.old.fail self.old.call → IsErr result }
-        ensures failed { OnErr result (Contains self.old.fail self.old.call → self.new ≡ after_failed_write self.old) }
-        ensures starves { OnErr result (¬ Contains self.old.fail self.old.call → self.new ≡ after_starved_write self.old) }
+        ensures failed { OnErr result
+            (Contains self.old.fail self.old.call → self.new ≡ after_failed_write self.old) }
+        ensures starves { OnErr result
+            (¬ Contains self.old.fail self.old.call → self.new ≡ after_starved_write self.old) }
 
+        // What it takes.
         ensures taken { IfOk result (λ n. n ≡ taken_len self.old (length piece.now)) }
         ensures after { IfOk result (λ n. self.new ≡ after_taking self.old (take n piece.now)) }
 
+        // As each sink.
         ensures some { IfOk result (λ n. 0 < n) }
         ensures rises { OnErr result (Rose self.old.faults self.new.faults) }
         ensures kept { OnErr result (self.new.written ≡ self.old.written) }

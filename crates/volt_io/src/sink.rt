@@ -1,5 +1,5 @@
 //! Where bytes go.
-ghost use Rattle.std.specs.Prelude.{◌≡◌, ℕ, ◌<◌, ◌≤◌, List, length, take, Option, IfOk, OnErr};
+ghost use Rattle.std.specs.Prelude.{◌≡◌, ℕ, ◌<◌, ◌≤◌, List, length, take, Option, Some, codes, IfOk, OnErr};
 ghost use Rattle.volt_io.specs.Faults.{Rose};
 ghost use Rattle.volt_io.specs.Told.{Keeps, Appends};
 
@@ -11,6 +11,8 @@ use std::fmt;
 pub struct WriteFailed;
 
 impl fmt::Display for WriteFailed {
+    ghost output = { λ _. Some (codes "the sink failed") };
+
     fn fmt<W: fmt::Write>(&self, f: &mut fmt::Formatter<W>) -> fmt::Result {
         write!(f, "the sink failed")
     }

@@ -1,5 +1,5 @@
 //! Where bytes come from.
-ghost use Rattle.std.specs.Prelude.{◌≡◌, ℕ, ◌<◌, ◌≤◌, ◌↔◌, List, [], length, take, Option, IfOk, IfSome, OnErr};
+ghost use Rattle.std.specs.Prelude.{◌≡◌, ℕ, ◌<◌, ◌≤◌, ◌↔◌, List, [], length, take, Option, Some, codes, IfOk, IfSome, OnErr};
 ghost use Rattle.volt_io.specs.Faults.{Rose};
 ghost use Rattle.volt_io.specs.Told.{Keeps, TakesFront};
 
@@ -11,6 +11,8 @@ use std::fmt;
 pub struct ReadFailed;
 
 impl fmt::Display for ReadFailed {
+    ghost output = { λ _. Some (codes "the source failed") };
+
     fn fmt<W: fmt::Write>(&self, f: &mut fmt::Formatter<W>) -> fmt::Result {
         write!(f, "the source failed")
     }

@@ -49,6 +49,7 @@ impl<R: Read + Drop> Source for StdSource<R> {
         ensures good { OnOk result (self.new ≡ self.old) }
         ensures failed { OnErr result (self.new ≡ one_more self.old) }
 
+        // As each source.
         ensures within { IfOk result (λ n. n ≤ length into.new) }
         ensures rises { OnErr result (Rose self.old self.new) }
         ensures never_falls { self.old ≤ self.new }
@@ -123,6 +124,7 @@ impl<W: Write + Drop> Sink for StdSink<W> {
         ensures good { OnOk result (self.new ≡ self.old) }
         ensures failed { OnErr result (self.new ≡ one_more self.old) }
 
+        // As each sink.
         ensures some { IfOk result (λ n. 0 < n) }
         ensures within { IfOk result (λ n. n ≤ length piece.now) }
         ensures rises { OnErr result (Rose self.old self.new) }

@@ -19,6 +19,11 @@ pub enum ReadFault {
 }
 
 impl fmt::Display for ReadFault {
+    ghost use Rattle.std.specs.Prelude.{Some};
+    ghost use Rattle.volt_io.specs.Words.{words_of};
+
+    ghost output = { λ fault. Some (words_of fault) };
+
     fn fmt<W: fmt::Write>(&self, f: &mut fmt::Formatter<W>) -> fmt::Result {
         match self {
             ReadFault::Failed => write!(f, "the source failed"),
@@ -151,19 +156,11 @@ mod tests {
 
     #[test]
     fn reads_at_most_one_byte_past_the_limit(rt: HostRuntime) -> Result<(), Fail> {
-        for (limit, want) in [
-            (0, "a"),
-            (2, "abc"),
-            (4, "abcde"),
-            (5, "abcde"),
-            (9, "abcde"),
-        ] {
-            for piece in [1, 2, usize::MAX] {
-                let bytes = b"abcde".to_vec(rt.alloc())?;
-                let mut source = MemSource::with_piece(bytes, Vec::new(rt.alloc()), piece);
-                let read = read_to_end(rt.alloc(), &mut source, limit)?;
-                assert_eq!(rt; read.as_slice(), want.as_bytes(), "at {limit}");
-            }
+        for (limit, piece, want) in [(0, 9, "a"), (2, 2, "abc"), (4, 1, "abcde"), (9, 1, "abcde")] {
+            let bytes = b"abcde".to_vec(rt.alloc())?;
+            let mut source = MemSource::with_piece(bytes, Vec::new(rt.alloc()), piece);
+            let read = read_to_end(rt.alloc(), &mut source, limit)?;
+            assert_eq!(rt; read.as_slice(), want.as_bytes(), "at {limit}");
         }
         Ok(())
     }
