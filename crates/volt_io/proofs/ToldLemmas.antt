@@ -1,0 +1,66 @@
+-- One call after another, on what is told and on a count of faults.
+use Rattle.std.proofs.Common.{ℕ, ◌+◌, ◌-◌, ◌≤◌, List, ◌++◌, length, take, drop, Option, None, Some, sym, ap, ◌∙◌, inl, inr, append_assoc, arith}
+use Rattle.std.proofs.lemmas.List.{take-append-drop, take_rest}
+use Rattle.std.proofs.Math.Seq.{take-add}
+use Rattle.std.proofs.lemmas.Bool.{cases_lt}
+use Rattle.volt_io.specs.Faults.{Rose}
+use Rattle.volt_io.specs.Told.{Keeps, TakesFront, LosesFront, Appends, AppendsFrontOf}
+
+-- a second front is taken after a first
+pub TakesFront-then : (a b c : Option (List ℕ)) (x y : List ℕ) → TakesFront a b x → TakesFront b c y → TakesFront a c (x ++ y)
+TakesFront-then None b c x y p q = tt
+TakesFront-then (Some xs) None c x y p q = absurd p
+TakesFront-then (Some xs) (Some ys) None x y p q = absurd q
+TakesFront-then (Some xs) (Some ys) (Some zs) x y p q =
+    p ∙ (ap (λ l. x ++ l) q ∙ sym (append_assoc x y zs))
+
+-- a failed read takes nothing more
+pub TakesFront-kept : (a b c : Option (List ℕ)) (x : List ℕ) → TakesFront a b x → Keeps b c → TakesFront a c x
+TakesFront-kept None b c x p q = tt
+TakesFront-kept (Some xs) None c x p q = absurd p
+TakesFront-kept (Some xs) (Some ys) None x p q = absurd q
+TakesFront-kept (Some xs) (Some ys) (Some zs) x p q = p ∙ ap (λ l. x ++ l) (sym q)
+
+-- a front is lost after a first was taken
+pub LosesFront-then : (a b c : Option (List ℕ)) (x : List ℕ) → TakesFront a b x → LosesFront b c → LosesFront a c
+LosesFront-then a b c x p q = (x ++ q.0, TakesFront-then a b c x q.0 p q.1)
+
+-- a second text is written after a first
+pub Appends-then : (a b c : Option (List ℕ)) (x y : List ℕ) → Appends a b x → Appends b c y → Appends a c (x ++ y)
+Appends-then None b c x y p q = tt
+Appends-then (Some xs) None c x y p q = absurd p
+Appends-then (Some xs) (Some ys) None x y p q = absurd q
+Appends-then (Some xs) (Some ys) (Some zs) x y p q =
+    q ∙ (ap (λ l. l ++ y) p ∙ append_assoc xs x y)
+
+-- a failed write adds nothing
+pub Appends-kept : (a b c : Option (List ℕ)) (x : List ℕ) → Appends a b x → Keeps b c → Appends a c x
+Appends-kept None b c x p q = tt
+Appends-kept (Some xs) None c x p q = absurd p
+Appends-kept (Some xs) (Some ys) None x p q = absurd q
+Appends-kept (Some xs) (Some ys) (Some zs) x p q = q ∙ p
+
+-- the front of a text is written, and then the front of what stands behind it
+pub Appends-more : (a b c : Option (List ℕ)) (text : List ℕ) (at n : ℕ) → Appends a b (take at text) → Appends b c (take n (take (length text - at) (drop at text))) → Appends a c (take (at + n) text)
+Appends-more a b c text at n p q =
+    rw (take-add at n text) (Appends-then a b c (take at text) (take n (drop at text)) p (rw (take_rest text at) at q))
+
+-- the front of a text is written, and then a write fails
+pub AppendsFrontOf-kept : (a b c : Option (List ℕ)) (text : List ℕ) (at : ℕ) → Appends a b (take at text) → Keeps b c → AppendsFrontOf a c text
+AppendsFrontOf-kept a b c text at p q =
+    (take at text, (drop at text, sym (take-append-drop at text)), Appends-kept a b c (take at text) p q)
+
+-- a first text is written, and then a front of a second
+pub AppendsFrontOf-then : (a b c : Option (List ℕ)) (x y : List ℕ) → Appends a b x → AppendsFrontOf b c y → AppendsFrontOf a c (x ++ y)
+AppendsFrontOf-then a b c x y p q =
+    (x ++ q.0, (q.1.0, ap (λ l. x ++ l) q.1.1 ∙ sym (append_assoc x q.0 q.1.0)), Appends-then a b c x q.0 p q.2)
+
+-- a front of a text is a front of a longer one
+pub AppendsFrontOf-longer : (a b : Option (List ℕ)) (x y : List ℕ) → AppendsFrontOf a b x → AppendsFrontOf a b (x ++ y)
+AppendsFrontOf-longer a b x y p =
+    (p.0, (p.1.0 ++ y, ap (λ l. l ++ y) p.1.1 ∙ append_assoc p.0 p.1.0 y), p.2)
+
+-- a count that rose in a later call rose over all the calls
+pub Rose-from_later : (a b c : ℕ) → a ≤ b → b ≤ c → Rose b c → Rose a c
+Rose-from_later a b c low high rose =
+    elim rose [ inl more ↦ inl (omega arith) | inr full ↦ elim (cases_lt a c) [ inl more ↦ inl more | inr same ↦ inr (omega arith) ] ]

@@ -1,0 +1,5 @@
+pub mod Faults
+pub mod Told
+pub mod Supply
+pub mod Store
+pub mod Words
