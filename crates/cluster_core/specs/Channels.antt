@@ -1,10 +1,14 @@
 -- The messages under way, as a list of routes with their queues.
-use Rattle.std.specs.Prelude.{◌≡◌, ◌&&◌, if◌then◌else◌, List, [], ◌∷◌, map, Option, Some, None}
+use Rattle.std.specs.Prelude.{◌&&◌, Bool, if◌then◌else◌, List, [], ◌∷◌, map, Option, Some, None}
+use Rattle.std.specs.List.{list_all}
 use Rattle.std.specs.Global.{Global}
 use Rattle.std.specs.declared.collections.VecDeque.{VecDeque}
 use Rattle.volt_wire.specs.declared.actor.Actor.{Actor}
+use Rattle.volt_wire.specs.declared.event.Event.{Event}
+use Rattle.volt_wire.specs.declared.event.Event.TheVariants.{Deliver}
 use Rattle.volt_wire.specs.declared.message.Msg.{Msg}
 use Rattle.cluster_model.specs.Actors.{same}
+use Rattle.cluster_model.specs.World.{is_some_message}
 use Rattle.cluster_core.specs.declared.route.Route.{Route}
 
 -- the queue from one actor to another
@@ -23,3 +27,15 @@ with_queue channel route queue from to = if same route.to to && same route.from 
 abbrev pub first_message : List Msg → Option Msg
 first_message [] = None
 first_message (m ∷ ms) = Some m
+
+-- the routes that have a message, in their order
+abbrev pub routes : List (Route × List Msg) → List Route
+routes es = map (λ e. e.0) es
+
+-- no queue is empty
+abbrev pub all_full : List (Route × List Msg) → Bool
+all_full es = list_all (λ e. is_some_message e.1) es
+
+-- the delivery of the first message of a route
+abbrev pub delivery : Route → Event
+delivery r = Deliver r.to r.from

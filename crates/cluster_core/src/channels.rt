@@ -1,14 +1,14 @@
-ghost use Rattle.std.specs.Prelude.{◌≡◌, [], OnOk, IfOk};
+ghost use Rattle.std.specs.Prelude.{◌≡◌, ◌++◌, [], map, slice_get, OnOk, IfOk};
 ghost use Rattle.cluster_model.specs.Actors.{only};
-ghost use Rattle.cluster_model.specs.World.{took, sent};
+ghost use Rattle.cluster_model.specs.World.{took, sent, is_some_message};
 ghost use Rattle.volt_wire.specs.declared.actor.Actor.{Actor};
-ghost use Rattle.cluster_core.specs.Channels.{queue_of, shown, with_queue, first_message};
+ghost use Rattle.cluster_core.specs.Channels.{queue_of, routes, delivery, shown, with_queue, first_message};
 
 use crate::route::Route;
 use std::alloc::{AllocError, Global};
 use std::collections::{BTreeMap, VecDeque};
 use std::marker::Model;
-use volt_wire::{Actor, Msg};
+use volt_wire::{Actor, Event, Msg};
 
 /// The messages under way: the queue of each route that has a message, by route.
 #[derive(Drop)]
@@ -24,9 +24,13 @@ impl Model for Channels {
 
     ghost Value = { List (Route × List Msg) };
 
-    ghost use Rattle.cluster_core.specs.Channels.{shown};
+    ghost use Rattle.std.specs.Prelude.{◌≡◌, true};
+    ghost use Rattle.cluster_core.specs.Channels.{shown, all_full};
 
     ghost view = { λ c. shown c.queues.entries };
+
+    // A route whose queue is empty isn't kept.
+    ghost invariant = { λ c. all_full (shown c.queues.entries) ≡ true };
 }
 
 impl Channels {
@@ -38,6 +42,33 @@ impl Channels {
             queues: BTreeMap::new(alloc),
             alloc,
         }
+    }
+
+    /// Whether a channel holds a message.
+    pub fn has(&self, from: Actor, to: Actor) -> bool
+        ensures { result ≡ is_some_message (queue_of self.now from to) }
+    {
+        self.queues.contains_key(&Route { to, from })
+    }
+
+    /// The first route that has a message.
+    pub fn first(&self) -> Option<Route>
+        ensures { result ≡ slice_get (routes self.now) 0 }
+    {
+        self.queues.keys().next().copied()
+    }
+
+    /// Adds the delivery of each route that has a message, in their order.
+    pub fn add_deliveries(&self, into: &mut Vec<Event>) -> Result<(), AllocError>
+        ensures { OnOk result (into.new.items ≡ into.old.items ++ map delivery (routes self.now)) }
+    {
+        for route in self.queues.keys() {
+            into.push(Event::Deliver {
+                to: route.to,
+                from: route.from,
+            })?;
+        }
+        Ok(())
     }
 
     /// Puts a message at the end of a channel.
