@@ -2,3 +2,4 @@ pub mod Sends
 pub mod SiteSteps
 pub mod RouteLemmas
 pub mod ChannelLemmas
+pub mod ReadyLemmas
