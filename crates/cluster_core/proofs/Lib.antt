@@ -3,3 +3,4 @@ pub mod SiteSteps
 pub mod RouteLemmas
 pub mod ChannelLemmas
 pub mod ReadyLemmas
+pub mod Delivered

@@ -1,7 +1,8 @@
 -- What an outbox holds for each actor after a message more.
-use Rattle.std.proofs.Common.{◌≡◌, zero, suc, Bool, true, false, List, [], ◌∷◌, ◌++◌, refl, ap, sym, ◌∙◌, append_assoc, arith}
+use Rattle.std.proofs.Common.{◌≡◌, zero, suc, Bool, true, false, List, [], ◌∷◌, ◌++◌, refl, ap, sym, ◌∙◌, append_assoc, inl, inr}
 use Rattle.std.specs.Prelude.{if◌then◌else◌, Some}
 use Rattle.std.proofs.Math.Dec.{eqb-zero-suc}
+use Rattle.std.proofs.lemmas.Bool.{cases_Bool}
 use Rattle.std.proofs.lemmas.List.{append-nil}
 use Rattle.volt_wire.specs.declared.actor.Actor.{Actor}
 use Rattle.volt_wire.specs.declared.actor.Actor.TheVariants.{Director, Client, Agent, Site}
@@ -10,6 +11,7 @@ use Rattle.volt_wire.specs.declared.message.Msg.TheVariants as msg
 use Rattle.cluster_model.specs.declared.state.Due.{Due}
 use Rattle.cluster_model.specs.Actors.{same, only}
 use Rattle.cluster_model.specs.Client.{submit_sends}
+use Rattle.cluster_model.specs.World.{sent}
 use Rattle.cluster_core.specs.Outbox.{sent_to, SendsMore}
 
 chosen : (t : Bool) (m : Msg) (xs ys : List Msg) → (if t then m ∷ (xs ++ ys) else (xs ++ ys)) ≡ (if t then m ∷ xs else xs) ++ ys
@@ -27,3 +29,19 @@ pub sends_submit : (old mid new : List (Actor × Msg)) (due : Due) (left : List 
     → SendsMore mid new (only (Agent 0) (msg.Call due.call 1 due.part due.body))
     → SendsMore old new (submit_sends (due ∷ left))
 sends_submit old mid new due left p q b = q b ∙ ap (λ (ys : List Msg). ys ++ only (Agent 0) (msg.Call due.call 1 due.part due.body) b) (p b) ∙ append_assoc (sent_to b old) (only Director msg.Told b) (only (Agent 0) (msg.Call due.call 1 due.part due.body) b)
+
+-- a message more was sent, and is no longer to be sent
+pub post_one : (old new : Actor → Actor → List Msg) (from to : Actor) (m : Msg) (left : List (Actor × Msg))
+    → ((f t : Actor) → new f t ≡ sent old from (only to m) f t)
+    → (f t : Actor) → sent new from (λ b. sent_to b left) f t ≡ sent old from (λ b. sent_to b ((to, m) ∷ left)) f t
+post_one old new from to m left h f t =
+    ap (λ (ms : List Msg). if same from f then ms ++ sent_to t left else ms) (h f t) ∙ split (same from f) (same to t)
+  where
+    split : (a b : Bool) → (if a then (if a then old f t ++ (if b then m ∷ [] else []) else old f t) ++ sent_to t left else (if a then old f t ++ (if b then m ∷ [] else []) else old f t)) ≡ (if a then old f t ++ (if b then m ∷ sent_to t left else sent_to t left) else old f t)
+    split true true = append_assoc (old f t) (m ∷ []) (sent_to t left)
+    split true false = append_assoc (old f t) [] (sent_to t left)
+    split false b = refl
+
+-- nothing is left to be sent
+pub post_none : (channel : Actor → Actor → List Msg) (from f t : Actor) → sent channel from (λ b. []) f t ≡ channel f t
+post_none channel from f t = elim (cases_Bool (same from f)) [ inl a ↦ rw a (append-nil (channel f t)) | inr a ↦ rw a refl ]

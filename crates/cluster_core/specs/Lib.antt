@@ -1,3 +1,4 @@
 pub mod Outbox
 pub mod Site
 pub mod Channels
+pub mod World

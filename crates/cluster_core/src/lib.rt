@@ -8,3 +8,4 @@ mod director;
 mod outbox;
 mod route;
 mod site;
+mod world;

@@ -8,6 +8,7 @@ use Rattle.volt_wire.specs.declared.actor.Actor.TheVariants.{Director, Client, A
 use Rattle.volt_wire.specs.declared.event.Event.{Event}
 use Rattle.volt_wire.specs.declared.event.Event.TheVariants.{Deliver, Sync, Submit}
 use Rattle.volt_wire.specs.declared.input.Ended.{Ended}
+use Rattle.cluster_model.specs.declared.state.CopyRows.{CopyRows}
 use Rattle.cluster_model.specs.Site.{tables}
 use Rattle.cluster_model.specs.World.{World, can, step}
 
@@ -65,18 +66,13 @@ serves w = nat_lt 0 (w.agents 0).start
 -- ---- what a report shows of a world
 
 -- the copy of a slot: the number of calls that its partition applied, and its rows
-pub record Copy : Type 0 where
-  pub slot : ℕ
-  pub position : ℕ
-  pub rows : List ℕ
-
-abbrev pub copy_of : (S : Semantics) → ℕ → World → Copy
+abbrev pub copy_of : (S : Semantics) → ℕ → World → CopyRows
 copy_of S i w =
     let state = tables S i (w.sites i)
     in record { slot = i; position = length (S.applied state); rows = S.rows state }
 
 -- the copies of running members: here of the one slot
-abbrev pub copies : (S : Semantics) → World → List Copy
+abbrev pub copies : (S : Semantics) → World → List CopyRows
 copies S w = copy_of S 0 w ∷ []
 
 -- The applied lists of the copies, merged by point, each call once: of one copy, its applied list.

@@ -44,10 +44,14 @@ sent channel from sends a b = if same from a then channel a b ++ sends b else ch
 
 -- ---- events
 
+-- the director counts the calls that it is told of
+abbrev pub told_after : ℕ → Msg → ℕ
+told_after told msg.Told = told + 1
+told_after told m = told
+
 -- The receiver takes a message: its state changes by the row of the message, and what the row says is sent.
 abbrev pub received : (S : Semantics) → ℕ → World → Actor → Actor → Msg → World
-received S stamp w Director from msg.Told = record w { told = w.told + 1; channel = took w.channel from Director }
-received S stamp w Director from m = record w { channel = took w.channel from Director }
+received S stamp w Director from m = record w { told = told_after w.told m; channel = took w.channel from Director }
 received S stamp w (Client n) from m =
     record w {
       clients = set_at w.clients n (client_after stamp n (w.clients n) m);

@@ -6,4 +6,4 @@
 
 mod state;
 
-pub use state::{Due, Pending, Waiting};
+pub use state::{CopyRows, Due, Pending, Waiting};

@@ -1,4 +1,4 @@
-use volt_base::{Bytes, CallNo, ClientNo, HostNo, PartNo, Start};
+use volt_base::{Bytes, CallNo, ClientNo, HostNo, PartNo, Pos, SlotNo, Start};
 
 /// A call that its client has still to submit.
 #[derive(Debug, Drop)]
@@ -22,4 +22,12 @@ pub struct Waiting {
     pub call: CallNo,
     pub start: Start,
     pub host: HostNo,
+}
+
+/// What a copy of a partition shows: how many calls it has applied, and its rows as a report prints them.
+#[derive(Debug, Drop)]
+pub struct CopyRows {
+    pub rows: Bytes,
+    pub position: Pos,
+    pub slot: SlotNo,
 }

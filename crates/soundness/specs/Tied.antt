@@ -5,8 +5,9 @@ use Rattle.volt_base.specs.Semantics.{Semantics}
 use Rattle.volt_wire.specs.declared.input.Ended.{Ended}
 use Rattle.volt_report.specs.Report.{ReportEnd, CallLine, CopyLine, Report}
 use Rattle.volt_report.specs.Spelling.{table_line}
+use Rattle.cluster_model.specs.declared.state.CopyRows.{CopyRows}
 use Rattle.cluster_model.specs.World.{World}
-use Rattle.cluster_model.specs.Runs.{run, IsRun, TakesFirst, IsQuiet, serves, Copy, copies, serial, ended}
+use Rattle.cluster_model.specs.Runs.{run, IsRun, TakesFirst, IsQuiet, serves, copies, serial, ended}
 
 -- a call's line as the world has it: the reply is spelled as the engine spells it
 abbrev pub ended_line : (ReportEnd → List ℕ) → CallLine → Ended
@@ -14,7 +15,7 @@ ended_line reply_bytes c =
     record { submitted = c.submitted; ended = c.ended; reply = reply_bytes c.end; call = c.call; client = c.client }
 
 -- a copy's line as the world has it
-abbrev pub copy_shown : CopyLine → Copy
+abbrev pub copy_shown : CopyLine → CopyRows
 copy_shown c = record { slot = c.slot; position = c.position; rows = flat_map table_line c.rows }
 
 -- The report shows this world: its trace, ends, copies and serial list. Its opening is empty, and no look was asked for.

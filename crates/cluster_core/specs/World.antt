@@ -1,0 +1,20 @@
+-- When the code's world stands for a world.
+use Rattle.std.specs.Prelude.{ℕ, ◌≡◌, List, []}
+use Rattle.volt_base.specs.Semantics.{Semantics}
+use Rattle.volt_wire.specs.declared.actor.Actor.{Actor}
+use Rattle.cluster_model.specs.World as model
+use Rattle.cluster_core.specs.declared.world.World.{World}
+use Rattle.cluster_core.specs.Channels.{queue_of}
+use Rattle.cluster_core.specs.Site.{StandsForSite}
+
+-- Actor by actor and channel by channel. The engine's states are seen by `state`.
+pub record StandsFor (S : Semantics) {M E : Type 0} (state : E → S.State) (code : World M E) (w : model.World) : Type 0 where
+  pub told : code.director.told ≡ w.told
+  pub client : code.client ≡ w.clients 1
+  pub agent : code.agent ≡ w.agents 0
+  pub slot : code.site.slot ≡ 0
+  pub site : StandsForSite S 0 code.site.log (state code.site.engine) (w.sites 0)
+  pub channels : (from to : Actor) → queue_of code.channels from to ≡ w.channel from to
+  -- nothing is left to be sent
+  pub outbox : code.outbox ≡ []
+  pub trace : code.trace.items ≡ w.trace
