@@ -1,5 +1,5 @@
 -- The routes with a message under way, in order, are the deliveries that may happen.
-use Rattle.std.proofs.Common.{◌≡◌, ℕ, ◌&&◌, ◌||◌, Bool, true, false, cond, List, [], ◌∷◌, ◌++◌, map, filter, is_eq, refl, ap, sym, ◌∙◌, inl, inr}
+use Rattle.std.proofs.Common.{◌≡◌, ◌&&◌, ◌||◌, Bool, true, false, cond, List, [], ◌∷◌, ◌++◌, map, filter, is_eq, refl, ap, sym, ◌∙◌}
 use Rattle.std.specs.List.{flat_map, list_any, list_all, AllByRecursion}
 use Rattle.std.specs.List.Sorted.{IsStrictlySortedBy}
 use Rattle.std.specs.Ordering.{is_lt}
@@ -9,7 +9,7 @@ use Rattle.std.specs.Map.{keys_of}
 use Rattle.std.specs.declared.collections.VecDeque.{VecDeque}
 use Rattle.std.specs.declared.cmp.Ordering.{Ordering}
 use Rattle.std.specs.declared.cmp.Ordering.TheVariants.{Less, Equal, Greater}
-use Rattle.std.proofs.lemmas.Bool.{false≢true, and_parts, cases_Bool}
+use Rattle.std.proofs.lemmas.Bool.{false≢true, and_parts}
 use Rattle.std.proofs.lemmas.List.Elements.{filter-append}
 use Rattle.std.proofs.lemmas.Map.Lookups.{CmpEqualImpliesEq}
 use Rattle.volt_wire.specs.declared.actor.Actor.{Actor}
@@ -86,9 +86,13 @@ among_routes q e =
     let is = and_parts (is_one_of_them q.to) (is_one_of_them q.from) e in
     each_actor (λ t. list_any (is_at (cmp-value.it (route t q.from))) routes ≡ true) (
       each_actor (λ f. list_any (is_at (cmp-value.it (route Director f))) routes ≡ true) (refl, (refl, (refl, (refl, tt)))) q.from is.1,
-      (each_actor (λ f. list_any (is_at (cmp-value.it (route (Client 1) f))) routes ≡ true) (refl, (refl, (refl, (refl, tt)))) q.from is.1,
-      (each_actor (λ f. list_any (is_at (cmp-value.it (route (Agent 0) f))) routes ≡ true) (refl, (refl, (refl, (refl, tt)))) q.from is.1,
-      (each_actor (λ f. list_any (is_at (cmp-value.it (route (Site 0) f))) routes ≡ true) (refl, (refl, (refl, (refl, tt)))) q.from is.1, tt))),
+      (
+        each_actor (λ f. list_any (is_at (cmp-value.it (route (Client 1) f))) routes ≡ true) (refl, (refl, (refl, (refl, tt)))) q.from is.1,
+        (
+          each_actor (λ f. list_any (is_at (cmp-value.it (route (Agent 0) f))) routes ≡ true) (refl, (refl, (refl, (refl, tt)))) q.from is.1,
+          (each_actor (λ f. list_any (is_at (cmp-value.it (route (Site 0) f))) routes ≡ true) (refl, (refl, (refl, (refl, tt)))) q.from is.1, tt),
+        ),
+      ),
     ) q.to is.0
 
 -- ---- the keys of a map of routes
@@ -133,6 +137,7 @@ is_some_message-queue_of (e ∷ es) h from to = first (same to e.0.to && same fr
   where
     later : Bool
     later = list_any (λ r. same to r.to && same from r.from) (map (λ x. x.0) es)
+
     first : (b : Bool) → is_some_message (queue_of es from to) ≡ later → is_some_message (cond b e.1 (queue_of es from to)) ≡ (b || later)
     first true i = h.0
     first false i = i

@@ -1,5 +1,5 @@
 -- Lists in strict order that have the same members are one list.
-use Rattle.std.proofs.Common.{◌≡◌, ◌&&◌, ◌||◌, Bool, true, false, List, [], ◌∷◌, filter, refl, ap, sym, subst, ◌∙◌, inl, inr}
+use Rattle.std.proofs.Common.{◌≡◌, ◌&&◌, ◌||◌, Bool, true, false, List, [], ◌∷◌, filter, ap, sym, subst, ◌∙◌, inl, inr}
 use Rattle.std.specs.List.{list_any, AllByRecursion}
 use Rattle.std.specs.List.Sorted.{IsStrictlySortedBy}
 use Rattle.std.specs.Cmp.{IsTotalOrder, Equal-is}
@@ -30,6 +30,7 @@ module _ {K : Type 0} {R : K → K → Ordering} (total : IsTotalOrder R) (exact
     where
       kept : (q : K) (b : Bool) → test q ≡ b → list_any (is_at (R q)) (filter test candidates) ≡ (b && list_any (is_at (R q)) candidates)
       kept q b e = any-filter_same (is_at (R q)) test b (λ k t. ap test (sym (exact q k ((Equal-is (R q k)).0 t))) ∙ e) candidates
+
       same : (q : K) → list_any (is_at (R q)) ks ≡ list_any (is_at (R q)) (filter test candidates)
       same q = elim (cases_Bool (list_any (is_at (R q)) ks)) [
         | inl t ↦ t ∙ sym (kept q true (found q ∙ t) ∙ holds_of_found (λ k. list_any (is_at (R k)) candidates ≡ true) q ks members t)
