@@ -1,7 +1,7 @@
 -- An agent hands the calls of clients to the leaders of their partitions, and the replies back.
-use Rattle.std.specs.Prelude.{ℕ, ◌==◌, ◌&&◌, Bool, true, false, if◌then◌else◌, List, [], ◌∷◌, ◌++◌, Option, Some, None}
+use Rattle.std.specs.Prelude.{ℕ, ◌==◌, Bool, true, false, if◌then◌else◌, List, [], ◌∷◌, ◌++◌, Option, Some, None}
 use Rattle.volt_wire.specs.declared.actor.Actor.{Actor}
-use Rattle.volt_wire.specs.declared.actor.Actor.TheVariants.{Director, Client, Agent, Site}
+use Rattle.volt_wire.specs.declared.actor.Actor.TheVariants.{Client, Site}
 use Rattle.volt_wire.specs.declared.message.Msg.{Msg}
 use Rattle.volt_wire.specs.declared.message.Msg.TheVariants as msg
 use Rattle.cluster_model.specs.declared.state.Pending.{Pending}

@@ -1,5 +1,5 @@
 -- The world: a state for each actor, the messages under way, and what one event makes of it.
-use Rattle.std.specs.Prelude.{ℕ, zero, suc, ◌+◌, ◌==◌, ◌&&◌, Bool, true, false, not, if◌then◌else◌, List, [], ◌∷◌, ◌++◌, length, Option, Some, None}
+use Rattle.std.specs.Prelude.{ℕ, zero, suc, ◌+◌, ◌==◌, ◌&&◌, Bool, true, false, if◌then◌else◌, List, [], ◌∷◌, ◌++◌, length, None}
 use Rattle.volt_base.specs.Semantics.{Semantics}
 use Rattle.volt_wire.specs.declared.actor.Actor.{Actor}
 use Rattle.volt_wire.specs.declared.actor.Actor.TheVariants.{Director, Client, Agent, Site}
@@ -8,7 +8,7 @@ use Rattle.volt_wire.specs.declared.event.Event.TheVariants.{Deliver, Sync, Subm
 use Rattle.volt_wire.specs.declared.message.Msg.{Msg}
 use Rattle.volt_wire.specs.declared.message.Msg.TheVariants as msg
 use Rattle.volt_wire.specs.declared.input.WorldCall.{WorldCall}
-use Rattle.cluster_model.specs.Actors.{same, Sends, nothing}
+use Rattle.cluster_model.specs.Actors.{same, Sends}
 use Rattle.cluster_model.specs.declared.state.Due.{Due}
 use Rattle.cluster_model.specs.Client.{ClientState, may_submit, submitted, submit_sends, client_after}
 use Rattle.cluster_model.specs.Agent.{AgentState, agent_after, agent_sends}

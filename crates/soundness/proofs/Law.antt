@@ -125,11 +125,15 @@ quiet_is_idle S M h calls w past n (Logged c s p) left told quiet st = absurd (f
 quiet_is_idle S M h calls w past n (Replied c s p) left told quiet st = absurd (false≢true (sym (quiet (Deliver (Agent 0) (Site 0))) ∙ ap is_some_message st.channels.reply))
 quiet_is_idle S M h calls w past n (Answered c s p) left told quiet st = absurd (false≢true (sym (quiet (Deliver (Client 1) (Agent 0))) ∙ ap is_some_message st.channels.answer))
 
+-- so the world that a run from the first one leads to is a world of some run
+pub run_is_good : (S : Semantics) (M : Meaning) (h : Carries S M) (calls : List M.Call) (es : List Event) → IsRun S es (start_of S M h calls) → Good S M h calls (run S es (start_of S M h calls))
+run_is_good S M h calls es is_run = Good-run S M h calls es (start_of S M h calls) (Good-start S M h calls) is_run
+
 -- the law of quiet runs
 pub quiet_is_sound : (S : Semantics) (M : Meaning) (h : Carries S M) (calls : List M.Call) (es : List Event) → IsRun S es (start_of S M h calls) → IsQuiet (run S es (start_of S M h calls)) → (r : Report) × Shows S h.reply_bytes (run S es (start_of S M h calls)) r × Sound M (script M calls) r × (map (λ line. line.call) r.calls ≡ range_with_len 1 (length calls))
 quiet_is_sound S M h calls es is_run quiet =
     let w = run S es (start_of S M h calls) in
-    let g = Good-run S M h calls es (start_of S M h calls) (Good-start S M h calls) is_run in
+    let g = run_is_good S M h calls es is_run in
     let past = g.0 in
     let st = quiet_is_idle S M h calls w past g.1 g.2 g.3 g.4 quiet g.5 in
     let e : calls_of past ≡ calls = sym (append-nil (calls_of past)) ∙ st.all in (
@@ -142,5 +146,5 @@ quiet_is_sound S M h calls es is_run quiet =
 -- the law of short runs
 pub run_is_short : (S : Semantics) (M : Meaning) (h : Carries S M) (calls : List M.Call) (es : List Event) → IsRun S es (start_of S M h calls) → length es ≤ 7 * length calls
 run_is_short S M h calls es is_run =
-    let g = Good-run S M h calls es (start_of S M h calls) (Good-start S M h calls) is_run in
+    let g = run_is_good S M h calls es is_run in
     omega (arith, g.5.counted, length_trace-run S es (start_of S M h calls))

@@ -4,3 +4,4 @@ pub mod Channels
 pub mod Phases
 pub mod Steps
 pub mod Law
+pub mod Enabled

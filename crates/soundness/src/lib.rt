@@ -2,12 +2,13 @@
 //! a report that is both.
 #![tactic(auto)]
 
-ghost use Rattle.std.specs.Prelude.{◌≡◌, ◌*◌, ◌≤◌, List, length, map};
+ghost use Rattle.std.specs.Prelude.{◌≡◌, ◌*◌, ◌≤◌, true, List, [], length, map};
 ghost use Rattle.std.specs.List.{range_with_len};
 ghost use Rattle.volt_base.specs.Semantics.{Semantics};
 ghost use Rattle.volt_wire.specs.declared.event.Event.{Event};
 ghost use Rattle.volt_report.specs.Report.{Report};
-ghost use Rattle.cluster_model.specs.Runs.{run, IsRun, IsQuiet};
+ghost use Rattle.cluster_model.specs.World.{can};
+ghost use Rattle.cluster_model.specs.Runs.{run, IsRun, IsQuiet, is_event_of_them, enabled, serves};
 ghost use Rattle.soundness.specs.Meaning.{Meaning};
 ghost use Rattle.soundness.specs.Sound.{Sound};
 ghost use Rattle.soundness.specs.Tied.{Shows};
@@ -45,9 +46,35 @@ pub fn runs_are_short<C: Carried>()
         → length es ≤ 7 * length calls }
 {}
 
+/// In a run only events of the one client, the one agent and the one site may happen.
+pub fn events_are_of_them<C: Carried>()
+    ensures { (calls : List C.meaning.Call) (es : List Event) (e : Event)
+        → IsRun C.semantics es (start_of C.semantics C.meaning C.carries calls)
+        → can (run C.semantics es (start_of C.semantics C.meaning C.carries calls)) e ≡ true
+        → is_event_of_them e ≡ true }
+{}
+
+/// Where no event of their list may happen, a run has ended quiet: no event at all may happen.
+pub fn quiet_where_nothing_is_enabled<C: Carried>()
+    ensures { (calls : List C.meaning.Call) (es : List Event)
+        → IsRun C.semantics es (start_of C.semantics C.meaning C.carries calls)
+        → enabled (run C.semantics es (start_of C.semantics C.meaning C.carries calls)) ≡ []
+        → IsQuiet (run C.semantics es (start_of C.semantics C.meaning C.carries calls)) }
+{}
+
+/// The cluster serves in every world of a run: its agent keeps the start that it began with.
+pub fn runs_serve<C: Carried>()
+    ensures { (calls : List C.meaning.Call) (es : List Event)
+        → IsRun C.semantics es (start_of C.semantics C.meaning C.carries calls)
+        → serves (run C.semantics es (start_of C.semantics C.meaning C.carries calls)) ≡ true }
+{}
+
 #[cfg(test)]
 mod tests {
-    use crate::{Carried, quiet_runs_are_sound, runs_are_short};
+    use crate::{
+        Carried, events_are_of_them, quiet_runs_are_sound, quiet_where_nothing_is_enabled,
+        runs_are_short, runs_serve,
+    };
 
     struct Adding;
 
@@ -65,5 +92,8 @@ mod tests {
     fn the_laws_hold_of_an_engine_that_adds() {
         quiet_runs_are_sound::<Adding>();
         runs_are_short::<Adding>();
+        events_are_of_them::<Adding>();
+        quiet_where_nothing_is_enabled::<Adding>();
+        runs_serve::<Adding>();
     }
 }
