@@ -4,16 +4,23 @@ use Rattle.std.proofs.lemmas.Bool.{cases_Bool}
 use Rattle.std.proofs.lemmas.Bool.Decides.{nat_tests}
 use Rattle.std.proofs.lemmas.List.{append-nil}
 use Rattle.std.specs.BTreeMap.{is_at}
-use Rattle.std.specs.Map.{lookup}
+use Rattle.std.specs.Map.{lookup, remove_entry}
+use Rattle.std.specs.BTreeMap.{insert_entry}
+use Rattle.std.specs.Ordering.{match_ordering}
+use Rattle.std.specs.Prelude.{is_some, slice_get}
+use Rattle.std.specs.Option.{option_map}
+use Rattle.std.specs.declared.cmp.Ordering.{Ordering}
+use Rattle.std.specs.declared.cmp.Ordering.TheVariants.{Less, Equal, Greater}
+use Rattle.std.proofs.lemmas.Bool.{false≢true}
 use Rattle.std.specs.declared.collections.VecDeque.{VecDeque}
 use Rattle.volt_wire.specs.declared.actor.Actor.{Actor}
 use Rattle.volt_wire.specs.declared.actor.Actor.TheVariants.{Director, Client, Agent, Site}
 use Rattle.volt_wire.specs.declared.message.Msg.{Msg}
 use Rattle.cluster_model.specs.Actors.{same, only}
-use Rattle.cluster_model.specs.World.{took, sent, rest}
+use Rattle.cluster_model.specs.World.{took, sent, rest, is_some_message}
 use Rattle.cluster_core.specs.declared.route.Route.{Route}
 use Rattle.cluster_core.specs.contracts.route.RouteOrd.TheImpl.{cmp-value}
-use Rattle.cluster_core.specs.Channels.{queue_of, shown, with_queue, first_message}
+use Rattle.cluster_core.specs.Channels.{queue_of, shown, with_queue, routes, AreFull}
 use Rattle.cluster_core.proofs.RouteLemmas.{route_at}
 
 abbrev pub Entries : Type 0
@@ -141,3 +148,40 @@ popped_out before mid from to left is none m f t =
     empty : (xs : List Msg) → length xs ≡ 0 → xs ≡ []
     empty [] e = refl
     empty (x ∷ xs) e = absurd (omega arith)
+
+-- ---- no queue is empty
+
+-- what is left when a queue is taken out
+pub AreFull-removed : (test : Route → Bool) (es : Entries) → AreFull (shown es) → AreFull (shown (remove_entry test es))
+AreFull-removed test [] h = tt
+AreFull-removed test (e ∷ es) h = elim (cases_Bool (test e.0)) [ inl t ↦ rw t h.1 | inr t ↦ rw t (h.0, AreFull-removed test es h.1) ]
+
+-- a queue with a message is put in
+pub AreFull-inserted : (es : Entries) (r : Route) (queue : VecDeque Msg Global) → AreFull (shown es) → is_some_message queue.items ≡ true → AreFull (shown (insert_entry cmp-value.it es r queue))
+AreFull-inserted [] r queue h some = (some, tt)
+AreFull-inserted (e ∷ es) r queue h some = ordered (cmp-value.it r e.0) (AreFull-inserted es r queue h.1 some)
+  where
+    ordered : (o : Ordering) → AreFull (shown (insert_entry cmp-value.it es r queue)) → AreFull (shown (match_ordering o ((r, queue) ∷ e ∷ es) ((e.0, queue) ∷ es) (e ∷ insert_entry cmp-value.it es r queue)))
+    ordered Less later = (some, h)
+    ordered Equal later = (some, h.1)
+    ordered Greater later = (h.0, later)
+
+-- a route has a message exactly where the map has a queue
+pub full_is_some : (es : Entries) (test : Route → Bool) → AreFull (shown es) → is_some_message (items_of (lookup test es)) ≡ is_some (lookup test es)
+full_is_some [] test h = refl
+full_is_some (e ∷ es) test h = elim (cases_Bool (test e.0)) [ inl t ↦ rw t h.0 | inr t ↦ rw t (full_is_some es test h.1) ]
+
+-- a queue to which a message was added has one
+pub some-pushed : (ms : List Msg) (m : Msg) → is_some_message (ms ++ m ∷ []) ≡ true
+some-pushed [] m = refl
+some-pushed (x ∷ ms) m = refl
+
+-- a queue with a length has a message
+pub some-nonempty : (ms : List Msg) → (length ms == 0) ≡ false → is_some_message ms ≡ true
+some-nonempty [] e = absurd (false≢true (sym e))
+some-nonempty (m ∷ ms) e = refl
+
+-- the first route
+pub first-route : (es : Entries) → slice_get (routes (shown es)) 0 ≡ option_map (λ (e : Route × VecDeque Msg Global). e.0) (slice_get es 0)
+first-route [] = refl
+first-route (e ∷ es) = refl

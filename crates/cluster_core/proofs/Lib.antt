@@ -5,3 +5,4 @@ pub mod ChannelLemmas
 pub mod ReadyLemmas
 pub mod Delivered
 pub mod DueLemmas
+pub mod EnabledLemmas

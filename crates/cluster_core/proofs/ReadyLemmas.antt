@@ -1,8 +1,10 @@
 -- The routes with a message under way, in order, are the deliveries that may happen.
-use Rattle.std.proofs.Common.{◌≡◌, ◌&&◌, ◌||◌, Bool, true, false, cond, List, [], ◌∷◌, ◌++◌, map, filter, is_eq, refl, ap, sym, ◌∙◌}
+use Rattle.std.proofs.Common.{◌≡◌, ◌&&◌, ◌||◌, Bool, true, false, cond, List, [], ◌∷◌, ◌++◌, map, filter, is_eq, Option, Some, None, Bor, refl, ap, sym, subst, ◌∙◌}
 use Rattle.std.specs.List.{flat_map, list_any, list_all, AllByRecursion}
 use Rattle.std.specs.List.Sorted.{IsStrictlySortedBy}
 use Rattle.std.specs.Ordering.{is_lt}
+use Rattle.std.specs.Prelude.{MatchOption, slice_get}
+use Rattle.std.specs.Option.{option_copied}
 use Rattle.std.specs.BTreeMap.{is_at}
 use Rattle.std.specs.Global.{Global}
 use Rattle.std.specs.Map.{keys_of}
@@ -25,17 +27,13 @@ use Rattle.cluster_model.proofs.Sorted.{sorted_is_filter}
 use Rattle.cluster_core.specs.declared.route.Route.{Route}
 use Rattle.cluster_core.specs.contracts.route.RouteOrd.TheImpl.{cmp-value}
 use Rattle.cluster_core.specs.contracts.route.RouteOrd.TheImpl.Laws.{total-law}
-use Rattle.cluster_core.specs.Channels.{queue_of, shown}
+use Rattle.cluster_core.specs.Channels.{queue_of, shown, delivery, routes, IsInOrder}
 use Rattle.cluster_core.proofs.RouteLemmas.{route_at}
 use Rattle.cluster_core.proofs.ChannelLemmas.{route, same_is}
 
--- the event in which the message of a route is taken
-abbrev pub delivery : Route → Event
-delivery r = Deliver r.to r.from
-
 -- all routes of a small deployment, in order
-abbrev pub routes : List Route
-routes = flat_map (λ to. map (λ from. route to from) actors) actors
+abbrev pub all_routes : List Route
+all_routes = flat_map (λ to. map (λ from. route to from) actors) actors
 
 -- the deliveries among its events
 abbrev pub deliveries : List Event
@@ -70,8 +68,8 @@ sorted_from_test (r ∷ rs) e =
     (below_from_test r rs is.0, sorted_from_test rs is.1)
 
 -- the routes are in order
-routes_sorted : IsStrictlySortedBy cmp-value.it routes
-routes_sorted = sorted_from_test routes refl
+routes_sorted : IsStrictlySortedBy cmp-value.it all_routes
+routes_sorted = sorted_from_test all_routes refl
 
 -- ---- routes that are one
 
@@ -81,16 +79,16 @@ exact q k e =
     ap (λ (x : Actor). route x q.from) (same_is q.to k.to is.0) ∙ ap (λ (x : Actor). route k.to x) (same_is q.from k.from is.1)
 
 -- each route between two of these actors is among the routes
-among_routes : (q : Route) → is_one_of_them q.to && is_one_of_them q.from ≡ true → list_any (is_at (cmp-value.it q)) routes ≡ true
+among_routes : (q : Route) → is_one_of_them q.to && is_one_of_them q.from ≡ true → list_any (is_at (cmp-value.it q)) all_routes ≡ true
 among_routes q e =
     let is = and_parts (is_one_of_them q.to) (is_one_of_them q.from) e in
-    each_actor (λ t. list_any (is_at (cmp-value.it (route t q.from))) routes ≡ true) (
-      each_actor (λ f. list_any (is_at (cmp-value.it (route Director f))) routes ≡ true) (refl, (refl, (refl, (refl, tt)))) q.from is.1,
+    each_actor (λ t. list_any (is_at (cmp-value.it (route t q.from))) all_routes ≡ true) (
+      each_actor (λ f. list_any (is_at (cmp-value.it (route Director f))) all_routes ≡ true) (refl, (refl, (refl, (refl, tt)))) q.from is.1,
       (
-        each_actor (λ f. list_any (is_at (cmp-value.it (route (Client 1) f))) routes ≡ true) (refl, (refl, (refl, (refl, tt)))) q.from is.1,
+        each_actor (λ f. list_any (is_at (cmp-value.it (route (Client 1) f))) all_routes ≡ true) (refl, (refl, (refl, (refl, tt)))) q.from is.1,
         (
-          each_actor (λ f. list_any (is_at (cmp-value.it (route (Agent 0) f))) routes ≡ true) (refl, (refl, (refl, (refl, tt)))) q.from is.1,
-          (each_actor (λ f. list_any (is_at (cmp-value.it (route (Site 0) f))) routes ≡ true) (refl, (refl, (refl, (refl, tt)))) q.from is.1, tt),
+          each_actor (λ f. list_any (is_at (cmp-value.it (route (Agent 0) f))) all_routes ≡ true) (refl, (refl, (refl, (refl, tt)))) q.from is.1,
+          (each_actor (λ f. list_any (is_at (cmp-value.it (route (Site 0) f))) all_routes ≡ true) (refl, (refl, (refl, (refl, tt)))) q.from is.1, tt),
         ),
       ),
     ) q.to is.0
@@ -105,7 +103,7 @@ found_by_actors to from (k ∷ keys) =
     ∙ ap (λ (b : Bool). is_at (cmp-value.it (route to from)) k || b) (found_by_actors to from keys)
 
 -- each key is among the routes
-members : (keys : List Route) → AllByRecursion (λ r. is_one_of_them r.to && is_one_of_them r.from ≡ true) keys → AllByRecursion (λ r. list_any (is_at (cmp-value.it r)) routes ≡ true) keys
+members : (keys : List Route) → AllByRecursion (λ r. is_one_of_them r.to && is_one_of_them r.from ≡ true) keys → AllByRecursion (λ r. list_any (is_at (cmp-value.it r)) all_routes ≡ true) keys
 members [] h = tt
 members (k ∷ keys) h = (among_routes k h.0, members keys h.1)
 
@@ -121,8 +119,8 @@ filter-map test f (x ∷ xs) = kept (test (f x)) (filter-map test f xs)
 -- Keys in order, all of them of the small deployment, are the deliveries that pass a test which tells which routes are keys.
 pub ready : (keys : List Route) (test : Event → Bool) → IsStrictlySortedBy cmp-value.it keys → ((from to : Actor) → test (Deliver to from) ≡ list_any (λ r. same to r.to && same from r.from) keys) → AllByRecursion (λ r. is_one_of_them r.to && is_one_of_them r.from ≡ true) keys → map delivery keys ≡ filter test deliveries
 ready keys test sorted tells them =
-    ap (map delivery) (sorted_is_filter total-law exact (λ r. test (delivery r)) routes keys routes_sorted sorted (members keys them) (λ q. tells q.from q.to ∙ found_by_actors q.to q.from keys))
-    ∙ sym (filter-map test delivery routes)
+    ap (map delivery) (sorted_is_filter total-law exact (λ r. test (delivery r)) all_routes keys routes_sorted sorted (members keys them) (λ q. tells q.from q.to ∙ found_by_actors q.to q.from keys))
+    ∙ sym (filter-map test delivery all_routes)
 
 -- So they are all that may be taken, ahead of what the site and the client may do.
 pub enabled_is : (w : World) (keys : List Route) → IsStrictlySortedBy cmp-value.it keys → ((from to : Actor) → is_some_message (w.channel from to) ≡ list_any (λ r. same to r.to && same from r.from) keys) → AllByRecursion (λ r. is_one_of_them r.to && is_one_of_them r.from ≡ true) keys → enabled w ≡ map delivery keys ++ filter (can w) (Sync 0 ∷ Submit 1 ∷ [])
@@ -146,3 +144,14 @@ is_some_message-queue_of (e ∷ es) h from to = first (same to e.0.to && same fr
 pub keys-shown : (es : List (Route × VecDeque Msg Global)) → map (λ e. e.0) (shown es) ≡ keys_of es
 keys-shown [] = refl
 keys-shown (e ∷ es) = ap (λ ks. e.0 ∷ ks) (keys-shown es)
+
+-- the routes of a map of queues are in order, as its keys are
+pub IsInOrder-shown : (es : List (Route × VecDeque Msg Global)) (v : List (Route × List Msg)) → shown es ≡ v → IsStrictlySortedBy cmp-value.it (keys_of es) → IsInOrder (routes v)
+IsInOrder-shown es v is h =
+    let P : List Route → Type 0 = λ ks. IsStrictlySortedBy cmp-value.it ks in
+    subst P (sym (keys-shown es) ∙ ap routes is) h
+
+-- what an iterator over keys gives first
+pub first_key : (ks left : List Route) (o : Option (Bor Route)) → MatchOption o ((ks ≡ []) × (left ≡ [])) (λ k. ks ≡ k.now ∷ left) → option_copied o ≡ slice_get ks 0
+first_key ks left None h = rw h.0 refl
+first_key ks left (Some k) h = rw h refl

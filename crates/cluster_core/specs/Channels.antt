@@ -1,6 +1,7 @@
 -- The messages under way, as a list of routes with their queues.
-use Rattle.std.specs.Prelude.{◌&&◌, Bool, if◌then◌else◌, List, [], ◌∷◌, map, Option, Some, None}
-use Rattle.std.specs.List.{list_all}
+use Rattle.std.specs.Prelude.{◌≡◌, ◌&&◌, true, if◌then◌else◌, List, [], ◌∷◌, map, Option, Some, None}
+use Rattle.std.specs.List.{AllByRecursion}
+use Rattle.std.specs.List.Sorted.{IsStrictlySortedBy}
 use Rattle.std.specs.Global.{Global}
 use Rattle.std.specs.declared.collections.VecDeque.{VecDeque}
 use Rattle.volt_wire.specs.declared.actor.Actor.{Actor}
@@ -10,6 +11,7 @@ use Rattle.volt_wire.specs.declared.message.Msg.{Msg}
 use Rattle.cluster_model.specs.Actors.{same}
 use Rattle.cluster_model.specs.World.{is_some_message}
 use Rattle.cluster_core.specs.declared.route.Route.{Route}
+use Rattle.cluster_core.specs.contracts.route.RouteOrd.TheImpl.{cmp-value}
 
 -- the queue from one actor to another
 abbrev pub queue_of : List (Route × List Msg) → Actor → Actor → List Msg
@@ -33,9 +35,13 @@ abbrev pub routes : List (Route × List Msg) → List Route
 routes es = map (λ e. e.0) es
 
 -- no queue is empty
-abbrev pub all_full : List (Route × List Msg) → Bool
-all_full es = list_all (λ e. is_some_message e.1) es
+abbrev pub AreFull : List (Route × List Msg) → Type 0
+AreFull es = AllByRecursion (λ e. is_some_message e.1 ≡ true) es
 
 -- the delivery of the first message of a route
 abbrev pub delivery : Route → Event
 delivery r = Deliver r.to r.from
+
+-- by receiver and then by sender, none twice
+abbrev pub IsInOrder : List Route → Type 0
+IsInOrder rs = IsStrictlySortedBy cmp-value.it rs

@@ -2,3 +2,4 @@ pub mod Outbox
 pub mod Site
 pub mod Channels
 pub mod World
+pub mod Outcomes

@@ -1,8 +1,10 @@
 -- When the code's world stands for a world.
-use Rattle.std.specs.Prelude.{ℕ, ◌≡◌, List, []}
+use Rattle.std.specs.Prelude.{ℕ, ◌≡◌, Bool, true, false, List, [], ◌∷◌}
 use Rattle.volt_base.specs.Semantics.{Semantics}
 use Rattle.volt_wire.specs.declared.actor.Actor.{Actor}
+use Rattle.volt_wire.specs.declared.event.Event.{Event}
 use Rattle.cluster_model.specs.World as model
+use Rattle.cluster_model.specs.Runs.{is_event_of_them}
 use Rattle.cluster_core.specs.declared.world.World.{World}
 use Rattle.cluster_core.specs.Channels.{queue_of}
 use Rattle.cluster_core.specs.Site.{StandsForSite}
@@ -18,3 +20,12 @@ pub record StandsFor (S : Semantics) {M E : Type 0} (state : E → S.State) (cod
   -- nothing is left to be sent
   pub outbox : code.outbox ≡ []
   pub trace : code.trace.items ≡ w.trace
+
+-- no event may happen but those of the actors of this world
+abbrev pub HasThemAlone : model.World → Type 0
+HasThemAlone w = (e : Event) → model.can w e ≡ true → is_event_of_them e ≡ true
+
+-- an event, where it may happen
+abbrev pub if_it_may : Bool → Event → List Event
+if_it_may true e = e ∷ []
+if_it_may false e = []

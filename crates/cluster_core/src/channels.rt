@@ -1,8 +1,8 @@
-ghost use Rattle.std.specs.Prelude.{◌≡◌, ◌++◌, [], map, slice_get, OnOk, IfOk};
+ghost use Rattle.std.specs.Prelude.{◌≡◌, ◌++◌, true, [], map, slice_get, OnOk, IfOk};
 ghost use Rattle.cluster_model.specs.Actors.{only};
 ghost use Rattle.cluster_model.specs.World.{took, sent, is_some_message};
 ghost use Rattle.volt_wire.specs.declared.actor.Actor.{Actor};
-ghost use Rattle.cluster_core.specs.Channels.{queue_of, routes, delivery, shown, with_queue, first_message};
+ghost use Rattle.cluster_core.specs.Channels.{queue_of, routes, delivery, shown, AreFull, IsInOrder, with_queue, first_message};
 
 use crate::route::Route;
 use std::alloc::{AllocError, Global};
@@ -24,13 +24,12 @@ impl Model for Channels {
 
     ghost Value = { List (Route × List Msg) };
 
-    ghost use Rattle.std.specs.Prelude.{◌≡◌, true};
-    ghost use Rattle.cluster_core.specs.Channels.{shown, all_full};
+    ghost use Rattle.cluster_core.specs.Channels.{shown, AreFull};
 
     ghost view = { λ c. shown c.queues.entries };
 
     // A route whose queue is empty isn't kept.
-    ghost invariant = { λ c. all_full (shown c.queues.entries) ≡ true };
+    ghost invariant = { λ c. AreFull (shown c.queues.entries) };
 }
 
 impl Channels {
@@ -53,14 +52,18 @@ impl Channels {
 
     /// The first route that has a message.
     pub fn first(&self) -> Option<Route>
-        ensures { result ≡ slice_get (routes self.now) 0 }
+        ensures ordered { IsInOrder (routes self.now) }
+        ensures full { AreFull self.now }
+        ensures first { result ≡ slice_get (routes self.now) 0 }
     {
         self.queues.keys().next().copied()
     }
 
     /// Adds the delivery of each route that has a message, in their order.
     pub fn add_deliveries(&self, into: &mut Vec<Event>) -> Result<(), AllocError>
-        ensures { OnOk result (into.new.items ≡ into.old.items ++ map delivery (routes self.now)) }
+        ensures ordered { IsInOrder (routes self.now) }
+        ensures full { AreFull self.now }
+        ensures added { OnOk result (into.new.items ≡ into.old.items ++ map delivery (routes self.now)) }
     {
         for route in self.queues.keys() {
             into.push(Event::Deliver {
@@ -104,6 +107,7 @@ fn take_queue(
 ) -> VecDeque<Msg>
     ensures queue { result.items ≡ queue_of (shown queues.old.entries) route.from route.to }
     ensures others { (f t : Actor) → queue_of (shown queues.new.entries) f t ≡ with_queue (queue_of (shown queues.old.entries)) route [] f t }
+    ensures full { AreFull (shown queues.old.entries) → AreFull (shown queues.new.entries) }
 {
     match queues.remove(&route) {
         Some(queue) => queue,
@@ -117,7 +121,8 @@ fn put_queue(
     route: Route,
     queue: VecDeque<Msg>,
 ) -> Result<(), AllocError>
-    ensures { OnOk result ((f t : Actor) → queue_of (shown queues.new.entries) f t ≡ with_queue (queue_of (shown queues.old.entries)) route queue.items f t) }
+    ensures queue { OnOk result ((f t : Actor) → queue_of (shown queues.new.entries) f t ≡ with_queue (queue_of (shown queues.old.entries)) route queue.items f t) }
+    ensures full { AreFull (shown queues.old.entries) → is_some_message queue.items ≡ true → AreFull (shown queues.new.entries) }
 {
     queues.insert(route, queue)?;
     Ok(())

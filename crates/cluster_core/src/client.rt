@@ -50,6 +50,13 @@ impl Client {
         })
     }
 
+    /// The calls that ended, in that order.
+    pub fn into_ended(self) -> Vec<Ended>
+        ensures { result.items ≡ self.ended }
+    {
+        self.ended
+    }
+
     /// Whether it may submit: a call is left, and none waits for its answer.
     pub fn may_submit(&self) -> bool
         ensures { result ≡ may_submit self.now.left self.now.pending }

@@ -9,3 +9,5 @@ mod outbox;
 mod route;
 mod site;
 mod world;
+
+pub use world::{Outcomes, World};

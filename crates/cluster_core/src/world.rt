@@ -1,10 +1,11 @@
-ghost use Rattle.std.specs.Prelude.{◌≡◌, true, [], OnOk, IfOk, All};
+ghost use Rattle.std.specs.Prelude.{◌≡◌, ◌++◌, true, false, [], OnOk, IfOk, All};
 ghost use Rattle.volt_wire.specs.declared.actor.Actor.{Actor};
 ghost use Rattle.cluster_model.specs.World as model;
-ghost use Rattle.cluster_model.specs.Runs.{is_one_of_them, is_event_of_them};
+ghost use Rattle.cluster_model.specs.Runs.{is_one_of_them, is_event_of_them, enabled, head};
 ghost use Rattle.cluster_core.specs.Channels.{queue_of};
 ghost use Rattle.cluster_core.specs.Outbox.{sent_to};
-ghost use Rattle.cluster_core.specs.World.{StandsFor};
+ghost use Rattle.cluster_core.specs.World.{StandsFor, HasThemAlone, if_it_may};
+ghost use Rattle.cluster_core.specs.Outcomes.{Tells};
 
 use crate::agent::Agent;
 use crate::channels::Channels;
@@ -13,8 +14,9 @@ use crate::director::Director;
 use crate::outbox::Outbox;
 use crate::site::Site;
 use std::alloc::{AllocError, Global};
-use volt_base::{MakeEngine, Stamp};
-use volt_wire::{Actor, Event, WorldInput};
+use cluster_model::CopyRows;
+use volt_base::{Applied, Engine, MakeEngine, Stamp};
+use volt_wire::{Actor, Ended, Event, WorldInput};
 
 /// The world of one host with one site, and one client: its actors, the messages under way, and the
 /// events so far.
@@ -29,6 +31,19 @@ pub struct World<M: MakeEngine> {
     outbox: Outbox,
     trace: Vec<Event>,
     alloc: Global,
+}
+
+/// What there is to report of a world.
+#[derive(Debug, Drop)]
+pub struct Outcomes {
+    /// The calls that ended, by number.
+    pub ends: Vec<Ended>,
+    /// The copies of running members, by slot.
+    pub copies: Vec<CopyRows>,
+    /// The applied lists of the copies, merged by point.
+    pub serial: Vec<Applied>,
+    /// The events so far.
+    pub trace: Vec<Event>,
 }
 
 impl<M: MakeEngine> World<M> {
@@ -49,6 +64,54 @@ impl<M: MakeEngine> World<M> {
         })
     }
 
+    /// Whether an event may happen. An event of no actor of this world may not.
+    pub fn is_enabled(&self, event: Event) -> bool
+        ensures of_them { (w : model.World) → is_event_of_them event ≡ true
+            → StandsFor M.E.meaning M.E.state self.now w → result ≡ model.can w event }
+        ensures others { is_event_of_them event ≡ false → result ≡ false }
+    {
+        match event {
+            Event::Deliver { to, from } => {
+                is_here(to) && is_here(from) && self.channels.has(from, to)
+            }
+            Event::Sync(slot) => slot == 0 && self.site.owes(),
+            Event::Submit(client) => client == 1 && self.client.may_submit(),
+        }
+    }
+
+    /// The events that may happen, in their order, in place of what `into` held. In a world of a run
+    /// no event may happen but those of its actors.
+    pub fn enabled(&self, into: &mut Vec<Event>) -> Result<(), AllocError>
+        ensures { OnOk result ((w : model.World) → StandsFor M.E.meaning M.E.state self.now w
+            → HasThemAlone w → into.new.items ≡ enabled w) }
+    {
+        into.clear();
+        self.channels.add_deliveries(into)?;
+        add_if(into, self.site.owes(), Event::Sync(0))?;
+        add_if(into, self.client.may_submit(), Event::Submit(1))?;
+        Ok(())
+    }
+
+    /// The first of the events that may happen.
+    pub fn first(&self) -> Option<Event>
+        ensures { (w : model.World) → StandsFor M.E.meaning M.E.state self.now w
+            → HasThemAlone w → result ≡ head (enabled w) }
+    {
+        if let Some(route) = self.channels.first() {
+            return Some(Event::Deliver {
+                to: route.to,
+                from: route.from,
+            });
+        }
+        if self.site.owes() {
+            return Some(Event::Sync(0));
+        }
+        if self.client.may_submit() {
+            return Some(Event::Submit(1));
+        }
+        None
+    }
+
     /// One event, which has the next stamp. After want of memory the world may only be dropped.
     pub fn step(&mut self, event: Event) -> Result<(), AllocError>
         requires { is_event_of_them event ≡ true }
@@ -60,6 +123,27 @@ impl<M: MakeEngine> World<M> {
         self.happen(stamp, event)?;
         self.trace.push(event)?;
         Ok(())
+    }
+
+    /// What there is to report of the world.
+    pub fn into_parts(self) -> Result<Outcomes, AllocError>
+        ensures { IfOk result (λ outcomes. (w : model.World)
+            → StandsFor M.E.meaning M.E.state self w → Tells M.E.meaning outcomes w) }
+    {
+        let rows = self.site.engine.dump(self.alloc)?;
+        let serial = Vec::from_slice(self.alloc, self.site.engine.applied())?;
+        let mut copies = Vec::new(self.alloc);
+        copies.push(CopyRows {
+            rows,
+            position: serial.len() as u64,
+            slot: 0,
+        })?;
+        Ok(Outcomes {
+            ends: self.client.into_ended(),
+            copies,
+            serial,
+            trace: self.trace,
+        })
     }
 
     /// What an event does to the actors and the channels.
@@ -156,6 +240,28 @@ impl<M: MakeEngine> World<M> {
             self.site.take(self.alloc, stamp, from, msg)?;
         }
         Ok(())
+    }
+}
+
+/// Adds an event that may happen.
+fn add_if(into: &mut Vec<Event>, may_happen: bool, event: Event) -> Result<(), AllocError>
+    ensures { OnOk result (into.new.items ≡ into.old.items ++ if_it_may may_happen event) }
+{
+    if may_happen {
+        into.push(event)?;
+    }
+    Ok(())
+}
+
+/// Whether an actor is one of this world's.
+fn is_here(actor: Actor) -> bool
+    ensures { result ≡ is_one_of_them actor }
+{
+    match actor {
+        Actor::Director => true,
+        Actor::Client(number) => number == 1,
+        Actor::Agent(host) => host == 0,
+        Actor::Site(slot) => slot == 0,
     }
 }
 
