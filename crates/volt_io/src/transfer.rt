@@ -60,8 +60,8 @@ impl From<AllocError> for ReadFault {
 const PIECE: usize = 65_536;
 
 /// Reads until nothing is left, or until more than `limit` bytes are there: it holds `limit + 1`
-/// of them then, and the caller knows that the input is too long. Time and memory are in
-/// proportion to the bytes read.
+/// of them then, and the caller knows that the input is too long. It takes time in proportion to
+/// the bytes, and memory in proportion to them beside one buffer of 64 KiB.
 ///
 /// After an `Err` the bytes that were read before it are lost.
 pub fn read_to_end<S: Source>(
