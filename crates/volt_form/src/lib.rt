@@ -1,0 +1,12 @@
+//! Reads the text of an input.
+//!
+//! One form of input is known: a deployment of one site, the starter catalog, and a script of calls
+//! of its procedures `Put` and `Get`. Any other text is refused, with the number of its first line
+//! that isn't of the form.
+#![tactic(auto)]
+
+mod call;
+mod lines;
+mod number;
+
+pub use call::ScriptCall;
