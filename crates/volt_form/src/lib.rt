@@ -6,7 +6,10 @@
 #![tactic(auto)]
 
 mod call;
+mod head;
 mod lines;
 mod number;
+mod reader;
 
 pub use call::ScriptCall;
+pub use reader::{FormFault, LONGEST_INPUT, MOST_CALLS};
