@@ -1,5 +1,5 @@
 -- The one form of an input's text: a deployment of one site, the starter catalog, and a script of calls.
-use Rattle.std.specs.Prelude.{ℕ, ◌+◌, Bool, true, false, ◌&&◌, ◌==◌, nat_lt, nat_le, if◌then◌else◌, List, [], ◌∷◌, length, take, drop, ℤ, pos, neg_ℤ, Option, Some, None, option_map, option_and_then, is_some, codes, bytes_eq}
+use Rattle.std.specs.Prelude.{ℕ, ◌+◌, Bool, true, false, ◌&&◌, ◌==◌, nat_lt, nat_le, if◌then◌else◌, List, [], ◌∷◌, length, take, drop, ℤ, pos, neg_ℤ, ◌≤ℤ◌, Option, Some, None, option_map, option_and_then, is_some, codes, bytes_eq}
 use Rattle.std.specs.List.{before_first, after_first}
 use Rattle.std.specs.Option.{option_or}
 use Rattle.std.specs.Str.{all_ascii_digits, byte}
@@ -72,6 +72,15 @@ calls_of_lines (line ∷ lines) = do
   call ← call_of line
   calls ← calls_of_lines lines
   Some (call ∷ calls)
+
+-- the number is within a BIGINT's range
+abbrev pub IsBigint : ℤ → Type 0
+IsBigint z = (neg_ℤ (pos greatest) ≤ℤ z) × (z ≤ℤ pos greatest)
+
+-- the numbers of a call are within a BIGINT's range
+abbrev pub HasBigints : ScriptCall → Type 0
+HasBigints (Put id balance) = IsBigint id × IsBigint balance
+HasBigints (Get id) = IsBigint id
 
 -- The whole text
 

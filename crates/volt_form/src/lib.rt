@@ -7,9 +7,11 @@
 
 mod call;
 mod head;
+mod laws;
 mod lines;
 mod number;
 mod reader;
 
 pub use call::ScriptCall;
+pub use laws::{calls_within_bounds, wrong_or_of_form};
 pub use reader::{FormFault, LONGEST_INPUT, MOST_CALLS};

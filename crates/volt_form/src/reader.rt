@@ -72,3 +72,18 @@ fn read_calls(alloc: Global, text: &[u8]) -> Result<Vec<ScriptCall>, FormFault>
         Err(wrong_line(calls.len()))
     }
 }
+
+/// Reads a text of the form, and answers its calls in their order.
+pub fn read_form(alloc: Global, text: &[u8]) -> Result<Vec<ScriptCall>, FormFault>
+    ensures ok { IfOk result (λ calls. calls_of_text text.now ≡ Some calls.items) }
+    ensures refused { (line : ℕ) → result ≡ Err (FormFault.NotOfForm line)
+        → (calls_of_text text.now ≡ None) × (first_wrong_line text.now ≡ Some line) }
+{
+    if text.len() > LONGEST_INPUT {
+        return Err(FormFault::NotOfForm { line: 1 });
+    }
+    match read_head(text) {
+        Ok(after) => read_calls(alloc, after),
+        Err(line) => Err(FormFault::NotOfForm { line }),
+    }
+}
