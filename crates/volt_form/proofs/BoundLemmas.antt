@@ -1,5 +1,5 @@
 -- What a text of the form says is within bounds.
-use Rattle.std.proofs.Common.{◌≡◌, ◌==◌, codes, ℕ, ◌+◌, ◌<◌, ◌≤◌, Bool, true, false, cond, leb, List, [], ◌∷◌, length, Option, Some, None, ℤ, pos, neg_ℤ, option_map, option_and_then, IfSome, All, arith, refl, ap, ◌∙◌}
+use Rattle.std.proofs.Common.{◌≡◌, ◌==◌, codes, ℕ, ◌≤◌, Bool, true, false, cond, leb, List, [], ◌∷◌, length, Option, Some, None, ℤ, pos, neg_ℤ, option_map, option_and_then, IfSome, All, arith, refl}
 use Rattle.std.proofs.lemmas.Bool.Decides.{nat_tests}
 use Rattle.std.proofs.lemmas.Int.{ints}
 use Rattle.std.proofs.lemmas.List.Elements.{All-from_recursion}
@@ -7,7 +7,7 @@ use Rattle.std.proofs.lemmas.Option.{IfSome_then}
 use Rattle.std.specs.List.{AllByRecursion}
 use Rattle.std.specs.Option.{option_or}
 use Rattle.volt_form.specs.declared.call.ScriptCall.{ScriptCall}
-use Rattle.volt_form.specs.declared.call.ScriptCall.TheVariants.{Put, Get}
+use Rattle.volt_form.specs.declared.call.ScriptCall.TheVariants.{Get}
 use Rattle.volt_form.specs.Form.{Lines, greatest, IsBigint, HasBigints, magnitude_of, number_of, put_of, get_of, after, call_of, calls_of_lines, most_calls, head, lines_of, after_lines, calls_in, calls_of_text}
 
 -- what holds of the value of each of two options holds of the value of the one that is chosen
@@ -88,8 +88,8 @@ lines_bounded : (l : Lines) → IfSome (calls_in l) AreBounded
 lines_bounded l =
     chosen (length l.rest == 0) _ None AreBounded
     (λ _. always (after_lines head l.ended) _ AreBounded (λ lines.
-        chosen (leb (length lines) most_calls) (calls_of_lines lines) None AreBounded
-        (λ e. IfSome_then (calls_of_lines lines) (calls_small lines) (λ calls k. record { few = grind (arith, nat_tests); small = k.small })) tt)) tt
+    chosen (leb (length lines) most_calls) (calls_of_lines lines) None AreBounded
+    (λ e. IfSome_then (calls_of_lines lines) (calls_small lines) (λ calls k. record { few = grind (arith, nat_tests); small = k.small })) tt)) tt
 
 pub text_bounded : (text : List ℕ) → IfSome (calls_of_text text) AreBounded
 unfolding calls_of_text

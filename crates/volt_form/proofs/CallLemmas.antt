@@ -1,8 +1,7 @@
 -- What the lines of a script say.
-use Rattle.std.proofs.Common.{◌≡◌, ◌==◌, ℕ, ◌+◌, ◌<◌, ◌≤◌, List, [], ◌∷◌, length, drop, take, Option, Some, None, option_and_then, ℤ, arith, refl, ap, ◌∙◌}
+use Rattle.std.proofs.Common.{◌≡◌, ◌==◌, ℕ, List, [], length, Option, Some, None, option_and_then, ℤ, arith, refl, ap, ◌∙◌}
 use Rattle.std.proofs.lemmas.Grind.{common_steps}
 use Rattle.std.specs.List.{position_or_len, before_first, after_first}
-use Rattle.volt_form.specs.declared.call.ScriptCall.{ScriptCall}
 use Rattle.volt_form.specs.declared.call.ScriptCall.TheVariants.{Put}
 use Rattle.volt_form.specs.Form.{number_of, put_of}
 use Rattle.volt_form.proofs.Numbers.{number_of-nil}

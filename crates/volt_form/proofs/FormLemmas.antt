@@ -1,8 +1,8 @@
 -- A text is of the form exactly where no line of it is wrong.
-use Rattle.std.proofs.Common.{◌≡◌, ◌==◌, ℕ, ◌+◌, ◌<◌, ◌≤◌, Bool, true, false, not, ◌&&◌, cond, List, [], ◌∷◌, length, Option, Some, None, is_some, is_none, nat_le, nat_lt, arith, refl, ap, sym, ◌∙◌, add-zero, add_assoc}
+use Rattle.std.proofs.Common.{◌≡◌, ◌==◌, ℕ, ◌+◌, ◌<◌, ◌≤◌, false, ◌&&◌, List, [], ◌∷◌, length, Option, Some, None, is_some, is_none, nat_le, arith, refl, ap, ◌∙◌}
 use Rattle.std.proofs.lemmas.Bool.Decides.{nat_tests}
 use Rattle.volt_form.specs.declared.call.ScriptCall.{ScriptCall}
-use Rattle.volt_form.specs.Form.{Lines, head, head_size, most_calls, longest_input, lines_of, call_of, calls_of_lines, after_lines, calls_in, calls_of_text, wrong_call, wrong_from, first_wrong_line}
+use Rattle.volt_form.specs.Form.{Lines, head, head_size, most_calls, longest_input, lines_of, calls_of_lines, after_lines, calls_in, calls_of_text, wrong_call, wrong_from, first_wrong_line}
 
 -- the head has as many lines as is said
 pub length-head : length head ≡ head_size
@@ -12,7 +12,7 @@ length-head = refl
 -- after the head no line is wrong exactly where all are calls, few enough, and nothing follows them
 pub wrong_call_is : (number : ℕ) (lines : List (List ℕ)) (rest : List ℕ) → number ≤ head_size + most_calls + 1
     → is_none (wrong_call number lines rest)
-        ≡ ((length rest == 0) && nat_le (number + length lines) (head_size + most_calls + 1) && is_some (calls_of_lines lines))
+    ≡ ((length rest == 0) && nat_le (number + length lines) (head_size + most_calls + 1) && is_some (calls_of_lines lines))
 wrong_call_is number [] rest h = grind (arith, nat_tests)
 wrong_call_is number (line ∷ lines) rest h = grind (arith, nat_tests, wrong_call_is (number + 1) lines rest)
 

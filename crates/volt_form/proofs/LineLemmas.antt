@@ -1,12 +1,11 @@
 -- Texts, cut at a byte and into lines.
-use Rattle.std.proofs.Common.{◌≡◌, ◌==◌, ℕ, ◌+◌, ◌-◌, take, drop, take_all, ◌<◌, ◌≤◌, Bool, true, false, not, List, [], ◌∷◌, length, Option, Some, None, position, ⊎_elim, arith, refl, ap, sym, ◌∙◌}
-use Rattle.std.proofs.lemmas.Bool.{cases_Bool}
+use Rattle.std.proofs.Common.{◌≡◌, ◌==◌, ℕ, ◌+◌, ◌-◌, take, drop, take_all, ◌<◌, ◌≤◌, Bool, not, List, [], ◌∷◌, length, Some, None, position, arith, refl, ◌∙◌}
 use Rattle.std.proofs.lemmas.Bool.Decides.{nat_tests}
 use Rattle.std.proofs.lemmas.Grind.{common_steps}
 use Rattle.std.proofs.lemmas.List.{drop-drop}
 use Rattle.std.proofs.lemmas.List.Sums.{prefix_len-le-length}
 use Rattle.std.specs.List.{position_or_len, before_first, after_first}
-use Rattle.volt_form.specs.Form.{Lines, lines_of, onto_first}
+use Rattle.volt_form.specs.Form.{lines_of}
 
 -- where no element passes, the first place that does is past the end
 pub cut_none : (p : ℕ → Bool) (xs : List ℕ) → position p xs ≡ None → position_or_len p xs ≡ length xs
@@ -28,6 +27,7 @@ lines_none (b ∷ bs) h = grind (arith, nat_tests, lines_none bs)
 -- else its first line ends at the first LF, and the other lines are those of what follows it
 pub lines_some : (text : List ℕ) → position_or_len (λ b. b == 10) text < length text → lines_of text ≡ record {
   ended = before_first (λ b. b == 10) text ∷ (lines_of (after_first (λ b. b == 10) text)).ended;
-  rest = (lines_of (after_first (λ b. b == 10) text)).rest }
+  rest = (lines_of (after_first (λ b. b == 10) text)).rest;
+}
 lines_some [] h = absurd (omega arith)
 lines_some (b ∷ bs) h = grind (arith, nat_tests, lines_some bs)

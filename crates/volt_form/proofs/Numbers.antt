@@ -1,7 +1,6 @@
 -- What digits write, digit by digit.
-use Rattle.std.proofs.Common.{◌≡◌, ℕ, get_or, drop, sym, ◌∙◌, ◌+◌, ◌*◌, ◌-◌, ◌<◌, ◌≤◌, Bool, true, false, ltb, leb, List, [], ◌∷◌, length, Some, None, option_map, codes, ℤ, pos, neg_ℤ, arith, refl}
+use Rattle.std.proofs.Common.{◌≡◌, ℕ, get_or, drop, sym, ◌∙◌, ◌+◌, ◌*◌, ◌-◌, ◌<◌, ◌≤◌, true, false, List, [], ◌∷◌, length, Some, None, option_map, codes, pos, neg_ℤ, arith, refl}
 use Rattle.std.proofs.lemmas.Bool.Decides.{nat_tests}
-use Rattle.std.proofs.lemmas.Grind.{common_steps}
 use Rattle.std.proofs.lemmas.List.{at_drop_more}
 use Rattle.std.specs.Char.{digit_value, is_ascii_digit}
 use Rattle.std.specs.Str.{all_ascii_digits}

@@ -1,5 +1,5 @@
 -- The one form of an input's text: a deployment of one site, the starter catalog, and a script of calls.
-use Rattle.std.specs.Prelude.{ℕ, ◌+◌, Bool, true, false, ◌&&◌, ◌==◌, nat_lt, nat_le, if◌then◌else◌, List, [], ◌∷◌, length, take, drop, ℤ, pos, neg_ℤ, ◌≤ℤ◌, Option, Some, None, option_map, option_and_then, is_some, codes, bytes_eq}
+use Rattle.std.specs.Prelude.{ℕ, ◌+◌, ◌&&◌, ◌==◌, nat_lt, nat_le, if◌then◌else◌, List, [], ◌∷◌, length, take, drop, ℤ, pos, neg_ℤ, ◌≤ℤ◌, Option, Some, None, option_map, option_and_then, is_some, codes, bytes_eq}
 use Rattle.std.specs.List.{before_first, after_first}
 use Rattle.std.specs.Option.{option_or}
 use Rattle.std.specs.Str.{all_ascii_digits, byte}
@@ -28,7 +28,7 @@ onto_first b (line ∷ lines) rest = record { ended = (b ∷ line) ∷ lines; re
 abbrev pub lines_of : List ℕ → Lines
 lines_of [] = record { ended = []; rest = [] }
 lines_of (b ∷ bs) = let after = lines_of bs in
-  if b == 10 then record { ended = [] ∷ after.ended; rest = after.rest } else onto_first b after.ended after.rest
+    if b == 10 then record { ended = [] ∷ after.ended; rest = after.rest } else onto_first b after.ended after.rest
 
 -- what follows the prefix, where the text begins with it
 abbrev pub after : List ℕ → List ℕ → Option (List ℕ)
@@ -43,7 +43,7 @@ greatest = 9223372036854775807
 -- the number that digits write: one or more of them, with a value that isn't above the greatest
 unfoldable pub magnitude_of : List ℕ → Option ℕ
 magnitude_of digits = if nat_lt 0 (length digits) && all_ascii_digits digits && nat_le (digits_value 10 digits) greatest
-  then Some (digits_value 10 digits) else None
+    then Some (digits_value 10 digits) else None
 
 -- the number that a word writes: digits, with or without a minus sign directly before them
 unfoldable pub number_of : List ℕ → Option ℤ
@@ -99,35 +99,35 @@ head_size = 28
 -- the head: the lines before the calls
 unfoldable pub head : List (List ℕ)
 head =
-  codes "%deployment"
-  ∷ codes "hosts = 1"
-  ∷ codes "sites = 1"
-  ∷ codes "k = 0"
-  ∷ codes "clients = 1"
-  ∷ codes "%ddl"
-  ∷ codes "CREATE TABLE acct (id BIGINT NOT NULL, bal BIGINT NOT NULL, PRIMARY KEY (id));"
-  ∷ codes "PARTITION TABLE acct ON COLUMN id;"
-  ∷ codes "CREATE PROCEDURE Put PARTITION ON TABLE acct COLUMN id PARAMETER 0 AS INSERT INTO acct VALUES (?, ?);"
-  ∷ codes "CREATE PROCEDURE Get PARTITION ON TABLE acct COLUMN id PARAMETER 0 AS SELECT bal FROM acct WHERE id = ?;"
-  ∷ codes "CREATE PROCEDURE Add PARTITION ON TABLE acct COLUMN id PARAMETER 0 AS PROGRAM (id BIGINT, n BIGINT) BEGIN"
-  ∷ codes "  SQL r = SELECT bal FROM acct WHERE id = :id;"
-  ∷ codes "  IF ROWS(r) = 0 THEN ABORT 'no account'; END;"
-  ∷ codes "  LET b = FIRST(r.bal) + :n;"
-  ∷ codes "  IF :b < 0 THEN ABORT 'below zero'; END;"
-  ∷ codes "  SQL UPDATE acct SET bal = :b WHERE id = :id;"
-  ∷ codes "  RETURN :b;"
-  ∷ codes "END;"
-  ∷ codes "CREATE PROCEDURE Move AS PROGRAM (src BIGINT, dst BIGINT, n BIGINT) BEGIN"
-  ∷ codes "  SQL r = SELECT bal FROM acct WHERE id = :src;"
-  ∷ codes "  SQL t = SELECT bal FROM acct WHERE id = :dst;"
-  ∷ codes "  IF ROWS(r) = 0 OR ROWS(t) = 0 OR FIRST(r.bal) < :n THEN ABORT 'cannot move'; END;"
-  ∷ codes "  SQL UPDATE acct SET bal = bal - :n WHERE id = :src;"
-  ∷ codes "  SQL UPDATE acct SET bal = bal + :n WHERE id = :dst;"
-  ∷ codes "  RETURN FIRST(r.bal) - :n;"
-  ∷ codes "END;"
-  ∷ codes "CREATE PROCEDURE Total AS SELECT SUM(bal) FROM acct;"
-  ∷ codes "%script"
-  ∷ []
+    codes "%deployment"
+    ∷ codes "hosts = 1"
+    ∷ codes "sites = 1"
+    ∷ codes "k = 0"
+    ∷ codes "clients = 1"
+    ∷ codes "%ddl"
+    ∷ codes "CREATE TABLE acct (id BIGINT NOT NULL, bal BIGINT NOT NULL, PRIMARY KEY (id));"
+    ∷ codes "PARTITION TABLE acct ON COLUMN id;"
+    ∷ codes "CREATE PROCEDURE Put PARTITION ON TABLE acct COLUMN id PARAMETER 0 AS INSERT INTO acct VALUES (?, ?);"
+    ∷ codes "CREATE PROCEDURE Get PARTITION ON TABLE acct COLUMN id PARAMETER 0 AS SELECT bal FROM acct WHERE id = ?;"
+    ∷ codes "CREATE PROCEDURE Add PARTITION ON TABLE acct COLUMN id PARAMETER 0 AS PROGRAM (id BIGINT, n BIGINT) BEGIN"
+    ∷ codes "  SQL r = SELECT bal FROM acct WHERE id = :id;"
+    ∷ codes "  IF ROWS(r) = 0 THEN ABORT 'no account'; END;"
+    ∷ codes "  LET b = FIRST(r.bal) + :n;"
+    ∷ codes "  IF :b < 0 THEN ABORT 'below zero'; END;"
+    ∷ codes "  SQL UPDATE acct SET bal = :b WHERE id = :id;"
+    ∷ codes "  RETURN :b;"
+    ∷ codes "END;"
+    ∷ codes "CREATE PROCEDURE Move AS PROGRAM (src BIGINT, dst BIGINT, n BIGINT) BEGIN"
+    ∷ codes "  SQL r = SELECT bal FROM acct WHERE id = :src;"
+    ∷ codes "  SQL t = SELECT bal FROM acct WHERE id = :dst;"
+    ∷ codes "  IF ROWS(r) = 0 OR ROWS(t) = 0 OR FIRST(r.bal) < :n THEN ABORT 'cannot move'; END;"
+    ∷ codes "  SQL UPDATE acct SET bal = bal - :n WHERE id = :src;"
+    ∷ codes "  SQL UPDATE acct SET bal = bal + :n WHERE id = :dst;"
+    ∷ codes "  RETURN FIRST(r.bal) - :n;"
+    ∷ codes "END;"
+    ∷ codes "CREATE PROCEDURE Total AS SELECT SUM(bal) FROM acct;"
+    ∷ codes "%script"
+    ∷ []
 
 -- the lines that follow these first ones, where they stand first
 abbrev pub after_lines : List (List ℕ) → List (List ℕ) → Option (List (List ℕ))
@@ -138,7 +138,7 @@ after_lines (wanted ∷ first) (line ∷ lines) = if bytes_eq line wanted then a
 -- the calls of a text's lines: the head, then calls, and nothing after the last LF
 abbrev pub calls_in : Lines → Option (List ScriptCall)
 calls_in text = if length text.rest == 0 then after_lines head text.ended >>= (λ lines.
-  if nat_le (length lines) most_calls then calls_of_lines lines else None) else None
+    if nat_le (length lines) most_calls then calls_of_lines lines else None) else None
 
 -- the calls of a text of the form, and None of any other text
 unfoldable pub calls_of_text : List ℕ → Option (List ScriptCall)
@@ -148,16 +148,16 @@ calls_of_text text = if nat_le (length text) longest_input then calls_in (lines_
 abbrev pub wrong_call : ℕ → List (List ℕ) → List ℕ → Option ℕ
 wrong_call number [] rest = if length rest == 0 then None else Some number
 wrong_call number (line ∷ lines) rest = if nat_le number (head_size + most_calls) && is_some (call_of line)
-  then wrong_call (number + 1) lines rest else Some number
+    then wrong_call (number + 1) lines rest else Some number
 
 -- the first wrong line from this number on, where these lines of the head come first
 abbrev pub wrong_from : ℕ → List (List ℕ) → List (List ℕ) → List ℕ → Option ℕ
 wrong_from number [] lines rest = wrong_call number lines rest
 wrong_from number (wanted ∷ first) [] rest = Some number
 wrong_from number (wanted ∷ first) (line ∷ lines) rest = if bytes_eq line wanted
-  then wrong_from (number + 1) first lines rest else Some number
+    then wrong_from (number + 1) first lines rest else Some number
 
 -- the number of the first line that isn't of the form, from 1, where one isn't; 1 of a text that is too long
 unfoldable pub first_wrong_line : List ℕ → Option ℕ
 first_wrong_line text = if nat_lt longest_input (length text) then Some 1
-  else wrong_from 1 head (lines_of text).ended (lines_of text).rest
+    else wrong_from 1 head (lines_of text).ended (lines_of text).rest

@@ -6,7 +6,7 @@ ghost use Rattle.volt_form.specs.Form.{Lines, head, head_size, lines_of, after_l
 use crate::lines::next_line;
 
 /// A deployment of one site, the starter catalog, and the mark at which the script begins.
-const HEAD: &[u8] = b"%deployment
+pub const HEAD: &[u8] = b"%deployment
 hosts = 1
 sites = 1
 k = 0

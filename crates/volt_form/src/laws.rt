@@ -6,13 +6,11 @@ ghost use Rattle.volt_form.specs.Form.{HasBigints, most_calls, calls_of_text, fi
 /// A text has a first wrong line exactly where it isn't of the form.
 pub fn wrong_or_of_form()
     ensures { (text : List ℕ) → is_some (first_wrong_line text) ≡ is_none (calls_of_text text) }
-{
-}
+{}
 
 /// A text of the form has no more than 100,000 calls, and each number in them is from `-(2^63 - 1)`
 /// to `2^63 - 1`.
 pub fn calls_within_bounds()
     ensures few { (text : List ℕ) → IfSome (calls_of_text text) (λ calls. length calls ≤ most_calls) }
     ensures bigints { (text : List ℕ) → IfSome (calls_of_text text) (All HasBigints) }
-{
-}
+{}

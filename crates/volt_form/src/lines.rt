@@ -15,8 +15,8 @@ fn place_of(text: &[u8], byte: u8) -> Option<usize>
 pub fn cut_at(text: &[u8], byte: u8) -> Option<(&[u8], &[u8])>
     ensures { MatchOption result (position_or_len (λ b. b == byte) text.now ≡ length text.now)
         (λ parts. (position_or_len (λ b. b == byte) text.now < length text.now)
-            × (parts.0.now ≡ before_first (λ b. b == byte) text.now)
-            × (parts.1.now ≡ after_first (λ b. b == byte) text.now)) }
+        × (parts.0.now ≡ before_first (λ b. b == byte) text.now)
+        × (parts.1.now ≡ after_first (λ b. b == byte) text.now)) }
 {
     let place = place_of(text, byte)?;
     let (before, after) = text.split_at(place);

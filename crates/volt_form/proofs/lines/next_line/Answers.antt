@@ -1,4 +1,4 @@
-use Rattle.std.proofs.Common.{arith, rules, ◌==◌}
+use Rattle.std.proofs.Common.{rules}
 use Rattle.volt_form.proofs.LineLemmas.{lines_none, lines_some}
 use Rattle.volt_form.proofs.lines.next_line.Goals as goal
 

@@ -1,9 +1,9 @@
-use Rattle.std.proofs.Common.{arith, rules, ◌≡◌, ◌<◌, ◌≤◌, get_or, sym, ◌∙◌, refl, Bool, true, ltb, length}
+use Rattle.std.proofs.Common.{arith, rules, ◌≡◌, ◌<◌, get_or, sym, ◌∙◌, refl, length}
 use Rattle.std.proofs.lemmas.Bool.Decides.{nat_tests}
 use Rattle.std.proofs.lemmas.List.{at_drop_all}
 use Rattle.std.specs.Str.{all_ascii_digits}
 use Rattle.std.specs.Str.Parse.{digits_value_after, digits_value}
-use Rattle.volt_form.specs.Form.{greatest, magnitude_of}
+use Rattle.volt_form.specs.Form.{greatest}
 use Rattle.volt_form.proofs.Numbers.{no_magnitude-empty, no_magnitude-other, no_magnitude-front, no_magnitude-large, magnitude_is, digit_value_is}
 use Rattle.volt_form.proofs.number.read_magnitude.Goals as goal
 

@@ -1,5 +1,5 @@
-use Rattle.std.proofs.Common.{◌≡◌, ◌≤◌, Some, None, ◌∙◌, arith, rules, length}
-use Rattle.volt_form.specs.Form.{longest_input, lines_of}
+use Rattle.std.proofs.Common.{◌∙◌, arith, rules}
+use Rattle.volt_form.specs.Form.{lines_of}
 use Rattle.volt_form.proofs.FormLemmas.{wrong_text-long, wrong_text-line, calls_of_text_is}
 use Rattle.volt_form.proofs.reader.read_form.Goals as goal
 
