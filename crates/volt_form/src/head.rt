@@ -65,9 +65,11 @@ pub fn read_head(text: &[u8]) -> Result<&[u8], u32>
     ensures calls { IfOk result (λ after.
         after_lines head (lines_of text.now).ended ≡ Some (lines_of after.now).ended) }
     ensures rest { IfOk result (λ after. (lines_of text.now).rest ≡ (lines_of after.now).rest) }
-    ensures wrong { IfOk result (λ after. wrong_from 1 head (lines_of text.now).ended (lines_of text.now).rest
+    ensures wrong { IfOk result (λ after.
+        wrong_from 1 head (lines_of text.now).ended (lines_of text.now).rest
         ≡ wrong_call (head_size + 1) (lines_of after.now).ended (lines_of after.now).rest) }
-    ensures refused { IfErr result (λ line. wrong_from 1 head (lines_of text.now).ended (lines_of text.now).rest ≡ Some line) }
+    ensures refused { IfErr result (λ line.
+        wrong_from 1 head (lines_of text.now).ended (lines_of text.now).rest ≡ Some line) }
 {
     let mut wanted = head();
     let mut after = text;

@@ -50,7 +50,8 @@ fn wrong_line(met: usize) -> FormFault
 /// Reads the lines after the head.
 fn read_calls(alloc: Global, text: &[u8]) -> Result<Vec<ScriptCall>, FormFault>
     ensures calls { IfOk result (λ calls. calls_of_lines (lines_of text.now).ended ≡ Some calls.items) }
-    ensures passes { IfOk result (λ calls. wrong_call (head_size + 1) (lines_of text.now).ended (lines_of text.now).rest ≡ None) }
+    ensures passes { IfOk result (λ calls.
+        wrong_call (head_size + 1) (lines_of text.now).ended (lines_of text.now).rest ≡ None) }
     ensures refused { (line : ℕ) → result ≡ Err (FormFault.NotOfForm line)
         → wrong_call (head_size + 1) (lines_of text.now).ended (lines_of text.now).rest ≡ Some line }
 {
