@@ -14,4 +14,4 @@ mod reader;
 
 pub use call::ScriptCall;
 pub use laws::{calls_within_bounds, lines_make_the_text, wrong_or_of_form};
-pub use reader::{FormFault, LONGEST_INPUT, MOST_CALLS};
+pub use reader::{FormFault, LONGEST_INPUT, MOST_CALLS, read_form};
