@@ -1,0 +1,10 @@
+use Rattle.std.proofs.Common.{◌≡◌, drop}
+use Rattle.std.specs.Str.{all_ascii_digits}
+use Rattle.std.specs.Str.Parse.{digits_value_after, digits_value}
+use Rattle.volt_form.proofs.number.read_magnitude.Given as goal
+
+abbrev pub invariant-loop-digit : goal.invariant-loop-digit
+invariant-loop-digit l = record {
+  value_so_far : digits_value_after 10 l.value (drop l.digit-index l.digits) ≡ digits_value 10 l.digits;
+  digits_so_far : all_ascii_digits (drop l.digit-index l.digits) ≡ all_ascii_digits l.digits;
+}

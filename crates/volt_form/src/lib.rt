@@ -1,0 +1,17 @@
+//! Reads the text of an input.
+//!
+//! One form of input is known: a deployment of one site, the starter catalog, and a script of calls
+//! of its procedures `Put` and `Get`. Any other text is refused, with the number of its first line
+//! that isn't of the form.
+#![tactic(auto)]
+
+mod call;
+mod head;
+mod laws;
+mod lines;
+mod number;
+mod reader;
+
+pub use call::ScriptCall;
+pub use laws::{calls_within_bounds, lines_make_the_text, wrong_or_of_form};
+pub use reader::{FormFault, LONGEST_INPUT, MOST_CALLS, read_form};
