@@ -1,0 +1,8 @@
+//! The engine of one table of accounts, `acct (id BIGINT NOT NULL, bal BIGINT NOT NULL, PRIMARY KEY
+//! (id))`, and of two procedures: Put, which is `INSERT INTO acct VALUES (?, ?)`, and Get, which is
+//! `SELECT bal FROM acct WHERE id = ?`.
+#![tactic(auto)]
+
+mod call;
+
+pub use call::AccountCall;
