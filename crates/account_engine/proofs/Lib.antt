@@ -1,1 +1,3 @@
 pub mod Spells
+pub mod Carried
+pub mod Prints

@@ -109,7 +109,7 @@ value_takes (kind ∷ bytes) x fits e =
     let parts : kind ∷ bytes ≡ value_bytes (Int x.0) ++ x.1 = ap (λ (k : ℕ). k ∷ bytes) one ∙ ap (λ (b : List ℕ). 1 ∷ b) t.0.parts in
     (record { parts = parts; rest_fits = t.0.rest_fits }, t.1)
 
-value_again : (z : ℤ) (rest : List ℕ) → is_value z ≡ true → value_at (value_bytes (Int z) ++ rest) ≡ Some (z, rest)
+pub value_again : (z : ℤ) (rest : List ℕ) → is_value z ≡ true → value_at (value_bytes (Int z) ++ rest) ≡ Some (z, rest)
 unfolding value_at
 value_again z rest held = integer_again z rest held
 

@@ -2,3 +2,4 @@ pub mod Calls
 pub mod Spelling
 pub mod Reading
 pub mod Accounts
+pub mod Answers

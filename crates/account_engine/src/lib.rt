@@ -3,6 +3,10 @@
 //! `SELECT bal FROM acct WHERE id = ?`.
 #![tactic(auto)]
 
+mod accounts;
 mod call;
+mod reply;
 
+pub use accounts::Accounts;
 pub use call::AccountCall;
+pub use reply::print_reply;
