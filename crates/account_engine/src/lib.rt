@@ -7,6 +7,6 @@ mod accounts;
 mod call;
 mod reply;
 
-pub use accounts::Accounts;
+pub use accounts::{AccountMaker, Accounts};
 pub use call::AccountCall;
 pub use reply::print_reply;
