@@ -32,7 +32,6 @@ pub record HasAnswer (e : ReportEnd) : Type 0 where
   pub end : end_of answer ≡ e
 
 pub has_answer : (e : ReportEnd) → is_given e ≡ true → HasAnswer e
-unfolding answer_of row_of
 has_answer (report.Kept []) given = record { answer = Nothing; read = refl; end = refl }
 has_answer (report.Kept ((Int z ∷ []) ∷ [])) given = record { answer = Integer z; read = ap (option_map (λ v. Integer v.0)) (value_again z [] given); end = refl }
 has_answer (report.Fault code) given = record { answer = Fault code; read = refl; end = refl }

@@ -72,7 +72,6 @@ below (pos n) e = grind (arith, nat_tests)
 below (negsuc n) e = grind (arith, nat_tests)
 
 integer_takes : (bytes : List ℕ) (x : ℤ × List ℕ) → IsBytes bytes → integer_at bytes ≡ Some x → Takes bytes (integer_bytes x.0) x.1 × (is_value x.0 ≡ true)
-unfolding integer_at
 integer_takes bytes x fits e =
     let n : ℕ = from_be_bytes w64 (take 8 bytes) in
     let z : ℤ = cast_signed w64 n in
@@ -88,7 +87,6 @@ integer_takes bytes x fits e =
 
 -- the same, of 8 bytes of which only their integer is known
 integer_again-at : (front rest : List ℕ) (z : ℤ) → length front ≡ 8 → cast_signed w64 (from_be_bytes w64 front) ≡ z → is_value z ≡ true → integer_at (front ++ rest) ≡ Some (z, rest)
-unfolding integer_at
 integer_again-at front rest z len back held =
     let long : ltb (length (front ++ rest)) 8 ≡ false = le-ltb _ _ (omega (arith, length-append front rest)) in
     rw (long, take_at front rest 8 len, drop_at front rest 8 len, back, held) refl
@@ -100,7 +98,6 @@ integer_again z rest held =
 -- ---- values
 
 value_takes : (bytes : List ℕ) (x : ℤ × List ℕ) → IsBytes bytes → value_at bytes ≡ Some x → Takes bytes (value_bytes (Int x.0)) x.1 × (is_value x.0 ≡ true)
-unfolding value_at
 value_takes [] x fits e = absurd cc
 value_takes (kind ∷ bytes) x fits e =
     let is = not_else (eqb kind 1) (integer_at bytes) x e in
@@ -110,7 +107,6 @@ value_takes (kind ∷ bytes) x fits e =
     (record { parts = parts; rest_fits = t.0.rest_fits }, t.1)
 
 pub value_again : (z : ℤ) (rest : List ℕ) → is_value z ≡ true → value_at (value_bytes (Int z) ++ rest) ≡ Some (z, rest)
-unfolding value_at
 value_again z rest held = integer_again z rest held
 
 ended_is : {A : Type 0} (rest : List ℕ) (x y : A) → if_ended rest x ≡ Some y → (rest ≡ []) × (x ≡ y)
@@ -126,7 +122,6 @@ pub record IsRead (procedure count : ℕ) (values : List ℕ) (c : AccountCall) 
   pub spelled : to_be_bytes w16 procedure ++ count ∷ values ≡ body_bytes c
 
 put_takes : (values : List ℕ) (c : AccountCall) → IsBytes values → put_of values ≡ Some c → IsRead 0 2 values c
-unfolding put_of
 put_takes values c fits e =
     option_and_then_some _ (value_at values) c e (λ id at_id e1.
     option_and_then_some _ (value_at id.1) c e1 (λ balance at_balance e2.
@@ -137,7 +132,6 @@ put_takes values c fits e =
       subst (λ (d : AccountCall). IsRead 0 2 values d) end.1 (record { valid = and_true _ _ first.1 second.1; spelled = ap (λ (r : List ℕ). 0 ∷ 0 ∷ 2 ∷ r) all })))
 
 get_takes : (values : List ℕ) (c : AccountCall) → IsBytes values → get_of values ≡ Some c → IsRead 1 1 values c
-unfolding get_of
 get_takes values c fits e =
     option_and_then_some _ (value_at values) c e (λ id at_id e1.
       let first = value_takes values id fits at_id in
@@ -146,19 +140,16 @@ get_takes values c fits e =
       subst (λ (d : AccountCall). IsRead 1 1 values d) end.1 (record { valid = first.1; spelled = ap (λ (r : List ℕ). 0 ∷ 1 ∷ 1 ∷ r) all }))
 
 put_again : (id balance : ℤ) → is_value id ≡ true → is_value balance ≡ true → put_of (value_bytes (Int id) ++ value_bytes (Int balance)) ≡ Some (Put id balance)
-unfolding put_of
 put_again id balance p q =
     let last : value_at (value_bytes (Int balance)) ≡ Some (balance, []) = ap value_at (sym (append-nil (value_bytes (Int balance)))) ∙ value_again balance [] q in
     rw (value_again id (value_bytes (Int balance)) p, last) refl
 
 get_again : (id : ℤ) → is_value id ≡ true → get_of (value_bytes (Int id)) ≡ Some (Get id)
-unfolding get_of
 get_again id p =
     let last : value_at (value_bytes (Int id)) ≡ Some (id, []) = ap value_at (sym (append-nil (value_bytes (Int id)))) ∙ value_again id [] p in
     rw last refl
 
 with_takes : (procedure count : ℕ) (values : List ℕ) (c : AccountCall) → IsBytes values → call_with procedure count values ≡ Some c → IsRead procedure count values c
-unfolding call_with
 with_takes procedure count values c fits e =
     let get = cond (eqb procedure 1 && eqb count 1) (get_of values) None in
     elim (cases_Bool (eqb procedure 0 && eqb count 2)) [
@@ -173,7 +164,6 @@ with_takes procedure count values c fits e =
     ]
 
 pub call_takes : (bytes : List ℕ) (c : AccountCall) → IsBytes bytes → call_of bytes ≡ Some c → (is_valid c ≡ true) × (bytes ≡ body_bytes c)
-unfolding call_of
 call_takes [] c fits e = absurd cc
 call_takes (high ∷ []) c fits e = absurd cc
 call_takes (high ∷ low ∷ []) c fits e = absurd cc
@@ -185,7 +175,6 @@ call_takes (high ∷ low ∷ count ∷ values) c fits e =
     (read.valid, ap (λ (f : List ℕ). f ++ count ∷ values) (sym same) ∙ read.spelled)
 
 pub call_again : (c : AccountCall) → is_valid c ≡ true → call_of (body_bytes c) ≡ Some c
-unfolding call_of call_with
 call_again (Put id balance) e = let v = and_parts (is_value id) (is_value balance) e in put_again id balance v.0 v.1
 call_again (Get id) e = get_again id e
 

@@ -24,13 +24,13 @@ is_given (report.Fault code) = nat_lt code 256
 is_given _ = false
 
 -- the answer of these rows, as a reply spells them
-unfoldable pub row_of : List ℕ → Option Answer
+abbrev pub row_of : List ℕ → Option Answer
 row_of (zero ∷ zero ∷ zero ∷ zero ∷ []) = Some Nothing
 row_of (zero ∷ zero ∷ zero ∷ suc zero ∷ suc zero ∷ values) = option_map (λ v. Integer v.0) (value_at values)
 row_of _ = None
 
 -- the answer that a reply spells
-unfoldable pub answer_of : List ℕ → Option Answer
+abbrev pub answer_of : List ℕ → Option Answer
 answer_of (zero ∷ rows) = row_of rows
 answer_of (suc (suc zero) ∷ code ∷ []) = Some (Fault code)
 answer_of _ = None

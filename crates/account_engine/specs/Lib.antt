@@ -3,3 +3,4 @@ pub mod Spelling
 pub mod Reading
 pub mod Accounts
 pub mod Answers
+pub mod Worked

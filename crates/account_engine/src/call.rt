@@ -92,7 +92,6 @@ pub fn push_integer(into: &mut Vec<u8>, integer: i64) -> Result<(), AllocError>
     Ok(())
 }
 
-#[tactic(auto, unfolding(crate::specs::Reading::integer_at))]
 fn integer_at(bytes: &[u8]) -> Option<(i64, &[u8])>
     ensures { option_map (λ x. (x.0, x.1.now)) result ≡ reading.integer_at bytes.now }
 {
@@ -111,7 +110,6 @@ fn integer_at(bytes: &[u8]) -> Option<(i64, &[u8])>
 }
 
 /// The value at the front, an integer, and the bytes behind it.
-#[tactic(auto, unfolding(crate::specs::Reading::value_at))]
 pub fn value_at(bytes: &[u8]) -> Option<(i64, &[u8])>
     ensures { option_map (λ x. (x.0, x.1.now)) result ≡ reading.value_at bytes.now }
 {
@@ -121,7 +119,6 @@ pub fn value_at(bytes: &[u8]) -> Option<(i64, &[u8])>
     }
 }
 
-#[tactic(auto, unfolding(crate::specs::Reading::put_of))]
 fn put_of(values: &[u8]) -> Option<AccountCall>
     ensures { result ≡ reading.put_of values.now }
 {
@@ -134,7 +131,6 @@ fn put_of(values: &[u8]) -> Option<AccountCall>
     }
 }
 
-#[tactic(auto, unfolding(crate::specs::Reading::get_of))]
 fn get_of(values: &[u8]) -> Option<AccountCall>
     ensures { result ≡ reading.get_of values.now }
 {
@@ -146,7 +142,6 @@ fn get_of(values: &[u8]) -> Option<AccountCall>
     }
 }
 
-#[tactic(auto, unfolding(crate::specs::Reading::call_with))]
 fn call_with(procedure: u16, count: u8, values: &[u8]) -> Option<AccountCall>
     ensures { result ≡ reading.call_with procedure count values.now }
 {
@@ -159,7 +154,6 @@ fn call_with(procedure: u16, count: u8, values: &[u8]) -> Option<AccountCall>
     None
 }
 
-#[tactic(auto, unfolding(crate::specs::Reading::call_of))]
 fn call_of(body: &[u8]) -> Option<AccountCall>
     ensures { result ≡ reading.call_of body.now }
 {

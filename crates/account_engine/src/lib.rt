@@ -6,7 +6,9 @@
 mod accounts;
 mod call;
 mod reply;
+mod worked;
 
 pub use accounts::{AccountMaker, Accounts};
 pub use call::AccountCall;
 pub use reply::print_reply;
+pub use worked::put_has_this_body;

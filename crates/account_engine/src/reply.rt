@@ -45,7 +45,6 @@ impl Answer {
     }
 
     /// The answer that a reply spells.
-    #[tactic(auto, unfolding(crate::specs::Answers::answer_of))]
     pub fn decode(reply: &[u8]) -> Option<Answer>
         ensures { result ≡ answers.answer_of reply.now }
     {
@@ -90,7 +89,6 @@ pub fn print_reply(reply: &[u8], into: &mut Vec<u8>) -> Result<(), AllocError>
     }
 }
 
-#[tactic(auto, unfolding(crate::specs::Answers::row_of))]
 fn row_of(rows: &[u8]) -> Option<Answer>
     ensures { result ≡ answers.row_of rows.now }
 {
