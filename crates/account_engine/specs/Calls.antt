@@ -1,5 +1,6 @@
 -- Which calls there are.
-use Rattle.std.specs.Prelude.{◌≡◌, ℕ, ◌^◌, ◌-◌, ℤ, pos, negsuc, Bool, true, ◌&&◌, nat_lt}
+use Rattle.std.specs.Prelude.{◌≡◌, ℕ, ◌^◌, ◌-◌, ℤ, pos, negsuc, Bool, true, ◌&&◌, nat_lt, List, [], ◌∷◌}
+use Rattle.std.specs.List.{AllByRecursion}
 use Rattle.account_engine.specs.declared.call.AccountCall.{AccountCall}
 use Rattle.account_engine.specs.declared.call.AccountCall.TheVariants.{Put, Get}
 
@@ -16,3 +17,8 @@ is_valid (Get id) = is_value id
 pub record ValidCall : Type 0 where
   pub call : AccountCall
   pub valid : is_valid call ≡ true
+
+-- these calls, each of which is valid
+abbrev pub valid_calls : (calls : List AccountCall) → AllByRecursion (λ c. is_valid c ≡ true) calls → List ValidCall
+valid_calls [] valid = []
+valid_calls (c ∷ later) valid = record { call = c; valid = valid.0 } ∷ valid_calls later valid.1

@@ -10,5 +10,8 @@ mod worked;
 
 pub use accounts::{AccountMaker, Accounts};
 pub use call::AccountCall;
-pub use reply::print_reply;
-pub use worked::put_has_this_body;
+pub use reply::{print_reply, replies_are_given};
+pub use worked::{
+    first_report_is_sound, first_report_is_spelled_so, first_run_is_this, four_calls_answer_so,
+    put_has_this_body, wrong_reports_are_not_sound,
+};

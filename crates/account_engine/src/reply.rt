@@ -1,8 +1,12 @@
 //! Replies: how they are spelled, and how a report prints them.
 
-ghost use Rattle.std.specs.Prelude.{◌≡◌, ◌++◌, true, OnOk, IfOk};
+ghost use Rattle.std.specs.Prelude.{◌≡◌, ◌++◌, ℕ, true, List, [], OnOk, IfOk};
+ghost use Rattle.volt_base.specs.declared.entry.Applied.{Applied};
 ghost use Rattle.volt_report.specs.Report.{ReportEnd};
 ghost use Rattle.volt_report.specs.Spelling as spelling;
+ghost use Rattle.soundness.specs.Meaning.{Script};
+ghost use Rattle.soundness.specs.Sound.{reply_in};
+ghost use Rattle.account_engine.specs.Accounts.{accounts};
 ghost use Rattle.account_engine.specs.Spelling.{reply_bytes};
 ghost use Rattle.account_engine.specs.Answers as answers;
 
@@ -87,6 +91,13 @@ pub fn print_reply(reply: &[u8], into: &mut Vec<u8>) -> Result<(), AllocError>
         Some(answer) => answer.print(into),
         None => Ok(()),
     }
+}
+
+/// In every serial run from no rows each reply is one that `print_reply` prints.
+pub fn replies_are_given()
+    ensures { (s : Script accounts) (list : List Applied) (call : ℕ) (e : ReportEnd)
+        → reply_in accounts s (accounts.database []) list call ≡ Some e → answers.is_given e ≡ true }
+{
 }
 
 fn row_of(rows: &[u8]) -> Option<Answer>
