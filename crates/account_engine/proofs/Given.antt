@@ -6,7 +6,7 @@ use Rattle.std.specs.Map.{lookup}
 use Rattle.std.specs.Option.{option_map, option_map_or}
 use Rattle.std.specs.Ordering.{int_cmp, match_ordering}
 use Rattle.std.specs.declared.cmp.Ordering.TheVariants.{Less, Equal, Greater}
-use Rattle.std.proofs.lemmas.Bool.{cases_Bool, cond-true, cond-false}
+use Rattle.std.proofs.lemmas.Bool.{and_parts, cases_Bool, cond-true, cond-false}
 use Rattle.std.proofs.lemmas.Option.{same_Some, none-some}
 use Rattle.volt_base.specs.declared.entry.Applied.{Applied}
 use Rattle.volt_report.specs.Report.{ReportEnd}
@@ -17,7 +17,6 @@ use Rattle.account_engine.specs.declared.call.AccountCall.TheVariants.{Put, Get}
 use Rattle.account_engine.specs.Calls.{is_value, is_valid, ValidCall, valid_calls}
 use Rattle.account_engine.specs.Answers.{is_given}
 use Rattle.account_engine.specs.Accounts.{Rows, balance_of, with_row, rows_after, duplicate, one_integer, found, reply, accounts}
-use Rattle.account_engine.proofs.Spells.{and_parts}
 
 -- each balance is a value
 abbrev AreValues : Rows → Type 0

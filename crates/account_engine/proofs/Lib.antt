@@ -1,4 +1,3 @@
 pub mod Spells
-pub mod Carried
 pub mod Prints
 pub mod Given

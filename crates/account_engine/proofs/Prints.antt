@@ -13,7 +13,7 @@ use Rattle.account_engine.specs.declared.reply.Answer.{Answer}
 use Rattle.account_engine.specs.declared.reply.Answer.TheVariants.{Nothing, Integer, Fault}
 use Rattle.account_engine.specs.Spelling.{reply_bytes}
 use Rattle.account_engine.specs.Answers.{end_of, is_given, row_of, answer_of}
-use Rattle.account_engine.proofs.Spells.{value_again}
+use Rattle.account_engine.specs.Again.{value_again}
 
 pub text-nothing : end_text (end_of Nothing) ≡ codes "ok 0\n"
 unfolding digits
@@ -33,7 +33,7 @@ pub record HasAnswer (e : ReportEnd) : Type 0 where
 
 pub has_answer : (e : ReportEnd) → is_given e ≡ true → HasAnswer e
 has_answer (report.Kept []) given = record { answer = Nothing; read = refl; end = refl }
-has_answer (report.Kept ((Int z ∷ []) ∷ [])) given = record { answer = Integer z; read = ap (option_map (λ v. Integer v.0)) (value_again z [] given); end = refl }
+has_answer (report.Kept ((Int z ∷ []) ∷ [])) given = record { answer = Integer z; read = ap (option_map (λ v. Integer v.0)) (value_again z given); end = refl }
 has_answer (report.Fault code) given = record { answer = Fault code; read = refl; end = refl }
 has_answer e given = absurd cc
 

@@ -1,8 +1,8 @@
--- Each valid call is read from its body, and from no other bytes.
+-- What is read is spelled so.
 use Rattle.std.proofs.Common.{◌≡◌, ℕ, suc, ◌+◌, ◌*◌, ◌^◌, ◌<◌, ◌≤◌, ℤ, pos, negsuc, Bool, true, false, cond, eqb, ltb, ◌&&◌, List, [], ◌∷◌, ◌++◌, length, get_or, take, drop, Option, Some, None, refl, sym, ap, subst, ◌∙◌, append_assoc, arith, inl, inr}
 use Rattle.std.specs.Prelude.{FitsSigned, IfSome, IfNone}
 use Rattle.std.specs.Int.{w16, w64, from_be_bytes, to_be_bytes, cast_signed, cast_unsigned}
-use Rattle.std.proofs.lemmas.Bool.{cases_Bool, cond-true, cond-false, cases_lt, ltb-false, le-ltb, eqb-true}
+use Rattle.std.proofs.lemmas.Bool.{and_parts, cases_Bool, cond-true, cond-false, cases_lt, ltb-false, le-ltb, eqb-true}
 use Rattle.std.proofs.lemmas.Bool.Decides.{nat_tests}
 use Rattle.std.proofs.lemmas.Int.{to_z-of_z, of_z-to_z}
 use Rattle.std.proofs.lemmas.List.{append-nil, nil_from_length, take_at, drop_at, take-append-drop, length-append, length-take, get_or-drop, get_or-take, get_or_past}
@@ -13,6 +13,7 @@ use Rattle.account_engine.specs.declared.call.AccountCall.{AccountCall}
 use Rattle.account_engine.specs.declared.call.AccountCall.TheVariants.{Put, Get}
 use Rattle.account_engine.specs.Calls.{is_value, is_valid}
 use Rattle.account_engine.specs.Spelling.{value_bytes, body_bytes}
+use Rattle.account_engine.specs.Again.{call_again}
 use Rattle.account_engine.specs.Reading.{if_value, if_ended, integer_at, value_at, put_of, get_of, call_with, call_of}
 
 -- ---- tests that gave a value
@@ -26,11 +27,6 @@ not_then false o x e = (refl, e)
 not_else : {A : Type 0} (b : Bool) (o : Option A) (x : A) → cond b o None ≡ Some x → (b ≡ true) × (o ≡ Some x)
 not_else true o x e = (refl, e)
 not_else false o x e = absurd cc
-
-pub and_parts : (a b : Bool) → (a && b) ≡ true → (a ≡ true) × (b ≡ true)
-and_parts true true e = (refl, refl)
-and_parts true false e = absurd cc
-and_parts false b e = absurd cc
 
 and_true : (a b : Bool) → a ≡ true → b ≡ true → (a && b) ≡ true
 and_true a b p q = rw (p, q) refl
@@ -63,14 +59,6 @@ pub record Takes (bytes text rest : List ℕ) : Type 0 where
 abbrev integer_bytes : ℤ → List ℕ
 integer_bytes z = to_be_bytes w64 (cast_unsigned w64 z)
 
-fits_value : (z : ℤ) → is_value z ≡ true → FitsSigned w64 z
-fits_value (pos n) e = record { sfits = grind (arith, nat_tests) }
-fits_value (negsuc n) e = record { sfits = grind (arith, nat_tests) }
-
-below : (z : ℤ) → is_value z ≡ true → cast_unsigned w64 z < 2 ^ 64
-below (pos n) e = grind (arith, nat_tests)
-below (negsuc n) e = grind (arith, nat_tests)
-
 integer_takes : (bytes : List ℕ) (x : ℤ × List ℕ) → IsBytes bytes → integer_at bytes ≡ Some x → Takes bytes (integer_bytes x.0) x.1 × (is_value x.0 ≡ true)
 integer_takes bytes x fits e =
     let n : ℕ = from_be_bytes w64 (take 8 bytes) in
@@ -85,16 +73,6 @@ integer_takes bytes x fits e =
     let parts : bytes ≡ integer_bytes z ++ drop 8 bytes = sym (take-append-drop 8 bytes) ∙ ap (λ (front : List ℕ). front ++ drop 8 bytes) (sym same) in
     subst (λ (y : ℤ × List ℕ). Takes bytes (integer_bytes y.0) y.1 × (is_value y.0 ≡ true)) held.1 (record { parts = parts; rest_fits = IsBytes-drop 8 bytes fits }, held.0)
 
--- the same, of 8 bytes of which only their integer is known
-integer_again-at : (front rest : List ℕ) (z : ℤ) → length front ≡ 8 → cast_signed w64 (from_be_bytes w64 front) ≡ z → is_value z ≡ true → integer_at (front ++ rest) ≡ Some (z, rest)
-integer_again-at front rest z len back held =
-    let long : ltb (length (front ++ rest)) 8 ≡ false = le-ltb _ _ (omega (arith, length-append front rest)) in
-    rw (long, take_at front rest 8 len, drop_at front rest 8 len, back, held) refl
-
-integer_again : (z : ℤ) (rest : List ℕ) → is_value z ≡ true → integer_at (integer_bytes z ++ rest) ≡ Some (z, rest)
-integer_again z rest held =
-    integer_again-at (integer_bytes z) rest z refl (ap (cast_signed w64) (from_be_bytes-to_be_bytes_8 (cast_unsigned w64 z) (below z held)) ∙ to_z-of_z w64 z (fits_value z held)) held
-
 -- ---- values
 
 value_takes : (bytes : List ℕ) (x : ℤ × List ℕ) → IsBytes bytes → value_at bytes ≡ Some x → Takes bytes (value_bytes (Int x.0)) x.1 × (is_value x.0 ≡ true)
@@ -105,9 +83,6 @@ value_takes (kind ∷ bytes) x fits e =
     let one : kind ≡ 1 = eqb-true kind 1 is.0 in
     let parts : kind ∷ bytes ≡ value_bytes (Int x.0) ++ x.1 = ap (λ (k : ℕ). k ∷ bytes) one ∙ ap (λ (b : List ℕ). 1 ∷ b) t.0.parts in
     (record { parts = parts; rest_fits = t.0.rest_fits }, t.1)
-
-pub value_again : (z : ℤ) (rest : List ℕ) → is_value z ≡ true → value_at (value_bytes (Int z) ++ rest) ≡ Some (z, rest)
-value_again z rest held = integer_again z rest held
 
 ended_is : {A : Type 0} (rest : List ℕ) (x y : A) → if_ended rest x ≡ Some y → (rest ≡ []) × (x ≡ y)
 ended_is rest x y e =
@@ -125,42 +100,32 @@ put_takes : (values : List ℕ) (c : AccountCall) → IsBytes values → put_of 
 put_takes values c fits e =
     option_and_then_some _ (value_at values) c e (λ id at_id e1.
     option_and_then_some _ (value_at id.1) c e1 (λ balance at_balance e2.
-      let first = value_takes values id fits at_id in
-      let second = value_takes id.1 balance first.0.rest_fits at_balance in
-      let end = ended_is balance.1 (Put id.0 balance.0) c e2 in
-      let all : values ≡ value_bytes (Int id.0) ++ value_bytes (Int balance.0) = first.0.parts ∙ ap (λ (r : List ℕ). value_bytes (Int id.0) ++ r) (second.0.parts ∙ ap (λ (r : List ℕ). value_bytes (Int balance.0) ++ r) end.0 ∙ append-nil (value_bytes (Int balance.0))) in
-      subst (λ (d : AccountCall). IsRead 0 2 values d) end.1 (record { valid = and_true _ _ first.1 second.1; spelled = ap (λ (r : List ℕ). 0 ∷ 0 ∷ 2 ∷ r) all })))
+    let first = value_takes values id fits at_id in
+    let second = value_takes id.1 balance first.0.rest_fits at_balance in
+    let end = ended_is balance.1 (Put id.0 balance.0) c e2 in
+    let all : values ≡ value_bytes (Int id.0) ++ value_bytes (Int balance.0) = first.0.parts ∙ ap (λ (r : List ℕ). value_bytes (Int id.0) ++ r) (second.0.parts ∙ ap (λ (r : List ℕ). value_bytes (Int balance.0) ++ r) end.0 ∙ append-nil (value_bytes (Int balance.0))) in
+    subst (λ (d : AccountCall). IsRead 0 2 values d) end.1 (record { valid = and_true _ _ first.1 second.1; spelled = ap (λ (r : List ℕ). 0 ∷ 0 ∷ 2 ∷ r) all })))
 
 get_takes : (values : List ℕ) (c : AccountCall) → IsBytes values → get_of values ≡ Some c → IsRead 1 1 values c
 get_takes values c fits e =
     option_and_then_some _ (value_at values) c e (λ id at_id e1.
-      let first = value_takes values id fits at_id in
-      let end = ended_is id.1 (Get id.0) c e1 in
-      let all : values ≡ value_bytes (Int id.0) = first.0.parts ∙ ap (λ (r : List ℕ). value_bytes (Int id.0) ++ r) end.0 ∙ append-nil (value_bytes (Int id.0)) in
-      subst (λ (d : AccountCall). IsRead 1 1 values d) end.1 (record { valid = first.1; spelled = ap (λ (r : List ℕ). 0 ∷ 1 ∷ 1 ∷ r) all }))
-
-put_again : (id balance : ℤ) → is_value id ≡ true → is_value balance ≡ true → put_of (value_bytes (Int id) ++ value_bytes (Int balance)) ≡ Some (Put id balance)
-put_again id balance p q =
-    let last : value_at (value_bytes (Int balance)) ≡ Some (balance, []) = ap value_at (sym (append-nil (value_bytes (Int balance)))) ∙ value_again balance [] q in
-    rw (value_again id (value_bytes (Int balance)) p, last) refl
-
-get_again : (id : ℤ) → is_value id ≡ true → get_of (value_bytes (Int id)) ≡ Some (Get id)
-get_again id p =
-    let last : value_at (value_bytes (Int id)) ≡ Some (id, []) = ap value_at (sym (append-nil (value_bytes (Int id)))) ∙ value_again id [] p in
-    rw last refl
+    let first = value_takes values id fits at_id in
+    let end = ended_is id.1 (Get id.0) c e1 in
+    let all : values ≡ value_bytes (Int id.0) = first.0.parts ∙ ap (λ (r : List ℕ). value_bytes (Int id.0) ++ r) end.0 ∙ append-nil (value_bytes (Int id.0)) in
+    subst (λ (d : AccountCall). IsRead 1 1 values d) end.1 (record { valid = first.1; spelled = ap (λ (r : List ℕ). 0 ∷ 1 ∷ 1 ∷ r) all }))
 
 with_takes : (procedure count : ℕ) (values : List ℕ) (c : AccountCall) → IsBytes values → call_with procedure count values ≡ Some c → IsRead procedure count values c
 with_takes procedure count values c fits e =
     let get = cond (eqb procedure 1 && eqb count 1) (get_of values) None in
     elim (cases_Bool (eqb procedure 0 && eqb count 2)) [
       | inl put ↦
-        let is = and_parts _ _ put in
-        let read : put_of values ≡ Some c = sym (cond-true _ (put_of values) get put) ∙ e in
-        rw (eqb-true procedure 0 is.0, eqb-true count 2 is.1) (put_takes values c fits read)
+          let is = and_parts _ _ put in
+          let read : put_of values ≡ Some c = sym (cond-true _ (put_of values) get put) ∙ e in
+          rw (eqb-true procedure 0 is.0, eqb-true count 2 is.1) (put_takes values c fits read)
       | inr other ↦
-        let read = not_else (eqb procedure 1 && eqb count 1) (get_of values) c (sym (cond-false _ (put_of values) get other) ∙ e) in
-        let is = and_parts _ _ read.0 in
-        rw (eqb-true procedure 1 is.0, eqb-true count 1 is.1) (get_takes values c fits read.1)
+          let read = not_else (eqb procedure 1 && eqb count 1) (get_of values) c (sym (cond-false _ (put_of values) get other) ∙ e) in
+          let is = and_parts _ _ read.0 in
+          rw (eqb-true procedure 1 is.0, eqb-true count 1 is.1) (get_takes values c fits read.1)
     ]
 
 pub call_takes : (bytes : List ℕ) (c : AccountCall) → IsBytes bytes → call_of bytes ≡ Some c → (is_valid c ≡ true) × (bytes ≡ body_bytes c)
@@ -173,10 +138,6 @@ call_takes (high ∷ low ∷ count ∷ values) c fits e =
     let two : IsBytes front = IsBytes-take 2 (high ∷ low ∷ count ∷ values) fits in
     let same : to_be_bytes w16 (from_be_bytes w16 front) ≡ front = be_bytes_2 front _ refl two refl in
     (read.valid, ap (λ (f : List ℕ). f ++ count ∷ values) (sym same) ∙ read.spelled)
-
-pub call_again : (c : AccountCall) → is_valid c ≡ true → call_of (body_bytes c) ≡ Some c
-call_again (Put id balance) e = let v = and_parts (is_value id) (is_value balance) e in put_again id balance v.0 v.1
-call_again (Get id) e = get_again id e
 
 -- ---- what a reader promises
 

@@ -12,8 +12,8 @@ use Rattle.soundness.specs.Meaning.{Script}
 use Rattle.soundness.specs.Carries.{world_calls, script}
 use Rattle.account_engine.specs.declared.call.AccountCall.TheVariants.{Put, Get}
 use Rattle.account_engine.specs.Calls.{ValidCall}
-use Rattle.account_engine.specs.Spelling.{body_bytes}
 use Rattle.account_engine.specs.Accounts.{Rows, accounts, accounts_semantics}
+use Rattle.account_engine.specs.Carrying.{carried}
 
 abbrev pub put_1_10 : ValidCall
 put_1_10 = record { call = Put (pos 1) (pos 10); valid = refl }
@@ -35,7 +35,7 @@ asked = script accounts calls
 
 -- the world before the first event
 abbrev pub start : World
-start = first_world (world_calls accounts (λ c. body_bytes c.call) calls)
+start = first_world (world_calls accounts carried.body calls)
 
 -- A call is submitted, goes to the agent and on to the site, is applied there, and comes back once it is on disk.
 abbrev pub trace : List Event

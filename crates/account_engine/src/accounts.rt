@@ -76,13 +76,16 @@ impl Accounts {
     ) -> Result<Bytes, AllocError>
         ensures state { OnOk result
             (self.new ≡ record {
-                rows = spec.rows_after self.old.rows call.now;
-                applied = self.old.applied ++ record { call = number; point = point } ∷ [];
+              rows = spec.rows_after self.old.rows call.now;
+              applied = self.old.applied ++ record { call = number; point = point } ∷ [];
             }) }
         ensures reply { IfOk result (λ reply. reply ≡ reply_bytes (spec.reply self.old.rows call.now)) }
     {
         let answer = self.run(call)?;
-        self.applied.push(Applied { call: number, point })?;
+        self.applied.push(Applied {
+            call: number,
+            point,
+        })?;
         answer.encode(alloc)
     }
 }

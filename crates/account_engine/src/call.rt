@@ -25,6 +25,7 @@ pub enum AccountCall {
 
 /// The numbers of the procedures: their places in the catalog.
 const PUT: u16 = 0;
+
 const GET: u16 = 1;
 
 /// What an integer begins with.

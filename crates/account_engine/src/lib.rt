@@ -15,3 +15,6 @@ pub use worked::{
     first_report_is_sound, first_report_is_spelled_so, first_run_is_this, four_calls_answer_so,
     put_has_this_body, wrong_reports_are_not_sound,
 };
+
+#[cfg(test)]
+mod tests;

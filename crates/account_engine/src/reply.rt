@@ -28,6 +28,7 @@ pub enum Answer {
 
 /// The first byte of a reply that has rows, and of one that has a fault.
 const ROWS: u8 = 0;
+
 const FAULT: u8 = 2;
 
 impl Answer {
@@ -97,8 +98,7 @@ pub fn print_reply(reply: &[u8], into: &mut Vec<u8>) -> Result<(), AllocError>
 pub fn replies_are_given()
     ensures { (s : Script accounts) (list : List Applied) (call : ℕ) (e : ReportEnd)
         → reply_in accounts s (accounts.database []) list call ≡ Some e → answers.is_given e ≡ true }
-{
-}
+{}
 
 fn row_of(rows: &[u8]) -> Option<Answer>
     ensures { result ≡ answers.row_of rows.now }

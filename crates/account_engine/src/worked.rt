@@ -15,8 +15,7 @@ ghost use Rattle.account_engine.specs.Worked as worked;
 pub fn put_has_this_body()
     ensures { body_bytes worked.put_1_10.call
         ≡ 0 ∷ 0 ∷ 2 ∷ 1 ∷ 0 ∷ 0 ∷ 0 ∷ 0 ∷ 0 ∷ 0 ∷ 0 ∷ 1 ∷ 1 ∷ 0 ∷ 0 ∷ 0 ∷ 0 ∷ 0 ∷ 0 ∷ 0 ∷ 10 ∷ [] }
-{
-}
+{}
 
 /// `Put 1 10`, the same again, `Get 1` and `Get 2` answer 1, the fault Duplicate, 10, and no row.
 pub fn four_calls_answer_so()
@@ -27,8 +26,7 @@ pub fn four_calls_answer_so()
         ∷ (2 ∷ 7 ∷ [])
         ∷ (0 ∷ 0 ∷ 0 ∷ 0 ∷ 1 ∷ 1 ∷ 1 ∷ 0 ∷ 0 ∷ 0 ∷ 0 ∷ 0 ∷ 0 ∷ 0 ∷ 10 ∷ [])
         ∷ (0 ∷ 0 ∷ 0 ∷ 0 ∷ 0 ∷ []) ∷ [] }
-{
-}
+{}
 
 /// The run of `Put 1 10` and `Get 1`: each event may happen and is the first that may, none may at
 /// the end, and the report shows the last world.
@@ -39,14 +37,12 @@ pub fn first_run_is_this()
     ensures serial { serial accounts_semantics worked.last
         ≡ worked.put_point ∷ worked.get_point ∷ [] }
     ensures shows { Shows accounts_semantics reply_bytes worked.last worked.report }
-{
-}
+{}
 
 /// Its report is sound.
 pub fn first_report_is_sound()
     ensures { Sound accounts worked.asked worked.report }
-{
-}
+{}
 
 /// These are the bytes of that report.
 pub fn first_report_is_spelled_so()
@@ -55,8 +51,7 @@ pub fn first_report_is_spelled_so()
         ++ codes "submit c1\ndeliver d c1\ndeliver h0 c1\ndeliver s0 h0\nsync s0\ndeliver h0 s0\ndeliver c1 h0\n"
         ++ codes "submit c1\ndeliver d c1\ndeliver h0 c1\ndeliver s0 h0\nsync s0\ndeliver h0 s0\ndeliver c1 h0\n"
         ++ codes "end\n" }
-{
-}
+{}
 
 /// A report isn't sound if it has another reply than Get's, lacks the point of Get, or has the two
 /// points the other way round.
@@ -64,5 +59,4 @@ pub fn wrong_reports_are_not_sound()
     ensures other_reply { Sound accounts worked.asked worked.other_reply → ⊥ }
     ensures lacks_a_call { Sound accounts worked.asked worked.lacks_a_call → ⊥ }
     ensures exchanged { Sound accounts worked.asked worked.exchanged → ⊥ }
-{
-}
+{}
