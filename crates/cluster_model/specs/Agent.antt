@@ -4,12 +4,8 @@ use Rattle.volt_wire.specs.declared.actor.Actor.{Actor}
 use Rattle.volt_wire.specs.declared.actor.Actor.TheVariants.{Director, Client, Agent, Site}
 use Rattle.volt_wire.specs.declared.message.Msg.{Msg}
 use Rattle.volt_wire.specs.declared.message.Msg.TheVariants as msg
+use Rattle.cluster_model.specs.declared.state.Pending.{Pending}
 use Rattle.cluster_model.specs.Actors.{Sends, nothing, only}
-
--- a call that an agent took, and the client that waits for it
-pub record Pending : Type 0 where
-  pub call : ℕ
-  pub client : ℕ
 
 pub record AgentState : Type 0 where
   -- the number of its start; 0 where it isn't running

@@ -5,13 +5,8 @@ use Rattle.volt_wire.specs.declared.actor.Actor.TheVariants.{Director, Client, A
 use Rattle.volt_wire.specs.declared.message.Msg.{Msg}
 use Rattle.volt_wire.specs.declared.message.Msg.TheVariants as msg
 use Rattle.volt_wire.specs.declared.input.Ended.{Ended}
-use Rattle.cluster_model.specs.Actors.{Sends, nothing}
-
--- a call that its client has still to submit
-pub record Due : Type 0 where
-  pub call : ℕ
-  pub part : Option ℕ
-  pub body : List ℕ
+use Rattle.cluster_model.specs.declared.state.Due.{Due}
+use Rattle.cluster_model.specs.Actors.{Sends, only}
 
 pub record ClientState : Type 0 where
   -- the calls that it has still to submit, in order
@@ -33,9 +28,7 @@ submitted stamp c (due ∷ left) = record c { left = left; pending = Some (due.c
 
 abbrev pub submit_sends : List Due → Sends
 submit_sends [] b = []
-submit_sends (due ∷ left) Director = msg.Told ∷ []
-submit_sends (due ∷ left) (Agent zero) = msg.Call due.call 1 due.part due.body ∷ []
-submit_sends (due ∷ left) b = []
+submit_sends (due ∷ left) b = only Director msg.Told b ++ only (Agent 0) (msg.Call due.call 1 due.part due.body) b
 
 -- the call ends at this stamp, if it is the one that waits
 abbrev pub ends : Bool → ℕ → ℕ → ClientState → ℕ → ℕ → List ℕ → ClientState

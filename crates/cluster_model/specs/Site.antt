@@ -1,5 +1,5 @@
 -- A site keeps the log of its copy, and the tables that the log leads to.
-use Rattle.std.specs.Prelude.{ℕ, ◌==◌, if◌then◌else◌, Bool, List, [], ◌∷◌, ◌++◌, length, nat_lt}
+use Rattle.std.specs.Prelude.{ℕ, Bool, List, [], ◌∷◌, ◌++◌, length, nat_lt}
 use Rattle.volt_base.specs.Semantics.{Semantics}
 use Rattle.volt_base.specs.declared.entry.Entry.{Entry}
 use Rattle.volt_base.specs.declared.entry.Entry.TheVariants.{Sp}
@@ -7,19 +7,13 @@ use Rattle.volt_wire.specs.declared.actor.Actor.{Actor}
 use Rattle.volt_wire.specs.declared.actor.Actor.TheVariants.{Director, Client, Agent, Site}
 use Rattle.volt_wire.specs.declared.message.Msg.{Msg}
 use Rattle.volt_wire.specs.declared.message.Msg.TheVariants as msg
-use Rattle.cluster_model.specs.Actors.{Sends}
+use Rattle.cluster_model.specs.declared.state.Waiting.{Waiting}
+use Rattle.cluster_model.specs.Actors.{Sends, only}
 
 -- the state after these entries
 abbrev pub replay : (S : Semantics) → S.State → List Entry → S.State
 replay S state [] = state
 replay S state (e ∷ es) = replay S (S.after state e) es
-
--- a reply that waits until its entry is firm, and the agent's host and start that asked for it
-pub record Waiting : Type 0 where
-  pub host : ℕ
-  pub start : ℕ
-  pub call : ℕ
-  pub reply : List ℕ
 
 pub record SiteState : Type 0 where
   -- all entries since the boot
@@ -52,10 +46,10 @@ owes s = nat_lt s.on_disk (length s.log)
 abbrev pub synced : SiteState → SiteState
 synced s = record s { on_disk = length s.log; waiting = [] }
 
-abbrev pub replies_to : ℕ → List Waiting → List Msg
-replies_to h [] = []
-replies_to h (w ∷ ws) = if w.host == h then msg.Reply w.call w.start w.reply ∷ replies_to h ws else replies_to h ws
+-- the replies that wait, each to the agent that asked for it
+abbrev pub replies : List Waiting → Sends
+replies [] b = []
+replies (w ∷ later) b = only (Agent w.host) (msg.Reply w.call w.start w.reply) b ++ replies later b
 
 abbrev pub sync_sends : SiteState → Sends
-sync_sends s (Agent h) = replies_to h s.waiting
-sync_sends s b = []
+sync_sends s = replies s.waiting

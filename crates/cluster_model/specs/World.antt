@@ -9,7 +9,8 @@ use Rattle.volt_wire.specs.declared.message.Msg.{Msg}
 use Rattle.volt_wire.specs.declared.message.Msg.TheVariants as msg
 use Rattle.volt_wire.specs.declared.input.WorldCall.{WorldCall}
 use Rattle.cluster_model.specs.Actors.{same, Sends, nothing}
-use Rattle.cluster_model.specs.Client.{Due, ClientState, may_submit, submitted, submit_sends, client_after}
+use Rattle.cluster_model.specs.declared.state.Due.{Due}
+use Rattle.cluster_model.specs.Client.{ClientState, may_submit, submitted, submit_sends, client_after}
 use Rattle.cluster_model.specs.Agent.{AgentState, agent_after, agent_sends}
 use Rattle.cluster_model.specs.Site.{SiteState, owes, synced, sync_sends, site_after}
 
@@ -43,10 +44,14 @@ sent channel from sends a b = if same from a then channel a b ++ sends b else ch
 
 -- ---- events
 
+-- the director counts the calls that it is told of
+abbrev pub told_after : ℕ → Msg → ℕ
+told_after told msg.Told = told + 1
+told_after told m = told
+
 -- The receiver takes a message: its state changes by the row of the message, and what the row says is sent.
 abbrev pub received : (S : Semantics) → ℕ → World → Actor → Actor → Msg → World
-received S stamp w Director from msg.Told = record w { told = w.told + 1; channel = took w.channel from Director }
-received S stamp w Director from m = record w { channel = took w.channel from Director }
+received S stamp w Director from m = record w { told = told_after w.told m; channel = took w.channel from Director }
 received S stamp w (Client n) from m =
     record w {
       clients = set_at w.clients n (client_after stamp n (w.clients n) m);

@@ -1,0 +1,25 @@
+use volt_base::{Bytes, CallNo, ClientNo, HostNo, PartNo, Start};
+
+/// A call that its client has still to submit.
+#[derive(Debug, Drop)]
+pub struct Due {
+    pub body: Bytes,
+    pub call: CallNo,
+    pub part: Option<PartNo>,
+}
+
+/// A call that an agent took, and the client that waits for it.
+#[derive(Clone, Copy, Debug, PartialEq, Eq)]
+pub struct Pending {
+    pub call: CallNo,
+    pub client: ClientNo,
+}
+
+/// A reply that waits until its entry is firm, and the agent's host and start that asked for it.
+#[derive(Debug, Drop)]
+pub struct Waiting {
+    pub reply: Bytes,
+    pub call: CallNo,
+    pub start: Start,
+    pub host: HostNo,
+}
