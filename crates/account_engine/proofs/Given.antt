@@ -1,5 +1,5 @@
 -- In every run from no rows the answers are such as the engine gives.
-use Rattle.std.proofs.Common.{◌≡◌, ℕ, ℤ, pos, Bool, true, false, cond, eqb, List, [], ◌∷◌, map, Option, Some, None, Ordering, refl, ap, subst, sym, inl, inr, ◌∙◌}
+use Rattle.std.proofs.Common.{◌≡◌, ℕ, ℤ, pos, Bool, true, false, cond, eqb, List, [], ◌∷◌, map, Option, Some, None, refl, ap, subst, sym, inl, inr, ◌∙◌}
 use Rattle.std.specs.Prelude.{is_some, if◌then◌else◌}
 use Rattle.std.specs.List.{AllByRecursion}
 use Rattle.std.specs.Map.{lookup}

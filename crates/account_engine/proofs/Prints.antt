@@ -1,5 +1,5 @@
 -- What is printed of an answer, and that a reply has one answer.
-use Rattle.std.proofs.Common.{◌≡◌, ℕ, ℤ, pos, true, List, [], ◌∷◌, ◌++◌, Option, Some, refl, sym, ap, ◌∙◌}
+use Rattle.std.proofs.Common.{◌≡◌, ℕ, ℤ, true, List, [], ◌∷◌, ◌++◌, Option, Some, refl, sym, ap, ◌∙◌}
 use Rattle.std.specs.Prelude.{codes}
 use Rattle.std.specs.Option.{option_map}
 use Rattle.std.specs.Fmt.{signed_decimal, digits}
@@ -12,7 +12,7 @@ use Rattle.volt_report.specs.Spelling.{end_text, newline}
 use Rattle.account_engine.specs.declared.reply.Answer.{Answer}
 use Rattle.account_engine.specs.declared.reply.Answer.TheVariants.{Nothing, Integer, Fault}
 use Rattle.account_engine.specs.Spelling.{reply_bytes}
-use Rattle.account_engine.specs.Answers.{end_of, is_given, row_of, answer_of}
+use Rattle.account_engine.specs.Answers.{end_of, is_given, answer_of}
 use Rattle.account_engine.specs.Again.{value_again}
 
 pub text-nothing : end_text (end_of Nothing) ≡ codes "ok 0\n"

@@ -5,9 +5,8 @@ use Rattle.soundness.specs.Carries.{Carries}
 use Rattle.soundness.specs.Sound.{is_answer}
 use Rattle.account_engine.specs.declared.call.AccountCall.{AccountCall}
 use Rattle.account_engine.specs.declared.call.AccountCall.TheVariants.{Put, Get}
-use Rattle.account_engine.specs.Calls.{ValidCall}
 use Rattle.account_engine.specs.Spelling.{body_bytes, reply_bytes}
-use Rattle.account_engine.specs.Accounts.{Rows, balance_of, duplicate, one_integer, found, reply, accounts, AccountsState, carried_out, answered, accounts_semantics}
+use Rattle.account_engine.specs.Accounts.{Rows, balance_of, duplicate, one_integer, found, reply, accounts, carried_out, answered, accounts_semantics}
 use Rattle.account_engine.specs.Again.{call_again}
 use Rattle.std.specs.Prelude.{pos, if◌then◌else◌}
 

@@ -1,11 +1,11 @@
 -- The first worked run: Put 1 10, and then Get 1.
-use Rattle.std.specs.Prelude.{ℕ, ℤ, pos, List, [], ◌∷◌, refl}
+use Rattle.std.specs.Prelude.{ℤ, pos, List, [], ◌∷◌, refl}
 use Rattle.volt_base.specs.declared.entry.Applied.{Applied}
 use Rattle.volt_value.specs.declared.value.Value.TheVariants.{Int}
 use Rattle.volt_wire.specs.declared.actor.Actor.TheVariants.{Director, Client, Agent, Site}
 use Rattle.volt_wire.specs.declared.event.Event.{Event}
 use Rattle.volt_wire.specs.declared.event.Event.TheVariants.{Deliver, Sync, Submit}
-use Rattle.volt_report.specs.Report.{RowLine, ReportEnd, Kept, CallLine, CopyLine, Report}
+use Rattle.volt_report.specs.Report.{ReportEnd, Kept, CallLine, CopyLine, Report}
 use Rattle.cluster_model.specs.World.{World, first_world}
 use Rattle.cluster_model.specs.Runs.{run}
 use Rattle.soundness.specs.Meaning.{Script}
