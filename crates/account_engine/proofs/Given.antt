@@ -1,5 +1,5 @@
 -- In every run from no rows the answers are such as the engine gives.
-use Rattle.std.proofs.Common.{◌≡◌, ℕ, ℤ, pos, Bool, true, false, cond, eqb, List, [], ◌∷◌, map, Option, Some, None, refl, ap, subst, sym, inl, inr, ◌∙◌}
+use Rattle.std.proofs.Common.{◌≡◌, ℕ, ℤ, pos, Bool, true, false, cond, eqb, List, [], ◌∷◌, Option, Some, None, refl, subst, sym, inl, inr, ◌∙◌}
 use Rattle.std.specs.Prelude.{is_some, if◌then◌else◌}
 use Rattle.std.specs.List.{AllByRecursion}
 use Rattle.std.specs.Map.{lookup}
@@ -14,7 +14,7 @@ use Rattle.soundness.specs.Meaning.{Script}
 use Rattle.soundness.specs.Sound.{call_at, next, reply_in}
 use Rattle.account_engine.specs.declared.call.AccountCall.{AccountCall}
 use Rattle.account_engine.specs.declared.call.AccountCall.TheVariants.{Put, Get}
-use Rattle.account_engine.specs.Calls.{is_value, is_valid, ValidCall, valid_calls}
+use Rattle.account_engine.specs.Calls.{is_value, is_valid, ValidCall}
 use Rattle.account_engine.specs.Answers.{is_given}
 use Rattle.account_engine.specs.Accounts.{Rows, balance_of, with_row, rows_after, duplicate, one_integer, found, reply, accounts}
 
@@ -80,7 +80,3 @@ is_given-from s rows (a ∷ later) call e old is =
 
 pub is_given-reply_in : (s : Script accounts) (list : List Applied) (call : ℕ) (e : ReportEnd) → reply_in accounts s (accounts.database []) list call ≡ Some e → is_given e ≡ true
 is_given-reply_in s list call e is = is_given-from s [] list call e tt is
-
-pub map-valid_calls : (calls : List AccountCall) (valid : AllByRecursion (λ c. is_valid c ≡ true) calls) → map (λ c. c.call) (valid_calls calls valid) ≡ calls
-map-valid_calls [] valid = refl
-map-valid_calls (c ∷ later) valid = ap (λ (cs : List AccountCall). c ∷ cs) (map-valid_calls later valid.1)

@@ -59,6 +59,7 @@ reply rows (Get id) = found (balance_of rows id)
 
 -- ---- rows as a report has them
 
+-- the table's name, and the line of a row and of each row
 abbrev pub table_name : List ℕ
 table_name = codes "acct"
 
@@ -68,11 +69,12 @@ row_line row = record { table = table_name; row = Int row.0 ∷ Int row.1 ∷ []
 abbrev pub row_lines : Rows → List RowLine
 row_lines rows = map row_line rows
 
--- the row of two integers is added if it is the table's, and any other is passed over
+-- a row of two integers is added, and any other is passed over
 abbrev pub with_values : Rows → List Value → Rows
 with_values rows (Int id ∷ Int balance ∷ []) = with_row rows id balance
 with_values rows _ = rows
 
+-- a line of another table is passed over
 abbrev pub with_line : Rows → RowLine → Rows
 with_line rows line = if bytes_eq line.table table_name then with_values rows line.row else rows
 
@@ -95,6 +97,7 @@ accounts = record {
 
 -- ---- the engine
 
+-- the rows, and the calls that were applied
 pub record AccountsState : Type 0 where
   pub rows : Rows
   pub applied : List Applied
@@ -104,15 +107,18 @@ abbrev pub carried_out : AccountsState → ℕ → ℕ → Option AccountCall �
 carried_out s call point None = s
 carried_out s call point (Some c) = record { rows = rows_after s.rows c; applied = s.applied ++ record { call = call; point = point } ∷ [] }
 
+-- the state after an entry: one that is no whole call changes nothing
 abbrev pub after : AccountsState → Entry → AccountsState
 after s (Sp call point body) = carried_out s call point (call_of body)
 after s (Frag m round body) = s
 after s (Done m outcome) = s
 
+-- the reply to a call
 abbrev pub answered : AccountsState → Option AccountCall → List ℕ
 answered s None = []
 answered s (Some c) = reply_bytes (reply s.rows c)
 
+-- what an entry answers: one that is no whole call has no reply
 abbrev pub answer : AccountsState → Entry → List ℕ
 answer s (Sp call point body) = answered s (call_of body)
 answer s (Frag m round body) = []
@@ -124,6 +130,7 @@ fits (Sp call point body) = is_some (call_of body)
 fits (Frag m round body) = false
 fits (Done m outcome) = false
 
+-- the engine, which opens with no rows
 abbrev pub accounts_semantics : Semantics
 accounts_semantics = record {
   State = AccountsState;

@@ -30,9 +30,11 @@ goes_on : {A : Type 0} (f : ℤ × List ℕ → Option A) (z : ℤ) (rest : List
 goes_on f z rest held =
     ap (λ (y : ℤ). if_value y rest >>= f) (integer_again z held) ∙ ap (λ (b : Bool). (if b then Some (z, rest) else None) >>= f) held
 
+-- a value is read from its bytes
 pub value_again : (z : ℤ) → is_value z ≡ true → value_at (value_bytes (Int z)) ≡ Some (z, [])
 value_again z held = ap (λ (y : ℤ). if_value y []) (integer_again z held) ∙ ap (λ (b : Bool). if b then Some (z, []) else None) held
 
+-- and a call from its body
 pub call_again : (c : AccountCall) → is_valid c ≡ true → call_of (body_bytes c) ≡ Some c
 call_again (Put id balance) valid =
     let parts = and_parts (is_value id) (is_value balance) valid in

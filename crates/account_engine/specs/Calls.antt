@@ -9,11 +9,12 @@ abbrev pub is_value : ℤ → Bool
 is_value (pos n) = nat_lt n (2 ^ 63)
 is_value (negsuc n) = nat_lt n (2 ^ 63 - 1)
 
--- a call whose integers are values
+-- whether a call's integers are values
 abbrev pub is_valid : AccountCall → Bool
 is_valid (Put id balance) = is_value id && is_value balance
 is_valid (Get id) = is_value id
 
+-- a call whose integers are values
 pub record ValidCall : Type 0 where
   pub call : AccountCall
   pub valid : is_valid call ≡ true

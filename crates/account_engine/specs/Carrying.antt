@@ -10,6 +10,7 @@ use Rattle.account_engine.specs.Accounts.{Rows, balance_of, duplicate, one_integ
 use Rattle.account_engine.specs.Again.{call_again}
 use Rattle.std.specs.Prelude.{pos, if◌then◌else◌}
 
+-- the balance or no row, and 1 or the fault, are answers
 is_answer-found : (o : Option ℤ) → is_answer (found o) ≡ true
 is_answer-found None = refl
 is_answer-found (Some balance) = refl
@@ -23,6 +24,7 @@ pub is_answer-reply : (rows : Rows) (c : AccountCall) → is_answer (reply rows 
 is_answer-reply rows (Put id balance) = is_answer-added (is_some (balance_of rows id))
 is_answer-reply rows (Get id) = is_answer-found (balance_of rows id)
 
+-- states stand for their rows, and calls and replies are spelled as the engine reads and writes them
 abbrev pub carried : Carries accounts_semantics accounts
 carried = record {
   body = λ c. body_bytes c.call;

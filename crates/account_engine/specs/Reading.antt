@@ -5,6 +5,7 @@ use Rattle.account_engine.specs.declared.call.AccountCall.{AccountCall}
 use Rattle.account_engine.specs.declared.call.AccountCall.TheVariants.{Put, Get}
 use Rattle.account_engine.specs.Calls.{is_value}
 
+-- the steps of reading, one after another: none gives a value behind one that gave none
 infixl 10 ◌>>=◌
 abbrev pub ◌>>=◌ : {A B : Type 0} → Option A → (A → Option B) → Option B
 o >>= f = option_and_then f o
@@ -26,6 +27,7 @@ value_at (kind ∷ bytes) = if kind == 1 then integer_at bytes else None
 abbrev pub if_ended : {A : Type 0} → List ℕ → A → Option A
 if_ended rest x = if length rest == 0 then Some x else None
 
+-- the call of Put with these values, and of Get
 abbrev pub put_of : List ℕ → Option AccountCall
 put_of values = do
   id ← value_at values
@@ -43,6 +45,7 @@ call_with procedure count values =
     if (procedure == 0) && (count == 2) then put_of values else
     if (procedure == 1) && (count == 1) then get_of values else None
 
+-- the call that a body spells, all of it
 abbrev pub call_of : List ℕ → Option AccountCall
 call_of (high ∷ low ∷ count ∷ values) = call_with (from_be_bytes w16 (high ∷ low ∷ [])) count values
 call_of _ = None

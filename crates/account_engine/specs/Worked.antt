@@ -15,6 +15,7 @@ use Rattle.account_engine.specs.Calls.{ValidCall}
 use Rattle.account_engine.specs.Accounts.{Rows, accounts, accounts_semantics}
 use Rattle.account_engine.specs.Carrying.{carried}
 
+-- the calls
 abbrev pub put_1_10 : ValidCall
 put_1_10 = record { call = Put (pos 1) (pos 10); valid = refl }
 
@@ -24,12 +25,14 @@ get_1 = record { call = Get (pos 1); valid = refl }
 abbrev pub get_2 : ValidCall
 get_2 = record { call = Get (pos 2); valid = refl }
 
+-- those of the run, and four that are worked without one
 abbrev pub calls : List ValidCall
 calls = put_1_10 ∷ get_1 ∷ []
 
 abbrev pub four_calls : List ValidCall
 four_calls = put_1_10 ∷ put_1_10 ∷ get_1 ∷ get_2 ∷ []
 
+-- what the run is asked to do
 abbrev pub asked : Script accounts
 asked = script accounts calls
 
@@ -58,6 +61,7 @@ abbrev pub replies : Rows → List ValidCall → List ReportEnd
 replies rows [] = []
 replies rows (c ∷ later) = accounts.reply rows c ∷ replies (accounts.after rows c) later
 
+-- the line of the first call
 abbrev pub put_line : CallLine
 put_line = record { call = 1; client = 1; submitted = 1; ended = 7; end = gives (pos 1) }
 
@@ -65,16 +69,18 @@ put_line = record { call = 1; client = 1; submitted = 1; ended = 7; end = gives 
 abbrev pub get_line : ℤ → CallLine
 get_line balance = record { call = 2; client = 1; submitted = 8; ended = 14; end = gives balance }
 
+-- the calls with their points
 abbrev pub put_point : Applied
 put_point = record { call = 1; point = 4 }
 
 abbrev pub get_point : Applied
 get_point = record { call = 2; point = 11 }
 
+-- the one copy, with the row (1, 10) of acct
 abbrev pub copy : CopyLine
 copy = record { slot = 0; position = 2; rows = record { table = 97 ∷ 99 ∷ 99 ∷ 116 ∷ []; row = Int (pos 1) ∷ Int (pos 10) ∷ [] } ∷ [] }
 
--- the report of these lines
+-- the report in which Get answers this balance, with this serial list
 abbrev pub report_of : ℤ → List Applied → Report
 report_of balance serial =
     record {
@@ -86,6 +92,7 @@ report_of balance serial =
       trace = trace;
     }
 
+-- the report of the run
 abbrev pub report : Report
 report = report_of (pos 10) (put_point ∷ get_point ∷ [])
 

@@ -4,11 +4,11 @@
 ghost use Rattle.std.specs.Prelude.{◌≡◌, ◌++◌, [], ◌∷◌, pos, map, codes};
 ghost use Rattle.volt_report.specs.Report.{Kept, Fault};
 ghost use Rattle.volt_report.specs.Spelling.{spelling};
-ghost use Rattle.cluster_model.specs.Runs.{IsRun, TakesFirst, enabled, serial, ended, copies};
+ghost use Rattle.cluster_model.specs.Runs.{IsRun, TakesFirst, enabled, serial};
 ghost use Rattle.soundness.specs.Sound.{Sound};
 ghost use Rattle.soundness.specs.Tied.{Shows};
 ghost use Rattle.account_engine.specs.Spelling.{body_bytes, reply_bytes};
-ghost use Rattle.account_engine.specs.Accounts.{accounts, accounts_semantics, reply, rows_after};
+ghost use Rattle.account_engine.specs.Accounts.{accounts, accounts_semantics};
 ghost use Rattle.account_engine.specs.Worked as worked;
 
 /// The body of `Put 1 10`: procedure 0, two values, 1 and 10.
