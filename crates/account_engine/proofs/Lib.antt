@@ -1,0 +1,4 @@
+pub mod Spells
+pub mod Prints
+pub mod Given
+pub mod Valid

@@ -1,0 +1,8 @@
+pub mod Calls
+pub mod Spelling
+pub mod Reading
+pub mod Again
+pub mod Accounts
+pub mod Answers
+pub mod Carrying
+pub mod Worked

@@ -1,0 +1,39 @@
+-- How calls and replies are spelled.
+use Rattle.std.specs.Prelude.{ℕ, List, [], ◌∷◌, ◌++◌, length}
+use Rattle.std.specs.Int.{w16, w32, w64, to_be_bytes, cast_unsigned}
+use Rattle.std.specs.List.{flat_map}
+use Rattle.volt_value.specs.declared.value.Value.{Value}
+use Rattle.volt_value.specs.declared.value.Value.TheVariants as value
+use Rattle.volt_report.specs.Report.{ReportEnd, Kept, User, Fault, Statements, Steps, Unknown, Lost, Down}
+use Rattle.account_engine.specs.declared.call.AccountCall.{AccountCall}
+use Rattle.account_engine.specs.declared.call.AccountCall.TheVariants.{Put, Get}
+
+-- a value: what it is, and then an integer's two's complement, the highest byte first, or a text's length and bytes
+abbrev pub value_bytes : Value → List ℕ
+value_bytes value.Null = 0 ∷ []
+value_bytes (value.Int z) = 1 ∷ to_be_bytes w64 (cast_unsigned w64 z)
+value_bytes (value.Text t) = 2 ∷ to_be_bytes w32 (length t) ++ t
+
+-- the number of a procedure and of its values
+abbrev pub head : ℕ → ℕ → List ℕ
+head procedure count = to_be_bytes w16 procedure ++ count ∷ []
+
+-- The body of a call. Procedures are numbered in their order in the catalog.
+abbrev pub body_bytes : AccountCall → List ℕ
+body_bytes (Put id balance) = head 0 2 ++ value_bytes (value.Int id) ++ value_bytes (value.Int balance)
+body_bytes (Get id) = head 1 1 ++ value_bytes (value.Int id)
+
+-- a row: how many values it has, and these
+abbrev pub row_bytes : List Value → List ℕ
+row_bytes row = length row ∷ flat_map value_bytes row
+
+-- A reply. An end that is no answer has none.
+abbrev pub reply_bytes : ReportEnd → List ℕ
+reply_bytes (Kept rows) = 0 ∷ to_be_bytes w32 (length rows) ++ flat_map row_bytes rows
+reply_bytes (User text) = 1 ∷ value_bytes (value.Text text)
+reply_bytes (Fault code) = 2 ∷ code ∷ []
+reply_bytes Statements = 3 ∷ []
+reply_bytes Steps = 4 ∷ []
+reply_bytes (Unknown start term) = []
+reply_bytes Lost = []
+reply_bytes (Down part) = []

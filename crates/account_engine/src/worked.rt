@@ -1,0 +1,62 @@
+//! Worked rows, by evaluation of the definitions. These functions do nothing: what is worked is in
+//! their clauses.
+
+ghost use Rattle.std.specs.Prelude.{◌≡◌, ◌++◌, [], ◌∷◌, pos, map, codes};
+ghost use Rattle.volt_report.specs.Report.{Kept, Fault};
+ghost use Rattle.volt_report.specs.Spelling.{spelling};
+ghost use Rattle.cluster_model.specs.Runs.{IsRun, TakesFirst, enabled, serial};
+ghost use Rattle.soundness.specs.Sound.{Sound};
+ghost use Rattle.soundness.specs.Tied.{Shows};
+ghost use Rattle.account_engine.specs.Spelling.{body_bytes, reply_bytes};
+ghost use Rattle.account_engine.specs.Accounts.{accounts, accounts_semantics};
+ghost use Rattle.account_engine.specs.Worked as worked;
+
+/// The body of `Put 1 10`: procedure 0, two values, 1 and 10.
+pub fn put_has_this_body()
+    ensures { body_bytes worked.put_1_10.call
+        ≡ 0 ∷ 0 ∷ 2 ∷ 1 ∷ 0 ∷ 0 ∷ 0 ∷ 0 ∷ 0 ∷ 0 ∷ 0 ∷ 1 ∷ 1 ∷ 0 ∷ 0 ∷ 0 ∷ 0 ∷ 0 ∷ 0 ∷ 0 ∷ 10 ∷ [] }
+{}
+
+/// `Put 1 10`, the same again, `Get 1` and `Get 2` answer 1, the fault Duplicate, 10, and no row.
+pub fn four_calls_answer_so()
+    ensures ends { worked.replies [] worked.four_calls
+        ≡ worked.gives (pos 1) ∷ Fault 7 ∷ worked.gives (pos 10) ∷ Kept [] ∷ [] }
+    ensures bytes { map reply_bytes (worked.replies [] worked.four_calls)
+        ≡ (0 ∷ 0 ∷ 0 ∷ 0 ∷ 1 ∷ 1 ∷ 1 ∷ 0 ∷ 0 ∷ 0 ∷ 0 ∷ 0 ∷ 0 ∷ 0 ∷ 1 ∷ [])
+        ∷ (2 ∷ 7 ∷ [])
+        ∷ (0 ∷ 0 ∷ 0 ∷ 0 ∷ 1 ∷ 1 ∷ 1 ∷ 0 ∷ 0 ∷ 0 ∷ 0 ∷ 0 ∷ 0 ∷ 0 ∷ 10 ∷ [])
+        ∷ (0 ∷ 0 ∷ 0 ∷ 0 ∷ 0 ∷ []) ∷ [] }
+{}
+
+/// The run of `Put 1 10` and `Get 1`: each event may happen and is the first that may, none may at
+/// the end, and the report shows the last world.
+pub fn first_run_is_this()
+    ensures may { IsRun accounts_semantics worked.trace worked.start }
+    ensures first { TakesFirst accounts_semantics worked.trace worked.start }
+    ensures quiet { enabled worked.last ≡ [] }
+    ensures serial { serial accounts_semantics worked.last
+        ≡ worked.put_point ∷ worked.get_point ∷ [] }
+    ensures shows { Shows accounts_semantics reply_bytes worked.last worked.report }
+{}
+
+/// Its report is sound.
+pub fn first_report_is_sound()
+    ensures { Sound accounts worked.asked worked.report }
+{}
+
+/// These are the bytes of that report.
+pub fn first_report_is_spelled_so()
+    ensures { spelling worked.report
+        ≡ codes "volt 1\nopening 0\ncalls 2\n1 1 1 7 ok 1\n 1\n2 1 8 14 ok 1\n 10\nserial 2\n4 1\n11 2\ncopies 1\ncopy 0 2 1\n acct 1 10\nlooks 0\ntrace 14\n"
+        ++ codes "submit c1\ndeliver d c1\ndeliver h0 c1\ndeliver s0 h0\nsync s0\ndeliver h0 s0\ndeliver c1 h0\n"
+        ++ codes "submit c1\ndeliver d c1\ndeliver h0 c1\ndeliver s0 h0\nsync s0\ndeliver h0 s0\ndeliver c1 h0\n"
+        ++ codes "end\n" }
+{}
+
+/// A report isn't sound if it has another reply than Get's, lacks the point of Get, or has the two
+/// points the other way round.
+pub fn wrong_reports_are_not_sound()
+    ensures other_reply { Sound accounts worked.asked worked.other_reply → ⊥ }
+    ensures lacks_a_call { Sound accounts worked.asked worked.lacks_a_call → ⊥ }
+    ensures exchanged { Sound accounts worked.asked worked.exchanged → ⊥ }
+{}
