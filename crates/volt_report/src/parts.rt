@@ -1,12 +1,11 @@
 //! The parts of which the lines of a report are made.
 
-ghost use Rattle.std.specs.Prelude.{◌≡◌, [], ◌∷◌, ◌++◌, codes, decimal, OnOk};
-ghost use Rattle.volt_wire.specs.declared.actor.Actor.{Actor};
+ghost use Rattle.std.specs.Prelude.{◌≡◌, [], ◌∷◌, ◌++◌, decimal, OnOk};
 ghost use Rattle.volt_report.specs.Spelling.{then_number, actor_text, event_text, event_line, applied_line};
 
 use itoa::Buffer;
 use std::alloc::AllocError;
-use volt_base::{Applied, ClientNo, SlotNo};
+use volt_base::Applied;
 use volt_wire::{Actor, Event};
 
 /// A byte.

@@ -32,7 +32,7 @@ pub fn print_head(into: &mut Vec<u8>, word: &[u8], count: usize) -> Result<(), A
     put_byte(into, b'\n')
 }
 
-// A number behind another.
+// The numbers of a call and of its client.
 fn put_call_and_client(into: &mut Vec<u8>, call: CallNo, client: ClientNo) -> Result<(), AllocError>
     ensures { OnOk result (into.new.items
         ≡ into.old.items ++ decimal call ++ then_number client) }
