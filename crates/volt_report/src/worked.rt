@@ -1,0 +1,34 @@
+//! What the lines of a small report are: the definitions of the spelling, at values written out.
+
+ghost use Rattle.std.specs.Prelude.{◌≡◌, ◌++◌, codes};
+ghost use Rattle.volt_report.specs.Spelling.{section, call_text, spelling};
+ghost use Rattle.volt_report.specs.Worked.{ended_calls, faulted_calls, worked};
+
+/// The line of a call for each kind of end, with the rows that it answered.
+pub fn worked_ends()
+    ensures { section (codes "calls") call_text ended_calls ≡
+        codes "calls 8\n1 2 3 21 ok 2\n NULL -5\n 10 'it''s'\n2 2 3 21 ok 0\n"
+        ++ codes "3 2 3 21 abort user 'that''s all'\n4 2 3 21 abort Statements\n"
+        ++ codes "5 2 3 21 abort Steps\n6 2 3 21 unknown 7 12\n8 2 3 21 lost\n"
+        ++ codes "9 2 3 21 down 0\n" }
+{}
+
+/// The line of a call for each fault.
+pub fn worked_faults()
+    ensures { section (codes "calls") call_text faulted_calls ≡
+        codes "calls 8\n1 2 3 21 abort fault Overflow\n2 2 3 21 abort fault DivideByZero\n"
+        ++ codes "3 2 3 21 abort fault NullInColumn\n4 2 3 21 abort fault OutOfRange\n"
+        ++ codes "5 2 3 21 abort fault TooLong\n6 2 3 21 abort fault WrongPartition\n"
+        ++ codes "7 2 3 21 abort fault Duplicate\n8 2 3 21 abort fault TooManyRows\n" }
+{}
+
+/// A whole report.
+pub fn worked_report()
+    ensures { spelling worked ≡
+        codes "volt 1\nopening 1\n NOTES 10 'it''s'\n"
+        ++ codes "calls 1\n1 2 3 21 abort fault DivideByZero\n"
+        ++ codes "serial 2\n14 12\n203 1\n"
+        ++ codes "copies 1\ncopy 1 4 1\n NOTES NULL -5\n"
+        ++ codes "looks 1\nlook 1 4 1\n NOTES NULL -5\n"
+        ++ codes "trace 4\nsubmit c1\ndeliver h0 c1\ndeliver d s13\nsync s0\nend\n" }
+{}
