@@ -1,0 +1,30 @@
+-- The calls of a script, as the engine has them.
+use Rattle.std.specs.Prelude.{◌≡◌, ◌≤◌, List, length, map}
+use Rattle.volt_form.specs.declared.call.ScriptCall.{ScriptCall}
+use Rattle.volt_form.specs.declared.call.ScriptCall.TheVariants as script
+use Rattle.volt_form.specs.Form.{most_calls}
+use Rattle.volt_wire.specs.declared.input.WorldCall.{WorldCall}
+use Rattle.cluster_model.specs.World.{World, first_world}
+use Rattle.soundness.specs.Carries.{world_calls}
+use Rattle.account_engine.specs.declared.call.AccountCall.{AccountCall}
+use Rattle.account_engine.specs.declared.call.AccountCall.TheVariants as account
+use Rattle.account_engine.specs.Calls.{ValidCall}
+use Rattle.account_engine.specs.Accounts.{accounts}
+use Rattle.account_engine.specs.Carrying.{carried}
+
+-- what the script says of a call
+abbrev pub written : AccountCall → ScriptCall
+written (account.Put id balance) = script.Put id balance
+written (account.Get id) = script.Get id
+
+-- The script has these calls, each of them valid, and not too many.
+pub record Asks (script : List ScriptCall) (calls : List ValidCall) : Type 0 where
+  pub same : script ≡ map (λ c. written c.call) calls
+  pub few : length calls ≤ most_calls
+
+-- what the world is given for them, and the world before the first event
+abbrev pub given : List ValidCall → List WorldCall
+given calls = world_calls accounts carried.body calls
+
+abbrev pub start : List ValidCall → World
+start calls = first_world (given calls)

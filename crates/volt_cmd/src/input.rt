@@ -1,0 +1,1 @@
+//! From the bytes that are read to what the world is given.

@@ -1,0 +1,6 @@
+//! The top call of the product.
+#![tactic(auto)]
+
+mod input;
+mod printing;
+mod run;

@@ -1,0 +1,1 @@
+//! A run of the world by the schedule `first`, until it is quiet.
