@@ -1,5 +1,5 @@
 -- Each row of the accounts prints as one line.
-use Rattle.std.proofs.Common.{◌≡◌, ℕ, zero, suc, ◌+◌, ◌/◌, ◌%◌, ◌==◌, ℤ, pos, negsuc, Bool, true, false, cond, List, [], ◌∷◌, ◌++◌, length, refl, ap, ◌∙◌, arith}
+use Rattle.std.proofs.Common.{◌≡◌, ℕ, zero, suc, ◌+◌, ◌/◌, ◌%◌, ◌==◌, ℤ, pos, negsuc, Bool, true, false, cond, List, [], ◌∷◌, ◌++◌, length, refl, ap, ◌∙◌, zero-add, arith}
 use Rattle.std.specs.Prelude.{count_by, decimal, nat_lt}
 use Rattle.std.specs.List.{flat_map}
 use Rattle.std.specs.Fmt.{signed_decimal, digits, digits_onto, digit_glyph}
@@ -13,18 +13,20 @@ use Rattle.volt_cmd.specs.Prints.{AreLines}
 abbrev is_end : ℕ → Bool
 is_end b = b == 10
 
+abbrev one_if_end : ℕ → ℕ
+one_if_end b = cond (is_end b) 1 0
+
 abbrev ends : List ℕ → ℕ
 ends text = count_by is_end text
 
 ends-append : (s t : List ℕ) → ends (s ++ t) ≡ ends s + ends t
-ends-append s t = sum_by-append (λ (b : ℕ). cond (is_end b) 1 0) s t
+ends-append s t = sum_by-append one_if_end s t
 
 -- a byte that ends none
 ends-cons : (b : ℕ) (text : List ℕ) → is_end b ≡ false → ends (b ∷ text) ≡ ends text
 ends-cons b text none =
-    let whole : ends (b ∷ text) ≡ cond (is_end b) 1 0 + ends text = sum_by-cons (λ (x : ℕ). cond (is_end x) 1 0) b text in
-    let zero_here : cond (is_end b) 1 0 ≡ 0 = ap (λ (t : Bool). cond t 1 0) none in
-    omega arith
+    let here : one_if_end b ≡ 0 = ap (λ (t : Bool). let n : ℕ = cond t 1 0 in n) none in
+    sum_by-cons one_if_end b text ∙ ap (λ (n : ℕ). n + ends text) here ∙ zero-add (ends text)
 
 -- no digit ends one
 is_end-glyph : (small : Bool) (d : ℕ) → is_end (cond small (48 + d) (87 + d)) ≡ false
