@@ -2,3 +2,4 @@ pub mod Script
 pub mod Prints
 pub mod Headline
 pub mod Reached
+pub mod Status

@@ -4,3 +4,8 @@
 mod input;
 mod printing;
 mod run;
+mod status;
+mod top;
+
+pub use status::Status;
+pub use top::volt;
