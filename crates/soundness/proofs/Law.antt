@@ -1,9 +1,9 @@
 -- Runs that end quiet have sound reports, and runs are short.
-use Rattle.std.proofs.Common.{◌≡◌, ℕ, ◌+◌, ◌*◌, ◌==◌, ◌≤◌, nat_lt, true, false, List, [], ◌∷◌, ◌++◌, length, map, None, refl, sym, ap, ap₂, subst, ◌∙◌, append-nil, arith}
+use Rattle.std.proofs.Common.{◌≡◌, ℕ, ◌+◌, ◌*◌, ◌==◌, ◌≤◌, nat_lt, true, false, List, [], ◌∷◌, ◌++◌, length, map, None, refl, sym, ap, ap₂, subst, ◌∙◌, append-nil, append_assoc, arith}
 use Rattle.std.proofs.lemmas.List.{length-append, length_push, length-map}
 use Rattle.std.proofs.lemmas.Bool.{false≢true, lt-ltb}
 use Rattle.std.proofs.lemmas.Bool.Decides.{nat_tests}
-use Rattle.std.specs.List.{range_with_len, flat_map}
+use Rattle.std.specs.List.{range_with_len, flat_map, AllByRecursion}
 use Rattle.volt_base.specs.Semantics.{Semantics}
 use Rattle.volt_base.specs.declared.entry.Entry.{Entry}
 use Rattle.volt_wire.specs.declared.message.Msg.{Msg}
@@ -19,11 +19,11 @@ use Rattle.cluster_model.specs.Site.{owes, replay, tables}
 use Rattle.cluster_model.specs.World.{World, step, due, is_some_message, received, delivered, happens}
 use Rattle.cluster_model.specs.Runs.{run, IsRun, IsQuiet}
 use Rattle.soundness.specs.Meaning.{Meaning}
-use Rattle.soundness.specs.Sound.{Sound}
+use Rattle.soundness.specs.Sound.{Sound, is_answer}
 use Rattle.soundness.specs.Tied.{Shows}
 use Rattle.soundness.specs.Carries.{Carries, world_calls, script}
-use Rattle.soundness.specs.Law.{start_of}
-use Rattle.soundness.proofs.Past.{Past, calls_of, applied_from, database_of, entries_from, report_of, length-applied_from, database_after_log, applied_after_log}
+use Rattle.soundness.specs.Law.{start_of, Reported}
+use Rattle.soundness.proofs.Past.{Past, calls_of, applied_from, database_of, entries_from, lines_from, report_of, length-applied_from, database_after_log, applied_after_log}
 use Rattle.soundness.proofs.Explained.{report_is_sound, lines_numbered}
 use Rattle.soundness.proofs.Phases.{Phase, Idle, Called, Sent, Logged, Replied, Answered, Stands, Good}
 use Rattle.soundness.proofs.Steps.{Good-step}
@@ -129,19 +129,38 @@ quiet_is_idle S M h calls w past n (Answered c s p) left told quiet st = absurd 
 pub run_is_good : (S : Semantics) (M : Meaning) (h : Carries S M) (calls : List M.Call) (es : List Event) → IsRun S es (start_of S M h calls) → Good S M h calls (run S es (start_of S M h calls))
 run_is_good S M h calls es is_run = Good-run S M h calls es (start_of S M h calls) (Good-start S M h calls) is_run
 
+-- each line is an answer
+lines_answered : (S : Semantics) (M : Meaning) (h : Carries S M) (n : ℕ) (d : M.Database) (past : List (Past M.Call)) → AllByRecursion (λ line. is_answer line.end ≡ true) (lines_from M n d past)
+lines_answered S M h n d [] = tt
+lines_answered S M h n d (p ∷ past) = (h.is_answer d p.call, lines_answered S M h (n + 1) (M.after d p.call) past)
+
 -- the law of quiet runs
-pub quiet_is_sound : (S : Semantics) (M : Meaning) (h : Carries S M) (calls : List M.Call) (es : List Event) → IsRun S es (start_of S M h calls) → IsQuiet (run S es (start_of S M h calls)) → (r : Report) × Shows S h.reply_bytes (run S es (start_of S M h calls)) r × Sound M (script M calls) r × (map (λ line. line.call) r.calls ≡ range_with_len 1 (length calls))
+pub quiet_is_sound : (S : Semantics) (M : Meaning) (h : Carries S M) (calls : List M.Call) (es : List Event) → IsRun S es (start_of S M h calls) → IsQuiet (run S es (start_of S M h calls)) → Reported S M h calls (run S es (start_of S M h calls))
 quiet_is_sound S M h calls es is_run quiet =
     let w = run S es (start_of S M h calls) in
     let g = run_is_good S M h calls es is_run in
     let past = g.0 in
     let st = quiet_is_idle S M h calls w past g.1 g.2 g.3 g.4 quiet g.5 in
-    let e : calls_of past ≡ calls = sym (append-nil (calls_of past)) ∙ st.all in (
-      report_of M past w.trace,
-      shows_past S M h calls w past g.1 g.4 st,
-      subst (λ x. Sound M (script M x) (report_of M past w.trace)) e (report_is_sound M past (length w.trace) w.trace h.one_part h.all_calls st.timed),
-      lines_numbered M 1 (M.database []) past ∙ ap (range_with_len 1) (sym (length-map past (λ p. p.call)) ∙ ap length e),
-    )
+    let e : calls_of past ≡ calls = sym (append-nil (calls_of past)) ∙ st.all in
+    record {
+      report = report_of M past w.trace;
+      shows = shows_past S M h calls w past g.1 g.4 st;
+      sound = subst (λ x. Sound M (script M x) (report_of M past w.trace)) e (report_is_sound M past (length w.trace) w.trace h.one_part h.all_calls st.timed);
+      every_call = lines_numbered M 1 (M.database []) past ∙ ap (range_with_len 1) (sym (length-map past (λ p. p.call)) ∙ ap length e);
+      answered = lines_answered S M h 1 (M.database []) past;
+    }
+
+-- a run notes its events in their order
+trace-run : (S : Semantics) (es : List Event) (w : World) → (run S es w).trace ≡ w.trace ++ es
+trace-run S [] w = sym (append-nil w.trace)
+trace-run S (e ∷ es) w =
+    trace-run S es (step S w e)
+    ∙ ap (λ (t : List Event). (t ++ e ∷ []) ++ es) (trace-happens S (length w.trace + 1) w e)
+    ∙ append_assoc w.trace (e ∷ []) es
+
+-- the law of traces
+pub run_is_noted : (S : Semantics) (M : Meaning) (h : Carries S M) (calls : List M.Call) (es : List Event) → (run S es (start_of S M h calls)).trace ≡ es
+run_is_noted S M h calls es = trace-run S es (start_of S M h calls)
 
 -- the law of short runs
 pub run_is_short : (S : Semantics) (M : Meaning) (h : Carries S M) (calls : List M.Call) (es : List Event) → IsRun S es (start_of S M h calls) → length es ≤ 7 * length calls

@@ -13,7 +13,7 @@ ghost use Rattle.soundness.specs.Meaning.{Meaning};
 ghost use Rattle.soundness.specs.Sound.{Sound};
 ghost use Rattle.soundness.specs.Tied.{Shows};
 ghost use Rattle.soundness.specs.Carries.{Carries, script};
-ghost use Rattle.soundness.specs.Law.{start_of};
+ghost use Rattle.soundness.specs.Law.{start_of, Reported};
 
 /// A meaning of calls, and an engine that carries it out.
 pub trait Carried {
@@ -33,10 +33,8 @@ pub fn quiet_runs_are_sound<C: Carried>()
     ensures { (calls : List C.meaning.Call) (es : List Event)
         → IsRun C.semantics es (start_of C.semantics C.meaning C.carries calls)
         → IsQuiet (run C.semantics es (start_of C.semantics C.meaning C.carries calls))
-        → (r : Report)
-        × Shows C.semantics C.carries.reply_bytes (run C.semantics es (start_of C.semantics C.meaning C.carries calls)) r
-        × Sound C.meaning (script C.meaning calls) r
-        × (map (λ line. line.call) r.calls ≡ range_with_len 1 (length calls)) }
+        → Reported C.semantics C.meaning C.carries calls
+            (run C.semantics es (start_of C.semantics C.meaning C.carries calls)) }
 {}
 
 /// A run has at most seven events for each call.
@@ -44,6 +42,12 @@ pub fn runs_are_short<C: Carried>()
     ensures { (calls : List C.meaning.Call) (es : List Event)
         → IsRun C.semantics es (start_of C.semantics C.meaning C.carries calls)
         → length es ≤ 7 * length calls }
+{}
+
+/// The trace of a run is its events.
+pub fn runs_are_noted<C: Carried>()
+    ensures { (calls : List C.meaning.Call) (es : List Event)
+        → (run C.semantics es (start_of C.semantics C.meaning C.carries calls)).trace ≡ es }
 {}
 
 /// In a run only events of the one client, the one agent and the one site may happen.
@@ -73,7 +77,7 @@ pub fn runs_serve<C: Carried>()
 mod tests {
     use crate::{
         Carried, events_are_of_them, quiet_runs_are_sound, quiet_where_nothing_is_enabled,
-        runs_are_short, runs_serve,
+        runs_are_noted, runs_are_short, runs_serve,
     };
 
     struct Adding;
@@ -92,6 +96,7 @@ mod tests {
     fn the_laws_hold_of_an_engine_that_adds() {
         quiet_runs_are_sound::<Adding>();
         runs_are_short::<Adding>();
+        runs_are_noted::<Adding>();
         events_are_of_them::<Adding>();
         quiet_where_nothing_is_enabled::<Adding>();
         runs_serve::<Adding>();

@@ -1,3 +1,4 @@
 pub mod Script
 pub mod Prints
 pub mod Headline
+pub mod Reached
