@@ -34,7 +34,7 @@ pub fn quiet_runs_are_sound<C: Carried>()
         → IsRun C.semantics es (start_of C.semantics C.meaning C.carries calls)
         → IsQuiet (run C.semantics es (start_of C.semantics C.meaning C.carries calls))
         → Reported C.semantics C.meaning C.carries calls
-            (run C.semantics es (start_of C.semantics C.meaning C.carries calls)) }
+        (run C.semantics es (start_of C.semantics C.meaning C.carries calls)) }
 {}
 
 /// A run has at most seven events for each call.

@@ -1,3 +1,4 @@
 pub mod RunLemmas
 pub mod PrintLemmas
 pub mod AccountLines
+pub mod InputLemmas

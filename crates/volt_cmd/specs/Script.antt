@@ -22,6 +22,10 @@ pub record Asks (script : List ScriptCall) (calls : List ValidCall) : Type 0 whe
   pub same : script ≡ map (λ c. written c.call) calls
   pub few : length calls ≤ most_calls
 
+-- some valid calls are those of the script
+abbrev pub IsAsked : List ScriptCall → Type 0
+IsAsked script = (calls : List ValidCall) × Asks script calls
+
 -- what the world is given for them, and the world before the first event
 abbrev pub given : List ValidCall → List WorldCall
 given calls = world_calls accounts carried.body calls
