@@ -7,7 +7,7 @@ use Rattle.cluster_model.specs.World.{due}
 
 -- the first of the calls that are left is the next one
 pub due_next : (calls : List WorldCall) (i number : ℕ) (call : WorldCall) → i < length calls → call ≡ get_or calls i call → call.client ≡ 1
-  → due 1 number (drop i calls) ≡ record { body = call.body; call = number; part = call.part } ∷ due 1 (number + 1) (drop (i + 1) calls)
+    → due 1 number (drop i calls) ≡ record { body = call.body; call = number; part = call.part } ∷ due 1 (number + 1) (drop (i + 1) calls)
 due_next calls i number call lt is one = rw (add-one i, drop-cons calls i call, ← is, one) refl
 
 -- none is left behind the last one

@@ -35,13 +35,14 @@ or_true false b e = e
 
 -- what holds of each route that is among all holds of each of them
 each_among : (Q : Route → Type 0) (ks : List Route) (all : List Route)
-  → ((q : Route) → among q ks ≡ true → among q all ≡ true)
-  → ((q : Route) → among q all ≡ true → Q q)
-  → AllByRecursion Q ks
+    → ((q : Route) → among q ks ≡ true → among q all ≡ true)
+    → ((q : Route) → among q all ≡ true → Q q)
+    → AllByRecursion Q ks
 each_among Q [] all more h = tt
 each_among Q (k ∷ ks) all more h = (
   h k (more k (ap (λ (b : Bool). (b && same k.from k.from) || among k ks) (same-refl k.to) ∙ ap (λ (b : Bool). b || among k ks) (same-refl k.from))),
-  each_among Q ks all (λ q e. more q (or_true (same q.to k.to && same q.from k.from) (among q ks) e)) h)
+  each_among Q ks all (λ q e. more q (or_true (same q.to k.to && same q.from k.from) (among q ks) e)) h,
+)
 
 by_tests : (a b : Bool) → cond a (Sync 0 ∷ cond b (Submit 1 ∷ []) []) (cond b (Submit 1 ∷ []) []) ≡ if_it_may a (Sync 0) ++ if_it_may b (Submit 1)
 by_tests true true = refl

@@ -13,8 +13,8 @@ use crate::client::Client;
 use crate::director::Director;
 use crate::outbox::Outbox;
 use crate::site::Site;
-use std::alloc::{AllocError, Global};
 use cluster_model::CopyRows;
+use std::alloc::{AllocError, Global};
 use volt_base::{Applied, Engine, MakeEngine, Stamp};
 use volt_wire::{Actor, Ended, Event, WorldInput};
 

@@ -17,7 +17,7 @@ pub returns-then-owes : goal.returns-then-owes
 returns-then-owes g c = λ w h alone.
     let code = c.args.self.now in
     let owes : true ≡ can w (Sync 0) =
-        sym c.if-owes.true ∙ c.owes.ensures (w.sites 0) (subst (λ (n : ℕ). StandsForSite g.M.E.Engine.meaning n code.site.log (g.M.E.Engine.state code.site.engine) (w.sites 0)) (sym h.slot) h.site) in
+    sym c.if-owes.true ∙ c.owes.ensures (w.sites 0) (subst (λ (n : ℕ). StandsForSite g.M.E.Engine.meaning n code.site.log (g.M.E.Engine.state code.site.engine) (w.sites 0)) (sym h.slot) h.site) in
     ap (λ (o : Option Route). first_of o true (can w (Submit 1))) (sym c.in_default.is ∙ c.first.ensures.first)
     ∙ sym (first_listed code.channels w h.channels c.first.ensures.ordered c.first.ensures.full alone true (can w (Submit 1)) owes refl)
 
@@ -25,7 +25,7 @@ pub returns-then-may_submit : goal.returns-then-may_submit
 returns-then-may_submit g c = λ w h alone.
     let code = c.args.self.now in
     let owes : false ≡ can w (Sync 0) =
-        sym c.if-owes.false ∙ c.owes.ensures (w.sites 0) (subst (λ (n : ℕ). StandsForSite g.M.E.Engine.meaning n code.site.log (g.M.E.Engine.state code.site.engine) (w.sites 0)) (sym h.slot) h.site) in
+    sym c.if-owes.false ∙ c.owes.ensures (w.sites 0) (subst (λ (n : ℕ). StandsForSite g.M.E.Engine.meaning n code.site.log (g.M.E.Engine.state code.site.engine) (w.sites 0)) (sym h.slot) h.site) in
     let may : true ≡ can w (Submit 1) = sym c.if-may_submit.true ∙ c.may_submit.ensures ∙ ap (λ (x : ClientState). may_submit x.left x.pending) h.client in
     ap (λ (o : Option Route). first_of o false true) (sym c.in_default.is ∙ c.first.ensures.first)
     ∙ sym (first_listed code.channels w h.channels c.first.ensures.ordered c.first.ensures.full alone false true owes may)
@@ -34,7 +34,7 @@ pub returns : goal.returns
 returns g c = λ w h alone.
     let code = c.args.self.now in
     let owes : false ≡ can w (Sync 0) =
-        sym c.if-owes.false ∙ c.owes.ensures (w.sites 0) (subst (λ (n : ℕ). StandsForSite g.M.E.Engine.meaning n code.site.log (g.M.E.Engine.state code.site.engine) (w.sites 0)) (sym h.slot) h.site) in
+    sym c.if-owes.false ∙ c.owes.ensures (w.sites 0) (subst (λ (n : ℕ). StandsForSite g.M.E.Engine.meaning n code.site.log (g.M.E.Engine.state code.site.engine) (w.sites 0)) (sym h.slot) h.site) in
     let may : false ≡ can w (Submit 1) = sym c.if-may_submit.false ∙ c.may_submit.ensures ∙ ap (λ (x : ClientState). may_submit x.left x.pending) h.client in
     ap (λ (o : Option Route). first_of o false false) (sym c.in_default.is ∙ c.first.ensures.first)
     ∙ sym (first_listed code.channels w h.channels c.first.ensures.ordered c.first.ensures.full alone false false owes may)
