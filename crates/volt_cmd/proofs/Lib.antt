@@ -2,3 +2,4 @@ pub mod RunLemmas
 pub mod PrintLemmas
 pub mod AccountLines
 pub mod InputLemmas
+pub mod ExplainLemmas

@@ -1,6 +1,6 @@
 //! The top call.
 
-ghost use Rattle.std.specs.Prelude.{◌≡◌, ◌↔◌, ℕ, true, false, List, map, Some, None, string_bytes, OnOk, OnErr, IfOk, IfErr, IfSome};
+ghost use Rattle.std.specs.Prelude.{◌≡◌, ◌≤◌, ℕ, decimal, true, false, List, map, Some, None, string_bytes, OnOk, OnErr, IfOk, IfErr, IfSome};
 ghost use Rattle.volt_io.specs.Faults.{Rose};
 ghost use Rattle.volt_io.specs.Told.{Appends, AppendsFrontOf};
 ghost use Rattle.volt_form.specs.declared.call.ScriptCall.{ScriptCall};
@@ -132,7 +132,17 @@ fn write_not_built<K: Sink>(sink: &mut K, line: u32) -> Result<(), WriteFailed>
     ensures rises { OnErr result (Rose (K.count sink.old) (K.count sink.new)) }
 {
     write_all(sink, b"fault NotBuilt ")?;
+    write_number(sink, line)?;
+    write_all(sink, b"\n")?;
+    Ok(())
+}
+
+fn write_number<K: Sink>(sink: &mut K, number: u32) -> Result<(), WriteFailed>
+    ensures written { OnOk result (Appends (K.contents sink.old) (K.contents sink.new) (decimal number)) }
+    ensures partly { OnErr result (AppendsFrontOf (K.contents sink.old) (K.contents sink.new) (decimal number)) }
+    ensures rises { OnErr result (Rose (K.count sink.old) (K.count sink.new)) }
+    ensures never_falls { K.count sink.old ≤ K.count sink.new }
+{
     let mut buffer = Buffer::new();
-    write_all(sink, buffer.format(line).as_bytes())?;
-    write_all(sink, b"\n")
+    write_all(sink, buffer.format(number).as_bytes())
 }

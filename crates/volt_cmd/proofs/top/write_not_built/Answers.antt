@@ -1,0 +1,39 @@
+use Rattle.std.proofs.Common.{◌≡◌, List, [], ◌∷◌, ◌++◌, ℕ, decimal, codes, sym, append-nil}
+use Rattle.volt_io.specs.Told.{Appends, AppendsFrontOf}
+use Rattle.volt_io.proofs.ToldLemmas.{Appends-then, AppendsFrontOf-then, AppendsFrontOf-longer}
+use Rattle.volt_cmd.proofs.top.write_not_built.Goals as goal
+
+pub returns-clause-whole : goal.returns-clause-whole
+returns-clause-whole g c =
+    let b = g.K.Sink.contents in
+    Appends-then (b c.args.sink.now) (b c.write_number.new.sink) (b c.write_all-2.new.sink) (codes "fault NotBuilt " ++ decimal c.args.line) (10 ∷ [])
+    (Appends-then (b c.args.sink.now) (b c.write_all.new.sink) (b c.write_number.new.sink) (codes "fault NotBuilt ") (decimal c.args.line) c.in_ok-write_all.ensures.written c.in_ok-write_number.ensures.written)
+    c.in_ok-write_all-2.ensures.written
+
+pub returns-clause-front : goal.returns-clause-front
+returns-clause-front g c =
+    let b = g.K.Sink.contents in (
+      codes "fault NotBuilt " ++ decimal c.args.line ++ 10 ∷ [],
+      ([], sym (append-nil _)),
+      Appends-then (b c.args.sink.now) (b c.write_number.new.sink) (b c.write_all-2.new.sink) (codes "fault NotBuilt " ++ decimal c.args.line) (10 ∷ [])
+      (Appends-then (b c.args.sink.now) (b c.write_all.new.sink) (b c.write_number.new.sink) (codes "fault NotBuilt ") (decimal c.args.line) c.in_ok-write_all.ensures.written c.in_ok-write_number.ensures.written)
+      c.in_ok-write_all-2.ensures.written)
+
+pub returns-in_err-write_all-clause-front : goal.returns-in_err-write_all-clause-front
+returns-in_err-write_all-clause-front g c =
+    let b = g.K.Sink.contents in
+    AppendsFrontOf-longer (b c.args.sink.now) (b c.write_all.new.sink) (codes "fault NotBuilt " ++ decimal c.args.line) (10 ∷ [])
+    (AppendsFrontOf-longer (b c.args.sink.now) (b c.write_all.new.sink) (codes "fault NotBuilt ") (decimal c.args.line) c.in_err-write_all.ensures.partly)
+
+pub returns-in_err-write_number-clause-front : goal.returns-in_err-write_number-clause-front
+returns-in_err-write_number-clause-front g c =
+    let b = g.K.Sink.contents in
+    AppendsFrontOf-longer (b c.args.sink.now) (b c.write_number.new.sink) (codes "fault NotBuilt " ++ decimal c.args.line) (10 ∷ [])
+    (AppendsFrontOf-then (b c.args.sink.now) (b c.write_all.new.sink) (b c.write_number.new.sink) (codes "fault NotBuilt ") (decimal c.args.line) c.in_ok-write_all.ensures.written c.in_err-write_number.ensures.partly)
+
+pub returns-in_err-write_all-2-clause-front : goal.returns-in_err-write_all-2-clause-front
+returns-in_err-write_all-2-clause-front g c =
+    let b = g.K.Sink.contents in
+    AppendsFrontOf-then (b c.args.sink.now) (b c.write_number.new.sink) (b c.write_all-2.new.sink) (codes "fault NotBuilt " ++ decimal c.args.line) (10 ∷ [])
+    (Appends-then (b c.args.sink.now) (b c.write_all.new.sink) (b c.write_number.new.sink) (codes "fault NotBuilt ") (decimal c.args.line) c.in_ok-write_all.ensures.written c.in_ok-write_number.ensures.written)
+    c.in_err-write_all-2.ensures.partly
