@@ -32,15 +32,16 @@ given_one true o e a h = h
 given_one false o e a h = absurd cc
 
 ends_given : (calls : List ValidCall) (r : Report) (lines : List CallLine)
-  → ((list : List Applied) (call : ℕ) (e : ReportEnd) → reply_in accounts (script accounts calls) [] list call ≡ Some e → is_given e ≡ true)
-  → r.opening ≡ []
-  → AllByRecursion (λ line. is_answer line.end ≡ true) lines
-  → AllByRecursion (λ line. IsReply (is_answer line.end) (reply_in accounts (script accounts calls) (accounts.database r.opening) r.serial line.call) line.end) lines
-  → AllByRecursion (λ line. is_given line.end ≡ true) lines
+    → ((list : List Applied) (call : ℕ) (e : ReportEnd) → reply_in accounts (script accounts calls) [] list call ≡ Some e → is_given e ≡ true)
+    → r.opening ≡ []
+    → AllByRecursion (λ line. is_answer line.end ≡ true) lines
+    → AllByRecursion (λ line. IsReply (is_answer line.end) (reply_in accounts (script accounts calls) (accounts.database r.opening) r.serial line.call) line.end) lines
+    → AllByRecursion (λ line. is_given line.end ≡ true) lines
 ends_given calls r [] give opens answered replies = tt
 ends_given calls r (l ∷ lines) give opens answered replies = (
   give r.serial l.call l.end (subst (λ o. reply_in accounts (script accounts calls) (accounts.database o) r.serial l.call ≡ Some l.end) opens (given_one (is_answer l.end) _ l.end answered.0 replies.0)),
-  ends_given calls r lines give opens answered.1 replies.1)
+  ends_given calls r lines give opens answered.1 replies.1,
+)
 
 -- each copy of a sound report has one line a row
 part_lines : (p : ℕ) (rows : Rows) → AreLines (accounts.part p rows)
@@ -51,8 +52,8 @@ part_lines p rows = chosen (p == 0)
     chosen false = refl
 
 copies_lined : (calls : List ValidCall) (r : Report) (copies : List CopyLine)
-  → AllByRecursion (ShowsPart accounts (script accounts calls) (accounts.database r.opening) r.serial) copies
-  → AllByRecursion (λ c. AreLines c.rows) copies
+    → AllByRecursion (ShowsPart accounts (script accounts calls) (accounts.database r.opening) r.serial) copies
+    → AllByRecursion (λ c. AreLines c.rows) copies
 copies_lined calls r [] h = tt
 copies_lined calls r (c ∷ copies) h = (subst AreLines (sym h.0.rows) (part_lines (partition_of_slot accounts (script accounts calls) c.slot) _), copies_lined calls r copies h.1)
 

@@ -34,8 +34,9 @@ head_passes : (test : Event → Bool) (es : List Event) (e : Event) → head (fi
 head_passes test [] e h = absurd cc
 head_passes test (x ∷ es) e h =
     elim (cases_Bool (test x)) [
-      inl t ↦ let is : Some x ≡ Some e = rw t at h in subst (λ (y : Event). test y ≡ true) (let f : x ≡ e = cc in f) t
-    | inr t ↦ head_passes test es e (rw t at h) ]
+      | inl t ↦ let is : Some x ≡ Some e = rw t at h in subst (λ (y : Event). test y ≡ true) (let f : x ≡ e = cc in f) t
+      | inr t ↦ head_passes test es e (rw t at h)
+    ]
 
 -- the first event that may happen may happen
 pub first_may : (w : World) (e : Event) → head (enabled w) ≡ Some e → can w e ≡ true
@@ -57,19 +58,20 @@ module _ {M E : Type 0} (state : E → AccountsState) (calls : List ValidCall) w
 
   -- after the first event that may happen
   pub reached_next : (world next : code.World M E) (e : Event) (r : Reached state calls world) (n : ℕ)
-    → length r.events ≡ n
-    → head (enabled (run accounts_semantics r.events (start calls))) ≡ Some e
-    → StandsFor accounts_semantics state next (step accounts_semantics (run accounts_semantics r.events (start calls)) e)
-    → (s : Reached state calls next) × (length s.events ≡ n + 1)
+      → length r.events ≡ n
+      → head (enabled (run accounts_semantics r.events (start calls))) ≡ Some e
+      → StandsFor accounts_semantics state next (step accounts_semantics (run accounts_semantics r.events (start calls)) e)
+      → (s : Reached state calls next) × (length s.events ≡ n + 1)
   reached_next world next e r n count first h =
       let w = run accounts_semantics r.events (start calls) in (
-      record {
-        events = r.events ++ e ∷ [];
-        is_run = IsRun-push accounts_semantics r.events e (start calls) r.is_run (first_may w e first);
-        schedule = TakesFirst-push accounts_semantics r.events e (start calls) r.schedule first;
-        stands = subst (λ (v : World). StandsFor accounts_semantics state next v) (sym (run-push accounts_semantics r.events e (start calls))) h;
-      },
-      length_push r.events e ∙ ap (λ (m : ℕ). m + 1) count)
+        record {
+          events = r.events ++ e ∷ [];
+          is_run = IsRun-push accounts_semantics r.events e (start calls) r.is_run (first_may w e first);
+          schedule = TakesFirst-push accounts_semantics r.events e (start calls) r.schedule first;
+          stands = subst (λ (v : World). StandsFor accounts_semantics state next v) (sym (run-push accounts_semantics r.events e (start calls))) h;
+        },
+        length_push r.events e ∙ ap (λ (m : ℕ). m + 1) count,
+      )
 
   -- where no event may happen
   pub ended : (world : code.World M E) (r : Reached state calls world) → head (enabled (run accounts_semantics r.events (start calls))) ≡ None → Ended state calls world

@@ -16,8 +16,9 @@ returns-clause-front g c =
       codes "fault NotBuilt " ++ decimal c.args.line ++ 10 ∷ [],
       ([], sym (append-nil _)),
       Appends-then (b c.args.sink.now) (b c.write_number.new.sink) (b c.write_all-2.new.sink) (codes "fault NotBuilt " ++ decimal c.args.line) (10 ∷ [])
-      (Appends-then (b c.args.sink.now) (b c.write_all.new.sink) (b c.write_number.new.sink) (codes "fault NotBuilt ") (decimal c.args.line) c.in_ok-write_all.ensures.written c.in_ok-write_number.ensures.written)
-      c.in_ok-write_all-2.ensures.written)
+          (Appends-then (b c.args.sink.now) (b c.write_all.new.sink) (b c.write_number.new.sink) (codes "fault NotBuilt ") (decimal c.args.line) c.in_ok-write_all.ensures.written c.in_ok-write_number.ensures.written)
+          c.in_ok-write_all-2.ensures.written,
+    )
 
 pub returns-in_err-write_all-clause-front : goal.returns-in_err-write_all-clause-front
 returns-in_err-write_all-clause-front g c =
