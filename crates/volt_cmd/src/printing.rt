@@ -13,52 +13,69 @@ use account_engine::print_reply;
 use cluster_core::Outcomes;
 use cluster_model::CopyRows;
 use std::alloc::{AllocError, Global};
+use volt_base::Applied;
 use volt_report::{
     print_call_head, print_copy_head, print_end, print_head, print_opening, print_serial,
     print_trace,
 };
-use volt_wire::Ended;
+use volt_wire::{Ended, Event};
 
-/// The bytes of the report of these outcomes.
-pub fn print_report(alloc: Global, outcomes: &Outcomes) -> Result<Vec<u8>, AllocError>
-    ensures { IfOk result (λ text. (r : Report) → Prints outcomes.now r → text.items ≡ spelling r) }
+/// The bytes of the report of these outcomes, each of which is let go once it is printed.
+pub fn print_report(alloc: Global, outcomes: Outcomes) -> Result<Vec<u8>, AllocError>
+    ensures { IfOk result (λ text. (r : Report) → Prints outcomes r → text.items ≡ spelling r) }
 {
+    let Outcomes {
+        ends,
+        copies,
+        serial,
+        trace,
+    } = outcomes;
     let mut text = Vec::new(alloc);
-    print_ends(&mut text, outcomes)?;
-    print_copies_and_serial(&mut text, outcomes)?;
-    print_events(&mut text, outcomes)?;
+    print_ends(&mut text, &ends)?;
+    drop(ends);
+    print_serial_and_copies(&mut text, &serial, &copies)?;
+    drop((serial, copies));
+    print_events(&mut text, &trace)?;
     Ok(text)
 }
 
 // The first part of a report: its first line, its opening, and how the calls ended.
-fn print_ends(into: &mut Vec<u8>, outcomes: &Outcomes) -> Result<(), AllocError>
-    ensures { OnOk result ((r : Report) → Prints outcomes.now r → into.new.items ≡ into.old.items
-        ++ codes "volt 1" ++ newline ++ section (codes "opening") table_line r.opening
-        ++ section (codes "calls") call_text r.calls) }
+fn print_ends(into: &mut Vec<u8>, ends: &[Ended]) -> Result<(), AllocError>
+    ensures { OnOk result ((calls : List CallLine) → map (ended_line reply_bytes) calls ≡ ends.now
+        → AllByRecursion (λ line. is_given line.end ≡ true) calls
+        → into.new.items ≡ into.old.items
+        ++ codes "volt 1" ++ newline ++ section (codes "opening") table_line []
+        ++ section (codes "calls") call_text calls) }
 {
     print_opening(into)?;
     print_no_rows(into)?;
-    print_calls(into, outcomes.ends.as_slice())
+    print_calls(into, ends)
 }
 
 // The second part: the serial list, and the copies.
-fn print_copies_and_serial(into: &mut Vec<u8>, outcomes: &Outcomes) -> Result<(), AllocError>
-    ensures { OnOk result ((r : Report) → Prints outcomes.now r → into.new.items ≡ into.old.items
-        ++ section (codes "serial") applied_line r.serial
-        ++ section (codes "copies") (copy_text (codes "copy")) r.copies) }
+fn print_serial_and_copies(
+    into: &mut Vec<u8>,
+    serial: &[Applied],
+    copies: &[CopyRows],
+) -> Result<(), AllocError>
+    ensures { OnOk result ((shown : List CopyLine) → map copy_shown shown ≡ copies.now
+        → AllByRecursion (λ c. AreLines c.rows) shown
+        → into.new.items ≡ into.old.items
+        ++ section (codes "serial") applied_line serial.now
+        ++ section (codes "copies") (copy_text (codes "copy")) shown) }
 {
-    print_serial(into, outcomes.serial.as_slice())?;
-    print_copies(into, outcomes.copies.as_slice())
+    print_serial(into, serial)?;
+    print_copies(into, copies)
 }
 
-// The third part: the looks, the events, and the last line.
-fn print_events(into: &mut Vec<u8>, outcomes: &Outcomes) -> Result<(), AllocError>
-    ensures { OnOk result ((r : Report) → Prints outcomes.now r → into.new.items ≡ into.old.items
-        ++ section (codes "looks") (copy_text (codes "look")) r.looks
-        ++ section (codes "trace") event_line r.trace ++ codes "end" ++ newline) }
+// The third part: the looks, of which there are none, the events, and the last line.
+fn print_events(into: &mut Vec<u8>, trace: &[Event]) -> Result<(), AllocError>
+    ensures { OnOk result (into.new.items ≡ into.old.items
+        ++ section (codes "looks") (copy_text (codes "look")) []
+        ++ section (codes "trace") event_line trace.now ++ codes "end" ++ newline) }
 {
     print_no_looks(into)?;
-    print_trace(into, outcomes.trace.as_slice())?;
+    print_trace(into, trace)?;
     print_end(into)
 }
 

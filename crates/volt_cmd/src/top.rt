@@ -108,7 +108,7 @@ fn text_of(alloc: Global, calls: Vec<ScriptCall>) -> Result<Vec<u8>, AllocError>
     let input = world_input(alloc, &calls)?;
     drop(calls);
     let outcomes = run_input(alloc, input)?;
-    let text = print_report(alloc, &outcomes)?;
+    let text = print_report(alloc, outcomes)?;
     Ok(text)
 }
 
