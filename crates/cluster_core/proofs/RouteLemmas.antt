@@ -1,5 +1,5 @@
 -- Routes compare equal exactly where they are one.
-use Rattle.std.proofs.Common.{◌≡◌, ℕ, ◌==◌, nat_cmp, Bool, true, false, ◌&&◌, refl, ap, sym, ◌∙◌, is_eq, arith}
+use Rattle.std.proofs.Common.{◌≡◌, ℕ, ◌==◌, nat_cmp, Bool, ◌&&◌, refl, ap, ◌∙◌, is_eq, arith}
 use Rattle.std.proofs.lemmas.Bool.Decides.{nat_tests}
 use Rattle.std.specs.BTreeMap.{is_at}
 use Rattle.std.specs.Ordering.{ordering_then}

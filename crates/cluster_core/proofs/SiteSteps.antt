@@ -1,5 +1,5 @@
 -- What a site stands for after a call, and what it sends for the replies that waited.
-use Rattle.std.proofs.Common.{◌≡◌, ℕ, ◌+◌, List, [], ◌∷◌, ◌++◌, length, refl, sym, ap, ◌∙◌, append_assoc, length-append, arith}
+use Rattle.std.proofs.Common.{◌≡◌, ℕ, ◌+◌, List, [], ◌∷◌, ◌++◌, refl, sym, ap, ◌∙◌, append_assoc, length-append}
 use Rattle.volt_base.specs.Semantics.{Semantics}
 use Rattle.volt_base.specs.declared.entry.Entry.{Entry}
 use Rattle.volt_base.specs.declared.entry.Entry.TheVariants.{Sp}
@@ -9,7 +9,7 @@ use Rattle.volt_wire.specs.declared.message.Msg.{Msg}
 use Rattle.volt_wire.specs.declared.message.Msg.TheVariants as msg
 use Rattle.cluster_model.specs.declared.state.Waiting.{Waiting}
 use Rattle.cluster_model.specs.Actors.{only}
-use Rattle.cluster_model.specs.Site.{SiteState, replay, tables, site_after, replies}
+use Rattle.cluster_model.specs.Site.{SiteState, replay, site_after, replies}
 use Rattle.cluster_core.specs.declared.site.LogEnd.{LogEnd}
 use Rattle.cluster_core.specs.Site.{StandsForSite}
 use Rattle.cluster_core.specs.Outbox.{SendsMore, sent_to}

@@ -1,5 +1,5 @@
 -- When the code's world stands for a world.
-use Rattle.std.specs.Prelude.{ℕ, ◌≡◌, Bool, true, false, List, [], ◌∷◌}
+use Rattle.std.specs.Prelude.{◌≡◌, Bool, true, false, List, [], ◌∷◌}
 use Rattle.volt_base.specs.Semantics.{Semantics}
 use Rattle.volt_wire.specs.declared.actor.Actor.{Actor}
 use Rattle.volt_wire.specs.declared.event.Event.{Event}

@@ -1,4 +1,4 @@
-use Rattle.std.proofs.Common.{◌≡◌, Some}
+use Rattle.std.proofs.Common.{Some}
 use Rattle.cluster_core.proofs.ChannelLemmas.{with_queue-shown, AreFull-inserted}
 use Rattle.cluster_core.proofs.channels.put_queue.Goals as goal
 

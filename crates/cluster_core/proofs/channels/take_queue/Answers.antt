@@ -1,4 +1,4 @@
-use Rattle.std.proofs.Common.{◌≡◌, None, ap, sym, ◌∙◌}
+use Rattle.std.proofs.Common.{None, ap, sym, ◌∙◌}
 use Rattle.cluster_core.proofs.ChannelLemmas.{queue_of-shown, with_queue-shown, items_of, AreFull-removed}
 use Rattle.cluster_core.proofs.channels.take_queue.Goals as goal
 

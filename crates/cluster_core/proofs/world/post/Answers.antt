@@ -1,4 +1,4 @@
-use Rattle.std.proofs.Common.{◌≡◌, List, refl, ap, sym, ◌∙◌}
+use Rattle.std.proofs.Common.{List, refl, ap, sym, ◌∙◌}
 use Rattle.volt_wire.specs.declared.actor.Actor.{Actor}
 use Rattle.volt_wire.specs.declared.message.Msg.{Msg}
 use Rattle.cluster_model.specs.World.{sent}

@@ -1,5 +1,4 @@
-use Rattle.std.proofs.Common.{◌≡◌, List, [], ◌∷◌, ◌++◌, map, sym, ap, ◌∙◌, append_assoc, append-nil}
-use Rattle.volt_wire.specs.declared.event.Event.{Event}
+use Rattle.std.proofs.Common.{List, ◌++◌, map, sym, ap, ◌∙◌, append_assoc, append-nil}
 use Rattle.cluster_core.specs.declared.route.Route.{Route}
 use Rattle.cluster_core.specs.Channels.{delivery, routes}
 use Rattle.cluster_core.proofs.ReadyLemmas.{keys-shown, IsInOrder-shown}

@@ -1,4 +1,4 @@
-use Rattle.std.proofs.Common.{◌≡◌, ap, ◌∙◌}
+use Rattle.std.proofs.Common.{ap, ◌∙◌}
 use Rattle.cluster_model.specs.World.{is_some_message}
 use Rattle.cluster_core.proofs.ChannelLemmas.{some-pushed}
 use Rattle.cluster_core.proofs.channels.Channels.push.Goals as goal

@@ -1,4 +1,3 @@
-use Rattle.std.proofs.Common.{◌≡◌}
 use Rattle.cluster_core.proofs.Sends.{sent_to-push}
 use Rattle.cluster_core.proofs.outbox.Outbox.push.Goals as goal
 

@@ -1,4 +1,4 @@
-use Rattle.std.proofs.Common.{◌≡◌, List, [], ◌∷◌, ◌++◌, ap, ◌∙◌}
+use Rattle.std.proofs.Common.{List, [], ◌∷◌, ◌++◌, ap, ◌∙◌}
 use Rattle.cluster_model.specs.declared.state.Waiting.{Waiting}
 use Rattle.cluster_core.specs.declared.site.LogEnd.{LogEnd}
 use Rattle.cluster_core.proofs.SiteSteps.{stands_called}

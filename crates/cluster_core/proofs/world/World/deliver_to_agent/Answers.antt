@@ -1,6 +1,6 @@
-use Rattle.std.proofs.Common.{◌≡◌, List, [], ◌++◌, Some, sym, ap, ◌∙◌}
+use Rattle.std.proofs.Common.{◌≡◌, List, ◌++◌, Some, sym, ap, ◌∙◌}
 use Rattle.volt_wire.specs.declared.actor.Actor.{Actor}
-use Rattle.volt_wire.specs.declared.actor.Actor.TheVariants.{Director, Client, Agent, Site}
+use Rattle.volt_wire.specs.declared.actor.Actor.TheVariants.{Agent}
 use Rattle.volt_wire.specs.declared.message.Msg.{Msg}
 use Rattle.cluster_model.specs.Agent.{AgentState, agent_after, agent_sends}
 use Rattle.cluster_core.specs.Channels.{queue_of, first_message}

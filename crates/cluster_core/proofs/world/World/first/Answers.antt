@@ -1,5 +1,4 @@
-use Rattle.std.proofs.Common.{◌≡◌, ℕ, Bool, true, false, Option, Some, None, refl, sym, ap, subst, ◌∙◌}
-use Rattle.volt_wire.specs.declared.event.Event.{Event}
+use Rattle.std.proofs.Common.{◌≡◌, ℕ, true, false, Option, refl, sym, ap, subst, ◌∙◌}
 use Rattle.volt_wire.specs.declared.event.Event.TheVariants.{Sync, Submit}
 use Rattle.cluster_model.specs.Client.{ClientState, may_submit}
 use Rattle.cluster_model.specs.World.{can}
