@@ -1,12 +1,12 @@
 -- What is printed of a run that ended explains its input.
-use Rattle.std.proofs.Common.{if◌then◌else◌, ◌≡◌, ℕ, ◌==◌, Bool, true, false, List, [], ◌∷◌, length, map, Option, Some, None, refl, sym, ap, subst, ◌∙◌}
+use Rattle.std.proofs.Common.{if◌then◌else◌, ◌≡◌, ℕ, ◌==◌, Bool, true, false, List, [], ◌∷◌, Option, Some, refl, sym, ap, subst, ◌∙◌}
 use Rattle.std.specs.List.{AllByRecursion}
 use Rattle.volt_base.specs.declared.entry.Applied.{Applied}
 use Rattle.volt_wire.specs.declared.event.Event.{Event}
 use Rattle.volt_report.specs.Report.{Report, ReportEnd, CallLine, CopyLine}
 use Rattle.volt_report.specs.Spelling.{spelling}
 use Rattle.cluster_model.specs.Runs.{run, IsRun, TakesFirst, IsQuiet, serves}
-use Rattle.soundness.specs.Sound.{Sound, is_answer, IsReply, reply_in, ShowsPart, partition_of_slot}
+use Rattle.soundness.specs.Sound.{is_answer, IsReply, reply_in, ShowsPart, partition_of_slot}
 use Rattle.soundness.specs.Tied.{Shows, Tied}
 use Rattle.soundness.specs.Carries.{script}
 use Rattle.soundness.specs.Law.{Reported}
@@ -20,8 +20,7 @@ use Rattle.account_engine.specs.Accounts.{Rows, accounts, accounts_semantics, ro
 use Rattle.account_engine.specs.Answers.{is_given}
 use Rattle.account_engine.specs.Carrying.{carried}
 use Rattle.cluster_core.specs.declared.world.Outcomes.{Outcomes}
-use Rattle.cluster_core.specs.Outcomes.{Tells}
-use Rattle.volt_cmd.specs.Script.{Asks, start, written}
+use Rattle.volt_cmd.specs.Script.{Asks, start}
 use Rattle.volt_cmd.specs.Prints.{Prints, AreLines}
 use Rattle.volt_cmd.specs.Headline.{Ran, Explains}
 use Rattle.volt_cmd.proofs.AccountLines.{AreLines-rows}

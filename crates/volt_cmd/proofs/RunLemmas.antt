@@ -1,12 +1,12 @@
 -- A run goes on by one event, and a run that nothing goes on from has ended.
-use Rattle.std.proofs.Common.{◌≡◌, ℕ, ◌+◌, ◌*◌, ◌<◌, ◌≤◌, zero, suc, get_or, Bool, true, false, cond, List, [], ◌∷◌, ◌++◌, length, filter, Option, Some, None, refl, sym, ap, subst, ◌∙◌, inl, inr, arith}
+use Rattle.std.proofs.Common.{◌≡◌, ℕ, ◌+◌, ◌*◌, ◌<◌, ◌≤◌, zero, suc, get_or, Bool, true, List, [], ◌∷◌, ◌++◌, length, filter, Some, None, refl, sym, ap, subst, ◌∙◌, inl, inr, arith}
 use Rattle.std.proofs.lemmas.Bool.{cases_Bool}
 use Rattle.std.proofs.lemmas.List.{length_push}
 use Rattle.volt_base.specs.Semantics.{Semantics}
 use Rattle.volt_wire.specs.declared.event.Event.{Event}
 use Rattle.volt_wire.specs.declared.input.WorldCall.{WorldCall}
 use Rattle.cluster_model.specs.World.{World, can, step}
-use Rattle.cluster_model.specs.Runs.{run, IsRun, TakesFirst, IsQuiet, events, enabled, head}
+use Rattle.cluster_model.specs.Runs.{run, IsRun, TakesFirst, events, enabled, head}
 use Rattle.soundness.proofs.Enabled.{event_is_of_them, nothing_enabled_is_quiet}
 use Rattle.soundness.proofs.Law.{run_is_short}
 use Rattle.account_engine.specs.Calls.{ValidCall}

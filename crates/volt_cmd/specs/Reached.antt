@@ -1,5 +1,5 @@
 -- Where a run of the world has come.
-use Rattle.std.specs.Prelude.{ℕ, ◌≡◌, ◌≤◌, List, length}
+use Rattle.std.specs.Prelude.{◌≡◌, ◌≤◌, List, length}
 use Rattle.volt_wire.specs.declared.event.Event.{Event}
 use Rattle.volt_wire.specs.declared.input.WorldCall.{WorldCall}
 use Rattle.cluster_model.specs.Runs.{run, IsRun, TakesFirst, IsQuiet}

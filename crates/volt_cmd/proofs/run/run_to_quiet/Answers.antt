@@ -1,4 +1,4 @@
-use Rattle.std.proofs.Common.{◌≡◌, Some, None, sym, ◌∙◌, arith}
+use Rattle.std.proofs.Common.{sym, ◌∙◌, arith}
 use Rattle.cluster_model.specs.Runs.{run}
 use Rattle.account_engine.specs.Accounts.{accounts_semantics}
 use Rattle.volt_cmd.specs.Script.{start}

@@ -1,4 +1,4 @@
-use Rattle.std.proofs.Common.{◌≡◌, List, sym, subst}
+use Rattle.std.proofs.Common.{List, sym, subst}
 use Rattle.volt_form.specs.declared.call.ScriptCall.{ScriptCall}
 use Rattle.volt_cmd.specs.Script.{Asks}
 use Rattle.soundness.specs.Carries.{script}

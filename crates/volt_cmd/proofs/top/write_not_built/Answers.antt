@@ -1,5 +1,4 @@
-use Rattle.std.proofs.Common.{◌≡◌, List, [], ◌∷◌, ◌++◌, ℕ, decimal, codes, sym, append-nil}
-use Rattle.volt_io.specs.Told.{Appends, AppendsFrontOf}
+use Rattle.std.proofs.Common.{[], ◌∷◌, ◌++◌, decimal, codes, sym, append-nil}
 use Rattle.volt_io.proofs.ToldLemmas.{Appends-then, AppendsFrontOf-then, AppendsFrontOf-longer}
 use Rattle.volt_cmd.proofs.top.write_not_built.Goals as goal
 
