@@ -3,3 +3,4 @@ pub mod Site
 pub mod Channels
 pub mod World
 pub mod Outcomes
+pub mod Echo

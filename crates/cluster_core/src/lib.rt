@@ -11,3 +11,6 @@ mod site;
 mod world;
 
 pub use world::{Outcomes, World};
+
+#[cfg(test)]
+mod tests;
