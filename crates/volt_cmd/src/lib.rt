@@ -5,6 +5,8 @@ mod input;
 mod printing;
 mod run;
 mod status;
+#[cfg(test)]
+mod tests;
 mod top;
 
 pub use status::Status;
