@@ -3,3 +3,4 @@ pub mod PrintLemmas
 pub mod AccountLines
 pub mod InputLemmas
 pub mod ExplainLemmas
+pub mod CauseLemmas

@@ -1,5 +1,5 @@
 -- What the top call promises of what it writes.
-use Rattle.std.specs.Prelude.{ℕ, ◌≡◌, Bool, true, false, Option, Some, List, [], ◌∷◌, ◌++◌, map, codes, decimal, bytes_eq, IfSome}
+use Rattle.std.specs.Prelude.{ℕ, ◌≡◌, Bool, true, false, Option, None, Some, is_some, List, [], ◌∷◌, ◌++◌, map, codes, decimal, bytes_eq, IfSome}
 use Rattle.volt_wire.specs.declared.event.Event.{Event}
 use Rattle.cluster_model.specs.Runs.{run, IsRun, TakesFirst, IsQuiet}
 use Rattle.volt_report.specs.Report.{Report}
@@ -57,6 +57,17 @@ abbrev pub is_refusal : Status → Bool
 is_refusal Ok = false
 is_refusal WriteFault = false
 is_refusal _ = true
+
+-- whether a call ends so where the command, the input, the source and the sink are as they must be
+abbrev pub is_ok_or_no_memory : Status → Bool
+is_ok_or_no_memory Ok = true
+is_ok_or_no_memory NoMemory = true
+is_ok_or_no_memory _ = false
+
+-- The bytes that are left to be read are told, and are of the form.
+abbrev pub IsOfForm : Option (List ℕ) → Type 0
+IsOfForm None = ⊥
+IsOfForm (Some bytes) = is_some (calls_of_text bytes) ≡ true
 
 -- What caused a refusal: the words, a count of faults that rose, or the bytes that were left to be read. Want of
 -- memory is free.

@@ -6,7 +6,7 @@ ghost use Rattle.volt_io.specs.Told.{Appends, AppendsFrontOf};
 ghost use Rattle.volt_form.specs.declared.call.ScriptCall.{ScriptCall};
 ghost use Rattle.volt_form.specs.Form.{calls_of_text, first_wrong_line};
 ghost use Rattle.volt_cmd.specs.Script.{IsAsked};
-ghost use Rattle.volt_cmd.specs.Headline.{Explains, Refuses, fault_line, is_command, is_refusal};
+ghost use Rattle.volt_cmd.specs.Headline.{Explains, IsOfForm, Refuses, fault_line, is_command, is_ok_or_no_memory, is_refusal};
 
 use crate::input::{InputFault, read_calls, world_input};
 use crate::printing::print_report;
@@ -43,6 +43,11 @@ pub fn volt<R: Threads + Sync, S: Source, K: Sink>(
     ensures cause { is_refusal result ≡ true
         → Refuses (map string_bytes words.now) (S.rest source.old) (S.count source.old) (S.count source.new) result }
     ensures bad_use { is_command (map string_bytes words.now) ≡ false → result ≡ Status.BadUse }
+
+    // Completeness: a command whose input is of the form ends so where no count of faults rose.
+    ensures complete { is_command (map string_bytes words.now) ≡ true → IsOfForm (S.rest source.old)
+        → (Rose (S.count source.old) (S.count source.new) → ⊥) → (Rose (K.count sink.old) (K.count sink.new) → ⊥)
+        → is_ok_or_no_memory result ≡ true }
 
     // The line of a fault. A failure to write it leaves the status as it is.
     ensures line { is_refusal result ≡ true
