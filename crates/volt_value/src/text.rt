@@ -34,3 +34,16 @@ impl Text {
         self.held.as_str()
     }
 }
+
+#[cfg(test)]
+mod tests {
+    use super::*;
+    use std::test::Fail;
+
+    #[test]
+    fn is_the_text_that_it_was_made_of(rt: HostRuntime) -> Result<(), Fail> {
+        let text = Text::of(rt.alloc(), "año")?;
+        assert_eq!(rt; text.as_str(), "año");
+        Ok(())
+    }
+}
