@@ -23,3 +23,15 @@ pub fn lines_make_the_text()
     ensures ended { (text : List ℕ) → All (All (λ b. b ≢ 10)) (lines_of text).ended }
     ensures rest { (text : List ℕ) → All (λ b. b ≢ 10) (lines_of text).rest }
 {}
+
+#[cfg(test)]
+mod tests {
+    use super::*;
+
+    #[test]
+    fn laws_return() {
+        wrong_or_of_form();
+        calls_within_bounds();
+        lines_make_the_text();
+    }
+}
