@@ -1,12 +1,23 @@
-//! What the actors of a cluster say to each other, and the events of a run.
+//! What the actors of a cluster say to each other, the words that they agree on, and the events of
+//! a run.
 #![tactic(auto)]
 
 mod actor;
+mod end;
+mod entries;
 mod event;
-mod input;
+mod header;
+mod item;
 mod message;
+mod stream;
+mod word;
 
 pub use actor::Actor;
+pub use end::End;
+pub use entries::Entries;
 pub use event::Event;
-pub use input::{Ended, WorldCall, WorldInput};
+pub use header::Header;
+pub use item::{Item, TimedItem};
 pub use message::Msg;
+pub use stream::Stream;
+pub use word::{Admissions, Starts, Word};

@@ -6,8 +6,8 @@ use Rattle.volt_wire.specs.declared.actor.Actor.{Actor}
 use Rattle.volt_wire.specs.declared.actor.Actor.TheVariants.{Director, Client, Agent, Site}
 use Rattle.volt_wire.specs.declared.event.Event.{Event}
 use Rattle.volt_wire.specs.declared.event.Event.TheVariants.{Deliver, Sync, Submit}
-use Rattle.cluster_model.specs.World.{World, can}
-use Rattle.cluster_model.specs.Runs.{actors, is_one_of_them, is_event_of_them, events, enabled, IsQuiet}
+use Rattle.one_host_model.specs.World.{World, can}
+use Rattle.one_host_model.specs.Runs.{actors, is_one_of_them, is_event_of_them, events, enabled, IsQuiet}
 
 -- ---- what holds of each element of a list that is put together
 

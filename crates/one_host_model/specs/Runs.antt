@@ -8,9 +8,9 @@ use Rattle.volt_wire.specs.declared.actor.Actor.TheVariants.{Director, Client, A
 use Rattle.volt_wire.specs.declared.event.Event.{Event}
 use Rattle.volt_wire.specs.declared.event.Event.TheVariants.{Deliver, Sync, Submit}
 use Rattle.volt_wire.specs.declared.input.Ended.{Ended}
-use Rattle.cluster_model.specs.declared.state.CopyRows.{CopyRows}
-use Rattle.cluster_model.specs.Site.{tables}
-use Rattle.cluster_model.specs.World.{World, can, step}
+use Rattle.one_host_model.specs.declared.state.CopyRows.{CopyRows}
+use Rattle.one_host_model.specs.Site.{tables}
+use Rattle.one_host_model.specs.World.{World, can, step}
 
 -- the world after these events
 abbrev pub run : (S : Semantics) → List Event → World → World

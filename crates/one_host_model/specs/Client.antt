@@ -4,8 +4,8 @@ use Rattle.volt_wire.specs.declared.actor.Actor.TheVariants.{Director, Agent}
 use Rattle.volt_wire.specs.declared.message.Msg.{Msg}
 use Rattle.volt_wire.specs.declared.message.Msg.TheVariants as msg
 use Rattle.volt_wire.specs.declared.input.Ended.{Ended}
-use Rattle.cluster_model.specs.declared.state.Due.{Due}
-use Rattle.cluster_model.specs.Actors.{Sends, only}
+use Rattle.one_host_model.specs.declared.state.Due.{Due}
+use Rattle.one_host_model.specs.Actors.{Sends, only}
 
 pub record ClientState : Type 0 where
   -- the calls that it has still to submit, in order

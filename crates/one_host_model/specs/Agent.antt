@@ -4,8 +4,8 @@ use Rattle.volt_wire.specs.declared.actor.Actor.{Actor}
 use Rattle.volt_wire.specs.declared.actor.Actor.TheVariants.{Client, Site}
 use Rattle.volt_wire.specs.declared.message.Msg.{Msg}
 use Rattle.volt_wire.specs.declared.message.Msg.TheVariants as msg
-use Rattle.cluster_model.specs.declared.state.Pending.{Pending}
-use Rattle.cluster_model.specs.Actors.{Sends, nothing, only}
+use Rattle.one_host_model.specs.declared.state.Pending.{Pending}
+use Rattle.one_host_model.specs.Actors.{Sends, nothing, only}
 
 pub record AgentState : Type 0 where
   -- the number of its start; 0 where it isn't running

@@ -8,11 +8,11 @@ use Rattle.volt_wire.specs.declared.event.Event.TheVariants.{Deliver, Sync, Subm
 use Rattle.volt_wire.specs.declared.message.Msg.{Msg}
 use Rattle.volt_wire.specs.declared.message.Msg.TheVariants as msg
 use Rattle.volt_wire.specs.declared.input.WorldCall.{WorldCall}
-use Rattle.cluster_model.specs.Actors.{same, Sends}
-use Rattle.cluster_model.specs.declared.state.Due.{Due}
-use Rattle.cluster_model.specs.Client.{ClientState, may_submit, submitted, submit_sends, client_after}
-use Rattle.cluster_model.specs.Agent.{AgentState, agent_after, agent_sends}
-use Rattle.cluster_model.specs.Site.{SiteState, owes, synced, sync_sends, site_after}
+use Rattle.one_host_model.specs.Actors.{same, Sends}
+use Rattle.one_host_model.specs.declared.state.Due.{Due}
+use Rattle.one_host_model.specs.Client.{ClientState, may_submit, submitted, submit_sends, client_after}
+use Rattle.one_host_model.specs.Agent.{AgentState, agent_after, agent_sends}
+use Rattle.one_host_model.specs.Site.{SiteState, owes, synced, sync_sends, site_after}
 
 pub record World : Type 0 where
   -- how many calls the director was told of

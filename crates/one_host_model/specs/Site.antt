@@ -7,8 +7,8 @@ use Rattle.volt_wire.specs.declared.actor.Actor.{Actor}
 use Rattle.volt_wire.specs.declared.actor.Actor.TheVariants.{Agent}
 use Rattle.volt_wire.specs.declared.message.Msg.{Msg}
 use Rattle.volt_wire.specs.declared.message.Msg.TheVariants as msg
-use Rattle.cluster_model.specs.declared.state.Waiting.{Waiting}
-use Rattle.cluster_model.specs.Actors.{Sends, only}
+use Rattle.one_host_model.specs.declared.state.Waiting.{Waiting}
+use Rattle.one_host_model.specs.Actors.{Sends, only}
 
 -- the state after these entries
 abbrev pub replay : (S : Semantics) → S.State → List Entry → S.State
