@@ -1,5 +1,5 @@
 -- Which layouts there are, which place each copy of a partition has, and in which order copies stand.
-use Rattle.std.specs.Prelude.{◌≡◌, ℕ, ◌+◌, ◌*◌, ◌/◌, ◌%◌, ◌<◌, ◌≤◌, Bool, true, ◌==◌, ◌&&◌, ◌||◌, nat_lt, nat_le, if◌then◌else◌, List, [], ◌∷◌, map, filter_map, Option, Some, None, option_map, max}
+use Rattle.std.specs.Prelude.{◌≡◌, ℕ, ◌+◌, ◌*◌, ◌/◌, ◌%◌, ◌≤◌, Bool, true, ◌==◌, ◌&&◌, ◌||◌, nat_lt, nat_le, if◌then◌else◌, List, [], ◌∷◌, map, filter_map, fold, Option, Some, None, option_map, max}
 use Rattle.std.specs.List.{range_with_len}
 
 -- how many hosts, sites on each host, and spare copies of each partition a layout may ask for
@@ -53,16 +53,14 @@ slots_of_part k part = range_with_len (slot_of k part 0) (k + 1)
 
 -- Members are hosts, each with the start by which it is one. A copy stands where its host is a member.
 
--- the greater of a number and one that may be there
-abbrev pub greatest : ℕ → Option ℕ → ℕ
-greatest n None = n
-greatest n (Some m) = max n m
+-- the start by which a host is a member, of a start that was found before and one more member
+abbrev pub greater_start : ℕ → Option ℕ → ℕ × ℕ → Option ℕ
+greater_start host None member = if member.0 == host then Some member.1 else None
+greater_start host (Some start) member = Some (if member.0 == host then max start member.1 else start)
 
 -- the start by which a host is a member: the greatest that stands with it
 abbrev pub start_in : List (ℕ × ℕ) → ℕ → Option ℕ
-start_in [] host = None
-start_in (member ∷ members) host =
-    if member.0 == host then Some (greatest member.1 (start_in members host)) else start_in members host
+start_in members host = fold (greater_start host) None members
 
 -- the copies that stand, of those with these slots: each with its host's start and its slot
 abbrev pub standing : ℕ → List (ℕ × ℕ) → List ℕ → List (ℕ × ℕ)
@@ -73,11 +71,13 @@ standing hosts members slots =
 abbrev pub comes_before : ℕ × ℕ → ℕ × ℕ → Bool
 comes_before a b = nat_lt a.0 b.0 || (a.0 == b.0 && nat_lt a.1 b.1)
 
--- copies in order, with one more at its place
+-- copies in order, with one more at its place, once
 abbrev pub with_copy : List (ℕ × ℕ) → ℕ × ℕ → List (ℕ × ℕ)
 with_copy [] copy = copy ∷ []
 with_copy (first ∷ copies) copy =
-    if comes_before first copy then first ∷ with_copy copies copy else copy ∷ first ∷ copies
+    if comes_before copy first then copy ∷ first ∷ copies
+    else if comes_before first copy then first ∷ with_copy copies copy
+    else first ∷ copies
 
 -- copies in order, with more of them at their places
 abbrev pub with_copies : List (ℕ × ℕ) → List (ℕ × ℕ) → List (ℕ × ℕ)

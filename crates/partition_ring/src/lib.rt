@@ -3,6 +3,7 @@
 #![tactic(auto)]
 
 mod buckets;
+mod copies;
 mod layout;
 
 pub use buckets::partition_of;
