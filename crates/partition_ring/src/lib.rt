@@ -1,0 +1,13 @@
+//! The ring of partitions: which layouts a cluster may have, where each copy of a partition has its
+//! place, and in which partition a value lies.
+#![tactic(auto)]
+
+mod buckets;
+mod copies;
+mod layout;
+
+pub use buckets::partition_of;
+pub use layout::{BadLayout, Layout};
+
+#[cfg(test)]
+mod tests;
