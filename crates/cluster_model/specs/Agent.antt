@@ -1,0 +1,251 @@
+-- The agent of a host: it agrees with the others on who is a member, and hands the calls of clients on and the answers back.
+use Rattle.std.specs.Prelude.{ℕ, ◌+◌, ◌==◌, ◌&&◌, ◌||◌, not, nat_lt, nat_le, Bool, true, false, if◌then◌else◌, List, [], ◌∷◌, ◌++◌, map, filter, Option, Some, None, is_some, is_none, unwrap_or}
+use Rattle.std.specs.List.{list_any, list_all}
+use Rattle.volt_wire.specs.Word.{Membership}
+use Rattle.volt_wire.specs.declared.actor.Actor.{Actor}
+use Rattle.volt_wire.specs.declared.actor.Actor.TheVariants.{Director, Client, Agent, Site, Scanner}
+use Rattle.volt_wire.specs.declared.end.End.{End}
+use Rattle.volt_wire.specs.declared.end.End.TheVariants as end
+use Rattle.volt_wire.specs.declared.message.Msg.{Msg}
+use Rattle.volt_wire.specs.declared.message.Msg.TheVariants as msg
+use Rattle.cluster_model.specs.Engine.{Database}
+use Rattle.cluster_model.specs.Words.{Deployment, host_of_slot, part_of_slot, is_host, is_client, is_slot_of, slots_of_host, is_in, with_number, term_of, same_word, union, with_lost, members, start_of, is_some_of, is_member, admits, initiator, leader, start_of_slot, part_down, is_down}
+use Rattle.cluster_model.specs.Letters.{Letter, Sends, no_sends, Turn, becomes, sending, ◌▸◌, open_letter, letter_to, letter_in, only, arrival, Taken, Left, Waits, Waiting, of_term, above_term}
+use Rattle.cluster_model.specs.AgentState.{AgentState, Pending, Job_, RunCall, TakeSnapshot, Admission, new_agent, term_decided, initiates, on_reply, stops, closes, stops_with_host}
+use Rattle.cluster_model.specs.Initiator.{queues, on_frag_done, on_finished, on_mp_state, on_decided_word}
+
+-- ---- calls
+
+-- the call is pending, and goes to the leader of its partition or to the initiator
+abbrev pub pends : AgentState → ℕ → ℕ → ℕ → AgentState
+pends a call client target =
+    record a { pending = a.pending ++ record { call = call; client = client; target = target } ∷ [] }
+
+abbrev pub to_slot : AgentState → ℕ → ℕ → List ℕ → ℕ → Option ℕ → Turn AgentState
+to_slot a call n body slot None = becomes a
+to_slot a call n body slot (Some start) =
+    sending (pends a call n start) (only (Site slot) (letter_to start (msg.SpCall call a.start body)))
+
+abbrev pub to_partition : Deployment → AgentState → Membership → ℕ → ℕ → List ℕ → Option ℕ → Turn AgentState
+to_partition D a w call n body None = becomes a
+to_partition D a w call n body (Some slot) = to_slot a call n body slot (start_of_slot D w slot)
+
+abbrev pub to_initiator : AgentState → ℕ → ℕ → List ℕ → Option (ℕ × ℕ) → Turn AgentState
+to_initiator a call n body None = becomes a
+to_initiator a call n body (Some first) =
+    sending (pends a call n first.1) (only (Agent first.0) (letter_to first.1 (msg.MpCall call a.start body)))
+
+abbrev pub hands_on : Deployment → AgentState → Membership → ℕ → ℕ → Option ℕ → List ℕ → Turn AgentState
+hands_on D a w n call (Some part) body = to_partition D a w call n body (leader D w part)
+hands_on D a w n call None body = to_initiator a call n body (initiator w)
+
+abbrev pub unless_down : Deployment → AgentState → Membership → ℕ → ℕ → Option ℕ → List ℕ → Option ℕ → Turn AgentState
+unless_down D a w n call part body (Some down) = sending a (only (Client n) (open_letter (msg.Answer call (end.Down down))))
+unless_down D a w n call part body None = hands_on D a w n call part body
+
+-- Call: if the start isn't its own, nothing. An agent whose word leaves a partition without a copy answers that. Else the
+-- call is pending, and is handed on by the decided word.
+abbrev pub on_call : Deployment → AgentState → Option Membership → ℕ → ℕ → ℕ → Option ℕ → List ℕ → Turn AgentState
+on_call D a None n call start part body = becomes a
+on_call D a (Some w) n call start part body =
+    if start == a.start then unless_down D a w n call part body (part_down D w) else becomes a
+
+-- ---- words
+
+-- Closed: the start is lost. An agent without a word does nothing.
+abbrev pub on_closed : AgentState → Option Membership → ℕ → AgentState
+on_closed a None start = a
+on_closed a (Some w) start = record a { own = Some (with_lost start w) }
+
+-- Word: of another base, nothing; else the agent's own word becomes the union with it.
+abbrev pub on_word : AgentState → Option Membership → ℕ → ℕ → List ℕ → List (ℕ × ℕ) → AgentState
+on_word a None host base lost admitted = a
+on_word a (Some w) host base lost admitted =
+    let heard = record w { lost = lost; admitted = admitted } in
+    if w.base == base
+    then record a { own = Some (union heard w); said = λ h. if h == host then Some heard else a.said h }
+    else a
+
+-- Hello: a member with a decided word answers Decided.
+abbrev pub on_hello : ℕ → AgentState → Option Membership → ℕ → ℕ → Turn AgentState
+on_hello h a None host start = becomes a
+on_hello h a (Some w) host start =
+    if is_member w h a.start then sending a (only (Agent host) (letter_to start (msg.Decided w))) else becomes a
+
+-- a joiner takes its first word, and sends Start and then View to its sites
+abbrev pub takes_word : Deployment → ℕ → AgentState → Membership → Turn AgentState
+takes_word D h a w =
+    sending (record a { own = Some w; taken = Some w }) (λ b. elim b as (λ _. List Letter) [
+      | Site s ↦ if is_slot_of D h s then open_letter (msg.Start a.start) ∷ letter_to a.start (msg.View w) ∷ [] else []
+      | _ ↦ []
+    ])
+
+-- Decided: a joiner without a word takes it. A joiner with a word stops its host, if this one is of a higher term than
+-- the one that it took and doesn't admit it.
+abbrev pub on_decided : Deployment → ℕ → AgentState → Option Membership → Option Membership → Membership → Turn AgentState
+on_decided D h a (Some decided) taken w = becomes a
+on_decided D h a None None w = takes_word D h a w
+on_decided D h a None (Some taken) w =
+    if nat_lt (term_of taken) (term_of w) && not (admits w a.start) then stops_with_host D h a else becomes a
+
+-- Loaded: with all its sites the agent asks the initiator of the word that it took to be admitted.
+abbrev pub asks_initiator : AgentState → Membership → Option (ℕ × ℕ) → Turn AgentState
+asks_initiator a w None = becomes a
+asks_initiator a w (Some first) = sending a (only (Agent first.0) (letter_in (term_of w) first.1 (msg.Admit a.start)))
+
+abbrev pub has_loaded : Deployment → ℕ → AgentState → Option Membership → Turn AgentState
+has_loaded D h a None = becomes a
+has_loaded D h a (Some w) =
+    if list_all (λ s. is_in s a.loaded) (slots_of_host D h) then asks_initiator a w (initiator w) else becomes a
+
+abbrev pub on_loaded : Deployment → ℕ → AgentState → ℕ → ℕ → Turn AgentState
+on_loaded D h a slot start =
+    if start == a.start then has_loaded D h (record a { loaded = with_number slot a.loaded }) a.taken else becomes a
+
+-- ---- at each change of its word
+
+abbrev pub is_other_word : Option Membership → Option Membership → Bool
+is_other_word None None = false
+is_other_word (Some v) (Some w) = not (same_word v w)
+is_other_word _ _ = true
+
+-- Word to a member, of the start by which it is one
+abbrev pub word_to : Membership → Option ℕ → List Letter
+word_to w None = []
+word_to w (Some start) = letter_to start (msg.Word w.base w.lost w.admitted) ∷ []
+
+-- The agent says its word to the other members, where the word counts it as a member.
+abbrev pub says : ℕ → AgentState → Option Membership → Turn AgentState
+says h a None = becomes a
+says h a (Some w) =
+    sending a (λ b. elim b as (λ _. List Letter) [
+      | Agent g ↦ if is_member w h a.start && not (g == h) then word_to w (start_of w g) else []
+      | _ ↦ []
+    ])
+
+-- Each member has said exactly this word: the agent itself, and the others as it has heard.
+abbrev pub is_word : Membership → Option Membership → Bool
+is_word w None = false
+is_word w (Some v) = same_word v w
+
+abbrev pub may_decide : ℕ → AgentState → Option Membership → Bool
+may_decide h a None = false
+may_decide h a (Some w) =
+    is_member w h a.start && not (is_word w a.decided) && list_all (λ m. m.0 == h || is_word w (a.said m.0)) (members w)
+
+-- the calls whose target is lost end unknown, as far as the agent knows
+abbrev pub unknown_ends : Membership → List Pending → ℕ → List Letter
+unknown_ends w ps n =
+    map (λ p. open_letter (msg.Answer p.call (end.Unknown p.target (term_of w))))
+    (filter (λ p. p.client == n && is_in p.target w.lost) ps)
+
+-- On deciding a word it sends View to its sites, Decided to the agents that are no members, Opened to all clients if it
+-- is newly admitted, and the answer that its end is unknown for each pending call whose target's start is lost. Where the
+-- word leaves a partition without a copy no View is sent.
+abbrev pub decided_sends : Deployment → ℕ → AgentState → Membership → Sends
+decided_sends D h a w (Site s) = if is_slot_of D h s && not (is_down D w) then letter_to a.start (msg.View w) ∷ [] else []
+decided_sends D h a w (Agent g) =
+    if is_host D g && not (g == h) && is_none (start_of w g) then open_letter (msg.Decided w) ∷ [] else []
+decided_sends D h a w (Client n) =
+    if is_client D n
+    then (if is_none a.decided then open_letter (msg.Opened a.start) ∷ [] else []) ++ unknown_ends w a.pending n
+    else []
+decided_sends D h a w b = []
+
+abbrev pub decides_word : Deployment → ℕ → AgentState → Option Membership → Turn AgentState
+decides_word D h a None = becomes a
+decides_word D h a (Some w) =
+    sending (on_decided_word h (record a { decided = Some w; pending = filter (λ p. not (is_in p.target w.lost)) a.pending }))
+    (decided_sends D h a w)
+
+-- what follows the row of a message, given the word that the agent had before
+abbrev pub agrees : Deployment → ℕ → Option Membership → AgentState → Turn AgentState
+agrees D h before a =
+    (if is_other_word before a.own then says h a a.own else becomes a)
+    ▸ (λ b. if may_decide h b b.own then decides_word D h b b.own else becomes b)
+
+-- ---- what it does with each message
+
+abbrev pub from_agent : Database → Deployment → ℕ → ℕ → AgentState → ℕ → Letter → Turn AgentState
+from_agent E D h stamp a g l = elim l.body as (λ _. Turn AgentState) [
+    | msg.Closed start ↦ becomes (on_closed a a.own start)
+    | msg.Word base lost admitted ↦ becomes (on_word a a.own g base lost admitted)
+    | msg.Hello start ↦ on_hello h a a.decided g start
+    | msg.Decided w ↦ on_decided D h a a.decided a.taken w
+    | msg.MpCall call start body ↦ queues E D a (Job_ (RunCall call g start body))
+    | msg.MpReply call e ↦ on_reply D a call e
+    | msg.Admit start ↦ queues E D a (Admission start g l.term)
+    | _ ↦ becomes a
+  ]
+
+abbrev pub from_site : Database → Deployment → ℕ → ℕ → AgentState → ℕ → Letter → Turn AgentState
+from_site E D h stamp a s l = elim l.body as (λ _. Turn AgentState) [
+    | msg.Reply call start e ↦ on_reply D a call e
+    | msg.FragDone m round partial ↦
+        on_frag_done E D stamp a a.initiating.phase a.initiating.work (part_of_slot D s) m round partial
+    | msg.Finished m ↦ on_finished E D h a a.initiating.phase a.initiating.work (part_of_slot D s) m
+    | msg.MpState m is_open outcome ↦ on_mp_state E D h a a.initiating.phase (part_of_slot D s) m is_open outcome
+    | msg.Loaded start ↦ on_loaded D h a s start
+    | _ ↦ becomes a
+  ]
+
+-- Snap: the initiator queues a snapshot; others do nothing.
+abbrev pub from_director : Database → Deployment → ℕ → AgentState → Letter → Turn AgentState
+from_director E D h a l = elim l.body as (λ _. Turn AgentState) [
+    | msg.Snap ↦ if initiates h a a.decided then queues E D a (Job_ TakeSnapshot) else becomes a
+    | _ ↦ becomes a
+  ]
+
+abbrev pub from_client : Deployment → AgentState → ℕ → Letter → Turn AgentState
+from_client D a n l = elim l.body as (λ _. Turn AgentState) [
+    | msg.Call call start part body ↦ on_call D a a.decided n call start part body
+    | _ ↦ becomes a
+  ]
+
+-- the row of a message that it takes
+abbrev pub agent_row : Database → Deployment → ℕ → ℕ → AgentState → Actor → Letter → Turn AgentState
+agent_row E D h stamp a Director l = from_director E D h a l
+agent_row E D h stamp a (Client n) l = from_client D a n l
+agent_row E D h stamp a (Agent g) l = from_agent E D h stamp a g l
+agent_row E D h stamp a (Site s) l = from_site E D h stamp a s l
+agent_row E D h stamp a (Scanner x) l = becomes a
+
+abbrev pub row_and_word : Database → Deployment → ℕ → ℕ → AgentState → Actor → Letter → Turn AgentState
+row_and_word E D h stamp a from l = agent_row E D h stamp a from l ▸ agrees D h a.own
+
+-- The messages that waited for its term are taken after all else, in order of coming.
+abbrev pub takes_each : Database → Deployment → ℕ → ℕ → List Waiting → AgentState → Turn AgentState
+takes_each E D h stamp [] a = becomes a
+takes_each E D h stamp (w ∷ ws) a = row_and_word E D h stamp a w.from w.letter ▸ takes_each E D h stamp ws
+
+abbrev pub takes_waiting : Database → Deployment → ℕ → ℕ → AgentState → Turn AgentState
+takes_waiting E D h stamp a =
+    let term = term_decided a.decided in
+    takes_each E D h stamp (of_term term a.waiting) (record a { waiting = above_term term a.waiting })
+
+-- Start: an agent that runs ignores it, else it joins: Hello goes to all other agents.
+abbrev pub on_start : Deployment → ℕ → ℕ → Turn AgentState
+on_start D h start =
+    sending (new_agent start) (λ b. elim b as (λ _. List Letter) [
+      | Agent g ↦ if is_host D g && not (g == h) then open_letter (msg.Hello start) ∷ [] else []
+      | _ ↦ []
+    ])
+
+-- Stop: an agent of a start not above it stops.
+abbrev pub on_stop : Deployment → ℕ → AgentState → ℕ → Turn AgentState
+on_stop D h a start = if nat_le a.start start then stops D h a else becomes a
+
+abbrev pub agent_runs : Database → Deployment → ℕ → ℕ → AgentState → Actor → Letter → Turn AgentState
+agent_runs E D h stamp a from l = elim (arrival a.start (term_decided a.decided) l) as (λ _. Turn AgentState) [
+    | Taken ↦ row_and_word E D h stamp a from l ▸ takes_waiting E D h stamp
+    | Waits ↦ becomes (record a { waiting = a.waiting ++ record { from = from; letter = l } ∷ [] })
+    | Left ↦ becomes a
+  ]
+
+-- The agent of host h after a message, and what it sends. One that is stopped takes Start alone.
+abbrev pub agent_takes : Database → Deployment → ℕ → ℕ → AgentState → Actor → Letter → Turn AgentState
+agent_takes E D h stamp a from l = elim l.body as (λ _. Turn AgentState) [
+    | msg.Start start ↦ if a.start == 0 then on_start D h start else becomes a
+    | msg.Stop start ↦ if a.start == 0 then becomes a else on_stop D h a start
+    | _ ↦ if a.start == 0 then becomes a else agent_runs E D h stamp a from l
+  ]

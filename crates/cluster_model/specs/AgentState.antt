@@ -1,0 +1,174 @@
+-- What the agent of a host knows.
+use Rattle.std.specs.Prelude.{ℕ, ◌==◌, ◌&&◌, Bool, true, false, if◌then◌else◌, List, [], ◌∷◌, ◌++◌, map, filter, Option, Some, None, option_map, is_some}
+use Rattle.volt_base.specs.declared.entry.Outcome.{Outcome}
+use Rattle.volt_wire.specs.Word.{Membership}
+use Rattle.volt_wire.specs.declared.actor.Actor.{Actor}
+use Rattle.volt_wire.specs.declared.actor.Actor.TheVariants.{Director, Client, Agent, Site, Scanner}
+use Rattle.volt_wire.specs.declared.end.End.{End}
+use Rattle.volt_wire.specs.declared.end.End.TheVariants as end
+use Rattle.volt_wire.specs.declared.message.Msg.TheVariants as msg
+use Rattle.cluster_model.specs.Words.{Deployment, initiator, is_slot_of, is_host, is_client, part_down, term_of, is_down}
+use Rattle.cluster_model.specs.Letters.{Letter, Sends, no_sends, Turn, becomes, sending, open_letter, letter_to, only, Waiting}
+
+-- a call that the agent took: who waits for it, and the start to which the agent sent it
+pub record Pending : Type 0 where
+  pub call : ℕ
+  pub client : ℕ
+  pub target : ℕ
+
+-- ---- the initiator's part
+
+-- what the initiator is to run on all partitions: a call, for the agent of this host and start, or a snapshot
+pub data Job : Type 0 where
+  RunCall : (call : ℕ) (host : ℕ) (start : ℕ) (body : List ℕ) → Job
+  TakeSnapshot : Job
+
+-- what waits in the initiator's queue: a job, or a start of a host that asks to be admitted in a term
+pub data Queued : Type 0 where
+  Job_ : Job → Queued
+  Admission : (start : ℕ) (host : ℕ) (term : ℕ) → Queued
+
+-- how the initiator decided the job at hand, and what its call is answered
+pub record Decision : Type 0 where
+  pub outcome : Outcome
+  pub end : End
+
+-- the job at hand
+pub record Work : Type 0 where
+  pub job : Job
+  -- the number of its transaction
+  pub m : ℕ
+  -- the round that is under way, the parts of the rounds before it, and those that came of this one
+  pub round : ℕ
+  pub fed : List (List (List ℕ))
+  pub gathered : List (ℕ × List ℕ)
+  pub decision : Option Decision
+  -- the partitions in which its end stands for good
+  pub finished : List ℕ
+
+-- what a partition told of itself in a new term: the transaction that is open, or the last one that was done
+pub record Told : Type 0 where
+  pub part : ℕ
+  pub m : ℕ
+  pub is_open : Bool
+  pub outcome : Option Outcome
+
+pub data Phase : Type 0 where
+  -- it isn't the initiator
+  Off : Phase
+  -- it waits for what all partitions tell of themselves
+  Hears : List Told → Phase
+  -- It closes this transaction in these partitions, and it is closed for good in those.
+  Closes : (m : ℕ) (parts : List ℕ) (finished : List ℕ) → Phase
+  Idle : Phase
+  -- it works on the job at hand
+  Works : Phase
+
+pub record Initiating : Type 0 where
+  pub phase : Phase
+  pub work : Option Work
+  -- the number of its next transaction; 0 where it hasn't been the initiator yet
+  pub next : ℕ
+  -- what waits, in order of coming
+  pub queue : List Queued
+
+-- ---- the agent
+
+pub record AgentState : Type 0 where
+  -- the number of its start; 0 where it isn't running
+  pub start : ℕ
+  -- its own word, which it says to the others
+  pub own : Option Membership
+  -- the last word that it decided
+  pub decided : Option Membership
+  -- the word that it took as a joiner
+  pub taken : Option Membership
+  -- what each host's agent said last
+  pub said : ℕ → Option Membership
+  pub pending : List Pending
+  -- its sites that have loaded their tables
+  pub loaded : List ℕ
+  pub initiating : Initiating
+  -- the messages that wait for a higher term, in order of coming
+  pub waiting : List Waiting
+
+abbrev pub no_initiator : Initiating
+no_initiator = record { phase = Off; work = None; next = 0; queue = [] }
+
+-- an agent of this start that knows nothing yet; with the start 0 one that isn't running
+abbrev pub new_agent : ℕ → AgentState
+new_agent start =
+    record {
+      start = start;
+      own = None;
+      decided = None;
+      taken = None;
+      said = λ h. None;
+      pending = [];
+      loaded = [];
+      initiating = no_initiator;
+      waiting = [];
+    }
+
+-- the term of the word that it has decided
+abbrev pub term_decided : Option Membership → ℕ
+term_decided None = 0
+term_decided (Some w) = term_of w
+
+-- it is the initiator by the word that it has decided
+abbrev pub is_initiator_in : ℕ → ℕ → Option (ℕ × ℕ) → Bool
+is_initiator_in host start None = false
+is_initiator_in host start (Some first) = first.0 == host && first.1 == start
+
+abbrev pub initiates : ℕ → AgentState → Option Membership → Bool
+initiates h a None = false
+initiates h a (Some w) = is_initiator_in h a.start (initiator w)
+
+-- ---- calls that are pending
+
+abbrev pub client_of : ℕ → List Pending → Option ℕ
+client_of call [] = None
+client_of call (p ∷ ps) = if p.call == call then Some p.client else client_of call ps
+
+abbrev pub without_call : ℕ → List Pending → List Pending
+without_call call [] = []
+without_call call (p ∷ ps) = if p.call == call then ps else p ∷ without_call call ps
+
+abbrev pub answers_client : AgentState → ℕ → End → Option ℕ → Turn AgentState
+answers_client a call e None = becomes a
+answers_client a call e (Some n) =
+    sending (record a { pending = without_call call a.pending }) (only (Client n) (open_letter (msg.Answer call e)))
+
+abbrev pub is_down_in : Deployment → Option Membership → Bool
+is_down_in D None = false
+is_down_in D (Some w) = is_down D w
+
+-- Reply, MpReply: unless the agent is down, the client gets the answer, if the call is pending.
+abbrev pub on_reply : Deployment → AgentState → ℕ → End → Turn AgentState
+on_reply D a call e = if is_down_in D a.decided then becomes a else answers_client a call e (client_of call a.pending)
+
+-- ---- stops
+
+-- Closed goes to all other agents and to all clients.
+abbrev pub closes : Deployment → ℕ → ℕ → Sends
+closes D h start (Agent g) = if is_host D g then (if g == h then [] else open_letter (msg.Closed start) ∷ []) else []
+closes D h start (Client n) = if is_client D n then open_letter (msg.Closed start) ∷ [] else []
+closes D h start b = []
+
+-- The agent stops. It sends Closed; where it stops of itself, the other actors of its host stop too.
+abbrev pub stops : Deployment → ℕ → AgentState → Turn AgentState
+stops D h a = sending (new_agent 0) (closes D h a.start)
+
+-- Stop to the other actors of a host of this start, from one of them that stops of itself
+abbrev pub stops_others : Deployment → ℕ → ℕ → Sends
+stops_others D h start (Agent g) = if g == h then open_letter (msg.Stop start) ∷ [] else []
+stops_others D h start (Site s) = if is_slot_of D h s then open_letter (msg.Stop start) ∷ [] else []
+stops_others D h start (Scanner x) = if is_slot_of D h x then open_letter (msg.Stop start) ∷ [] else []
+stops_others D h start b = []
+
+abbrev pub stops_with_host : Deployment → ℕ → AgentState → Turn AgentState
+stops_with_host D h a =
+    sending (new_agent 0) (λ b. elim b as (λ _. List Letter) [
+      | Agent g ↦ closes D h a.start (Agent g)
+      | _ ↦ closes D h a.start b ++ stops_others D h a.start b
+    ])

@@ -1,0 +1,22 @@
+-- What the cluster knows of the database.
+use Rattle.std.specs.Prelude.{ℕ, Bool, List, Option}
+use Rattle.volt_base.specs.Semantics.{Semantics}
+use Rattle.volt_base.specs.declared.entry.Outcome.{Outcome}
+
+-- What a call on all partitions does next: a round, in which each partition runs this body, or its end with a reply.
+-- A call that isn't kept is undone.
+pub data CoordStep : Type 0 where
+  Round : (body : List ℕ) → CoordStep
+  Finish : (keep : Bool) (reply : List ℕ) → CoordStep
+
+-- An abstract database: the tables of each partition, and how a call on all partitions goes on.
+pub record Database : Type 1 where
+  -- what the entries of a partition's log do to its tables
+  pub tables : Semantics
+  -- the last multi-partition transaction that was done in a partition before the boot
+  pub opening_done : ℕ → Option (ℕ × Outcome)
+  -- the tables as blocks, one after another, as a scan reads them out
+  pub blocks : tables.State → List (List ℕ)
+  -- what a call with this body does next, when each of its rounds so far was answered by these parts, one for each
+  -- partition in their order
+  pub asks : List ℕ → List (List (List ℕ)) → CoordStep

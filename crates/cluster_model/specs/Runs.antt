@@ -1,0 +1,114 @@
+-- Runs of the world, how a schedule chooses their events, and what a report shows of the last world.
+use Rattle.std.specs.Prelude.{ℕ, zero, suc, ◌≡◌, ◌+◌, ◌*◌, ◌/◌, ◌%◌, ◌^◌, ◌==◌, ◌&&◌, ◌||◌, not, Bool, true, false, nat_lt, nat_le, if◌then◌else◌, List, [], ◌∷◌, ◌++◌, map, filter, flat_map, length, slice_get, Option, Some, None, is_none}
+use Rattle.std.specs.List.{list_any, range_with_len}
+use Rattle.volt_base.specs.declared.entry.Applied.{Applied}
+use Rattle.volt_wire.specs.declared.event.Event.{Event}
+use Rattle.cluster_model.specs.Engine.{Database}
+use Rattle.cluster_model.specs.Log.{replay, applied_in, nothing_open}
+use Rattle.cluster_model.specs.Words.{Deployment, slots, part_of_slot}
+use Rattle.cluster_model.specs.Client.{Ended}
+use Rattle.cluster_model.specs.Director.{Seen}
+use Rattle.cluster_model.specs.SiteState.{SiteState, is_member_site}
+use Rattle.cluster_model.specs.World.{World}
+use Rattle.cluster_model.specs.Events.{Outside, Fair, can, allows, enabled, serves, step}
+
+-- ---- runs
+
+-- what happens in a run: events, each with the outside's share of it
+abbrev pub Happening : Type 0
+Happening = Event × Outside
+
+-- the world after these
+abbrev pub run : Database → List Happening → World → World
+run E [] w = w
+run E (e ∷ es) w = run E es (step E w e)
+
+-- each may happen in its turn
+abbrev pub IsRun : Database → List Happening → World → Type 0
+IsRun E [] w = Unit {0}
+IsRun E (e ∷ es) w = (can w e.0 && allows w e.0 e.1 ≡ true) × IsRun E es (step E w e)
+
+-- no event but Idle may happen
+abbrev pub IsQuiet : World → Type 0
+IsQuiet w = enabled w ≡ []
+
+-- ---- schedules
+
+-- `first`: each event is the first of those that may happen
+abbrev pub head : List Event → Option Event
+head [] = None
+head (e ∷ es) = Some e
+
+abbrev pub TakesFirst : Database → List Happening → World → Type 0
+TakesFirst E [] w = Unit {0}
+TakesFirst E (e ∷ es) w = (head (enabled w) ≡ Some e.0) × TakesFirst E es (step E w e)
+
+-- `draw N`: a chain of numbers that begins with N; each choice among n draws the next and takes the event of that number
+abbrev pub drawn : ℕ → ℕ
+drawn x = (x * 6364136223846793005 + 1442695040888963407) % 2 ^ 64
+
+abbrev pub choice : ℕ → ℕ → ℕ
+choice x zero = 0
+choice x (suc n) = x / 2 ^ 33 % suc n
+
+abbrev pub TakesDrawn : Database → ℕ → List Happening → World → Type 0
+TakesDrawn E x [] w = Unit {0}
+TakesDrawn E x (e ∷ es) w =
+    (slice_get (enabled w) (choice (drawn x) (length (enabled w))) ≡ Some e.0) × TakesDrawn E (drawn x) es (step E w e)
+
+-- the world after so many events that `first` chooses, while the outside does nothing
+abbrev pub first_step : Database → World → Option Event → World
+first_step E w None = w
+first_step E w (Some e) = step E w (e, Fair)
+
+abbrev pub by_first : Database → ℕ → World → World
+by_first E zero w = w
+by_first E (suc n) w = by_first E n (first_step E w (head (enabled w)))
+
+-- these events, while the outside does nothing
+abbrev pub fair : List Event → List Happening
+fair es = map (λ e. (e, Fair)) es
+
+-- ---- what a report shows of a world
+
+abbrev pub seen : Database → World → ℕ → Seen
+seen E w i =
+    record {
+      slot = i;
+      position = length (applied_in (w.sites i).log);
+      rows = E.tables.rows (replay E (part_of_slot w.deployment i) (w.sites i).log);
+    }
+
+-- the slots of running members in whose copies no transaction is open
+abbrev pub shown_slots : World → List ℕ
+shown_slots w =
+    filter (λ i. is_member_site (w.sites i) && nothing_open (w.sites i).log) (range_with_len 0 (slots w.deployment))
+
+abbrev pub copies : Database → World → List Seen
+copies E w = map (seen E w) (shown_slots w)
+
+-- ---- the serial list
+
+-- a list without the calls that stand earlier in it
+abbrev pub once_from : List Applied → List Applied → List Applied
+once_from before [] = []
+once_from before (a ∷ later) =
+    if list_any (λ b. b.call == a.call) before then once_from before later
+    else a ∷ once_from (a ∷ before) later
+
+-- one more call in a list that rises by point, behind those with its point
+abbrev pub by_point : Applied → List Applied → List Applied
+by_point a [] = a ∷ []
+by_point a (b ∷ later) = if nat_lt a.point b.point then a ∷ b ∷ later else b ∷ by_point a later
+
+abbrev pub sorted_from : List Applied → List Applied → List Applied
+sorted_from done [] = done
+sorted_from done (a ∷ later) = sorted_from (by_point a done) later
+
+-- The applied lists of the copies that are shown, merged by point, each call once. Calls with one point keep their order.
+abbrev pub serial : World → List Applied
+serial w = sorted_from [] (once_from [] (flat_map (λ i. applied_in (w.sites i).log) (shown_slots w)))
+
+-- the calls that ended, client by client
+abbrev pub ended : World → List Ended
+ended w = flat_map (λ n. (w.clients n).ended) (range_with_len 1 w.deployment.clients)

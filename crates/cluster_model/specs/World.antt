@@ -1,0 +1,249 @@
+-- The world: a state for each actor, the messages under way, and its history.
+use Rattle.std.specs.Prelude.{ℕ, zero, suc, ◌+◌, ◌-◌, ◌%◌, ◌==◌, ◌&&◌, ◌||◌, not, Bool, true, false, nat_lt, nat_le, if◌then◌else◌, max, List, [], ◌∷◌, ◌++◌, map, take, length, Option, Some, None}
+use Rattle.volt_base.specs.declared.entry.Entry.{Entry}
+use Rattle.volt_wire.specs.Word.{Membership}
+use Rattle.volt_wire.specs.declared.actor.Actor.{Actor}
+use Rattle.volt_wire.specs.declared.actor.Actor.TheVariants.{Director, Client, Agent, Site, Scanner}
+use Rattle.volt_wire.specs.declared.event.Event.{Event}
+use Rattle.volt_wire.specs.declared.item.TimedItem.{TimedItem}
+use Rattle.cluster_model.specs.Engine.{Database}
+use Rattle.cluster_model.specs.Words.{Deployment, parts, part_of_slot, host_of_slot, is_host, initiator}
+use Rattle.cluster_model.specs.Letters.{same, Letter, Sends, no_sends, Turn}
+use Rattle.cluster_model.specs.Log.{last_done, number_of}
+use Rattle.cluster_model.specs.Director.{DirectorState}
+use Rattle.cluster_model.specs.Client.{ClientState, Due}
+use Rattle.cluster_model.specs.AgentState.{AgentState, Initiating, Off, Idle, new_agent, no_initiator}
+use Rattle.cluster_model.specs.SiteState.{SiteState, site_term, leads, emptied, member_site}
+use Rattle.cluster_model.specs.Scanner.{ScannerState}
+
+-- ---- history, by which the laws speak of a run
+
+-- Of the copies of a partition that became a repaired leader since the last recovery that worked, the one of the greatest
+-- term: its log, as it stands or stood when it stopped. And the greatest position that a leader counted firm.
+pub record Lead : Type 0 where
+  pub term : ℕ
+  pub log : List Entry
+  pub firm : ℕ
+
+-- an actor that stopped of itself, and when
+pub record Stopped : Type 0 where
+  pub at : ℕ
+  pub actor : Actor
+  -- whether its disk failed; else it found no memory
+  pub for_disk : Bool
+
+-- A recovery: when, what the disk of each slot showed, as its mark and position, and the slot whose disk failed.
+pub record Recovery : Type 0 where
+  pub at : ℕ
+  pub shown : List (Option (ℕ × ℕ))
+  pub failed : Option ℕ
+  -- no item of the script asked for it
+  pub is_implied : Bool
+
+pub record World : Type 0 where
+  pub deployment : Deployment
+  pub director : DirectorState
+  pub clients : ℕ → ClientState
+  pub agents : ℕ → AgentState
+  pub sites : ℕ → SiteState
+  pub scanners : ℕ → ScannerState
+  -- the messages from one actor to another that weren't taken yet, the oldest first
+  pub channel : Actor → Actor → List Letter
+  -- the events so far; the k-th has stamp k
+  pub trace : List Event
+  -- history
+  pub leads : ℕ → Lead
+  pub stops : List Stopped
+  pub recoveries : List Recovery
+
+-- ---- changes of one place
+
+abbrev pub set_at : {A : Type 0} → (ℕ → A) → ℕ → A → ℕ → A
+set_at f i a j = if j == i then a else f j
+
+abbrev pub rest : {A : Type 0} → List A → List A
+rest [] = []
+rest (x ∷ xs) = xs
+
+-- the channels after `to` took the first message from `from`
+abbrev pub took : (Actor → Actor → List Letter) → Actor → Actor → Actor → Actor → List Letter
+took channel from to a b = if same to b && same from a then rest (channel a b) else channel a b
+
+-- the channels after `from` sent these messages
+abbrev pub sent : (Actor → Actor → List Letter) → Actor → Sends → Actor → Actor → List Letter
+sent channel from sends a b = if same from a then channel a b ++ sends b else channel a b
+
+-- the stamp of the event that happens next
+abbrev pub stamp_of : World → ℕ
+stamp_of w = length w.trace + 1
+
+-- ---- an actor after its turn
+
+abbrev pub with_director : World → Turn DirectorState → World
+with_director w t = record w { director = t.state; channel = sent w.channel Director t.sends }
+
+abbrev pub with_client : World → ℕ → Turn ClientState → World
+with_client w n t = record w { clients = set_at w.clients n t.state; channel = sent w.channel (Client n) t.sends }
+
+abbrev pub with_agent : World → ℕ → Turn AgentState → World
+with_agent w h t = record w { agents = set_at w.agents h t.state; channel = sent w.channel (Agent h) t.sends }
+
+-- the history of a partition after a turn of one of its sites
+abbrev pub lead_after : Deployment → ℕ → SiteState → Lead → Lead
+lead_after D i s l =
+    if leads D i s
+    then record {
+        term = max l.term (site_term s);
+        log = if nat_le l.term (site_term s) then s.log else l.log;
+        firm = max l.firm s.firm;
+      }
+    else l
+
+abbrev pub with_site : World → ℕ → Turn SiteState → World
+with_site w i t =
+    let p = part_of_slot w.deployment i in
+    record w {
+      sites = set_at w.sites i t.state;
+      channel = sent w.channel (Site i) t.sends;
+      leads = set_at w.leads p (lead_after w.deployment i t.state (w.leads p));
+    }
+
+abbrev pub with_scanner : World → ℕ → Turn ScannerState → World
+with_scanner w i t = record w { scanners = set_at w.scanners i t.state; channel = sent w.channel (Scanner i) t.sends }
+
+-- a stop of an actor is noted
+abbrev pub with_stop : World → Actor → Bool → World
+with_stop w a for_disk =
+    record w { stops = w.stops ++ record { at = stamp_of w; actor = a; for_disk = for_disk } ∷ [] }
+
+-- ---- members of a new word
+
+-- the hosts with their starts, where these are drawn in order of hosts from this one on
+abbrev pub hosts_from : ℕ → ℕ → ℕ → List (ℕ × ℕ)
+hosts_from zero host start = []
+hosts_from (suc n) host start = (host, start) ∷ hosts_from n (host + 1) (start + 1)
+
+-- the word with which all hosts begin
+abbrev pub new_word : Deployment → ℕ → ℕ → Membership
+new_word D base start =
+    record { base = base; first = hosts_from D.layout.hosts 0 start; lost = []; admitted = [] }
+
+-- The first number of the initiator is one above the greatest that was done.
+abbrev pub greatest_done : Database → (ℕ → List Entry) → ℕ → ℕ
+greatest_done E logs zero = 0
+greatest_done E logs (suc p) = max (number_of (last_done E p (logs p))) (greatest_done E logs p)
+
+-- the agent of the member with the least start, host 0, is the initiator and idle
+abbrev pub first_initiating : ℕ → ℕ → Initiating
+first_initiating zero next = record no_initiator { phase = Idle; next = next }
+first_initiating (suc h) next = no_initiator
+
+-- the agent of a host that begins with this word, whose hosts have their starts from this one on
+abbrev pub member_agent : Membership → ℕ → ℕ → ℕ → AgentState
+member_agent w next start h =
+    record (new_agent (start + h)) { own = Some w; decided = Some w; initiating = first_initiating h next }
+
+-- ---- the first world
+
+-- a call of the script: its client, the partition on which it runs or none for a call on all, and its body
+pub record AskedFor : Type 0 where
+  pub client : ℕ
+  pub part : Option ℕ
+  pub body : List ℕ
+
+-- what a world begins with
+pub record Input : Type 0 where
+  pub deployment : Deployment
+  pub calls : List AskedFor
+  pub items : List TimedItem
+  -- the base term: one above the greatest mark that the disks showed
+  pub base : ℕ
+
+-- the calls of client n among these, the first of which has this number
+abbrev pub due : ℕ → ℕ → List AskedFor → List Due
+due n number [] = []
+due n number (c ∷ cs) =
+    if c.client == n
+    then record { call = number; part = c.part; body = c.body } ∷ due n (number + 1) cs
+    else due n (number + 1) cs
+
+-- Host h has start h + 1. Each client knows all agents.
+abbrev pub first_known : Deployment → ℕ → Option ℕ
+first_known D h = if is_host D h then Some (h + 1) else None
+
+abbrev pub first_client : Input → ℕ → ClientState
+first_client I n =
+    record {
+      left = due n 1 I.calls;
+      pending = None;
+      known = first_known I.deployment;
+      present = (n - 1) % I.deployment.layout.hosts;
+      ended = [];
+    }
+
+abbrev pub first_director : Input → DirectorState
+first_director I =
+    record {
+      told = 0;
+      items = I.items;
+      next_start = I.deployment.layout.hosts + 1;
+      last_start = λ h. h + 1;
+      recovery_asked = false;
+      recovery_implied = false;
+      looks = [];
+    }
+
+-- a slot whose site never ran
+abbrev pub no_site : SiteState
+no_site =
+    record {
+      start = 0;
+      stop = 0;
+      greatest = 0;
+      earlier = 0;
+      view = None;
+      joining = None;
+      log = [];
+      floor = 0;
+      on_disk = 0;
+      mark = 0;
+      base = 0;
+      owes = None;
+      repaired = false;
+      reports = [];
+      acks = [];
+      firm = 0;
+      held = [];
+      joiners = [];
+      has_told = false;
+      calls = [];
+      asks = [];
+      scans = 0;
+      scanning = None;
+      waiting = [];
+      looks = 0;
+      contents = [];
+      plans = [];
+    }
+
+-- the start of the host of a slot, where hosts have their starts from this one on
+abbrev pub start_from : Deployment → ℕ → ℕ → ℕ
+start_from D start slot = start + host_of_slot D slot
+
+abbrev pub first_world : Database → Input → World
+first_world E I =
+    let D = I.deployment in
+    let w = new_word D I.base 1 in
+    record {
+      deployment = D;
+      director = first_director I;
+      clients = first_client I;
+      agents = λ h. if is_host D h then member_agent w (greatest_done E (λ p. []) (parts D) + 1) 1 h else new_agent 0;
+      sites = λ i. member_site D i no_site w (start_from D 1 i) [];
+      scanners = λ i. record { start = start_from D 1 i; stop = 0; scan = None };
+      channel = λ a b. [];
+      trace = [];
+      leads = λ p. record { term = I.base; log = []; firm = 0 };
+      stops = [];
+      recoveries = [];
+    }
