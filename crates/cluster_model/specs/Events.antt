@@ -164,7 +164,7 @@ is_actor D a = list_any (same a) (actors D)
 
 -- whether an event may happen
 abbrev pub can : World → Event → Bool
-can w (event.Deliver to from) = is_actor w.deployment to && is_actor w.deployment from && is_some_letter (w.channel from to)
+can w (event.Deliver to from) = is_some_letter (w.channel from to)
 can w (event.Sync i) = nat_lt i (slots w.deployment) && may_sync (w.sites i)
 can w (event.Scan i) = nat_lt i (slots w.deployment) && may_scan (w.scanners i)
 can w event.Recover = may_recover w

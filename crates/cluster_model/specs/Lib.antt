@@ -19,3 +19,4 @@ pub mod Runs
 pub mod Toy
 pub mod Rows
 pub mod PutAndGet
+pub mod Scratch

@@ -10,7 +10,7 @@ use Rattle.cluster_model.specs.Client.{Ended}
 use Rattle.cluster_model.specs.Director.{Seen}
 use Rattle.cluster_model.specs.SiteState.{SiteState, is_member_site}
 use Rattle.cluster_model.specs.World.{World}
-use Rattle.cluster_model.specs.Events.{Outside, Fair, can, allows, enabled, serves, step}
+use Rattle.cluster_model.specs.Events.{Outside, Fair, can, allows, events, enabled, serves, step}
 
 -- ---- runs
 
@@ -34,14 +34,21 @@ IsQuiet w = enabled w ≡ []
 
 -- ---- schedules
 
--- `first`: each event is the first of those that may happen
-abbrev pub head : List Event → Option Event
-head [] = None
-head (e ∷ es) = Some e
+-- the first of these events that may happen
+abbrev pub first_that : (Event → Bool) → List Event → Option Event
+first_that may [] = None
+first_that may (e ∷ es) = elim (may e) as (λ _. Option Event) [
+    | true ↦ Some e
+    | false ↦ first_that may es
+  ]
 
+abbrev pub first_enabled : World → Option Event
+first_enabled w = first_that (can w) (events w.deployment)
+
+-- `first`: each event is the first of those that may happen
 abbrev pub TakesFirst : Database → List Happening → World → Type 0
 TakesFirst E [] w = Unit {0}
-TakesFirst E (e ∷ es) w = (head (enabled w) ≡ Some e.0) × TakesFirst E es (step E w e)
+TakesFirst E (e ∷ es) w = (first_enabled w ≡ Some e.0) × TakesFirst E es (step E w e)
 
 -- `draw N`: a chain of numbers that begins with N; each choice among n draws the next and takes the event of that number
 abbrev pub drawn : ℕ → ℕ
@@ -63,7 +70,7 @@ first_step E w (Some e) = step E w (e, Fair)
 
 abbrev pub by_first : Database → ℕ → World → World
 by_first E zero w = w
-by_first E (suc n) w = by_first E n (first_step E w (head (enabled w)))
+by_first E (suc n) w = by_first E n (first_step E w (first_enabled w))
 
 -- these events, while the outside does nothing
 abbrev pub fair : List Event → List Happening
