@@ -8,10 +8,11 @@ use Rattle.volt_wire.specs.declared.end.End.{End}
 use Rattle.volt_wire.specs.declared.end.End.TheVariants as end
 use Rattle.volt_wire.specs.declared.message.Msg.{Msg}
 use Rattle.volt_wire.specs.declared.message.Msg.TheVariants as msg
+use Rattle.cluster_model.specs.Outside.{Outside, Fair, DiskFails, NoMemory, DisksShow}
 use Rattle.cluster_model.specs.Engine.{Database}
-use Rattle.cluster_model.specs.Words.{Deployment, host_of_slot, part_of_slot, is_host, is_client, is_slot_of, slots_of_host, is_in, with_number, term_of, same_word, union, with_lost, members, start_of, is_some_of, is_member, admits, initiator, leader, start_of_slot, part_down, is_down}
-use Rattle.cluster_model.specs.Letters.{Letter, Sends, no_sends, Turn, becomes, sending, ◌▸◌, open_letter, letter_to, letter_in, only, arrival, Taken, Left, Waits, Waiting, of_term, above_term}
-use Rattle.cluster_model.specs.AgentState.{AgentState, Pending, Job_, RunCall, TakeSnapshot, Admission, new_agent, term_decided, initiates, on_reply, stops, closes, stops_with_host}
+use Rattle.cluster_model.specs.Words.{Deployment, host_of_slot, part_of_slot, is_host, is_client, is_slot_of, slots_of_host, is_in, with_number, term_of, term_in, same_word, union, with_lost, members, start_of, is_some_of, is_member, admits, initiator, leader, start_of_slot, part_down, is_down}
+use Rattle.cluster_model.specs.Letters.{Letter, Sends, no_sends, Turn, becomes, sending, ◌▸◌, open_letter, letter_to, letter_in, only, arrival, Taken, Refused, Waits, Waiting, of_term, above_term}
+use Rattle.cluster_model.specs.AgentState.{AgentState, Pending, Job_, RunCall, TakeSnapshot, Admission, new_agent, initiates, on_reply, stops, closes, stops_with_host}
 use Rattle.cluster_model.specs.Initiator.{queues, on_frag_done, on_finished, on_mp_state, on_decided_word}
 
 -- ---- calls
@@ -86,7 +87,7 @@ abbrev pub on_decided : Deployment → ℕ → AgentState → Option Membership 
 on_decided D h a (Some decided) taken w = becomes a
 on_decided D h a None None w = takes_word D h a w
 on_decided D h a None (Some taken) w =
-    if nat_lt (term_of taken) (term_of w) && not (admits w a.start) then stops_with_host D h a else becomes a
+    if nat_lt (term_of taken) (term_of w) && not (admits w a.start) then stops_with_host D h a.start else becomes a
 
 -- Loaded: with all its sites the agent asks the initiator of the word that it took to be admitted.
 abbrev pub asks_initiator : AgentState → Membership → Option (ℕ × ℕ) → Turn AgentState
@@ -213,14 +214,15 @@ agent_row E D h stamp a (Scanner x) l = becomes a
 abbrev pub row_and_word : Database → Deployment → ℕ → ℕ → AgentState → Actor → Letter → Turn AgentState
 row_and_word E D h stamp a from l = agent_row E D h stamp a from l ▸ agrees D h a.own
 
--- The messages that waited for its term are taken after all else, in order of coming.
+-- The messages that waited for its term are taken after all else, in order of coming. None of them brings another word to
+-- decide.
 abbrev pub takes_each : Database → Deployment → ℕ → ℕ → List Waiting → AgentState → Turn AgentState
 takes_each E D h stamp [] a = becomes a
 takes_each E D h stamp (w ∷ ws) a = row_and_word E D h stamp a w.from w.letter ▸ takes_each E D h stamp ws
 
 abbrev pub takes_waiting : Database → Deployment → ℕ → ℕ → AgentState → Turn AgentState
 takes_waiting E D h stamp a =
-    let term = term_decided a.decided in
+    let term = term_in a.decided in
     takes_each E D h stamp (of_term term a.waiting) (record a { waiting = above_term term a.waiting })
 
 -- Start: an agent that runs ignores it, else it joins: Hello goes to all other agents.
@@ -233,13 +235,13 @@ on_start D h start =
 
 -- Stop: an agent of a start not above it stops.
 abbrev pub on_stop : Deployment → ℕ → AgentState → ℕ → Turn AgentState
-on_stop D h a start = if nat_le a.start start then stops D h a else becomes a
+on_stop D h a start = if nat_le a.start start then stops D h a.start else becomes a
 
 abbrev pub agent_runs : Database → Deployment → ℕ → ℕ → AgentState → Actor → Letter → Turn AgentState
-agent_runs E D h stamp a from l = elim (arrival a.start (term_decided a.decided) l) as (λ _. Turn AgentState) [
+agent_runs E D h stamp a from l = elim (arrival a.start (term_in a.decided) l) as (λ _. Turn AgentState) [
     | Taken ↦ row_and_word E D h stamp a from l ▸ takes_waiting E D h stamp
     | Waits ↦ becomes (record a { waiting = a.waiting ++ record { from = from; letter = l } ∷ [] })
-    | Left ↦ becomes a
+    | Refused ↦ becomes a
   ]
 
 -- The agent of host h after a message, and what it sends. One that is stopped takes Start alone.
@@ -249,3 +251,17 @@ agent_takes E D h stamp a from l = elim l.body as (λ _. Turn AgentState) [
     | msg.Stop start ↦ if a.start == 0 then becomes a else on_stop D h a start
     | _ ↦ if a.start == 0 then becomes a else agent_runs E D h stamp a from l
   ]
+
+-- ---- the outside's share
+
+-- the start with which it goes on once it has taken a message, before anything else
+abbrev pub start_after : AgentState → Letter → ℕ
+start_after a l = elim l.body as (λ _. ℕ) [
+    | msg.Start start ↦ if a.start == 0 then start else a.start
+    | _ ↦ a.start
+  ]
+
+-- An agent that finds no memory stops with its host.
+abbrev pub agent_turn : Database → Deployment → ℕ → ℕ → AgentState → Actor → Letter → Outside → Turn AgentState
+agent_turn E D h stamp a from l (NoMemory answered) = stops_with_host D h (start_after a l)
+agent_turn E D h stamp a from l o = agent_takes E D h stamp a from l

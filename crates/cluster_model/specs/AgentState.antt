@@ -31,7 +31,8 @@ pub data Queued : Type 0 where
 -- how the initiator decided the job at hand, and what its call is answered
 pub record Decision : Type 0 where
   pub outcome : Outcome
-  pub end : End
+  -- none for a snapshot
+  pub end : Option End
 
 -- the job at hand
 pub record Work : Type 0 where
@@ -47,7 +48,7 @@ pub record Work : Type 0 where
   pub finished : List ℕ
 
 -- what a partition told of itself in a new term: the transaction that is open, or the last one that was done
-pub record Told : Type 0 where
+pub record Heard : Type 0 where
   pub part : ℕ
   pub m : ℕ
   pub is_open : Bool
@@ -57,7 +58,7 @@ pub data Phase : Type 0 where
   -- it isn't the initiator
   Off : Phase
   -- it waits for what all partitions tell of themselves
-  Hears : List Told → Phase
+  Hears : List Heard → Phase
   -- It closes this transaction in these partitions, and it is closed for good in those.
   Closes : (m : ℕ) (parts : List ℕ) (finished : List ℕ) → Phase
   Idle : Phase
@@ -110,11 +111,6 @@ new_agent start =
       waiting = [];
     }
 
--- the term of the word that it has decided
-abbrev pub term_decided : Option Membership → ℕ
-term_decided None = 0
-term_decided (Some w) = term_of w
-
 -- it is the initiator by the word that it has decided
 abbrev pub is_initiator_in : ℕ → ℕ → Option (ℕ × ℕ) → Bool
 is_initiator_in host start None = false
@@ -155,9 +151,9 @@ closes D h start (Agent g) = if is_host D g then (if g == h then [] else open_le
 closes D h start (Client n) = if is_client D n then open_letter (msg.Closed start) ∷ [] else []
 closes D h start b = []
 
--- The agent stops. It sends Closed; where it stops of itself, the other actors of its host stop too.
-abbrev pub stops : Deployment → ℕ → AgentState → Turn AgentState
-stops D h a = sending (new_agent 0) (closes D h a.start)
+-- The agent stops, and sends Closed.
+abbrev pub stops : Deployment → ℕ → ℕ → Turn AgentState
+stops D h start = sending (new_agent 0) (closes D h start)
 
 -- Stop to the other actors of a host of this start, from one of them that stops of itself
 abbrev pub stops_others : Deployment → ℕ → ℕ → Sends
@@ -166,9 +162,10 @@ stops_others D h start (Site s) = if is_slot_of D h s then open_letter (msg.Stop
 stops_others D h start (Scanner x) = if is_slot_of D h x then open_letter (msg.Stop start) ∷ [] else []
 stops_others D h start b = []
 
-abbrev pub stops_with_host : Deployment → ℕ → AgentState → Turn AgentState
-stops_with_host D h a =
+-- An agent of this start that stops of itself sends Closed, and stops the other actors of its host.
+abbrev pub stops_with_host : Deployment → ℕ → ℕ → Turn AgentState
+stops_with_host D h start =
     sending (new_agent 0) (λ b. elim b as (λ _. List Letter) [
-      | Agent g ↦ closes D h a.start (Agent g)
-      | _ ↦ closes D h a.start b ++ stops_others D h a.start b
+      | Agent g ↦ closes D h start (Agent g)
+      | _ ↦ closes D h start b ++ stops_others D h start b
     ])

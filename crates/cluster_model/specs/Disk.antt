@@ -7,7 +7,7 @@ use Rattle.volt_base.specs.declared.entry.Outcome.{Outcome}
 use Rattle.volt_base.specs.declared.entry.Outcome.TheVariants as outcome
 use Rattle.partition_ring.specs.Placement.{slots_of_part}
 use Rattle.cluster_model.specs.Engine.{Database}
-use Rattle.cluster_model.specs.Log.{open_in, last_done}
+use Rattle.cluster_model.specs.Log.{open_in, last_done, first_outcome, greater}
 use Rattle.cluster_model.specs.Words.{Deployment, all_parts}
 
 -- What a disk that isn't blank shows: the greatest term whose mark is on it, and a log. Its base is the tables at one
@@ -53,7 +53,7 @@ best_of (c ∷ cs) = better c (best_of cs)
 abbrev pub shown_of_part : Deployment → (ℕ → Shown) → ℕ → List Shown
 shown_of_part D shown p = map shown (slots_of_part D.layout.k p)
 
--- the log that is chosen for a partition; where all its disks are blank the tables are empty
+-- The log that is chosen for a partition. Were all its disks blank, it would be that of the opening.
 abbrev pub chosen : Deployment → (ℕ → Shown) → ℕ → List Entry
 chosen D shown p = unwrap_or (option_map (λ c. c.log) (best_of (shown_of_part D shown p))) []
 
@@ -68,31 +68,15 @@ greatest_mark (c ∷ cs) = max (mark_of c) (greatest_mark cs)
 
 -- ---- the transaction that is open in the chosen logs
 
-abbrev pub greater : Option ℕ → Option ℕ → Option ℕ
-greater None b = b
-greater (Some a) None = Some a
-greater (Some a) (Some b) = Some (max a b)
-
 -- the greatest number that is open in one of these logs
 abbrev pub greatest_open : List (List Entry) → Option ℕ
 greatest_open [] = None
 greatest_open (log ∷ logs) = greater (open_in log) (greatest_open logs)
 
-abbrev pub is_its_outcome : ℕ → Option (ℕ × Outcome) → Bool
-is_its_outcome m None = false
-is_its_outcome m (Some (n, outcome.Snapshot)) = false
-is_its_outcome m (Some (n, o)) = n == m
-
-abbrev pub outcome_in : Option (ℕ × Outcome) → Outcome
-outcome_in None = outcome.Dropped
-outcome_in (Some last) = last.1
-
 -- The outcome of the first log, in order of partitions, whose last transaction has that number and an outcome other than
 -- that of a snapshot. Without one it is dropped.
-abbrev pub resolved : Database → Deployment → (ℕ → List Entry) → ℕ → List ℕ → Outcome
-resolved E D logs m [] = outcome.Dropped
-resolved E D logs m (p ∷ ps) =
-    if is_its_outcome m (last_done E p (logs p)) then outcome_in (last_done E p (logs p)) else resolved E D logs m ps
+abbrev pub resolved : Database → Deployment → (ℕ → List Entry) → ℕ → Outcome
+resolved E D logs m = first_outcome m (map (λ p. last_done E p (logs p)) (all_parts D))
 
 -- a log with its open transaction closed: at the greatest number with the outcome that was found, at a lower one dropped
 abbrev pub closed : List Entry → Option ℕ → Option ℕ → Outcome → List Entry
@@ -102,7 +86,7 @@ closed log (Some m) greatest o =
 
 abbrev pub resolved_log : Database → Deployment → (ℕ → List Entry) → Option ℕ → ℕ → List Entry
 resolved_log E D logs greatest p =
-    closed (logs p) (open_in (logs p)) greatest (resolved E D logs (unwrap_or greatest 0) (all_parts D))
+    closed (logs p) (open_in (logs p)) greatest (resolved E D logs (unwrap_or greatest 0))
 
 -- the logs with which a recovery goes on, from what each disk showed
 abbrev pub recovered : Database → Deployment → (ℕ → Shown) → ℕ → List Entry

@@ -13,7 +13,9 @@ pub data CoordStep : Type 0 where
 pub record Database : Type 1 where
   -- what the entries of a partition's log do to its tables
   pub tables : Semantics
-  -- the last multi-partition transaction that was done in a partition before the boot
+  -- the tables of a partition with which a run opens, as the disks showed them at the boot
+  pub opening : ℕ → tables.State
+  -- the last multi-partition transaction that was done in a partition by then
   pub opening_done : ℕ → Option (ℕ × Outcome)
   -- the tables as blocks, one after another, as a scan reads them out
   pub blocks : tables.State → List (List ℕ)

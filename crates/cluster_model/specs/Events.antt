@@ -16,86 +16,29 @@ use Rattle.cluster_model.specs.Letters.{same, Letter, Sends, Turn, becomes, send
 use Rattle.cluster_model.specs.Disk.{Shown, after_parts, after_failure}
 use Rattle.cluster_model.specs.Director.{DirectorState, does_next, director_takes}
 use Rattle.cluster_model.specs.Client.{ClientState, may_submit, submits, client_takes}
-use Rattle.cluster_model.specs.AgentState.{AgentState, stops_with_host, stops_others}
-use Rattle.cluster_model.specs.Agent.{agent_takes}
+use Rattle.cluster_model.specs.AgentState.{AgentState}
+use Rattle.cluster_model.specs.Agent.{agent_turn, start_after as agent_start}
 use Rattle.cluster_model.specs.SiteState.{SiteState}
-use Rattle.cluster_model.specs.Site.{site_takes}
-use Rattle.cluster_model.specs.Sync.{may_sync, syncs, parts_of_sync, parts_of_message, stops_at_part}
-use Rattle.cluster_model.specs.Scanner.{ScannerState, scanner_takes, may_scan, scans, stopped_scanner}
-use Rattle.cluster_model.specs.World.{World, took, stamp_of, with_director, with_client, with_agent, with_site, with_scanner, with_stop}
-use Rattle.cluster_model.specs.Recover.{recovers}
-
--- The outside's share of an event.
-pub data Outside : Type 0 where
-  -- nothing
-  Fair : Outside
-  -- the disk of the event's site failed, after so many of the event's parts had answered
-  DiskFails : (answered : ℕ) → Outside
-  -- the event's actor found no memory, after so many parts had answered
-  NoMemory : (answered : ℕ) → Outside
-  -- In a recovery: which of the contents that its disk may show each slot's disk showed, counted from 0, and the slot whose
-  -- disk failed, if one did, as it was read or as its base was written.
-  DisksShow : (shown : List ℕ) (failed : Option (ℕ × Bool)) → Outside
+use Rattle.cluster_model.specs.Sync.{may_sync, parts_of_sync, parts_of_message, site_turn, sync_turn, start_after as site_start}
+use Rattle.cluster_model.specs.Scanner.{ScannerState, may_scan, scanner_turn, scan_turn, start_after as scanner_start}
+use Rattle.cluster_model.specs.Outside.{Outside, Fair, DiskFails, NoMemory, DisksShow}
+use Rattle.cluster_model.specs.World.{World, took, stamp_of, with_director, with_client, with_agent, with_site, with_scanner, stop_noted}
+use Rattle.cluster_model.specs.Recover.{recovers, count_shown}
 
 -- ---- the receiver takes a message
-
--- a site after a message that it took whole
-abbrev pub site_answers : Database → Deployment → ℕ → ℕ → SiteState → Actor → Letter → Turn SiteState
-site_answers E D stamp i s from l =
-    let t = site_takes E D stamp i s from l in
-    sending (record t.state { contents = after_parts t.state.contents (parts_of_message s l) }) t.sends
-
-abbrev pub site_with : Database → World → ℕ → Actor → Letter → Outside → World
-site_with E w i from l (DiskFails answered) =
-    with_site (with_stop w (Site i) true) i
-    (stops_at_part w.deployment i (w.sites i) (after_failure (w.sites i).contents (parts_of_message (w.sites i) l) answered))
-site_with E w i from l (NoMemory answered) =
-    with_site (with_stop w (Site i) false) i
-    (stops_at_part w.deployment i (w.sites i) (after_parts (w.sites i).contents (take answered (parts_of_message (w.sites i) l))))
-site_with E w i from l o = with_site w i (site_answers E w.deployment (stamp_of w) i (w.sites i) from l)
-
-abbrev pub agent_with : Database → World → ℕ → Actor → Letter → Outside → World
-agent_with E w h from l (NoMemory answered) =
-    with_agent (with_stop w (Agent h) false) h (stops_with_host w.deployment h (w.agents h))
-agent_with E w h from l o = with_agent w h (agent_takes E w.deployment h (stamp_of w) (w.agents h) from l)
-
--- a scanner that finds no memory stops with its host
-abbrev pub scanner_stops : Deployment → ℕ → ScannerState → Turn ScannerState
-scanner_stops D i x =
-    sending (stopped_scanner x) (λ b. if same (Scanner i) b then [] else stops_others D (host_of_slot D i) x.start b)
-
-abbrev pub scanner_with : World → ℕ → Actor → Letter → Outside → World
-scanner_with w i from l (NoMemory answered) =
-    with_scanner (with_stop w (Scanner i) false) i (scanner_stops w.deployment i (w.scanners i))
-scanner_with w i from l o = with_scanner w i (becomes (scanner_takes (w.scanners i) from l))
 
 abbrev pub received : Database → World → Actor → Actor → Letter → Outside → World
 received E w Director from l o = with_director w (becomes (director_takes w.director from l))
 received E w (Client n) from l o = with_client w n (becomes (client_takes (stamp_of w) n (w.clients n) from l))
-received E w (Agent h) from l o = agent_with E w h from l o
-received E w (Site i) from l o = site_with E w i from l o
-received E w (Scanner i) from l o = scanner_with w i from l o
+received E w (Agent h) from l o = with_agent w h (agent_turn E w.deployment h (stamp_of w) (w.agents h) from l o)
+received E w (Site i) from l o = with_site w i (site_turn E w.deployment (stamp_of w) i (w.sites i) from l o)
+received E w (Scanner i) from l o = with_scanner w i (scanner_turn w.deployment i (w.scanners i) from l o)
 
 -- the first message leaves its channel
 abbrev pub delivered : Database → World → Actor → Actor → List Letter → Outside → World
 delivered E w to from [] o = w
-delivered E w to from (l ∷ ls) o = received E (record w { channel = took w.channel from to }) to from l o
-
--- ---- events of one actor
-
-abbrev pub synced : Database → World → ℕ → Outside → World
-synced E w i (DiskFails answered) =
-    with_site (with_stop w (Site i) true) i
-    (stops_at_part w.deployment i (w.sites i) (after_failure (w.sites i).contents (parts_of_sync (w.sites i) (w.sites i).joining) answered))
-synced E w i (NoMemory answered) =
-    with_site (with_stop w (Site i) false) i
-    (stops_at_part w.deployment i (w.sites i) (after_parts (w.sites i).contents (take answered (parts_of_sync (w.sites i) (w.sites i).joining))))
-synced E w i o = with_site w i (syncs E w.deployment i (w.sites i))
-
-abbrev pub scanned : World → ℕ → Outside → World
-scanned w i (NoMemory answered) =
-    with_scanner (with_stop w (Scanner i) false) i (scanner_stops w.deployment i (w.scanners i))
-scanned w i o = with_scanner w i (scans i (w.scanners i) (w.scanners i).scan)
+delivered E w to from (l ∷ ls) o =
+    received E (stop_noted (record w { channel = took w.channel from to }) to o) to from l o
 
 -- ---- which events may happen
 
@@ -154,7 +97,7 @@ may_do w [] = false
 may_do w (next ∷ left) =
     nat_le next.after w.director.told && not w.director.recovery_asked && not (is_quiet_item next.item && is_under_way w)
 
--- Where nothing else may happen and the cluster doesn't serve, a last item is implied.
+-- Where nothing but items of the script may happen and the cluster doesn't serve, a last item is implied.
 abbrev pub is_implied : World → Bool
 is_implied w =
     not (serves w) && not (is_under_way w) && not (list_any (may_submit_in w) (range_with_len 1 w.deployment.clients))
@@ -196,36 +139,45 @@ parts_of w (event.Deliver (Site i) from) = first_letter_parts (w.sites i) (w.cha
 parts_of w (event.Sync i) = length (parts_of_sync (w.sites i) (w.sites i).joining)
 parts_of w e = 0
 
--- A disk fails in a Sync or in a message that has a part.
+-- A disk fails in a Sync or in a message that has a part: in one of the parts, or in a call behind them.
 abbrev pub may_fail_disk : World → Event → ℕ → Bool
 may_fail_disk w (event.Sync i) answered = nat_le answered (parts_of w (event.Sync i))
-may_fail_disk w (event.Deliver to from) answered = nat_lt answered (parts_of w (event.Deliver to from))
+may_fail_disk w (event.Deliver to from) answered =
+    nat_lt 0 (parts_of w (event.Deliver to from)) && nat_le answered (parts_of w (event.Deliver to from))
 may_fail_disk w e answered = false
 
--- whether the actor of an event runs on a host
-abbrev pub runs_on_host : World → Actor → Bool
-runs_on_host w (Agent h) = nat_lt 0 (w.agents h).start
-runs_on_host w (Site i) = nat_lt 0 (w.sites i).start
-runs_on_host w (Scanner i) = nat_lt 0 (w.scanners i).start
-runs_on_host w a = false
+-- Stop and Power, which only note a number, take none at a site or a scanner.
+abbrev pub takes_memory : Letter → Bool
+takes_memory l = elim l.body as (λ _. Bool) [
+    | msg.Stop start ↦ false
+    | msg.Power call choice ↦ false
+    | _ ↦ true
+  ]
+
+-- whether the receiver of the first of these runs on a host, once it has taken it
+abbrev pub runs_with : World → Actor → List Letter → Bool
+runs_with w (Agent h) (l ∷ ls) = nat_lt 0 (agent_start (w.agents h) l)
+runs_with w (Site i) (l ∷ ls) = nat_lt 0 (site_start (w.sites i) l) && takes_memory l
+runs_with w (Scanner i) (l ∷ ls) = nat_lt 0 (scanner_start (w.scanners i) l) && takes_memory l
+runs_with w to ls = false
 
 abbrev pub may_want_memory : World → Event → ℕ → Bool
-may_want_memory w (event.Deliver to from) answered = runs_on_host w to && nat_le answered (parts_of w (event.Deliver to from))
+may_want_memory w (event.Deliver to from) answered = runs_with w to (w.channel from to) && nat_le answered (parts_of w (event.Deliver to from))
 may_want_memory w (event.Sync i) answered = nat_le answered (parts_of w (event.Sync i))
 may_want_memory w (event.Scan i) answered = answered == 0
 may_want_memory w e answered = false
 
--- each disk shows one of its contents, and the disk that failed is one of a slot
-abbrev pub is_shown : World → List ℕ → Bool
-is_shown w shown =
-    list_all (λ i. nat_lt (slice_index shown i) (length (w.sites i).contents)) (range_with_len 0 (slots w.deployment))
+-- each disk that showed a content showed one of its own, and the disk that failed is one of a slot
+abbrev pub is_shown : World → List ℕ → Option (ℕ × Bool) → Bool
+is_shown w shown failed =
+    list_all (λ i. nat_lt (slice_index shown i) (length (w.sites i).contents)) (range_with_len 0 (count_shown w.deployment failed))
 
 abbrev pub is_slot_or_none : Deployment → Option (ℕ × Bool) → Bool
 is_slot_or_none D None = true
 is_slot_or_none D (Some failed) = nat_lt failed.0 (slots D)
 
 abbrev pub allows : World → Event → Outside → Bool
-allows w event.Recover (DisksShow shown failed) = is_shown w shown && is_slot_or_none w.deployment failed
+allows w event.Recover (DisksShow shown failed) = is_shown w shown failed && is_slot_or_none w.deployment failed
 allows w event.Recover o = false
 allows w e Fair = true
 allows w e (DiskFails answered) = may_fail_disk w e answered
@@ -240,8 +192,8 @@ recovered_with E w o = w
 
 abbrev pub happens : Database → World → Event → Outside → World
 happens E w (event.Deliver to from) o = delivered E w to from (w.channel from to) o
-happens E w (event.Sync i) o = synced E w i o
-happens E w (event.Scan i) o = scanned w i o
+happens E w (event.Sync i) o = with_site (stop_noted w (Site i) o) i (sync_turn E w.deployment i (w.sites i) o)
+happens E w (event.Scan i) o = with_scanner (stop_noted w (Scanner i) o) i (scan_turn w.deployment i (w.scanners i) o)
 happens E w event.Recover o = recovered_with E w o
 happens E w event.Item o = with_director w (does_next w.deployment (may_do w w.director.items) w.director w.director.items)
 happens E w (event.Submit n) o =

@@ -11,9 +11,10 @@ use Rattle.volt_wire.specs.declared.end.End.TheVariants as end
 use Rattle.volt_wire.specs.declared.message.Msg.{Msg}
 use Rattle.volt_wire.specs.declared.message.Msg.TheVariants as msg
 use Rattle.cluster_model.specs.Engine.{Database, CoordStep, Round, Finish}
+use Rattle.cluster_model.specs.Log.{first_outcome, greater}
 use Rattle.cluster_model.specs.Words.{Deployment, slots, all_parts, part_of_slot, start_of_slot, leader, is_some_of, is_in, term_of, same_word, with_admitted}
 use Rattle.cluster_model.specs.Letters.{Blocks, Letter, Sends, no_sends, Turn, becomes, sending, ◌▸◌, letter_to, letter_in, only}
-use Rattle.cluster_model.specs.AgentState.{AgentState, Initiating, Phase, Off, Hears, Closes, Idle, Works, Work, Job, RunCall, TakeSnapshot, Queued, Job_, Admission, Decision, Told, initiates, client_of, answers_client, on_reply}
+use Rattle.cluster_model.specs.AgentState.{AgentState, Initiating, Phase, Off, Hears, Closes, Idle, Works, Work, Job, RunCall, TakeSnapshot, Queued, Job_, Admission, Decision, Heard, initiates, client_of, answers_client, on_reply}
 
 -- ---- what goes to the leaders of the partitions
 
@@ -64,7 +65,7 @@ begins E D a (RunCall call host start body) =
     (to_all_leaders D a.decided (msg.Frag a.initiating.next 1 (body_of_round (E.asks body []))))
 begins E D a TakeSnapshot =
     sending
-    (with_work (numbered a) (record (new_work TakeSnapshot a.initiating.next) { decision = Some (record { outcome = outcome.Snapshot; end = end.Lost }) }))
+    (with_work (numbered a) (record (new_work TakeSnapshot a.initiating.next) { decision = Some (record { outcome = outcome.Snapshot; end = None }) }))
     (to_all_leaders D a.decided (msg.Done a.initiating.next outcome.Snapshot))
 
 -- ---- its queue
@@ -96,9 +97,10 @@ queues E D a q =
 -- ---- a job ends
 
 -- The agent that asked gets the answer; the initiator itself hands it to the client.
-abbrev pub answers : Deployment → ℕ → AgentState → Job → End → Turn AgentState
+abbrev pub answers : Deployment → ℕ → AgentState → Job → Option End → Turn AgentState
+answers D h a job None = becomes a
 answers D h a TakeSnapshot e = becomes a
-answers D h a (RunCall call host start body) e =
+answers D h a (RunCall call host start body) (Some e) =
     if host == h && start == a.start then on_reply D a call e
     else sending a (only (Agent host) (letter_to start (msg.MpReply call e)))
 
@@ -106,7 +108,7 @@ answers D h a (RunCall call host start body) e =
 abbrev pub rests : Database → Deployment → AgentState → Turn AgentState
 rests E D a = works_queue E D (no_work a) a.initiating.queue
 
-abbrev pub ends_job : Database → Deployment → ℕ → AgentState → Job → End → Turn AgentState
+abbrev pub ends_job : Database → Deployment → ℕ → AgentState → Job → Option End → Turn AgentState
 ends_job E D h a job e = answers D h a job e ▸ rests E D
 
 -- ---- rounds
@@ -136,7 +138,7 @@ outcome_of keep TakeSnapshot point = outcome.Snapshot
 abbrev pub decides : Deployment → ℕ → AgentState → Work → Bool → List ℕ → Turn AgentState
 decides D stamp a w keep reply =
     let outcome = outcome_of keep w.job stamp in
-    sending (with_work a (record w { decision = Some (record { outcome = outcome; end = end_of_reply reply }) }))
+    sending (with_work a (record w { decision = Some (record { outcome = outcome; end = Some (end_of_reply reply) }) }))
     (to_all_leaders D a.decided (msg.Done w.m outcome))
 
 -- the next round, or the decision
@@ -201,60 +203,51 @@ on_finished E D h a (Closes closing parts finished) work p m =
 on_finished E D h a phase work p m = becomes a
 
 -- the greatest number of those told, and the greatest of those that are open, if one is
-abbrev pub greatest_told : List Told → ℕ
+abbrev pub greatest_told : List Heard → ℕ
 greatest_told [] = 0
 greatest_told (t ∷ ts) = max t.m (greatest_told ts)
 
-abbrev pub greater_open : Option ℕ → ℕ → Option ℕ
-greater_open None m = Some m
-greater_open (Some n) m = Some (max n m)
-
-abbrev pub open_told : List Told → Option ℕ
+abbrev pub open_told : List Heard → Option ℕ
 open_told [] = None
-open_told (t ∷ ts) = if t.is_open then greater_open (open_told ts) t.m else open_told ts
+open_told (t ∷ ts) = if t.is_open then greater (Some t.m) (open_told ts) else open_told ts
 
-abbrev pub is_reported : ℕ → Told → Option Outcome → Bool
-is_reported m t None = false
-is_reported m t (Some outcome.Snapshot) = false
-is_reported m t (Some o) = not t.is_open && t.m == m
-
--- the first outcome of a transaction that was told, other than that of a snapshot; without one it is dropped
-abbrev pub told_outcome : ℕ → List Told → Outcome
-told_outcome m [] = outcome.Dropped
-told_outcome m (t ∷ ts) = if is_reported m t t.outcome then unwrap_or t.outcome outcome.Dropped else told_outcome m ts
+-- the last transaction that a partition told, if none is open there
+abbrev pub last_told : Heard → Option (ℕ × Outcome)
+last_told t = if t.is_open then None else option_map (λ o. (t.m, o)) t.outcome
 
 -- its own decision is the outcome, if it has one of this transaction
 abbrev pub own_decision : ℕ → Option Work → Option Decision
 own_decision m None = None
 own_decision m (Some w) = if w.m == m then w.decision else None
 
-abbrev pub closing_outcome : ℕ → List Told → Option Decision → Outcome
-closing_outcome m told None = told_outcome m told
+-- else the first outcome that a partition told of it
+abbrev pub closing_outcome : ℕ → List Heard → Option Decision → Outcome
+closing_outcome m told None = first_outcome m (map last_told told)
 closing_outcome m told (Some d) = d.outcome
 
 -- the partitions in which it is open
-abbrev pub open_parts : ℕ → List Told → List ℕ
+abbrev pub open_parts : ℕ → List Heard → List ℕ
 open_parts m told = map (λ t. t.part) (filter (λ t. t.is_open && t.m == m) told)
 
 abbrev pub done_to : Deployment → Option Membership → List ℕ → ℕ → Outcome → Sends
 done_to D None parts m o b = []
 done_to D (Some w) parts m o b = to_leaders D w (λ p. is_in p parts) (msg.Done m o) b
 
-abbrev pub closes_open : Database → Deployment → ℕ → AgentState → List Told → Option ℕ → Turn AgentState
+abbrev pub closes_open : Database → Deployment → ℕ → AgentState → List Heard → Option ℕ → Turn AgentState
 closes_open E D h a told None = settles E D h a a.initiating.work
 closes_open E D h a told (Some m) =
     sending (with_phase a (Closes m (open_parts m told) []))
     (done_to D a.decided (open_parts m told) m (closing_outcome m told (own_decision m a.initiating.work)))
 
 -- a new initiator's first number is one above the greatest that was told
-abbrev pub first_number : AgentState → List Told → AgentState
+abbrev pub first_number : AgentState → List Heard → AgentState
 first_number a told =
     if a.initiating.next == 0 then record a { initiating = record a.initiating { next = greatest_told told + 1 } } else a
 
-abbrev pub has_told : List Told → ℕ → Bool
+abbrev pub has_told : List Heard → ℕ → Bool
 has_told told p = list_any (λ t. t.part == p) told
 
-abbrev pub hears : Database → Deployment → ℕ → AgentState → List Told → Turn AgentState
+abbrev pub hears : Database → Deployment → ℕ → AgentState → List Heard → Turn AgentState
 hears E D h a told =
     if list_all (has_told told) (all_parts D)
     then closes_open E D h (first_number a told) told (open_told told)

@@ -68,21 +68,21 @@ infixl 12 ◌▸◌
 abbrev pub ◌▸◌ : {A : Type 0} → Turn A → (A → Turn A) → Turn A
 t ▸ f = let u = f t.state in record { state = u.state; sends = λ b. t.sends b ++ u.sends b }
 
--- ---- what an actor does with a message that comes: it takes it, drops it, or keeps it until it gets to its term
+-- ---- what an actor does with a message that comes: it takes it, drops it (Refused), or keeps it until it gets to its term
 
 pub data Arrival : Type 0 where
   Taken : Arrival
-  Left : Arrival
+  Refused : Arrival
   Waits : Arrival
 
 -- A message for another start of its receiver is dropped. So is one of a lower term than the receiver's; one of a
 -- higher term waits. A message without a term is taken in any.
 abbrev pub in_term : ℕ → ℕ → Arrival
 in_term here there =
-    if there == 0 || there == here then Taken else if nat_lt there here then Left else Waits
+    if there == 0 || there == here then Taken else if nat_lt there here then Refused else Waits
 
 abbrev pub arrival : ℕ → ℕ → Letter → Arrival
-arrival start here l = if l.start == 0 || l.start == start then in_term here l.term else Left
+arrival start here l = if l.start == 0 || l.start == start then in_term here l.term else Refused
 
 -- a message that waits for its receiver to get to its term, and who sent it
 pub record Waiting : Type 0 where

@@ -4,6 +4,7 @@ pub mod Words
 pub mod Letters
 pub mod Director
 pub mod Client
+pub mod Outside
 pub mod AgentState
 pub mod Initiator
 pub mod Agent
@@ -18,5 +19,3 @@ pub mod Events
 pub mod Runs
 pub mod Toy
 pub mod Rows
-pub mod PutAndGet
-pub mod Scratch

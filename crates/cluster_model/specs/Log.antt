@@ -1,5 +1,5 @@
 -- Logs of a partition, and what follows from one.
-use Rattle.std.specs.Prelude.{ℕ, zero, List, [], ◌∷◌, ◌++◌, ◌==◌, Bool, true, false, Option, Some, None, is_none}
+use Rattle.std.specs.Prelude.{ℕ, zero, List, [], ◌∷◌, ◌++◌, ◌==◌, Bool, true, false, Option, Some, None, is_none, unwrap_or, max, if◌then◌else◌}
 use Rattle.volt_base.specs.Semantics.{Semantics}
 use Rattle.volt_base.specs.declared.entry.Entry.{Entry}
 use Rattle.volt_base.specs.declared.entry.Entry.TheVariants.{Sp, Frag, Done}
@@ -17,7 +17,7 @@ replay_from S state (e ∷ es) = replay_from S (S.after state e) es
 
 -- the tables of a partition after its log
 abbrev pub replay : (E : Database) → ℕ → List Entry → E.tables.State
-replay E part log = replay_from E.tables (E.tables.opening part) log
+replay E part log = replay_from E.tables (E.opening part) log
 
 -- what an entry answers behind a log: the reply to a call, the part of a round
 abbrev pub answer_behind : (E : Database) → ℕ → List Entry → Entry → List ℕ
@@ -48,6 +48,23 @@ done_behind last (Done m outcome ∷ es) = done_behind (Some (m, outcome)) es
 -- that of a partition, whose log begins at the boot
 abbrev pub last_done : (E : Database) → ℕ → List Entry → Option (ℕ × Outcome)
 last_done E part log = done_behind (E.opening_done part) log
+
+-- The outcome of a transaction, where it is this last one. That of a snapshot isn't the outcome of a call.
+abbrev pub outcome_if_last : ℕ → Option (ℕ × Outcome) → Option Outcome
+outcome_if_last m None = None
+outcome_if_last m (Some (n, Snapshot)) = None
+outcome_if_last m (Some (n, o)) = if n == m then Some o else None
+
+-- the first outcome that is known of a transaction, from the last ones of several partitions; without one it is dropped
+abbrev pub first_outcome : ℕ → List (Option (ℕ × Outcome)) → Outcome
+first_outcome m [] = Dropped
+first_outcome m (last ∷ later) = unwrap_or (outcome_if_last m last) (first_outcome m later)
+
+-- the greater of two numbers, where there are any
+abbrev pub greater : Option ℕ → Option ℕ → Option ℕ
+greater None b = b
+greater (Some a) None = Some a
+greater (Some a) (Some b) = Some (max a b)
 
 -- its number, and 0 where there is none
 abbrev pub number_of : Option (ℕ × Outcome) → ℕ

@@ -1,5 +1,5 @@
 -- A recovery: all hosts start again from what their disks show.
-use Rattle.std.specs.Prelude.{ℕ, zero, suc, ◌+◌, ◌==◌, ◌&&◌, ◌||◌, not, Bool, true, false, nat_lt, nat_le, if◌then◌else◌, List, [], ◌∷◌, ◌++◌, map, length, slice_get, slice_index, Option, Some, None, option_map, option_and_then, unwrap_or, max}
+use Rattle.std.specs.Prelude.{ℕ, zero, suc, ◌+◌, ◌==◌, ◌&&◌, ◌||◌, not, Bool, true, false, nat_lt, nat_le, if◌then◌else◌, List, [], ◌∷◌, ◌++◌, map, take, length, slice_get, slice_index, Option, Some, None, option_map, option_and_then, unwrap_or, max}
 use Rattle.std.specs.List.{range_with_len}
 use Rattle.volt_base.specs.declared.entry.Entry.{Entry}
 use Rattle.volt_wire.specs.Word.{Membership}
@@ -64,22 +64,27 @@ left_contents E w shown failed i =
 abbrev pub no_request : DirectorState → DirectorState
 no_request d = record d { recovery_asked = false; recovery_implied = false }
 
-abbrev pub noted : World → List ℕ → Option ℕ → Recovery
-noted w shown failed =
+-- how many disks showed a content: those before the one that failed as it was read, else all
+abbrev pub count_shown : Deployment → Option (ℕ × Bool) → ℕ
+count_shown D (Some (i, false)) = i
+count_shown D failed = slots D
+
+abbrev pub remembered : World → List ℕ → Option (ℕ × Bool) → Recovery
+remembered w shown failed =
     record {
       at = stamp_of w;
-      shown = map pair_of (all_shown w shown);
-      failed = failed;
+      shown = map pair_of (take (count_shown w.deployment failed) (all_shown w shown));
+      failed = option_map (λ f. f.0) failed;
       is_implied = w.director.recovery_implied;
     }
 
 -- all stays stopped
-abbrev pub fails : Database → World → List ℕ → ℕ × Bool → World
-fails E w shown failed =
+abbrev pub stays_stopped : Database → World → List ℕ → ℕ × Bool → World
+stays_stopped E w shown failed =
     record w {
       director = no_request w.director;
       sites = λ i. record (w.sites i) { contents = left_contents E w shown failed i };
-      recoveries = w.recoveries ++ noted w shown (Some failed.0) ∷ [];
+      recoveries = w.recoveries ++ remembered w shown (Some failed) ∷ [];
     }
 
 -- ---- a recovery that works
@@ -109,13 +114,13 @@ opens D start a b = []
 abbrev pub new_channels : Deployment → ℕ → (Actor → Actor → List Letter) → Actor → Actor → List Letter
 new_channels D start channel a b = if is_of_host a && is_of_host b then [] else channel a b ++ opens D start a b
 
--- a member of the new word, whose slot had at most the new base term before
+-- a member of the new word; the greatest term of its slot begins anew with the base term
 abbrev pub new_site : Deployment → ℕ → SiteState → Membership → ℕ → List Entry → SiteState
 new_site D i s w start log = member_site D i (stopped_site s) w start log
 
 -- Every slot gets a new base. All hosts run with new starts and a new word.
-abbrev pub works : Database → World → List ℕ → World
-works E w shown =
+abbrev pub starts_anew : Database → World → List ℕ → World
+starts_anew E w shown =
     let D = w.deployment in
     let start = w.director.next_start in
     let word = new_word D (new_base w shown) start in
@@ -123,13 +128,13 @@ works E w shown =
     record w {
       director = draws_starts D w.director;
       agents = λ h. if is_host D h then member_agent word (greatest_done E logs (parts D) + 1) start h else w.agents h;
-      sites = λ i. new_site D i (w.sites i) word (start_from D start i) (logs (part_of_slot D i));
-      scanners = λ i. record { start = start_from D start i; stop = (w.scanners i).stop; scan = None };
+      sites = λ i. if nat_lt i (slots D) then new_site D i (w.sites i) word (start_from D start i) (logs (part_of_slot D i)) else w.sites i;
+      scanners = λ i. if nat_lt i (slots D) then record { start = start_from D start i; stop = (w.scanners i).stop; scan = None } else w.scanners i;
       channel = new_channels D start w.channel;
-      leads = λ p. record { term = word.base; log = logs p; firm = length (logs p) };
-      recoveries = w.recoveries ++ noted w shown None ∷ [];
+      lead_of = λ p. record { term = word.base; log = logs p; firm = length (logs p) };
+      recoveries = w.recoveries ++ remembered w shown None ∷ [];
     }
 
 abbrev pub recovers : Database → World → List ℕ → Option (ℕ × Bool) → World
-recovers E w shown None = works E w shown
-recovers E w shown (Some failed) = fails E w shown failed
+recovers E w shown None = starts_anew E w shown
+recovers E w shown (Some failed) = stays_stopped E w shown failed

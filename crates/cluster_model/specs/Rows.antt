@@ -1,5 +1,16 @@
 -- What is written down of worked runs of the example's database.
-use Rattle.std.specs.Prelude.{ℕ, List, [], ◌∷◌, Option, Some, None, map}
+pub mod PutAndGet
+pub mod BelowZero
+pub mod LeaderLostBehindPut
+pub mod LeaderLostBeforePut
+pub mod InitiatorLostBehindDone
+pub mod InitiatorLostBeforeDecision
+pub mod PowerCut
+pub mod MarkBeforeLength
+pub mod LostAndRejoined
+pub mod PartitionDown
+use Rattle.std.specs.Prelude.{ℕ, zero, suc, ◌==◌, Bool, true, false, List, [], ◌∷◌, Option, Some, None, map}
+use Rattle.std.specs.List.{list_any}
 use Rattle.volt_base.specs.declared.entry.Applied.{Applied}
 use Rattle.volt_wire.specs.declared.end.End.{End}
 use Rattle.volt_wire.specs.declared.event.Event.{Event}
@@ -9,7 +20,9 @@ use Rattle.cluster_model.specs.Client.{Ended}
 use Rattle.cluster_model.specs.Director.{Seen}
 use Rattle.cluster_model.specs.Words.{Deployment}
 use Rattle.cluster_model.specs.World.{World, Input, AskedFor, first_world}
-use Rattle.cluster_model.specs.Runs.{copies, serial, ended}
+use Rattle.cluster_model.specs.Letters.{Letter}
+use Rattle.cluster_model.specs.Events.{enabled, serves}
+use Rattle.cluster_model.specs.Runs.{copies, serial, ended, first_step, first_enabled}
 use Rattle.cluster_model.specs.Toy.{toy}
 
 -- what a report says of a world
@@ -18,9 +31,24 @@ pub record Outline : Type 0 where
   pub serial : List Applied
   pub copies : List Seen
   pub looks : List Seen
+  -- the events that may happen, and whether the cluster serves
+  pub enabled : List Event
+  pub serves : Bool
 
 abbrev pub outline : World → Outline
-outline w = record { ends = ended w; serial = serial w; copies = copies toy w; looks = w.director.looks }
+outline w =
+    record {
+      ends = ended w;
+      serial = serial w;
+      copies = copies toy w;
+      looks = w.director.looks;
+      enabled = enabled w;
+      serves = serves w;
+    }
+
+-- the same where the row doesn't say at which stamps
+abbrev pub stampless : Outline → List (ℕ × End) × List ℕ × List Seen × List Seen × List Event × Bool
+stampless o = (map (λ e. (e.call, e.end)) o.ends, map (λ a. a.call) o.serial, o.copies, o.looks, o.enabled, o.serves)
 
 -- a deployment of these hosts, sites for each host, spare copies and clients
 abbrev pub deployed : ℕ → ℕ → ℕ → ℕ → Deployment
@@ -53,3 +81,11 @@ point at call = record { call = call; point = at }
 
 abbrev pub shows : ℕ → ℕ → List ℕ → Seen
 shows slot position rows = record { slot = slot; position = position; rows = rows }
+
+-- the first world, of so many more events that `first` chooses, of which this holds
+abbrev pub until : (World → Bool) → ℕ → World → World
+until test zero w = w
+until test (suc n) w = elim (test w) as (λ _. World) [
+    | true ↦ w
+    | false ↦ until test n (first_step toy w (first_enabled w))
+  ]

@@ -1,16 +1,18 @@
 -- Runs of the world, how a schedule chooses their events, and what a report shows of the last world.
-use Rattle.std.specs.Prelude.{ℕ, zero, suc, ◌≡◌, ◌+◌, ◌*◌, ◌/◌, ◌%◌, ◌^◌, ◌==◌, ◌&&◌, ◌||◌, not, Bool, true, false, nat_lt, nat_le, if◌then◌else◌, List, [], ◌∷◌, ◌++◌, map, filter, flat_map, length, slice_get, Option, Some, None, is_none}
+use Rattle.std.specs.Prelude.{ℕ, zero, suc, ◌≡◌, ◌+◌, ◌*◌, ◌/◌, ◌%◌, ◌^◌, ◌==◌, ◌&&◌, ◌||◌, not, Bool, true, false, nat_lt, nat_le, if◌then◌else◌, List, [], ◌∷◌, ◌++◌, map, filter, flat_map, length, slice_get, Option, Some, None, is_none, is_some}
 use Rattle.std.specs.List.{list_any, range_with_len}
 use Rattle.volt_base.specs.declared.entry.Applied.{Applied}
 use Rattle.volt_wire.specs.declared.event.Event.{Event}
+use Rattle.volt_wire.specs.declared.event.Event.TheVariants as event
 use Rattle.cluster_model.specs.Engine.{Database}
 use Rattle.cluster_model.specs.Log.{replay, applied_in, nothing_open}
 use Rattle.cluster_model.specs.Words.{Deployment, slots, part_of_slot}
 use Rattle.cluster_model.specs.Client.{Ended}
 use Rattle.cluster_model.specs.Director.{Seen}
 use Rattle.cluster_model.specs.SiteState.{SiteState, is_member_site}
-use Rattle.cluster_model.specs.World.{World}
-use Rattle.cluster_model.specs.Events.{Outside, Fair, can, allows, events, enabled, serves, step}
+use Rattle.cluster_model.specs.World.{World, Recovery}
+use Rattle.cluster_model.specs.Outside.{Outside, Fair, DisksShow}
+use Rattle.cluster_model.specs.Events.{can, allows, events, enabled, serves, step}
 
 -- ---- runs
 
@@ -23,14 +25,28 @@ abbrev pub run : Database → List Happening → World → World
 run E [] w = w
 run E (e ∷ es) w = run E es (step E w e)
 
+-- The last event was a recovery for which no item of the script asked, and a disk failed in it. The run has ended so.
+abbrev pub failed_at : ℕ → Recovery → Bool
+failed_at stamp r = r.at == stamp && r.is_implied && is_some r.failed
+
+abbrev pub has_failed : World → Bool
+has_failed w = list_any (failed_at (length w.trace)) w.recoveries
+
 -- each may happen in its turn
+abbrev pub may_happen : World → Happening → Bool
+may_happen w e = not (has_failed w) && can w e.0 && allows w e.0 e.1
+
 abbrev pub IsRun : Database → List Happening → World → Type 0
 IsRun E [] w = Unit {0}
-IsRun E (e ∷ es) w = (can w e.0 && allows w e.0 e.1 ≡ true) × IsRun E es (step E w e)
+IsRun E (e ∷ es) w = (may_happen w e ≡ true) × IsRun E es (step E w e)
 
 -- no event but Idle may happen
 abbrev pub IsQuiet : World → Type 0
 IsQuiet w = enabled w ≡ []
+
+-- A run ends well in a quiet world that serves.
+abbrev pub IsSettled : World → Type 0
+IsSettled w = IsQuiet w × (serves w ≡ true)
 
 -- ---- schedules
 
@@ -63,10 +79,15 @@ TakesDrawn E x [] w = Unit {0}
 TakesDrawn E x (e ∷ es) w =
     (slice_get (enabled w) (choice (drawn x) (length (enabled w))) ≡ Some e.0) × TakesDrawn E (drawn x) es (step E w e)
 
+-- the outside does nothing: no disk fails, memory is there, and each disk shows the first of its contents
+abbrev pub undisturbed : Event → Outside
+undisturbed event.Recover = DisksShow [] None
+undisturbed e = Fair
+
 -- the world after so many events that `first` chooses, while the outside does nothing
 abbrev pub first_step : Database → World → Option Event → World
 first_step E w None = w
-first_step E w (Some e) = step E w (e, Fair)
+first_step E w (Some e) = step E w (e, undisturbed e)
 
 abbrev pub by_first : Database → ℕ → World → World
 by_first E zero w = w
@@ -74,7 +95,7 @@ by_first E (suc n) w = by_first E n (first_step E w (first_enabled w))
 
 -- these events, while the outside does nothing
 abbrev pub fair : List Event → List Happening
-fair es = map (λ e. (e, Fair)) es
+fair es = map (λ e. (e, undisturbed e)) es
 
 -- ---- what a report shows of a world
 

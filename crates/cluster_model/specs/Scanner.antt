@@ -1,9 +1,12 @@
 -- A scanner reads the tables of its slot's site out, block by block.
-use Rattle.std.specs.Prelude.{ℕ, ◌+◌, ◌==◌, Bool, true, false, if◌then◌else◌, nat_lt, nat_le, List, [], ◌∷◌, Option, Some, None, is_some}
+use Rattle.std.specs.Prelude.{ℕ, ◌+◌, ◌==◌, Bool, true, false, if◌then◌else◌, nat_lt, nat_le, ◌&&◌, List, [], ◌∷◌, Option, Some, None, is_some}
 use Rattle.volt_wire.specs.declared.actor.Actor.{Actor}
-use Rattle.volt_wire.specs.declared.actor.Actor.TheVariants.{Site}
+use Rattle.volt_wire.specs.declared.actor.Actor.TheVariants.{Site, Scanner}
 use Rattle.volt_wire.specs.declared.message.Msg.TheVariants as msg
-use Rattle.cluster_model.specs.Letters.{Blocks, Letter, Sends, Turn, becomes, sending, letter_to, only, arrival, Taken, Left, Waits}
+use Rattle.cluster_model.specs.Outside.{Outside, Fair, DiskFails, NoMemory, DisksShow}
+use Rattle.cluster_model.specs.Words.{Deployment, host_of_slot}
+use Rattle.cluster_model.specs.AgentState.{stops_others}
+use Rattle.cluster_model.specs.Letters.{same, Blocks, Letter, Sends, Turn, becomes, sending, letter_to, only, arrival, Taken, Refused, Waits}
 
 -- a scan that is under way
 pub record Scan : Type 0 where
@@ -49,7 +52,7 @@ abbrev pub scanner_runs : ScannerState → Actor → Letter → ScannerState
 scanner_runs x from l = elim l.body as (λ _. ScannerState) [
     | msg.ScanStart id target start blocks ↦ elim (arrival x.start 0 l) as (λ _. ScannerState) [
         | Taken ↦ on_scan_start x id target start blocks
-        | Left ↦ x
+        | Refused ↦ x
         | Waits ↦ x
       ]
     | _ ↦ x
@@ -79,3 +82,26 @@ scan_block i x scan (block ∷ left) =
 abbrev pub scans : ℕ → ScannerState → Option Scan → Turn ScannerState
 scans i x None = becomes x
 scans i x (Some scan) = scan_block i x scan scan.left
+
+-- ---- the outside's share
+
+-- a scanner of this start that finds no memory stops with its host
+abbrev pub stops_so : Deployment → ℕ → ScannerState → ℕ → Turn ScannerState
+stops_so D i x start =
+    sending (stopped_scanner x) (λ b. if same (Scanner i) b then [] else stops_others D (host_of_slot D i) start b)
+
+-- the start with which it goes on once it has taken a message, before anything else
+abbrev pub start_after : ScannerState → Letter → ℕ
+start_after x l = elim l.body as (λ _. ℕ) [
+    | msg.Start start ↦ if nat_lt x.start start && nat_lt x.stop start then start else x.start
+    | _ ↦ x.start
+  ]
+
+-- what a message makes of it, and what a Scan does
+abbrev pub scanner_turn : Deployment → ℕ → ScannerState → Actor → Letter → Outside → Turn ScannerState
+scanner_turn D i x from l (NoMemory answered) = stops_so D i x (start_after x l)
+scanner_turn D i x from l o = becomes (scanner_takes x from l)
+
+abbrev pub scan_turn : Deployment → ℕ → ScannerState → Outside → Turn ScannerState
+scan_turn D i x (NoMemory answered) = stops_so D i x x.start
+scan_turn D i x o = scans i x x.scan

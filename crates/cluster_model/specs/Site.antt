@@ -13,7 +13,7 @@ use Rattle.volt_wire.specs.declared.message.Msg.TheVariants as msg
 use Rattle.cluster_model.specs.Engine.{Database}
 use Rattle.cluster_model.specs.Log.{replay, answer_behind, nothing_open, open_in, last_done, is_snapshot, applied_in}
 use Rattle.cluster_model.specs.Words.{Deployment, part_of_slot, host_of_slot, slots, is_some_of, is_in, initiator, term_of, leader, copies, start_of_slot, is_member}
-use Rattle.cluster_model.specs.Letters.{Blocks, same, Letter, Sends, no_sends, Turn, becomes, sending, ◌▸◌, open_letter, letter_to, letter_in, only, arrival, Taken, Left, Waits, Waiting, of_term, above_term}
+use Rattle.cluster_model.specs.Letters.{Blocks, same, Letter, Sends, no_sends, Turn, becomes, sending, ◌▸◌, open_letter, letter_to, letter_in, only, arrival, Taken, Refused, Waits, Waiting, of_term, above_term}
 use Rattle.cluster_model.specs.Disk.{Content, Shown, after_parts, after_failure}
 use Rattle.cluster_model.specs.SiteState.{SiteState, Streamed, Joining, Reported, Held, Joiner, AskedCall, Ask, Scanning, ForJoiner, ForBase, new_joiner, stopped_site, site_term, leader_in, start_in_view, copies_in, is_joiner, is_member_site, is_leader, leads, other_copies}
 use Rattle.cluster_model.specs.AgentState.{stops_others}
@@ -243,6 +243,12 @@ asks_to_join i D s (Some slot) b =
     if slot == i then []
     else only (Site slot) (letter_in (site_term s) (start_in_view D s.view slot) (msg.JoinAsk s.start i)) b
 
+abbrev pub is_reply : Letter → Bool
+is_reply l = elim l.body as (λ _. Bool) [
+    | msg.Reply call start e ↦ true
+    | _ ↦ false
+  ]
+
 -- The site takes the new term. A mark that it owes is cancelled. A leader forgets its joins, what the copies acknowledged,
 -- and the answers to the initiator that it still owes; the replies to calls stay.
 abbrev pub in_new_term : SiteState → Membership → SiteState
@@ -254,7 +260,7 @@ in_new_term s w =
       repaired = false;
       reports = [];
       acks = [];
-      held = filter (λ d. d.letter.term == 0) s.held;
+      held = filter (λ d. is_reply d.letter) s.held;
       joiners = [];
       has_told = false;
       asks = [];
@@ -387,15 +393,19 @@ finishes_load s j =
     then record s { joining = Some (record j { is_loaded = true; tasks = [] }); log = s.log ++ j.tasks }
     else with_joining s j
 
--- StreamStart: a joiner wipes its disk and begins a base. A stream is taken only in a term above those that the slot's
--- earlier starts had.
+-- A stream is taken only in a term above those that the slot's earlier starts had.
+abbrev pub may_stream : SiteState → Joining → Letter → Bool
+may_stream s j l = is_none j.stream && nat_lt s.earlier l.term
+
+-- StreamStart: a joiner wipes its disk and begins a base.
 abbrev pub takes_stream : SiteState → Joining → Letter → StreamHead → SiteState
 takes_stream s j l head =
-    if is_none j.stream && nat_lt s.earlier l.term
+    if may_stream s j l
     then record s {
         joining = Some (record j { stream = Some (record { nj = head.nj; mark = head.mark }) });
         log = l.past;
         floor = head.nj;
+        contents = None ∷ [];
       }
     else s
 
@@ -540,7 +550,8 @@ site_row E D stamp i s (Scanner x) l = becomes (from_scanner s l)
 site_row E D stamp i s Director l = becomes (from_director s l)
 site_row E D stamp i s (Client n) l = becomes s
 
--- The messages that waited for its term are taken after all else but a kept JoinAsk, in order of coming.
+-- The messages that waited for its term are taken after all else but a kept JoinAsk, in order of coming. A View is none of
+-- them.
 abbrev pub takes_each : Database → Deployment → ℕ → ℕ → List Waiting → SiteState → Turn SiteState
 takes_each E D stamp i [] s = becomes s
 takes_each E D stamp i (w ∷ ws) s = site_row E D stamp i s w.from w.letter ▸ takes_each E D stamp i ws
@@ -571,7 +582,7 @@ abbrev pub site_runs : Database → Deployment → ℕ → ℕ → SiteState →
 site_runs E D stamp i s from l = elim (arrival s.start (site_term s) l) as (λ _. Turn SiteState) [
     | Taken ↦ ordered (site_row E D stamp i s from l ▸ takes_waiting E D stamp i ▸ settles E D i)
     | Waits ↦ becomes (record s { waiting = s.waiting ++ record { from = from; letter = l } ∷ [] })
-    | Left ↦ becomes s
+    | Refused ↦ becomes s
   ]
 
 -- The site of slot i after a message, and what it sends. One that is stopped takes Start, Stop and Power alone.

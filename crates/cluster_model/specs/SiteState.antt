@@ -3,7 +3,7 @@ use Rattle.std.specs.Prelude.{ℕ, ◌==◌, ◌&&◌, Bool, true, false, nat_lt
 use Rattle.volt_base.specs.declared.entry.Entry.{Entry}
 use Rattle.volt_wire.specs.Word.{Membership}
 use Rattle.volt_wire.specs.declared.actor.Actor.{Actor}
-use Rattle.cluster_model.specs.Words.{Deployment, part_of_slot, leader, copies, is_some_of, start_of_slot, term_of}
+use Rattle.cluster_model.specs.Words.{Deployment, part_of_slot, leader, copies, is_some_of, start_of_slot, term_of, term_in}
 use Rattle.cluster_model.specs.Letters.{Letter, Waiting}
 use Rattle.cluster_model.specs.Disk.{Shown}
 
@@ -88,7 +88,7 @@ pub record SiteState : Type 0 where
   pub base : ℕ
   -- the mark that it owes its disk
   pub owes : Option ℕ
-  -- as a leader: whether it has what its term begins with; as a copy: whether the leader repaired it
+  -- as a leader, whether it has what its term begins with; as a copy, whether the leader repaired it
   pub repaired : Bool
   pub reports : List Reported
   -- the positions that the copies acknowledged in this term
@@ -114,16 +114,16 @@ pub record SiteState : Type 0 where
 
 -- ---- a site that begins
 
--- of a start, with nothing but what a slot keeps over its stops
-abbrev pub emptied : SiteState → ℕ → Option Joining → SiteState
-emptied s start joining =
+-- a slot whose site never ran
+abbrev pub no_site : SiteState
+no_site =
     record {
-      start = start;
-      stop = s.stop;
-      greatest = s.greatest;
-      earlier = s.greatest;
+      start = 0;
+      stop = 0;
+      greatest = 0;
+      earlier = 0;
       view = None;
-      joining = joining;
+      joining = None;
       log = [];
       floor = 0;
       on_disk = 0;
@@ -143,6 +143,19 @@ emptied s start joining =
       scanning = None;
       waiting = [];
       looks = 0;
+      contents = [];
+      plans = [];
+    }
+
+-- of a start, with nothing but what a slot keeps over its stops
+abbrev pub emptied : SiteState → ℕ → Option Joining → SiteState
+emptied s start joining =
+    record no_site {
+      start = start;
+      joining = joining;
+      stop = s.stop;
+      greatest = s.greatest;
+      earlier = s.greatest;
       contents = s.contents;
       plans = s.plans;
     }
@@ -187,10 +200,6 @@ member_site D i s w start log =
     }
 
 -- ---- its place in its word
-
-abbrev pub term_in : Option Membership → ℕ
-term_in None = 0
-term_in (Some w) = term_of w
 
 abbrev pub site_term : SiteState → ℕ
 site_term s = term_in s.view

@@ -5,10 +5,11 @@ use Rattle.volt_wire.specs.declared.actor.Actor.TheVariants.{Agent, Site}
 use Rattle.volt_wire.specs.declared.message.Msg.TheVariants as msg
 use Rattle.cluster_model.specs.Engine.{Database}
 use Rattle.cluster_model.specs.Words.{Deployment, part_of_slot, host_of_slot, is_some_of}
-use Rattle.cluster_model.specs.Letters.{Letter, Sends, no_sends, Turn, becomes, sending, ◌▸◌, letter_to, letter_in, only, arrival, Taken, Left, Waits}
+use Rattle.cluster_model.specs.Letters.{same, Letter, Sends, no_sends, Turn, becomes, sending, ◌▸◌, letter_to, letter_in, only, arrival, Taken, Refused, Waits}
 use Rattle.cluster_model.specs.Disk.{Content, Shown, after_parts, after_failure}
 use Rattle.cluster_model.specs.SiteState.{SiteState, Streamed, Joining, Scanning, ForJoiner, ForBase, stopped_site, site_term, leader_in, start_in_view, is_leader}
-use Rattle.cluster_model.specs.Site.{counts, settles, ordered}
+use Rattle.cluster_model.specs.Site.{counts, settles, ordered, may_stream, site_takes}
+use Rattle.cluster_model.specs.Outside.{Outside, Fair, DiskFails, NoMemory, DisksShow}
 use Rattle.cluster_model.specs.AgentState.{stops_others}
 
 -- ---- when a site may sync
@@ -51,7 +52,7 @@ abbrev pub mark_owed : SiteState → ℕ
 mark_owed s = unwrap_or s.owes s.mark
 
 -- The batch of all owed records. It is split behind the Done at which the site began a base that isn't on disk; an owed
--- mark is in the last of both. So no disk shows a mark without all entries that were owed with it.
+-- mark is in the last of these. So no disk shows a mark without all entries that were owed with it.
 abbrev pub split_at : SiteState → ℕ → List Shown
 split_at s position =
     (if nat_lt s.on_disk position && nat_lt position (length s.log) then content s.mark s.base s position ∷ [] else [])
@@ -158,15 +159,15 @@ syncs E D i s =
 
 -- ---- the disk parts of a message
 
-abbrev pub takes_the_stream : SiteState → Option Joining → Letter → Bool
-takes_the_stream s None l = false
-takes_the_stream s (Some j) l = is_none j.stream && nat_lt s.earlier l.term
+abbrev pub may_stream_in : SiteState → Option Joining → Letter → Bool
+may_stream_in s None l = false
+may_stream_in s (Some j) l = may_stream s j l
 
 -- StreamStart wipes the disk of a joiner that takes the stream. No other message has a part.
 abbrev pub parts_of_stream : SiteState → Letter → List Shown
 parts_of_stream s l = elim (arrival s.start (site_term s) l) as (λ _. List Shown) [
-    | Taken ↦ if takes_the_stream s s.joining l then None ∷ [] else []
-    | Left ↦ []
+    | Taken ↦ if may_stream_in s s.joining l then None ∷ [] else []
+    | Refused ↦ []
     | Waits ↦ []
   ]
 
@@ -176,14 +177,35 @@ parts_of_message s l = elim l.body as (λ _. List Shown) [
     | _ ↦ []
   ]
 
--- ---- a site that stops of itself
+-- ---- the outside's share
 
--- After so many parts of the event that answered, its disk failed at the next one, or it found no memory.
-abbrev pub stops_at_part : Deployment → ℕ → SiteState → List Shown → Turn SiteState
-stops_at_part D i s contents =
+-- A site of this start stops of itself: its disk failed, or it found no memory. Its disk may show these contents from then
+-- on. It stops the other actors of its host.
+abbrev pub stops_so : Deployment → ℕ → SiteState → ℕ → List Shown → Turn SiteState
+stops_so D i s start contents =
     sending (record (stopped_site s) { contents = contents })
-    (λ b. if is_itself i b then [] else stops_others D (host_of_slot D i) s.start b)
-  where
-    is_itself : ℕ → Actor → Bool
-    is_itself i (Site slot) = slot == i
-    is_itself i b = false
+    (λ b. if same (Site i) b then [] else stops_others D (host_of_slot D i) start b)
+
+-- the start with which it goes on once it has taken a message, before anything else
+abbrev pub start_after : SiteState → Letter → ℕ
+start_after s l = elim l.body as (λ _. ℕ) [
+    | msg.Start start ↦ if nat_lt s.start start && nat_lt s.stop start then start else s.start
+    | _ ↦ s.start
+  ]
+
+-- What a message makes of it. After so many of the event's disk parts that answered the next one failed, or there was no
+-- memory.
+abbrev pub site_turn : Database → Deployment → ℕ → ℕ → SiteState → Actor → Letter → Outside → Turn SiteState
+site_turn E D stamp i s from l (DiskFails answered) =
+    stops_so D i s s.start (after_failure s.contents (parts_of_message s l) answered)
+site_turn E D stamp i s from l (NoMemory answered) =
+    stops_so D i s (start_after s l) (after_parts s.contents (take answered (parts_of_message s l)))
+site_turn E D stamp i s from l o = site_takes E D stamp i s from l
+
+-- what a Sync makes of it
+abbrev pub sync_turn : Database → Deployment → ℕ → SiteState → Outside → Turn SiteState
+sync_turn E D i s (DiskFails answered) =
+    stops_so D i s s.start (after_failure s.contents (parts_of_sync s s.joining) answered)
+sync_turn E D i s (NoMemory answered) =
+    stops_so D i s s.start (after_parts s.contents (take answered (parts_of_sync s s.joining)))
+sync_turn E D i s o = syncs E D i s

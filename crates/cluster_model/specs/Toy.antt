@@ -186,6 +186,7 @@ abbrev pub toy : Database
 toy =
     record {
       tables = toy_tables;
+      opening = toy_tables.opening;
       opening_done = λ p. None;
       blocks = λ t. map (λ a. a.0 ∷ a.1 ∷ []) t.accounts;
       asks = toy_asks;

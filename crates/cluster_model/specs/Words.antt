@@ -81,11 +81,16 @@ with_pairs (x ∷ xs) ys = with_pair x (with_pairs xs ys)
 abbrev pub term_of : Membership → ℕ
 term_of w = w.base + length w.lost + length w.admitted
 
--- two words are the same
+-- that of a word, where there is one
+abbrev pub term_in : Option Membership → ℕ
+term_in None = 0
+term_in (Some w) = term_of w
+
+-- two words of one base are the same
 abbrev pub same_word : Membership → Membership → Bool
 same_word v w = v.base == w.base && same_numbers v.lost w.lost && same_pairs v.admitted w.admitted
 
--- what two words with one base say together
+-- what two words with one base, and so with the same first hosts, say together
 abbrev pub union : Membership → Membership → Membership
 union v w = record v { lost = with_numbers v.lost w.lost; admitted = with_pairs v.admitted w.admitted }
 

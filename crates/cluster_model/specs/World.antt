@@ -7,19 +7,21 @@ use Rattle.volt_wire.specs.declared.actor.Actor.TheVariants.{Director, Client, A
 use Rattle.volt_wire.specs.declared.event.Event.{Event}
 use Rattle.volt_wire.specs.declared.item.TimedItem.{TimedItem}
 use Rattle.cluster_model.specs.Engine.{Database}
-use Rattle.cluster_model.specs.Words.{Deployment, parts, part_of_slot, host_of_slot, is_host, initiator}
+use Rattle.cluster_model.specs.Words.{Deployment, slots, parts, part_of_slot, host_of_slot, is_host, initiator}
 use Rattle.cluster_model.specs.Letters.{same, Letter, Sends, no_sends, Turn}
 use Rattle.cluster_model.specs.Log.{last_done, number_of}
 use Rattle.cluster_model.specs.Director.{DirectorState}
 use Rattle.cluster_model.specs.Client.{ClientState, Due}
 use Rattle.cluster_model.specs.AgentState.{AgentState, Initiating, Off, Idle, new_agent, no_initiator}
-use Rattle.cluster_model.specs.SiteState.{SiteState, site_term, leads, emptied, member_site}
+use Rattle.cluster_model.specs.SiteState.{SiteState, site_term, leads, no_site, member_site}
 use Rattle.cluster_model.specs.Scanner.{ScannerState}
+use Rattle.cluster_model.specs.Outside.{Outside, Fair, DiskFails, NoMemory, DisksShow}
 
 -- ---- history, by which the laws speak of a run
 
 -- Of the copies of a partition that became a repaired leader since the last recovery that worked, the one of the greatest
--- term: its log, as it stands or stood when it stopped. And the greatest position that a leader counted firm.
+-- term: its log, as it stands or stood when it stopped. And the greatest position that a leader counted firm; at a recovery
+-- that is the whole log.
 pub record Lead : Type 0 where
   pub term : ℕ
   pub log : List Entry
@@ -52,7 +54,7 @@ pub record World : Type 0 where
   -- the events so far; the k-th has stamp k
   pub trace : List Event
   -- history
-  pub leads : ℕ → Lead
+  pub lead_of : ℕ → Lead
   pub stops : List Stopped
   pub recoveries : List Recovery
 
@@ -105,16 +107,19 @@ with_site w i t =
     record w {
       sites = set_at w.sites i t.state;
       channel = sent w.channel (Site i) t.sends;
-      leads = set_at w.leads p (lead_after w.deployment i t.state (w.leads p));
+      lead_of = set_at w.lead_of p (lead_after w.deployment i t.state (w.lead_of p));
     }
 
 abbrev pub with_scanner : World → ℕ → Turn ScannerState → World
 with_scanner w i t = record w { scanners = set_at w.scanners i t.state; channel = sent w.channel (Scanner i) t.sends }
 
--- a stop of an actor is noted
-abbrev pub with_stop : World → Actor → Bool → World
-with_stop w a for_disk =
-    record w { stops = w.stops ++ record { at = stamp_of w; actor = a; for_disk = for_disk } ∷ [] }
+-- an actor that stops of itself is noted
+abbrev pub stop_noted : World → Actor → Outside → World
+stop_noted w a (DiskFails answered) =
+    record w { stops = w.stops ++ record { at = stamp_of w; actor = a; for_disk = true } ∷ [] }
+stop_noted w a (NoMemory answered) =
+    record w { stops = w.stops ++ record { at = stamp_of w; actor = a; for_disk = false } ∷ [] }
+stop_noted w a o = w
 
 -- ---- members of a new word
 
@@ -193,39 +198,6 @@ first_director I =
       looks = [];
     }
 
--- a slot whose site never ran
-abbrev pub no_site : SiteState
-no_site =
-    record {
-      start = 0;
-      stop = 0;
-      greatest = 0;
-      earlier = 0;
-      view = None;
-      joining = None;
-      log = [];
-      floor = 0;
-      on_disk = 0;
-      mark = 0;
-      base = 0;
-      owes = None;
-      repaired = false;
-      reports = [];
-      acks = [];
-      firm = 0;
-      held = [];
-      joiners = [];
-      has_told = false;
-      calls = [];
-      asks = [];
-      scans = 0;
-      scanning = None;
-      waiting = [];
-      looks = 0;
-      contents = [];
-      plans = [];
-    }
-
 -- the start of the host of a slot, where hosts have their starts from this one on
 abbrev pub start_from : Deployment → ℕ → ℕ → ℕ
 start_from D start slot = start + host_of_slot D slot
@@ -239,11 +211,11 @@ first_world E I =
       director = first_director I;
       clients = first_client I;
       agents = λ h. if is_host D h then member_agent w (greatest_done E (λ p. []) (parts D) + 1) 1 h else new_agent 0;
-      sites = λ i. member_site D i no_site w (start_from D 1 i) [];
-      scanners = λ i. record { start = start_from D 1 i; stop = 0; scan = None };
+      sites = λ i. if nat_lt i (slots D) then member_site D i no_site w (start_from D 1 i) [] else no_site;
+      scanners = λ i. record { start = if nat_lt i (slots D) then start_from D 1 i else 0; stop = 0; scan = None };
       channel = λ a b. [];
       trace = [];
-      leads = λ p. record { term = I.base; log = []; firm = 0 };
+      lead_of = λ p. record { term = I.base; log = []; firm = 0 };
       stops = [];
       recoveries = [];
     }

@@ -1,16 +1,8 @@
-//! The world of a cluster, defined once.
+//! The world of a cluster, defined once and whole: what each actor does with each message, which
+//! events may happen, what an event makes of the world, what a recovery does, and what a report
+//! shows of the last world of a run. The definitions are in `specs/`, a file for each actor, and the
+//! contracts of the crates above cite them. The code here states worked runs and laws of the
+//! definitions; it has no bodies.
 #![tactic(auto)]
 
-ghost use Rattle.std.specs.Prelude.{◌≡◌, true, []};
-ghost use Rattle.cluster_model.specs.Runs.{IsQuiet};
-ghost use Rattle.cluster_model.specs.Events.{serves};
-ghost use Rattle.cluster_model.specs.Rows.{outline};
-ghost use Rattle.cluster_model.specs.PutAndGet as put_and_get;
-
-/// One host.
-pub fn put_and_get()
-    ensures events { put_and_get.last.trace ≡ put_and_get.events }
-    ensures shown { outline put_and_get.last ≡ put_and_get.shown }
-    ensures quiet { IsQuiet put_and_get.last }
-    ensures serving { serves put_and_get.last ≡ true }
-{}
+pub mod rows;

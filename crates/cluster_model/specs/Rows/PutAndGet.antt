@@ -1,5 +1,5 @@
 -- One host: a call puts an account, the next one reads it.
-use Rattle.std.specs.Prelude.{ℕ, List, [], ◌∷◌}
+use Rattle.std.specs.Prelude.{ℕ, true, List, [], ◌∷◌}
 use Rattle.volt_wire.specs.declared.actor.Actor.TheVariants.{Director, Client, Agent, Site}
 use Rattle.volt_wire.specs.declared.end.End.TheVariants.{Ok}
 use Rattle.volt_wire.specs.declared.event.Event.{Event}
@@ -29,4 +29,6 @@ shown =
       serial = point 4 1 ∷ point 11 2 ∷ [];
       copies = shows 0 2 (1 ∷ 10 ∷ []) ∷ [];
       looks = [];
+      enabled = [];
+      serves = true;
     }

@@ -1,0 +1,43 @@
+-- Two hosts with a copy each: one is lost and comes back while calls are served.
+use Rattle.std.specs.Prelude.{ℕ, zero, suc, Bool, true, false, List, [], ◌∷◌, ◌++◌, map, Option, Some, None}
+use Rattle.std.specs.List.{list_any}
+use Rattle.volt_base.specs.declared.entry.Entry.TheVariants.{Sp}
+use Rattle.volt_wire.specs.declared.actor.Actor.TheVariants.{Director, Client, Agent, Site, Scanner}
+use Rattle.volt_wire.specs.declared.end.End.{End}
+use Rattle.volt_wire.specs.declared.end.End.TheVariants as end
+use Rattle.volt_wire.specs.declared.event.Event.{Event}
+use Rattle.volt_wire.specs.declared.event.Event.TheVariants.{Deliver, Sync, Submit, Scan, Recover, Item}
+use Rattle.volt_wire.specs.declared.item.Item.TheVariants as item
+use Rattle.volt_wire.specs.declared.message.Msg.TheVariants as msg
+use Rattle.cluster_model.specs.Letters.{Letter}
+use Rattle.cluster_model.specs.Disk.{Shown}
+use Rattle.cluster_model.specs.Director.{Seen}
+use Rattle.cluster_model.specs.World.{World}
+use Rattle.cluster_model.specs.Events.{step}
+use Rattle.cluster_model.specs.Outside.{DiskFails, DisksShow}
+use Rattle.cluster_model.specs.Runs.{by_first, run, fair, Happening}
+use Rattle.cluster_model.specs.Toy.{toy, put, get, add, take_away, move, total, gives, is_refused}
+use Rattle.cluster_model.specs.Rows.{Outline, outline, deployed, begins, calls_on, calls_all, ends_so, point, shows, at_once, after_calls, until}
+
+abbrev pub start : World
+start =
+    begins (deployed 2 1 1 2) (calls_on 2 0 (put 1 10) ∷ calls_on 2 0 (put 2 20) ∷ [])
+    (after_calls 1 (item.Lose 0) ∷ at_once (item.Rejoin 0) ∷ after_calls 2 (item.Look 0) ∷ [])
+
+abbrev pub last : World
+last = by_first toy 90 start
+
+abbrev pub ends : List (ℕ × End)
+ends = (1, end.Ok (gives 1)) ∷ (2, end.Ok (gives 1)) ∷ []
+
+abbrev pub rows : List ℕ
+rows = 1 ∷ 10 ∷ 2 ∷ 20 ∷ []
+
+abbrev pub copies : List Seen
+copies = shows 0 2 rows ∷ shows 1 2 rows ∷ []
+
+abbrev pub looks : List Seen
+looks = shows 0 2 rows ∷ []
+
+abbrev pub shown : List (ℕ × End) × List ℕ × List Seen × List Seen × List Event × Bool
+shown = (ends, 1 ∷ 2 ∷ [], copies, looks, [], true)

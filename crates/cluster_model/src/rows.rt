@@ -1,0 +1,95 @@
+//! Worked runs of the whole world, evaluated on its definitions with the database of the example.
+//! Each is a function without a body; its clauses say what happens and what the report shows.
+
+ghost use Rattle.std.specs.Prelude.{◌≡◌, true, false, [], ◌∷◌, map, Some};
+ghost use Rattle.volt_wire.specs.declared.actor.Actor.TheVariants.{Agent, Client};
+ghost use Rattle.volt_wire.specs.declared.event.Event.TheVariants.{Deliver};
+ghost use Rattle.cluster_model.specs.Runs.{IsRun};
+ghost use Rattle.cluster_model.specs.Events.{can, may_recover};
+ghost use Rattle.cluster_model.specs.Toy.{toy};
+ghost use Rattle.cluster_model.specs.Rows.{outline, stampless};
+ghost use Rattle.cluster_model.specs.Rows.PutAndGet as put_and_get;
+ghost use Rattle.cluster_model.specs.Rows.BelowZero as below_zero;
+ghost use Rattle.cluster_model.specs.Rows.LeaderLostBehindPut as behind_put;
+ghost use Rattle.cluster_model.specs.Rows.LeaderLostBeforePut as before_put;
+ghost use Rattle.cluster_model.specs.Rows.InitiatorLostBehindDone as behind_done;
+ghost use Rattle.cluster_model.specs.Rows.InitiatorLostBeforeDecision as before_decision;
+ghost use Rattle.cluster_model.specs.Rows.PowerCut as power_cut;
+ghost use Rattle.cluster_model.specs.Rows.MarkBeforeLength as mark;
+ghost use Rattle.cluster_model.specs.Rows.LostAndRejoined as rejoined;
+ghost use Rattle.cluster_model.specs.Rows.PartitionDown as down;
+
+/// One host: a call puts an account, and the next one reads it.
+pub fn put_and_get()
+    ensures events { put_and_get.last.trace ≡ put_and_get.events }
+    ensures shown { outline put_and_get.last ≡ put_and_get.shown }
+{}
+
+/// An agent has nothing to take before a client submitted a call.
+pub fn nothing_to_deliver()
+    ensures { can put_and_get.start (Deliver (Agent 0) (Client 1)) ≡ false }
+{}
+
+/// One host: a call that would take away more than there is aborts, and stands in the serial list.
+pub fn below_zero()
+    ensures shown { outline below_zero.last ≡ below_zero.shown }
+{}
+
+/// Two hosts with a copy each: the leader is lost when the call has reached the copy. Its end is
+/// unknown, and it is applied.
+pub fn leader_lost_behind_put()
+    ensures given { IsRun toy behind_put.given_run behind_put.start }
+    ensures events { behind_put.last.trace ≡ behind_put.events }
+    ensures shown { outline behind_put.last ≡ behind_put.shown }
+{}
+
+/// The same, where what the leader sent to the copy comes in a later term. The call isn't applied.
+pub fn leader_lost_before_put()
+    ensures given { IsRun toy before_put.given_run before_put.start }
+    ensures events { before_put.last.trace ≡ before_put.events }
+    ensures shown { outline before_put.last ≡ before_put.shown }
+{}
+
+/// A call on three partitions whose initiator is lost when its decision has reached one leader. The
+/// next initiator hears of it, and the call is applied in all partitions.
+pub fn initiator_lost_behind_done()
+    ensures given { IsRun toy behind_done.given_run behind_done.decided }
+    ensures shown { stampless (outline behind_done.last) ≡ behind_done.shown }
+{}
+
+/// The same, where the initiator is lost before it decides. The call is applied in none.
+pub fn initiator_lost_before_decision()
+    ensures given { IsRun toy before_decision.given_run before_decision.begun }
+    ensures shown { stampless (outline before_decision.last) ≡ before_decision.shown }
+{}
+
+/// A disk loses power inside the batch of a call. It shows the batch or not, and the recovery goes
+/// on with what it shows.
+pub fn power_cut()
+    ensures contents { (power_cut.cut.sites 0).contents ≡ power_cut.contents }
+    ensures recovery { IsRun toy (power_cut.recovery 1) power_cut.cut }
+    ensures events { (power_cut.last 1).trace ≡ power_cut.events }
+    ensures with_batch { outline (power_cut.last 1) ≡ power_cut.with_batch }
+    ensures without_batch { outline (power_cut.last 0) ≡ power_cut.without_batch }
+{}
+
+/// The disk with the later mark is chosen in a recovery, and not the one with the longer log.
+pub fn mark_before_length()
+    ensures given { IsRun toy mark.given_run mark.start }
+    ensures stopped { may_recover mark.stopped ≡ true }
+    ensures contents { map (λ i. (mark.stopped.sites i).contents) (0 ∷ 1 ∷ []) ≡ mark.contents }
+    ensures shown { outline mark.last ≡ mark.shown }
+{}
+
+/// A host is lost and comes back while calls are served: it has a new start, and its copy is the
+/// leader's.
+pub fn lost_and_rejoined()
+    ensures shown { stampless (outline rejoined.last) ≡ rejoined.shown }
+    ensures start { (rejoined.last.agents 0).start ≡ 3 }
+{}
+
+/// A host without spare copies is lost: a call is answered that its partition is down, and all hosts
+/// are recovered.
+pub fn partition_down()
+    ensures shown { stampless (outline down.last) ≡ down.shown }
+{}
