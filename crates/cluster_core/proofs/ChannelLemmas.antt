@@ -15,9 +15,9 @@ use Rattle.std.proofs.lemmas.Bool.{false≢true}
 use Rattle.std.specs.declared.collections.VecDeque.{VecDeque}
 use Rattle.volt_wire.specs.declared.actor.Actor.{Actor}
 use Rattle.volt_wire.specs.declared.actor.Actor.TheVariants.{Director, Client, Agent, Site}
-use Rattle.volt_wire.specs.declared.message.Msg.{Msg}
-use Rattle.cluster_model.specs.Actors.{same, only}
-use Rattle.cluster_model.specs.World.{took, sent, rest, is_some_message}
+use Rattle.one_host_model.specs.declared.message.Msg.{Msg}
+use Rattle.one_host_model.specs.Actors.{same, only}
+use Rattle.one_host_model.specs.World.{took, sent, rest, is_some_message}
 use Rattle.cluster_core.specs.declared.route.Route.{Route}
 use Rattle.cluster_core.specs.contracts.route.RouteOrd.TheImpl.{cmp-value}
 use Rattle.cluster_core.specs.Channels.{queue_of, shown, with_queue, routes, AreFull}

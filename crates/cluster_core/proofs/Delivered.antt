@@ -5,9 +5,9 @@ use Rattle.std.proofs.lemmas.Bool.{cases_Bool}
 use Rattle.cluster_core.proofs.ChannelLemmas.{same_is}
 use Rattle.volt_base.specs.Semantics.{Semantics}
 use Rattle.volt_wire.specs.declared.actor.Actor.{Actor}
-use Rattle.volt_wire.specs.declared.message.Msg.{Msg}
-use Rattle.cluster_model.specs.Actors.{same, Sends}
-use Rattle.cluster_model.specs.World.{World, took, sent, rest, received, delivered}
+use Rattle.one_host_model.specs.declared.message.Msg.{Msg}
+use Rattle.one_host_model.specs.Actors.{same, Sends}
+use Rattle.one_host_model.specs.World.{World, took, sent, rest, received, delivered}
 use Rattle.cluster_core.specs.Channels.{first_message}
 use Rattle.cluster_core.specs.Outbox.{sent_to}
 use Rattle.cluster_core.proofs.Sends.{post_none}

@@ -16,14 +16,14 @@ use Rattle.std.proofs.lemmas.List.Elements.{filter-append}
 use Rattle.std.proofs.lemmas.Map.Lookups.{CmpEqualImpliesEq}
 use Rattle.volt_wire.specs.declared.actor.Actor.{Actor}
 use Rattle.volt_wire.specs.declared.actor.Actor.TheVariants.{Director, Client, Agent, Site}
-use Rattle.volt_wire.specs.declared.message.Msg.{Msg}
+use Rattle.one_host_model.specs.declared.message.Msg.{Msg}
 use Rattle.volt_wire.specs.declared.event.Event.{Event}
 use Rattle.volt_wire.specs.declared.event.Event.TheVariants.{Deliver, Sync, Submit}
-use Rattle.cluster_model.specs.Actors.{same}
-use Rattle.cluster_model.specs.World.{World, can, is_some_message}
-use Rattle.cluster_model.specs.Runs.{actors, is_one_of_them, enabled}
-use Rattle.cluster_model.proofs.Events.{each_actor}
-use Rattle.cluster_model.proofs.Sorted.{sorted_is_filter}
+use Rattle.one_host_model.specs.Actors.{same}
+use Rattle.one_host_model.specs.World.{World, can, is_some_message}
+use Rattle.one_host_model.specs.Runs.{actors, is_one_of_them, enabled}
+use Rattle.one_host_model.proofs.Events.{each_actor}
+use Rattle.one_host_model.proofs.Sorted.{sorted_is_filter}
 use Rattle.cluster_core.specs.declared.route.Route.{Route}
 use Rattle.cluster_core.specs.contracts.route.RouteOrd.TheImpl.{cmp-value}
 use Rattle.cluster_core.specs.contracts.route.RouteOrd.TheImpl.Laws.{total-law}

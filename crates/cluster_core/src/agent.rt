@@ -1,10 +1,10 @@
 ghost use Rattle.std.specs.Prelude.{◌≡◌, ◌<◌, [], Some, None, remove, length, slice_index_or, OnOk, IfSome, IfNone};
-ghost use Rattle.cluster_model.specs.declared.state.Pending.{Pending};
-ghost use Rattle.cluster_model.specs.Agent.{agent_after, agent_sends, client_of, without};
+ghost use Rattle.one_host_model.specs.declared.state.Pending.{Pending};
+ghost use Rattle.one_host_model.specs.Agent.{agent_after, agent_sends, client_of, without};
 ghost use Rattle.cluster_core.specs.Outbox.{SendsMore};
 
 use crate::outbox::Outbox;
-use cluster_model::Pending;
+use one_host_model::Pending;
 use std::alloc::{AllocError, Global};
 use std::marker::Model;
 use volt_base::{Bytes, CallNo, PartNo, Start};
@@ -18,8 +18,8 @@ pub struct Agent {
 }
 
 impl Model for Agent {
-    ghost use Rattle.cluster_model.specs.declared.state.Pending.{Pending};
-    ghost use Rattle.cluster_model.specs.Agent.{AgentState};
+    ghost use Rattle.one_host_model.specs.declared.state.Pending.{Pending};
+    ghost use Rattle.one_host_model.specs.Agent.{AgentState};
 
     ghost Value = { AgentState };
 

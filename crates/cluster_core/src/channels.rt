@@ -1,6 +1,6 @@
 ghost use Rattle.std.specs.Prelude.{◌≡◌, ◌++◌, true, [], map, slice_get, OnOk, IfOk};
-ghost use Rattle.cluster_model.specs.Actors.{only};
-ghost use Rattle.cluster_model.specs.World.{took, sent, is_some_message};
+ghost use Rattle.one_host_model.specs.Actors.{only};
+ghost use Rattle.one_host_model.specs.World.{took, sent, is_some_message};
 ghost use Rattle.volt_wire.specs.declared.actor.Actor.{Actor};
 ghost use Rattle.cluster_core.specs.Channels.{queue_of, routes, delivery, shown, AreFull, IsInOrder, with_queue, first_message};
 
@@ -19,7 +19,7 @@ pub struct Channels {
 
 impl Model for Channels {
     ghost use Rattle.std.specs.Prelude.{List};
-    ghost use Rattle.volt_wire.specs.declared.message.Msg.{Msg};
+    ghost use Rattle.one_host_model.specs.declared.message.Msg.{Msg};
     ghost use Rattle.cluster_core.specs.declared.route.Route.{Route};
 
     ghost Value = { List (Route × List Msg) };

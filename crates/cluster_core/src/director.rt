@@ -1,5 +1,5 @@
 ghost use Rattle.std.specs.Prelude.{◌≡◌, OnOk};
-ghost use Rattle.cluster_model.specs.World.{told_after};
+ghost use Rattle.one_host_model.specs.World.{told_after};
 
 use std::alloc::AllocError;
 use volt_wire::Msg;

@@ -1,5 +1,5 @@
 ghost use Rattle.std.specs.Prelude.{◌≡◌, [], ◌∷◌, ◌++◌, OnOk, IsNone, IfSome, IfNone};
-ghost use Rattle.cluster_model.specs.Actors.{only};
+ghost use Rattle.one_host_model.specs.Actors.{only};
 ghost use Rattle.cluster_core.specs.Outbox.{SendsMore};
 
 use std::alloc::{AllocError, Global};
@@ -16,7 +16,7 @@ pub struct Outbox {
 impl Model for Outbox {
     ghost use Rattle.std.specs.Prelude.{List};
     ghost use Rattle.volt_wire.specs.declared.actor.Actor.{Actor};
-    ghost use Rattle.volt_wire.specs.declared.message.Msg.{Msg};
+    ghost use Rattle.one_host_model.specs.declared.message.Msg.{Msg};
 
     ghost Value = { List (Actor × Msg) };
 

@@ -1,7 +1,7 @@
 ghost use Rattle.std.specs.Prelude.{◌≡◌, ◌++◌, true, false, [], OnOk, IfOk, All};
 ghost use Rattle.volt_wire.specs.declared.actor.Actor.{Actor};
-ghost use Rattle.cluster_model.specs.World as model;
-ghost use Rattle.cluster_model.specs.Runs.{is_one_of_them, is_event_of_them, enabled, head};
+ghost use Rattle.one_host_model.specs.World as model;
+ghost use Rattle.one_host_model.specs.Runs.{is_one_of_them, is_event_of_them, enabled, head};
 ghost use Rattle.cluster_core.specs.Channels.{queue_of};
 ghost use Rattle.cluster_core.specs.Outbox.{sent_to};
 ghost use Rattle.cluster_core.specs.World.{StandsFor, HasThemAlone, if_it_may};
@@ -13,7 +13,7 @@ use crate::client::Client;
 use crate::director::Director;
 use crate::outbox::Outbox;
 use crate::site::Site;
-use cluster_model::CopyRows;
+use one_host_model::CopyRows;
 use std::alloc::{AllocError, Global};
 use volt_base::{Applied, Engine, MakeEngine, Stamp};
 use volt_wire::{Actor, Ended, Event, WorldInput};

@@ -4,9 +4,9 @@ use Rattle.std.proofs.lemmas.Bool.{false≢true, cases_Bool}
 use Rattle.volt_base.specs.Semantics.{Semantics}
 use Rattle.volt_wire.specs.declared.event.Event.{Event}
 use Rattle.volt_wire.specs.declared.event.Event.TheVariants.{Deliver, Sync, Submit}
-use Rattle.cluster_model.specs.World.{World, can, is_some_message}
-use Rattle.cluster_model.specs.Runs.{run, IsRun, IsQuiet, is_event_of_them, enabled, serves}
-use Rattle.cluster_model.proofs.Events.{IsQuiet-enabled}
+use Rattle.one_host_model.specs.World.{World, can, is_some_message}
+use Rattle.one_host_model.specs.Runs.{run, IsRun, IsQuiet, is_event_of_them, enabled, serves}
+use Rattle.one_host_model.proofs.Events.{IsQuiet-enabled}
 use Rattle.soundness.specs.Meaning.{Meaning}
 use Rattle.soundness.specs.Carries.{Carries}
 use Rattle.soundness.specs.Law.{start_of}

@@ -10,13 +10,13 @@ use Rattle.volt_wire.specs.declared.actor.Actor.{Actor}
 use Rattle.volt_wire.specs.declared.actor.Actor.TheVariants.{Director, Client, Agent, Site}
 use Rattle.volt_wire.specs.declared.event.Event.{Event}
 use Rattle.volt_wire.specs.declared.event.Event.TheVariants.{Deliver, Sync, Submit}
-use Rattle.volt_wire.specs.declared.message.Msg.TheVariants as msg
-use Rattle.cluster_model.specs.Actors.{only}
-use Rattle.cluster_model.specs.declared.state.Due.{Due}
-use Rattle.cluster_model.specs.Client.{ClientState, may_submit, submitted, submit_sends, client_after, ends}
-use Rattle.cluster_model.specs.Agent.{agent_after, agent_sends, answers}
-use Rattle.cluster_model.specs.Site.{SiteState, owes, synced, replies, sync_sends, site_after, replay}
-use Rattle.cluster_model.specs.World.{World, can, step, delivered, is_some_message, set_at, took, sent, due}
+use Rattle.one_host_model.specs.declared.message.Msg.TheVariants as msg
+use Rattle.one_host_model.specs.Actors.{only}
+use Rattle.one_host_model.specs.declared.state.Due.{Due}
+use Rattle.one_host_model.specs.Client.{ClientState, may_submit, submitted, submit_sends, client_after, ends}
+use Rattle.one_host_model.specs.Agent.{agent_after, agent_sends, answers}
+use Rattle.one_host_model.specs.Site.{SiteState, owes, synced, replies, sync_sends, site_after, replay}
+use Rattle.one_host_model.specs.World.{World, can, step, delivered, is_some_message, set_at, took, sent, due}
 use Rattle.soundness.specs.Meaning.{Meaning}
 use Rattle.soundness.specs.Carries.{Carries, world_calls}
 use Rattle.soundness.specs.Tied.{ended_line}

@@ -11,7 +11,7 @@ ghost use Rattle.volt_cmd.specs.Prints.{AreLines, Prints};
 
 use account_engine::print_reply;
 use cluster_core::Outcomes;
-use cluster_model::CopyRows;
+use one_host_model::CopyRows;
 use std::alloc::{AllocError, Global};
 use volt_base::Applied;
 use volt_report::{

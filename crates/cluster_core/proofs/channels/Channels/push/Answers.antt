@@ -1,5 +1,5 @@
 use Rattle.std.proofs.Common.{ap, ◌∙◌}
-use Rattle.cluster_model.specs.World.{is_some_message}
+use Rattle.one_host_model.specs.World.{is_some_message}
 use Rattle.cluster_core.proofs.ChannelLemmas.{some-pushed}
 use Rattle.cluster_core.proofs.channels.Channels.push.Goals as goal
 
