@@ -6,6 +6,7 @@ use Rattle.volt_wire.specs.declared.actor.Actor.TheVariants.{Director, Client, A
 use Rattle.one_host_model.specs.declared.message.Msg.{Msg}
 use Rattle.one_host_model.specs.Actors.{same, Sends, only}
 use Rattle.one_host_model.specs.World.{took, sent, rest}
+use Rattle.one_host_model.proofs.Actors.{same-true}
 
 -- whether messages may ever be under way from a to b
 abbrev pub is_used : Actor → Actor → Bool
@@ -34,15 +35,6 @@ took_nothing false ms e = e
 sent_nothing : (t : Bool) (ms more : List Msg) → ms ≡ [] → (t ≡ true → more ≡ []) → (if t then ms ++ more else ms) ≡ []
 sent_nothing true ms more e n = ap (λ x. x ++ more) e ∙ n refl
 sent_nothing false ms more e n = e
-
--- actors that are the same are equal
-same-true : (x y : Actor) → same x y ≡ true → x ≡ y
-same-true Director Director s = refl
-same-true (Client a) (Client b) s = ap Client (eqb-true a b s)
-same-true (Agent a) (Agent b) s = ap Agent (eqb-true a b s)
-same-true (Site a) (Site b) s = ap Site (eqb-true a b s)
-same-true (Scanner a) (Scanner b) s = ap Scanner (eqb-true a b s)
-same-true _ _ s = absurd (false≢true s)
 
 -- a lone message to the site goes nowhere else
 pub only_site : (m : Msg) (b : Actor) → is_used (Agent 0) b ≡ false → only (Site 0) m b ≡ []
