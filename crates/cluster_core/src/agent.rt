@@ -4,11 +4,11 @@ ghost use Rattle.one_host_model.specs.Agent.{agent_after, agent_sends, client_of
 ghost use Rattle.cluster_core.specs.Outbox.{SendsMore};
 
 use crate::outbox::Outbox;
-use one_host_model::Pending;
+use one_host_model::{Msg, Pending};
 use std::alloc::{AllocError, Global};
 use std::marker::Model;
 use volt_base::{Bytes, CallNo, PartNo, Start};
-use volt_wire::{Actor, Msg};
+use volt_wire::Actor;
 
 /// An agent hands the calls of clients to the leaders of their partitions, and the replies back.
 #[derive(Drop)]

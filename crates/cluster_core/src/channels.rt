@@ -5,10 +5,11 @@ ghost use Rattle.volt_wire.specs.declared.actor.Actor.{Actor};
 ghost use Rattle.cluster_core.specs.Channels.{queue_of, routes, delivery, shown, AreFull, IsInOrder, with_queue, first_message};
 
 use crate::route::Route;
+use one_host_model::Msg;
 use std::alloc::{AllocError, Global};
 use std::collections::{BTreeMap, VecDeque};
 use std::marker::Model;
-use volt_wire::{Actor, Event, Msg};
+use volt_wire::{Actor, Event};
 
 /// The messages under way: the queue of each route that has a message, by route.
 #[derive(Drop)]

@@ -4,12 +4,12 @@ ghost use Rattle.one_host_model.specs.World.{due};
 ghost use Rattle.cluster_core.specs.Outbox.{SendsMore};
 
 use crate::outbox::Outbox;
-use one_host_model::Due;
+use one_host_model::{Due, Ended, Msg, WorldCall};
 use std::alloc::{AllocError, Global};
 use std::collections::VecDeque;
 use std::marker::Model;
 use volt_base::{Bytes, CallNo, ClientNo, Stamp};
-use volt_wire::{Actor, Ended, Msg, WorldCall};
+use volt_wire::Actor;
 
 /// A client submits its calls one after another, and notes how each ended.
 #[derive(Drop)]

@@ -2,10 +2,11 @@ ghost use Rattle.std.specs.Prelude.{◌≡◌, [], ◌∷◌, ◌++◌, OnOk, Is
 ghost use Rattle.one_host_model.specs.Actors.{only};
 ghost use Rattle.cluster_core.specs.Outbox.{SendsMore};
 
+use one_host_model::Msg;
 use std::alloc::{AllocError, Global};
 use std::collections::VecDeque;
 use std::marker::Model;
-use volt_wire::{Actor, Msg};
+use volt_wire::Actor;
 
 /// What an event sends, seen as the list of receivers and messages in order.
 #[derive(Drop)]
