@@ -50,7 +50,7 @@ told_after told msg.Told = told + 1
 told_after told m = told
 
 -- The receiver takes a message: its state changes by the row of the message, and what the row says is sent.
--- There is no scanner to take one.
+-- A scanner does nothing with it.
 abbrev pub received : (S : Semantics) → ℕ → World → Actor → Actor → Msg → World
 received S stamp w Director from m = record w { told = told_after w.told m; channel = took w.channel from Director }
 received S stamp w (Client n) from m =
@@ -68,7 +68,7 @@ received S stamp w (Site i) from m =
       sites = set_at w.sites i (site_after S stamp i (w.sites i) from m);
       channel = took w.channel from (Site i);
     }
-received S stamp w (Scanner i) from m = w
+received S stamp w (Scanner i) from m = record w { channel = took w.channel from (Scanner i) }
 
 abbrev pub delivered : (S : Semantics) → ℕ → World → Actor → Actor → List Msg → World
 delivered S stamp w to from [] = w
