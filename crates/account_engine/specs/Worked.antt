@@ -6,8 +6,8 @@ use Rattle.volt_wire.specs.declared.actor.Actor.TheVariants.{Director, Client, A
 use Rattle.volt_wire.specs.declared.event.Event.{Event}
 use Rattle.volt_wire.specs.declared.event.Event.TheVariants.{Deliver, Sync, Submit}
 use Rattle.volt_report.specs.Report.{ReportEnd, Kept, CallLine, CopyLine, Report}
-use Rattle.cluster_model.specs.World.{World, first_world}
-use Rattle.cluster_model.specs.Runs.{run}
+use Rattle.one_host_model.specs.World.{World, first_world}
+use Rattle.one_host_model.specs.Runs.{run}
 use Rattle.soundness.specs.Meaning.{Script}
 use Rattle.soundness.specs.Carries.{world_calls, script}
 use Rattle.account_engine.specs.declared.call.AccountCall.TheVariants.{Put, Get}

@@ -4,7 +4,7 @@
 ghost use Rattle.std.specs.Prelude.{◌≡◌, ◌++◌, [], ◌∷◌, pos, map, codes};
 ghost use Rattle.volt_report.specs.Report.{Kept, Fault};
 ghost use Rattle.volt_report.specs.Spelling.{spelling};
-ghost use Rattle.cluster_model.specs.Runs.{IsRun, TakesFirst, enabled, serial};
+ghost use Rattle.one_host_model.specs.Runs.{IsRun, TakesFirst, enabled, serial};
 ghost use Rattle.soundness.specs.Sound.{Sound};
 ghost use Rattle.soundness.specs.Tied.{Shows};
 ghost use Rattle.account_engine.specs.Spelling.{body_bytes, reply_bytes};

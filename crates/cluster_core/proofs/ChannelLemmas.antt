@@ -1,7 +1,6 @@
 -- The queues of a map of routes after a queue was taken out, and put back with a message more or less.
-use Rattle.std.proofs.Common.{◌≡◌, ℕ, ◌==◌, Bool, true, false, cond, ◌&&◌, List, [], ◌∷◌, ◌++◌, Option, Some, None, refl, ap, sym, ◌∙◌, inl, inr, arith, Global, length, drop}
+use Rattle.std.proofs.Common.{◌≡◌, ◌==◌, Bool, true, false, cond, ◌&&◌, List, [], ◌∷◌, ◌++◌, Option, Some, None, refl, ap, sym, ◌∙◌, inl, inr, arith, Global, length, drop}
 use Rattle.std.proofs.lemmas.Bool.{cases_Bool}
-use Rattle.std.proofs.lemmas.Bool.Decides.{nat_tests}
 use Rattle.std.proofs.lemmas.List.{append-nil}
 use Rattle.std.specs.BTreeMap.{is_at}
 use Rattle.std.specs.Map.{lookup, remove_entry}
@@ -14,10 +13,10 @@ use Rattle.std.specs.declared.cmp.Ordering.TheVariants.{Less, Equal, Greater}
 use Rattle.std.proofs.lemmas.Bool.{false≢true}
 use Rattle.std.specs.declared.collections.VecDeque.{VecDeque}
 use Rattle.volt_wire.specs.declared.actor.Actor.{Actor}
-use Rattle.volt_wire.specs.declared.actor.Actor.TheVariants.{Director, Client, Agent, Site}
-use Rattle.volt_wire.specs.declared.message.Msg.{Msg}
-use Rattle.cluster_model.specs.Actors.{same, only}
-use Rattle.cluster_model.specs.World.{took, sent, rest, is_some_message}
+use Rattle.one_host_model.specs.declared.message.Msg.{Msg}
+use Rattle.one_host_model.specs.Actors.{same, only}
+use Rattle.one_host_model.specs.World.{took, sent, rest, is_some_message}
+use Rattle.one_host_model.proofs.Actors.{same-true}
 use Rattle.cluster_core.specs.declared.route.Route.{Route}
 use Rattle.cluster_core.specs.contracts.route.RouteOrd.TheImpl.{cmp-value}
 use Rattle.cluster_core.specs.Channels.{queue_of, shown, with_queue, routes, AreFull}
@@ -45,28 +44,6 @@ queue_of-shown (e ∷ es) from to =
     ∙ ap (λ (t : Bool). cond t e.1.items (items_of (lookup (is_at (cmp-value.it (route to from))) es))) (sym (route_at (route to from) e.0))
     ∙ sym (items_of-cond (is_at (cmp-value.it (route to from)) e.0) e.1 (lookup (is_at (cmp-value.it (route to from))) es))
 
-same_number : (a b : ℕ) → (a == b) ≡ true → a ≡ b
-same_number a b e = grind (arith, nat_tests)
-
--- actors that are one are equal
-pub same_is : (a b : Actor) → same a b ≡ true → a ≡ b
-same_is Director Director e = refl
-same_is Director (Client b) e = absurd cc
-same_is Director (Agent b) e = absurd cc
-same_is Director (Site b) e = absurd cc
-same_is (Client a) Director e = absurd cc
-same_is (Client a) (Client b) e = ap Client (same_number a b e)
-same_is (Client a) (Agent b) e = absurd cc
-same_is (Client a) (Site b) e = absurd cc
-same_is (Agent a) Director e = absurd cc
-same_is (Agent a) (Client b) e = absurd cc
-same_is (Agent a) (Agent b) e = ap Agent (same_number a b e)
-same_is (Agent a) (Site b) e = absurd cc
-same_is (Site a) Director e = absurd cc
-same_is (Site a) (Client b) e = absurd cc
-same_is (Site a) (Agent b) e = absurd cc
-same_is (Site a) (Site b) e = ap Site (same_number a b e)
-
 -- what a map has after a queue was taken out or put in, seen as queues
 pub with_queue-shown : (old new : Entries) (r : Route) (o : Option (VecDeque Msg Global))
     → ((q : Route) → lookup (is_at (cmp-value.it q)) new ≡ cond (is_at (cmp-value.it r) q) o (lookup (is_at (cmp-value.it q)) old))
@@ -92,12 +69,12 @@ with_queue-twice channel r xs ys f t = twice (same r.to t && same r.from f)
     twice false = refl
 
 -- where the queue has a message more
-pub pushed_is_sent : (channel : Actor → Actor → List Msg) (from to : Actor) (m : Msg) (f t : Actor)
+pushed_is_sent : (channel : Actor → Actor → List Msg) (from to : Actor) (m : Msg) (f t : Actor)
     → with_queue channel (route to from) (channel from to ++ m ∷ []) f t ≡ sent channel from (only to m) f t
 pushed_is_sent channel from to m f t =
     elim (cases_Bool (same to t)) [
       | inl a ↦ elim (cases_Bool (same from f)) [
-        | inl b ↦ rw (a, b) (ap (λ (x : Actor). channel x to ++ m ∷ []) (same_is from f b) ∙ ap (λ (x : Actor). channel f x ++ m ∷ []) (same_is to t a))
+        | inl b ↦ rw (a, b) (ap (λ (x : Actor). channel x to ++ m ∷ []) (same-true from f b) ∙ ap (λ (x : Actor). channel f x ++ m ∷ []) (same-true to t a))
         | inr b ↦ rw (a, b) refl
       ]
       | inr a ↦ elim (cases_Bool (same from f)) [
@@ -106,13 +83,26 @@ pushed_is_sent channel from to m f t =
       ]
     ]
 
+-- the queue, taken out, is put back with a message more
+pub pushed_back : (before mid after : Actor → Actor → List Msg) (from to : Actor) (m : Msg) (queue : List Msg)
+    → queue ≡ before from to ++ m ∷ []
+    → ((f t : Actor) → mid f t ≡ with_queue before (route to from) [] f t)
+    → ((f t : Actor) → after f t ≡ with_queue mid (route to from) queue f t)
+    → (f t : Actor) → after f t ≡ sent before from (only to m) f t
+pushed_back before mid after from to m queue is taken put f t =
+    put f t
+    ∙ ap (λ (xs : List Msg). with_queue (λ (x y : Actor). xs) (route to from) queue f t) (taken f t)
+    ∙ with_queue-twice before (route to from) [] queue f t
+    ∙ ap (λ (xs : List Msg). with_queue before (route to from) xs f t) is
+    ∙ pushed_is_sent before from to m f t
+
 -- where the queue has lost its first message
 pub popped_is_took : (channel : Actor → Actor → List Msg) (from to : Actor) (f t : Actor)
     → with_queue channel (route to from) (rest (channel from to)) f t ≡ took channel from to f t
 popped_is_took channel from to f t =
     elim (cases_Bool (same to t)) [
       | inl a ↦ elim (cases_Bool (same from f)) [
-        | inl b ↦ rw (a, b) (ap (λ (x : Actor). rest (channel x to)) (same_is from f b) ∙ ap (λ (x : Actor). rest (channel f x)) (same_is to t a))
+        | inl b ↦ rw (a, b) (ap (λ (x : Actor). rest (channel x to)) (same-true from f b) ∙ ap (λ (x : Actor). rest (channel f x)) (same-true to t a))
         | inr b ↦ rw (a, b) refl
       ]
       | inr a ↦ rw a refl

@@ -2,12 +2,12 @@
 use Rattle.std.proofs.Common.{◌≡◌, ℕ, ◌&&◌, Bool, List, [], ◌∷◌, ◌++◌, Some, None, refl, sym, ap, ◌∙◌, inl, inr}
 use Rattle.std.specs.Prelude.{if◌then◌else◌}
 use Rattle.std.proofs.lemmas.Bool.{cases_Bool}
-use Rattle.cluster_core.proofs.ChannelLemmas.{same_is}
 use Rattle.volt_base.specs.Semantics.{Semantics}
 use Rattle.volt_wire.specs.declared.actor.Actor.{Actor}
-use Rattle.volt_wire.specs.declared.message.Msg.{Msg}
-use Rattle.cluster_model.specs.Actors.{same, Sends}
-use Rattle.cluster_model.specs.World.{World, took, sent, rest, received, delivered}
+use Rattle.one_host_model.specs.declared.message.Msg.{Msg}
+use Rattle.one_host_model.specs.Actors.{same, Sends}
+use Rattle.one_host_model.specs.World.{World, took, sent, rest, received, delivered}
+use Rattle.one_host_model.proofs.Actors.{same-true}
 use Rattle.cluster_core.specs.Channels.{first_message}
 use Rattle.cluster_core.specs.Outbox.{sent_to}
 use Rattle.cluster_core.proofs.Sends.{post_none}
@@ -38,7 +38,7 @@ pub took_nothing : (channel : Actor → Actor → List Msg) (from to : Actor) �
 took_nothing channel from to e f t =
     elim (cases_Bool (same to t)) [
       | inl a ↦ elim (cases_Bool (same from f)) [
-        | inl b ↦ rw (a, b) (ap (λ (x : Actor). rest (channel f x)) (sym (same_is to t a)) ∙ ap (λ (x : Actor). rest (channel x to)) (sym (same_is from f b)) ∙ empty_rest (channel from to) e ∙ ap (λ (x : Actor). channel x to) (same_is from f b) ∙ ap (λ (x : Actor). channel f x) (same_is to t a))
+        | inl b ↦ rw (a, b) (ap (λ (x : Actor). rest (channel f x)) (sym (same-true to t a)) ∙ ap (λ (x : Actor). rest (channel x to)) (sym (same-true from f b)) ∙ empty_rest (channel from to) e ∙ ap (λ (x : Actor). channel x to) (same-true from f b) ∙ ap (λ (x : Actor). channel f x) (same-true to t a))
         | inr b ↦ rw (a, b) refl
       ]
       | inr a ↦ rw a refl

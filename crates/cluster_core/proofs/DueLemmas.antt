@@ -1,9 +1,9 @@
 -- The calls that a client has still to submit, one after another.
 use Rattle.std.proofs.Common.{◌≡◌, ℕ, ◌+◌, ◌<◌, ◌≤◌, List, ◌∷◌, ◌++◌, length, get_or, drop, refl, ap, ◌∙◌, drop-cons, add-one}
 use Rattle.std.proofs.lemmas.List.{drop_all, append-nil}
-use Rattle.volt_wire.specs.declared.input.WorldCall.{WorldCall}
-use Rattle.cluster_model.specs.declared.state.Due.{Due}
-use Rattle.cluster_model.specs.World.{due}
+use Rattle.one_host_model.specs.declared.input.WorldCall.{WorldCall}
+use Rattle.one_host_model.specs.declared.state.Due.{Due}
+use Rattle.one_host_model.specs.World.{due}
 
 -- the first of the calls that are left is the next one
 pub due_next : (calls : List WorldCall) (i number : ℕ) (call : WorldCall) → i < length calls → call ≡ get_or calls i call → call.client ≡ 1

@@ -4,13 +4,13 @@ use Rattle.std.specs.Prelude.{slice_get}
 use Rattle.std.specs.List.{list_any, AllByRecursion}
 use Rattle.std.proofs.lemmas.Bool.Decides.{nat_tests}
 use Rattle.volt_wire.specs.declared.actor.Actor.{Actor}
-use Rattle.volt_wire.specs.declared.actor.Actor.TheVariants.{Director, Client, Agent, Site}
-use Rattle.volt_wire.specs.declared.message.Msg.{Msg}
+use Rattle.volt_wire.specs.declared.actor.Actor.TheVariants.{Director, Client, Agent, Site, Scanner}
+use Rattle.one_host_model.specs.declared.message.Msg.{Msg}
 use Rattle.volt_wire.specs.declared.event.Event.{Event}
 use Rattle.volt_wire.specs.declared.event.Event.TheVariants.{Deliver, Sync, Submit}
-use Rattle.cluster_model.specs.Actors.{same}
-use Rattle.cluster_model.specs.World.{World, can, is_some_message}
-use Rattle.cluster_model.specs.Runs.{is_one_of_them, enabled, head}
+use Rattle.one_host_model.specs.Actors.{same}
+use Rattle.one_host_model.specs.World.{World, can, is_some_message}
+use Rattle.one_host_model.specs.Runs.{is_one_of_them, enabled, head}
 use Rattle.cluster_core.specs.declared.route.Route.{Route}
 use Rattle.cluster_core.specs.Channels.{queue_of, routes, delivery, AreFull, IsInOrder}
 use Rattle.cluster_core.specs.World.{HasThemAlone, if_it_may}
@@ -28,6 +28,7 @@ same-refl Director = refl
 same-refl (Client n) = same_number n
 same-refl (Agent h) = same_number h
 same-refl (Site i) = same_number i
+same-refl (Scanner i) = same_number i
 
 or_true : (a b : Bool) → b ≡ true → (a || b) ≡ true
 or_true true b e = refl

@@ -16,20 +16,21 @@ use Rattle.std.proofs.lemmas.List.Elements.{filter-append}
 use Rattle.std.proofs.lemmas.Map.Lookups.{CmpEqualImpliesEq}
 use Rattle.volt_wire.specs.declared.actor.Actor.{Actor}
 use Rattle.volt_wire.specs.declared.actor.Actor.TheVariants.{Director, Client, Agent, Site}
-use Rattle.volt_wire.specs.declared.message.Msg.{Msg}
+use Rattle.one_host_model.specs.declared.message.Msg.{Msg}
 use Rattle.volt_wire.specs.declared.event.Event.{Event}
 use Rattle.volt_wire.specs.declared.event.Event.TheVariants.{Deliver, Sync, Submit}
-use Rattle.cluster_model.specs.Actors.{same}
-use Rattle.cluster_model.specs.World.{World, can, is_some_message}
-use Rattle.cluster_model.specs.Runs.{actors, is_one_of_them, enabled}
-use Rattle.cluster_model.proofs.Events.{each_actor}
-use Rattle.cluster_model.proofs.Sorted.{sorted_is_filter}
+use Rattle.one_host_model.specs.Actors.{same}
+use Rattle.one_host_model.specs.World.{World, can, is_some_message}
+use Rattle.one_host_model.specs.Runs.{actors, is_one_of_them, enabled}
+use Rattle.one_host_model.proofs.Actors.{same-true}
+use Rattle.one_host_model.proofs.Events.{each_actor}
+use Rattle.one_host_model.proofs.Sorted.{sorted_is_filter}
 use Rattle.cluster_core.specs.declared.route.Route.{Route}
 use Rattle.cluster_core.specs.contracts.route.RouteOrd.TheImpl.{cmp-value}
 use Rattle.cluster_core.specs.contracts.route.RouteOrd.TheImpl.Laws.{total-law}
 use Rattle.cluster_core.specs.Channels.{queue_of, shown, delivery, routes, IsInOrder}
 use Rattle.cluster_core.proofs.RouteLemmas.{route_at}
-use Rattle.cluster_core.proofs.ChannelLemmas.{route, same_is}
+use Rattle.cluster_core.proofs.ChannelLemmas.{route}
 
 -- all routes of a small deployment, in order
 abbrev pub all_routes : List Route
@@ -76,7 +77,7 @@ routes_sorted = sorted_from_test all_routes refl
 exact : CmpEqualImpliesEq cmp-value.it
 exact q k e =
     let is = and_parts (same q.to k.to) (same q.from k.from) (sym (route_at q k) ∙ ap is_eq e) in
-    ap (λ (x : Actor). route x q.from) (same_is q.to k.to is.0) ∙ ap (λ (x : Actor). route k.to x) (same_is q.from k.from is.1)
+    ap (λ (x : Actor). route x q.from) (same-true q.to k.to is.0) ∙ ap (λ (x : Actor). route k.to x) (same-true q.from k.from is.1)
 
 -- each route between two of these actors is among the routes
 among_routes : (q : Route) → is_one_of_them q.to && is_one_of_them q.from ≡ true → list_any (is_at (cmp-value.it q)) all_routes ≡ true

@@ -6,9 +6,9 @@ use Rattle.std.specs.Ordering.{ordering_then}
 use Rattle.std.specs.declared.cmp.Ordering.{Ordering}
 use Rattle.std.specs.declared.cmp.Ordering.TheVariants.{Less, Equal, Greater}
 use Rattle.volt_wire.specs.declared.actor.Actor.{Actor}
-use Rattle.volt_wire.specs.declared.actor.Actor.TheVariants.{Director, Client, Agent, Site}
+use Rattle.volt_wire.specs.declared.actor.Actor.TheVariants.{Director, Client, Agent, Site, Scanner}
 use Rattle.volt_wire.specs.contracts.actor.ActorOrd.TheImpl as actor
-use Rattle.cluster_model.specs.Actors.{same}
+use Rattle.one_host_model.specs.Actors.{same}
 use Rattle.cluster_core.specs.declared.route.Route.{Route}
 use Rattle.cluster_core.specs.contracts.route.RouteOrd.TheImpl.{cmp-value}
 
@@ -17,21 +17,11 @@ nat_at a b = grind (arith, nat_tests)
 
 actor_at : (a b : Actor) → is_eq (actor.cmp-value.it a b) ≡ same a b
 actor_at Director Director = refl
-actor_at Director (Client b) = refl
-actor_at Director (Agent b) = refl
-actor_at Director (Site b) = refl
-actor_at (Client a) Director = refl
 actor_at (Client a) (Client b) = nat_at a b
-actor_at (Client a) (Agent b) = refl
-actor_at (Client a) (Site b) = refl
-actor_at (Agent a) Director = refl
-actor_at (Agent a) (Client b) = refl
 actor_at (Agent a) (Agent b) = nat_at a b
-actor_at (Agent a) (Site b) = refl
-actor_at (Site a) Director = refl
-actor_at (Site a) (Client b) = refl
-actor_at (Site a) (Agent b) = refl
 actor_at (Site a) (Site b) = nat_at a b
+actor_at (Scanner a) (Scanner b) = nat_at a b
+actor_at _ _ = refl
 
 both : (x y : Ordering) → is_eq (ordering_then x y) ≡ (is_eq x && is_eq y)
 both Less y = refl

@@ -5,12 +5,12 @@ use Rattle.std.proofs.lemmas.Bool.{cases_Bool}
 use Rattle.std.proofs.lemmas.List.{append-nil}
 use Rattle.volt_wire.specs.declared.actor.Actor.{Actor}
 use Rattle.volt_wire.specs.declared.actor.Actor.TheVariants.{Director, Agent}
-use Rattle.volt_wire.specs.declared.message.Msg.{Msg}
-use Rattle.volt_wire.specs.declared.message.Msg.TheVariants as msg
-use Rattle.cluster_model.specs.declared.state.Due.{Due}
-use Rattle.cluster_model.specs.Actors.{same, only}
-use Rattle.cluster_model.specs.Client.{submit_sends}
-use Rattle.cluster_model.specs.World.{sent}
+use Rattle.one_host_model.specs.declared.message.Msg.{Msg}
+use Rattle.one_host_model.specs.declared.message.Msg.TheVariants as msg
+use Rattle.one_host_model.specs.declared.state.Due.{Due}
+use Rattle.one_host_model.specs.Actors.{same, only}
+use Rattle.one_host_model.specs.Client.{submit_sends}
+use Rattle.one_host_model.specs.World.{sent}
 use Rattle.cluster_core.specs.Outbox.{sent_to, SendsMore}
 
 chosen : (t : Bool) (m : Msg) (xs ys : List Msg) → (if t then m ∷ (xs ++ ys) else (xs ++ ys)) ≡ (if t then m ∷ xs else xs) ++ ys

@@ -5,11 +5,11 @@ use Rattle.volt_base.specs.declared.entry.Entry.{Entry}
 use Rattle.volt_base.specs.declared.entry.Entry.TheVariants.{Sp}
 use Rattle.volt_wire.specs.declared.actor.Actor.{Actor}
 use Rattle.volt_wire.specs.declared.actor.Actor.TheVariants.{Agent}
-use Rattle.volt_wire.specs.declared.message.Msg.{Msg}
-use Rattle.volt_wire.specs.declared.message.Msg.TheVariants as msg
-use Rattle.cluster_model.specs.declared.state.Waiting.{Waiting}
-use Rattle.cluster_model.specs.Actors.{only}
-use Rattle.cluster_model.specs.Site.{SiteState, replay, site_after, replies}
+use Rattle.one_host_model.specs.declared.message.Msg.{Msg}
+use Rattle.one_host_model.specs.declared.message.Msg.TheVariants as msg
+use Rattle.one_host_model.specs.declared.state.Waiting.{Waiting}
+use Rattle.one_host_model.specs.Actors.{only}
+use Rattle.one_host_model.specs.Site.{SiteState, replay, site_after, replies}
 use Rattle.cluster_core.specs.declared.site.LogEnd.{LogEnd}
 use Rattle.cluster_core.specs.Site.{StandsForSite}
 use Rattle.cluster_core.specs.Outbox.{SendsMore, sent_to}

@@ -7,9 +7,9 @@ use Rattle.std.specs.declared.collections.VecDeque.{VecDeque}
 use Rattle.volt_wire.specs.declared.actor.Actor.{Actor}
 use Rattle.volt_wire.specs.declared.event.Event.{Event}
 use Rattle.volt_wire.specs.declared.event.Event.TheVariants.{Deliver}
-use Rattle.volt_wire.specs.declared.message.Msg.{Msg}
-use Rattle.cluster_model.specs.Actors.{same}
-use Rattle.cluster_model.specs.World.{is_some_message}
+use Rattle.one_host_model.specs.declared.message.Msg.{Msg}
+use Rattle.one_host_model.specs.Actors.{same}
+use Rattle.one_host_model.specs.World.{is_some_message}
 use Rattle.cluster_core.specs.declared.route.Route.{Route}
 use Rattle.cluster_core.specs.contracts.route.RouteOrd.TheImpl.{cmp-value}
 

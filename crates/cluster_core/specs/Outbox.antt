@@ -1,8 +1,8 @@
 -- What an outbox holds for an actor.
 use Rattle.std.specs.Prelude.{◌≡◌, if◌then◌else◌, List, [], ◌∷◌, ◌++◌}
 use Rattle.volt_wire.specs.declared.actor.Actor.{Actor}
-use Rattle.volt_wire.specs.declared.message.Msg.{Msg}
-use Rattle.cluster_model.specs.Actors.{same, Sends}
+use Rattle.one_host_model.specs.declared.message.Msg.{Msg}
+use Rattle.one_host_model.specs.Actors.{same, Sends}
 
 -- the messages to one actor, in order
 abbrev pub sent_to : Actor → List (Actor × Msg) → List Msg

@@ -1,8 +1,8 @@
 -- What there is to report of a world.
 use Rattle.std.specs.Prelude.{◌≡◌}
 use Rattle.volt_base.specs.Semantics.{Semantics}
-use Rattle.cluster_model.specs.World.{World}
-use Rattle.cluster_model.specs.Runs.{ended, copies, serial}
+use Rattle.one_host_model.specs.World.{World}
+use Rattle.one_host_model.specs.Runs.{ended, copies, serial}
 use Rattle.cluster_core.specs.declared.world.Outcomes.{Outcomes}
 
 pub record Tells (S : Semantics) (outcomes : Outcomes) (w : World) : Type 0 where

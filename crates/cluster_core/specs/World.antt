@@ -3,8 +3,8 @@ use Rattle.std.specs.Prelude.{◌≡◌, Bool, true, false, List, [], ◌∷◌}
 use Rattle.volt_base.specs.Semantics.{Semantics}
 use Rattle.volt_wire.specs.declared.actor.Actor.{Actor}
 use Rattle.volt_wire.specs.declared.event.Event.{Event}
-use Rattle.cluster_model.specs.World as model
-use Rattle.cluster_model.specs.Runs.{is_event_of_them}
+use Rattle.one_host_model.specs.World as model
+use Rattle.one_host_model.specs.Runs.{is_event_of_them}
 use Rattle.cluster_core.specs.declared.world.World.{World}
 use Rattle.cluster_core.specs.Channels.{queue_of}
 use Rattle.cluster_core.specs.Site.{StandsForSite}

@@ -1,14 +1,14 @@
 ghost use Rattle.std.specs.Prelude.{◌≡◌, ◌<◌, [], Some, None, remove, length, slice_index_or, OnOk, IfSome, IfNone};
-ghost use Rattle.cluster_model.specs.declared.state.Pending.{Pending};
-ghost use Rattle.cluster_model.specs.Agent.{agent_after, agent_sends, client_of, without};
+ghost use Rattle.one_host_model.specs.declared.state.Pending.{Pending};
+ghost use Rattle.one_host_model.specs.Agent.{agent_after, agent_sends, client_of, without};
 ghost use Rattle.cluster_core.specs.Outbox.{SendsMore};
 
 use crate::outbox::Outbox;
-use cluster_model::Pending;
+use one_host_model::{Msg, Pending};
 use std::alloc::{AllocError, Global};
 use std::marker::Model;
 use volt_base::{Bytes, CallNo, PartNo, Start};
-use volt_wire::{Actor, Msg};
+use volt_wire::Actor;
 
 /// An agent hands the calls of clients to the leaders of their partitions, and the replies back.
 #[derive(Drop)]
@@ -18,8 +18,8 @@ pub struct Agent {
 }
 
 impl Model for Agent {
-    ghost use Rattle.cluster_model.specs.declared.state.Pending.{Pending};
-    ghost use Rattle.cluster_model.specs.Agent.{AgentState};
+    ghost use Rattle.one_host_model.specs.declared.state.Pending.{Pending};
+    ghost use Rattle.one_host_model.specs.Agent.{AgentState};
 
     ghost Value = { AgentState };
 

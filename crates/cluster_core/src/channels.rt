@@ -1,14 +1,15 @@
 ghost use Rattle.std.specs.Prelude.{◌≡◌, ◌++◌, true, [], map, slice_get, OnOk, IfOk};
-ghost use Rattle.cluster_model.specs.Actors.{only};
-ghost use Rattle.cluster_model.specs.World.{took, sent, is_some_message};
+ghost use Rattle.one_host_model.specs.Actors.{only};
+ghost use Rattle.one_host_model.specs.World.{took, sent, is_some_message};
 ghost use Rattle.volt_wire.specs.declared.actor.Actor.{Actor};
 ghost use Rattle.cluster_core.specs.Channels.{queue_of, routes, delivery, shown, AreFull, IsInOrder, with_queue, first_message};
 
 use crate::route::Route;
+use one_host_model::Msg;
 use std::alloc::{AllocError, Global};
 use std::collections::{BTreeMap, VecDeque};
 use std::marker::Model;
-use volt_wire::{Actor, Event, Msg};
+use volt_wire::{Actor, Event};
 
 /// The messages under way: the queue of each route that has a message, by route.
 #[derive(Drop)]
@@ -19,7 +20,7 @@ pub struct Channels {
 
 impl Model for Channels {
     ghost use Rattle.std.specs.Prelude.{List};
-    ghost use Rattle.volt_wire.specs.declared.message.Msg.{Msg};
+    ghost use Rattle.one_host_model.specs.declared.message.Msg.{Msg};
     ghost use Rattle.cluster_core.specs.declared.route.Route.{Route};
 
     ghost Value = { List (Route × List Msg) };

@@ -1,15 +1,15 @@
 ghost use Rattle.std.specs.Prelude.{◌≡◌, [], None, OnOk, IfOk, All};
-ghost use Rattle.cluster_model.specs.Client.{may_submit, submitted, submit_sends, client_after};
-ghost use Rattle.cluster_model.specs.World.{due};
+ghost use Rattle.one_host_model.specs.Client.{may_submit, submitted, submit_sends, client_after};
+ghost use Rattle.one_host_model.specs.World.{due};
 ghost use Rattle.cluster_core.specs.Outbox.{SendsMore};
 
 use crate::outbox::Outbox;
-use cluster_model::Due;
+use one_host_model::{Due, Ended, Msg, WorldCall};
 use std::alloc::{AllocError, Global};
 use std::collections::VecDeque;
 use std::marker::Model;
 use volt_base::{Bytes, CallNo, ClientNo, Stamp};
-use volt_wire::{Actor, Ended, Msg, WorldCall};
+use volt_wire::Actor;
 
 /// A client submits its calls one after another, and notes how each ended.
 #[derive(Drop)]
@@ -20,7 +20,7 @@ pub struct Client {
 }
 
 impl Model for Client {
-    ghost use Rattle.cluster_model.specs.Client.{ClientState};
+    ghost use Rattle.one_host_model.specs.Client.{ClientState};
 
     ghost Value = { ClientState };
 

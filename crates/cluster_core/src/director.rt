@@ -1,8 +1,8 @@
 ghost use Rattle.std.specs.Prelude.{◌≡◌, OnOk};
-ghost use Rattle.cluster_model.specs.World.{told_after};
+ghost use Rattle.one_host_model.specs.World.{told_after};
 
+use one_host_model::Msg;
 use std::alloc::AllocError;
-use volt_wire::Msg;
 
 /// The actor that does the items of the script, by what it is told of calls.
 #[derive(Debug, Drop)]

@@ -1,11 +1,12 @@
 ghost use Rattle.std.specs.Prelude.{◌≡◌, [], ◌∷◌, ◌++◌, OnOk, IsNone, IfSome, IfNone};
-ghost use Rattle.cluster_model.specs.Actors.{only};
+ghost use Rattle.one_host_model.specs.Actors.{only};
 ghost use Rattle.cluster_core.specs.Outbox.{SendsMore};
 
+use one_host_model::Msg;
 use std::alloc::{AllocError, Global};
 use std::collections::VecDeque;
 use std::marker::Model;
-use volt_wire::{Actor, Msg};
+use volt_wire::Actor;
 
 /// What an event sends, seen as the list of receivers and messages in order.
 #[derive(Drop)]
@@ -16,7 +17,7 @@ pub struct Outbox {
 impl Model for Outbox {
     ghost use Rattle.std.specs.Prelude.{List};
     ghost use Rattle.volt_wire.specs.declared.actor.Actor.{Actor};
-    ghost use Rattle.volt_wire.specs.declared.message.Msg.{Msg};
+    ghost use Rattle.one_host_model.specs.declared.message.Msg.{Msg};
 
     ghost Value = { List (Actor × Msg) };
 

@@ -1,14 +1,14 @@
 ghost use Rattle.std.specs.Prelude.{◌≡◌, ◌+◌, [], OnOk, IfOk};
-ghost use Rattle.cluster_model.specs.Site.{SiteState, site_after, owes, synced, sync_sends, replies};
+ghost use Rattle.one_host_model.specs.Site.{SiteState, site_after, owes, synced, sync_sends, replies};
 ghost use Rattle.cluster_core.specs.Outbox.{SendsMore};
 ghost use Rattle.cluster_core.specs.Site.{StandsForSite};
 
 use crate::outbox::Outbox;
-use cluster_model::Waiting;
+use one_host_model::{Msg, Waiting};
 use std::alloc::{AllocError, Global};
 use std::collections::VecDeque;
 use volt_base::{Bytes, CallNo, Engine, Entry, HostNo, Pos, SlotNo, Stamp, Start};
-use volt_wire::{Actor, Msg};
+use volt_wire::Actor;
 
 /// What a site keeps of its log.
 #[derive(Drop)]

@@ -1,11 +1,12 @@
 ghost use Rattle.std.specs.Prelude.{◌≡◌, IfOk, All};
 
 use super::World;
+use one_host_model::{Ended, WorldCall, WorldInput};
 use std::alloc::{AllocError, Global};
 use std::process::Abort;
 use std::test::Fail;
 use volt_base::{Applied, Bytes, Engine, Entry, MakeEngine, PartNo};
-use volt_wire::{Actor, Ended, Event, WorldCall, WorldInput};
+use volt_wire::{Actor, Event};
 
 /// An engine that answers each call with the call's own body.
 #[derive(Drop)]

@@ -1,7 +1,7 @@
 ghost use Rattle.std.specs.Prelude.{◌≡◌, ◌++◌, true, false, [], OnOk, IfOk, All};
 ghost use Rattle.volt_wire.specs.declared.actor.Actor.{Actor};
-ghost use Rattle.cluster_model.specs.World as model;
-ghost use Rattle.cluster_model.specs.Runs.{is_one_of_them, is_event_of_them, enabled, head};
+ghost use Rattle.one_host_model.specs.World as model;
+ghost use Rattle.one_host_model.specs.Runs.{is_one_of_them, is_event_of_them, enabled, head};
 ghost use Rattle.cluster_core.specs.Channels.{queue_of};
 ghost use Rattle.cluster_core.specs.Outbox.{sent_to};
 ghost use Rattle.cluster_core.specs.World.{StandsFor, HasThemAlone, if_it_may};
@@ -13,10 +13,10 @@ use crate::client::Client;
 use crate::director::Director;
 use crate::outbox::Outbox;
 use crate::site::Site;
-use cluster_model::CopyRows;
+use one_host_model::{CopyRows, Ended, WorldInput};
 use std::alloc::{AllocError, Global};
 use volt_base::{Applied, Engine, MakeEngine, Stamp};
-use volt_wire::{Actor, Ended, Event, WorldInput};
+use volt_wire::{Actor, Event};
 
 /// The world of one host with one site, and one client: its actors, the messages under way, and the
 /// events so far.
@@ -76,6 +76,7 @@ impl<M: MakeEngine> World<M> {
             }
             Event::Sync(slot) => slot == 0 && self.site.owes(),
             Event::Submit(client) => client == 1 && self.client.may_submit(),
+            Event::Scan(_) | Event::Recover | Event::Item | Event::Idle(_) => false,
         }
     }
 
@@ -157,12 +158,14 @@ impl<M: MakeEngine> World<M> {
             Event::Deliver { to, from } => self.deliver(stamp, to, from),
             Event::Sync(_) => self.sync(stamp),
             Event::Submit(_) => self.submit(stamp),
+            Event::Scan(_) | Event::Recover | Event::Item | Event::Idle(_) => unreachable!(),
         }
     }
 
     /// The receiver takes the first message of a channel, if there is one.
     fn deliver(&mut self, stamp: Stamp, to: Actor, from: Actor) -> Result<(), AllocError>
-        ensures { OnOk result ((w : model.World) → is_one_of_them to ≡ true
+        requires { is_one_of_them to ≡ true }
+        ensures { OnOk result ((w : model.World)
             → StandsFor M.E.meaning M.E.state self.old w
             → StandsFor M.E.meaning M.E.state self.new (model.happens M.E.meaning stamp w (Event.Deliver to from))) }
     {
@@ -171,6 +174,7 @@ impl<M: MakeEngine> World<M> {
             Actor::Client(_) => self.deliver_to_client(stamp, from),
             Actor::Agent(_) => self.deliver_to_agent(stamp, from),
             Actor::Site(_) => self.deliver_to_site(stamp, from),
+            Actor::Scanner(_) => unreachable!(),
         }
     }
 
@@ -262,6 +266,7 @@ fn is_here(actor: Actor) -> bool
         Actor::Client(number) => number == 1,
         Actor::Agent(host) => host == 0,
         Actor::Site(slot) => slot == 0,
+        Actor::Scanner(_) => false,
     }
 }
 

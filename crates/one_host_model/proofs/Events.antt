@@ -1,9 +1,9 @@
 -- The events of the one client, the one agent and the one site, and where none of them may happen.
 use Rattle.std.proofs.Common.{◌≡◌, Bool, true, false, cond, List, [], ◌∷◌, ◌++◌, map, filter, length, ap, sym, subst, ◌∙◌, inl, inr, arith}
 use Rattle.std.specs.List.{flat_map, AllByRecursion}
-use Rattle.std.proofs.lemmas.Bool.{eqb-true, and_parts, cases_Bool}
+use Rattle.std.proofs.lemmas.Bool.{eqb-true, false≢true, and_parts, cases_Bool}
 use Rattle.volt_wire.specs.declared.actor.Actor.{Actor}
-use Rattle.volt_wire.specs.declared.actor.Actor.TheVariants.{Director, Client, Agent, Site}
+use Rattle.volt_wire.specs.declared.actor.Actor.TheVariants.{Director, Client, Agent, Site, Scanner}
 use Rattle.volt_wire.specs.declared.event.Event.{Event}
 use Rattle.volt_wire.specs.declared.event.Event.TheVariants.{Deliver, Sync, Submit}
 use Rattle.one_host_model.specs.World.{World, can}
@@ -34,6 +34,7 @@ each_actor P h Director e = h.0
 each_actor P h (Client n) e = subst (λ x. P (Client x)) (sym (eqb-true n 1 e)) h.1.0
 each_actor P h (Agent n) e = subst (λ x. P (Agent x)) (sym (eqb-true n 0 e)) h.1.1.0
 each_actor P h (Site n) e = subst (λ x. P (Site x)) (sym (eqb-true n 0 e)) h.1.1.1.0
+each_actor P h (Scanner n) e = absurd (false≢true e)
 
 -- the events in which a message is taken, by receiver
 abbrev deliveries : Actor → List Event
@@ -49,6 +50,7 @@ each_event P h (Sync i) e =
     subst (λ x. P (Sync x)) (sym (eqb-true i 0 e)) (AllByRecursion-append P (flat_map deliveries actors) (Sync 0 ∷ Submit 1 ∷ []) h).1.0
 each_event P h (Submit n) e =
     subst (λ x. P (Submit x)) (sym (eqb-true n 1 e)) (AllByRecursion-append P (flat_map deliveries actors) (Sync 0 ∷ Submit 1 ∷ []) h).1.1.0
+each_event P h _ e = absurd (false≢true e)
 
 -- ---- where none may happen
 

@@ -2,8 +2,8 @@
 use Rattle.std.specs.Prelude.{ℕ, ◌==◌, Bool, true, false, if◌then◌else◌, List, [], ◌∷◌, ◌++◌, Option, Some, None}
 use Rattle.volt_wire.specs.declared.actor.Actor.{Actor}
 use Rattle.volt_wire.specs.declared.actor.Actor.TheVariants.{Client, Site}
-use Rattle.volt_wire.specs.declared.message.Msg.{Msg}
-use Rattle.volt_wire.specs.declared.message.Msg.TheVariants as msg
+use Rattle.one_host_model.specs.declared.message.Msg.{Msg}
+use Rattle.one_host_model.specs.declared.message.Msg.TheVariants as msg
 use Rattle.one_host_model.specs.declared.state.Pending.{Pending}
 use Rattle.one_host_model.specs.Actors.{Sends, nothing, only}
 

@@ -1,9 +1,9 @@
 -- A client submits its calls one after another, and notes how each ended.
 use Rattle.std.specs.Prelude.{ℕ, ◌==◌, Bool, true, false, List, [], ◌∷◌, ◌++◌, Option, Some, None}
 use Rattle.volt_wire.specs.declared.actor.Actor.TheVariants.{Director, Agent}
-use Rattle.volt_wire.specs.declared.message.Msg.{Msg}
-use Rattle.volt_wire.specs.declared.message.Msg.TheVariants as msg
-use Rattle.volt_wire.specs.declared.input.Ended.{Ended}
+use Rattle.one_host_model.specs.declared.message.Msg.{Msg}
+use Rattle.one_host_model.specs.declared.message.Msg.TheVariants as msg
+use Rattle.one_host_model.specs.declared.input.Ended.{Ended}
 use Rattle.one_host_model.specs.declared.state.Due.{Due}
 use Rattle.one_host_model.specs.Actors.{Sends, only}
 

@@ -4,10 +4,10 @@ use Rattle.std.specs.List.{flat_map}
 use Rattle.volt_base.specs.Semantics.{Semantics}
 use Rattle.volt_base.specs.declared.entry.Applied.{Applied}
 use Rattle.volt_wire.specs.declared.actor.Actor.{Actor}
-use Rattle.volt_wire.specs.declared.actor.Actor.TheVariants.{Director, Client, Agent, Site}
+use Rattle.volt_wire.specs.declared.actor.Actor.TheVariants.{Director, Client, Agent, Site, Scanner}
 use Rattle.volt_wire.specs.declared.event.Event.{Event}
 use Rattle.volt_wire.specs.declared.event.Event.TheVariants.{Deliver, Sync, Submit}
-use Rattle.volt_wire.specs.declared.input.Ended.{Ended}
+use Rattle.one_host_model.specs.declared.input.Ended.{Ended}
 use Rattle.one_host_model.specs.declared.state.CopyRows.{CopyRows}
 use Rattle.one_host_model.specs.Site.{tables}
 use Rattle.one_host_model.specs.World.{World, can, step}
@@ -32,11 +32,13 @@ is_one_of_them Director = true
 is_one_of_them (Client n) = n == 1
 is_one_of_them (Agent h) = h == 0
 is_one_of_them (Site i) = i == 0
+is_one_of_them (Scanner i) = false
 
 abbrev pub is_event_of_them : Event → Bool
 is_event_of_them (Deliver to from) = is_one_of_them to && is_one_of_them from
 is_event_of_them (Sync i) = i == 0
 is_event_of_them (Submit n) = n == 1
+is_event_of_them e = false
 
 -- All events of these actors in their order: Deliver by receiver and then sender, Sync by site, Submit by client.
 abbrev pub events : List Event

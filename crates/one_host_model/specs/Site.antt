@@ -5,8 +5,8 @@ use Rattle.volt_base.specs.declared.entry.Entry.{Entry}
 use Rattle.volt_base.specs.declared.entry.Entry.TheVariants.{Sp}
 use Rattle.volt_wire.specs.declared.actor.Actor.{Actor}
 use Rattle.volt_wire.specs.declared.actor.Actor.TheVariants.{Agent}
-use Rattle.volt_wire.specs.declared.message.Msg.{Msg}
-use Rattle.volt_wire.specs.declared.message.Msg.TheVariants as msg
+use Rattle.one_host_model.specs.declared.message.Msg.{Msg}
+use Rattle.one_host_model.specs.declared.message.Msg.TheVariants as msg
 use Rattle.one_host_model.specs.declared.state.Waiting.{Waiting}
 use Rattle.one_host_model.specs.Actors.{Sends, only}
 

@@ -2,12 +2,12 @@
 use Rattle.std.specs.Prelude.{ℕ, zero, suc, ◌+◌, ◌==◌, ◌&&◌, Bool, true, false, if◌then◌else◌, List, [], ◌∷◌, ◌++◌, length, None}
 use Rattle.volt_base.specs.Semantics.{Semantics}
 use Rattle.volt_wire.specs.declared.actor.Actor.{Actor}
-use Rattle.volt_wire.specs.declared.actor.Actor.TheVariants.{Director, Client, Agent, Site}
+use Rattle.volt_wire.specs.declared.actor.Actor.TheVariants.{Director, Client, Agent, Site, Scanner}
 use Rattle.volt_wire.specs.declared.event.Event.{Event}
 use Rattle.volt_wire.specs.declared.event.Event.TheVariants.{Deliver, Sync, Submit}
-use Rattle.volt_wire.specs.declared.message.Msg.{Msg}
-use Rattle.volt_wire.specs.declared.message.Msg.TheVariants as msg
-use Rattle.volt_wire.specs.declared.input.WorldCall.{WorldCall}
+use Rattle.one_host_model.specs.declared.message.Msg.{Msg}
+use Rattle.one_host_model.specs.declared.message.Msg.TheVariants as msg
+use Rattle.one_host_model.specs.declared.input.WorldCall.{WorldCall}
 use Rattle.one_host_model.specs.Actors.{same, Sends}
 use Rattle.one_host_model.specs.declared.state.Due.{Due}
 use Rattle.one_host_model.specs.Client.{ClientState, may_submit, submitted, submit_sends, client_after}
@@ -50,6 +50,7 @@ told_after told msg.Told = told + 1
 told_after told m = told
 
 -- The receiver takes a message: its state changes by the row of the message, and what the row says is sent.
+-- A scanner does nothing with it.
 abbrev pub received : (S : Semantics) → ℕ → World → Actor → Actor → Msg → World
 received S stamp w Director from m = record w { told = told_after w.told m; channel = took w.channel from Director }
 received S stamp w (Client n) from m =
@@ -67,11 +68,13 @@ received S stamp w (Site i) from m =
       sites = set_at w.sites i (site_after S stamp i (w.sites i) from m);
       channel = took w.channel from (Site i);
     }
+received S stamp w (Scanner i) from m = record w { channel = took w.channel from (Scanner i) }
 
 abbrev pub delivered : (S : Semantics) → ℕ → World → Actor → Actor → List Msg → World
 delivered S stamp w to from [] = w
 delivered S stamp w to from (m ∷ ms) = received S stamp w to from m
 
+-- No block is scanned, nothing recovers, no item is done and no actor is idle in this world.
 abbrev pub happens : (S : Semantics) → ℕ → World → Event → World
 happens S stamp w (Deliver to from) = delivered S stamp w to from (w.channel from to)
 happens S stamp w (Sync i) =
@@ -84,6 +87,7 @@ happens S stamp w (Submit n) =
       clients = set_at w.clients n (submitted stamp (w.clients n) (w.clients n).left);
       channel = sent w.channel (Client n) (submit_sends (w.clients n).left);
     }
+happens S stamp w e = w
 
 abbrev pub is_some_message : List Msg → Bool
 is_some_message [] = false
@@ -94,6 +98,7 @@ abbrev pub can : World → Event → Bool
 can w (Deliver to from) = is_some_message (w.channel from to)
 can w (Sync i) = owes (w.sites i)
 can w (Submit n) = may_submit (w.clients n).left (w.clients n).pending
+can w e = false
 
 -- the world after an event
 abbrev pub step : (S : Semantics) → World → Event → World

@@ -2,10 +2,11 @@
 use Rattle.std.proofs.Common.{◌≡◌, ◌==◌, ◌&&◌, Bool, true, false, if◌then◌else◌, List, [], ◌++◌, refl, ap, sym, subst, subst₂, ◌∙◌}
 use Rattle.std.proofs.lemmas.Bool.{false≢true, eqb-true, and_parts}
 use Rattle.volt_wire.specs.declared.actor.Actor.{Actor}
-use Rattle.volt_wire.specs.declared.actor.Actor.TheVariants.{Director, Client, Agent, Site}
-use Rattle.volt_wire.specs.declared.message.Msg.{Msg}
-use Rattle.cluster_model.specs.Actors.{same, Sends, only}
-use Rattle.cluster_model.specs.World.{took, sent, rest}
+use Rattle.volt_wire.specs.declared.actor.Actor.TheVariants.{Director, Client, Agent, Site, Scanner}
+use Rattle.one_host_model.specs.declared.message.Msg.{Msg}
+use Rattle.one_host_model.specs.Actors.{same, Sends, only}
+use Rattle.one_host_model.specs.World.{took, sent, rest}
+use Rattle.one_host_model.proofs.Actors.{same-true}
 
 -- whether messages may ever be under way from a to b
 abbrev pub is_used : Actor → Actor → Bool
@@ -35,20 +36,13 @@ sent_nothing : (t : Bool) (ms more : List Msg) → ms ≡ [] → (t ≡ true →
 sent_nothing true ms more e n = ap (λ x. x ++ more) e ∙ n refl
 sent_nothing false ms more e n = e
 
--- actors that are the same are equal
-same-true : (x y : Actor) → same x y ≡ true → x ≡ y
-same-true Director Director s = refl
-same-true (Client a) (Client b) s = ap Client (eqb-true a b s)
-same-true (Agent a) (Agent b) s = ap Agent (eqb-true a b s)
-same-true (Site a) (Site b) s = ap Site (eqb-true a b s)
-same-true _ _ s = absurd (false≢true s)
-
 -- a lone message to the site goes nowhere else
 pub only_site : (m : Msg) (b : Actor) → is_used (Agent 0) b ≡ false → only (Site 0) m b ≡ []
 only_site m Director u = refl
 only_site m (Client n) u = refl
 only_site m (Agent h) u = refl
 only_site m (Site i) u = rw u
+only_site m (Scanner i) u = refl
 
 -- a lone message to the client goes nowhere else
 pub only_client : (m : Msg) (b : Actor) → is_used (Agent 0) b ≡ false → only (Client 1) m b ≡ []
@@ -56,6 +50,7 @@ only_client m Director u = refl
 only_client m (Client n) u = rw u
 only_client m (Agent h) u = refl
 only_client m (Site i) u = refl
+only_client m (Scanner i) u = refl
 
 -- what holds of the five channels holds of each that is used
 pub each_used : (P : Actor → Actor → Type 0) → P (Client 1) Director → P (Client 1) (Agent 0) → P (Agent 0) (Site 0) → P (Site 0) (Agent 0) → P (Agent 0) (Client 1) → (a b : Actor) → is_used a b ≡ true → P a b

@@ -4,9 +4,9 @@ use Rattle.std.proofs.lemmas.Bool.{false≢true, cases_Bool}
 use Rattle.volt_base.specs.Semantics.{Semantics}
 use Rattle.volt_wire.specs.declared.event.Event.{Event}
 use Rattle.volt_wire.specs.declared.event.Event.TheVariants.{Deliver, Sync, Submit}
-use Rattle.cluster_model.specs.World.{World, can, is_some_message}
-use Rattle.cluster_model.specs.Runs.{run, IsRun, IsQuiet, is_event_of_them, enabled, serves}
-use Rattle.cluster_model.proofs.Events.{IsQuiet-enabled}
+use Rattle.one_host_model.specs.World.{World, can, is_some_message}
+use Rattle.one_host_model.specs.Runs.{run, IsRun, IsQuiet, is_event_of_them, enabled, serves}
+use Rattle.one_host_model.proofs.Events.{IsQuiet-enabled}
 use Rattle.soundness.specs.Meaning.{Meaning}
 use Rattle.soundness.specs.Carries.{Carries}
 use Rattle.soundness.specs.Law.{start_of}
@@ -27,6 +27,7 @@ of_them S M h calls w past n phase left told st (Sync i) m =
     elim (cases_Bool (i == 0)) [ inl u ↦ u | inr u ↦ absurd (false≢true (sym (st.sites i u) ∙ m)) ]
 of_them S M h calls w past n phase left told st (Submit k) m =
     elim (cases_Bool (k == 1)) [ inl u ↦ u | inr u ↦ absurd (false≢true (sym (st.clients k u) ∙ m)) ]
+of_them S M h calls w past n phase left told st _ m = absurd (false≢true m)
 
 -- the law of the events that may happen
 pub event_is_of_them : (S : Semantics) (M : Meaning) (h : Carries S M) (calls : List M.Call) (es : List Event) (e : Event) → IsRun S es (start_of S M h calls) → can (run S es (start_of S M h calls)) e ≡ true → is_event_of_them e ≡ true

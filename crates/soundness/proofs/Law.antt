@@ -6,17 +6,17 @@ use Rattle.std.proofs.lemmas.Bool.Decides.{nat_tests}
 use Rattle.std.specs.List.{range_with_len, flat_map, AllByRecursion}
 use Rattle.volt_base.specs.Semantics.{Semantics}
 use Rattle.volt_base.specs.declared.entry.Entry.{Entry}
-use Rattle.volt_wire.specs.declared.message.Msg.{Msg}
-use Rattle.volt_wire.specs.declared.message.Msg.TheVariants as msg
+use Rattle.one_host_model.specs.declared.message.Msg.{Msg}
+use Rattle.one_host_model.specs.declared.message.Msg.TheVariants as msg
 use Rattle.volt_wire.specs.declared.actor.Actor.{Actor}
-use Rattle.volt_wire.specs.declared.actor.Actor.TheVariants.{Director, Client, Agent, Site}
+use Rattle.volt_wire.specs.declared.actor.Actor.TheVariants.{Director, Client, Agent, Site, Scanner}
 use Rattle.volt_wire.specs.declared.event.Event.{Event}
 use Rattle.volt_wire.specs.declared.event.Event.TheVariants.{Deliver, Sync, Submit}
 use Rattle.volt_report.specs.Spelling.{table_line}
-use Rattle.cluster_model.specs.Client.{may_submit}
-use Rattle.cluster_model.specs.Site.{owes, replay, tables}
-use Rattle.cluster_model.specs.World.{World, step, due, is_some_message, received, delivered, happens}
-use Rattle.cluster_model.specs.Runs.{run, IsRun, IsQuiet}
+use Rattle.one_host_model.specs.Client.{may_submit}
+use Rattle.one_host_model.specs.Site.{owes, replay, tables}
+use Rattle.one_host_model.specs.World.{World, step, due, is_some_message, received, delivered, happens}
+use Rattle.one_host_model.specs.Runs.{run, IsRun, IsQuiet}
 use Rattle.soundness.specs.Meaning.{Meaning}
 use Rattle.soundness.specs.Sound.{Sound, is_answer}
 use Rattle.soundness.specs.Tied.{Shows}
@@ -66,6 +66,7 @@ trace-received S stamp w Director from m = refl
 trace-received S stamp w (Client n) from m = refl
 trace-received S stamp w (Agent n) from m = refl
 trace-received S stamp w (Site n) from m = refl
+trace-received S stamp w (Scanner n) from m = refl
 
 -- nor does taking the first message, if there is one
 trace-delivered : (S : Semantics) (stamp : ℕ) (w : World) (to from : Actor) (ms : List Msg) → (delivered S stamp w to from ms).trace ≡ w.trace
@@ -77,6 +78,7 @@ trace-happens : (S : Semantics) (stamp : ℕ) (w : World) (e : Event) → (happe
 trace-happens S stamp w (Deliver to from) = trace-delivered S stamp w to from (w.channel from to)
 trace-happens S stamp w (Sync i) = refl
 trace-happens S stamp w (Submit n) = refl
+trace-happens S stamp w e = refl
 
 -- a step notes its event alone
 length_trace-step : (S : Semantics) (w : World) (e : Event) → length (step S w e).trace ≡ length w.trace + 1

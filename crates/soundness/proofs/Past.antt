@@ -6,7 +6,7 @@ use Rattle.volt_base.specs.declared.entry.Entry.{Entry}
 use Rattle.volt_base.specs.declared.entry.Entry.TheVariants.{Sp}
 use Rattle.volt_wire.specs.declared.event.Event.{Event}
 use Rattle.volt_report.specs.Report.{CallLine, Report}
-use Rattle.cluster_model.specs.Site.{replay}
+use Rattle.one_host_model.specs.Site.{replay}
 use Rattle.soundness.specs.Meaning.{Meaning, Asked}
 use Rattle.soundness.specs.Sound.{call_at}
 use Rattle.soundness.specs.Carries.{Carries}

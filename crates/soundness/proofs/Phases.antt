@@ -3,13 +3,13 @@ use Rattle.std.proofs.Common.{◌≡◌, ℕ, ◌+◌, ◌*◌, ◌==◌, ◌<�
 use Rattle.volt_base.specs.Semantics.{Semantics}
 use Rattle.volt_base.specs.declared.entry.Entry.{Entry}
 use Rattle.volt_base.specs.declared.entry.Entry.TheVariants.{Sp}
-use Rattle.volt_wire.specs.declared.message.Msg.{Msg}
-use Rattle.volt_wire.specs.declared.message.Msg.TheVariants as msg
-use Rattle.cluster_model.specs.Client.{may_submit}
-use Rattle.cluster_model.specs.declared.state.Pending.{Pending}
-use Rattle.cluster_model.specs.declared.state.Waiting.{Waiting}
-use Rattle.cluster_model.specs.Site.{owes}
-use Rattle.cluster_model.specs.World.{World, due}
+use Rattle.one_host_model.specs.declared.message.Msg.{Msg}
+use Rattle.one_host_model.specs.declared.message.Msg.TheVariants as msg
+use Rattle.one_host_model.specs.Client.{may_submit}
+use Rattle.one_host_model.specs.declared.state.Pending.{Pending}
+use Rattle.one_host_model.specs.declared.state.Waiting.{Waiting}
+use Rattle.one_host_model.specs.Site.{owes}
+use Rattle.one_host_model.specs.World.{World, due}
 use Rattle.soundness.specs.Meaning.{Meaning}
 use Rattle.soundness.specs.Carries.{Carries, world_calls}
 use Rattle.soundness.specs.Tied.{ended_line}

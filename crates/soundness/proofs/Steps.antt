@@ -7,16 +7,16 @@ use Rattle.volt_base.specs.Semantics.{Semantics}
 use Rattle.volt_base.specs.declared.entry.Entry.{Entry}
 use Rattle.volt_base.specs.declared.entry.Entry.TheVariants.{Sp}
 use Rattle.volt_wire.specs.declared.actor.Actor.{Actor}
-use Rattle.volt_wire.specs.declared.actor.Actor.TheVariants.{Director, Client, Agent, Site}
+use Rattle.volt_wire.specs.declared.actor.Actor.TheVariants.{Director, Client, Agent, Site, Scanner}
 use Rattle.volt_wire.specs.declared.event.Event.{Event}
 use Rattle.volt_wire.specs.declared.event.Event.TheVariants.{Deliver, Sync, Submit}
-use Rattle.volt_wire.specs.declared.message.Msg.TheVariants as msg
-use Rattle.cluster_model.specs.Actors.{only}
-use Rattle.cluster_model.specs.declared.state.Due.{Due}
-use Rattle.cluster_model.specs.Client.{ClientState, may_submit, submitted, submit_sends, client_after, ends}
-use Rattle.cluster_model.specs.Agent.{agent_after, agent_sends, answers}
-use Rattle.cluster_model.specs.Site.{SiteState, owes, synced, replies, sync_sends, site_after, replay}
-use Rattle.cluster_model.specs.World.{World, can, step, delivered, is_some_message, set_at, took, sent, due}
+use Rattle.one_host_model.specs.declared.message.Msg.TheVariants as msg
+use Rattle.one_host_model.specs.Actors.{only}
+use Rattle.one_host_model.specs.declared.state.Due.{Due}
+use Rattle.one_host_model.specs.Client.{ClientState, may_submit, submitted, submit_sends, client_after, ends}
+use Rattle.one_host_model.specs.Agent.{agent_after, agent_sends, answers}
+use Rattle.one_host_model.specs.Site.{SiteState, owes, synced, replies, sync_sends, site_after, replay}
+use Rattle.one_host_model.specs.World.{World, can, step, delivered, is_some_message, set_at, took, sent, due}
 use Rattle.soundness.specs.Meaning.{Meaning}
 use Rattle.soundness.specs.Carries.{Carries, world_calls}
 use Rattle.soundness.specs.Tied.{ended_line}
@@ -39,6 +39,7 @@ submit_elsewhere d left Director u = absurd (false≢true (sym u))
 submit_elsewhere d left (Client n) u = refl
 submit_elsewhere d left (Agent h) u = rw u
 submit_elsewhere d left (Site i) u = refl
+submit_elsewhere d left (Scanner i) u = refl
 
 -- a site speaks to its agent alone
 sync_elsewhere : (n : ℕ) (reply : List ℕ) (b : Actor) → is_used (Site 0) b ≡ false → replies (record { host = 0; start = 1; call = n; reply = reply } ∷ []) b ≡ []
@@ -46,6 +47,7 @@ sync_elsewhere n reply Director u = refl
 sync_elsewhere n reply (Client m) u = refl
 sync_elsewhere n reply (Agent h) u = rw u
 sync_elsewhere n reply (Site i) u = refl
+sync_elsewhere n reply (Scanner i) u = refl
 
 -- nothing is less than itself
 lt_self : (n : ℕ) → nat_lt n n ≡ false
@@ -329,6 +331,7 @@ module _ (S : Semantics) (M : Meaning) (h : Carries S M) (calls : List M.Call) (
         | inl u ↦ subst (λ k. can w (Submit k) ≡ true → Good S M h calls (step S w (Submit k))) (sym (eqb-true k 1 u)) (on_submit phase left told st) m
         | inr u ↦ absurd (false≢true (sym (st.clients k u) ∙ m))
       ]
+  on_event phase left told st _ m = absurd (false≢true m)
 
 -- an event that may happen leads to a world of some run
 pub Good-step : (S : Semantics) (M : Meaning) (h : Carries S M) (calls : List M.Call) (w : World) (e : Event) → Good S M h calls w → can w e ≡ true → Good S M h calls (step S w e)

@@ -3,7 +3,7 @@ use Rattle.std.specs.Prelude.{ℕ, ◌≡◌, true, List, [], ◌∷◌, ◌++�
 use Rattle.std.specs.List.{flat_map}
 use Rattle.volt_base.specs.Semantics.{Semantics}
 use Rattle.volt_base.specs.declared.entry.Entry.TheVariants.{Sp}
-use Rattle.volt_wire.specs.declared.input.WorldCall.{WorldCall}
+use Rattle.one_host_model.specs.declared.input.WorldCall.{WorldCall}
 use Rattle.volt_report.specs.Report.{ReportEnd}
 use Rattle.volt_report.specs.Spelling.{table_line}
 use Rattle.soundness.specs.Meaning.{Meaning, Script}

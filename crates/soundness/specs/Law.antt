@@ -2,7 +2,7 @@
 use Rattle.std.specs.Prelude.{◌≡◌, true, List, length, map}
 use Rattle.std.specs.List.{range_with_len, AllByRecursion}
 use Rattle.volt_base.specs.Semantics.{Semantics}
-use Rattle.cluster_model.specs.World.{World, first_world}
+use Rattle.one_host_model.specs.World.{World, first_world}
 use Rattle.soundness.specs.Meaning.{Meaning}
 use Rattle.soundness.specs.Carries.{Carries, world_calls, script}
 use Rattle.volt_report.specs.Report.{Report}

@@ -2,12 +2,12 @@
 use Rattle.std.specs.Prelude.{ℕ, ◌≡◌, true, List, [], map}
 use Rattle.std.specs.List.{flat_map}
 use Rattle.volt_base.specs.Semantics.{Semantics}
-use Rattle.volt_wire.specs.declared.input.Ended.{Ended}
+use Rattle.one_host_model.specs.declared.input.Ended.{Ended}
 use Rattle.volt_report.specs.Report.{ReportEnd, CallLine, CopyLine, Report}
 use Rattle.volt_report.specs.Spelling.{table_line}
-use Rattle.cluster_model.specs.declared.state.CopyRows.{CopyRows}
-use Rattle.cluster_model.specs.World.{World}
-use Rattle.cluster_model.specs.Runs.{run, IsRun, TakesFirst, IsQuiet, serves, copies, serial, ended}
+use Rattle.one_host_model.specs.declared.state.CopyRows.{CopyRows}
+use Rattle.one_host_model.specs.World.{World}
+use Rattle.one_host_model.specs.Runs.{run, IsRun, TakesFirst, IsQuiet, serves, copies, serial, ended}
 
 -- a call's line as the world has it: the reply is spelled as the engine spells it
 abbrev pub ended_line : (ReportEnd → List ℕ) → CallLine → Ended

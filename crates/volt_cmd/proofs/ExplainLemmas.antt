@@ -5,7 +5,7 @@ use Rattle.volt_base.specs.declared.entry.Applied.{Applied}
 use Rattle.volt_wire.specs.declared.event.Event.{Event}
 use Rattle.volt_report.specs.Report.{Report, ReportEnd, CallLine, CopyLine}
 use Rattle.volt_report.specs.Spelling.{spelling}
-use Rattle.cluster_model.specs.Runs.{run, IsRun, TakesFirst, IsQuiet, serves}
+use Rattle.one_host_model.specs.Runs.{run, IsRun, TakesFirst, IsQuiet, serves}
 use Rattle.soundness.specs.Sound.{is_answer, IsReply, reply_in, ShowsPart, partition_of_slot}
 use Rattle.soundness.specs.Tied.{Shows, Tied}
 use Rattle.soundness.specs.Carries.{script}

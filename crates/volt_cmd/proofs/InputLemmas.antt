@@ -8,7 +8,7 @@ use Rattle.std.specs.List.{AllByRecursion}
 use Rattle.volt_form.specs.declared.call.ScriptCall.{ScriptCall}
 use Rattle.volt_form.specs.declared.call.ScriptCall.TheVariants as script
 use Rattle.volt_form.specs.Form.{longest_input, most_calls, IsBigint, HasBigints, calls_of_text, first_wrong_line}
-use Rattle.volt_wire.specs.declared.input.WorldCall.{WorldCall}
+use Rattle.one_host_model.specs.declared.input.WorldCall.{WorldCall}
 use Rattle.account_engine.specs.declared.call.AccountCall.{AccountCall}
 use Rattle.account_engine.specs.declared.call.AccountCall.TheVariants as account
 use Rattle.account_engine.specs.Calls.{ValidCall, is_value, is_valid}

@@ -4,9 +4,9 @@ use Rattle.std.proofs.lemmas.Bool.{cases_Bool}
 use Rattle.std.proofs.lemmas.List.{length_push}
 use Rattle.volt_base.specs.Semantics.{Semantics}
 use Rattle.volt_wire.specs.declared.event.Event.{Event}
-use Rattle.volt_wire.specs.declared.input.WorldCall.{WorldCall}
-use Rattle.cluster_model.specs.World.{World, can, step}
-use Rattle.cluster_model.specs.Runs.{run, IsRun, TakesFirst, events, enabled, head}
+use Rattle.one_host_model.specs.declared.input.WorldCall.{WorldCall}
+use Rattle.one_host_model.specs.World.{World, can, step}
+use Rattle.one_host_model.specs.Runs.{run, IsRun, TakesFirst, events, enabled, head}
 use Rattle.soundness.proofs.Enabled.{event_is_of_them, nothing_enabled_is_quiet}
 use Rattle.soundness.proofs.Law.{run_is_short}
 use Rattle.account_engine.specs.Calls.{ValidCall}

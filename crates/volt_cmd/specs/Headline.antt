@@ -1,7 +1,7 @@
 -- What the top call promises of what it writes.
 use Rattle.std.specs.Prelude.{ℕ, ◌≡◌, Bool, true, false, Option, None, Some, is_some, List, [], ◌∷◌, ◌++◌, map, codes, decimal, bytes_eq, IfSome}
 use Rattle.volt_wire.specs.declared.event.Event.{Event}
-use Rattle.cluster_model.specs.Runs.{run, IsRun, TakesFirst, IsQuiet}
+use Rattle.one_host_model.specs.Runs.{run, IsRun, TakesFirst, IsQuiet}
 use Rattle.volt_report.specs.Report.{Report}
 use Rattle.volt_report.specs.Spelling.{spelling}
 use Rattle.soundness.specs.Sound.{Sound}

@@ -1,8 +1,8 @@
 -- Where a run of the world has come.
 use Rattle.std.specs.Prelude.{◌≡◌, ◌≤◌, List, length}
 use Rattle.volt_wire.specs.declared.event.Event.{Event}
-use Rattle.volt_wire.specs.declared.input.WorldCall.{WorldCall}
-use Rattle.cluster_model.specs.Runs.{run, IsRun, TakesFirst, IsQuiet}
+use Rattle.one_host_model.specs.declared.input.WorldCall.{WorldCall}
+use Rattle.one_host_model.specs.Runs.{run, IsRun, TakesFirst, IsQuiet}
 use Rattle.volt_form.specs.Form.{most_calls}
 use Rattle.account_engine.specs.Calls.{ValidCall}
 use Rattle.account_engine.specs.Accounts.{AccountsState, accounts_semantics}

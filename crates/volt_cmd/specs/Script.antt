@@ -3,8 +3,8 @@ use Rattle.std.specs.Prelude.{◌≡◌, ◌≤◌, List, length, map}
 use Rattle.volt_form.specs.declared.call.ScriptCall.{ScriptCall}
 use Rattle.volt_form.specs.declared.call.ScriptCall.TheVariants as script
 use Rattle.volt_form.specs.Form.{most_calls}
-use Rattle.volt_wire.specs.declared.input.WorldCall.{WorldCall}
-use Rattle.cluster_model.specs.World.{World, first_world}
+use Rattle.one_host_model.specs.declared.input.WorldCall.{WorldCall}
+use Rattle.one_host_model.specs.World.{World, first_world}
 use Rattle.soundness.specs.Carries.{world_calls}
 use Rattle.account_engine.specs.declared.call.AccountCall.{AccountCall}
 use Rattle.account_engine.specs.declared.call.AccountCall.TheVariants as account

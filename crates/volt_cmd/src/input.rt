@@ -8,11 +8,11 @@ ghost use Rattle.account_engine.specs.Spelling.{body_bytes};
 ghost use Rattle.volt_cmd.specs.Script.{Asks, IsAsked, given, written};
 
 use account_engine::AccountCall;
+use one_host_model::{WorldCall, WorldInput};
 use std::alloc::{AllocError, Global};
 use volt_form::{FormFault, LONGEST_INPUT, ScriptCall, calls_within_bounds, read_form};
 use volt_io::source::Source;
 use volt_io::transfer::{ReadFault, read_to_end};
-use volt_wire::{WorldCall, WorldInput};
 
 /// Why there are no calls.
 #[derive(Clone, Copy, Debug, PartialEq, Eq)]

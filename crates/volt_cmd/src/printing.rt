@@ -11,14 +11,14 @@ ghost use Rattle.volt_cmd.specs.Prints.{AreLines, Prints};
 
 use account_engine::print_reply;
 use cluster_core::Outcomes;
-use cluster_model::CopyRows;
+use one_host_model::{CopyRows, Ended};
 use std::alloc::{AllocError, Global};
 use volt_base::Applied;
 use volt_report::{
     print_call_head, print_copy_head, print_end, print_head, print_opening, print_serial,
     print_trace,
 };
-use volt_wire::{Ended, Event};
+use volt_wire::Event;
 
 /// The bytes of the report of these outcomes, each of which is let go once it is printed.
 pub fn print_report(alloc: Global, outcomes: Outcomes) -> Result<Vec<u8>, AllocError>

@@ -10,9 +10,9 @@ ghost use Rattle.volt_cmd.specs.Reached.{Ended, IsStart, IsGiven};
 
 use account_engine::{AccountMaker, Accounts};
 use cluster_core::{Outcomes, World};
+use one_host_model::WorldInput;
 use std::alloc::{AllocError, Global};
 use volt_base::Engine;
-use volt_wire::WorldInput;
 
 /// The greatest number of events of a run. Seven for each of the most calls are fewer.
 const MOST_EVENTS: u32 = 1_000_000;

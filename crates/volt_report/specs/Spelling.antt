@@ -6,9 +6,9 @@ use Rattle.volt_base.specs.declared.entry.Applied.{Applied}
 use Rattle.volt_value.specs.declared.value.Value.{Value}
 use Rattle.volt_value.specs.declared.value.Value.TheVariants as value
 use Rattle.volt_wire.specs.declared.actor.Actor.{Actor}
-use Rattle.volt_wire.specs.declared.actor.Actor.TheVariants.{Director, Client, Agent, Site}
+use Rattle.volt_wire.specs.declared.actor.Actor.TheVariants.{Director, Client, Agent, Site, Scanner}
 use Rattle.volt_wire.specs.declared.event.Event.{Event}
-use Rattle.volt_wire.specs.declared.event.Event.TheVariants.{Deliver, Sync, Submit}
+use Rattle.volt_wire.specs.declared.event.Event.TheVariants.{Deliver, Sync, Scan, Recover, Item, Submit, Idle}
 use Rattle.volt_report.specs.Report.{RowLine, ReportEnd, Kept, User, Fault, Statements, Steps, Unknown, Lost, Down, CallLine, CopyLine, Report}
 
 -- a number behind a space
@@ -84,11 +84,16 @@ actor_text Director = codes "d"
 actor_text (Client n) = codes "c" ++ decimal n
 actor_text (Agent h) = codes "h" ++ decimal h
 actor_text (Site i) = codes "s" ++ decimal i
+actor_text (Scanner i) = codes "x" ++ decimal i
 
 abbrev pub event_text : Event → List ℕ
 event_text (Deliver to from) = codes "deliver " ++ actor_text to ++ 32 ∷ actor_text from
 event_text (Sync i) = codes "sync " ++ actor_text (Site i)
+event_text (Scan i) = codes "scan " ++ actor_text (Scanner i)
+event_text Recover = codes "recover"
+event_text Item = codes "item"
 event_text (Submit n) = codes "submit " ++ actor_text (Client n)
+event_text (Idle a) = codes "idle " ++ actor_text a
 
 abbrev pub event_line : Event → List ℕ
 event_line e = event_text e ++ newline

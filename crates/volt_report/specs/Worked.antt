@@ -3,9 +3,9 @@ use Rattle.std.specs.Prelude.{ℕ, List, [], ◌∷◌, codes, pos, negsuc}
 use Rattle.volt_base.specs.declared.entry.Applied.{Applied}
 use Rattle.volt_value.specs.declared.value.Value.{Value}
 use Rattle.volt_value.specs.declared.value.Value.TheVariants as value
-use Rattle.volt_wire.specs.declared.actor.Actor.TheVariants.{Director, Client, Agent, Site}
+use Rattle.volt_wire.specs.declared.actor.Actor.TheVariants.{Director, Client, Agent, Site, Scanner}
 use Rattle.volt_wire.specs.declared.event.Event.{Event}
-use Rattle.volt_wire.specs.declared.event.Event.TheVariants.{Deliver, Sync, Submit}
+use Rattle.volt_wire.specs.declared.event.Event.TheVariants.{Deliver, Sync, Scan, Recover, Item, Submit, Idle}
 use Rattle.volt_report.specs.Report.{RowLine, ReportEnd, Kept, User, Fault, Statements, Steps, Unknown, Lost, Down, CallLine, CopyLine, Report}
 
 -- a number, and a text with a quote in it
@@ -42,7 +42,7 @@ copy = record { slot = 1; position = 4; rows = record { table = codes "NOTES"; r
 
 -- an event of each kind, between actors of each kind
 abbrev pub events : List Event
-events = Submit 1 ∷ Deliver (Agent 0) (Client 1) ∷ Deliver Director (Site 13) ∷ Sync 0 ∷ []
+events = Submit 1 ∷ Deliver (Agent 0) (Client 1) ∷ Deliver Director (Site 13) ∷ Sync 0 ∷ Scan 7 ∷ Recover ∷ Item ∷ Idle (Scanner 31) ∷ []
 
 -- the whole report
 abbrev pub worked : Report

@@ -57,6 +57,7 @@ fn put_actor(into: &mut Vec<u8>, actor: Actor) -> Result<(), AllocError>
         Actor::Client(client) => put_named(into, b'c', client),
         Actor::Agent(host) => put_named(into, b'h', host),
         Actor::Site(slot) => put_named(into, b's', slot),
+        Actor::Scanner(slot) => put_named(into, b'x', slot),
     }
 }
 
@@ -82,7 +83,11 @@ fn put_event(into: &mut Vec<u8>, event: Event) -> Result<(), AllocError>
     match event {
         Event::Deliver { to, from } => put_deliver(into, to, from),
         Event::Sync(slot) => put_word_and_actor(into, b"sync ", Actor::Site(slot)),
+        Event::Scan(slot) => put_word_and_actor(into, b"scan ", Actor::Scanner(slot)),
+        Event::Recover => into.extend_from_slice(b"recover"),
+        Event::Item => into.extend_from_slice(b"item"),
         Event::Submit(client) => put_word_and_actor(into, b"submit ", Actor::Client(client)),
+        Event::Idle(actor) => put_word_and_actor(into, b"idle ", actor),
     }
 }
 

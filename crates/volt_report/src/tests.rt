@@ -41,13 +41,18 @@ fn lists(rt: HostRuntime) -> Result<(), Fail> {
             from: Actor::Director,
         },
         Event::Sync(14),
+        Event::Scan(31),
+        Event::Recover,
+        Event::Item,
+        Event::Idle(Actor::Agent(0)),
+        Event::Idle(Actor::Scanner(8)),
     ];
     let mut out = Vec::new(rt.alloc());
     print_serial(&mut out, &serial)?;
     print_trace(&mut out, &trace)?;
     print_serial(&mut out, &[])?;
     let want =
-        b"serial 2\n9 3\n1204 10\ntrace 4\nsubmit c2\ndeliver h1 c2\ndeliver s14 d\nsync s14\nserial 0\n";
+        b"serial 2\n9 3\n1204 10\ntrace 9\nsubmit c2\ndeliver h1 c2\ndeliver s14 d\nsync s14\nscan x31\nrecover\nitem\nidle h0\nidle x8\nserial 0\n";
     assert_eq!(rt; out.as_slice(), want.as_slice());
     Ok(())
 }

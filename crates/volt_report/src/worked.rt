@@ -30,5 +30,6 @@ pub fn worked_report()
         ++ codes "serial 2\n14 12\n203 1\n"
         ++ codes "copies 1\ncopy 1 4 1\n NOTES NULL -5\n"
         ++ codes "looks 1\nlook 1 4 1\n NOTES NULL -5\n"
-        ++ codes "trace 4\nsubmit c1\ndeliver h0 c1\ndeliver d s13\nsync s0\nend\n" }
+        ++ codes "trace 8\nsubmit c1\ndeliver h0 c1\ndeliver d s13\nsync s0\n"
+        ++ codes "scan x7\nrecover\nitem\nidle x31\nend\n" }
 {}

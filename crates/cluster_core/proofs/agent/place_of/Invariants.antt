@@ -1,5 +1,5 @@
 use Rattle.std.proofs.Common.{◌≡◌, ◌++◌, take, drop}
-use Rattle.cluster_model.specs.Agent.{client_of, without}
+use Rattle.one_host_model.specs.Agent.{client_of, without}
 use Rattle.cluster_core.proofs.agent.place_of.Given as goal
 
 -- none of those before is the call

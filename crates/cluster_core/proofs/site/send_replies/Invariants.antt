@@ -1,6 +1,6 @@
 use Rattle.std.proofs.Common.{◌≡◌, ◌++◌, length}
 use Rattle.volt_wire.specs.declared.actor.Actor.{Actor}
-use Rattle.cluster_model.specs.Site.{replies}
+use Rattle.one_host_model.specs.Site.{replies}
 use Rattle.cluster_core.specs.Outbox.{sent_to}
 use Rattle.cluster_core.proofs.site.send_replies.Given as goal
 

@@ -1,6 +1,6 @@
 use Rattle.std.proofs.Common.{◌≡◌, length}
 use Rattle.volt_wire.specs.declared.actor.Actor.{Actor}
-use Rattle.cluster_model.specs.World.{sent}
+use Rattle.one_host_model.specs.World.{sent}
 use Rattle.cluster_core.specs.Channels.{queue_of}
 use Rattle.cluster_core.specs.Outbox.{sent_to}
 use Rattle.cluster_core.proofs.world.post.Given as goal

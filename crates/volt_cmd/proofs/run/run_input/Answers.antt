@@ -1,5 +1,5 @@
 use Rattle.std.proofs.Common.{◌≡◌, ℕ, ◌<◌, List, length, get_or, sym, subst}
-use Rattle.volt_wire.specs.declared.input.WorldCall.{WorldCall}
+use Rattle.one_host_model.specs.declared.input.WorldCall.{WorldCall}
 use Rattle.volt_cmd.proofs.RunLemmas.{of_one_client}
 use Rattle.volt_cmd.proofs.run.run_input.Goals as goal
 

@@ -1,5 +1,5 @@
 use Rattle.std.proofs.Common.{sym, ◌∙◌, arith}
-use Rattle.cluster_model.specs.Runs.{run}
+use Rattle.one_host_model.specs.Runs.{run}
 use Rattle.account_engine.specs.Accounts.{accounts_semantics}
 use Rattle.volt_cmd.specs.Script.{start}
 use Rattle.volt_cmd.proofs.RunLemmas.{reached_start, alone, reached_next, ended, short, first_may}

@@ -1,10 +1,10 @@
 use Rattle.std.proofs.Common.{List, sym, ap, ◌∙◌}
 use Rattle.std.specs.BTreeMap.{is_at}
-use Rattle.volt_wire.specs.declared.message.Msg.{Msg}
+use Rattle.one_host_model.specs.declared.message.Msg.{Msg}
 use Rattle.cluster_core.specs.declared.route.Route.{Route}
 use Rattle.cluster_core.specs.contracts.route.RouteOrd.TheImpl.{cmp-value}
 use Rattle.cluster_core.specs.Channels.{queue_of}
-use Rattle.cluster_model.specs.World.{is_some_message}
+use Rattle.one_host_model.specs.World.{is_some_message}
 use Rattle.cluster_core.proofs.ChannelLemmas.{queue_of-shown, full_is_some, route}
 use Rattle.cluster_core.proofs.channels.Channels.has.Goals as goal
 

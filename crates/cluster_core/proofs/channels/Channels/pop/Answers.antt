@@ -1,6 +1,6 @@
 use Rattle.std.proofs.Common.{◌≡◌, drop, ap, ◌∙◌, arith}
 use Rattle.std.proofs.lemmas.Bool.Decides.{nat_tests}
-use Rattle.volt_wire.specs.declared.message.Msg.{Msg}
+use Rattle.one_host_model.specs.declared.message.Msg.{Msg}
 use Rattle.cluster_core.specs.Channels.{queue_of, shown}
 use Rattle.cluster_core.proofs.ChannelLemmas.{popped_back, popped_out, some-nonempty}
 use Rattle.cluster_core.proofs.channels.Channels.pop.Goals as goal

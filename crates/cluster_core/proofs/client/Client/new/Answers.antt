@@ -1,7 +1,7 @@
 use Rattle.std.proofs.Common.{◌≡◌, ℕ, ◌+◌, List, [], ◌∷◌, ◌++◌, ap, sym, ◌∙◌, append_assoc, arith}
-use Rattle.volt_wire.specs.declared.input.WorldCall.{WorldCall}
-use Rattle.cluster_model.specs.declared.state.Due.{Due}
-use Rattle.cluster_model.specs.World.{due}
+use Rattle.one_host_model.specs.declared.input.WorldCall.{WorldCall}
+use Rattle.one_host_model.specs.declared.state.Due.{Due}
+use Rattle.one_host_model.specs.World.{due}
 use Rattle.cluster_core.proofs.DueLemmas.{due_next, due_none}
 use Rattle.cluster_core.proofs.client.Client.new.Goals as goal
 

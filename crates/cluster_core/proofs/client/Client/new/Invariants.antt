@@ -1,5 +1,5 @@
 use Rattle.std.proofs.Common.{◌≡◌, ◌++◌, drop}
-use Rattle.cluster_model.specs.World.{due}
+use Rattle.one_host_model.specs.World.{due}
 use Rattle.cluster_core.proofs.client.Client.new.Given as goal
 
 -- the calls so far, and then those that are left, are all of them

@@ -1,5 +1,5 @@
 use Rattle.std.proofs.Common.{List, [], ◌∷◌, ◌++◌, ap, ◌∙◌}
-use Rattle.cluster_model.specs.declared.state.Waiting.{Waiting}
+use Rattle.one_host_model.specs.declared.state.Waiting.{Waiting}
 use Rattle.cluster_core.specs.declared.site.LogEnd.{LogEnd}
 use Rattle.cluster_core.proofs.SiteSteps.{stands_called}
 use Rattle.cluster_core.proofs.site.Site.on_call.Goals as goal

@@ -1,8 +1,8 @@
 use Rattle.std.proofs.Common.{◌≡◌, List, ◌++◌, Some, sym, ap, ◌∙◌}
 use Rattle.volt_wire.specs.declared.actor.Actor.{Actor}
 use Rattle.volt_wire.specs.declared.actor.Actor.TheVariants.{Agent}
-use Rattle.volt_wire.specs.declared.message.Msg.{Msg}
-use Rattle.cluster_model.specs.Agent.{AgentState, agent_after, agent_sends}
+use Rattle.one_host_model.specs.declared.message.Msg.{Msg}
+use Rattle.one_host_model.specs.Agent.{AgentState, agent_after, agent_sends}
 use Rattle.cluster_core.specs.Channels.{queue_of, first_message}
 use Rattle.cluster_core.specs.Outbox.{sent_to}
 use Rattle.cluster_core.proofs.Delivered.{delivered_some, taken_and_sent}

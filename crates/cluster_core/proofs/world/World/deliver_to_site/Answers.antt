@@ -1,6 +1,6 @@
 use Rattle.std.proofs.Common.{◌≡◌, ℕ, Some, sym, ap, subst, ◌∙◌}
 use Rattle.volt_wire.specs.declared.actor.Actor.TheVariants.{Site}
-use Rattle.cluster_model.specs.Site.{site_after}
+use Rattle.one_host_model.specs.Site.{site_after}
 use Rattle.cluster_core.specs.Site.{StandsForSite}
 use Rattle.cluster_core.specs.Channels.{queue_of, first_message}
 use Rattle.cluster_core.proofs.Delivered.{delivered_some, took_same}

@@ -1,8 +1,8 @@
 use Rattle.std.proofs.Common.{◌≡◌, ℕ, List, ◌++◌, map, sym, ap, subst, ◌∙◌}
 use Rattle.volt_wire.specs.declared.event.Event.{Event}
 use Rattle.volt_wire.specs.declared.event.Event.TheVariants.{Sync, Submit}
-use Rattle.cluster_model.specs.Client.{ClientState, may_submit}
-use Rattle.cluster_model.specs.World.{can}
+use Rattle.one_host_model.specs.Client.{ClientState, may_submit}
+use Rattle.one_host_model.specs.World.{can}
 use Rattle.cluster_core.specs.Channels.{delivery, routes}
 use Rattle.cluster_core.specs.Site.{StandsForSite}
 use Rattle.cluster_core.specs.World.{if_it_may}

@@ -1,7 +1,7 @@
 use Rattle.std.proofs.Common.{◌≡◌, ℕ, true, false, Option, refl, sym, ap, subst, ◌∙◌}
 use Rattle.volt_wire.specs.declared.event.Event.TheVariants.{Sync, Submit}
-use Rattle.cluster_model.specs.Client.{ClientState, may_submit}
-use Rattle.cluster_model.specs.World.{can}
+use Rattle.one_host_model.specs.Client.{ClientState, may_submit}
+use Rattle.one_host_model.specs.World.{can}
 use Rattle.cluster_core.specs.declared.route.Route.{Route}
 use Rattle.cluster_core.specs.Site.{StandsForSite}
 use Rattle.cluster_core.proofs.EnabledLemmas.{first_of, first_listed}
