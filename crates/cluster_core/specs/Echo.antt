@@ -1,5 +1,5 @@
 -- The engine of the tests, which answers each call with the call's own body and notes it.
-use Rattle.std.specs.Prelude.{ℕ, Bool, true, List, [], ◌∷◌, ◌++◌}
+use Rattle.std.specs.Prelude.{ℕ, true, List, [], ◌∷◌, ◌++◌}
 use Rattle.volt_base.specs.Semantics.{Semantics}
 use Rattle.volt_base.specs.declared.entry.Applied.{Applied}
 use Rattle.volt_base.specs.declared.entry.Entry.{Entry}
