@@ -1,8 +1,8 @@
 -- What is printed of a world's outcomes.
 use Rattle.std.specs.Prelude.{◌≡◌, ◌==◌, true, ℕ, List, [], ◌++◌, length, map, codes, count_by}
 use Rattle.std.specs.List.{AllByRecursion, flat_map}
-use Rattle.volt_report.specs.Report.{Report, RowLine}
 use Rattle.volt_wire.specs.declared.event.Event.{Event}
+use Rattle.volt_report.specs.Report.{Report, RowLine}
 use Rattle.volt_report.specs.Spelling.{table_line, event_line, newline}
 use Rattle.soundness.specs.Tied.{ended_line, copy_shown}
 use Rattle.account_engine.specs.Spelling.{reply_bytes}

@@ -1,5 +1,5 @@
 -- One call after another, on what is told and on a count of faults.
-use Rattle.std.proofs.Common.{◌≡◌, ℕ, ◌+◌, ◌-◌, ◌≤◌, List, [], ◌++◌, length, take, drop, Option, None, Some, refl, sym, ap, ◌∙◌, inl, inr, append-nil, append_assoc, arith}
+use Rattle.std.proofs.Common.{◌≡◌, ℕ, ◌+◌, ◌-◌, ◌≤◌, List, [], ◌++◌, length, take, drop, Option, None, Some, sym, ap, ◌∙◌, inl, inr, append-nil, append_assoc, arith}
 use Rattle.std.proofs.lemmas.List.{take-append-drop, take_rest}
 use Rattle.std.proofs.Math.Seq.{take-add}
 use Rattle.std.proofs.lemmas.Bool.{cases_lt}
@@ -59,11 +59,6 @@ AppendsFrontOf-then a b c x y p q =
 pub AppendsFrontOf-longer : (a b : Option (List ℕ)) (x y : List ℕ) → AppendsFrontOf a b x → AppendsFrontOf a b (x ++ y)
 AppendsFrontOf-longer a b x y p =
     (p.0, (p.1.0 ++ y, ap (λ l. l ++ y) p.1.1 ∙ append_assoc p.0 p.1.0 y), p.2)
-
--- nothing is written, and all is left
-pub AppendsAllBut-all : (a : Option (List ℕ)) (text : List ℕ) → AppendsAllBut a a text text
-AppendsAllBut-all None text = ([], refl, tt)
-AppendsAllBut-all (Some xs) text = ([], refl, sym (append-nil xs))
 
 -- all is written, and nothing is left
 pub AppendsAllBut-none : (a b : Option (List ℕ)) (text : List ℕ) → Appends a b text → AppendsAllBut a b text []
