@@ -1,5 +1,6 @@
 //! Bytes that are held back on their way to a sink, so that it takes them in large pieces.
-ghost use Rattle.std.specs.Prelude.{◌≡◌, ◌≤◌, [], ◌++◌, OnOk, OnErr};
+ghost use Rattle.std.specs.Prelude.{◌≡◌, ◌≤◌, [], ◌++◌, IsOk, OnOk, OnErr};
+ghost use Rattle.volt_io.specs.Buffer.{HasRoom};
 ghost use Rattle.volt_io.specs.Faults.{Rose};
 ghost use Rattle.volt_io.specs.Told.{Appends, AppendsFrontOf, AppendsAllBut};
 
@@ -38,11 +39,16 @@ impl WriteBuffer {
         }
     }
 
-    /// Holds `text` behind the bytes that are held already, or, where there is no room, writes
-    /// these first. A text that is longer than the buffer is written too.
+    /// Holds `text` behind the bytes that are held already. Where there is no room it first writes
+    /// these, and a text that is longer than the buffer too.
     ///
     /// After an `Err` some front of all of them was written, and nothing is held.
     pub fn push<K: Sink>(&mut self, sink: &mut K, text: &[u8]) -> Result<(), WriteFailed>
+        // Where there is room it is held, and the sink is left alone.
+        ensures waits { HasRoom self.old text.now → self.new ≡ self.old ++ text.now }
+        ensures untouched { HasRoom self.old text.now → sink.new ≡ sink.old }
+        ensures succeeds { HasRoom self.old text.now → IsOk result }
+
         // What is written, and what is held.
         ensures kept { OnOk result (AppendsAllBut (K.contents sink.old) (K.contents sink.new)
             (self.old ++ text.now) self.new) }
