@@ -8,6 +8,7 @@ mod status;
 #[cfg(test)]
 mod tests;
 mod top;
+mod writing;
 
 pub use status::Status;
 pub use top::volt;

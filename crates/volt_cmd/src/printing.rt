@@ -1,4 +1,4 @@
-//! From the outcomes of a world to the bytes of its report.
+//! From the outcomes of a world to its report.
 
 ghost use Rattle.std.specs.Prelude.{◌≡◌, true, [], ◌∷◌, ◌++◌, codes, map, List, OnOk, IfOk};
 ghost use Rattle.std.specs.List.{AllByRecursion};
@@ -7,22 +7,29 @@ ghost use Rattle.volt_report.specs.Spelling.{spelling, newline, section, table_l
 ghost use Rattle.soundness.specs.Tied.{ended_line, copy_shown};
 ghost use Rattle.account_engine.specs.Spelling.{reply_bytes};
 ghost use Rattle.account_engine.specs.Answers.{is_given};
-ghost use Rattle.volt_cmd.specs.Prints.{AreLines, Prints};
+ghost use Rattle.volt_cmd.specs.Prints.{AreLines, Prints, last_lines, printed_text};
 
 use account_engine::print_reply;
 use cluster_core::Outcomes;
 use one_host_model::{CopyRows, Ended};
 use std::alloc::{AllocError, Global};
 use volt_base::Applied;
-use volt_report::{
-    print_call_head, print_copy_head, print_end, print_head, print_opening, print_serial,
-    print_trace,
-};
+use volt_report::{print_call_head, print_copy_head, print_head, print_opening, print_serial};
 use volt_wire::Event;
 
-/// The bytes of the report of these outcomes, each of which is let go once it is printed.
-pub fn print_report(alloc: Global, outcomes: Outcomes) -> Result<Vec<u8>, AllocError>
-    ensures { IfOk result (λ text. (r : Report) → Prints outcomes r → text.items ≡ spelling r) }
+/// A report, printed up to its events. These stay as they are, since each of their lines is made
+/// as it is written.
+#[derive(Drop)]
+pub struct Printed {
+    /// The bytes of the report, up to the line before its events, and with it.
+    pub front: Vec<u8>,
+    /// The events, in order.
+    pub trace: Vec<Event>,
+}
+
+/// Prints the report of these outcomes, each of which but the events is let go once it is printed.
+pub fn print_report(alloc: Global, outcomes: Outcomes) -> Result<Printed, AllocError>
+    ensures { IfOk result (λ printed. (r : Report) → Prints outcomes r → printed_text printed ≡ spelling r) }
 {
     let Outcomes {
         ends,
@@ -30,13 +37,13 @@ pub fn print_report(alloc: Global, outcomes: Outcomes) -> Result<Vec<u8>, AllocE
         serial,
         trace,
     } = outcomes;
-    let mut text = Vec::new(alloc);
-    print_ends(&mut text, &ends)?;
+    let mut front = Vec::new(alloc);
+    print_ends(&mut front, &ends)?;
     drop(ends);
-    print_serial_and_copies(&mut text, &serial, &copies)?;
+    print_serial_and_copies(&mut front, &serial, &copies)?;
     drop((serial, copies));
-    print_events(&mut text, &trace)?;
-    Ok(text)
+    print_before_events(&mut front, &trace)?;
+    Ok(Printed { front, trace })
 }
 
 // The first part of a report: its first line, its opening, and how the calls ended.
@@ -68,15 +75,15 @@ fn print_serial_and_copies(
     print_copies(into, copies)
 }
 
-// The third part: the looks, of which there are none, the events, and the last line.
-fn print_events(into: &mut Vec<u8>, trace: &[Event]) -> Result<(), AllocError>
-    ensures { OnOk result (into.new.items ≡ into.old.items
+// The third part, behind which only the last lines are wanting: the looks, of which there are none,
+// and how many events follow.
+fn print_before_events(into: &mut Vec<u8>, trace: &[Event]) -> Result<(), AllocError>
+    ensures { OnOk result (into.new.items ++ last_lines trace.now ≡ into.old.items
         ++ section (codes "looks") (copy_text (codes "look")) []
         ++ section (codes "trace") event_line trace.now ++ codes "end" ++ newline) }
 {
     print_no_looks(into)?;
-    print_trace(into, trace)?;
-    print_end(into)
+    print_head(into, b"trace", trace.len())
 }
 
 // The opening, which has no rows.

@@ -234,3 +234,88 @@ fn writes_that_fail(rt: HostRuntime) -> Result<(), Fail> {
     }
     Ok(())
 }
+
+// So many that the lines of their events take several pieces.
+const MANY: u32 = 300;
+
+// The lines of many calls, each of which puts a row of its own.
+fn many_calls(alloc: Global) -> Result<String, AllocError> {
+    let mut calls = String::new(alloc);
+    for call in 1..=MANY {
+        calls.push_str(&format!(in alloc; "client 1 call Put {call} {call}\n")?)?;
+    }
+    Ok(calls)
+}
+
+// What is written of them before the first event: each call is seven events, and enters the log
+// at the fourth of them.
+fn front_of_many(alloc: Global) -> Result<String, AllocError> {
+    let mut text = format!(in alloc; "volt 1\nopening 0\ncalls {MANY}\n")?;
+    for call in 1..=MANY {
+        let (first, last) = (7 * call - 6, 7 * call);
+        text.push_str(&format!(in alloc; "{call} 1 {first} {last} ok 1\n 1\n")?)?;
+    }
+    text.push_str(&format!(in alloc; "serial {MANY}\n")?)?;
+    for call in 1..=MANY {
+        let point = 7 * call - 3;
+        text.push_str(&format!(in alloc; "{point} {call}\n")?)?;
+    }
+    text.push_str(&format!(in alloc; "copies 1\ncopy 0 {MANY} {MANY}\n")?)?;
+    for call in 1..=MANY {
+        text.push_str(&format!(in alloc; " acct {call} {call}\n")?)?;
+    }
+    let events = 7 * MANY;
+    text.push_str(&format!(in alloc; "looks 0\ntrace {events}\n")?)?;
+    Ok(text)
+}
+
+// The whole of it.
+fn report_of_many(alloc: Global) -> Result<String, AllocError> {
+    let mut text = front_of_many(alloc)?;
+    for _ in 0..MANY {
+        text.push_str(
+            "submit c1\ndeliver d c1\ndeliver h0 c1\ndeliver s0 h0\nsync s0\ndeliver h0 s0\n\
+             deliver c1 h0\n",
+        )?;
+    }
+    text.push_str("end\n")?;
+    Ok(text)
+}
+
+#[test]
+fn events_in_several_pieces(rt: HostRuntime) -> Result<(), Fail> {
+    let alloc = rt.alloc();
+    let calls = many_calls(alloc)?;
+    let report = report_of_many(alloc)?;
+    for piece in [usize::MAX, 1] {
+        let mut source = MemSource::new(input(alloc, &calls)?, Vec::new(alloc));
+        let mut sink = MemSink::with_piece(alloc, Vec::new(alloc), piece);
+        let status = run(&rt, alloc, &mut source, &mut sink)?;
+        assert_eq!(rt; status, Status::Ok);
+        assert_eq!(rt; sink.written(), report.as_bytes());
+    }
+    Ok(())
+}
+
+#[test]
+fn writes_of_events_that_fail(rt: HostRuntime) -> Result<(), Fail> {
+    let alloc = rt.alloc();
+    let calls = many_calls(alloc)?;
+    let front = front_of_many(alloc)?.len();
+    let report = report_of_many(alloc)?;
+    // A whole write takes the front, and each later one a piece of at most 16 KiB.
+    for (call, least, most) in [(2, front, front), (3, front + 16_000, front + 16_384)] {
+        let fail = [call].to_vec(alloc)?;
+        let mut source = MemSource::new(input(alloc, &calls)?, Vec::new(alloc));
+        let mut sink = MemSink::new(alloc, fail);
+        let status = run(&rt, alloc, &mut source, &mut sink)?;
+        assert_eq!(rt; status, Status::WriteFault);
+        assert!(rt;
+            report.as_bytes().starts_with(sink.written()),
+            "at write {call}"
+        );
+        assert!(rt; least <= sink.written().len(), "at write {call}");
+        assert!(rt; sink.written().len() <= most, "at write {call}");
+    }
+    Ok(())
+}

@@ -7,11 +7,13 @@ ghost use Rattle.volt_form.specs.declared.call.ScriptCall.{ScriptCall};
 ghost use Rattle.volt_form.specs.Form.{calls_of_text, first_wrong_line};
 ghost use Rattle.volt_cmd.specs.Script.{IsAsked};
 ghost use Rattle.volt_cmd.specs.Headline.{Explains, IsOfForm, Refuses, fault_line, is_command, is_ok_or_no_memory, is_refusal};
+ghost use Rattle.volt_cmd.specs.Prints.{printed_text};
 
 use crate::input::{InputFault, read_calls, world_input};
-use crate::printing::print_report;
+use crate::printing::{Printed, print_report};
 use crate::run::run_input;
 use crate::status::Status;
+use crate::writing::write_report;
 use itoa::Buffer;
 use std::alloc::{AllocError, Global};
 use std::thread::Threads;
@@ -55,8 +57,8 @@ pub fn volt<R: Threads + Sync, S: Source, K: Sink>(
     ensures whole_line { is_refusal result ≡ true → (Rose (K.count sink.old) (K.count sink.new) → ⊥)
         → Appends (K.contents sink.old) (K.contents sink.new) (fault_line result) }
 {
-    match report_text(alloc, words, source) {
-        Ok(text) => match write_all(sink, &text) {
+    match read_and_run(alloc, words, source) {
+        Ok(report) => match write_report(sink, report) {
             Ok(()) => Status::Ok,
             Err(WriteFailed) => Status::WriteFault,
         },
@@ -67,14 +69,15 @@ pub fn volt<R: Threads + Sync, S: Source, K: Sink>(
     }
 }
 
-/// The bytes of the report, or the status of a refusal.
-fn report_text<S: Source>(
+/// The report, or the status of a refusal.
+fn read_and_run<S: Source>(
     alloc: Global,
     words: &[String],
     source: &mut S,
-) -> Result<Vec<u8>, Status>
+) -> Result<Printed, Status>
     ensures command { OnOk result (is_command (map string_bytes words.now) ≡ true) }
-    ensures explained { IfOk result (λ text. IfSome (S.rest source.old) (λ bytes. Explains bytes text.items)) }
+    ensures explained { IfOk result (λ report. IfSome (S.rest source.old)
+        (λ bytes. Explains bytes (printed_text report))) }
     ensures refused { IfErr result (λ status. is_refusal status ≡ true) }
     ensures cause { IfErr result (λ status.
         Refuses (map string_bytes words.now) (S.rest source.old) (S.count source.old) (S.count source.new) status) }
@@ -84,8 +87,8 @@ fn report_text<S: Source>(
         return Err(Status::BadUse);
     }
     match read_calls(alloc, source) {
-        Ok(calls) => match text_of(alloc, calls) {
-            Ok(text) => Ok(text),
+        Ok(calls) => match report_of(alloc, calls) {
+            Ok(report) => Ok(report),
             Err(AllocError) => Err(Status::NoMemory),
         },
         Err(InputFault::ReadFailed) => Err(Status::ReadFault),
@@ -104,17 +107,17 @@ fn is_command(words: &[String]) -> bool
     }
 }
 
-/// Runs the calls of a script, and answers the bytes of the report.
-fn text_of(alloc: Global, calls: Vec<ScriptCall>) -> Result<Vec<u8>, AllocError>
+/// Runs the calls of a script, and answers the report.
+fn report_of(alloc: Global, calls: Vec<ScriptCall>) -> Result<Printed, AllocError>
     requires { IsAsked calls.items }
-    ensures { IfOk result (λ text. (bytes : List ℕ)
-        → calls_of_text bytes ≡ Some calls.items → Explains bytes text.items) }
+    ensures { IfOk result (λ report. (bytes : List ℕ)
+        → calls_of_text bytes ≡ Some calls.items → Explains bytes (printed_text report)) }
 {
     let input = world_input(alloc, &calls)?;
     drop(calls);
     let outcomes = run_input(alloc, input)?;
-    let text = print_report(alloc, outcomes)?;
-    Ok(text)
+    let report = print_report(alloc, outcomes)?;
+    Ok(report)
 }
 
 /// Writes the line of a refusal.

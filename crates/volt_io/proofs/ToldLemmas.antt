@@ -1,10 +1,10 @@
 -- One call after another, on what is told and on a count of faults.
-use Rattle.std.proofs.Common.{ℕ, ◌+◌, ◌-◌, ◌≤◌, List, ◌++◌, length, take, drop, Option, None, Some, sym, ap, ◌∙◌, inl, inr, append_assoc, arith}
+use Rattle.std.proofs.Common.{◌≡◌, ℕ, ◌+◌, ◌-◌, ◌≤◌, List, [], ◌++◌, length, take, drop, Option, None, Some, sym, ap, ◌∙◌, inl, inr, append-nil, append_assoc, arith}
 use Rattle.std.proofs.lemmas.List.{take-append-drop, take_rest}
 use Rattle.std.proofs.Math.Seq.{take-add}
 use Rattle.std.proofs.lemmas.Bool.{cases_lt}
 use Rattle.volt_io.specs.Faults.{Rose}
-use Rattle.volt_io.specs.Told.{Keeps, TakesFront, LosesFront, Appends, AppendsFrontOf}
+use Rattle.volt_io.specs.Told.{Keeps, TakesFront, LosesFront, Appends, AppendsFrontOf, AppendsAllBut}
 
 -- a second front is taken after a first
 pub TakesFront-then : (a b c : Option (List ℕ)) (x y : List ℕ) → TakesFront a b x → TakesFront b c y → TakesFront a c (x ++ y)
@@ -59,6 +59,23 @@ AppendsFrontOf-then a b c x y p q =
 pub AppendsFrontOf-longer : (a b : Option (List ℕ)) (x y : List ℕ) → AppendsFrontOf a b x → AppendsFrontOf a b (x ++ y)
 AppendsFrontOf-longer a b x y p =
     (p.0, (p.1.0 ++ y, ap (λ l. l ++ y) p.1.1 ∙ append_assoc p.0 p.1.0 y), p.2)
+
+-- all is written, and nothing is left
+pub AppendsAllBut-none : (a b : Option (List ℕ)) (text : List ℕ) → Appends a b text → AppendsAllBut a b text []
+AppendsAllBut-none a b text p = (text, sym (append-nil text), p)
+
+-- of what was left, the next bytes but the last ones are written
+pub AppendsAllBut-then : (a b c : Option (List ℕ)) (text left next last others : List ℕ) → AppendsAllBut a b text left → left ≡ next ++ others → AppendsAllBut b c next last → AppendsAllBut a c text (last ++ others)
+AppendsAllBut-then a b c text left next last others p split q = (
+  p.0 ++ q.0,
+  p.1 ∙ (ap (λ l. p.0 ++ l) (split ∙ (ap (λ l. l ++ others) q.1 ∙ append_assoc q.0 last others)) ∙ sym (append_assoc p.0 q.0 (last ++ others))),
+  Appends-then a b c p.0 q.0 p.2 q.2,
+)
+
+-- of what was left, a front of the next bytes is written
+pub AppendsAllBut-front : (a b c : Option (List ℕ)) (text left next others : List ℕ) → AppendsAllBut a b text left → left ≡ next ++ others → AppendsFrontOf b c next → AppendsFrontOf a c text
+AppendsAllBut-front a b c text left next others p split q =
+    rw p.1 (AppendsFrontOf-then a b c p.0 left p.2 (rw split (AppendsFrontOf-longer b c next others q)))
 
 -- a count that rose in a later call rose over all the calls
 pub Rose-from_later : (a b c : ℕ) → a ≤ b → b ≤ c → Rose b c → Rose a c

@@ -34,3 +34,7 @@ IsFrontOf front whole = (others : List ℕ) × (whole ≡ front ++ others)
 -- told bytes are told again, with some front of these at their end
 abbrev pub AppendsFrontOf : Option (List ℕ) → Option (List ℕ) → List ℕ → Type 0
 AppendsFrontOf before after text = (front : List ℕ) × IsFrontOf front text × Appends before after front
+
+-- told bytes are told again, with all of these at their end but the last ones
+abbrev pub AppendsAllBut : Option (List ℕ) → Option (List ℕ) → List ℕ → List ℕ → Type 0
+AppendsAllBut before after text last = (front : List ℕ) × (text ≡ front ++ last) × Appends before after front

@@ -1,25 +1,17 @@
 //! The lines and sections of a report.
 
 ghost use Rattle.std.specs.Prelude.{◌≡◌, [], ◌∷◌, ◌++◌, codes, decimal, OnOk};
-ghost use Rattle.volt_report.specs.Spelling.{then_number, newline, section, applied_line, event_line};
+ghost use Rattle.volt_report.specs.Spelling.{then_number, newline, section, applied_line};
 
-use crate::parts::{put_applied_line, put_byte, put_decimal, put_event_line, put_number, put_pair};
+use crate::parts::{put_applied_line, put_byte, put_decimal, put_number, put_pair};
 use std::alloc::AllocError;
 use volt_base::{Applied, CallNo, ClientNo, Pos, SlotNo, Stamp};
-use volt_wire::Event;
 
 /// The first line of a report.
 pub fn print_opening(into: &mut Vec<u8>) -> Result<(), AllocError>
     ensures { OnOk result (into.new.items ≡ into.old.items ++ codes "volt 1" ++ newline) }
 {
     into.extend_from_slice(b"volt 1\n")
-}
-
-/// The last line of a report.
-pub fn print_end(into: &mut Vec<u8>) -> Result<(), AllocError>
-    ensures { OnOk result (into.new.items ≡ into.old.items ++ codes "end" ++ newline) }
-{
-    into.extend_from_slice(b"end\n")
 }
 
 /// The line before a list: a word, how many things follow, and the end of the line.
@@ -82,18 +74,6 @@ pub fn print_serial(into: &mut Vec<u8>, serial: &[Applied]) -> Result<(), AllocE
     print_head(into, b"serial", serial.len())?;
     for applied in serial {
         put_applied_line(into, *applied)?;
-    }
-    Ok(())
-}
-
-/// The events of a run: how many there are, and a line for each.
-pub fn print_trace(into: &mut Vec<u8>, trace: &[Event]) -> Result<(), AllocError>
-    ensures { OnOk result (into.new.items
-        ≡ into.old.items ++ section (codes "trace") event_line trace.now) }
-{
-    print_head(into, b"trace", trace.len())?;
-    for event in trace {
-        put_event_line(into, *event)?;
     }
     Ok(())
 }

@@ -14,15 +14,13 @@ fn lines(rt: HostRuntime) -> Result<(), Fail> {
     print_call_head(&mut out, 4_294_967_295, 255, 18_446_744_073_709_551_615, 0)?;
     print_head(&mut out, b"ok", 0)?;
     print_copy_head(&mut out, b"copy", 10, 407, 23)?;
-    print_end(&mut out)?;
-    let want =
-        b"volt 1\ncalls 12\n4294967295 255 18446744073709551615 0 ok 0\ncopy 10 407 23\nend\n";
+    let want = b"volt 1\ncalls 12\n4294967295 255 18446744073709551615 0 ok 0\ncopy 10 407 23\n";
     assert_eq!(rt; out.as_slice(), want.as_slice());
     Ok(())
 }
 
 #[test]
-fn lists(rt: HostRuntime) -> Result<(), Fail> {
+fn serial_lists(rt: HostRuntime) -> Result<(), Fail> {
     let serial = [
         Applied { call: 3, point: 9 },
         Applied {
@@ -30,29 +28,49 @@ fn lists(rt: HostRuntime) -> Result<(), Fail> {
             point: 1204,
         },
     ];
-    let trace = [
-        Event::Submit(2),
-        Event::Deliver {
-            to: Actor::Agent(1),
-            from: Actor::Client(2),
-        },
-        Event::Deliver {
-            to: Actor::Site(14),
-            from: Actor::Director,
-        },
-        Event::Sync(14),
-        Event::Scan(31),
-        Event::Recover,
-        Event::Item,
-        Event::Idle(Actor::Agent(0)),
-        Event::Idle(Actor::Scanner(8)),
-    ];
     let mut out = Vec::new(rt.alloc());
     print_serial(&mut out, &serial)?;
-    print_trace(&mut out, &trace)?;
     print_serial(&mut out, &[])?;
-    let want =
-        b"serial 2\n9 3\n1204 10\ntrace 9\nsubmit c2\ndeliver h1 c2\ndeliver s14 d\nsync s14\nscan x31\nrecover\nitem\nidle h0\nidle x8\nserial 0\n";
-    assert_eq!(rt; out.as_slice(), want.as_slice());
+    assert_eq!(rt;
+        out.as_slice(),
+        b"serial 2\n9 3\n1204 10\nserial 0\n".as_slice()
+    );
     Ok(())
+}
+
+#[test]
+fn event_lines(rt: HostRuntime) {
+    let cases = [
+        (Event::Submit(2), "submit c2\n"),
+        (
+            Event::Deliver {
+                to: Actor::Agent(1),
+                from: Actor::Client(20),
+            },
+            "deliver h1 c20\n",
+        ),
+        (
+            Event::Deliver {
+                to: Actor::Director,
+                from: Actor::Site(0),
+            },
+            "deliver d s0\n",
+        ),
+        (
+            Event::Deliver {
+                to: Actor::Site(255),
+                from: Actor::Agent(100),
+            },
+            "deliver s255 h100\n",
+        ),
+        (Event::Sync(14), "sync s14\n"),
+        (Event::Scan(31), "scan x31\n"),
+        (Event::Recover, "recover\n"),
+        (Event::Item, "item\n"),
+        (Event::Idle(Actor::Agent(0)), "idle h0\n"),
+        (Event::Idle(Actor::Scanner(8)), "idle x8\n"),
+    ];
+    for (event, want) in cases {
+        assert_eq!(rt; event_line(event).as_str(), want);
+    }
 }
