@@ -1,3 +1,5 @@
+//! Values.
+
 use crate::text::Text;
 
 /// A value of a column or of a parameter.
