@@ -4,7 +4,7 @@ use Rattle.std.proofs.Common.{refl}
 use Rattle.std.specs.Cmp.{IsTotalOrder, int_cmp_total}
 use Rattle.std.specs.Cmp.Lexicographic.{nat_list_cmp_total}
 use Rattle.std.specs.Ordering.{ordering_reverse}
-use Rattle.std.specs.declared.cmp.Ordering.TheVariants.{Less, Equal, Greater}
+use Rattle.std.specs.declared.cmp.Ordering.TheVariants.{Less, Equal}
 use Rattle.volt_value.specs.declared.value.Value.{Value}
 use Rattle.volt_value.specs.declared.value.Value.TheVariants.{Null, Int, Text}
 use Rattle.volt_value.specs.Order.{value_cmp}
@@ -22,8 +22,8 @@ turned (Text t) (Text u) = nat_list_cmp_total.antisymm t u
 
 through : (a b c : Value) → value_cmp a b ≡ Less → value_cmp b c ≡ Less → value_cmp a c ≡ Less
 through Null Null Null p q = p
-through Null (Int b) Null p q = q
-through Null (Text u) Null p q = q
+through Null (Int b) Null p q = absurd cc
+through Null (Text u) Null p q = absurd cc
 through Null b (Int c) p q = refl
 through Null b (Text v) p q = refl
 through (Int a) Null c p q = absurd cc

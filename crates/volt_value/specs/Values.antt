@@ -1,5 +1,5 @@
 -- Which integers and texts are values.
-use Rattle.std.specs.Prelude.{ℕ, ◌<◌, ◌^◌, Bool, nat_le, List, length, ℤ, nat_abs, IsTrue}
+use Rattle.std.specs.Prelude.{ℕ, ◌<◌, ◌^◌, Bool, nat_le, length, ℤ, nat_abs, IsTrue}
 use Rattle.std.specs.Str.{IsUtf8}
 use Rattle.volt_value.specs.declared.value.Value.{Value}
 use Rattle.volt_value.specs.declared.value.Value.TheVariants.{Null, Int, Text}

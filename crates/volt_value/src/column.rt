@@ -83,7 +83,9 @@ pub fn fits(v: &Value, t: ColType) -> Result<(), Misfit>
         (Value::Null, _) => Ok(()),
         (Value::Int(n), _) if *n == i64::MIN => Err(Misfit::OutOfRange),
         (Value::Int(n), _) => integer_fits(*n, t.greatest()),
-        (Value::Text(text), ColType::Varchar(most)) if text.as_str().len() <= most as usize => Ok(()),
+        (Value::Text(text), ColType::Varchar(most)) if text.as_str().len() <= most as usize => Ok(
+            (),
+        ),
         (Value::Text(_), ColType::Varchar(_)) => Err(Misfit::TooLong),
         (Value::Text(_), _) => Err(Misfit::WrongClass),
     }

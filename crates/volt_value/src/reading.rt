@@ -4,7 +4,7 @@ ghost use Rattle.std.specs.Prelude.{◌≡◌, ℕ, ◌++◌, List, Some, length
 ghost use Rattle.volt_value.specs.declared.value.Value.{Value};
 ghost use Rattle.volt_value.specs.Values.{IsValue};
 ghost use Rattle.volt_value.specs.Spelling.{value_bytes, BeginsWith, BeginsWithNone};
-ghost use Rattle.volt_value.specs.Reading.{integer_at, text_at, value_at};
+ghost use Rattle.volt_value.specs.Reading.{integer_at, if_utf8, text_at, value_at};
 
 use crate::text::Text;
 use crate::value::Value;
@@ -23,6 +23,13 @@ fn read_integer(bytes: &[u8]) -> Option<i64>
     if n == i64::MIN { None } else { Some(n) }
 }
 
+#[tactic(auto, using(crate::proofs::Fields::utf8_tests))]
+fn utf8_text(bytes: &[u8]) -> Option<&str>
+    ensures { option_map (λ text. text.now) result ≡ if_utf8 bytes.now }
+{
+    str::from_utf8(bytes).ok()
+}
+
 #[tactic(auto, unfolding(crate::specs::Reading::text_at))]
 fn read_text(bytes: &[u8]) -> Option<&str>
     ensures { option_map (λ text. text.now) result ≡ text_at bytes.now }
@@ -35,9 +42,10 @@ fn read_text(bytes: &[u8]) -> Option<&str>
     if rest.len() < len {
         return None;
     }
-    str::from_utf8(&rest[..len]).ok()
+    utf8_text(&rest[..len])
 }
 
+#[tactic(auto, unfolding(crate::specs::Reading::value_at))]
 fn read_value(alloc: Global, bytes: &[u8]) -> Result<Option<(Value, usize)>, AllocError>
     ensures { IfOk result (λ read. read ≡ value_at bytes.now) }
 {
