@@ -8,13 +8,18 @@ use volt_base::PartNo;
 /// How many buckets there are.
 const BUCKETS: u64 = 1024;
 
+/// Where the hash begins, and by what it is multiplied after each byte.
+const FNV_BASIS: u64 = 14695981039346656037;
+
+const FNV_PRIME: u64 = 1099511628211;
+
 /// The FNV-1a hash of the bytes, of 64 bits.
 fn hash(bytes: &[u8]) -> u64
     ensures { result ≡ ring.hash_of bytes.now }
 {
-    let mut hash: u64 = 14695981039346656037;
+    let mut hash = FNV_BASIS;
     for byte in bytes {
-        hash = (hash ^ *byte as u64).wrapping_mul(1099511628211);
+        hash = (hash ^ *byte as u64).wrapping_mul(FNV_PRIME);
     }
     hash
 }

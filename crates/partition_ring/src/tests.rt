@@ -46,6 +46,8 @@ fn layouts_are_refused(rt: HostRuntime) -> Result<(), Fail> {
 
 #[test]
 fn copies_have_places(rt: HostRuntime) -> Result<(), Fail> {
+    copies_have_hosts_of_their_own();
+    slots_have_copies();
     let layout = match Layout::new(3, 2, 1) {
         Ok(layout) => layout,
         Err(_) => return Err("three hosts of two sites hold two copies".into()),
@@ -62,6 +64,7 @@ fn copies_have_places(rt: HostRuntime) -> Result<(), Fail> {
 
 #[test]
 fn the_leader_comes_first(rt: HostRuntime) -> Result<(), Fail> {
+    copies_are_in_order();
     let alloc = rt.alloc();
     let layout = match Layout::new(3, 2, 1) {
         Ok(layout) => layout,
