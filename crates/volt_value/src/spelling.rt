@@ -1,6 +1,6 @@
 //! Values as bytes. Numbers are written with their high byte first.
 
-ghost use Rattle.std.specs.Prelude.{◌≡◌, ℕ, ◌<◌, ◌^◌, List, ◌∷◌, ◌++◌, length, OnOk, OnErr, IsTrue};
+ghost use Rattle.std.specs.Prelude.{◌≡◌, ℕ, ◌<◌, ◌^◌, List, ◌∷◌, ◌++◌, length, OnOk, OnErr};
 ghost use Rattle.std.specs.Int.{w32, w64, to_be_bytes, cast_unsigned};
 ghost use Rattle.volt_value.specs.declared.value.Value.{Value};
 ghost use Rattle.volt_value.specs.Values.{HasSpelling, IsValue};
