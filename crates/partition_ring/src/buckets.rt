@@ -24,6 +24,13 @@ fn hash(bytes: &[u8]) -> u64
     hash
 }
 
+/// The bucket that the bytes fall into, from 0 to 1,023.
+pub(crate) fn bucket(bytes: &[u8]) -> u64
+    ensures { result ≡ ring.bucket_of bytes.now }
+{
+    hash(bytes) % BUCKETS
+}
+
 /// The partition in which a value with this spelling lies, of 1 to 32 partitions. The bytes' FNV-1a
 /// hash modulo 1,024 is their bucket, and the buckets are dealt out in ranges: the partition is the
 /// bucket times the number of partitions, divided by 1,024 and rounded down.
@@ -33,6 +40,5 @@ pub fn partition_of(canonical: &[u8], parts: u8) -> PartNo
     ensures exact { result ≡ ring.partition_of canonical.now parts }
     ensures within { result < parts }
 {
-    let bucket = hash(canonical) % BUCKETS;
-    (bucket * parts as u64 / BUCKETS) as u8
+    (bucket(canonical) * parts as u64 / BUCKETS) as u8
 }
