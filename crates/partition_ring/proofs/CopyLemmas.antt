@@ -1,5 +1,5 @@
 -- Copies in a set are copies in order.
-use Rattle.std.proofs.Common.{◌≡◌, ℕ, zero, suc, ◌+◌, ◌-◌, ◌<◌, List, [], ◌∷◌, ◌++◌, Option, Some, None, arith, refl, sym, ◌∙◌}
+use Rattle.std.proofs.Common.{◌≡◌, ℕ, zero, suc, ◌+◌, ◌-◌, ◌<◌, List, [], ◌∷◌, Option, Some, None, arith, refl, sym, ◌∙◌}
 use Rattle.std.proofs.lemmas.Bool.Decides.{nat_tests}
 use Rattle.std.specs.BTreeSet.{insert_key}
 use Rattle.std.specs.Ordering.{nat_cmp, ordering_then}
@@ -22,10 +22,6 @@ pub put_copy : (hosts : ℕ) (members copies after : List (ℕ × ℕ)) (slot st
 put_copy hosts members copies after slot start member put = rw member (put ∙ insert_copy copies (start, slot))
 
 -- copies are put at their places one slot after another
-with_copies-append : (copies more others : List (ℕ × ℕ)) → with_copies copies (more ++ others) ≡ with_copies (with_copies copies more) others
-with_copies-append copies [] others = refl
-with_copies-append copies (copy ∷ more) others = with_copies-append (with_copy copies copy) more others
-
 pub next_slot : (hosts : ℕ) (members copies : List (ℕ × ℕ)) (slot n : ℕ) → 0 < n
     → with_copies copies (standing hosts members (range_with_len slot n))
     ≡ with_copies (with_copies copies (standing hosts members (slot ∷ []))) (standing hosts members (range_with_len (slot + 1) (n - 1)))

@@ -1,6 +1,6 @@
 -- Which layouts there are, which place each copy of a partition has, and in which order copies stand.
 use Rattle.std.specs.Prelude.{◌≡◌, ℕ, ◌+◌, ◌*◌, ◌/◌, ◌%◌, ◌≤◌, Bool, true, ◌==◌, ◌&&◌, ◌||◌, nat_lt, nat_le, if◌then◌else◌, List, [], ◌∷◌, map, filter_map, fold, Option, Some, None, option_map, max}
-use Rattle.std.specs.List.{range_with_len}
+use Rattle.std.specs.List.{range_with_len, AllByRecursion}
 
 -- how many hosts, sites on each host, and spare copies of each partition a layout may ask for
 pub record IsWithinLimits (hosts sites k : ℕ) : Type 0 where
@@ -84,7 +84,15 @@ abbrev pub with_copies : List (ℕ × ℕ) → List (ℕ × ℕ) → List (ℕ �
 with_copies ordered [] = ordered
 with_copies ordered (copy ∷ copies) = with_copies (with_copy ordered copy) copies
 
--- the slots of a partition's copies that stand, in order; the first is the leader
+-- each copy comes before all that stand behind it
+abbrev pub Rises : List (ℕ × ℕ) → Type 0
+Rises [] = Unit {0}
+Rises (copy ∷ copies) = AllByRecursion (λ later. comes_before copy later ≡ true) copies × Rises copies
+
+-- a partition's copies that stand, in order
+abbrev pub ordered_copies : ℕ → ℕ → List (ℕ × ℕ) → ℕ → List (ℕ × ℕ)
+ordered_copies hosts k members part = with_copies [] (standing hosts members (slots_of_part k part))
+
+-- their slots; the first is the leader's
 abbrev pub copies_of : ℕ → ℕ → List (ℕ × ℕ) → ℕ → List ℕ
-copies_of hosts k members part =
-    map (λ copy. copy.1) (with_copies [] (standing hosts members (slots_of_part k part)))
+copies_of hosts k members part = map (λ copy. copy.1) (ordered_copies hosts k members part)

@@ -2,7 +2,7 @@
 
 ghost use Rattle.std.specs.Prelude.{◌≡◌, ◌+◌, ◌*◌, ◌<◌, ◌≤◌, [], ◌∷◌, OnOk, IfOk};
 ghost use Rattle.partition_ring.specs.Placement as ring;
-ghost use Rattle.partition_ring.specs.Placement.{IsLayout, parts_of, slot_of, host_of, copies_of, start_in, standing, with_copies};
+ghost use Rattle.partition_ring.specs.Placement.{IsLayout, parts_of, copies_of, start_in, standing, with_copies};
 
 use crate::layout::Layout;
 use std::alloc::{AllocError, Global};

@@ -4,9 +4,11 @@
 
 mod buckets;
 mod copies;
+mod laws;
 mod layout;
 
 pub use buckets::partition_of;
+pub use laws::{copies_are_in_order, copies_have_hosts_of_their_own, slots_have_copies};
 pub use layout::{BadLayout, Layout};
 
 #[cfg(test)]

@@ -1,4 +1,5 @@
 use super::*;
+use crate::buckets::bucket;
 use std::test::*;
 
 /// The spelling of an integer: its kind, and eight bytes.
@@ -6,26 +7,27 @@ fn spelled(id: u8) -> [u8; 9] {
     [1, 0, 0, 0, 0, 0, 0, 0, id]
 }
 
-/// Partitions by the buckets 351, 786, 197, 224, 659, 70, 505, 324, 759 and 170 of the ids 1 to 10.
+#[test]
+fn ids_fall_into_their_buckets(rt: HostRuntime) -> Result<(), Fail> {
+    let mut id = 1;
+    for expected in [351, 786, 197, 224, 659, 70, 505, 324, 759, 170] {
+        assert_eq!(rt; bucket(&spelled(id)), expected);
+        id += 1;
+    }
+    assert_eq!(rt; bucket(&[]), 805);
+    assert_eq!(rt; bucket(b"a"), 140);
+    Ok(())
+}
+
 #[test]
 fn ids_lie_in_their_partitions(rt: HostRuntime) -> Result<(), Fail> {
     let of_two = [0, 1, 0, 0, 1, 0, 0, 0, 1, 0];
     let of_three = [1, 2, 0, 0, 1, 0, 1, 0, 2, 0];
-    let of_32 = [10, 24, 6, 7, 20, 2, 15, 10, 23, 5];
-    let mut id = 1;
-    for part in of_two {
-        assert_eq!(rt; partition_of(&spelled(id), 2), part);
-        id += 1;
-    }
-    id = 1;
-    for part in of_three {
-        assert_eq!(rt; partition_of(&spelled(id), 3), part);
-        id += 1;
-    }
-    id = 1;
-    for part in of_32 {
-        assert_eq!(rt; partition_of(&spelled(id), 32), part);
-        id += 1;
+    for i in 0..10 {
+        let id = spelled(i as u8 + 1);
+        assert_eq!(rt; partition_of(&id, 1), 0);
+        assert_eq!(rt; partition_of(&id, 2), of_two[i]);
+        assert_eq!(rt; partition_of(&id, 3), of_three[i]);
     }
     assert_eq!(rt; partition_of(&[], 32), 25);
     Ok(())
@@ -46,6 +48,8 @@ fn layouts_are_refused(rt: HostRuntime) -> Result<(), Fail> {
 
 #[test]
 fn copies_have_places(rt: HostRuntime) -> Result<(), Fail> {
+    copies_have_hosts_of_their_own();
+    slots_have_copies();
     let layout = match Layout::new(3, 2, 1) {
         Ok(layout) => layout,
         Err(_) => return Err("three hosts of two sites hold two copies".into()),
@@ -62,6 +66,7 @@ fn copies_have_places(rt: HostRuntime) -> Result<(), Fail> {
 
 #[test]
 fn the_leader_comes_first(rt: HostRuntime) -> Result<(), Fail> {
+    copies_are_in_order();
     let alloc = rt.alloc();
     let layout = match Layout::new(3, 2, 1) {
         Ok(layout) => layout,
