@@ -1,5 +1,5 @@
 -- Cuts of a text into pieces, one more piece at their end.
-use Rattle.std.proofs.Common.{◌≡◌, ◌<◌, ◌≤◌, ℕ, ◌+◌, List, [], ◌∷◌, ◌++◌, length, take, drop, arith, refl, ◌∙◌}
+use Rattle.std.proofs.Common.{zero-add, ◌≡◌, ◌<◌, ◌≤◌, ℕ, ◌+◌, List, [], ◌∷◌, ◌++◌, length, take, drop, arith, refl, ◌∙◌}
 use Rattle.std.proofs.lemmas.List.{take-append-drop, length-take-le, length-drop, drop-drop, drop_all}
 use Rattle.volt_text.specs.declared.piece.PieceKind.{PieceKind}
 use Rattle.volt_text.specs.declared.piece.PieceKind.TheVariants.{Blank, Comment, Lexeme}
@@ -26,9 +26,6 @@ tokens_at-push at [] p = let e : at + 0 ≡ at = omega arith in rw e refl
 tokens_at-push at (q ∷ ps) p =
     let e : at + length q.bytes + size ps ≡ at + (length q.bytes + size ps) = omega arith in
     rw (tokens_at-push (at + length q.bytes) ps p, token_before-append at q.kind (length q.bytes), e) refl
-
-zero_add : (n : ℕ) → 0 + n ≡ n
-zero_add n = omega arith
 
 -- the text is cut up to this place, and these are its tokens so far
 pub record IsRead (text : List ℕ) (at : ℕ) (tokens : List Token) : Type 0 where
@@ -57,7 +54,7 @@ read_more text at len kind ts us r lt le s e =
       pieces = r.pieces ++ record { kind = kind; bytes = bytes } ∷ [];
       is_cut = rw (← next) (cut_push r.pieces text kind bytes (drop len (drop at text)) cut s);
       is_place = rw (size-push r.pieces (record { kind = kind; bytes = bytes }), size_is, r.is_place) refl;
-      are_tokens = e ∙ rw (tokens_at-push 0 r.pieces (record { kind = kind; bytes = bytes }), size_is, r.is_place, r.are_tokens, zero_add at) refl;
+      are_tokens = e ∙ rw (tokens_at-push 0 r.pieces (record { kind = kind; bytes = bytes }), size_is, r.is_place, r.are_tokens, zero-add at) refl;
       is_within = omega (arith, length-drop at text);
     }
 

@@ -226,10 +226,6 @@ sign_only kind b bs from comment h = elim (kind_is kind b bs h) [
   | inr k ↦ subst (λ (o : PieceKind). IsPiece o (b ∷ bs)) (sym k ∙ from) h
 ]
 
--- whether two bytes begin a comment is told by these two
-comment_of_two : (b c : ℕ) (bs cs : List ℕ) → begins_comment (b ∷ c ∷ bs) ≡ false → begins_comment (b ∷ c ∷ cs) ≡ false
-comment_of_two b c bs cs h = h
-
 single_longest : (b c : ℕ) (bs : List ℕ) → is_single b ≡ true → is_pair b c ≡ false → begins_comment (b ∷ c ∷ bs) ≡ false
     → (other : PieceKind) (more rest : List ℕ) → c ∷ bs ≡ more ++ rest → IsPiece other (b ∷ more) → more ≡ []
 single_longest b c bs single pair comment other [] rest e h = refl

@@ -5,8 +5,6 @@ ghost use Rattle.std.specs.List.{prefix_len};
 ghost use Rattle.std.specs.Char.{is_ascii_digit};
 ghost use Rattle.volt_text.specs.Tokens.{is_blank, is_letter, is_word_byte, may_be_quoted, is_in_line};
 
-pub const QUOTE: u8 = b'\'';
-
 /// A space, a tab or an LF.
 pub fn is_blank(byte: u8) -> bool
     ensures { result ≡ is_blank byte }

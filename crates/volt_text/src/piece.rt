@@ -26,6 +26,14 @@ pub struct Front {
     pub len: usize,
 }
 
+impl Front {
+    fn new(kind: PieceKind, len: usize) -> Front
+        ensures { result ≡ record { kind = kind; len = len } }
+    {
+        Front { kind, len }
+    }
+}
+
 /// Why no piece stands at the front of a text.
 #[derive(Clone, Copy, Debug, PartialEq, Eq)]
 pub enum Stop {
@@ -76,10 +84,7 @@ fn quoted_front(text: &[u8]) -> Result<Front, Stop>
         Quoted::Closed {
             len,
             is_plain: true,
-        } => Ok(Front {
-            kind: PieceKind::Lexeme(TokenKind::Text),
-            len,
-        }),
+        } => Ok(Front::new(PieceKind::Lexeme(TokenKind::Text), len)),
         Quoted::Closed { .. } => Err(Stop::BadChar),
         Quoted::Open => Err(Stop::OpenText),
     }
@@ -92,38 +97,23 @@ pub fn piece_at_front(text: &[u8]) -> Result<Front, Stop>
 {
     let first = text[0];
     if is_letter(first) {
-        return Ok(Front {
-            kind: PieceKind::Lexeme(TokenKind::Word),
-            len: word_bytes(text),
-        });
+        return Ok(Front::new(PieceKind::Lexeme(TokenKind::Word), word_bytes(text)));
     }
     if is_blank(first) {
-        return Ok(Front {
-            kind: PieceKind::Blank,
-            len: blanks(text),
-        });
+        return Ok(Front::new(PieceKind::Blank, blanks(text)));
     }
     if first.is_ascii_digit() {
-        return Ok(Front {
-            kind: PieceKind::Lexeme(TokenKind::Number),
-            len: digits(text),
-        });
+        return Ok(Front::new(PieceKind::Lexeme(TokenKind::Number), digits(text)));
     }
     if first == b'\'' {
         return quoted_front(text);
     }
     if begins_comment(text) {
-        return Ok(Front {
-            kind: PieceKind::Comment,
-            len: bytes_in_line(text),
-        });
+        return Ok(Front::new(PieceKind::Comment, bytes_in_line(text)));
     }
     let len = sign_len(text);
     if len == 0 {
         return Err(Stop::BadChar);
     }
-    Ok(Front {
-        kind: PieceKind::Lexeme(TokenKind::Sign),
-        len,
-    })
+    Ok(Front::new(PieceKind::Lexeme(TokenKind::Sign), len))
 }
