@@ -59,6 +59,7 @@ read_more text at len kind ts us r lt le s e =
     }
 
 pub read_all : (text : List ℕ) (at : ℕ) (ts : List Token) → IsRead text at ts → length text ≤ at → Reads text (Tokens ts)
+unfolding Reads
 read_all text at ts r h = let none : drop at text ≡ [] = drop_all at text h in (r.pieces, rw none at r.is_cut, r.are_tokens)
 
 pub read_to : (text : List ℕ) (at : ℕ) (ts : List Token) → IsRead text at ts → at < length text → IsCutTo text at

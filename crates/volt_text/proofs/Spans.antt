@@ -29,6 +29,7 @@ spans_of (p ∷ ps) text at to (after, f, s, cut) e =
     (spans_of ps after (at + length p.bytes) to cut (omega (arith, ap length f, length-append p.bytes after)))
 
 pub spans : (text : List ℕ) (tokens : List Token) → Reads text (Tokens tokens) → AreSpans 0 (length text) tokens
+unfolding Reads
 spans text tokens (ps, cut, e) = rw e (spans_of ps text 0 (length text) cut (omega arith))
 
 slices_before : (text : List ℕ) (at len : ℕ) (kind : PieceKind) (ts : List Token) → IsPiece kind (take len (drop at text)) → AllByRecursion (IsSlice text) ts
@@ -47,4 +48,5 @@ slices_of (p ∷ ps) text rest at (after, f, s, cut) e =
     (slices_of ps text after (at + length p.bytes) cut back)
 
 pub slices : (text : List ℕ) (tokens : List Token) → Reads text (Tokens tokens) → All (IsSlice text) tokens
+unfolding Reads
 slices text tokens (ps, cut, e) = rw e (All-from_recursion (IsSlice text) (tokens_at 0 ps) (slices_of ps text text 0 cut refl))

@@ -81,6 +81,7 @@ abbrev Some : List ℕ → Type 0
 Some text = (r : Reading) × Reads text r
 
 go : (fuel : ℕ) (text : List ℕ) (at : ℕ) (ts : List Token) → length text ≤ at + fuel → IsRead text at ts → Some text
+unfolding Reads
 go zero text at ts enough r = (Tokens ts, read_all text at ts r (omega arith))
 go (suc fuel) text at ts enough r = elim (cases_lt at (length text)) [
   | inr le ↦ (Tokens ts, read_all text at ts r le)

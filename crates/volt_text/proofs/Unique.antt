@@ -105,6 +105,7 @@ same_stop text a b to up none stop =
     same_place text a b to.is_within up.is_within (cut_once to.pieces up.pieces text (drop a text) (drop b text) to.is_cut up.is_cut none stop).1
 
 pub reads_once : (text : List ℕ) (a b : Reading) → Reads text a → Reads text b → a ≡ b
+unfolding Reads
 reads_once text (Tokens ts) (Tokens us) (ps, c, e) (qs, d, f) = ap Tokens (e ∙ ap (tokens_at 0) ((cut_once ps qs text [] [] c d none_at_end none_at_end).0) ∙ sym f)
 reads_once text (Tokens ts) (BadChar b) (ps, c, e) (to, none, closed) = absurd (not_end text b to.is_within (cut_once ps to.pieces text [] (drop b text) c to.is_cut none_at_end none).1)
 reads_once text (Tokens ts) (OpenText b) (ps, c, e) (to, quote) = absurd (not_end text b to.is_within (cut_once ps to.pieces text [] (drop b text) c to.is_cut none_at_end (open_none (drop b text) quote)).1)

@@ -130,7 +130,7 @@ pub record IsCutTo (text : List ℕ) (at : ℕ) : Type 0 where
   pub is_within : at < length text
 
 -- this comes of the text
-abbrev pub Reads : List ℕ → Reading → Type 0
+unfoldable pub Reads : List ℕ → Reading → Type 0
 Reads text (Tokens ts) = (pieces : List Piece) × Cut pieces text [] × (ts ≡ tokens_at 0 pieces)
 Reads text (BadChar at) = IsCutTo text at × HasNone (drop at text) × ¬ IsOpen (drop at text)
 Reads text (OpenText at) = IsCutTo text at × IsOpen (drop at text)

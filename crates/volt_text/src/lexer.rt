@@ -46,6 +46,7 @@ fn fault_of(stop: Stop, at: u32) -> LexFault
 /// `BadChar` with the place of the first byte at which none of these begins, whichever comes
 /// first. A quoted text that holds a control character, U+0000 to U+001F or U+007F, is no token,
 /// so `BadChar` has the place of its opening quote. The text has fewer than 2^32 bytes.
+#[tactic(auto, unfolding(crate::specs::Tokens::Reads))]
 pub fn lex(alloc: Global, text: &str) -> Result<Vec<Token>, LexFault>
     requires { length text.now < 2 ^ 32 }
     ensures read { IfOk result (λ tokens. Reads text.now (Tokens tokens.items)) }
