@@ -169,39 +169,39 @@ agrees D h before a =
 
 abbrev pub from_agent : Database → Deployment → ℕ → ℕ → AgentState → ℕ → Letter → Turn AgentState
 from_agent E D h stamp a g l = elim l.body as (λ _. Turn AgentState) [
-    | msg.Closed start ↦ becomes (on_closed a a.own start)
-    | msg.Word base lost admitted ↦ becomes (on_word a a.own g base lost admitted)
-    | msg.Hello start ↦ on_hello h a a.decided g start
-    | msg.Decided w ↦ on_decided D h a a.decided a.taken w
-    | msg.MpCall call start body ↦ queues E D a (Job_ (RunCall call g start body))
-    | msg.MpReply call e ↦ on_reply D a call e
-    | msg.Admit start ↦ queues E D a (Admission start g l.term)
-    | _ ↦ becomes a
-  ]
+  | msg.Closed start ↦ becomes (on_closed a a.own start)
+  | msg.Word base lost admitted ↦ becomes (on_word a a.own g base lost admitted)
+  | msg.Hello start ↦ on_hello h a a.decided g start
+  | msg.Decided w ↦ on_decided D h a a.decided a.taken w
+  | msg.MpCall call start body ↦ queues E D a (Job_ (RunCall call g start body))
+  | msg.MpReply call e ↦ on_reply D a call e
+  | msg.Admit start ↦ queues E D a (Admission start g l.term)
+  | _ ↦ becomes a
+]
 
 abbrev pub from_site : Database → Deployment → ℕ → ℕ → AgentState → ℕ → Letter → Turn AgentState
 from_site E D h stamp a s l = elim l.body as (λ _. Turn AgentState) [
-    | msg.Reply call start e ↦ on_reply D a call e
-    | msg.FragDone m round partial ↦
-        on_frag_done E D stamp a a.initiating.phase a.initiating.work (part_of_slot D s) m round partial
-    | msg.Finished m ↦ on_finished E D h a a.initiating.phase a.initiating.work (part_of_slot D s) m
-    | msg.MpState m is_open outcome ↦ on_mp_state E D h a a.initiating.phase (part_of_slot D s) m is_open outcome
-    | msg.Loaded start ↦ on_loaded D h a s start
-    | _ ↦ becomes a
-  ]
+  | msg.Reply call start e ↦ on_reply D a call e
+  | msg.FragDone m round partial ↦
+      on_frag_done E D stamp a a.initiating.phase a.initiating.work (part_of_slot D s) m round partial
+  | msg.Finished m ↦ on_finished E D h a a.initiating.phase a.initiating.work (part_of_slot D s) m
+  | msg.MpState m is_open outcome ↦ on_mp_state E D h a a.initiating.phase (part_of_slot D s) m is_open outcome
+  | msg.Loaded start ↦ on_loaded D h a s start
+  | _ ↦ becomes a
+]
 
 -- Snap: the initiator queues a snapshot; others do nothing.
 abbrev pub from_director : Database → Deployment → ℕ → AgentState → Letter → Turn AgentState
 from_director E D h a l = elim l.body as (λ _. Turn AgentState) [
-    | msg.Snap ↦ if initiates h a a.decided then queues E D a (Job_ TakeSnapshot) else becomes a
-    | _ ↦ becomes a
-  ]
+  | msg.Snap ↦ if initiates h a a.decided then queues E D a (Job_ TakeSnapshot) else becomes a
+  | _ ↦ becomes a
+]
 
 abbrev pub from_client : Deployment → AgentState → ℕ → Letter → Turn AgentState
 from_client D a n l = elim l.body as (λ _. Turn AgentState) [
-    | msg.Call call start part body ↦ on_call D a a.decided n call start part body
-    | _ ↦ becomes a
-  ]
+  | msg.Call call start part body ↦ on_call D a a.decided n call start part body
+  | _ ↦ becomes a
+]
 
 -- the row of a message that it takes
 abbrev pub agent_row : Database → Deployment → ℕ → ℕ → AgentState → Actor → Letter → Turn AgentState
@@ -239,27 +239,27 @@ on_stop D h a start = if nat_le a.start start then stops D h a.start else become
 
 abbrev pub agent_runs : Database → Deployment → ℕ → ℕ → AgentState → Actor → Letter → Turn AgentState
 agent_runs E D h stamp a from l = elim (arrival a.start (term_in a.decided) l) as (λ _. Turn AgentState) [
-    | Taken ↦ row_and_word E D h stamp a from l ▸ takes_waiting E D h stamp
-    | Waits ↦ becomes (record a { waiting = a.waiting ++ record { from = from; letter = l } ∷ [] })
-    | Refused ↦ becomes a
-  ]
+  | Taken ↦ row_and_word E D h stamp a from l ▸ takes_waiting E D h stamp
+  | Waits ↦ becomes (record a { waiting = a.waiting ++ record { from = from; letter = l } ∷ [] })
+  | Refused ↦ becomes a
+]
 
 -- The agent of host h after a message, and what it sends. One that is stopped takes Start alone.
 abbrev pub agent_takes : Database → Deployment → ℕ → ℕ → AgentState → Actor → Letter → Turn AgentState
 agent_takes E D h stamp a from l = elim l.body as (λ _. Turn AgentState) [
-    | msg.Start start ↦ if a.start == 0 then on_start D h start else becomes a
-    | msg.Stop start ↦ if a.start == 0 then becomes a else on_stop D h a start
-    | _ ↦ if a.start == 0 then becomes a else agent_runs E D h stamp a from l
-  ]
+  | msg.Start start ↦ if a.start == 0 then on_start D h start else becomes a
+  | msg.Stop start ↦ if a.start == 0 then becomes a else on_stop D h a start
+  | _ ↦ if a.start == 0 then becomes a else agent_runs E D h stamp a from l
+]
 
 -- ---- the outside's share
 
 -- the start with which it goes on once it has taken a message, before anything else
 abbrev pub start_after : AgentState → Letter → ℕ
 start_after a l = elim l.body as (λ _. ℕ) [
-    | msg.Start start ↦ if a.start == 0 then start else a.start
-    | _ ↦ a.start
-  ]
+  | msg.Start start ↦ if a.start == 0 then start else a.start
+  | _ ↦ a.start
+]
 
 -- An agent that finds no memory stops with its host.
 abbrev pub agent_turn : Database → Deployment → ℕ → ℕ → AgentState → Actor → Letter → Outside → Turn AgentState

@@ -62,10 +62,10 @@ submit_to stamp c due left (Some h) =
     let start = unwrap_or (c.known h) 0 in
     sending
     (record c {
-        left = left;
-        present = h;
-        pending = Some (record { call = due.call; at = stamp; host = h; start = start });
-      })
+      left = left;
+      present = h;
+      pending = Some (record { call = due.call; at = stamp; host = h; start = start });
+    })
     (λ b. only Director (open_letter msg.Told) b ++ only (Agent h) (open_letter (msg.Call due.call start due.part due.body)) b)
 
 abbrev pub submits : Deployment → ℕ → ClientState → List Due → Turn ClientState
@@ -106,9 +106,9 @@ on_opened c host start = record c { known = λ h. if h == host then Some start e
 -- Client n after a message. It sends nothing.
 abbrev pub client_takes : ℕ → ℕ → ClientState → Actor → Letter → ClientState
 client_takes stamp n c (Agent h) l = elim l.body as (λ _. ClientState) [
-    | msg.Answer call e ↦ on_answer stamp n c c.pending call e
-    | msg.Closed start ↦ on_closed stamp n c h start
-    | msg.Opened start ↦ on_opened c h start
-    | _ ↦ c
-  ]
+  | msg.Answer call e ↦ on_answer stamp n c c.pending call e
+  | msg.Closed start ↦ on_closed stamp n c h start
+  | msg.Opened start ↦ on_opened c h start
+  | _ ↦ c
+]
 client_takes stamp n c from l = c

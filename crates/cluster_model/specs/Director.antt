@@ -80,12 +80,12 @@ does_next D _ d items = asks_recovery D true d
 -- Told: it counts one. Looked: it notes what the copy showed.
 abbrev pub director_takes : DirectorState → Actor → Letter → DirectorState
 director_takes d (Site s) l = elim l.body as (λ _. DirectorState) [
-    | msg.Looked position rows ↦
-        record d { looks = d.looks ++ record { slot = s; position = position; rows = rows } ∷ [] }
-    | _ ↦ d
-  ]
+  | msg.Looked position rows ↦
+      record d { looks = d.looks ++ record { slot = s; position = position; rows = rows } ∷ [] }
+  | _ ↦ d
+]
 director_takes d (Client n) l = elim l.body as (λ _. DirectorState) [
-    | msg.Told ↦ record d { told = d.told + 1 }
-    | _ ↦ d
-  ]
+  | msg.Told ↦ record d { told = d.told + 1 }
+  | _ ↦ d
+]
 director_takes d from l = d

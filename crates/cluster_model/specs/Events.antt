@@ -149,10 +149,10 @@ may_fail_disk w e answered = false
 -- Stop and Power, which only note a number, take none at a site or a scanner.
 abbrev pub takes_memory : Letter → Bool
 takes_memory l = elim l.body as (λ _. Bool) [
-    | msg.Stop start ↦ false
-    | msg.Power call choice ↦ false
-    | _ ↦ true
-  ]
+  | msg.Stop start ↦ false
+  | msg.Power call choice ↦ false
+  | _ ↦ true
+]
 
 -- whether the receiver of the first of these runs on a host, once it has taken it
 abbrev pub runs_with : World → Actor → List Letter → Bool

@@ -178,9 +178,9 @@ on_frag_done E D stamp a phase work p m round partial = becomes a
 abbrev pub settles : Database → Deployment → ℕ → AgentState → Option Work → Turn AgentState
 settles E D h a None = rests E D a
 settles E D h a (Some w) = elim w.decision as (λ _. Turn AgentState) [
-    | None ↦ begins E D a w.job
-    | Some d ↦ ends_job E D h a w.job d.end
-  ]
+  | None ↦ begins E D a w.job
+  | Some d ↦ ends_job E D h a w.job d.end
+]
 
 abbrev pub all_finished : List ℕ → List ℕ → Bool
 all_finished parts finished = list_all (λ p. is_in p finished) parts

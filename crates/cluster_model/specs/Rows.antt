@@ -86,6 +86,6 @@ shows slot position rows = record { slot = slot; position = position; rows = row
 abbrev pub until : (World → Bool) → ℕ → World → World
 until test zero w = w
 until test (suc n) w = elim (test w) as (λ _. World) [
-    | true ↦ w
-    | false ↦ until test n (first_step toy w (first_enabled w))
-  ]
+  | true ↦ w
+  | false ↦ until test n (first_step toy w (first_enabled w))
+]

@@ -54,9 +54,9 @@ IsSettled w = IsQuiet w × (serves w ≡ true)
 abbrev pub first_that : (Event → Bool) → List Event → Option Event
 first_that may [] = None
 first_that may (e ∷ es) = elim (may e) as (λ _. Option Event) [
-    | true ↦ Some e
-    | false ↦ first_that may es
-  ]
+  | true ↦ Some e
+  | false ↦ first_that may es
+]
 
 abbrev pub first_enabled : World → Option Event
 first_enabled w = first_that (can w) (events w.deployment)

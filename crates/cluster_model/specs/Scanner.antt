@@ -50,21 +50,21 @@ on_scan_start x id target start blocks =
 
 abbrev pub scanner_runs : ScannerState → Actor → Letter → ScannerState
 scanner_runs x from l = elim l.body as (λ _. ScannerState) [
-    | msg.ScanStart id target start blocks ↦ elim (arrival x.start 0 l) as (λ _. ScannerState) [
-        | Taken ↦ on_scan_start x id target start blocks
-        | Refused ↦ x
-        | Waits ↦ x
-      ]
-    | _ ↦ x
+  | msg.ScanStart id target start blocks ↦ elim (arrival x.start 0 l) as (λ _. ScannerState) [
+    | Taken ↦ on_scan_start x id target start blocks
+    | Refused ↦ x
+    | Waits ↦ x
   ]
+  | _ ↦ x
+]
 
 -- A scanner after a message. It sends nothing. One that is stopped takes Start and Stop alone.
 abbrev pub scanner_takes : ScannerState → Actor → Letter → ScannerState
 scanner_takes x from l = elim l.body as (λ _. ScannerState) [
-    | msg.Start start ↦ on_start x start
-    | msg.Stop start ↦ on_stop x start
-    | _ ↦ if x.start == 0 then x else scanner_runs x from l
-  ]
+  | msg.Start start ↦ on_start x start
+  | msg.Stop start ↦ on_stop x start
+  | _ ↦ if x.start == 0 then x else scanner_runs x from l
+]
 
 -- ---- Scan
 
@@ -93,9 +93,9 @@ stops_so D i x start =
 -- the start with which it goes on once it has taken a message, before anything else
 abbrev pub start_after : ScannerState → Letter → ℕ
 start_after x l = elim l.body as (λ _. ℕ) [
-    | msg.Start start ↦ if nat_lt x.start start && nat_lt x.stop start then start else x.start
-    | _ ↦ x.start
-  ]
+  | msg.Start start ↦ if nat_lt x.start start && nat_lt x.stop start then start else x.start
+  | _ ↦ x.start
+]
 
 -- what a message makes of it, and what a Scan does
 abbrev pub scanner_turn : Deployment → ℕ → ScannerState → Actor → Letter → Outside → Turn ScannerState

@@ -226,7 +226,7 @@ abbrev pub on_report : Database → Deployment → ℕ → ℕ → SiteState →
 on_report E D i stamp s slot position floor tail =
     if is_leader D i s && not s.repaired
     then repairs E D i stamp
-        (record s { reports = s.reports ++ record { slot = slot; position = position; floor = floor; tail = tail } ∷ [] })
+    (record s { reports = s.reports ++ record { slot = slot; position = position; floor = floor; tail = tail } ∷ [] })
     else becomes s
 
 -- what a copy reports to the leader
@@ -245,9 +245,9 @@ asks_to_join i D s (Some slot) b =
 
 abbrev pub is_reply : Letter → Bool
 is_reply l = elim l.body as (λ _. Bool) [
-    | msg.Reply call start e ↦ true
-    | _ ↦ false
-  ]
+  | msg.Reply call start e ↦ true
+  | _ ↦ false
+]
 
 -- The site takes the new term. A mark that it owes is cancelled. A leader forgets its joins, what the copies acknowledged,
 -- and the answers to the initiator that it still owes; the replies to calls stay.
@@ -319,14 +319,14 @@ abbrev pub takes_joiner : Database → Deployment → ℕ → Ask → SiteState 
 takes_joiner E D i a s =
     sending
     (record s {
-        joiners =
-            filter (λ j. not (j.slot == a.slot)) s.joiners
-            ++ record { slot = a.slot; start = a.start; nj = length s.log; position = length s.log; count = None } ∷ [];
-        scans = s.scans + 1;
-        scanning = Some (ForJoiner (s.scans + 1) a.slot);
-      })
+      joiners =
+          filter (λ j. not (j.slot == a.slot)) s.joiners
+          ++ record { slot = a.slot; start = a.start; nj = length s.log; position = length s.log; count = None } ∷ [];
+      scans = s.scans + 1;
+      scanning = Some (ForJoiner (s.scans + 1) a.slot);
+    })
     (λ b. only (Site a.slot) (record (letter_in (site_term s) a.start (msg.StreamStart (stream_head E D i s))) { past = s.log }) b
-      ++ starts_scan E D i s a.slot a.start b)
+    ++ starts_scan E D i s a.slot a.start b)
 
 -- the requests without the first that can be taken
 abbrev pub without_first : (Ask → Bool) → List Ask → List Ask
@@ -402,11 +402,11 @@ abbrev pub takes_stream : SiteState → Joining → Letter → StreamHead → Si
 takes_stream s j l head =
     if may_stream s j l
     then record s {
-        joining = Some (record j { stream = Some (record { nj = head.nj; mark = head.mark }) });
-        log = l.past;
-        floor = head.nj;
-        contents = None ∷ [];
-      }
+      joining = Some (record j { stream = Some (record { nj = head.nj; mark = head.mark }) });
+      log = l.past;
+      floor = head.nj;
+      contents = None ∷ [];
+    }
     else s
 
 abbrev pub on_stream_start : SiteState → Option Joining → Letter → StreamHead → SiteState
@@ -455,7 +455,7 @@ tells_initiator E D i s None = becomes s
 tells_initiator E D i s (Some first) =
     sending (record s { has_told = true })
     (only (Agent first.0)
-      (letter_in (site_term s) first.1 (standing (open_in s.log) (last_done E (part_of_slot D i) s.log))))
+    (letter_in (site_term s) first.1 (standing (open_in s.log) (last_done E (part_of_slot D i) s.log))))
 
 -- MpState is sent once in each term but the first, when all that the leader has is on the disks of all copies.
 abbrev pub tells : Database → Deployment → ℕ → SiteState → Turn SiteState
@@ -473,9 +473,9 @@ abbrev pub shows : Database → Deployment → ℕ → SiteState → Turn SiteSt
 shows E D i s =
     if nat_lt 0 s.looks && nothing_open s.log
     then sending (record s { looks = 0 }) (λ b. elim b as (λ _. List Letter) [
-        | Director ↦ replicate s.looks (looked E D i s)
-        | _ ↦ []
-      ])
+      | Director ↦ replicate s.looks (looked E D i s)
+      | _ ↦ []
+    ])
     else becomes s
 
 abbrev pub on_look : SiteState → SiteState
@@ -488,15 +488,15 @@ settles E D i s = tells E D i s ▸ ends_streams ▸ shows E D i ▸ takes_asks 
 
 abbrev pub order_of : Letter → ℕ
 order_of l = elim l.body as (λ _. ℕ) [
-    | msg.Put position e floor ↦ 1
-    | msg.Task position e ↦ 1
-    | msg.Repair from entries ↦ 1
-    | msg.Reply call start e ↦ 2
-    | msg.FragDone m round partial ↦ 2
-    | msg.Finished m ↦ 2
-    | msg.MpState m is_open outcome ↦ 3
-    | _ ↦ 4
-  ]
+  | msg.Put position e floor ↦ 1
+  | msg.Task position e ↦ 1
+  | msg.Repair from entries ↦ 1
+  | msg.Reply call start e ↦ 2
+  | msg.FragDone m round partial ↦ 2
+  | msg.Finished m ↦ 2
+  | msg.MpState m is_open outcome ↦ 3
+  | _ ↦ 4
+]
 
 abbrev pub of_order : ℕ → List Letter → List Letter
 of_order n ls = filter (λ l. order_of l == n) ls
@@ -510,38 +510,38 @@ ordered t =
 
 abbrev pub from_agent : Database → Deployment → ℕ → ℕ → SiteState → ℕ → Letter → Turn SiteState
 from_agent E D stamp i s h l = elim l.body as (λ _. Turn SiteState) [
-    | msg.SpCall call start body ↦ on_sp_call E D i stamp s h call start body
-    | msg.View w ↦ on_view E D i stamp s w
-    | msg.Frag m round body ↦ on_frag E D i s m round body
-    | msg.Done m o ↦ on_done E D i stamp s m o
-    | _ ↦ becomes s
-  ]
+  | msg.SpCall call start body ↦ on_sp_call E D i stamp s h call start body
+  | msg.View w ↦ on_view E D i stamp s w
+  | msg.Frag m round body ↦ on_frag E D i s m round body
+  | msg.Done m o ↦ on_done E D i stamp s m o
+  | _ ↦ becomes s
+]
 
 abbrev pub from_site : Database → Deployment → ℕ → ℕ → SiteState → ℕ → Letter → Turn SiteState
 from_site E D stamp i s slot l = elim l.body as (λ _. Turn SiteState) [
-    | msg.Put position e floor ↦ on_put E D i s position e floor
-    | msg.Ack position ↦ on_ack D i s slot position
-    | msg.Report position floor tail ↦ on_report E D i stamp s slot position floor tail
-    | msg.Repair from entries ↦ on_repair E D i s from entries
-    | msg.JoinAsk start asking ↦ becomes (on_join_ask s start asking)
-    | msg.StreamStart head ↦ becomes (on_stream_start s s.joining l head)
-    | msg.StreamEnd count ↦ becomes (on_stream_end s s.joining count)
-    | msg.Task position e ↦ becomes (on_task s s.joining e)
-    | _ ↦ becomes s
-  ]
+  | msg.Put position e floor ↦ on_put E D i s position e floor
+  | msg.Ack position ↦ on_ack D i s slot position
+  | msg.Report position floor tail ↦ on_report E D i stamp s slot position floor tail
+  | msg.Repair from entries ↦ on_repair E D i s from entries
+  | msg.JoinAsk start asking ↦ becomes (on_join_ask s start asking)
+  | msg.StreamStart head ↦ becomes (on_stream_start s s.joining l head)
+  | msg.StreamEnd count ↦ becomes (on_stream_end s s.joining count)
+  | msg.Task position e ↦ becomes (on_task s s.joining e)
+  | _ ↦ becomes s
+]
 
 abbrev pub from_scanner : SiteState → Letter → SiteState
 from_scanner s l = elim l.body as (λ _. SiteState) [
-    | msg.Chunk id bytes ↦ on_chunk s s.joining s.scanning id
-    | msg.ScanEnd id count ↦ on_scan_end s s.scanning id count
-    | _ ↦ s
-  ]
+  | msg.Chunk id bytes ↦ on_chunk s s.joining s.scanning id
+  | msg.ScanEnd id count ↦ on_scan_end s s.scanning id count
+  | _ ↦ s
+]
 
 abbrev pub from_director : SiteState → Letter → SiteState
 from_director s l = elim l.body as (λ _. SiteState) [
-    | msg.Look ↦ on_look s
-    | _ ↦ s
-  ]
+  | msg.Look ↦ on_look s
+  | _ ↦ s
+]
 
 abbrev pub site_row : Database → Deployment → ℕ → ℕ → SiteState → Actor → Letter → Turn SiteState
 site_row E D stamp i s (Agent h) l = from_agent E D stamp i s h l
@@ -580,16 +580,16 @@ on_power s call choice = record s { plans = s.plans ++ (call, choice) ∷ [] }
 
 abbrev pub site_runs : Database → Deployment → ℕ → ℕ → SiteState → Actor → Letter → Turn SiteState
 site_runs E D stamp i s from l = elim (arrival s.start (site_term s) l) as (λ _. Turn SiteState) [
-    | Taken ↦ ordered (site_row E D stamp i s from l ▸ takes_waiting E D stamp i ▸ settles E D i)
-    | Waits ↦ becomes (record s { waiting = s.waiting ++ record { from = from; letter = l } ∷ [] })
-    | Refused ↦ becomes s
-  ]
+  | Taken ↦ ordered (site_row E D stamp i s from l ▸ takes_waiting E D stamp i ▸ settles E D i)
+  | Waits ↦ becomes (record s { waiting = s.waiting ++ record { from = from; letter = l } ∷ [] })
+  | Refused ↦ becomes s
+]
 
 -- The site of slot i after a message, and what it sends. One that is stopped takes Start, Stop and Power alone.
 abbrev pub site_takes : Database → Deployment → ℕ → ℕ → SiteState → Actor → Letter → Turn SiteState
 site_takes E D stamp i s from l = elim l.body as (λ _. Turn SiteState) [
-    | msg.Start start ↦ on_start i s start
-    | msg.Stop start ↦ becomes (on_stop s start)
-    | msg.Power call choice ↦ becomes (on_power s call choice)
-    | _ ↦ if s.start == 0 then becomes s else site_runs E D stamp i s from l
-  ]
+  | msg.Start start ↦ on_start i s start
+  | msg.Stop start ↦ becomes (on_stop s start)
+  | msg.Power call choice ↦ becomes (on_power s call choice)
+  | _ ↦ if s.start == 0 then becomes s else site_runs E D stamp i s from l
+]

@@ -116,11 +116,11 @@ joiner_written s j None = s
 joiner_written s j (Some st) =
     if j.is_loaded
     then record s {
-        joining = Some (record j { written = j.blocks; is_based = true });
-        on_disk = length s.log;
-        mark = st.mark;
-        base = st.nj;
-      }
+      joining = Some (record j { written = j.blocks; is_based = true });
+      on_disk = length s.log;
+      mark = st.mark;
+      base = st.nj;
+    }
     else record s { joining = Some (record j { written = j.blocks }) }
 
 abbrev pub written : SiteState → Option Joining → SiteState
@@ -140,7 +140,7 @@ abbrev pub says_loaded : Deployment → ℕ → SiteState → Joining → Turn S
 says_loaded D i s j =
     if j.has_told then becomes s
     else sending (record s { joining = Some (record j { has_told = true }) })
-        (only (Agent (host_of_slot D i)) (letter_to s.start (msg.Loaded s.start)))
+    (only (Agent (host_of_slot D i)) (letter_to s.start (msg.Loaded s.start)))
 
 -- The leader counts what is firm. A copy acknowledges once its mark of the term is on disk, a joiner once its base is.
 abbrev pub after_sync : Deployment → ℕ → SiteState → Option Joining → Turn SiteState
@@ -166,16 +166,16 @@ may_stream_in s (Some j) l = may_stream s j l
 -- StreamStart wipes the disk of a joiner that takes the stream. No other message has a part.
 abbrev pub parts_of_stream : SiteState → Letter → List Shown
 parts_of_stream s l = elim (arrival s.start (site_term s) l) as (λ _. List Shown) [
-    | Taken ↦ if may_stream_in s s.joining l then None ∷ [] else []
-    | Refused ↦ []
-    | Waits ↦ []
-  ]
+  | Taken ↦ if may_stream_in s s.joining l then None ∷ [] else []
+  | Refused ↦ []
+  | Waits ↦ []
+]
 
 abbrev pub parts_of_message : SiteState → Letter → List Shown
 parts_of_message s l = elim l.body as (λ _. List Shown) [
-    | msg.StreamStart head ↦ if s.start == 0 then [] else parts_of_stream s l
-    | _ ↦ []
-  ]
+  | msg.StreamStart head ↦ if s.start == 0 then [] else parts_of_stream s l
+  | _ ↦ []
+]
 
 -- ---- the outside's share
 
@@ -189,9 +189,9 @@ stops_so D i s start contents =
 -- the start with which it goes on once it has taken a message, before anything else
 abbrev pub start_after : SiteState → Letter → ℕ
 start_after s l = elim l.body as (λ _. ℕ) [
-    | msg.Start start ↦ if nat_lt s.start start && nat_lt s.stop start then start else s.start
-    | _ ↦ s.start
-  ]
+  | msg.Start start ↦ if nat_lt s.start start && nat_lt s.stop start then start else s.start
+  | _ ↦ s.start
+]
 
 -- What a message makes of it. After so many of the event's disk parts that answered the next one failed, or there was no
 -- memory.

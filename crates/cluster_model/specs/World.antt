@@ -95,10 +95,10 @@ abbrev pub lead_after : Deployment → ℕ → SiteState → Lead → Lead
 lead_after D i s l =
     if leads D i s
     then record {
-        term = max l.term (site_term s);
-        log = if nat_le l.term (site_term s) then s.log else l.log;
-        firm = max l.firm s.firm;
-      }
+      term = max l.term (site_term s);
+      log = if nat_le l.term (site_term s) then s.log else l.log;
+      firm = max l.firm s.firm;
+    }
     else l
 
 abbrev pub with_site : World → ℕ → Turn SiteState → World

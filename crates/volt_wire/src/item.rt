@@ -13,7 +13,11 @@ pub enum Item {
     Snapshot,
     /// Cut the power of a slot's disk at the coming disk call of this number, counted from 1. The
     /// choice says what the disk shows afterwards.
-    Power { slot: SlotNo, call: u64, choice: u64 },
+    Power {
+        slot: SlotNo,
+        call: u64,
+        choice: u64,
+    },
     /// Look at the copy of a slot.
     Look(SlotNo),
     /// Stop all hosts.

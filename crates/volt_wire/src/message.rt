@@ -20,23 +20,40 @@ pub enum Msg<S> {
     /// From a client to the director: a call was submitted.
     Told,
     /// From an agent to a client: the call ended so.
-    Answer { call: CallNo, end: End },
+    Answer {
+        call: CallNo,
+        end: End,
+    },
     /// From an agent of this start to clients and other agents: it stopped.
-    Closed { start: Start },
+    Closed {
+        start: Start,
+    },
     /// From an agent of this start to clients: it takes calls.
-    Opened { start: Start },
+    Opened {
+        start: Start,
+    },
 
     // ---- from the director, and within a host
     /// To any actor of a host: stop, if its start isn't above this one.
-    Stop { start: Start },
+    Stop {
+        start: Start,
+    },
     /// To an agent, from it to its sites, and from a site to its scanner: run with this start.
-    Start { start: Start },
+    Start {
+        start: Start,
+    },
     /// To a site: its disk is to lose power at a call.
-    Power { call: u64, choice: u64 },
+    Power {
+        call: u64,
+        choice: u64,
+    },
     /// To a site: say what the copy shows.
     Look,
     /// From a site to the director: what the copy shows.
-    Looked { position: Pos, rows: Bytes },
+    Looked {
+        position: Pos,
+        rows: Bytes,
+    },
     /// To the agents: take a snapshot.
     Snap,
 
@@ -48,9 +65,13 @@ pub enum Msg<S> {
         admitted: Admissions,
     },
     /// The sender started, and asks for the word.
-    Hello { start: Start },
+    Hello {
+        start: Start,
+    },
     /// The word that the sender has decided.
-    Decided { word: Word },
+    Decided {
+        word: Word,
+    },
     /// To the initiator from an agent of this start: run this call on all partitions.
     MpCall {
         call: CallNo,
@@ -58,9 +79,14 @@ pub enum Msg<S> {
         body: Bytes,
     },
     /// From the initiator to the agent that asked: the call ended so.
-    MpReply { call: CallNo, end: End },
+    MpReply {
+        call: CallNo,
+        end: End,
+    },
     /// To the initiator: the sites of the sender's host have loaded their tables; admit this start.
-    Admit { start: Start },
+    Admit {
+        start: Start,
+    },
 
     // ---- from an agent to a site
     /// From an agent of this start to the leader of a partition: run this call.
@@ -70,11 +96,20 @@ pub enum Msg<S> {
         body: Bytes,
     },
     /// To an agent's own sites: the word that it has decided, or as a joiner has taken.
-    View { word: Word },
+    View {
+        word: Word,
+    },
     /// From the initiator to the leaders: a round of a multi-partition transaction.
-    Frag { m: u64, round: u16, body: Bytes },
+    Frag {
+        m: u64,
+        round: u16,
+        body: Bytes,
+    },
     /// From the initiator to the leaders: the end of a multi-partition transaction.
-    Done { m: u64, outcome: Outcome },
+    Done {
+        m: u64,
+        outcome: Outcome,
+    },
 
     // ---- from a site to an agent
     /// To the agent of this start that asked: the call ended so.
@@ -84,9 +119,15 @@ pub enum Msg<S> {
         end: End,
     },
     /// To the initiator: what a partition answered in a round.
-    FragDone { m: u64, round: u16, partial: Bytes },
+    FragDone {
+        m: u64,
+        round: u16,
+        partial: Bytes,
+    },
     /// To the initiator: the end of a transaction stands in a partition for good.
-    Finished { m: u64 },
+    Finished {
+        m: u64,
+    },
     /// To the initiator of a new term: the transaction that is open in a partition, or the last one
     /// that was done.
     MpState {
@@ -95,7 +136,9 @@ pub enum Msg<S> {
         outcome: Option<Outcome>,
     },
     /// To a joiner's own agent: the site has loaded its tables.
-    Loaded { start: Start },
+    Loaded {
+        start: Start,
+    },
 
     // ---- between the sites of a partition
     /// From a leader to a copy: the entry at this position. The copy may forget those up to the floor.
@@ -105,7 +148,9 @@ pub enum Msg<S> {
         floor: Pos,
     },
     /// From a copy or joiner to the leader: all up to this position is on disk.
-    Ack { position: Pos },
+    Ack {
+        position: Pos,
+    },
     /// From a copy to the leader of a new term: where its log ends, and its entries above the floor.
     Report {
         position: Pos,
@@ -113,15 +158,28 @@ pub enum Msg<S> {
         tail: Entries,
     },
     /// From a leader to a copy that reported: the entries that it lacks, which follow this position.
-    Repair { from: Pos, entries: Entries },
+    Repair {
+        from: Pos,
+        entries: Entries,
+    },
     /// From a joiner's site of this start and slot to the leader: let me join.
-    JoinAsk { start: Start, slot: SlotNo },
+    JoinAsk {
+        start: Start,
+        slot: SlotNo,
+    },
     /// From the leader to a joiner: the tables follow.
-    StreamStart { stream: Stream },
+    StreamStart {
+        stream: Stream,
+    },
     /// From a leader to a joiner: that many blocks were sent.
-    StreamEnd { count: u64 },
+    StreamEnd {
+        count: u64,
+    },
     /// From a leader to a joiner: the entry at this position.
-    Task { position: Pos, entry: Entry },
+    Task {
+        position: Pos,
+        entry: Entry,
+    },
 
     // ---- between a site and the scanners
     /// From a site to its scanner: read this scan out, and send its blocks to the target of this start.
@@ -132,7 +190,13 @@ pub enum Msg<S> {
         scan: S,
     },
     /// From a scanner to a site: one block.
-    Chunk { id: u64, bytes: Bytes },
+    Chunk {
+        id: u64,
+        bytes: Bytes,
+    },
     /// From a scanner to its own site: that many blocks were sent.
-    ScanEnd { id: u64, count: u64 },
+    ScanEnd {
+        id: u64,
+        count: u64,
+    },
 }

@@ -24,6 +24,9 @@ impl Model for Stream {
     ghost Value = { StreamHead };
 
     ghost view = { λ s. record {
-        nj = s.held.value.nj; mark = s.held.value.mark;
-        applied = s.held.value.applied.items; last = s.held.value.last } };
+      nj = s.held.value.nj;
+      mark = s.held.value.mark;
+      applied = s.held.value.applied.items;
+      last = s.held.value.last;
+    } };
 }

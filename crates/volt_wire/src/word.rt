@@ -54,6 +54,9 @@ impl Model for Word {
     ghost Value = { Membership };
 
     ghost view = { λ w. record {
-        base = w.held.value.base; first = w.held.value.first.items;
-        lost = w.held.value.lost; admitted = w.held.value.admitted } };
+      base = w.held.value.base;
+      first = w.held.value.first.items;
+      lost = w.held.value.lost;
+      admitted = w.held.value.admitted;
+    } };
 }

@@ -29,9 +29,9 @@ start =
 -- the first round is under way to slot 4
 abbrev pub is_round : Letter → Bool
 is_round l = elim l.body as (λ _. Bool) [
-    | msg.Frag m round body ↦ true
-    | _ ↦ false
-  ]
+  | msg.Frag m round body ↦ true
+  | _ ↦ false
+]
 
 abbrev pub is_begun : World → Bool
 is_begun w = list_any is_round (w.channel (Agent 0) (Site 4))

@@ -29,9 +29,9 @@ start =
 -- the decision is under way to slot 4
 abbrev pub is_done : Letter → Bool
 is_done l = elim l.body as (λ _. Bool) [
-    | msg.Done m outcome ↦ true
-    | _ ↦ false
-  ]
+  | msg.Done m outcome ↦ true
+  | _ ↦ false
+]
 
 abbrev pub is_decided : World → Bool
 is_decided w = list_any is_done (w.channel (Agent 0) (Site 4))
