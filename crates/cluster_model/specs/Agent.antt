@@ -214,11 +214,15 @@ agent_row E D h stamp a (Scanner x) l = becomes a
 abbrev pub row_and_word : Database → Deployment → ℕ → ℕ → AgentState → Actor → Letter → Turn AgentState
 row_and_word E D h stamp a from l = agent_row E D h stamp a from l ▸ agrees D h a.own
 
+-- an agent that has stopped drops what waited
+abbrev pub unless_stopped : Database → Deployment → ℕ → ℕ → AgentState → Actor → Letter → Turn AgentState
+unless_stopped E D h stamp a from l = if a.start == 0 then becomes a else row_and_word E D h stamp a from l
+
 -- The messages that waited for its term are taken after all else, in order of coming. None of them brings another word to
 -- decide.
 abbrev pub takes_each : Database → Deployment → ℕ → ℕ → List Waiting → AgentState → Turn AgentState
 takes_each E D h stamp [] a = becomes a
-takes_each E D h stamp (w ∷ ws) a = row_and_word E D h stamp a w.from w.letter ▸ takes_each E D h stamp ws
+takes_each E D h stamp (w ∷ ws) a = unless_stopped E D h stamp a w.from w.letter ▸ takes_each E D h stamp ws
 
 abbrev pub takes_waiting : Database → Deployment → ℕ → ℕ → AgentState → Turn AgentState
 takes_waiting E D h stamp a =

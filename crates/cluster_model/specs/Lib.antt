@@ -19,3 +19,4 @@ pub mod Events
 pub mod Runs
 pub mod Toy
 pub mod Rows
+pub mod Laws

@@ -114,12 +114,13 @@ abbrev pub with_scanner : World → ℕ → Turn ScannerState → World
 with_scanner w i t = record w { scanners = set_at w.scanners i t.state; channel = sent w.channel (Scanner i) t.sends }
 
 -- an actor that stops of itself is noted
+abbrev pub stops_with : ℕ → List Stopped → Actor → Outside → List Stopped
+stops_with stamp stops a (DiskFails answered) = stops ++ record { at = stamp; actor = a; for_disk = true } ∷ []
+stops_with stamp stops a (NoMemory answered) = stops ++ record { at = stamp; actor = a; for_disk = false } ∷ []
+stops_with stamp stops a o = stops
+
 abbrev pub stop_noted : World → Actor → Outside → World
-stop_noted w a (DiskFails answered) =
-    record w { stops = w.stops ++ record { at = stamp_of w; actor = a; for_disk = true } ∷ [] }
-stop_noted w a (NoMemory answered) =
-    record w { stops = w.stops ++ record { at = stamp_of w; actor = a; for_disk = false } ∷ [] }
-stop_noted w a o = w
+stop_noted w a o = record w { stops = stops_with (stamp_of w) w.stops a o }
 
 -- ---- members of a new word
 

@@ -5,4 +5,5 @@
 //! definitions; it has no bodies.
 #![tactic(auto)]
 
+pub mod laws;
 pub mod rows;

@@ -1,0 +1,55 @@
+//! Laws that show how the definitions hang together: they hold of every world and every event, over
+//! any database. Each is a function without a body; the clause is the law.
+
+ghost use Rattle.std.specs.Prelude.{◌≡◌, ℕ, ◌+◌, true, false, List, ◌∷◌, [], ◌++◌};
+ghost use Rattle.volt_wire.specs.declared.actor.Actor.{Actor};
+ghost use Rattle.volt_wire.specs.declared.event.Event.{Event};
+ghost use Rattle.volt_wire.specs.declared.event.Event.TheVariants as event;
+ghost use Rattle.cluster_model.specs.Engine.{Database};
+ghost use Rattle.cluster_model.specs.World.{World, stamp_of};
+ghost use Rattle.cluster_model.specs.Outside.{Outside};
+ghost use Rattle.cluster_model.specs.Events.{can, step};
+ghost use Rattle.cluster_model.specs.Runs.{Happening, run};
+ghost use Rattle.cluster_model.specs.Laws.{ChangesOne, RiseFrom, is_one_actors, actor_of, drawn_in};
+
+/// A database that stands for any.
+pub trait AnyDatabase {
+    /// What the cluster knows of it.
+    ghost database: { Database };
+}
+
+/// An event that may happen, but for a recovery, changes one actor, takes at most the first message of one channel, and
+/// appends to channels from that actor alone.
+pub fn an_event_changes_one_actor<B: AnyDatabase>()
+    ensures { (w : World) (e : Event) (o : Outside) → is_one_actors e ≡ true → can w e ≡ true
+        → ChangesOne w (step B.database w (e, o)) e (actor_of e) }
+{}
+
+/// Whether a message may be taken depends on its channel alone.
+pub fn a_message_may_be_taken_by_its_channel()
+    ensures { (w v : World) (to from : Actor) → w.channel from to ≡ v.channel from to
+        → can w (event.Deliver to from) ≡ can v (event.Deliver to from) }
+{}
+
+/// Whether a site may sync, a scanner scan or a client submit depends on its own state alone.
+pub fn own_events_may_happen_by_own_state()
+    ensures sync { (w v : World) (i : ℕ) → w.deployment ≡ v.deployment → w.sites i ≡ v.sites i
+        → can w (event.Sync i) ≡ can v (event.Sync i) }
+    ensures scan { (w v : World) (i : ℕ) → w.deployment ≡ v.deployment → w.scanners i ≡ v.scanners i
+        → can w (event.Scan i) ≡ can v (event.Scan i) }
+    ensures submit { (w v : World) (n : ℕ) → w.deployment ≡ v.deployment → w.clients n ≡ v.clients n
+        → can w (event.Submit n) ≡ can v (event.Submit n) }
+{}
+
+/// The trace grows by each event, and so the stamps rise by one.
+pub fn stamps_rise_by_one<B: AnyDatabase>()
+    ensures trace { (w : World) (e : Happening) → (step B.database w e).trace ≡ w.trace ++ e.0 ∷ [] }
+    ensures stamp { (w : World) (e : Happening) → stamp_of (step B.database w e) ≡ stamp_of w + 1 }
+{}
+
+/// The starts that are drawn in a run rise from the next one of its first world on. So no start is
+/// drawn twice, and none is that of a host at the beginning.
+pub fn starts_are_drawn_once<B: AnyDatabase>()
+    ensures { (w : World) (es : List Happening)
+        → RiseFrom w.director.next_start (drawn_in B.database es w) }
+{}
