@@ -15,8 +15,12 @@ python3 "$bench/make_sql.py" "${1:-64}" > "$room/sql"
 rustc -O --edition 2024 -o "$room/plain" "$bench/plain.rs"
 (cd "$room/crates/lex_bench" && rt run < "$room/sql" > "$room/said" 2>&1) || { cat "$room/said" >&2; exit 1; }
 
-proved=$("$room/crates/lex_bench/out/lex_bench" < "$room/sql")
-plain=$("$room/plain" < "$room/sql")
+# least PROGRAM: what it counts, and the least time of three starts.
+least() {
+    for _ in 1 2 3; do "$1" < "$room/sql"; done | sort -t , -k 3 -n | head -n 1
+}
+proved=$(least "$room/crates/lex_bench/out/lex_bench")
+plain=$(least "$room/plain")
 [ "${proved%,*}" = "${plain%,*}" ] || { echo "other tokens: $proved; $plain" >&2; exit 1; }
 echo "| lex | plain loop |"
 echo "|---|---|"
