@@ -47,8 +47,24 @@ outline w =
     }
 
 -- the same where the row doesn't say at which stamps
-abbrev pub stampless : Outline → List (ℕ × End) × List ℕ × List Seen × List Seen × List Event × Bool
-stampless o = (map (λ e. (e.call, e.end)) o.ends, map (λ a. a.call) o.serial, o.copies, o.looks, o.enabled, o.serves)
+pub record Stampless : Type 0 where
+  pub ends : List (ℕ × End)
+  pub serial : List ℕ
+  pub copies : List Seen
+  pub looks : List Seen
+  pub enabled : List Event
+  pub serves : Bool
+
+abbrev pub stampless : Outline → Stampless
+stampless o =
+    record {
+      ends = map (λ e. (e.call, e.end)) o.ends;
+      serial = map (λ a. a.call) o.serial;
+      copies = o.copies;
+      looks = o.looks;
+      enabled = o.enabled;
+      serves = o.serves;
+    }
 
 -- a deployment of these hosts, sites for each host, spare copies and clients
 abbrev pub deployed : ℕ → ℕ → ℕ → ℕ → Deployment
@@ -81,11 +97,3 @@ point at call = record { call = call; point = at }
 
 abbrev pub shows : ℕ → ℕ → List ℕ → Seen
 shows slot position rows = record { slot = slot; position = position; rows = rows }
-
--- the first world, of so many more events that `first` chooses, of which this holds
-abbrev pub until : (World → Bool) → ℕ → World → World
-until test zero w = w
-until test (suc n) w = elim (test w) as (λ _. World) [
-  | true ↦ w
-  | false ↦ until test n (first_step toy w (first_enabled w))
-]

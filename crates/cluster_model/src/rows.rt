@@ -59,7 +59,7 @@ pub fn initiator_lost_behind_done()
 
 /// The same, where the initiator is lost before it decides. The call is applied in none.
 pub fn initiator_lost_before_decision()
-    ensures given { IsRun toy before_decision.given_run before_decision.begun }
+    ensures run { IsRun toy before_decision.events before_decision.start }
     ensures shown { stampless (outline before_decision.last) ≡ before_decision.shown }
 {}
 

@@ -17,7 +17,7 @@ use Rattle.cluster_model.specs.Events.{step}
 use Rattle.cluster_model.specs.Outside.{DiskFails, DisksShow}
 use Rattle.cluster_model.specs.Runs.{by_first, run, fair, Happening}
 use Rattle.cluster_model.specs.Toy.{toy, put, get, add, take_away, move, total, gives, is_refused}
-use Rattle.cluster_model.specs.Rows.{Outline, outline, deployed, begins, calls_on, calls_all, ends_so, point, shows, at_once, after_calls, until}
+use Rattle.cluster_model.specs.Rows.{Outline, outline, deployed, begins, calls_on, calls_all, ends_so, point, shows, at_once, after_calls}
 
 abbrev pub start : World
 start = begins (deployed 1 1 0 1) (calls_on 1 0 (put 1 10) ∷ calls_on 1 0 (take_away 1 11) ∷ []) []

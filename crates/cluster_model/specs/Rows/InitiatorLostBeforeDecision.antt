@@ -1,23 +1,15 @@
 -- A call on all partitions whose initiator is lost before it decides.
-use Rattle.std.specs.Prelude.{ℕ, zero, suc, Bool, true, false, List, [], ◌∷◌, ◌++◌, map, Option, Some, None}
-use Rattle.std.specs.List.{list_any}
-use Rattle.volt_base.specs.declared.entry.Entry.TheVariants.{Sp}
+use Rattle.std.specs.Prelude.{ℕ, true, List, [], ◌∷◌, ◌++◌}
 use Rattle.volt_wire.specs.declared.actor.Actor.TheVariants.{Director, Client, Agent, Site, Scanner}
-use Rattle.volt_wire.specs.declared.end.End.{End}
 use Rattle.volt_wire.specs.declared.end.End.TheVariants as end
 use Rattle.volt_wire.specs.declared.event.Event.{Event}
-use Rattle.volt_wire.specs.declared.event.Event.TheVariants.{Deliver, Sync, Submit, Scan, Recover, Item}
+use Rattle.volt_wire.specs.declared.event.Event.TheVariants.{Deliver, Sync, Submit, Item}
 use Rattle.volt_wire.specs.declared.item.Item.TheVariants as item
-use Rattle.volt_wire.specs.declared.message.Msg.TheVariants as msg
-use Rattle.cluster_model.specs.Letters.{Letter}
-use Rattle.cluster_model.specs.Disk.{Shown}
 use Rattle.cluster_model.specs.Director.{Seen}
 use Rattle.cluster_model.specs.World.{World}
-use Rattle.cluster_model.specs.Events.{step}
-use Rattle.cluster_model.specs.Outside.{DiskFails, DisksShow}
-use Rattle.cluster_model.specs.Runs.{by_first, run, fair, Happening}
-use Rattle.cluster_model.specs.Toy.{toy, put, get, add, take_away, move, total, gives, is_refused}
-use Rattle.cluster_model.specs.Rows.{Outline, outline, deployed, begins, calls_on, calls_all, ends_so, point, shows, at_once, after_calls, until}
+use Rattle.cluster_model.specs.Runs.{run, fair, Happening}
+use Rattle.cluster_model.specs.Toy.{toy, put, move, gives}
+use Rattle.cluster_model.specs.Rows.{Stampless, deployed, begins, calls_on, calls_all, shows, after_calls}
 
 -- Three hosts, three partitions with two copies each. Account 1 lies in partition 1, account 2 in partition 2.
 abbrev pub start : World
@@ -26,31 +18,49 @@ start =
     (calls_on 2 1 (put 1 10) ∷ calls_on 2 2 (put 2 5) ∷ calls_all 2 (move 1 2 4) ∷ [])
     (after_calls 3 (item.Lose 0) ∷ [])
 
--- the first round is under way to slot 4
-abbrev pub is_round : Letter → Bool
-is_round l = elim l.body as (λ _. Bool) [
-  | msg.Frag m round body ↦ true
-  | _ ↦ false
-]
+-- both accounts are put
+abbrev pub puts : List Event
+puts =
+    Submit 2 ∷ Deliver Director (Client 2) ∷ Deliver (Agent 1) (Client 2) ∷ Deliver (Site 3) (Agent 1)
+    ∷ Deliver (Site 2) (Site 3) ∷ Sync 2 ∷ Deliver (Site 3) (Site 2) ∷ Sync 3 ∷ Deliver (Agent 1) (Site 3)
+    ∷ Deliver (Client 2) (Agent 1) ∷ Submit 2 ∷ Deliver Director (Client 2) ∷ Deliver (Agent 1) (Client 2)
+    ∷ Deliver (Site 4) (Agent 1) ∷ Deliver (Site 5) (Site 4) ∷ Sync 4 ∷ Sync 5 ∷ Deliver (Site 4) (Site 5)
+    ∷ Deliver (Agent 1) (Site 4) ∷ Deliver (Client 2) (Agent 1) ∷ []
 
-abbrev pub is_begun : World → Bool
-is_begun w = list_any is_round (w.channel (Agent 0) (Site 4))
+-- the call begins; its first round is under way, and reaches slot 4
+abbrev pub begun : List Event
+begun =
+    Submit 2 ∷ Deliver Director (Client 2) ∷ Deliver (Agent 1) (Client 2) ∷ Deliver (Agent 0) (Agent 1)
+    ∷ Deliver (Site 4) (Agent 0) ∷ []
 
-abbrev pub begun : World
-begun = until is_begun 100 start
+-- the initiator is lost, and the others go on without it
+abbrev pub lost : List Event
+lost =
+    Item ∷ Deliver (Agent 0) Director ∷ Deliver (Client 1) (Agent 0) ∷ Deliver (Client 2) (Agent 0)
+    ∷ Deliver (Agent 1) (Agent 0) ∷ Deliver (Agent 2) (Agent 0) ∷ Deliver (Agent 1) (Agent 2)
+    ∷ Deliver (Client 2) (Agent 1) ∷ Deliver (Agent 0) (Agent 1) ∷ Deliver (Agent 2) (Agent 1)
+    ∷ Deliver (Agent 0) (Agent 2) ∷ Deliver (Site 0) Director ∷ Deliver (Site 0) (Agent 0)
+    ∷ Deliver (Site 1) (Agent 1) ∷ Deliver (Site 2) (Agent 2) ∷ Deliver (Site 3) Director
+    ∷ Deliver (Site 3) (Agent 0) ∷ Deliver (Site 4) (Agent 1) ∷ Deliver (Site 5) (Agent 2)
+    ∷ Deliver (Site 4) (Site 5) ∷ Deliver (Site 5) (Site 4) ∷ Deliver (Site 5) (Site 4)
+    ∷ Deliver (Scanner 0) Director ∷ Deliver (Scanner 3) Director ∷ Sync 1 ∷ Deliver (Agent 1) (Site 1)
+    ∷ Sync 2 ∷ Deliver (Agent 1) (Site 2) ∷ Sync 4 ∷ Sync 5 ∷ Deliver (Site 4) (Site 5)
+    ∷ Deliver (Agent 1) (Site 4) ∷ Deliver (Site 4) (Agent 1) ∷ Deliver (Site 5) (Site 4) ∷ Sync 4 ∷ Sync 5
+    ∷ Deliver (Site 4) (Site 5) ∷ Deliver (Agent 1) (Site 4) ∷ []
 
--- it reaches slot 4; then host 0 is lost
-abbrev pub given_run : List Happening
-given_run = fair (Deliver (Site 4) (Agent 0) ∷ Item ∷ Deliver (Agent 0) Director ∷ [])
+abbrev pub events : List Happening
+events = fair (puts ++ begun ++ lost)
 
 abbrev pub last : World
-last = by_first toy 100 (run toy given_run begun)
+last = run toy events start
 
-abbrev pub ends : List (ℕ × End)
-ends = (1, end.Ok (gives 1)) ∷ (2, end.Ok (gives 1)) ∷ (3, end.Unknown 1 2) ∷ []
-
-abbrev pub copies : List Seen
-copies = shows 1 0 [] ∷ shows 2 1 (1 ∷ 10 ∷ []) ∷ shows 4 1 (2 ∷ 5 ∷ []) ∷ shows 5 1 (2 ∷ 5 ∷ []) ∷ []
-
-abbrev pub shown : List (ℕ × End) × List ℕ × List Seen × List Seen × List Event × Bool
-shown = (ends, 1 ∷ 2 ∷ [], copies, [], [], true)
+abbrev pub shown : Stampless
+shown =
+    record {
+      ends = (1, end.Ok (gives 1)) ∷ (2, end.Ok (gives 1)) ∷ (3, end.Unknown 1 2) ∷ [];
+      serial = 1 ∷ 2 ∷ [];
+      copies = shows 1 0 [] ∷ shows 2 1 (1 ∷ 10 ∷ []) ∷ shows 4 1 (2 ∷ 5 ∷ []) ∷ shows 5 1 (2 ∷ 5 ∷ []) ∷ [];
+      looks = [];
+      enabled = [];
+      serves = true;
+    }

@@ -17,7 +17,7 @@ use Rattle.cluster_model.specs.Events.{step}
 use Rattle.cluster_model.specs.Outside.{DiskFails, DisksShow}
 use Rattle.cluster_model.specs.Runs.{by_first, run, fair, Happening}
 use Rattle.cluster_model.specs.Toy.{toy, put, get, add, take_away, move, total, gives, is_refused}
-use Rattle.cluster_model.specs.Rows.{Outline, outline, deployed, begins, calls_on, calls_all, ends_so, point, shows, at_once, after_calls, until}
+use Rattle.cluster_model.specs.Rows.{Outline, outline, deployed, begins, calls_on, calls_all, ends_so, point, shows, at_once, after_calls}
 
 -- Three hosts, three partitions with two copies each. Account 1 lies in partition 1, account 2 in partition 2.
 abbrev pub start : World

@@ -17,7 +17,7 @@ use Rattle.cluster_model.specs.Events.{step}
 use Rattle.cluster_model.specs.Outside.{DiskFails, DisksShow}
 use Rattle.cluster_model.specs.Runs.{by_first, run, fair, Happening}
 use Rattle.cluster_model.specs.Toy.{toy, put, get, add, take_away, move, total, gives, is_refused}
-use Rattle.cluster_model.specs.Rows.{Outline, outline, deployed, begins, calls_on, calls_all, ends_so, point, shows, at_once, after_calls, until}
+use Rattle.cluster_model.specs.Rows.{Stampless, deployed, begins, calls_on, calls_all, ends_so, point, shows, at_once, after_calls}
 
 abbrev pub start : World
 start =
@@ -27,17 +27,16 @@ start =
 abbrev pub last : World
 last = by_first toy 90 start
 
-abbrev pub ends : List (ℕ × End)
-ends = (1, end.Ok (gives 1)) ∷ (2, end.Ok (gives 1)) ∷ []
-
 abbrev pub rows : List ℕ
 rows = 1 ∷ 10 ∷ 2 ∷ 20 ∷ []
 
-abbrev pub copies : List Seen
-copies = shows 0 2 rows ∷ shows 1 2 rows ∷ []
-
-abbrev pub looks : List Seen
-looks = shows 0 2 rows ∷ []
-
-abbrev pub shown : List (ℕ × End) × List ℕ × List Seen × List Seen × List Event × Bool
-shown = (ends, 1 ∷ 2 ∷ [], copies, looks, [], true)
+abbrev pub shown : Stampless
+shown =
+    record {
+      ends = (1, end.Ok (gives 1)) ∷ (2, end.Ok (gives 1)) ∷ [];
+      serial = 1 ∷ 2 ∷ [];
+      copies = shows 0 2 rows ∷ shows 1 2 rows ∷ [];
+      looks = shows 0 2 rows ∷ [];
+      enabled = [];
+      serves = true;
+    }

@@ -17,7 +17,7 @@ use Rattle.cluster_model.specs.Events.{step}
 use Rattle.cluster_model.specs.Outside.{DiskFails, DisksShow}
 use Rattle.cluster_model.specs.Runs.{by_first, run, fair, Happening}
 use Rattle.cluster_model.specs.Toy.{toy, put, get, add, take_away, move, total, gives, is_refused}
-use Rattle.cluster_model.specs.Rows.{Outline, outline, deployed, begins, calls_on, calls_all, ends_so, point, shows, at_once, after_calls, until}
+use Rattle.cluster_model.specs.Rows.{Stampless, deployed, begins, calls_on, calls_all, ends_so, point, shows, at_once, after_calls}
 
 -- account 1 lies in partition 1, account 3 in partition 0
 abbrev pub start : World
@@ -28,11 +28,13 @@ start =
 abbrev pub last : World
 last = by_first toy 150 start
 
-abbrev pub ends : List (ℕ × End)
-ends = (1, end.Ok (gives 1)) ∷ (2, end.Down 2) ∷ []
-
-abbrev pub copies : List Seen
-copies = shows 0 0 [] ∷ shows 1 1 (1 ∷ 10 ∷ []) ∷ shows 2 0 [] ∷ []
-
-abbrev pub shown : List (ℕ × End) × List ℕ × List Seen × List Seen × List Event × Bool
-shown = (ends, 1 ∷ [], copies, [], [], true)
+abbrev pub shown : Stampless
+shown =
+    record {
+      ends = (1, end.Ok (gives 1)) ∷ (2, end.Down 2) ∷ [];
+      serial = 1 ∷ [];
+      copies = shows 0 0 [] ∷ shows 1 1 (1 ∷ 10 ∷ []) ∷ shows 2 0 [] ∷ [];
+      looks = [];
+      enabled = [];
+      serves = true;
+    }
