@@ -1,8 +1,7 @@
 -- Starts are drawn once.
-use Rattle.std.proofs.Common.{◌≡◌, ◌+◌, ◌-◌, ◌≤◌, Bool, true, false, List, [], ◌∷◌, ◌++◌, refl, subst, arith, zero, suc}
-use Rattle.std.specs.Prelude.{ℕ, Option, Some, None}
-use Rattle.std.specs.List.{range_with_len}
-use Rattle.std.proofs.lemmas.Bool.{cases_Bool}
+use Rattle.std.proofs.Common.{◌≡◌, ◌+◌, ◌-◌, ◌≤◌, Bool, true, false, List, [], ◌∷◌, ◌++◌, refl, subst, arith, ◌==◌, zero, suc}
+use Rattle.std.proofs.lemmas.Bool.Decides.{nat_tests}
+use Rattle.std.specs.Prelude.{ℕ, Option, Some, None, map}
 use Rattle.volt_wire.specs.declared.actor.Actor.{Actor}
 use Rattle.volt_wire.specs.declared.actor.Actor.TheVariants.{Director, Client, Agent, Site, Scanner}
 use Rattle.volt_wire.specs.declared.event.Event.{Event}
@@ -16,28 +15,13 @@ use Rattle.cluster_model.specs.Letters.{Letter}
 use Rattle.cluster_model.specs.Words.{Deployment}
 use Rattle.cluster_model.specs.Director.{DirectorState, does, does_next, director_takes}
 use Rattle.cluster_model.specs.Outside.{Outside, Fair, DiskFails, NoMemory, DisksShow}
-use Rattle.cluster_model.specs.World.{World}
+use Rattle.cluster_model.specs.World.{World, hosts_from}
 use Rattle.cluster_model.specs.Recover.{recovers}
-use Rattle.cluster_model.specs.Events.{delivered, received, recovered_with, happens, step}
+use Rattle.cluster_model.specs.Events.{delivered, received, recovered_with, may_do, step}
 use Rattle.cluster_model.specs.Runs.{Happening}
-use Rattle.cluster_model.specs.Laws.{RiseFrom, drawn_by, drawn_in}
+use Rattle.cluster_model.specs.Laws.{RiseFrom, drawn_for, drawn_by_item, drawn_by_recovery, drawn_by, drawn_in}
 
--- ---- the next start never falls
-
-does-next : (D : Deployment) (d : DirectorState) (i : Item) → d.next_start ≤ (does D d i).state.next_start
-does-next D d (item.Lose host) = omega arith
-does-next D d (item.Rejoin host) = omega arith
-does-next D d item.Snapshot = omega arith
-does-next D d (item.Power slot call choice) = omega arith
-does-next D d (item.Look slot) = omega arith
-does-next D d item.Halt = omega arith
-does-next D d item.Recover = omega arith
-does-next D d item.Quiet = omega arith
-
-does_next-next : (D : Deployment) (may : Bool) (d : DirectorState) (items : List TimedItem) → d.next_start ≤ (does_next D may d items).state.next_start
-does_next-next D true d (next ∷ left) = does-next D (record d { items = left }) next.item
-does_next-next D true d [] = omega arith
-does_next-next D false d items = omega arith
+-- ---- a message draws none
 
 takes-next : (d : DirectorState) (from : Actor) (l : Letter) → d.next_start ≡ (director_takes d from l).next_start
 takes-next d Director l = refl
@@ -63,36 +47,66 @@ delivered-next : (E : Database) (w : World) (to from : Actor) (ls : List Letter)
 delivered-next E w to from [] o = omega arith
 delivered-next E w to from (l ∷ ls) o = received-next E _ to from l o
 
-recovers-next : (E : Database) (w : World) (shown : List ℕ) (failed : Option (ℕ × Bool)) → w.director.next_start ≤ (recovers E w shown failed).director.next_start
-recovers-next E w shown None = omega arith
-recovers-next E w shown (Some failed) = omega arith
-
-recovered-next : (E : Database) (w : World) (o : Outside) → w.director.next_start ≤ (recovered_with E w o).director.next_start
-recovered-next E w Fair = omega arith
-recovered-next E w (DiskFails answered) = omega arith
-recovered-next E w (NoMemory answered) = omega arith
-recovered-next E w (DisksShow shown failed) = recovers-next E w shown failed
-
-step-next : (E : Database) (w : World) (e : Event) (o : Outside) → w.director.next_start ≤ (step E w (e, o)).director.next_start
-step-next E w (event.Deliver to from) o = delivered-next E w to from (w.channel from to) o
-step-next E w (event.Sync i) o = omega arith
-step-next E w (event.Scan i) o = omega arith
-step-next E w event.Recover o = recovered-next E w o
-step-next E w event.Item o = does_next-next w.deployment _ w.director w.director.items
-step-next E w (event.Submit n) o = omega arith
-step-next E w (event.Idle a) o = omega arith
-
 -- ---- so what is drawn rises
 
-Rise-append : (low n : ℕ) (xs : List ℕ) → RiseFrom (low + n) xs → RiseFrom low (range_with_len low n ++ xs)
-Rise-append low zero xs h = let e : low + 0 ≡ low = omega arith in subst (λ k. RiseFrom k xs) e h
-Rise-append low (suc n) xs h = let e : low + suc n ≡ low + 1 + n = omega arith in (omega arith, Rise-append (low + 1) n xs (subst (λ k. RiseFrom k xs) e h))
+-- numbers that rise from one on and stay below another, and numbers that rise from there on
+abbrev Between : ℕ → ℕ → List ℕ → Type 0
+Between low high [] = low ≤ high
+Between low high (x ∷ xs) = (low ≤ x) × Between (x + 1) high xs
+
+Rise-append : (low high : ℕ) (xs ys : List ℕ) → Between low high xs → RiseFrom high ys → RiseFrom low (xs ++ ys)
+Rise-append low high [] ys b h = Rise-lower low high ys b h
+  where
+    Rise-lower : (low high : ℕ) (ys : List ℕ) → low ≤ high → RiseFrom high ys → RiseFrom low ys
+    Rise-lower low high [] b h = tt
+    Rise-lower low high (y ∷ ys) b h = (omega (arith, b, h.0), h.1)
+Rise-append low high (x ∷ xs) ys b h = (b.0, Rise-append (x + 1) high xs ys b.1 h)
+
+-- an item of the script
+drawn-for : (D : Deployment) (d : DirectorState) (i : Item) → Between d.next_start (does D d i).state.next_start (drawn_for (does D d i).sends i)
+drawn-for D d (item.Lose host) = omega arith
+drawn-for D d (item.Rejoin host) = let e : (host == host) ≡ true = grind (arith, nat_tests) in rw e (omega arith, omega arith)
+drawn-for D d item.Snapshot = omega arith
+drawn-for D d (item.Power slot call choice) = omega arith
+drawn-for D d (item.Look slot) = omega arith
+drawn-for D d item.Halt = omega arith
+drawn-for D d item.Recover = omega arith
+drawn-for D d item.Quiet = omega arith
+
+drawn-item : (w : World) (may : Bool) (items : List TimedItem) → Between w.director.next_start (does_next w.deployment may w.director items).state.next_start (drawn_by_item w may items)
+drawn-item w true (next ∷ left) = drawn-for w.deployment (record w.director { items = left }) next.item
+drawn-item w true [] = omega arith
+drawn-item w false items = omega arith
+
+-- a recovery
+drawn-hosts : (n host start : ℕ) → Between start (start + n) (map (λ m. m.1) (hosts_from n host start))
+drawn-hosts zero host start = omega arith
+drawn-hosts (suc n) host start =
+  let e : start + 1 + n ≡ start + suc n = omega arith in
+  (omega arith, subst (λ k. Between (start + 1) k (map (λ m. m.1) (hosts_from n (host + 1) (start + 1)))) e (drawn-hosts n (host + 1) (start + 1)))
+
+drawn-recovers : (E : Database) (w : World) (shown : List ℕ) (failed : Option (ℕ × Bool)) → Between w.director.next_start (recovers E w shown failed).director.next_start (drawn_by_recovery w (DisksShow shown failed))
+drawn-recovers E w shown None = drawn-hosts w.deployment.layout.hosts 0 w.director.next_start
+drawn-recovers E w shown (Some failed) = omega arith
+
+drawn-recovery : (E : Database) (w : World) (o : Outside) → Between w.director.next_start (recovered_with E w o).director.next_start (drawn_by_recovery w o)
+drawn-recovery E w Fair = omega arith
+drawn-recovery E w (DiskFails answered) = omega arith
+drawn-recovery E w (NoMemory answered) = omega arith
+drawn-recovery E w (DisksShow shown failed) = drawn-recovers E w shown failed
+
+drawn-step : (E : Database) (w : World) (e : Event) (o : Outside) → Between w.director.next_start (step E w (e, o)).director.next_start (drawn_by w e o)
+drawn-step E w (event.Deliver to from) o = delivered-next E w to from (w.channel from to) o
+drawn-step E w (event.Sync i) o = omega arith
+drawn-step E w (event.Scan i) o = omega arith
+drawn-step E w event.Recover o = drawn-recovery E w o
+drawn-step E w event.Item o = drawn-item w (may_do w w.director.items) w.director.items
+drawn-step E w (event.Submit n) o = omega arith
+drawn-step E w (event.Idle a) o = omega arith
 
 pub starts-rise : (E : Database) (es : List Happening) (w : World) → RiseFrom w.director.next_start (drawn_in E es w)
 starts-rise E [] w = tt
 starts-rise E (e ∷ es) w =
   let v = step E w e in
-  let up = step-next E w e.0 e.1 in
-  let b : v.director.next_start ≡ w.director.next_start + (v.director.next_start - w.director.next_start) = omega (arith, up) in
-  Rise-append w.director.next_start (v.director.next_start - w.director.next_start) (drawn_in E es v)
-  (subst (λ k. RiseFrom k (drawn_in E es v)) b (starts-rise E es v))
+  Rise-append w.director.next_start v.director.next_start (drawn_by w e.0 e.1) (drawn_in E es v)
+  (drawn-step E w e.0 e.1) (starts-rise E es v)

@@ -1,15 +1,20 @@
 -- What the laws of the definitions speak of.
-use Rattle.std.specs.Prelude.{ℕ, ◌≡◌, ◌+◌, ◌-◌, ◌≤◌, ◌<◌, Bool, true, false, List, [], ◌∷◌, ◌++◌}
-use Rattle.std.specs.List.{range_with_len}
+use Rattle.std.specs.Prelude.{ℕ, ◌≡◌, ◌+◌, ◌-◌, ◌≤◌, ◌<◌, Bool, true, false, List, [], ◌∷◌, ◌++◌, map, flat_map, Option, Some, None}
 use Rattle.volt_wire.specs.declared.actor.Actor.{Actor}
 use Rattle.volt_wire.specs.declared.actor.Actor.TheVariants.{Director, Client, Agent, Site, Scanner}
 use Rattle.volt_wire.specs.declared.event.Event.{Event}
 use Rattle.volt_wire.specs.declared.event.Event.TheVariants as event
 use Rattle.volt_wire.specs.declared.item.TimedItem.{TimedItem}
 use Rattle.cluster_model.specs.Engine.{Database}
-use Rattle.cluster_model.specs.Letters.{same, Letter}
-use Rattle.cluster_model.specs.World.{World, took}
-use Rattle.cluster_model.specs.Events.{step}
+use Rattle.volt_wire.specs.declared.item.Item.{Item}
+use Rattle.volt_wire.specs.declared.item.Item.TheVariants as item
+use Rattle.volt_wire.specs.declared.message.Msg.TheVariants as msg
+use Rattle.cluster_model.specs.Letters.{same, Letter, Sends}
+use Rattle.cluster_model.specs.Director.{does_next}
+use Rattle.cluster_model.specs.Outside.{Outside, DisksShow}
+use Rattle.cluster_model.specs.Recover.{new_base}
+use Rattle.cluster_model.specs.World.{World, took, new_word}
+use Rattle.cluster_model.specs.Events.{may_do, step}
 use Rattle.cluster_model.specs.Runs.{Happening}
 
 -- ---- an event changes one actor
@@ -47,14 +52,40 @@ pub record ChangesOne (w v : World) (e : Event) (a : Actor) : Type 0 where
 
 -- ---- starts
 
--- the starts that an event draws: those from the next one on that it leaves behind
-abbrev pub drawn_by : World → World → List ℕ
-drawn_by w v = range_with_len w.director.next_start (v.director.next_start - w.director.next_start)
+-- the starts that stand in messages
+abbrev pub start_in_letter : Letter → List ℕ
+start_in_letter l = elim l.body as (λ _. List ℕ) [
+  | msg.Start start ↦ start ∷ []
+  | _ ↦ []
+]
 
--- the starts that are drawn in a run, in order
+abbrev pub starts_in : List Letter → List ℕ
+starts_in ls = flat_map start_in_letter ls
+
+-- the start that an item gives to its host
+abbrev pub drawn_for : Sends → Item → List ℕ
+drawn_for sends (item.Rejoin host) = starts_in (sends (Agent host))
+drawn_for sends i = []
+
+abbrev pub drawn_by_item : World → Bool → List TimedItem → List ℕ
+drawn_by_item w true (next ∷ left) = drawn_for (does_next w.deployment true w.director (next ∷ left)).sends next.item
+drawn_by_item w _ items = []
+
+-- the starts with which all hosts begin in a recovery that works
+abbrev pub drawn_by_recovery : World → Outside → List ℕ
+drawn_by_recovery w (DisksShow shown None) = map (λ m. m.1) (new_word w.deployment (new_base w shown) w.director.next_start).first
+drawn_by_recovery w o = []
+
+-- the starts that an event gives to hosts
+abbrev pub drawn_by : World → Event → Outside → List ℕ
+drawn_by w event.Item o = drawn_by_item w (may_do w w.director.items) w.director.items
+drawn_by w event.Recover o = drawn_by_recovery w o
+drawn_by w e o = []
+
+-- the starts that hosts get in a run, in order
 abbrev pub drawn_in : Database → List Happening → World → List ℕ
 drawn_in E [] w = []
-drawn_in E (e ∷ es) w = drawn_by w (step E w e) ++ drawn_in E es (step E w e)
+drawn_in E (e ∷ es) w = drawn_by w e.0 e.1 ++ drawn_in E es (step E w e)
 
 -- numbers rise from this one on, none of them twice
 abbrev pub RiseFrom : ℕ → List ℕ → Type 0

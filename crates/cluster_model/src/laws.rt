@@ -47,8 +47,8 @@ pub fn stamps_rise_by_one<B: AnyDatabase>()
     ensures stamp { (w : World) (e : Happening) → stamp_of (step B.database w e) ≡ stamp_of w + 1 }
 {}
 
-/// The starts that are drawn in a run rise from the next one of its first world on. So no start is
-/// drawn twice, and none is that of a host at the beginning.
+/// The starts that hosts get in a run, by an item or in a recovery, rise from the next one of its
+/// first world on. So no start is used twice.
 pub fn starts_are_drawn_once<B: AnyDatabase>()
     ensures { (w : World) (es : List Happening)
         → RiseFrom w.director.next_start (drawn_in B.database es w) }

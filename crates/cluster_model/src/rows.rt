@@ -53,7 +53,7 @@ pub fn leader_lost_before_put()
 /// A call on three partitions whose initiator is lost when its decision has reached one leader. The
 /// next initiator hears of it, and the call is applied in all partitions.
 pub fn initiator_lost_behind_done()
-    ensures given { IsRun toy behind_done.given_run behind_done.decided }
+    ensures run { IsRun toy behind_done.events behind_done.start }
     ensures shown { stampless (outline behind_done.last) ≡ behind_done.shown }
 {}
 
