@@ -82,8 +82,8 @@ drawn-item w false items = omega arith
 drawn-hosts : (n host start : ℕ) → Between start (start + n) (map (λ m. m.1) (hosts_from n host start))
 drawn-hosts zero host start = omega arith
 drawn-hosts (suc n) host start =
-  let e : start + 1 + n ≡ start + suc n = omega arith in
-  (omega arith, subst (λ k. Between (start + 1) k (map (λ m. m.1) (hosts_from n (host + 1) (start + 1)))) e (drawn-hosts n (host + 1) (start + 1)))
+    let e : start + 1 + n ≡ start + suc n = omega arith in
+    (omega arith, subst (λ k. Between (start + 1) k (map (λ m. m.1) (hosts_from n (host + 1) (start + 1)))) e (drawn-hosts n (host + 1) (start + 1)))
 
 drawn-recovers : (E : Database) (w : World) (shown : List ℕ) (failed : Option (ℕ × Bool)) → Between w.director.next_start (recovers E w shown failed).director.next_start (drawn_by_recovery w (DisksShow shown failed))
 drawn-recovers E w shown None = drawn-hosts w.deployment.layout.hosts 0 w.director.next_start
@@ -107,6 +107,6 @@ drawn-step E w (event.Idle a) o = omega arith
 pub starts-rise : (E : Database) (es : List Happening) (w : World) → RiseFrom w.director.next_start (drawn_in E es w)
 starts-rise E [] w = tt
 starts-rise E (e ∷ es) w =
-  let v = step E w e in
-  Rise-append w.director.next_start v.director.next_start (drawn_by w e.0 e.1) (drawn_in E es v)
-  (drawn-step E w e.0 e.1) (starts-rise E es v)
+    let v = step E w e in
+    Rise-append w.director.next_start v.director.next_start (drawn_by w e.0 e.1) (drawn_in E es v)
+    (drawn-step E w e.0 e.1) (starts-rise E es v)

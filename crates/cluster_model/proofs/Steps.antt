@@ -44,7 +44,7 @@ nothing-appends ls = ([], sym (append-nil ls))
 
 -- the director takes a message
 director_takes-one : (E : Database) (w : World) (from : Actor) (l : Letter) (ls : List Letter) (o : Outside)
-  → ChangesOne w (delivered E w Director from (l ∷ ls) o) (event.Deliver Director from) Director
+    → ChangesOne w (delivered E w Director from (l ∷ ls) o) (event.Deliver Director from) Director
 director_takes-one E w from l ls o = record {
   director = λ e. absurd (cc);
   clients = λ n e. refl;
@@ -52,11 +52,11 @@ director_takes-one E w from l ls o = record {
   sites = λ i e. refl;
   scanners = λ i e. refl;
   appends = λ b c. sent-appends (took w.channel from Director) Director no_sends b c;
-  others = λ b c e. sent-others (took w.channel from Director) Director no_sends b c e
+  others = λ b c e. sent-others (took w.channel from Director) Director no_sends b c e;
 }
 
 site_takes-one : (E : Database) (w : World) (i : ℕ) (from : Actor) (l : Letter) (ls : List Letter) (o : Outside)
-  → ChangesOne w (delivered E w (Site i) from (l ∷ ls) o) (event.Deliver (Site i) from) (Site i)
+    → ChangesOne w (delivered E w (Site i) from (l ∷ ls) o) (event.Deliver (Site i) from) (Site i)
 site_takes-one E w i from l ls o = record {
   director = λ e. refl;
   clients = λ n e. refl;
@@ -64,10 +64,11 @@ site_takes-one E w i from l ls o = record {
   sites = λ j e. set_at-other w.sites i _ j e;
   scanners = λ j e. refl;
   appends = λ b c. sent-appends (took w.channel from (Site i)) (Site i) (site_turn E w.deployment (stamp_of w) i (w.sites i) from l o).sends b c;
-  others = λ b c e. sent-others (took w.channel from (Site i)) (Site i) (site_turn E w.deployment (stamp_of w) i (w.sites i) from l o).sends b c e
+  others = λ b c e. sent-others (took w.channel from (Site i)) (Site i) (site_turn E w.deployment (stamp_of w) i (w.sites i) from l o).sends b c e;
 }
+
 client_takes-one : (E : Database) (w : World) (n : ℕ) (from : Actor) (l : Letter) (ls : List Letter) (o : Outside)
-  → ChangesOne w (delivered E w (Client n) from (l ∷ ls) o) (event.Deliver (Client n) from) (Client n)
+    → ChangesOne w (delivered E w (Client n) from (l ∷ ls) o) (event.Deliver (Client n) from) (Client n)
 client_takes-one E w n from l ls o = record {
   director = λ e. refl;
   clients = λ m e. set_at-other w.clients n _ m e;
@@ -75,11 +76,11 @@ client_takes-one E w n from l ls o = record {
   sites = λ j e. refl;
   scanners = λ j e. refl;
   appends = λ b c. sent-appends (took w.channel from (Client n)) (Client n) no_sends b c;
-  others = λ b c e. sent-others (took w.channel from (Client n)) (Client n) no_sends b c e
+  others = λ b c e. sent-others (took w.channel from (Client n)) (Client n) no_sends b c e;
 }
 
 agent_takes-one : (E : Database) (w : World) (h : ℕ) (from : Actor) (l : Letter) (ls : List Letter) (o : Outside)
-  → ChangesOne w (delivered E w (Agent h) from (l ∷ ls) o) (event.Deliver (Agent h) from) (Agent h)
+    → ChangesOne w (delivered E w (Agent h) from (l ∷ ls) o) (event.Deliver (Agent h) from) (Agent h)
 agent_takes-one E w h from l ls o = record {
   director = λ e. refl;
   clients = λ m e. refl;
@@ -87,11 +88,11 @@ agent_takes-one E w h from l ls o = record {
   sites = λ j e. refl;
   scanners = λ j e. refl;
   appends = λ b c. sent-appends (took w.channel from (Agent h)) (Agent h) (agent_turn E w.deployment h (stamp_of w) (w.agents h) from l o).sends b c;
-  others = λ b c e. sent-others (took w.channel from (Agent h)) (Agent h) (agent_turn E w.deployment h (stamp_of w) (w.agents h) from l o).sends b c e
+  others = λ b c e. sent-others (took w.channel from (Agent h)) (Agent h) (agent_turn E w.deployment h (stamp_of w) (w.agents h) from l o).sends b c e;
 }
 
 scanner_takes-one : (E : Database) (w : World) (i : ℕ) (from : Actor) (l : Letter) (ls : List Letter) (o : Outside)
-  → ChangesOne w (delivered E w (Scanner i) from (l ∷ ls) o) (event.Deliver (Scanner i) from) (Scanner i)
+    → ChangesOne w (delivered E w (Scanner i) from (l ∷ ls) o) (event.Deliver (Scanner i) from) (Scanner i)
 scanner_takes-one E w i from l ls o = record {
   director = λ e. refl;
   clients = λ m e. refl;
@@ -99,11 +100,11 @@ scanner_takes-one E w i from l ls o = record {
   sites = λ j e. refl;
   scanners = λ j e. set_at-other w.scanners i _ j e;
   appends = λ b c. sent-appends (took w.channel from (Scanner i)) (Scanner i) (scanner_turn w.deployment i (w.scanners i) from l o).sends b c;
-  others = λ b c e. sent-others (took w.channel from (Scanner i)) (Scanner i) (scanner_turn w.deployment i (w.scanners i) from l o).sends b c e
+  others = λ b c e. sent-others (took w.channel from (Scanner i)) (Scanner i) (scanner_turn w.deployment i (w.scanners i) from l o).sends b c e;
 }
 
 received-one : (E : Database) (w : World) (to from : Actor) (l : Letter) (ls : List Letter) (o : Outside)
-  → ChangesOne w (delivered E w to from (l ∷ ls) o) (event.Deliver to from) to
+    → ChangesOne w (delivered E w to from (l ∷ ls) o) (event.Deliver to from) to
 received-one E w Director from l ls o = director_takes-one E w from l ls o
 received-one E w (Client n) from l ls o = client_takes-one E w n from l ls o
 received-one E w (Agent h) from l ls o = agent_takes-one E w h from l ls o
@@ -111,24 +112,24 @@ received-one E w (Site i) from l ls o = site_takes-one E w i from l ls o
 received-one E w (Scanner i) from l ls o = scanner_takes-one E w i from l ls o
 
 delivered-one : (E : Database) (w : World) (to from : Actor) (ls : List Letter) (o : Outside) → is_some_letter ls ≡ true
-  → ChangesOne w (delivered E w to from ls o) (event.Deliver to from) to
+    → ChangesOne w (delivered E w to from ls o) (event.Deliver to from) to
 delivered-one E w to from [] o e = absurd (cc)
 delivered-one E w to from (l ∷ ls) o e = received-one E w to from l ls o
 
 -- ---- by the event
 
 pub event-one : (E : Database) (w : World) (e : Event) (o : Outside) → is_one_actors e ≡ true → can w e ≡ true
-  → ChangesOne w (step E w (e, o)) e (actor_of e)
+    → ChangesOne w (step E w (e, o)) e (actor_of e)
 event-one E w (event.Deliver to from) o is may =
-  let d = delivered-one E w to from (w.channel from to) o may in record {
-    director = d.director;
-    clients = d.clients;
-    agents = d.agents;
-    sites = d.sites;
-    scanners = d.scanners;
-    appends = d.appends;
-    others = d.others
-  }
+    let d = delivered-one E w to from (w.channel from to) o may in record {
+      director = d.director;
+      clients = d.clients;
+      agents = d.agents;
+      sites = d.sites;
+      scanners = d.scanners;
+      appends = d.appends;
+      others = d.others;
+    }
 event-one E w (event.Sync i) o is may = record {
   director = λ e. refl;
   clients = λ m e. refl;
@@ -136,7 +137,7 @@ event-one E w (event.Sync i) o is may = record {
   sites = λ j e. set_at-other w.sites i _ j e;
   scanners = λ j e. refl;
   appends = λ b c. sent-appends w.channel (Site i) (sync_turn E w.deployment i (w.sites i) o).sends b c;
-  others = λ b c e. sent-others w.channel (Site i) (sync_turn E w.deployment i (w.sites i) o).sends b c e
+  others = λ b c e. sent-others w.channel (Site i) (sync_turn E w.deployment i (w.sites i) o).sends b c e;
 }
 event-one E w (event.Scan i) o is may = record {
   director = λ e. refl;
@@ -145,7 +146,7 @@ event-one E w (event.Scan i) o is may = record {
   sites = λ j e. refl;
   scanners = λ j e. set_at-other w.scanners i _ j e;
   appends = λ b c. sent-appends w.channel (Scanner i) (scan_turn w.deployment i (w.scanners i) o).sends b c;
-  others = λ b c e. sent-others w.channel (Scanner i) (scan_turn w.deployment i (w.scanners i) o).sends b c e
+  others = λ b c e. sent-others w.channel (Scanner i) (scan_turn w.deployment i (w.scanners i) o).sends b c e;
 }
 event-one E w event.Recover o is may = absurd (cc)
 event-one E w event.Item o is may = record {
@@ -155,7 +156,7 @@ event-one E w event.Item o is may = record {
   sites = λ j e. refl;
   scanners = λ j e. refl;
   appends = λ b c. sent-appends w.channel Director (does_next w.deployment (may_do w w.director.items) w.director w.director.items).sends b c;
-  others = λ b c e. sent-others w.channel Director (does_next w.deployment (may_do w w.director.items) w.director w.director.items).sends b c e
+  others = λ b c e. sent-others w.channel Director (does_next w.deployment (may_do w w.director.items) w.director w.director.items).sends b c e;
 }
 event-one E w (event.Submit n) o is may = record {
   director = λ e. refl;
@@ -164,7 +165,7 @@ event-one E w (event.Submit n) o is may = record {
   sites = λ j e. refl;
   scanners = λ j e. refl;
   appends = λ b c. sent-appends w.channel (Client n) (submits w.deployment (stamp_of w) (w.clients n) (w.clients n).left).sends b c;
-  others = λ b c e. sent-others w.channel (Client n) (submits w.deployment (stamp_of w) (w.clients n) (w.clients n).left).sends b c e
+  others = λ b c e. sent-others w.channel (Client n) (submits w.deployment (stamp_of w) (w.clients n) (w.clients n).left).sends b c e;
 }
 event-one E w (event.Idle a) o is may = record {
   director = λ e. refl;
@@ -173,5 +174,5 @@ event-one E w (event.Idle a) o is may = record {
   sites = λ j e. refl;
   scanners = λ j e. refl;
   appends = λ b c. nothing-appends (w.channel b c);
-  others = λ b c e. refl
+  others = λ b c e. refl;
 }

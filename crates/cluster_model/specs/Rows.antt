@@ -97,3 +97,11 @@ point at call = record { call = call; point = at }
 
 abbrev pub shows : ℕ → ℕ → List ℕ → Seen
 shows slot position rows = record { slot = slot; position = position; rows = rows }
+
+-- the first world of which this holds, after at most so many events that `first` chooses
+abbrev pub until : (World → Bool) → ℕ → World → World
+until test zero w = w
+until test (suc n) w = elim (test w) as (λ _. World) [
+  | true ↦ w
+  | false ↦ until test n (first_step toy w (first_enabled w))
+]

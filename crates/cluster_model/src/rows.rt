@@ -86,6 +86,8 @@ pub fn mark_before_length()
 pub fn lost_and_rejoined()
     ensures shown { stampless (outline rejoined.last) ≡ rejoined.shown }
     ensures start { (rejoined.last.agents 0).start ≡ 3 }
+    // When it runs again its disk still shows what it showed when it stopped.
+    ensures kept { (rejoined.joining.sites 0).contents ≡ rejoined.contents }
 {}
 
 /// A host without spare copies is lost: a call is answered that its partition is down, and all hosts

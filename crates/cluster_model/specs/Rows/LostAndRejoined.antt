@@ -17,7 +17,8 @@ use Rattle.cluster_model.specs.Events.{step}
 use Rattle.cluster_model.specs.Outside.{DiskFails, DisksShow}
 use Rattle.cluster_model.specs.Runs.{by_first, run, fair, Happening}
 use Rattle.cluster_model.specs.Toy.{toy, put, get, add, take_away, move, total, gives, is_refused}
-use Rattle.cluster_model.specs.Rows.{Stampless, deployed, begins, calls_on, calls_all, ends_so, point, shows, at_once, after_calls}
+use Rattle.cluster_model.specs.SiteState.{is_joiner}
+use Rattle.cluster_model.specs.Rows.{until, Stampless, deployed, begins, calls_on, calls_all, ends_so, point, shows, at_once, after_calls}
 
 abbrev pub start : World
 start =
@@ -26,6 +27,13 @@ start =
 
 abbrev pub last : World
 last = by_first toy 90 start
+
+-- the world when its site runs again as a joiner, and what its disk shows then: what it showed when it stopped
+abbrev pub joining : World
+joining = until (λ w. is_joiner (w.sites 0)) 90 start
+
+abbrev pub contents : List Shown
+contents = Some (record { mark = 1; base = 0; log = Sp 1 4 (put 1 10) ∷ [] }) ∷ []
 
 abbrev pub rows : List ℕ
 rows = 1 ∷ 10 ∷ 2 ∷ 20 ∷ []
