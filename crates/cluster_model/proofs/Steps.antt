@@ -1,5 +1,5 @@
 -- An event changes one actor.
-use Rattle.std.proofs.Common.{◌≡◌, Bool, true, false, List, [], ◌∷◌, ◌++◌, append-nil, refl, sym, inl, inr, ◌==◌}
+use Rattle.std.proofs.Common.{◌≡◌, true, false, List, [], ◌∷◌, ◌++◌, append-nil, refl, sym, inl, inr, ◌==◌}
 use Rattle.std.proofs.lemmas.Bool.{cases_Bool}
 use Rattle.std.specs.Prelude.{ℕ}
 use Rattle.volt_wire.specs.declared.actor.Actor.{Actor}
@@ -16,7 +16,7 @@ use Rattle.cluster_model.specs.Scanner.{scanner_turn, scan_turn}
 use Rattle.cluster_model.specs.Outside.{Outside}
 use Rattle.cluster_model.specs.World.{World, set_at, took, sent, stamp_of}
 use Rattle.cluster_model.specs.Events.{delivered, step, can, may_do, is_some_letter}
-use Rattle.cluster_model.specs.Laws.{ChangesOne, is_one_actors, actor_of, left_by}
+use Rattle.cluster_model.specs.Laws.{ChangesOne, is_one_actors, actor_of}
 
 abbrev Channels : Type 0
 Channels = Actor → Actor → List Letter

@@ -1,18 +1,16 @@
 -- The agent of a host: it agrees with the others on who is a member, and hands the calls of clients on and the answers back.
-use Rattle.std.specs.Prelude.{ℕ, ◌+◌, ◌==◌, ◌&&◌, ◌||◌, not, nat_lt, nat_le, Bool, true, false, if◌then◌else◌, List, [], ◌∷◌, ◌++◌, map, filter, Option, Some, None, is_some, is_none, unwrap_or}
-use Rattle.std.specs.List.{list_any, list_all}
+use Rattle.std.specs.Prelude.{ℕ, ◌==◌, ◌&&◌, ◌||◌, not, nat_lt, nat_le, Bool, true, false, if◌then◌else◌, List, [], ◌∷◌, ◌++◌, map, filter, Option, Some, None, is_none}
+use Rattle.std.specs.List.{list_all}
 use Rattle.volt_wire.specs.Word.{Membership}
 use Rattle.volt_wire.specs.declared.actor.Actor.{Actor}
 use Rattle.volt_wire.specs.declared.actor.Actor.TheVariants.{Director, Client, Agent, Site, Scanner}
-use Rattle.volt_wire.specs.declared.end.End.{End}
 use Rattle.volt_wire.specs.declared.end.End.TheVariants as end
-use Rattle.volt_wire.specs.declared.message.Msg.{Msg}
 use Rattle.volt_wire.specs.declared.message.Msg.TheVariants as msg
-use Rattle.cluster_model.specs.Outside.{Outside, Fair, DiskFails, NoMemory, DisksShow}
+use Rattle.cluster_model.specs.Outside.{Outside, NoMemory}
 use Rattle.cluster_model.specs.Engine.{Database}
-use Rattle.cluster_model.specs.Words.{Deployment, host_of_slot, part_of_slot, is_host, is_client, is_slot_of, slots_of_host, is_in, with_number, term_of, term_in, same_word, union, with_lost, members, start_of, is_some_of, is_member, admits, initiator, leader, start_of_slot, part_down, is_down}
-use Rattle.cluster_model.specs.Letters.{Letter, Sends, no_sends, Turn, becomes, sending, ◌▸◌, open_letter, letter_to, letter_in, only, arrival, Taken, Refused, Waits, Waiting, of_term, above_term}
-use Rattle.cluster_model.specs.AgentState.{AgentState, Pending, Job_, RunCall, TakeSnapshot, Admission, new_agent, initiates, on_reply, stops, closes, stops_with_host}
+use Rattle.cluster_model.specs.Words.{Deployment, part_of_slot, is_host, is_client, is_slot_of, slots_of_host, is_in, with_number, term_of, term_in, same_word, union, with_lost, members, start_of, is_member, admits, initiator, leader, start_of_slot, part_down, is_down}
+use Rattle.cluster_model.specs.Letters.{Letter, Sends, Turn, becomes, sending, ◌▸◌, open_letter, letter_to, letter_in, only, arrival, Taken, Refused, Waits, Waiting, of_term, above_term}
+use Rattle.cluster_model.specs.AgentState.{AgentState, Pending, Job_, RunCall, TakeSnapshot, Admission, new_agent, initiates, on_reply, stops, stops_with_host}
 use Rattle.cluster_model.specs.Initiator.{queues, on_frag_done, on_finished, on_mp_state, on_decided_word}
 
 -- ---- calls

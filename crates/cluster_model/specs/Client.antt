@@ -1,13 +1,13 @@
 -- A client submits its calls one after another, and notes how each ended.
-use Rattle.std.specs.Prelude.{ℕ, ◌+◌, ◌-◌, ◌%◌, ◌==◌, ◌&&◌, Bool, true, false, if◌then◌else◌, List, [], ◌∷◌, ◌++◌, map, find, Option, Some, None, is_some, unwrap_or}
-use Rattle.std.specs.List.{range_with_len, list_any}
+use Rattle.std.specs.Prelude.{ℕ, ◌+◌, ◌%◌, ◌==◌, ◌&&◌, Bool, false, if◌then◌else◌, List, [], ◌∷◌, ◌++◌, map, find, Option, Some, None, is_some, unwrap_or}
+use Rattle.std.specs.List.{range_with_len}
 use Rattle.volt_wire.specs.declared.actor.Actor.{Actor}
 use Rattle.volt_wire.specs.declared.actor.Actor.TheVariants.{Director, Agent}
 use Rattle.volt_wire.specs.declared.end.End.{End}
 use Rattle.volt_wire.specs.declared.end.End.TheVariants as end
 use Rattle.volt_wire.specs.declared.message.Msg.TheVariants as msg
 use Rattle.cluster_model.specs.Words.{Deployment}
-use Rattle.cluster_model.specs.Letters.{Letter, Sends, Turn, becomes, sending, open_letter, only}
+use Rattle.cluster_model.specs.Letters.{Letter, Turn, becomes, sending, open_letter, only}
 
 -- a call that the client has still to submit
 pub record Due : Type 0 where

@@ -1,13 +1,13 @@
 -- The director does the items of the script.
-use Rattle.std.specs.Prelude.{ℕ, ◌+◌, ◌==◌, Bool, true, false, if◌then◌else◌, nat_le, List, [], ◌∷◌, ◌++◌, Option, Some, None}
+use Rattle.std.specs.Prelude.{ℕ, ◌+◌, ◌==◌, Bool, true, false, if◌then◌else◌, List, [], ◌∷◌, ◌++◌}
 use Rattle.volt_wire.specs.declared.actor.Actor.{Actor}
-use Rattle.volt_wire.specs.declared.actor.Actor.TheVariants.{Director, Client, Agent, Site, Scanner}
+use Rattle.volt_wire.specs.declared.actor.Actor.TheVariants.{Client, Agent, Site, Scanner}
 use Rattle.volt_wire.specs.declared.item.Item.{Item}
 use Rattle.volt_wire.specs.declared.item.Item.TheVariants as item
 use Rattle.volt_wire.specs.declared.item.TimedItem.{TimedItem}
 use Rattle.volt_wire.specs.declared.message.Msg.TheVariants as msg
-use Rattle.cluster_model.specs.Words.{Deployment, is_host, is_slot_of, host_of_slot, slots}
-use Rattle.cluster_model.specs.Letters.{Letter, Sends, no_sends, Turn, becomes, sending, open_letter, only}
+use Rattle.cluster_model.specs.Words.{Deployment, is_host, is_slot_of, host_of_slot}
+use Rattle.cluster_model.specs.Letters.{Letter, Sends, Turn, becomes, sending, open_letter, only}
 
 -- what a slot's copy showed when it was looked at
 pub record Seen : Type 0 where

@@ -1,6 +1,5 @@
 -- What the disk of a slot may show, and what is chosen of several disks.
-use Rattle.std.specs.Prelude.{ℕ, ◌+◌, ◌==◌, ◌&&◌, ◌||◌, not, Bool, true, false, nat_lt, nat_le, if◌then◌else◌, max, List, [], ◌∷◌, ◌++◌, map, take, drop, length, filter, Option, Some, None, unwrap_or, is_some, option_map}
-use Rattle.std.specs.List.{list_any, range_with_len}
+use Rattle.std.specs.Prelude.{ℕ, ◌==◌, ◌&&◌, ◌||◌, Bool, nat_lt, if◌then◌else◌, max, List, [], ◌∷◌, ◌++◌, map, take, drop, length, Option, Some, None, unwrap_or, option_map}
 use Rattle.volt_base.specs.declared.entry.Entry.{Entry}
 use Rattle.volt_base.specs.declared.entry.Entry.TheVariants.{Done}
 use Rattle.volt_base.specs.declared.entry.Outcome.{Outcome}

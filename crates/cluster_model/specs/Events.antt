@@ -1,5 +1,5 @@
 -- Which events may happen in a world, and what each makes of it.
-use Rattle.std.specs.Prelude.{ℕ, zero, suc, ◌+◌, ◌==◌, ◌&&◌, ◌||◌, not, Bool, true, false, nat_lt, nat_le, if◌then◌else◌, List, [], ◌∷◌, ◌++◌, map, filter, flat_map, take, length, slice_get, slice_index, Option, Some, None, is_some, is_none, option_map, unwrap_or}
+use Rattle.std.specs.Prelude.{ℕ, ◌==◌, ◌&&◌, ◌||◌, not, Bool, true, false, nat_lt, nat_le, List, [], ◌∷◌, ◌++◌, map, filter, flat_map, length, slice_index, Option, Some, None}
 use Rattle.std.specs.List.{list_any, list_all, range_with_len}
 use Rattle.volt_wire.specs.Word.{Membership}
 use Rattle.volt_wire.specs.declared.actor.Actor.{Actor}
@@ -11,16 +11,15 @@ use Rattle.volt_wire.specs.declared.item.Item.TheVariants as item
 use Rattle.volt_wire.specs.declared.item.TimedItem.{TimedItem}
 use Rattle.volt_wire.specs.declared.message.Msg.TheVariants as msg
 use Rattle.cluster_model.specs.Engine.{Database}
-use Rattle.cluster_model.specs.Words.{Deployment, slots, parts, is_member, is_down, host_of_slot}
-use Rattle.cluster_model.specs.Letters.{same, Letter, Sends, Turn, becomes, sending}
-use Rattle.cluster_model.specs.Disk.{Shown, after_parts, after_failure}
-use Rattle.cluster_model.specs.Director.{DirectorState, does_next, director_takes}
-use Rattle.cluster_model.specs.Client.{ClientState, may_submit, submits, client_takes}
+use Rattle.cluster_model.specs.Words.{Deployment, slots, is_member, is_down}
+use Rattle.cluster_model.specs.Letters.{same, Letter, becomes}
+use Rattle.cluster_model.specs.Director.{does_next, director_takes}
+use Rattle.cluster_model.specs.Client.{may_submit, submits, client_takes}
 use Rattle.cluster_model.specs.AgentState.{AgentState}
 use Rattle.cluster_model.specs.Agent.{agent_turn, start_after as agent_start}
 use Rattle.cluster_model.specs.SiteState.{SiteState}
 use Rattle.cluster_model.specs.Sync.{may_sync, parts_of_sync, parts_of_message, site_turn, sync_turn, start_after as site_start}
-use Rattle.cluster_model.specs.Scanner.{ScannerState, may_scan, scanner_turn, scan_turn, start_after as scanner_start}
+use Rattle.cluster_model.specs.Scanner.{may_scan, scanner_turn, scan_turn, start_after as scanner_start}
 use Rattle.cluster_model.specs.Outside.{Outside, Fair, DiskFails, NoMemory, DisksShow}
 use Rattle.cluster_model.specs.World.{World, took, stamp_of, with_director, with_client, with_agent, with_site, with_scanner, stop_noted}
 use Rattle.cluster_model.specs.Recover.{recovers, count_shown}

@@ -1,10 +1,9 @@
 -- The initiator runs calls on all partitions, one after another, and admits hosts that have joined.
-use Rattle.std.specs.Prelude.{ℕ, zero, suc, ◌+◌, ◌==◌, ◌&&◌, ◌||◌, not, Bool, true, false, if◌then◌else◌, List, [], ◌∷◌, ◌++◌, map, filter, fold, max, Option, Some, None, is_some, is_none, option_map, unwrap_or}
+use Rattle.std.specs.Prelude.{ℕ, zero, ◌+◌, ◌==◌, ◌&&◌, not, Bool, true, false, if◌then◌else◌, List, [], ◌∷◌, ◌++◌, map, filter, max, Option, Some, None, is_none, option_map}
 use Rattle.std.specs.List.{list_any, list_all}
 use Rattle.volt_base.specs.declared.entry.Outcome.{Outcome}
 use Rattle.volt_base.specs.declared.entry.Outcome.TheVariants as outcome
 use Rattle.volt_wire.specs.Word.{Membership}
-use Rattle.volt_wire.specs.declared.actor.Actor.{Actor}
 use Rattle.volt_wire.specs.declared.actor.Actor.TheVariants.{Agent, Site}
 use Rattle.volt_wire.specs.declared.end.End.{End}
 use Rattle.volt_wire.specs.declared.end.End.TheVariants as end
@@ -12,9 +11,9 @@ use Rattle.volt_wire.specs.declared.message.Msg.{Msg}
 use Rattle.volt_wire.specs.declared.message.Msg.TheVariants as msg
 use Rattle.cluster_model.specs.Engine.{Database, CoordStep, Round, Finish}
 use Rattle.cluster_model.specs.Log.{first_outcome, greater}
-use Rattle.cluster_model.specs.Words.{Deployment, slots, all_parts, part_of_slot, start_of_slot, leader, is_some_of, is_in, term_of, same_word, with_admitted}
-use Rattle.cluster_model.specs.Letters.{Blocks, Letter, Sends, no_sends, Turn, becomes, sending, ◌▸◌, letter_to, letter_in, only}
-use Rattle.cluster_model.specs.AgentState.{AgentState, Initiating, Phase, Off, Hears, Closes, Idle, Works, Work, Job, RunCall, TakeSnapshot, Queued, Job_, Admission, Decision, Heard, initiates, client_of, answers_client, on_reply}
+use Rattle.cluster_model.specs.Words.{Deployment, all_parts, part_of_slot, start_of_slot, leader, is_some_of, is_in, term_of, same_word, with_admitted}
+use Rattle.cluster_model.specs.Letters.{Blocks, Letter, Sends, Turn, becomes, sending, ◌▸◌, letter_to, letter_in, only}
+use Rattle.cluster_model.specs.AgentState.{AgentState, Phase, Off, Hears, Closes, Idle, Works, Work, Job, RunCall, TakeSnapshot, Queued, Job_, Admission, Decision, Heard, initiates, on_reply}
 
 -- ---- what goes to the leaders of the partitions
 

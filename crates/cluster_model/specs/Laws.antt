@@ -1,5 +1,5 @@
 -- What the laws of the definitions speak of.
-use Rattle.std.specs.Prelude.{ℕ, ◌≡◌, ◌+◌, ◌-◌, ◌≤◌, ◌<◌, Bool, true, false, List, [], ◌∷◌, ◌++◌, map, flat_map, Option, Some, None}
+use Rattle.std.specs.Prelude.{ℕ, ◌≡◌, ◌+◌, ◌≤◌, Bool, true, false, List, [], ◌∷◌, ◌++◌, map, flat_map, None}
 use Rattle.volt_wire.specs.declared.actor.Actor.{Actor}
 use Rattle.volt_wire.specs.declared.actor.Actor.TheVariants.{Director, Client, Agent, Site, Scanner}
 use Rattle.volt_wire.specs.declared.event.Event.{Event}
@@ -49,6 +49,12 @@ pub record ChangesOne (w v : World) (e : Event) (a : Actor) : Type 0 where
   pub scanners : (i : ℕ) → same (Scanner i) a ≡ false → v.scanners i ≡ w.scanners i
   pub appends : (b c : Actor) → (more : List Letter) × (v.channel b c ≡ left_by w e b c ++ more)
   pub others : (b c : Actor) → same a b ≡ false → v.channel b c ≡ left_by w e b c
+
+-- ---- the end of a channel
+
+-- the last of these letters is this one
+abbrev pub EndsWith : Letter → List Letter → Type 0
+EndsWith l ls = (front : List Letter) × (ls ≡ front ++ l ∷ [])
 
 -- ---- starts
 

@@ -1,20 +1,18 @@
 -- A recovery: all hosts start again from what their disks show.
-use Rattle.std.specs.Prelude.{ℕ, zero, suc, ◌+◌, ◌==◌, ◌&&◌, ◌||◌, not, Bool, true, false, nat_lt, nat_le, if◌then◌else◌, List, [], ◌∷◌, ◌++◌, map, take, length, slice_get, slice_index, Option, Some, None, option_map, option_and_then, unwrap_or, max}
+use Rattle.std.specs.Prelude.{ℕ, ◌+◌, ◌==◌, ◌&&◌, Bool, true, false, nat_lt, if◌then◌else◌, List, [], ◌∷◌, ◌++◌, map, take, length, slice_get, slice_index, Option, Some, None, option_map, option_and_then}
 use Rattle.std.specs.List.{range_with_len}
 use Rattle.volt_base.specs.declared.entry.Entry.{Entry}
 use Rattle.volt_wire.specs.Word.{Membership}
 use Rattle.volt_wire.specs.declared.actor.Actor.{Actor}
-use Rattle.volt_wire.specs.declared.actor.Actor.TheVariants.{Director, Client, Agent, Site, Scanner}
+use Rattle.volt_wire.specs.declared.actor.Actor.TheVariants.{Client, Agent, Site, Scanner}
 use Rattle.volt_wire.specs.declared.message.Msg.TheVariants as msg
 use Rattle.cluster_model.specs.Engine.{Database}
 use Rattle.cluster_model.specs.Words.{Deployment, slots, parts, part_of_slot, is_host, is_client}
-use Rattle.cluster_model.specs.Letters.{Letter, Sends, open_letter}
-use Rattle.cluster_model.specs.Disk.{Content, Shown, mark_of, greatest_mark, recovered}
+use Rattle.cluster_model.specs.Letters.{Letter, open_letter}
+use Rattle.cluster_model.specs.Disk.{Shown, greatest_mark, recovered}
 use Rattle.cluster_model.specs.Director.{DirectorState}
-use Rattle.cluster_model.specs.AgentState.{AgentState, new_agent}
 use Rattle.cluster_model.specs.SiteState.{SiteState, stopped_site, member_site}
-use Rattle.cluster_model.specs.Scanner.{ScannerState}
-use Rattle.cluster_model.specs.World.{World, Recovery, Lead, stamp_of, new_word, greatest_done, member_agent, start_from}
+use Rattle.cluster_model.specs.World.{World, Recovery, stamp_of, new_word, greatest_done, member_agent, start_from}
 
 -- ---- what the disks show
 

@@ -1,15 +1,15 @@
 -- Runs of the world, how a schedule chooses their events, and what a report shows of the last world.
-use Rattle.std.specs.Prelude.{ℕ, zero, suc, ◌≡◌, ◌+◌, ◌*◌, ◌/◌, ◌%◌, ◌^◌, ◌==◌, ◌&&◌, ◌||◌, not, Bool, true, false, nat_lt, nat_le, if◌then◌else◌, List, [], ◌∷◌, ◌++◌, map, filter, flat_map, length, slice_get, Option, Some, None, is_none, is_some}
+use Rattle.std.specs.Prelude.{ℕ, zero, suc, ◌≡◌, ◌+◌, ◌*◌, ◌/◌, ◌%◌, ◌^◌, ◌==◌, ◌&&◌, not, Bool, true, false, nat_lt, if◌then◌else◌, List, [], ◌∷◌, map, filter, flat_map, length, slice_get, Option, Some, None, is_some}
 use Rattle.std.specs.List.{list_any, range_with_len}
 use Rattle.volt_base.specs.declared.entry.Applied.{Applied}
 use Rattle.volt_wire.specs.declared.event.Event.{Event}
 use Rattle.volt_wire.specs.declared.event.Event.TheVariants as event
 use Rattle.cluster_model.specs.Engine.{Database}
 use Rattle.cluster_model.specs.Log.{replay, applied_in, nothing_open}
-use Rattle.cluster_model.specs.Words.{Deployment, slots, part_of_slot}
+use Rattle.cluster_model.specs.Words.{slots, part_of_slot}
 use Rattle.cluster_model.specs.Client.{Ended}
 use Rattle.cluster_model.specs.Director.{Seen}
-use Rattle.cluster_model.specs.SiteState.{SiteState, is_member_site}
+use Rattle.cluster_model.specs.SiteState.{is_member_site}
 use Rattle.cluster_model.specs.World.{World, Recovery}
 use Rattle.cluster_model.specs.Outside.{Outside, Fair, DisksShow}
 use Rattle.cluster_model.specs.Events.{can, allows, events, enabled, serves, step}

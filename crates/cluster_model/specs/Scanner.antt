@@ -1,12 +1,12 @@
 -- A scanner reads the tables of its slot's site out, block by block.
-use Rattle.std.specs.Prelude.{ℕ, ◌+◌, ◌==◌, Bool, true, false, if◌then◌else◌, nat_lt, nat_le, ◌&&◌, List, [], ◌∷◌, Option, Some, None, is_some}
+use Rattle.std.specs.Prelude.{ℕ, ◌+◌, ◌==◌, Bool, if◌then◌else◌, nat_lt, nat_le, ◌&&◌, [], ◌∷◌, Option, Some, None, is_some}
 use Rattle.volt_wire.specs.declared.actor.Actor.{Actor}
 use Rattle.volt_wire.specs.declared.actor.Actor.TheVariants.{Site, Scanner}
 use Rattle.volt_wire.specs.declared.message.Msg.TheVariants as msg
-use Rattle.cluster_model.specs.Outside.{Outside, Fair, DiskFails, NoMemory, DisksShow}
+use Rattle.cluster_model.specs.Outside.{Outside, NoMemory}
 use Rattle.cluster_model.specs.Words.{Deployment, host_of_slot}
 use Rattle.cluster_model.specs.AgentState.{stops_others}
-use Rattle.cluster_model.specs.Letters.{same, Blocks, Letter, Sends, Turn, becomes, sending, letter_to, only, arrival, Taken, Refused, Waits}
+use Rattle.cluster_model.specs.Letters.{same, Blocks, Letter, Turn, becomes, sending, letter_to, only, arrival, Taken, Refused, Waits}
 
 -- a scan that is under way
 pub record Scan : Type 0 where

@@ -1,5 +1,5 @@
 -- A site keeps the copy of a partition: as its leader, as a copy, or as a joiner.
-use Rattle.std.specs.Prelude.{ℕ, ◌+◌, ◌-◌, ◌==◌, ◌&&◌, ◌||◌, not, Bool, true, false, nat_lt, nat_le, if◌then◌else◌, min, max, List, [], ◌∷◌, ◌++◌, map, filter, flat_map, find, take, drop, replicate, length, Option, Some, None, is_some, is_none, option_map, unwrap_or}
+use Rattle.std.specs.Prelude.{ℕ, ◌+◌, ◌-◌, ◌==◌, ◌&&◌, not, Bool, true, false, nat_lt, nat_le, if◌then◌else◌, min, max, List, [], ◌∷◌, ◌++◌, map, filter, find, drop, replicate, length, Option, Some, None, is_some, is_none, unwrap_or}
 use Rattle.std.specs.List.{list_any, list_all}
 use Rattle.volt_base.specs.declared.entry.Entry.{Entry}
 use Rattle.volt_base.specs.declared.entry.Entry.TheVariants.{Sp, Frag, Done}
@@ -12,11 +12,9 @@ use Rattle.volt_wire.specs.declared.message.Msg.{Msg}
 use Rattle.volt_wire.specs.declared.message.Msg.TheVariants as msg
 use Rattle.cluster_model.specs.Engine.{Database}
 use Rattle.cluster_model.specs.Log.{replay, answer_behind, nothing_open, open_in, last_done, is_snapshot, applied_in}
-use Rattle.cluster_model.specs.Words.{Deployment, part_of_slot, host_of_slot, slots, is_some_of, is_in, initiator, term_of, leader, copies, start_of_slot, is_member}
-use Rattle.cluster_model.specs.Letters.{Blocks, same, Letter, Sends, no_sends, Turn, becomes, sending, ◌▸◌, open_letter, letter_to, letter_in, only, arrival, Taken, Refused, Waits, Waiting, of_term, above_term}
-use Rattle.cluster_model.specs.Disk.{Content, Shown, after_parts, after_failure}
-use Rattle.cluster_model.specs.SiteState.{SiteState, Streamed, Joining, Reported, Held, Joiner, AskedCall, Ask, Scanning, ForJoiner, ForBase, new_joiner, stopped_site, site_term, leader_in, start_in_view, copies_in, is_joiner, is_member_site, is_leader, leads, other_copies}
-use Rattle.cluster_model.specs.AgentState.{stops_others}
+use Rattle.cluster_model.specs.Words.{Deployment, part_of_slot, host_of_slot, is_some_of, is_in, initiator, term_of, is_member}
+use Rattle.cluster_model.specs.Letters.{Blocks, same, Letter, Sends, Turn, becomes, sending, ◌▸◌, open_letter, letter_to, letter_in, only, arrival, Taken, Refused, Waits, Waiting, of_term, above_term}
+use Rattle.cluster_model.specs.SiteState.{SiteState, Joining, Reported, Held, Joiner, AskedCall, Ask, Scanning, ForJoiner, ForBase, new_joiner, stopped_site, site_term, leader_in, start_in_view, is_joiner, is_leader, leads, other_copies}
 use Rattle.cluster_model.specs.Initiator.{end_of_reply}
 
 -- ---- an entry more

@@ -1,9 +1,9 @@
 -- What a site knows.
-use Rattle.std.specs.Prelude.{ℕ, ◌==◌, ◌&&◌, Bool, true, false, nat_lt, nat_le, not, if◌then◌else◌, max, List, [], ◌∷◌, ◌++◌, map, filter, length, Option, Some, None, is_some, is_none, unwrap_or, option_map}
+use Rattle.std.specs.Prelude.{ℕ, ◌==◌, ◌&&◌, Bool, true, false, nat_lt, not, List, [], ◌∷◌, map, filter, length, Option, Some, None, is_some, unwrap_or}
 use Rattle.volt_base.specs.declared.entry.Entry.{Entry}
 use Rattle.volt_wire.specs.Word.{Membership}
 use Rattle.volt_wire.specs.declared.actor.Actor.{Actor}
-use Rattle.cluster_model.specs.Words.{Deployment, part_of_slot, leader, copies, is_some_of, start_of_slot, term_of, term_in}
+use Rattle.cluster_model.specs.Words.{Deployment, part_of_slot, leader, copies, is_some_of, start_of_slot, term_in}
 use Rattle.cluster_model.specs.Letters.{Letter, Waiting}
 use Rattle.cluster_model.specs.Disk.{Shown}
 

@@ -1,15 +1,15 @@
 -- What a site writes to its disk, and what follows.
-use Rattle.std.specs.Prelude.{ℕ, ◌+◌, ◌==◌, ◌&&◌, ◌||◌, not, Bool, true, false, nat_lt, nat_le, if◌then◌else◌, List, [], ◌∷◌, ◌++◌, take, length, Option, Some, None, is_some, is_none, unwrap_or}
+use Rattle.std.specs.Prelude.{ℕ, ◌==◌, ◌&&◌, ◌||◌, not, Bool, true, false, nat_lt, if◌then◌else◌, List, [], ◌∷◌, ◌++◌, take, length, Option, Some, None, is_some, unwrap_or}
 use Rattle.volt_wire.specs.declared.actor.Actor.{Actor}
 use Rattle.volt_wire.specs.declared.actor.Actor.TheVariants.{Agent, Site}
 use Rattle.volt_wire.specs.declared.message.Msg.TheVariants as msg
 use Rattle.cluster_model.specs.Engine.{Database}
-use Rattle.cluster_model.specs.Words.{Deployment, part_of_slot, host_of_slot, is_some_of}
-use Rattle.cluster_model.specs.Letters.{same, Letter, Sends, no_sends, Turn, becomes, sending, ◌▸◌, letter_to, letter_in, only, arrival, Taken, Refused, Waits}
-use Rattle.cluster_model.specs.Disk.{Content, Shown, after_parts, after_failure}
-use Rattle.cluster_model.specs.SiteState.{SiteState, Streamed, Joining, Scanning, ForJoiner, ForBase, stopped_site, site_term, leader_in, start_in_view, is_leader}
+use Rattle.cluster_model.specs.Words.{Deployment, part_of_slot, host_of_slot}
+use Rattle.cluster_model.specs.Letters.{same, Letter, Turn, becomes, sending, ◌▸◌, letter_to, letter_in, only, arrival, Taken, Refused, Waits}
+use Rattle.cluster_model.specs.Disk.{Shown, after_parts, after_failure}
+use Rattle.cluster_model.specs.SiteState.{SiteState, Streamed, Joining, Scanning, ForBase, stopped_site, site_term, leader_in, start_in_view, is_leader}
 use Rattle.cluster_model.specs.Site.{counts, settles, ordered, may_stream, site_takes}
-use Rattle.cluster_model.specs.Outside.{Outside, Fair, DiskFails, NoMemory, DisksShow}
+use Rattle.cluster_model.specs.Outside.{Outside, DiskFails, NoMemory}
 use Rattle.cluster_model.specs.AgentState.{stops_others}
 
 -- ---- when a site may sync

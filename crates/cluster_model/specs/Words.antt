@@ -1,5 +1,5 @@
 -- Words: which hosts are members, and what follows from it for the partitions.
-use Rattle.std.specs.Prelude.{ℕ, ◌+◌, ◌*◌, ◌%◌, ◌/◌, ◌==◌, ◌&&◌, ◌||◌, Bool, true, false, not, nat_lt, nat_le, if◌then◌else◌, List, [], ◌∷◌, ◌++◌, map, filter, find, length, Option, Some, None, option_map, option_and_then, is_some}
+use Rattle.std.specs.Prelude.{ℕ, ◌+◌, ◌==◌, ◌&&◌, ◌||◌, Bool, true, false, not, nat_lt, nat_le, if◌then◌else◌, List, [], ◌∷◌, ◌++◌, map, filter, find, length, Option, Some, None, is_some}
 use Rattle.std.specs.List.{list_any, list_all, range_with_len}
 use Rattle.partition_ring.specs.Placement.{slots_of, parts_of, part_of, host_of, start_in, copies_of}
 use Rattle.partition_ring.specs.declared.layout.Layout.{Layout}

@@ -1,5 +1,5 @@
 -- The world: a state for each actor, the messages under way, and its history.
-use Rattle.std.specs.Prelude.{ℕ, zero, suc, ◌+◌, ◌-◌, ◌%◌, ◌==◌, ◌&&◌, ◌||◌, not, Bool, true, false, nat_lt, nat_le, if◌then◌else◌, max, List, [], ◌∷◌, ◌++◌, map, take, length, Option, Some, None}
+use Rattle.std.specs.Prelude.{ℕ, zero, suc, ◌+◌, ◌-◌, ◌%◌, ◌==◌, ◌&&◌, Bool, true, false, nat_lt, nat_le, if◌then◌else◌, max, List, [], ◌∷◌, ◌++◌, length, Option, Some, None}
 use Rattle.volt_base.specs.declared.entry.Entry.{Entry}
 use Rattle.volt_wire.specs.Word.{Membership}
 use Rattle.volt_wire.specs.declared.actor.Actor.{Actor}
@@ -7,15 +7,15 @@ use Rattle.volt_wire.specs.declared.actor.Actor.TheVariants.{Director, Client, A
 use Rattle.volt_wire.specs.declared.event.Event.{Event}
 use Rattle.volt_wire.specs.declared.item.TimedItem.{TimedItem}
 use Rattle.cluster_model.specs.Engine.{Database}
-use Rattle.cluster_model.specs.Words.{Deployment, slots, parts, part_of_slot, host_of_slot, is_host, initiator}
-use Rattle.cluster_model.specs.Letters.{same, Letter, Sends, no_sends, Turn}
+use Rattle.cluster_model.specs.Words.{Deployment, slots, parts, part_of_slot, host_of_slot, is_host}
+use Rattle.cluster_model.specs.Letters.{same, Letter, Sends, Turn}
 use Rattle.cluster_model.specs.Log.{last_done, number_of}
 use Rattle.cluster_model.specs.Director.{DirectorState}
 use Rattle.cluster_model.specs.Client.{ClientState, Due}
-use Rattle.cluster_model.specs.AgentState.{AgentState, Initiating, Off, Idle, new_agent, no_initiator}
+use Rattle.cluster_model.specs.AgentState.{AgentState, Initiating, Idle, new_agent, no_initiator}
 use Rattle.cluster_model.specs.SiteState.{SiteState, site_term, leads, no_site, member_site}
 use Rattle.cluster_model.specs.Scanner.{ScannerState}
-use Rattle.cluster_model.specs.Outside.{Outside, Fair, DiskFails, NoMemory, DisksShow}
+use Rattle.cluster_model.specs.Outside.{Outside, DiskFails, NoMemory}
 
 -- ---- history, by which the laws speak of a run
 

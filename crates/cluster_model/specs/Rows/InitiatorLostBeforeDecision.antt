@@ -1,11 +1,10 @@
 -- A call on all partitions whose initiator is lost before it decides.
-use Rattle.std.specs.Prelude.{ℕ, true, List, [], ◌∷◌, ◌++◌}
+use Rattle.std.specs.Prelude.{true, List, [], ◌∷◌, ◌++◌}
 use Rattle.volt_wire.specs.declared.actor.Actor.TheVariants.{Director, Client, Agent, Site, Scanner}
 use Rattle.volt_wire.specs.declared.end.End.TheVariants as end
 use Rattle.volt_wire.specs.declared.event.Event.{Event}
 use Rattle.volt_wire.specs.declared.event.Event.TheVariants.{Deliver, Sync, Submit, Item}
 use Rattle.volt_wire.specs.declared.item.Item.TheVariants as item
-use Rattle.cluster_model.specs.Director.{Seen}
 use Rattle.cluster_model.specs.World.{World}
 use Rattle.cluster_model.specs.Runs.{run, fair, Happening}
 use Rattle.cluster_model.specs.Toy.{toy, put, move, gives}

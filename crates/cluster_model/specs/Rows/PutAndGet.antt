@@ -1,5 +1,5 @@
 -- One host: a call puts an account, the next one reads it.
-use Rattle.std.specs.Prelude.{ℕ, true, List, [], ◌∷◌}
+use Rattle.std.specs.Prelude.{true, List, [], ◌∷◌}
 use Rattle.volt_wire.specs.declared.actor.Actor.TheVariants.{Director, Client, Agent, Site}
 use Rattle.volt_wire.specs.declared.end.End.TheVariants.{Ok}
 use Rattle.volt_wire.specs.declared.event.Event.{Event}
