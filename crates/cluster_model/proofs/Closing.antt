@@ -6,7 +6,6 @@ use Rattle.volt_wire.specs.Word.{Membership}
 use Rattle.volt_wire.specs.declared.actor.Actor.{Actor}
 use Rattle.volt_wire.specs.declared.actor.Actor.TheVariants.{Director, Client, Agent, Site, Scanner}
 use Rattle.volt_wire.specs.declared.end.End.{End}
-use Rattle.volt_wire.specs.declared.message.Msg.{Msg}
 use Rattle.volt_wire.specs.declared.message.Msg.TheVariants as msg
 use Rattle.cluster_model.specs.Engine.{Database, CoordStep, Round, Finish}
 use Rattle.cluster_model.specs.Words.{Deployment, part_of_slot, is_host, all_parts, with_number, is_in, term_of, term_in, initiator, leader, start_of_slot, part_down, admits}
@@ -53,7 +52,7 @@ works_queue-start : (E : Database) (D : Deployment) (a : AgentState) (q : List Q
 works_queue-start E D a [] = refl
 works_queue-start E D a (Job_ job ∷ later) = begins-start E D (record a { initiating = record a.initiating { queue = later } }) job
 works_queue-start E D a (Admission start host term ∷ later) =
-  works_queue-start E D (admitting a a.own a.decided start host term) later ∙ admitting-start a a.own a.decided start host term
+    works_queue-start E D (admitting a a.own a.decided start host term) later ∙ admitting-start a a.own a.decided start host term
 
 if_idle-start : (E : Database) (D : Deployment) (a : AgentState) (phase : Phase) → (if_idle E D a phase).state.start ≡ a.start
 if_idle-start E D a Idle = works_queue-start E D a a.initiating.queue
@@ -111,20 +110,20 @@ settles-start E D h a (Some w) = elim w.decision as (λ x. (elim x as (λ _. Tur
 
 on_finished-start : (E : Database) (D : Deployment) (h : ℕ) (a : AgentState) (phase : Phase) (work : Option Work) (p m : ℕ) → (on_finished E D h a phase work p m).state.start ≡ a.start
 on_finished-start E D h a Works (Some w) p m =
-  let done = record w { finished = p ∷ w.finished } in
-  elim w.decision as (λ x. (elim x as (λ _. Turn AgentState) [
-    | None ↦ becomes a
-    | Some d ↦
-        if w.m == m
-        then (if all_finished (all_parts D) done.finished then ends_job E D h (with_work a done) w.job d.end else becomes (with_work a done))
-        else becomes a
-  ]).state.start ≡ a.start) [
-    | None ↦ refl
-    | Some d ↦ kept-if a.start _ _ _ (kept-if a.start _ _ _ (ends_job-start E D h (with_work a done) w.job d.end) refl) refl
-  ]
+    let done = record w { finished = p ∷ w.finished } in
+    elim w.decision as (λ x. (elim x as (λ _. Turn AgentState) [
+      | None ↦ becomes a
+      | Some d ↦
+          if w.m == m
+          then (if all_finished (all_parts D) done.finished then ends_job E D h (with_work a done) w.job d.end else becomes (with_work a done))
+          else becomes a
+    ]).state.start ≡ a.start) [
+      | None ↦ refl
+      | Some d ↦ kept-if a.start _ _ _ (kept-if a.start _ _ _ (ends_job-start E D h (with_work a done) w.job d.end) refl) refl
+    ]
 on_finished-start E D h a Works None p m = refl
 on_finished-start E D h a (Closes closing parts finished) work p m =
-  kept-if a.start _ _ _ (kept-if a.start _ _ _ (settles-start E D h a work) refl) refl
+    kept-if a.start _ _ _ (kept-if a.start _ _ _ (settles-start E D h a work) refl) refl
 on_finished-start E D h a Off work p m = refl
 on_finished-start E D h a (Hears told) work p m = refl
 on_finished-start E D h a Idle work p m = refl
@@ -138,7 +137,7 @@ first_number-start a told = kept-state a.start _ _ _ refl refl
 
 hears-start : (E : Database) (D : Deployment) (h : ℕ) (a : AgentState) (told : List Heard) → (hears E D h a told).state.start ≡ a.start
 hears-start E D h a told =
-  kept-if a.start _ _ _ (closes_open-start E D h (first_number a told) told (open_told told) ∙ first_number-start a told) refl
+    kept-if a.start _ _ _ (closes_open-start E D h (first_number a told) told (open_told told) ∙ first_number-start a told) refl
 
 on_mp_state-start : (E : Database) (D : Deployment) (h : ℕ) (a : AgentState) (phase : Phase) (p m : ℕ) (is_open : Bool) (outcome : Option Outcome) → (on_mp_state E D h a phase p m is_open outcome).state.start ≡ a.start
 on_mp_state-start E D h a (Hears told) p m is_open outcome = kept-if a.start _ _ _ refl (hears-start E D h a _)
@@ -185,13 +184,13 @@ on_hello-start : (h : ℕ) (a : AgentState) (w : Option Membership) (host start 
 on_hello-start h a None host start = refl
 on_hello-start h a (Some w) host start = kept-if a.start _ _ _ refl refl
 
-asks_initiator-start : (a : AgentState) (w : Membership) (first : Option (ℕ × ℕ)) → (asks_initiator a w first).state.start ≡ a.start
-asks_initiator-start a w None = refl
-asks_initiator-start a w (Some first) = refl
+asks_initiator-start : (h : ℕ) (a : AgentState) (w : Membership) (first : Option (ℕ × ℕ)) → (asks_initiator h a w first).state.start ≡ a.start
+asks_initiator-start h a w None = refl
+asks_initiator-start h a w (Some first) = kept-if a.start _ _ _ refl refl
 
 has_loaded-start : (D : Deployment) (h : ℕ) (a : AgentState) (w : Option Membership) → (has_loaded D h a w).state.start ≡ a.start
 has_loaded-start D h a None = refl
-has_loaded-start D h a (Some w) = kept-if a.start _ _ _ (asks_initiator-start a w (initiator w)) refl
+has_loaded-start D h a (Some w) = kept-if a.start _ _ _ (asks_initiator-start h a w (initiator w)) refl
 
 on_loaded-start : (D : Deployment) (h : ℕ) (a : AgentState) (slot start : ℕ) → (on_loaded D h a slot start).state.start ≡ a.start
 on_loaded-start D h a slot start = kept-if a.start _ _ _ (has_loaded-start D h (record a { loaded = with_number slot a.loaded }) a.taken) refl
@@ -209,32 +208,32 @@ Over D h start t = (t.state.start ≡ start) ⊎ Stopped D h start t
 stops-over : (D : Deployment) (h start : ℕ) → Stopped D h start (stops D h start)
 stops-over D h start = record {
   state = refl;
-  says = λ g is other. ([], rw (is, other) refl)
+  says = λ g is other. ([], rw (is, other) refl);
 }
 
 stops_with_host-over : (D : Deployment) (h start : ℕ) → Stopped D h start (stops_with_host D h start)
 stops_with_host-over D h start = record {
   state = refl;
-  says = λ g is other. ([], rw (is, other) refl)
+  says = λ g is other. ([], rw (is, other) refl);
 }
 
 -- what follows sends nothing behind it
 then-nothing : (D : Deployment) (h start : ℕ) (t : Turn AgentState) (f : AgentState → Turn AgentState)
-  → Stopped D h start t → (f (new_agent 0)).state ≡ new_agent 0 → ((g : ℕ) → (f (new_agent 0)).sends (Agent g) ≡ [])
-  → Stopped D h start (t ▸ f)
+    → Stopped D h start t → (f (new_agent 0)).state ≡ new_agent 0 → ((g : ℕ) → (f (new_agent 0)).sends (Agent g) ≡ [])
+    → Stopped D h start (t ▸ f)
 then-nothing D h start t f s same quiet = record {
   state = ap (λ x. (f x).state) s.state ∙ same;
   says = λ g is other. let e = s.says g is other in
-    (e.0, ap (λ x. t.sends (Agent g) ++ (f x).sends (Agent g)) s.state ∙ ap (λ x. t.sends (Agent g) ++ x) (quiet g) ∙ append-nil (t.sends (Agent g)) ∙ e.1)
+      (e.0, ap (λ x. t.sends (Agent g) ++ (f x).sends (Agent g)) s.state ∙ ap (λ x. t.sends (Agent g) ++ x) (quiet g) ∙ append-nil (t.sends (Agent g)) ∙ e.1);
 }
 
 -- what came before doesn't matter
 after-other : (D : Deployment) (h start : ℕ) (t : Turn AgentState) (f : AgentState → Turn AgentState)
-  → Stopped D h start (f t.state) → Stopped D h start (t ▸ f)
+    → Stopped D h start (f t.state) → Stopped D h start (t ▸ f)
 after-other D h start t f s = record {
   state = s.state;
   says = λ g is other. let e = s.says g is other in
-    (t.sends (Agent g) ++ e.0, ap (λ x. t.sends (Agent g) ++ x) e.1 ∙ sym (append_assoc (t.sends (Agent g)) e.0 _))
+      (t.sends (Agent g) ++ e.0, ap (λ x. t.sends (Agent g) ++ x) e.1 ∙ sym (append_assoc (t.sends (Agent g)) e.0 _));
 }
 
 -- Decided is the one row in which an agent may stop
@@ -300,17 +299,17 @@ on_decided_word-start h a = kept-state a.start _ _ _ refl refl
 decides_word-start : (D : Deployment) (h : ℕ) (a : AgentState) (own : Option Membership) → (decides_word D h a own).state.start ≡ a.start
 decides_word-start D h a None = refl
 decides_word-start D h a (Some w) =
-  on_decided_word-start h (record a { decided = Some w; pending = filter (λ p. not (is_in p.target w.lost)) a.pending })
+    on_decided_word-start h (record a { decided = Some w; pending = filter (λ p. not (is_in p.target w.lost)) a.pending })
 
 agrees-start : (D : Deployment) (h : ℕ) (before : Option Membership) (a : AgentState) → (agrees D h before a).state.start ≡ a.start
 agrees-start D h before a =
-  let said = if is_other_word before a.own then says h a a.own else becomes a in
-  kept-if said.state.start _ _ _ (decides_word-start D h said.state said.state.own) refl
-  ∙ kept-if a.start (is_other_word before a.own) (says h a a.own) (becomes a) (says-start h a a.own) refl
+    let said = if is_other_word before a.own then says h a a.own else becomes a in
+    kept-if said.state.start _ _ _ (decides_word-start D h said.state said.state.own) refl
+    ∙ kept-if a.start (is_other_word before a.own) (says h a a.own) (becomes a) (says-start h a a.own) refl
 
 -- one that has stopped has no word to agree on
 agrees-nothing : (D : Deployment) (h : ℕ) (before : Option Membership)
-  → ((agrees D h before (new_agent 0)).state ≡ new_agent 0) × ((g : ℕ) → (agrees D h before (new_agent 0)).sends (Agent g) ≡ [])
+    → ((agrees D h before (new_agent 0)).state ≡ new_agent 0) × ((g : ℕ) → (agrees D h before (new_agent 0)).sends (Agent g) ≡ [])
 agrees-nothing D h None = (refl, λ g. refl)
 agrees-nothing D h (Some w) = (refl, λ g. refl)
 
@@ -324,7 +323,7 @@ row_and_word-over E D h stamp a from l = elim (row-over E D h stamp a from l) [
 
 -- of a stopped agent nothing waits, and it takes nothing
 takes_each-nothing : (E : Database) (D : Deployment) (h stamp : ℕ) (ws : List Waiting)
-  → ((takes_each E D h stamp ws (new_agent 0)).state ≡ new_agent 0) × ((g : ℕ) → (takes_each E D h stamp ws (new_agent 0)).sends (Agent g) ≡ [])
+    → ((takes_each E D h stamp ws (new_agent 0)).state ≡ new_agent 0) × ((g : ℕ) → (takes_each E D h stamp ws (new_agent 0)).sends (Agent g) ≡ [])
 takes_each-nothing E D h stamp [] = (refl, λ g. refl)
 takes_each-nothing E D h stamp (w ∷ ws) = takes_each-nothing E D h stamp ws
 
@@ -335,10 +334,10 @@ takes_each-over : (E : Database) (D : Deployment) (h stamp : ℕ) (ws : List Wai
 takes_each-over E D h stamp [] a = inl refl
 takes_each-over E D h stamp (w ∷ ws) a = elim (unless-over (a.start == 0)) [
   | inl q ↦ elim (takes_each-over E D h stamp ws (unless_stopped E D h stamp a w.from w.letter).state) [
-      | inl p ↦ inl (p ∙ q)
-      | inr s ↦ inr (after-other D h a.start (unless_stopped E D h stamp a w.from w.letter) (takes_each E D h stamp ws)
+    | inl p ↦ inl (p ∙ q)
+    | inr s ↦ inr (after-other D h a.start (unless_stopped E D h stamp a w.from w.letter) (takes_each E D h stamp ws)
         (subst (λ k. Stopped D h k (takes_each E D h stamp ws (unless_stopped E D h stamp a w.from w.letter).state)) q s))
-    ]
+  ]
   | inr s ↦ let n = takes_each-nothing E D h stamp ws in
       inr (then-nothing D h a.start (unless_stopped E D h stamp a w.from w.letter) (takes_each E D h stamp ws) s n.0 n.1)
 ]
@@ -351,7 +350,7 @@ takes_waiting-over : (E : Database) (D : Deployment) (h stamp : ℕ) (a : AgentS
 takes_waiting-over E D h stamp a = takes_each-over E D h stamp (of_term (term_in a.decided) a.waiting) (record a { waiting = above_term (term_in a.decided) a.waiting })
 
 takes_waiting-nothing : (E : Database) (D : Deployment) (h stamp : ℕ)
-  → ((takes_waiting E D h stamp (new_agent 0)).state ≡ new_agent 0) × ((g : ℕ) → (takes_waiting E D h stamp (new_agent 0)).sends (Agent g) ≡ [])
+    → ((takes_waiting E D h stamp (new_agent 0)).state ≡ new_agent 0) × ((g : ℕ) → (takes_waiting E D h stamp (new_agent 0)).sends (Agent g) ≡ [])
 takes_waiting-nothing E D h stamp = (refl, λ g. refl)
 
 -- ---- the whole of a message
@@ -359,10 +358,10 @@ takes_waiting-nothing E D h stamp = (refl, λ g. refl)
 taken-over : (E : Database) (D : Deployment) (h stamp : ℕ) (a : AgentState) (from : Actor) (l : Letter) → Over D h a.start (row_and_word E D h stamp a from l ▸ takes_waiting E D h stamp)
 taken-over E D h stamp a from l = elim (row_and_word-over E D h stamp a from l) [
   | inl q ↦ elim (takes_waiting-over E D h stamp (row_and_word E D h stamp a from l).state) [
-      | inl p ↦ inl (p ∙ q)
-      | inr s ↦ inr (after-other D h a.start (row_and_word E D h stamp a from l) (takes_waiting E D h stamp)
+    | inl p ↦ inl (p ∙ q)
+    | inr s ↦ inr (after-other D h a.start (row_and_word E D h stamp a from l) (takes_waiting E D h stamp)
         (subst (λ k. Stopped D h k (takes_waiting E D h stamp (row_and_word E D h stamp a from l).state)) q s))
-    ]
+  ]
   | inr s ↦ let n = takes_waiting-nothing E D h stamp in
       inr (then-nothing D h a.start (row_and_word E D h stamp a from l) (takes_waiting E D h stamp) s n.0 n.1)
 ]
@@ -401,43 +400,43 @@ turn-over : (E : Database) (D : Deployment) (h stamp : ℕ) (a : AgentState) (fr
 turn-over E D h stamp a from l Fair runs = takes-over E D h stamp a from l runs
 turn-over E D h stamp a from l (DiskFails answered) runs = takes-over E D h stamp a from l runs
 turn-over E D h stamp a from l (NoMemory answered) runs =
-  over-start D h a.start a.start (agent_turn E D h stamp a from l (NoMemory answered)) refl
-  (inr (subst (λ k. Stopped D h a.start (stops_with_host D h k)) (sym (start_after-same a l runs)) (stops_with_host-over D h a.start)))
+    over-start D h a.start a.start (agent_turn E D h stamp a from l (NoMemory answered)) refl
+    (inr (subst (λ k. Stopped D h a.start (stops_with_host D h k)) (sym (start_after-same a l runs)) (stops_with_host-over D h a.start)))
 turn-over E D h stamp a from l (DisksShow shown failed) runs = takes-over E D h stamp a from l runs
 
 -- ---- in the world
 
 delivered-closes : (E : Database) (w : World) (h g : ℕ) (from : Actor) (ls : List Letter) (o : Outside)
-  → ((w.agents h).start == 0) ≡ false → ((delivered E w (Agent h) from ls o).agents h).start ≡ 0
-  → is_host w.deployment g ≡ true → (g == h) ≡ false
-  → EndsWith (open_letter (msg.Closed (w.agents h).start)) ((delivered E w (Agent h) from ls o).channel (Agent h) (Agent g))
+    → ((w.agents h).start == 0) ≡ false → ((delivered E w (Agent h) from ls o).agents h).start ≡ 0
+    → is_host w.deployment g ≡ true → (g == h) ≡ false
+    → EndsWith (open_letter (msg.Closed (w.agents h).start)) ((delivered E w (Agent h) from ls o).channel (Agent h) (Agent g))
 delivered-closes E w h g from [] o runs stopped is other = let z = rw stopped at runs in absurd (cc)
 delivered-closes E w h g from (l ∷ ls) o runs stopped is other =
-  let self : (h == h) ≡ true = grind (arith, nat_tests) in
-  let z = rw self at stopped in
-  let t = agent_turn E w.deployment h (stamp_of w) (w.agents h) from l o in
-  elim (turn-over E w.deployment h (stamp_of w) (w.agents h) from l o runs) [
-    | inl q ↦ let y = rw (sym q ∙ z) at runs in absurd (cc)
-    | inr s ↦ let e = s.says g is other in
-        let before = took w.channel from (Agent h) (Agent h) (Agent g) in
-        (before ++ e.0, sent-own self before (t.sends (Agent g)) ∙ ap (λ x. before ++ x) e.1 ∙ sym (append_assoc before e.0 _))
-  ]
+    let self : (h == h) ≡ true = grind (arith, nat_tests) in
+    let z = rw self at stopped in
+    let t = agent_turn E w.deployment h (stamp_of w) (w.agents h) from l o in
+    elim (turn-over E w.deployment h (stamp_of w) (w.agents h) from l o runs) [
+      | inl q ↦ let y = rw (sym q ∙ z) at runs in absurd (cc)
+      | inr s ↦ let e = s.says g is other in
+          let before = took w.channel from (Agent h) (Agent h) (Agent g) in
+          (before ++ e.0, sent-own self before (t.sends (Agent g)) ∙ ap (λ x. before ++ x) e.1 ∙ sym (append_assoc before e.0 _))
+    ]
   where
     sent-own : (h == h) ≡ true → (before sends : List Letter) → (if h == h then before ++ sends else before) ≡ before ++ sends
     sent-own self before sends = rw self refl
 
 pub closes-last : (E : Database) (w : World) (h g : ℕ) (from : Actor) (o : Outside)
-  → nat_lt 0 (w.agents h).start ≡ true → ((step E w (event.Deliver (Agent h) from, o)).agents h).start ≡ 0
-  → is_host w.deployment g ≡ true → (g == h) ≡ false
-  → EndsWith (open_letter (msg.Closed (w.agents h).start)) ((step E w (event.Deliver (Agent h) from, o)).channel (Agent h) (Agent g))
+    → nat_lt 0 (w.agents h).start ≡ true → ((step E w (event.Deliver (Agent h) from, o)).agents h).start ≡ 0
+    → is_host w.deployment g ≡ true → (g == h) ≡ false
+    → EndsWith (open_letter (msg.Closed (w.agents h).start)) ((step E w (event.Deliver (Agent h) from, o)).channel (Agent h) (Agent g))
 closes-last E w h g from o runs stopped is other =
-  let up : ((w.agents h).start == 0) ≡ false = grind (arith, nat_tests, runs) in
-  delivered-closes E w h g from (w.channel from (Agent h)) o up stopped is other
+    let up : ((w.agents h).start == 0) ≡ false = grind (arith, nat_tests, runs) in
+    delivered-closes E w h g from (w.channel from (Agent h)) o up stopped is other
 
 -- ---- a stopped agent says nothing
 
 silent-takes : (E : Database) (D : Deployment) (h stamp : ℕ) (a : AgentState) (from b : Actor) (l : Letter) → (a.start == 0) ≡ true → start_in_letter l ≡ []
-  → (agent_takes E D h stamp a from l).sends b ≡ []
+    → (agent_takes E D h stamp a from l).sends b ≡ []
 silent-takes E D h stamp a from b l stopped none = elim l.body as (λ m. start_in_letter (record l { body = m }) ≡ [] → (agent_takes E D h stamp a from (record l { body = m })).sends b ≡ []) [
   | msg.Start start ↦ λ e. absurd (cc)
   | msg.Stop start ↦ λ e. rw stopped refl
@@ -451,25 +450,25 @@ after-none a l none = elim l.body as (λ m. start_in_letter (record l { body = m
 ] none
 
 silent-turn : (E : Database) (w : World) (h : ℕ) (from b : Actor) (l : Letter) (ls : List Letter) (o : Outside) → (w.agents h).start ≡ 0 → start_in_letter l ≡ []
-  → w.channel from (Agent h) ≡ l ∷ ls → allows w (event.Deliver (Agent h) from) o ≡ true
-  → (agent_turn E w.deployment h (stamp_of w) (w.agents h) from l o).sends b ≡ []
+    → w.channel from (Agent h) ≡ l ∷ ls → allows w (event.Deliver (Agent h) from) o ≡ true
+    → (agent_turn E w.deployment h (stamp_of w) (w.agents h) from l o).sends b ≡ []
 silent-turn E w h from b l ls Fair stopped none is may = silent-takes E w.deployment h (stamp_of w) (w.agents h) from b l (rw stopped refl) none
 silent-turn E w h from b l ls (DiskFails answered) stopped none is may = silent-takes E w.deployment h (stamp_of w) (w.agents h) from b l (rw stopped refl) none
 silent-turn E w h from b l ls (NoMemory answered) stopped none is may =
-  let z = rw (is, after-none (w.agents h) l none, stopped) at may in absurd (cc)
+    let z = rw (is, after-none (w.agents h) l none, stopped) at may in absurd (cc)
 silent-turn E w h from b l ls (DisksShow shown failed) stopped none is may = silent-takes E w.deployment h (stamp_of w) (w.agents h) from b l (rw stopped refl) none
 
 silent-delivered : (E : Database) (w : World) (h : ℕ) (from b : Actor) (ls : List Letter) (o : Outside) → w.channel from (Agent h) ≡ ls → is_some_letter ls ≡ true
-  → allows w (event.Deliver (Agent h) from) o ≡ true → (w.agents h).start ≡ 0 → starts_in (take 1 ls) ≡ []
-  → (delivered E w (Agent h) from ls o).channel (Agent h) b ≡ took w.channel from (Agent h) (Agent h) b
+    → allows w (event.Deliver (Agent h) from) o ≡ true → (w.agents h).start ≡ 0 → starts_in (take 1 ls) ≡ []
+    → (delivered E w (Agent h) from ls o).channel (Agent h) b ≡ took w.channel from (Agent h) (Agent h) b
 silent-delivered E w h from b [] o is some may stopped none = absurd (cc)
 silent-delivered E w h from b (l ∷ ls) o is some may stopped none =
-  let self : (h == h) ≡ true = grind (arith, nat_tests) in
-  let quiet = silent-turn E w h from b l ls o stopped (sym (append-nil (start_in_letter l)) ∙ none) is may in
-  rw (self, quiet) (append-nil (took w.channel from (Agent h) (Agent h) b))
+    let self : (h == h) ≡ true = grind (arith, nat_tests) in
+    let quiet = silent-turn E w h from b l ls o stopped (sym (append-nil (start_in_letter l)) ∙ none) is may in
+    rw (self, quiet) (append-nil (took w.channel from (Agent h) (Agent h) b))
 
 pub stays-silent : (E : Database) (w : World) (h : ℕ) (from b : Actor) (o : Outside)
-  → can w (event.Deliver (Agent h) from) ≡ true → allows w (event.Deliver (Agent h) from) o ≡ true
-  → (w.agents h).start ≡ 0 → starts_in (take 1 (w.channel from (Agent h))) ≡ []
-  → (step E w (event.Deliver (Agent h) from, o)).channel (Agent h) b ≡ left_by w (event.Deliver (Agent h) from) (Agent h) b
+    → can w (event.Deliver (Agent h) from) ≡ true → allows w (event.Deliver (Agent h) from) o ≡ true
+    → (w.agents h).start ≡ 0 → starts_in (take 1 (w.channel from (Agent h))) ≡ []
+    → (step E w (event.Deliver (Agent h) from, o)).channel (Agent h) b ≡ left_by w (event.Deliver (Agent h) from) (Agent h) b
 stays-silent E w h from b o some may stopped none = silent-delivered E w h from b (w.channel from (Agent h)) o refl some may stopped none

@@ -87,15 +87,18 @@ on_decided D h a None None w = takes_word D h a w
 on_decided D h a None (Some taken) w =
     if nat_lt (term_of taken) (term_of w) && not (admits w a.start) then stops_with_host D h a.start else becomes a
 
--- Loaded: with all its sites the agent asks the initiator of the word that it took to be admitted.
-abbrev pub asks_initiator : AgentState → Membership → Option (ℕ × ℕ) → Turn AgentState
-asks_initiator a w None = becomes a
-asks_initiator a w (Some first) = sending a (only (Agent first.0) (letter_in (term_of w) first.1 (msg.Admit a.start)))
+-- Loaded: with all its sites the agent asks the initiator of the word that it took to be admitted. An earlier start of its own
+-- host isn't asked.
+abbrev pub asks_initiator : ℕ → AgentState → Membership → Option (ℕ × ℕ) → Turn AgentState
+asks_initiator h a w None = becomes a
+asks_initiator h a w (Some first) =
+    if first.0 == h then becomes a
+    else sending a (only (Agent first.0) (letter_in (term_of w) first.1 (msg.Admit a.start)))
 
 abbrev pub has_loaded : Deployment → ℕ → AgentState → Option Membership → Turn AgentState
 has_loaded D h a None = becomes a
 has_loaded D h a (Some w) =
-    if list_all (λ s. is_in s a.loaded) (slots_of_host D h) then asks_initiator a w (initiator w) else becomes a
+    if list_all (λ s. is_in s a.loaded) (slots_of_host D h) then asks_initiator h a w (initiator w) else becomes a
 
 abbrev pub on_loaded : Deployment → ℕ → AgentState → ℕ → ℕ → Turn AgentState
 on_loaded D h a slot start =

@@ -4,7 +4,7 @@
 ghost use Rattle.std.specs.Prelude.{◌≡◌, true, false, [], ◌∷◌, map, Some};
 ghost use Rattle.volt_wire.specs.declared.actor.Actor.TheVariants.{Agent, Client};
 ghost use Rattle.volt_wire.specs.declared.event.Event.TheVariants.{Deliver};
-ghost use Rattle.cluster_model.specs.Runs.{IsRun};
+ghost use Rattle.cluster_model.specs.Runs.{IsRun, may_happen};
 ghost use Rattle.cluster_model.specs.Events.{can, may_recover};
 ghost use Rattle.cluster_model.specs.Toy.{toy};
 ghost use Rattle.cluster_model.specs.Rows.{outline, stampless};
@@ -67,7 +67,9 @@ pub fn initiator_lost_before_decision()
 /// on with what it shows.
 pub fn power_cut()
     ensures contents { (power_cut.cut.sites 0).contents ≡ power_cut.contents }
+    ensures cut { may_happen power_cut.applied power_cut.failing ≡ true }
     ensures recovery { IsRun toy (power_cut.recovery 1) power_cut.cut }
+    ensures other_recovery { IsRun toy (power_cut.recovery 0) power_cut.cut }
     ensures events { (power_cut.last 1).trace ≡ power_cut.events }
     ensures with_batch { outline (power_cut.last 1) ≡ power_cut.with_batch }
     ensures without_batch { outline (power_cut.last 0) ≡ power_cut.without_batch }

@@ -22,8 +22,11 @@ abbrev pub applied : World
 applied = by_first toy 6 start
 
 -- Its disk fails in the batch. The host stops, and a recovery is implied.
+abbrev pub failing : Happening
+failing = (Sync 0, DiskFails 0)
+
 abbrev pub cut : World
-cut = by_first toy 7 (step toy applied (Sync 0, DiskFails 0))
+cut = by_first toy 7 (step toy applied failing)
 
 -- the batch isn't on the disk, or is
 abbrev pub contents : List Shown
