@@ -7,12 +7,13 @@ ghost use Rattle.volt_wire.specs.declared.event.Event.{Event};
 ghost use Rattle.volt_wire.specs.declared.event.Event.TheVariants as event;
 ghost use Rattle.volt_wire.specs.declared.actor.Actor.TheVariants.{Agent};
 ghost use Rattle.volt_wire.specs.declared.message.Msg.TheVariants as msg;
+ghost use Rattle.volt_wire.specs.declared.item.TimedItem.{TimedItem};
 ghost use Rattle.cluster_model.specs.Engine.{Database};
 ghost use Rattle.cluster_model.specs.Words.{is_host};
 ghost use Rattle.cluster_model.specs.Letters.{open_letter};
 ghost use Rattle.cluster_model.specs.World.{World, stamp_of};
 ghost use Rattle.cluster_model.specs.Outside.{Outside};
-ghost use Rattle.cluster_model.specs.Events.{allows, can, step};
+ghost use Rattle.cluster_model.specs.Events.{allows, can, is_quiet_item, may_do, step};
 ghost use Rattle.cluster_model.specs.Runs.{Happening, run};
 ghost use Rattle.cluster_model.specs.Laws.{ChangesOne, EndsWith, RiseFrom, is_one_actors, actor_of, drawn_in, left_by, starts_in};
 
@@ -35,7 +36,8 @@ pub fn a_message_may_be_taken_by_its_channel()
         → can w (event.Deliver to from) ≡ can v (event.Deliver to from) }
 {}
 
-/// Whether a site may sync, a scanner scan or a client submit depends on its own state alone.
+/// Whether a site may sync, a scanner scan, a client submit or the director do its next item depends
+/// on its own state alone; an item that waits for quiet is the exception.
 pub fn own_events_may_happen_by_own_state()
     ensures sync { (w v : World) (i : ℕ) → w.deployment ≡ v.deployment → w.sites i ≡ v.sites i
         → can w (event.Sync i) ≡ can v (event.Sync i) }
@@ -43,6 +45,9 @@ pub fn own_events_may_happen_by_own_state()
         → can w (event.Scan i) ≡ can v (event.Scan i) }
     ensures submit { (w v : World) (n : ℕ) → w.deployment ≡ v.deployment → w.clients n ≡ v.clients n
         → can w (event.Submit n) ≡ can v (event.Submit n) }
+    ensures item { (w v : World) (next : TimedItem) (left : List TimedItem)
+        → w.director ≡ v.director → is_quiet_item next.item ≡ false
+        → may_do w (next ∷ left) ≡ may_do v (next ∷ left) }
 {}
 
 /// The trace grows by each event, and so the stamps rise by one.
