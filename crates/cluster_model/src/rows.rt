@@ -18,6 +18,9 @@ ghost use Rattle.cluster_model.specs.Rows.PowerCut as power_cut;
 ghost use Rattle.cluster_model.specs.Rows.MarkBeforeLength as mark;
 ghost use Rattle.cluster_model.specs.Rows.LostAndRejoined as rejoined;
 ghost use Rattle.cluster_model.specs.Rows.PartitionDown as down;
+ghost use Rattle.cluster_model.specs.Rows.StreamOfAnOldTerm as stale;
+ghost use Rattle.cluster_model.specs.Rows.JoinerHearsOfALoss as joiner;
+ghost use Rattle.cluster_model.specs.Rows.StopOvertakesStart as overtaken;
 
 /// One host: a call puts an account, and the next one reads it.
 pub fn put_and_get()
@@ -96,4 +99,26 @@ pub fn lost_and_rejoined()
 /// are recovered.
 pub fn partition_down()
     ensures shown { stampless (outline down.last) ≡ down.shown }
+{}
+
+/// A leader of an old term, whose host is lost, streams its tables to a joiner whose disk alone has
+/// the newest entry. The joiner doesn't take the stream, and its disk stays as it is.
+pub fn stream_of_an_old_term()
+    ensures run { IsRun toy stale.events stale.start }
+    ensures kept { (stale.last.sites 1).contents ≡ stale.contents }
+{}
+
+/// A joiner hears that the initiator is lost before the members do. It doesn't tell them: no message
+/// of it is under way to the others.
+pub fn joiner_hears_of_a_loss()
+    ensures run { IsRun toy joiner.events joiner.start }
+    ensures silent { map (λ h. can joiner.last (Deliver (Agent h) (Agent 5))) (1 ∷ 2 ∷ 4 ∷ [])
+        ≡ false ∷ false ∷ false ∷ [] }
+{}
+
+/// A second Stop reaches a site before the Start that was sent between the two. The site stays
+/// stopped.
+pub fn stop_overtakes_start()
+    ensures run { IsRun toy overtaken.events overtaken.start }
+    ensures stopped { (overtaken.last.sites 0).start ≡ 0 }
 {}
