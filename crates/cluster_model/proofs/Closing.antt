@@ -13,7 +13,7 @@ use Rattle.cluster_model.specs.Letters.{Letter, Turn, becomes, ◌▸◌, open_l
 use Rattle.cluster_model.specs.Laws.{EndsWith, left_by, start_in_letter, starts_in}
 use Rattle.cluster_model.specs.AgentState.{AgentState, Phase, Off, Hears, Closes, Idle, Works, Work, Job, RunCall, TakeSnapshot, Queued, Job_, Admission, Heard, new_agent, answers_client, on_reply, stops, stops_with_host}
 use Rattle.cluster_model.specs.Initiator.{begins, admitting, works_queue, if_idle, queues, answers, no_work, with_work, all_finished, open_told, rests, ends_job, goes_on, feeds, ends_round, gathers, on_frag_done, settles, on_finished, closes_open, first_number, hears, on_mp_state, on_decided_word}
-use Rattle.cluster_model.specs.Agent.{to_slot, to_partition, to_initiator, hands_on, unless_down, on_call, on_closed, on_word, on_hello, on_decided, asks_initiator, has_loaded, on_loaded, is_other_word, says, decides_word, agrees, from_agent, from_site, from_director, from_client, agent_row, row_and_word, unless_stopped, takes_each, takes_waiting, agent_runs, agent_takes, start_after, agent_turn}
+use Rattle.cluster_model.specs.Agent.{to_slot, to_partition, to_initiator, hands_on, unless_down, on_call, on_closed, on_word, on_hello, on_decided, asks_initiator, has_loaded, on_loaded, is_other_word, says, decides_word, agrees, from_agent, from_site, from_director, from_client, agent_row, row_and_word, unless_stopped, takes_each, takes_waiting, agent_runs, agent_takes, takes_start, start_taken, start_after, agent_turn}
 use Rattle.cluster_model.specs.Outside.{Outside, Fair, DiskFails, NoMemory, DisksShow}
 use Rattle.cluster_model.specs.World.{World, took, stamp_of}
 use Rattle.cluster_model.specs.Events.{delivered, allows, can, is_some_letter, step}
@@ -313,7 +313,7 @@ agrees-nothing : (D : Deployment) (h : ℕ) (before : Option Membership)
 agrees-nothing D h None = (refl, λ g. refl)
 agrees-nothing D h (Some w) = (refl, λ g. refl)
 
-row_and_word-over : (E : Database) (D : Deployment) (h stamp : ℕ) (a : AgentState) (from : Actor) (l : Letter) → Over D h a.start (row_and_word E D h stamp a from l)
+pub row_and_word-over : (E : Database) (D : Deployment) (h stamp : ℕ) (a : AgentState) (from : Actor) (l : Letter) → Over D h a.start (row_and_word E D h stamp a from l)
 row_and_word-over E D h stamp a from l = elim (row-over E D h stamp a from l) [
   | inl q ↦ inl (agrees-start D h a.own (agent_row E D h stamp a from l).state ∙ q)
   | inr s ↦ let n = agrees-nothing D h a.own in inr (then-nothing D h a.start (agent_row E D h stamp a from l) (agrees D h a.own) s n.0 n.1)
@@ -381,18 +381,32 @@ over-choice : (D : Deployment) (h s : ℕ) (c : Bool) (x y : Turn AgentState) �
 over-choice D h s true x y p q = p
 over-choice D h s false x y p q = q
 
+start-over : (D : Deployment) (h : ℕ) (a : AgentState) (from : Actor) (start : ℕ) → (a.start == 0) ≡ false → Over D h a.start (takes_start D h a from start)
+start-over D h a Director start runs = rw runs (inl refl)
+start-over D h a (Client n) start runs = inl refl
+start-over D h a (Agent g) start runs = inl refl
+start-over D h a (Site s) start runs = inl refl
+start-over D h a (Scanner x) start runs = inl refl
+
 -- of a running agent
 pub takes-over : (E : Database) (D : Deployment) (h stamp : ℕ) (a : AgentState) (from : Actor) (l : Letter) → (a.start == 0) ≡ false → Over D h a.start (agent_takes E D h stamp a from l)
 takes-over E D h stamp a from l runs = elim l.body as (λ m. Over D h a.start (agent_takes E D h stamp a from (record l { body = m }))) [
-  | msg.Start start ↦ rw runs (inl refl)
+  | msg.Start start ↦ start-over D h a from start runs
   | msg.Stop start ↦ rw runs (over-choice D h a.start _ _ _ (inr (stops-over D h a.start)) (inl refl))
   | m ↦ rw runs (runs-over E D h stamp a from (record l { body = m }))
 ]
 
 -- of a running agent, whatever the outside does
-start_after-same : (a : AgentState) (l : Letter) → (a.start == 0) ≡ false → start_after a l ≡ a.start
-start_after-same a l runs = elim l.body as (λ m. start_after a (record l { body = m }) ≡ a.start) [
-  | msg.Start start ↦ rw runs refl
+start_taken-same : (a : AgentState) (from : Actor) (start : ℕ) → (a.start == 0) ≡ false → start_taken a from start ≡ a.start
+start_taken-same a Director start runs = rw runs refl
+start_taken-same a (Client n) start runs = refl
+start_taken-same a (Agent g) start runs = refl
+start_taken-same a (Site s) start runs = refl
+start_taken-same a (Scanner x) start runs = refl
+
+pub start_after-same : (a : AgentState) (from : Actor) (l : Letter) → (a.start == 0) ≡ false → start_after a from l ≡ a.start
+start_after-same a from l runs = elim l.body as (λ m. start_after a from (record l { body = m }) ≡ a.start) [
+  | msg.Start start ↦ start_taken-same a from start runs
   | _ ↦ refl
 ]
 
@@ -401,7 +415,7 @@ turn-over E D h stamp a from l Fair runs = takes-over E D h stamp a from l runs
 turn-over E D h stamp a from l (DiskFails answered) runs = takes-over E D h stamp a from l runs
 turn-over E D h stamp a from l (NoMemory answered) runs =
     over-start D h a.start a.start (agent_turn E D h stamp a from l (NoMemory answered)) refl
-    (inr (subst (λ k. Stopped D h a.start (stops_with_host D h k)) (sym (start_after-same a l runs)) (stops_with_host-over D h a.start)))
+    (inr (subst (λ k. Stopped D h a.start (stops_with_host D h k)) (sym (start_after-same a from l runs)) (stops_with_host-over D h a.start)))
 turn-over E D h stamp a from l (DisksShow shown failed) runs = takes-over E D h stamp a from l runs
 
 -- ---- in the world
@@ -443,8 +457,8 @@ silent-takes E D h stamp a from b l stopped none = elim l.body as (λ m. start_i
   | m ↦ λ e. rw stopped refl
 ] none
 
-after-none : (a : AgentState) (l : Letter) → start_in_letter l ≡ [] → start_after a l ≡ a.start
-after-none a l none = elim l.body as (λ m. start_in_letter (record l { body = m }) ≡ [] → start_after a (record l { body = m }) ≡ a.start) [
+after-none : (a : AgentState) (from : Actor) (l : Letter) → start_in_letter l ≡ [] → start_after a from l ≡ a.start
+after-none a from l none = elim l.body as (λ m. start_in_letter (record l { body = m }) ≡ [] → start_after a from (record l { body = m }) ≡ a.start) [
   | msg.Start start ↦ λ e. absurd (cc)
   | m ↦ λ e. refl
 ] none
@@ -455,7 +469,7 @@ silent-turn : (E : Database) (w : World) (h : ℕ) (from b : Actor) (l : Letter)
 silent-turn E w h from b l ls Fair stopped none is may = silent-takes E w.deployment h (stamp_of w) (w.agents h) from b l (rw stopped refl) none
 silent-turn E w h from b l ls (DiskFails answered) stopped none is may = silent-takes E w.deployment h (stamp_of w) (w.agents h) from b l (rw stopped refl) none
 silent-turn E w h from b l ls (NoMemory answered) stopped none is may =
-    let z = rw (is, after-none (w.agents h) l none, stopped) at may in absurd (cc)
+    let z = rw (is, after-none (w.agents h) from l none, stopped) at may in absurd (cc)
 silent-turn E w h from b l ls (DisksShow shown failed) stopped none is may = silent-takes E w.deployment h (stamp_of w) (w.agents h) from b l (rw stopped refl) none
 
 silent-delivered : (E : Database) (w : World) (h : ℕ) (from b : Actor) (ls : List Letter) (o : Outside) → w.channel from (Agent h) ≡ ls → is_some_letter ls ≡ true

@@ -23,7 +23,7 @@ use Rattle.cluster_model.specs.Laws.{RiseFrom, drawn_for, drawn_by_item, drawn_b
 
 -- ---- a message draws none
 
-takes-next : (d : DirectorState) (from : Actor) (l : Letter) → d.next_start ≡ (director_takes d from l).next_start
+pub takes-next : (d : DirectorState) (from : Actor) (l : Letter) → d.next_start ≡ (director_takes d from l).next_start
 takes-next d Director l = refl
 takes-next d (Client n) l = elim l.body as (λ m. d.next_start ≡ (director_takes d (Client n) (record l { body = m })).next_start) [
   | msg.Told ↦ refl

@@ -238,6 +238,11 @@ on_start D h start =
       | _ ↦ []
     ])
 
+-- Only the director sends it to an agent.
+abbrev pub takes_start : Deployment → ℕ → AgentState → Actor → ℕ → Turn AgentState
+takes_start D h a Director start = if a.start == 0 then on_start D h start else becomes a
+takes_start D h a from start = becomes a
+
 -- Stop: an agent of a start not above it stops.
 abbrev pub on_stop : Deployment → ℕ → AgentState → ℕ → Turn AgentState
 on_stop D h a start = if nat_le a.start start then stops D h a.start else becomes a
@@ -252,7 +257,7 @@ agent_runs E D h stamp a from l = elim (arrival a.start (term_in a.decided) l) a
 -- The agent of host h after a message, and what it sends. One that is stopped takes Start alone.
 abbrev pub agent_takes : Database → Deployment → ℕ → ℕ → AgentState → Actor → Letter → Turn AgentState
 agent_takes E D h stamp a from l = elim l.body as (λ _. Turn AgentState) [
-  | msg.Start start ↦ if a.start == 0 then on_start D h start else becomes a
+  | msg.Start start ↦ takes_start D h a from start
   | msg.Stop start ↦ if a.start == 0 then becomes a else on_stop D h a start
   | _ ↦ if a.start == 0 then becomes a else agent_runs E D h stamp a from l
 ]
@@ -260,13 +265,17 @@ agent_takes E D h stamp a from l = elim l.body as (λ _. Turn AgentState) [
 -- ---- the outside's share
 
 -- the start with which it goes on once it has taken a message, before anything else
-abbrev pub start_after : AgentState → Letter → ℕ
-start_after a l = elim l.body as (λ _. ℕ) [
-  | msg.Start start ↦ if a.start == 0 then start else a.start
+abbrev pub start_taken : AgentState → Actor → ℕ → ℕ
+start_taken a Director start = if a.start == 0 then start else a.start
+start_taken a from start = a.start
+
+abbrev pub start_after : AgentState → Actor → Letter → ℕ
+start_after a from l = elim l.body as (λ _. ℕ) [
+  | msg.Start start ↦ start_taken a from start
   | _ ↦ a.start
 ]
 
 -- An agent that finds no memory stops with its host.
 abbrev pub agent_turn : Database → Deployment → ℕ → ℕ → AgentState → Actor → Letter → Outside → Turn AgentState
-agent_turn E D h stamp a from l (NoMemory answered) = stops_with_host D h (start_after a l)
+agent_turn E D h stamp a from l (NoMemory answered) = stops_with_host D h (start_after a from l)
 agent_turn E D h stamp a from l o = agent_takes E D h stamp a from l

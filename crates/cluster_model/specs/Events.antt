@@ -154,14 +154,14 @@ takes_memory l = elim l.body as (λ _. Bool) [
 ]
 
 -- whether the receiver of the first of these runs on a host, once it has taken it
-abbrev pub runs_with : World → Actor → List Letter → Bool
-runs_with w (Agent h) (l ∷ ls) = nat_lt 0 (agent_start (w.agents h) l)
-runs_with w (Site i) (l ∷ ls) = nat_lt 0 (site_start (w.sites i) l) && takes_memory l
-runs_with w (Scanner i) (l ∷ ls) = nat_lt 0 (scanner_start (w.scanners i) l) && takes_memory l
-runs_with w to ls = false
+abbrev pub runs_with : World → Actor → Actor → List Letter → Bool
+runs_with w (Agent h) from (l ∷ ls) = nat_lt 0 (agent_start (w.agents h) from l)
+runs_with w (Site i) from (l ∷ ls) = nat_lt 0 (site_start (w.sites i) l) && takes_memory l
+runs_with w (Scanner i) from (l ∷ ls) = nat_lt 0 (scanner_start (w.scanners i) l) && takes_memory l
+runs_with w to from ls = false
 
 abbrev pub may_want_memory : World → Event → ℕ → Bool
-may_want_memory w (event.Deliver to from) answered = runs_with w to (w.channel from to) && nat_le answered (parts_of w (event.Deliver to from))
+may_want_memory w (event.Deliver to from) answered = runs_with w to from (w.channel from to) && nat_le answered (parts_of w (event.Deliver to from))
 may_want_memory w (event.Sync i) answered = nat_le answered (parts_of w (event.Sync i))
 may_want_memory w (event.Scan i) answered = answered == 0
 may_want_memory w e answered = false
