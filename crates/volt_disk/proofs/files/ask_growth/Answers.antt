@@ -1,0 +1,12 @@
+use Rattle.std.proofs.Common.{◌≡◌, ap, sym, length, arith}
+use Rattle.volt_disk.specs.Stored.{stored_growth_asked}
+use Rattle.volt_disk.proofs.FileList.{item-is, changed-this, changed-ok, changed-others}
+use Rattle.volt_disk.proofs.files.ask_growth.Goals as goal
+
+pub returns-clause-ok : goal.returns-clause-ok
+returns-clause-ok c =
+    changed-this c.args.number c.args.files.now.items c.find_or_put.new.files.items c.in_ok-at.at c.index_mut.result.now c.ask_growth.new.self (stored_growth_asked c.args.to) c.in_ok-at.ensures.there.1 c.in_ok-at.ensures.same c.index_mut.ensures.value (ap (λ s. s.number) c.ask_growth.ensures) c.ask_growth.ensures
+
+pub returns-clause-others : goal.returns-clause-others
+returns-clause-others c n other =
+    changed-others c.args.number c.args.files.now.items c.find_or_put.new.files.items c.in_ok-at.at c.index_mut.result.now c.ask_growth.new.self c.in_ok-at.ensures.there.1 c.in_ok-at.ensures.same c.index_mut.ensures.value (ap (λ s. s.number) c.ask_growth.ensures) n other

@@ -1,0 +1,7 @@
+pub mod Faults
+pub mod File
+pub mod Effects
+pub mod Power
+pub mod Draws
+pub mod Stored
+pub mod Memory
