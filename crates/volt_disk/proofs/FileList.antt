@@ -45,21 +45,24 @@ stored_at-set_other n m (s ∷ ss) zero x at is other =
     stored_at-there m x ss (λ e. other (sym e ∙ is)) ∙ sym (stored_at-there m s ss (λ e. other (sym e ∙ at)))
 stored_at-set_other n m (s ∷ ss) (suc i) x at is other =
     elim (cases_eq s.number m) [
-      inl same ↦ stored_at-here m s (set ss i x) same ∙ sym (stored_at-here m s ss same) |
-      inr differs ↦ stored_at-there m s (set ss i x) differs ∙ (stored_at-set_other n m ss i x at.1 is other ∙ sym (stored_at-there m s ss differs)) ]
+      | inl same ↦ stored_at-here m s (set ss i x) same ∙ sym (stored_at-here m s ss same)
+      | inr differs ↦ stored_at-there m s (set ss i x) differs ∙ (stored_at-set_other n m ss i x at.1 is other ∙ sym (stored_at-there m s ss differs))
+    ]
 
 -- a file that isn't there is put among the others
 pub stored_at-insert : (n m : ℕ) (ss : List Stored) (i : ℕ) → StandsNowhere n ss → stored_at m (insert ss i (blank n)) ≡ stored_at m ss
 stored_at-insert n m ss zero none =
     elim (cases_eq n m) [
-      inl same ↦ stored_at-here m (blank n) ss same ∙ (ap blank same ∙ sym (stored_at-nowhere m ss (rw same at none))) |
-      inr differs ↦ stored_at-there m (blank n) ss differs ]
+      | inl same ↦ stored_at-here m (blank n) ss same ∙ (ap blank same ∙ sym (stored_at-nowhere m ss (rw same at none)))
+      | inr differs ↦ stored_at-there m (blank n) ss differs
+    ]
 stored_at-insert n m [] (suc i) none =
     elim (cases_eq n m) [ inl same ↦ stored_at-here m (blank n) [] same ∙ ap blank same | inr differs ↦ stored_at-there m (blank n) [] differs ]
 stored_at-insert n m (s ∷ ss) (suc i) none =
     elim (cases_eq s.number m) [
-      inl same ↦ stored_at-here m s (insert ss i (blank n)) same ∙ sym (stored_at-here m s ss same) |
-      inr differs ↦ stored_at-there m s (insert ss i (blank n)) differs ∙ (stored_at-insert n m ss i none.1 ∙ sym (stored_at-there m s ss differs)) ]
+      | inl same ↦ stored_at-here m s (insert ss i (blank n)) same ∙ sym (stored_at-here m s ss same)
+      | inr differs ↦ stored_at-there m s (insert ss i (blank n)) differs ∙ (stored_at-insert n m ss i none.1 ∙ sym (stored_at-there m s ss differs))
+    ]
 
 pub StandsAt-insert : (n : ℕ) (ss : List Stored) (i : ℕ) → i ≤ length ss → StandsNowhere n ss → StandsAt n i (insert ss i (blank n))
 StandsAt-insert n ss zero le none = refl
@@ -70,8 +73,9 @@ pub stored_at-number : (n : ℕ) (ss : List Stored) → (stored_at n ss).number 
 stored_at-number n [] = refl
 stored_at-number n (s ∷ ss) =
     elim (cases_eq s.number n) [
-      inl same ↦ ap (λ t. t.number) (stored_at-here n s ss same) ∙ same |
-      inr differs ↦ ap (λ t. t.number) (stored_at-there n s ss differs) ∙ stored_at-number n ss ]
+      | inl same ↦ ap (λ t. t.number) (stored_at-here n s ss same) ∙ same
+      | inr differs ↦ ap (λ t. t.number) (stored_at-there n s ss differs) ∙ stored_at-number n ss
+    ]
 
 -- the item at the place of a file, in a list that has the same files as an earlier one
 pub item-is : (n : ℕ) (old mid : List Stored) (i : ℕ) (x : Stored) → StandsAt n i mid → ((m : ℕ) → stored_at m mid ≡ stored_at m old) → x ≡ get_or mid i x → x ≡ stored_at n old
@@ -117,12 +121,13 @@ stored_at-names_synced : (n : ℕ) (ss : List Stored) → stored_at n (map store
 stored_at-names_synced n [] = refl
 stored_at-names_synced n (s ∷ ss) =
     elim (cases_eq s.number n) [
-      inl same ↦
-        stored_at-here n (stored_names_synced s) (map stored_names_synced ss) (names_synced-number s ∙ same)
-        ∙ sym (ap stored_names_synced (stored_at-here n s ss same)) |
-      inr differs ↦
-        stored_at-there n (stored_names_synced s) (map stored_names_synced ss) (λ e. differs (sym (names_synced-number s) ∙ e))
-        ∙ (stored_at-names_synced n ss ∙ sym (ap stored_names_synced (stored_at-there n s ss differs))) ]
+      | inl same ↦
+          stored_at-here n (stored_names_synced s) (map stored_names_synced ss) (names_synced-number s ∙ same)
+          ∙ sym (ap stored_names_synced (stored_at-here n s ss same))
+      | inr differs ↦
+          stored_at-there n (stored_names_synced s) (map stored_names_synced ss) (λ e. differs (sym (names_synced-number s) ∙ e))
+          ∙ (stored_at-names_synced n ss ∙ sym (ap stored_names_synced (stored_at-there n s ss differs)))
+    ]
 
 file_of-names_synced_if : (l : Listing) (s : Stored) → file_of (stored_names_synced_if l (record s { listing = l })) ≡ names_synced_if l (file_of (record s { listing = l }))
 file_of-names_synced_if Kept s = refl

@@ -19,14 +19,16 @@ pub get-overwritten : (at : ℕ) (xs old : List ℕ) (i : ℕ) → at + length x
 get-overwritten at xs old i within outside =
     let front : length (take at old) ≡ at = length-take-le at old (omega arith) in
     elim (cases_lt i at) [
-      inl below ↦ get_or_append_left (take at old) (xs ++ drop (at + length xs) old) 0 i (omega arith) ∙ get_or-take at old i 0 below |
-      inr above ↦
-        elim (cases_lt i (at + length xs)) [
-          inl inside ↦ absurd (outside (above, inside)) |
-          inr behind ↦
-            get_or-append_right (take at old) (xs ++ drop (at + length xs) old) at i 0 front above
-            ∙ (get_or-append_right xs (drop (at + length xs) old) (length xs) (i - at) 0 refl (omega arith)
-            ∙ (get_or-drop (at + length xs) old (i - at - length xs) 0 ∙ ap (λ k. get_or old k 0) (omega arith))) ] ]
+      | inl below ↦ get_or_append_left (take at old) (xs ++ drop (at + length xs) old) 0 i (omega arith) ∙ get_or-take at old i 0 below
+      | inr above ↦
+          elim (cases_lt i (at + length xs)) [
+            | inl inside ↦ absurd (outside (above, inside))
+            | inr behind ↦
+                get_or-append_right (take at old) (xs ++ drop (at + length xs) old) at i 0 front above
+                ∙ (get_or-append_right xs (drop (at + length xs) old) (length xs) (i - at) 0 refl (omega arith)
+                ∙ (get_or-drop (at + length xs) old (i - at - length xs) 0 ∙ ap (λ k. get_or old k 0) (omega arith)))
+          ]
+    ]
 
 pub length-undone : (rs : List (ℕ × List ℕ)) (bytes : List ℕ) → AreWithin (length bytes) rs → length (undone rs bytes) ≡ length bytes
 length-undone [] bytes within = refl
@@ -89,10 +91,11 @@ take-is_cut least n bytes low high =
 pub cut_to-is_cut : (least x : ℕ) (bytes : List ℕ) → least ≤ length bytes → IsCut least bytes (cut_to least x bytes).0
 cut_to-is_cut least x bytes low =
     elim (cases_eq least (length bytes)) [
-      inl same ↦ rw (eq-eqb least (length bytes) same) (record { low = omega arith; high = omega arith; same = λ i less. refl }) |
-      inr differs ↦
-        let small = mod-lt (draw_of (next_state x)) {m = length bytes - least + 1} (omega arith) in
-        rw (ne_eqb least (length bytes) differs) (take-is_cut least (least + draw_of (next_state x) % (length bytes - least + 1)) bytes (omega arith) (omega arith)) ]
+      | inl same ↦ rw (eq-eqb least (length bytes) same) (record { low = omega arith; high = omega arith; same = λ i less. refl })
+      | inr differs ↦
+          let small = mod-lt (draw_of (next_state x)) {m = length bytes - least + 1} (omega arith) in
+          rw (ne_eqb least (length bytes) differs) (take-is_cut least (least + draw_of (next_state x) % (length bytes - least + 1)) bytes (omega arith) (omega arith))
+    ]
 
 pub drawn-is_torn : (x : ℕ) (s : Stored) → s.least ≤ length s.bytes → length s.bytes ≤ s.most → IsTorn (file_of s) (drawn x s).0
 drawn-is_torn x s low high =
@@ -155,5 +158,6 @@ Progress-each choice (suc i) x0 (o ∷ olds) [] x len p n = absurd p
 Progress-each choice (suc i) x0 (o ∷ olds) (t ∷ news) x len p n =
     let number : t.number ≡ o.number = ap (λ s. s.number) p.0 in
     elim (cases_eq o.number n) [
-      inl same ↦ rw (stored_at-here n o olds same, stored_at-here n t news (number ∙ same)) p.1 |
-      inr differs ↦ rw (stored_at-there n o olds differs, stored_at-there n t news (λ e. differs (sym number ∙ e))) (Progress-each choice i (lost choice x0 o).1 olds news x (omega arith) p.2 n) ]
+      | inl same ↦ rw (stored_at-here n o olds same, stored_at-here n t news (number ∙ same)) p.1
+      | inr differs ↦ rw (stored_at-there n o olds differs, stored_at-there n t news (λ e. differs (sym number ∙ e))) (Progress-each choice i (lost choice x0 o).1 olds news x (omega arith) p.2 n)
+    ]

@@ -52,11 +52,11 @@ length-part at n xs within = simp (length-take, length-drop) (omega arith)
 pub file_of-write_asked : (at len : ℕ) (s : Stored) → at + len ≤ length s.bytes → file_of (stored_write_asked at len s) ≡ write_asked at len (file_of s)
 file_of-write_asked at len s within =
     let e : ranges (s.replaced ++ (at, slice_range s.bytes at (at + len)) ∷ []) ≡ ranges s.replaced ++ (at, len) ∷ [] =
-        ranges-push s.replaced at (slice_range s.bytes at (at + len)) ∙ ap (λ n. ranges s.replaced ++ (at, n) ∷ []) (length-part at len s.bytes within) in
+    ranges-push s.replaced at (slice_range s.bytes at (at + len)) ∙ ap (λ n. ranges s.replaced ++ (at, n) ∷ []) (length-part at len s.bytes within) in
     ap (λ w. record (file_of s) { written = w }) e
 
 pub file_of-written : (at : ℕ) (bytes : List ℕ) (s : Stored) → at + length bytes ≤ length s.bytes → file_of (stored_written at bytes s) ≡ after_write at bytes (file_of s)
 file_of-written at bytes s within =
     let e : ranges (s.replaced ++ (at, slice_range s.bytes at (at + length bytes)) ∷ []) ≡ ranges s.replaced ++ (at, length bytes) ∷ [] =
-        ranges-push s.replaced at (slice_range s.bytes at (at + length bytes)) ∙ ap (λ n. ranges s.replaced ++ (at, n) ∷ []) (length-part at (length bytes) s.bytes within) in
+    ranges-push s.replaced at (slice_range s.bytes at (at + length bytes)) ∙ ap (λ n. ranges s.replaced ++ (at, n) ∷ []) (length-part at (length bytes) s.bytes within) in
     ap (λ w. record (file_of s) { bytes = overwritten at bytes s.bytes; written = w }) e

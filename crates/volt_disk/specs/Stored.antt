@@ -77,8 +77,10 @@ stored_write_asked at len s = record s { replaced = s.replaced ++ (at, slice_ran
 
 abbrev pub stored_written : ℕ → List ℕ → Stored → Stored
 stored_written at bytes s =
-    record s { bytes = overwritten at bytes s.bytes;
-               replaced = s.replaced ++ (at, slice_range s.bytes at (at + length bytes)) ∷ [] }
+    record s {
+      bytes = overwritten at bytes s.bytes;
+      replaced = s.replaced ++ (at, slice_range s.bytes at (at + length bytes)) ∷ [];
+    }
 
 -- after a removal that was asked for, and after one that was made
 abbrev pub stored_removal_asked : Stored → Stored

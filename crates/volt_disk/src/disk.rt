@@ -8,8 +8,8 @@ ghost use Rattle.volt_disk.specs.declared.listing.Listing.TheVariants.{Kept};
 ghost use Rattle.volt_disk.specs.declared.power.Power.{Power};
 
 use std::alloc::AllocError;
-use std::error::Error;
 use std::fmt;
+use thiserror::Error;
 
 /// A call of a disk failed. Which call it was and why is left to the disk.
 #[derive(Clone, Copy, Debug, PartialEq, Eq)]
@@ -23,7 +23,40 @@ impl fmt::Display for DiskFailed {
     }
 }
 
-impl Error for DiskFailed {}
+impl std::error::Error for DiskFailed {}
+
+/// Why a log or a file of a disk wasn't read or written.
+#[derive(Clone, Copy, Debug, PartialEq, Eq, Error)]
+pub enum LogFault {
+    /// The disk failed.
+    #[error("the disk failed")]
+    DiskFailed,
+    /// There was no memory.
+    #[error("there is no memory")]
+    NoMemory,
+}
+
+impl From<DiskFailed> for LogFault {
+    ghost use Rattle.volt_disk.specs.declared.disk.LogFault.TheVariants.{DiskFailed};
+    ghost use Rattle.std.specs.Prelude.{◌≡◌};
+
+    ghost from_gives = { λ _ e. e ≡ DiskFailed };
+
+    fn from(_failed: DiskFailed) -> LogFault {
+        LogFault::DiskFailed
+    }
+}
+
+impl From<AllocError> for LogFault {
+    ghost use Rattle.volt_disk.specs.declared.disk.LogFault.TheVariants.{NoMemory};
+    ghost use Rattle.std.specs.Prelude.{◌≡◌};
+
+    ghost from_gives = { λ _ e. e ≡ NoMemory };
+
+    fn from(_error: AllocError) -> LogFault {
+        LogFault::NoMemory
+    }
+}
 
 /// Numbered files, what a read gives of them, what a crash may leave, and how often a call failed.
 ///

@@ -31,11 +31,7 @@ fn place_for(files: &Vec<MemFile>, number: u64) -> usize
 }
 
 // Where the file of a number stands, after it was put there if need be.
-fn find_or_put(
-    alloc: Global,
-    files: &mut Vec<MemFile>,
-    number: u64,
-) -> Result<usize, AllocError>
+fn find_or_put(alloc: Global, files: &mut Vec<MemFile>, number: u64) -> Result<usize, AllocError>
     ensures there { IfOk result (λ i. (i < vec_len files.new) × StandsAt number i files.new.items) }
     ensures same { (n : ℕ) → stored_at n files.new.items ≡ stored_at n files.old.items }
 {
@@ -60,12 +56,7 @@ pub fn seen_of<'a>(files: &'a Vec<MemFile>, number: u64) -> &'a [u8]
 }
 
 /// Adds zeros to a file.
-pub fn grow(
-    alloc: Global,
-    files: &mut Vec<MemFile>,
-    number: u64,
-    to: u64,
-) -> Result<(), AllocError>
+pub fn grow(alloc: Global, files: &mut Vec<MemFile>, number: u64, to: u64) -> Result<(), AllocError>
     requires { length (stored_at number files.old.items).bytes ≤ to }
     ensures ok { OnOk result (stored_at number files.new.items ≡ stored_grown to (stored_at number files.old.items)) }
     ensures err { OnErr result (stored_at number files.new.items ≡ stored_at number files.old.items) }

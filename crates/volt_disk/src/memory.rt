@@ -35,13 +35,7 @@ impl Turn {
         match fate {
             Fate::Dark => Turn::Off,
             Fate::Cut => Turn::Lost,
-            Fate::Works => {
-                if numbered {
-                    Turn::Numbered
-                } else {
-                    Turn::Done
-                }
-            }
+            Fate::Works => { if numbered { Turn::Numbered } else { Turn::Done } }
         }
     }
 }
@@ -256,7 +250,13 @@ impl Disk for MemDisk {
                 Ok(()) => Err(self.fault()),
                 Err(AllocError) => Err(self.starve()),
             },
-            Turn::Numbered => match files::ask_write(self.alloc, &mut self.files, file, at, bytes.len()) {
+            Turn::Numbered => match files::ask_write(
+                self.alloc,
+                &mut self.files,
+                file,
+                at,
+                bytes.len(),
+            ) {
                 Ok(()) => Err(self.fault()),
                 Err(AllocError) => Err(self.starve()),
             },
@@ -288,7 +288,6 @@ impl Disk for MemDisk {
     }
 
     fn remove(&mut self, file: u64) -> Result<(), DiskFailed>
-
         ensures fails { FailsBy (turn_of self.old) result self.old.starved self.new.starved }
         ensures changes { ChangesTo result self.old.starved self.new.starved (told_of self.old file) (told_of self.new file)
             (by_turn (turn_of self.old) (told_of self.old file) (removal_asked (told_of self.old file)) (removed (told_of self.old file))) }

@@ -1,0 +1,4 @@
+pub mod Files
+pub mod Batches
+pub mod Append
+pub mod ReadBatches
