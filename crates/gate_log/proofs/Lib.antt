@@ -2,3 +2,4 @@ pub mod Files
 pub mod Batches
 pub mod Append
 pub mod ReadBatches
+pub mod Opened

@@ -1,5 +1,5 @@
 -- A log of batches in a file of a disk.
-use Rattle.std.specs.Prelude.{◌≡◌, ◌≢◌, ◌⊎◌, ℕ, zero, suc, ◌+◌, ◌<◌, ◌≤◌, List, [], ◌∷◌, ◌++◌, length, slice_index, All}
+use Rattle.std.specs.Prelude.{◌≡◌, ◌≢◌, ◌⊎◌, ℕ, zero, suc, ◌+◌, ◌<◌, ◌≤◌, List, [], ◌∷◌, ◌++◌, length, drop, slice_index, All}
 use Rattle.volt_disk.specs.declared.power.Power.{Power}
 use Rattle.volt_disk.specs.File.{File, IsImage, settled}
 use Rattle.volt_disk.specs.Power.{after_call}
@@ -47,3 +47,18 @@ after_calls (suc n) power = after_calls n (after_call power)
 pub record SamePlans (before now : Power) : Type 0 where
   pub plans : now.plans ≡ before.plans
   pub last : now.last ≡ before.last
+
+-- the batches of the bytes end at a place, and none stands there
+pub record IsFound (place : ℕ) (bytes : List ℕ) : Type 0 where
+  pub within : place ≤ length bytes
+  pub whole : bytes ≡ spelled (batches bytes) ++ drop place bytes
+  pub len : place ≡ length (spelled (batches bytes))
+  pub fits : AllFit (batches bytes)
+
+-- The file has the batches of the bytes, and behind them a closed gate with zeros or nothing, as many as before; and
+-- a crash leaves exactly that.
+pub record IsCleared (place : ℕ) (bytes : List ℕ) (f : File) : Type 0 where
+  pub rest : List ℕ
+  pub is_rest : IsRest rest
+  pub len : place + length rest ≡ length bytes
+  pub durable : f ≡ settled (spelled (batches bytes) ++ rest)

@@ -1,7 +1,8 @@
 //! Batches from the front of bytes.
-ghost use Rattle.std.specs.Prelude.{◌≡◌, ◌≤◌, ◌++◌, length, drop, option_map, IfOk, None};
+ghost use Rattle.std.specs.Prelude.{◌≡◌, option_map, IfOk};
 ghost use Rattle.volt_base.specs.Reading.{body_at};
-ghost use Rattle.gate_log.specs.Batches.{first_batch, batches, spelled, AllFit};
+ghost use Rattle.gate_log.specs.Batches.{first_batch, batches};
+ghost use Rattle.gate_log.specs.Log.{IsFound};
 
 use crate::log::OPEN;
 use std::alloc::{AllocError, Global};
@@ -41,11 +42,7 @@ fn next_batch(bytes: &[u8]) -> Option<(&[u8], &[u8])>
 
 /// How many bytes the batches take at the front of the bytes.
 pub fn len_of_batches(bytes: &[u8]) -> usize
-    ensures within { result ≤ length bytes.now }
-    ensures whole { bytes.now ≡ spelled (batches bytes.now) ++ drop result bytes.now }
-    ensures len { result ≡ length (spelled (batches bytes.now)) }
-    ensures fits { AllFit (batches bytes.now) }
-    ensures none { first_batch (drop result bytes.now) ≡ None }
+    ensures { IsFound result bytes.now }
 {
     let mut rest = bytes;
     while let Some((_, behind)) = next_batch(rest) {

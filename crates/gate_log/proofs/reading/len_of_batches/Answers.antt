@@ -11,11 +11,13 @@ pub loop-behind-preserved : goal.loop-behind-preserved
 loop-behind-preserved c =
     IsRead-more c.args.bytes.now c.loop-behind.rest.now _ c.in-Some.behind.now (λ i. omega (arith, c.type_inv.bytes i)) c.loop-behind.invariant (sym c.in-Some.ensures)
 
-pub returns-clause-whole : goal.returns-clause-whole
-returns-clause-whole c = IsRead-whole c.args.bytes.now c.loop-behind.rest.now c.loop-behind.invariant (sym c.in_default.ensures)
-
-pub returns-clause-len : goal.returns-clause-len
-returns-clause-len c = IsRead-len c.args.bytes.now c.loop-behind.rest.now c.loop-behind.invariant (sym c.in_default.ensures)
-
-pub returns-clause-fits : goal.returns-clause-fits
-returns-clause-fits c = rw (IsRead-all c.args.bytes.now c.loop-behind.rest.now c.loop-behind.invariant (sym c.in_default.ensures)) c.loop-behind.invariant.2
+pub returns : goal.returns
+returns c =
+    let read = c.loop-behind.invariant in
+    let none = sym c.in_default.ensures in
+    record {
+      within = omega arith;
+      whole = IsRead-whole c.args.bytes.now c.loop-behind.rest.now read none;
+      len = IsRead-len c.args.bytes.now c.loop-behind.rest.now read none;
+      fits = rw (IsRead-all c.args.bytes.now c.loop-behind.rest.now read none) read.2;
+    }
