@@ -5,3 +5,4 @@ pub mod Power
 pub mod Draws
 pub mod Stored
 pub mod Memory
+pub mod Folder

@@ -5,6 +5,7 @@
 pub mod disk;
 mod draws;
 mod files;
+pub mod folder;
 pub mod listing;
 pub mod memory;
 pub mod power;
