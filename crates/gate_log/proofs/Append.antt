@@ -40,11 +40,11 @@ gate-shape P R bb size x room fits =
     let long : length L ≡ size = length-lengthened size (P ++ R) fits in
     let front : length (take (E + 1) L) ≡ E + 1 = length-take-le (E + 1) L (omega arith) in
     let before : take E (overwritten (E + 1) bb L) ≡ P =
-        take-append-le E (take (E + 1) L) (bb ++ drop (E + 1 + length bb) L) (omega arith)
-        ∙ (take-within E (E + 1) L (omega arith)
-        ∙ (ap (take E) (append_assoc P R (replicate (size - length (P ++ R)) 0)) ∙ take_at P (R ++ replicate (size - length (P ++ R)) 0) E refl)) in
+    take-append-le E (take (E + 1) L) (bb ++ drop (E + 1 + length bb) L) (omega arith)
+    ∙ (take-within E (E + 1) L (omega arith)
+    ∙ (ap (take E) (append_assoc P R (replicate (size - length (P ++ R)) 0)) ∙ take_at P (R ++ replicate (size - length (P ++ R)) 0) E refl)) in
     let behind : drop (E + 1) (overwritten (E + 1) bb L) ≡ bb ++ drop (E + 1 + length bb) L =
-        drop_at (take (E + 1) L) (bb ++ drop (E + 1 + length bb) L) (E + 1) front in
+    drop_at (take (E + 1) L) (bb ++ drop (E + 1 + length bb) L) (E + 1) front in
     rw (before, behind) refl
 
 zeros-drop : (m : ℕ) (R zeros : List ℕ) → IsRest R → All (λ b. b ≡ 0) zeros → All (λ b. b ≡ 0) (drop (1 + m) (R ++ zeros))
@@ -59,7 +59,7 @@ behind-zeros P R size m is =
     let zeros : List ℕ = replicate (size - length (P ++ R)) 0 in
     let at : length P + 1 + m ≡ length P + (1 + m) = omega arith in
     rw (append_assoc P R zeros, at, drop-append-add P (R ++ zeros) (1 + m))
-        (zeros-drop m R zeros is (All-replicate (λ b. b ≡ 0) (size - length (P ++ R)) 0 refl))
+    (zeros-drop m R zeros is (All-replicate (λ b. b ≡ 0) (size - length (P ++ R)) 0 refl))
 
 -- with any gate it is the batches, that gate, the body, and zeros
 record Shape (log : GateLog) (size : ℕ) (body bytes : List ℕ) : Type 0 where
@@ -104,7 +104,7 @@ append-gate log f0 f1 f2 size body ready short room grows first each image is =
     let bytes : f1.bytes ≡ overwritten (log.end + 1) (body_bytes body) (lengthened size f0.bytes) = ap (λ f. f.bytes) first in
     let any = each image is in
     let whole : image ≡ spelled (batches f0.bytes) ++ any.0 ∷ (body_bytes body ++ s.zeros) =
-        any.1 ∙ (ap (overwritten log.end (any.0 ∷ [])) bytes ∙ s.is any.0) in
+    any.1 ∙ (ap (overwritten log.end (any.0 ∷ [])) bytes ∙ s.is any.0) in
     let before : seen f0 ≡ f0.bytes = seen-settled f0 ready.durable in
     rw (before, whole) (batches-gate (batches f0.bytes) any.0 body s.zeros ready.fits short s.are_zeros)
 
@@ -114,18 +114,18 @@ append-ready log now f0 f1 f2 size body ready short room grows first second end 
     let s = shape log f0 size body ready room grows in
     let bytes : f1.bytes ≡ overwritten (log.end + 1) (body_bytes body) (lengthened size f0.bytes) = ap (λ f. f.bytes) first in
     let whole : f2.bytes ≡ spelled (batches f0.bytes) ++ open_gate ∷ (body_bytes body ++ s.zeros) =
-        ap (λ f. f.bytes) second ∙ (ap (overwritten log.end (open_gate ∷ [])) bytes ∙ s.is open_gate) in
+    ap (λ f. f.bytes) second ∙ (ap (overwritten log.end (open_gate ∷ [])) bytes ∙ s.is open_gate) in
     let holds : batches f2.bytes ≡ batches f0.bytes ++ body ∷ [] =
-        ap batches whole ∙ batches-opened (batches f0.bytes) body s.zeros ready.fits short s.are_zeros in
+    ap batches whole ∙ batches-opened (batches f0.bytes) body s.zeros ready.fits short s.are_zeros in
     let spells : spelled (batches f2.bytes) ≡ spelled (batches f0.bytes) ++ open_gate ∷ body_bytes body =
-        ap spelled holds ∙ (spelled-append (batches f0.bytes) (body ∷ []) ∙ ap (λ l. spelled (batches f0.bytes) ++ open_gate ∷ l) (append-nil (body_bytes body))) in
+    ap spelled holds ∙ (spelled-append (batches f0.bytes) (body ∷ []) ∙ ap (λ l. spelled (batches f0.bytes) ++ open_gate ∷ l) (append-nil (body_bytes body))) in
     let grown : length (lengthened size f0.bytes) ≡ size = length-lengthened size f0.bytes grows in
     let inner : length f1.bytes ≡ size =
-        ap length bytes ∙ (length-overwritten (log.end + 1) (body_bytes body) (lengthened size f0.bytes) (omega arith) ∙ grown) in
+    ap length bytes ∙ (length-overwritten (log.end + 1) (body_bytes body) (lengthened size f0.bytes) (omega arith) ∙ grown) in
     let outer : length f2.bytes ≡ size =
-        ap (λ f. length f.bytes) second ∙ (length-overwritten log.end (open_gate ∷ []) f1.bytes (omega arith) ∙ inner) in
+    ap (λ f. length f.bytes) second ∙ (length-overwritten log.end (open_gate ∷ []) f1.bytes (omega arith) ∙ inner) in
     let last : length (spelled (batches f2.bytes)) ≡ length (spelled (batches f0.bytes)) + (1 + length (body_bytes body)) =
-        ap length spells ∙ (length-append (spelled (batches f0.bytes)) (open_gate ∷ body_bytes body) ∙ omega arith) in
+    ap length spells ∙ (length-append (spelled (batches f0.bytes)) (open_gate ∷ body_bytes body) ∙ omega arith) in
     let first_end : log.end ≡ length (spelled (batches f0.bytes)) = ready.ends in
     record {
       durable = second ∙ ap settled (sym (ap (λ f. f.bytes) second));

@@ -123,28 +123,29 @@ batches-kept bodies rest bytes image parts closed fits keeps =
     let long : length (spelled bodies) ≤ length image = let n = keeps.no_shorter in omega arith in
     let len : length (take (length (spelled bodies)) image) ≡ length (spelled bodies) = length-take-le (length (spelled bodies)) image long in
     let front : take (length (spelled bodies)) image ≡ spelled bodies =
-        same_places (take (length (spelled bodies)) image) (spelled bodies) len (λ i less.
-            get_or-take (length (spelled bodies)) image i 0 (omega (arith, less, len))
-            ∙ (keeps.same i (omega (arith, less, len))
-            ∙ (ap (λ b. get_or b i 0) parts ∙ get_or_append_left (spelled bodies) rest 0 i (omega (arith, less, len))))) in
+    same_places (take (length (spelled bodies)) image) (spelled bodies) len (λ i less.
+    get_or-take (length (spelled bodies)) image i 0 (omega (arith, less, len))
+    ∙ (keeps.same i (omega (arith, less, len))
+    ∙ (ap (λ b. get_or b i 0) parts ∙ get_or_append_left (spelled bodies) rest 0 i (omega (arith, less, len))))) in
     let whole : image ≡ spelled bodies ++ drop (length (spelled bodies)) image =
-        sym (take-append-drop (length (spelled bodies)) image) ∙ ap (λ p. p ++ drop (length (spelled bodies)) image) front in
+    sym (take-append-drop (length (spelled bodies)) image) ∙ ap (λ p. p ++ drop (length (spelled bodies)) image) front in
     let gate : get_or (drop (length (spelled bodies)) image) 0 0 ≡ get_or rest 0 0 =
-        get_or-drop (length (spelled bodies)) image 0 0
-        ∙ (keeps.same (length (spelled bodies) + 0) (omega arith)
-        ∙ (ap (λ b. get_or b (length (spelled bodies) + 0) 0) parts ∙ get_or-append-add (spelled bodies) rest 0 0)) in
+    get_or-drop (length (spelled bodies)) image 0 0
+    ∙ (keeps.same (length (spelled bodies) + 0) (omega arith)
+    ∙ (ap (λ b. get_or b (length (spelled bodies) + 0) 0) parts ∙ get_or-append-add (spelled bodies) rest 0 0)) in
     ap batches whole ∙ batches-rest bodies (drop (length (spelled bodies)) image) fits (λ is_open. closed (sym gate ∙ is_open))
 
 pub batches-opened : (bodies : List (List ℕ)) (body zeros : List ℕ) → AllFit bodies → length body < 2 ^ 32 → All (λ b. b ≡ 0) zeros → batches (spelled bodies ++ open_gate ∷ (body_bytes body ++ zeros)) ≡ bodies ++ body ∷ []
 batches-opened bodies body zeros fits short all =
     batches-spelled bodies (open_gate ∷ (body_bytes body ++ zeros)) fits
     ∙ ap (λ l. bodies ++ l)
-        (batches-first (open_gate ∷ (body_bytes body ++ zeros)) (body, zeros) (first_batch-open body zeros short)
-        ∙ ap (λ l. body ∷ l) (batches-closed zeros (IsRest-closed zeros (IsRest-zeros zeros all))))
+    (batches-first (open_gate ∷ (body_bytes body ++ zeros)) (body, zeros) (first_batch-open body zeros short)
+    ∙ ap (λ l. body ∷ l) (batches-closed zeros (IsRest-closed zeros (IsRest-zeros zeros all))))
 
 -- with a gate of any kind before a body that was written, there is that body or not
 pub batches-gate : (bodies : List (List ℕ)) (gate : ℕ) (body zeros : List ℕ) → AllFit bodies → length body < 2 ^ 32 → All (λ b. b ≡ 0) zeros → (batches (spelled bodies ++ gate ∷ (body_bytes body ++ zeros)) ≡ bodies) ⊎ (batches (spelled bodies ++ gate ∷ (body_bytes body ++ zeros)) ≡ bodies ++ body ∷ [])
 batches-gate bodies gate body zeros fits short all =
     elim (cases_eq gate open_gate) [
-      inl same ↦ inr (rw same (batches-opened bodies body zeros fits short all)) |
-      inr differs ↦ inl (batches-rest bodies (gate ∷ (body_bytes body ++ zeros)) fits differs) ]
+      | inl same ↦ inr (rw same (batches-opened bodies body zeros fits short all))
+      | inr differs ↦ inl (batches-rest bodies (gate ∷ (body_bytes body ++ zeros)) fits differs)
+    ]

@@ -34,10 +34,11 @@ get-zeros (suc n) (suc i) = get-zeros n i
 pub get-lengthened : (to : ℕ) (bytes : List ℕ) (i : ℕ) → get_or (lengthened to bytes) i 0 ≡ get_or bytes i 0
 get-lengthened to bytes i =
     elim (cases_lt i (length bytes)) [
-      inl within ↦ get_or_append_left bytes (replicate (to - length bytes) 0) 0 i within |
-      inr behind ↦
-        get_or-append_right bytes (replicate (to - length bytes) 0) (length bytes) i 0 refl behind
-        ∙ (get-zeros (to - length bytes) (i - length bytes) ∙ sym (get_or_past bytes i 0 behind)) ]
+      | inl within ↦ get_or_append_left bytes (replicate (to - length bytes) 0) 0 i within
+      | inr behind ↦
+          get_or-append_right bytes (replicate (to - length bytes) 0) (length bytes) i 0 refl behind
+          ∙ (get-zeros (to - length bytes) (i - length bytes) ∙ sym (get_or_past bytes i 0 behind))
+    ]
 
 -- the file is still there, no shorter than these bytes, and the first n places are theirs, whatever a crash leaves
 pub record Holding (n : ℕ) (bytes : List ℕ) (f : File) : Type 0 where
@@ -52,10 +53,11 @@ Holding-image n bytes f h image (inl torn) = record {
   no_shorter = let l = h.least in let t = torn.no_shorter in omega arith;
   same = λ i less.
       elim (cases_lt i (length image)) [
-        inl within ↦ torn.others i within (h.clear i less) ∙ h.same i less |
-        inr behind ↦
-          let l = h.least in let t = torn.no_shorter in
-          get_or_past image i 0 behind ∙ sym (get_or_past bytes i 0 (omega arith)) ];
+        | inl within ↦ torn.others i within (h.clear i less) ∙ h.same i less
+        | inr behind ↦
+            let l = h.least in let t = torn.no_shorter in
+            get_or_past image i 0 behind ∙ sym (get_or_past bytes i 0 (omega arith))
+      ];
 }
 Holding-image n bytes f h image (inr gone) = absurd (rw h.kept at gone.0)
 
@@ -67,7 +69,8 @@ Holding-growth_asked n to bytes f h = record { kept = h.kept; least = h.least; l
 
 pub Holding-grown : (n to : ℕ) (bytes : List ℕ) (f : File) → Holding n bytes f → Holding n bytes (grown to f)
 Holding-grown n to bytes f h = record {
-  kept = h.kept; least = h.least;
+  kept = h.kept;
+  least = h.least;
   long = let l = h.long in simp length-append (omega arith);
   clear = h.clear;
   same = λ i less. get-lengthened to f.bytes i ∙ h.same i less;
@@ -86,11 +89,17 @@ still_clear n at len f clear behind i less some =
 
 pub Holding-write_asked : (n at len : ℕ) (bytes : List ℕ) (f : File) → n ≤ at → Holding n bytes f → Holding n bytes (write_asked at len f)
 Holding-write_asked n at len bytes f behind h = record {
-  kept = h.kept; least = h.least; long = h.long; clear = still_clear n at len f h.clear behind; same = h.same }
+  kept = h.kept;
+  least = h.least;
+  long = h.long;
+  clear = still_clear n at len f h.clear behind;
+  same = h.same;
+}
 
 pub Holding-written : (n at : ℕ) (xs bytes : List ℕ) (f : File) → n ≤ at → at + length xs ≤ length f.bytes → Holding n bytes f → Holding n bytes (after_write at xs f)
 Holding-written n at xs bytes f behind within h = record {
-  kept = h.kept; least = h.least;
+  kept = h.kept;
+  least = h.least;
   long = let l = h.long in rw (length-overwritten at xs f.bytes within) l;
   clear = still_clear n at (length xs) f h.clear behind;
   same = λ i less. get-overwritten at xs f.bytes i within (λ r. let low = r.0 in absurd (omega arith)) ∙ h.same i less;
@@ -117,11 +126,14 @@ Settling-image place bytes f within s image (inl torn) =
     let least = s.least in
     let most = s.most in
     let any = get_or image place 0 in
-    let len : length (overwritten place (any ∷ []) bytes) ≡ length bytes = length-overwritten place (any ∷ []) bytes (omega arith) in
-    (any, same_places image (overwritten place (any ∷ []) bytes) (omega arith) (λ i less.
-        elim (cases_eq i place) [
-          inl here ↦ rw here (sym (get-overwritten_at place any bytes within)) |
-          inr other ↦ torn.others i less (s.clear i other) ∙ (s.same i other ∙ sym (get-overwritten place (any ∷ []) bytes i (omega arith) (λ r. let l = r.0 in let h = r.1 in other (omega arith)))) ]))
+    let len : length (overwritten place (any ∷ []) bytes) ≡ length bytes = length-overwritten place (any ∷ []) bytes (omega arith) in (
+      any,
+      same_places image (overwritten place (any ∷ []) bytes) (omega arith) (λ i less.
+          elim (cases_eq i place) [
+            | inl here ↦ rw here (sym (get-overwritten_at place any bytes within))
+            | inr other ↦ torn.others i less (s.clear i other) ∙ (s.same i other ∙ sym (get-overwritten place (any ∷ []) bytes i (omega arith) (λ r. let l = r.0 in let h = r.1 in other (omega arith))))
+          ]),
+    )
 Settling-image place bytes f within s image (inr gone) = absurd (rw s.kept at gone.0)
 
 pub Settling-settled : (place : ℕ) (bytes : List ℕ) → Settling place bytes (settled bytes)
@@ -136,7 +148,10 @@ Settling-asked place bytes = record { kept = refl; least = refl; most = refl; cl
 
 pub Settling-written : (place x : ℕ) (bytes : List ℕ) → place < length bytes → Settling place bytes (after_write place (x ∷ []) (settled bytes))
 Settling-written place x bytes within = record {
-  kept = refl; least = refl; most = refl; clear = λ i other. in_one i place other;
+  kept = refl;
+  least = refl;
+  most = refl;
+  clear = λ i other. in_one i place other;
   same = λ i other. get-overwritten place (x ∷ []) bytes i (omega arith) (λ r. let l = r.0 in let h = r.1 in other (omega arith));
 }
 
@@ -145,9 +160,9 @@ pub gate-write_failed : (place x : ℕ) (old new : File) → old ≡ settled old
 gate-write_failed place x old new durable within failed =
     Settling-image place old.bytes new within
     (FailsAs-any (Settling place old.bytes) old (write_asked place 1 old) (after_write place (x ∷ []) old) new failed
-        (rw durable (Settling-settled place old.bytes))
-        (rw durable (Settling-asked place old.bytes))
-        (rw durable (Settling-written place x old.bytes within)))
+    (rw durable (Settling-settled place old.bytes))
+    (rw durable (Settling-asked place old.bytes))
+    (rw durable (Settling-written place x old.bytes within)))
 
 -- a write behind the front failed after a growth, in whatever way
 pub behind-write_failed : (n size at : ℕ) (xs : List ℕ) (old mid new : File) → old ≡ settled old.bytes → mid ≡ grown size old → length old.bytes ≤ size → n ≤ at → at + length xs ≤ size → FailsAs mid (write_asked at (length xs) mid) (after_write at xs mid) new → EachImage new (KeepsFront n old.bytes)
@@ -156,4 +171,4 @@ behind-write_failed n size at xs old mid new durable grew le behind within faile
     let room : at + length xs ≤ length mid.bytes = rw grew (rw (length-lengthened size old.bytes le) within) in
     Holding-image n old.bytes new
     (FailsAs-any (Holding n old.bytes) mid (write_asked at (length xs) mid) (after_write at xs mid) new failed
-        holds (Holding-write_asked n at (length xs) old.bytes mid behind holds) (Holding-written n at xs old.bytes mid behind room holds))
+    holds (Holding-write_asked n at (length xs) old.bytes mid behind holds) (Holding-written n at xs old.bytes mid behind room holds))

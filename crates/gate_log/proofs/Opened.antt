@@ -18,9 +18,10 @@ use Rattle.gate_log.proofs.Append.{settled-only, seen-settled}
 pub overwritten-same : (place : ℕ) (bytes : List ℕ) → place < length bytes → overwritten place (get_or bytes place 0 ∷ []) bytes ≡ bytes
 overwritten-same place bytes within =
     same_places (overwritten place (get_or bytes place 0 ∷ []) bytes) bytes (length-overwritten place (get_or bytes place 0 ∷ []) bytes (omega arith)) (λ i less.
-        elim (cases_eq i place) [
-          inl here ↦ rw here (get-overwritten_at place (get_or bytes place 0) bytes within) |
-          inr other ↦ get-overwritten place (get_or bytes place 0 ∷ []) bytes i (omega arith) (λ r. let l = r.0 in let h = r.1 in other (omega arith)) ])
+    elim (cases_eq i place) [
+      | inl here ↦ rw here (get-overwritten_at place (get_or bytes place 0) bytes within)
+      | inr other ↦ get-overwritten place (get_or bytes place 0 ∷ []) bytes i (omega arith) (λ r. let l = r.0 in let h = r.1 in other (omega arith))
+    ])
 
 pub synced-settled : (f : File) → f.listing ≡ Kept → synced f ≡ settled f.bytes
 synced-settled f kept = ap (λ l. synced_if l f) kept ∙ ap (λ l. record (settled f.bytes) { listing = l }) kept
@@ -72,12 +73,13 @@ close-failed place bytes f found less is_open each image is =
     let P : List ℕ = spelled (batches bytes) in
     let at : place ≡ length P = found.len in
     let whole : image ≡ P ++ any.0 ∷ behind.tail =
-        any.1 ∙ (ap (overwritten place (any.0 ∷ [])) behind.parts ∙ gate-behind_at place P behind.gate any.0 behind.tail at) in
+    any.1 ∙ (ap (overwritten place (any.0 ∷ [])) behind.parts ∙ gate-behind_at place P behind.gate any.0 behind.tail at) in
     elim (cases_eq any.0 open_gate) [
-      inl same ↦
-        let before : image ≡ bytes = whole ∙ (ap (λ g. P ++ g ∷ behind.tail) (same ∙ (sym is_open ∙ behind.at)) ∙ sym behind.parts) in
-        ap batches before |
-      inr closed ↦ ap batches whole ∙ batches-rest (batches bytes) (any.0 ∷ behind.tail) found.fits closed ]
+      | inl same ↦
+          let before : image ≡ bytes = whole ∙ (ap (λ g. P ++ g ∷ behind.tail) (same ∙ (sym is_open ∙ behind.at)) ∙ sym behind.parts) in
+          ap batches before
+      | inr closed ↦ ap batches whole ∙ batches-rest (batches bytes) (any.0 ∷ behind.tail) found.fits closed
+    ]
 
 -- the zeros were not written, in whatever way
 pub clear-failed : (place byte : ℕ) (bytes zeros : List ℕ) (old new : File) → IsFound place bytes → place < length bytes → byte ≢ open_gate → old ≡ settled (overwritten place (byte ∷ []) bytes) → place + 1 + length zeros ≤ length bytes → FailsAs old (write_asked (place + 1) (length zeros) old) (after_write (place + 1) zeros old) new → HoldsAlways (batches bytes) new
@@ -88,12 +90,12 @@ clear-failed place byte bytes zeros old new found less closed durable room faile
     let F : List ℕ = overwritten place (byte ∷ []) bytes in
     let len : length F ≡ length bytes = length-overwritten place (byte ∷ []) bytes (omega arith) in
     let whole : F ≡ P ++ byte ∷ behind.tail =
-        ap (overwritten place (byte ∷ [])) behind.parts ∙ gate-behind_at place P behind.gate byte behind.tail at in
+    ap (overwritten place (byte ∷ [])) behind.parts ∙ gate-behind_at place P behind.gate byte behind.tail at in
     let start : Holding (place + 1) F old = rw durable (Holding-settled (place + 1) F) in
     let long : length old.bytes ≡ length F = ap (λ f. length f.bytes) durable in
     let holds = FailsAs-any (Holding (place + 1) F) old (write_asked (place + 1) (length zeros) old) (after_write (place + 1) zeros old) new failed
-        start (Holding-write_asked (place + 1) (place + 1) (length zeros) F old (omega arith) start)
-        (Holding-written (place + 1) (place + 1) zeros F old (omega arith) (omega arith) start) in
+    start (Holding-write_asked (place + 1) (place + 1) (length zeros) F old (omega arith) start)
+    (Holding-written (place + 1) (place + 1) zeros F old (omega arith) (omega arith) start) in
     let keeps = Holding-image (place + 1) F new holds image is in
     batches-kept (batches bytes) (byte ∷ behind.tail) F image whole closed found.fits (subst (λ p. KeepsFront (p + 1) F image) at keeps)
 
@@ -106,12 +108,12 @@ cleared place byte n bytes old new found less closed durable count written =
     let F : List ℕ = overwritten place (byte ∷ []) bytes in
     let len : length bytes ≡ length P + suc (length behind.tail) = ap length behind.parts ∙ length-append P (behind.gate ∷ behind.tail) in
     let whole : F ≡ P ++ byte ∷ behind.tail =
-        ap (overwritten place (byte ∷ [])) behind.parts ∙ gate-behind_at place P behind.gate byte behind.tail at in
+    ap (overwritten place (byte ∷ [])) behind.parts ∙ gate-behind_at place P behind.gate byte behind.tail at in
     let all : n ≡ length behind.tail = omega arith in
     let zeros : List ℕ = replicate n 0 in
     let long : length zeros ≡ n = length-replicate n 0 in
     let over : overwritten (place + 1) zeros F ≡ P ++ byte ∷ zeros =
-        ap (λ p. overwritten (p + 1) zeros F) at ∙ (ap (overwritten (length P + 1) zeros) whole ∙ tail-behind P byte behind.tail zeros (long ∙ all)) in
+    ap (λ p. overwritten (p + 1) zeros F) at ∙ (ap (overwritten (length P + 1) zeros) whole ∙ tail-behind P byte behind.tail zeros (long ∙ all)) in
     record {
       rest = byte ∷ zeros;
       is_rest = (closed, All-replicate (λ b. b ≡ 0) n 0 refl);
@@ -124,7 +126,9 @@ pub cleared-nothing : (place : ℕ) (bytes : List ℕ) (f : File) → IsFound pl
 cleared-nothing place bytes f found is_end durable =
     let none : drop place bytes ≡ [] = nil_from_length (drop place bytes) (omega (arith, length-drop place bytes)) in
     record {
-      rest = []; is_rest = tt; len = omega arith;
+      rest = [];
+      is_rest = tt;
+      len = omega arith;
       durable = durable ∙ ap settled (found.whole ∙ ap (λ l. spelled (batches bytes) ++ l) none);
     }
 
@@ -137,7 +141,7 @@ pub cleared-ready : (log : GateLog) (place : ℕ) (bytes : List ℕ) (f : File) 
 cleared-ready log place bytes f found clear end size =
     let whole : f.bytes ≡ spelled (batches bytes) ++ clear.rest = ap (λ g. g.bytes) clear.durable in
     let holds : batches f.bytes ≡ batches bytes =
-        ap batches whole ∙ batches-rest (batches bytes) clear.rest found.fits (IsRest-closed clear.rest clear.is_rest) in
+    ap batches whole ∙ batches-rest (batches bytes) clear.rest found.fits (IsRest-closed clear.rest clear.is_rest) in
     let len : length f.bytes ≡ length (spelled (batches bytes)) + length clear.rest = ap length whole ∙ length-append (spelled (batches bytes)) clear.rest in
     let place_is = found.len in
     let clear_len = clear.len in

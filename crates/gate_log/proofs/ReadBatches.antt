@@ -28,10 +28,11 @@ pub IsRead-more : (bytes rest body behind : List ℕ) → IsBytes bytes → IsRe
 IsRead-more bytes rest body behind fits read e =
     let takes = first_batch-takes rest body behind (IsBytes-behind (spelled read.0) rest bytes read.1 fits) e in
     let pushed : spelled (read.0 ++ body ∷ []) ≡ spelled read.0 ++ batch_bytes body =
-        spelled-append read.0 (body ∷ []) ∙ ap (λ l. spelled read.0 ++ l) (append-nil (batch_bytes body)) in
-    (read.0 ++ body ∷ [],
-     read.1 ∙ (ap (λ l. spelled read.0 ++ l) takes.0 ∙ (sym (append_assoc (spelled read.0) (batch_bytes body) behind) ∙ ap (λ l. l ++ behind) (sym pushed))),
-     AllFit-push read.0 body read.2 takes.1)
+    spelled-append read.0 (body ∷ []) ∙ ap (λ l. spelled read.0 ++ l) (append-nil (batch_bytes body)) in (
+      read.0 ++ body ∷ [],
+      read.1 ∙ (ap (λ l. spelled read.0 ++ l) takes.0 ∙ (sym (append_assoc (spelled read.0) (batch_bytes body) behind) ∙ ap (λ l. l ++ behind) (sym pushed))),
+      AllFit-push read.0 body read.2 takes.1,
+    )
 
 -- no further batch was read
 pub IsRead-all : (bytes rest : List ℕ) (read : IsRead bytes rest) → first_batch rest ≡ None → batches bytes ≡ read.0

@@ -5,3 +5,5 @@
 pub mod log;
 mod opening;
 mod reading;
+#[cfg(test)]
+mod tests;

@@ -25,6 +25,13 @@ pub struct GateLog {
 }
 
 impl GateLog {
+    /// How many bytes its batches take: the place of the next one.
+    pub fn end(&self) -> u64
+        ensures { result ≡ self.now.end }
+    {
+        self.end
+    }
+
     /// Appends a batch. Its first four bytes are room for the length of its body, which are the
     /// others: the call writes them there.
     ///
@@ -109,7 +116,12 @@ fn write_behind_gate<D: Disk>(
 }
 
 // Writes the gate at a place of a file of which a crash leaves exactly its bytes, and syncs.
-pub(crate) fn write_gate<D: Disk>(disk: &mut D, file: u64, gate: u64, byte: u8) -> Result<(), DiskFailed>
+pub(crate) fn write_gate<D: Disk>(
+    disk: &mut D,
+    file: u64,
+    gate: u64,
+    byte: u8,
+) -> Result<(), DiskFailed>
     requires durable { IsTrue D.tells → D.told disk.old file ≡ settled (D.told disk.old file).bytes }
     requires within { IsTrue D.tells → gate < length (D.told disk.old file).bytes }
 

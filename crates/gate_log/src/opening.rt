@@ -111,12 +111,7 @@ fn clear_rest<D: Disk>(
 }
 
 // Closes the gate at a place, if it is open, and syncs.
-fn close_gate<D: Disk>(
-    disk: &mut D,
-    file: u64,
-    gate: usize,
-    bytes: &[u8],
-) -> Result<(), DiskFailed>
+fn close_gate<D: Disk>(disk: &mut D, file: u64, gate: usize, bytes: &[u8]) -> Result<(), DiskFailed>
     requires durable { IsTrue D.tells → D.told disk.old file ≡ settled bytes.now }
     requires within { gate < length bytes.now }
 

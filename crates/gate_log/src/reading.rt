@@ -30,13 +30,7 @@ fn next_batch(bytes: &[u8]) -> Option<(&[u8], &[u8])>
 {
     match bytes {
         [] => None,
-        [gate, rest @ ..] => {
-            if *gate == OPEN {
-                body_of(rest)
-            } else {
-                None
-            }
-        }
+        [gate, rest @ ..] => { if *gate == OPEN { body_of(rest) } else { None } }
     }
 }
 

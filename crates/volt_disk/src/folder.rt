@@ -130,7 +130,12 @@ fn size_at<F: Files>(rt: &F, path: &str) -> io::Result<u64> {
     }
 }
 
-fn read_file<F: Files>(rt: &F, path: io::Result<String>, at: u64, into: &mut [u8]) -> io::Result<()> {
+fn read_file<F: Files>(
+    rt: &F,
+    path: io::Result<String>,
+    at: u64,
+    into: &mut [u8],
+) -> io::Result<()> {
     let path = path?;
     let path = path.as_str();
     if !fits(at, into.len(), size_at(rt, path)?) {

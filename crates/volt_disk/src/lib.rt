@@ -10,3 +10,5 @@ pub mod listing;
 pub mod memory;
 pub mod power;
 mod stored;
+#[cfg(test)]
+mod tests;

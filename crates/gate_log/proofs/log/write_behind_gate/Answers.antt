@@ -7,5 +7,5 @@ pub returns-clause-partly : goal.returns-clause-partly
 returns-clause-partly g c =
     on_err_weaker c.write_and_sync.result
     (λ failed t. behind-write_failed (c.args.gate + 1) c.args.size (c.args.gate + 1) c.args.bytes.now _ _ _
-        (c.requires.durable t) (c.in_ok-grow.ensures.grown t) (c.requires.grows t) (omega arith) c.requires.within (failed t))
+    (c.requires.durable t) (c.in_ok-grow.ensures.grown t) (c.requires.grows t) (omega arith) c.requires.within (failed t))
     c.write_and_sync.ensures.failed

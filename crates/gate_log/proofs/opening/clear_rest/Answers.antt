@@ -16,9 +16,9 @@ returns-in_err-write_and_sync-clause-partly g c =
     let less : c.args.end < length c.args.bytes.now = search rules in
     let len : length c.deref.result.now ≡ length c.args.bytes.now - c.args.end - 1 = search rules in
     rw p.1 (λ t.
-        let closed = c.in_ok-close_gate.ensures.closed t in
-        clear-failed c.args.end closed.0 c.args.bytes.now c.deref.result.now _ _ c.requires.read less closed.1 closed.2 (omega arith)
-        (c.in_err-write_and_sync.ensures.failed t))
+    let closed = c.in_ok-close_gate.ensures.closed t in
+    clear-failed c.args.end closed.0 c.args.bytes.now c.deref.result.now _ _ c.requires.read less closed.1 closed.2 (omega arith)
+    (c.in_err-write_and_sync.ensures.failed t))
 
 pub returns-clause-cleared : goal.returns-clause-cleared
 returns-clause-cleared g c t =

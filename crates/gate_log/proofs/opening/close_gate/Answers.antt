@@ -10,6 +10,8 @@ returns-then-bytes-gate-clause-any g c =
     on_err_weaker c.write_gate.result (λ partly t. any-image c.args.gate _ c.args.bytes.now _ (c.requires.durable t) (partly t)) c.write_gate.ensures.partly
 
 pub returns-else-bytes-gate-clause-closed : goal.returns-else-bytes-gate-clause-closed
-returns-else-bytes-gate-clause-closed g c t =
-    (get_or c.args.bytes.now c.args.gate 0, c.if-bytes-gate.false,
-     c.requires.durable t ∙ ap settled (sym (overwritten-same c.args.gate c.args.bytes.now c.requires.within)))
+returns-else-bytes-gate-clause-closed g c t = (
+  get_or c.args.bytes.now c.args.gate 0,
+  c.if-bytes-gate.false,
+  c.requires.durable t ∙ ap settled (sym (overwritten-same c.args.gate c.args.bytes.now c.requires.within)),
+)

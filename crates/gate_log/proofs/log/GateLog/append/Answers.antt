@@ -16,9 +16,9 @@ returns-in_err-write_gate-clause-partly g c =
     let e : length c.put_length.new.batch ≡ length (body_bytes (drop 4 c.args.batch.now)) = ap length c.put_length.ensures.spelled in
     let bigger : c.max-size.result ≡ max c.args.self.now.size (c.args.self.now.end + 1 + length c.put_length.new.batch) = search rules in
     rw p.1 (λ t.
-        let size = (c.requires.ready t).size in
-        append-gate c.args.self.now _ _ _ c.max-size.result (drop 4 c.args.batch.now) (c.requires.ready t) short (omega arith) (omega arith)
-        (rw c.put_length.ensures.spelled at c.in_ok-write_behind_gate.ensures.written t) (c.in_err-write_gate.ensures.partly t))
+    let size = (c.requires.ready t).size in
+    append-gate c.args.self.now _ _ _ c.max-size.result (drop 4 c.args.batch.now) (c.requires.ready t) short (omega arith) (omega arith)
+    (rw c.put_length.ensures.spelled at c.in_ok-write_behind_gate.ensures.written t) (c.in_err-write_gate.ensures.partly t))
 
 pub returns-clause-written : goal.returns-clause-written
 returns-clause-written g c t =
@@ -27,7 +27,7 @@ returns-clause-written g c t =
     let bigger : c.max-size.result ≡ max c.args.self.now.size (c.args.self.now.end + 1 + length c.put_length.new.batch) = search rules in
     let size = (c.requires.ready t).size in
     append-written c.args.self.now _ _ _ c.max-size.result (drop 4 c.args.batch.now) (c.requires.ready t) short (omega arith) (omega arith)
-        (rw c.put_length.ensures.spelled at c.in_ok-write_behind_gate.ensures.written t) (c.in_ok-write_gate.ensures.written t)
+    (rw c.put_length.ensures.spelled at c.in_ok-write_behind_gate.ensures.written t) (c.in_ok-write_gate.ensures.written t)
 
 pub returns-clause-ready : goal.returns-clause-ready
 returns-clause-ready g c t =
@@ -36,5 +36,5 @@ returns-clause-ready g c t =
     let bigger : c.max-size.result ≡ max c.args.self.now.size (c.args.self.now.end + 1 + length c.put_length.new.batch) = search rules in
     let size = (c.requires.ready t).size in
     append-ready c.args.self.now _ _ _ _ c.max-size.result (drop 4 c.args.batch.now) (c.requires.ready t) short (omega arith) (omega arith)
-        (rw c.put_length.ensures.spelled at c.in_ok-write_behind_gate.ensures.written t) (c.in_ok-write_gate.ensures.written t)
-        (omega arith) refl
+    (rw c.put_length.ensures.spelled at c.in_ok-write_behind_gate.ensures.written t) (c.in_ok-write_gate.ensures.written t)
+    (omega arith) refl
