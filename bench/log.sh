@@ -1,5 +1,5 @@
 #!/bin/sh
-# Measures 2,000 appends of 60 bytes through a FileDisk beside a bare loop in C on the same folder.
+# Measures 500 appends of 60 bytes through a FileDisk beside a bare loop in C on the same folder.
 # It prints the rows of the table in README.md. The program is built in a folder of its own, over the crates as they are.
 set -eu
 bench=$(CDPATH='' cd -- "$(dirname -- "$0")" && pwd)

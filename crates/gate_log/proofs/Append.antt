@@ -1,14 +1,14 @@
 -- What the two halves of an append make of a log's file.
-use Rattle.std.proofs.Common.{◌≡◌, ◌≢◌, ◌⊎◌, ℕ, zero, suc, ◌+◌, ◌-◌, ◌^◌, ◌<◌, ◌≤◌, max, List, [], ◌∷◌, ◌++◌, length, take, drop, replicate, get_or, refl, sym, ap, ◌∙◌, inl, inr, append_assoc, append-nil, length-append, length-take, length-drop, arith, All}
-use Rattle.std.proofs.lemmas.List.{length-take-le, take-append-le, take_at, drop_at, length-replicate}
+use Rattle.std.proofs.Common.{◌≡◌, ℕ, zero, suc, ◌+◌, ◌-◌, ◌^◌, ◌<◌, ◌≤◌, List, [], ◌∷◌, ◌++◌, length, take, drop, replicate, refl, sym, ap, ◌∙◌, inl, inr, append_assoc, append-nil, length-append, arith, All}
+use Rattle.std.proofs.lemmas.List.{length-take-le, take-append-le, take_at, drop_at}
 use Rattle.std.proofs.lemmas.List.Elements.{All-append, All-drop, All-replicate}
 use Rattle.std.proofs.Math.Seq.{drop-append-add}
 use Rattle.volt_base.specs.Spelling.{body_bytes}
-use Rattle.volt_disk.specs.declared.listing.Listing.TheVariants.{Kept, Leaving, Removed}
-use Rattle.volt_disk.specs.File.{File, IsInSome, IsTorn, IsImage, settled, seen, bytes_if_listed}
+use Rattle.volt_disk.specs.declared.listing.Listing.TheVariants.{Kept}
+use Rattle.volt_disk.specs.File.{File, IsImage, settled, seen, bytes_if_listed}
 use Rattle.volt_disk.specs.Effects.{lengthened, overwritten}
 use Rattle.volt_disk.proofs.Images.{length-overwritten}
-use Rattle.gate_log.specs.Batches.{open_gate, batches, spelled, AllFit}
+use Rattle.gate_log.specs.Batches.{open_gate, batches, spelled}
 use Rattle.gate_log.specs.Log.{IsRest, IsReady, EachImage, HoldsAlways, HoldsWithOrWithout, KeepsFront}
 use Rattle.gate_log.specs.declared.log.GateLog.{GateLog}
 use Rattle.gate_log.proofs.Files.{same_places, length-lengthened}

@@ -1,11 +1,11 @@
 -- Batches of a file: whole ones at its front, and none behind a closed gate.
-use Rattle.std.proofs.Common.{◌≡◌, ◌≢◌, ◌⊎◌, ℕ, zero, suc, ◌+◌, ◌-◌, ◌^◌, ◌<◌, ◌≤◌, Bool, true, false, cond, eqb, ltb, List, [], ◌∷◌, ◌++◌, length, take, drop, get_or, Option, Some, None, refl, sym, ap, subst, ◌∙◌, inl, inr, append_assoc, append-nil, length-append, length-drop, arith, eqb-true, eq-eqb, All}
-use Rattle.std.specs.Int.{w32, byte_len, to_be_bytes, from_be_bytes}
+use Rattle.std.proofs.Common.{◌≡◌, ◌≢◌, ◌⊎◌, ℕ, zero, suc, ◌+◌, ◌^◌, ◌<◌, ◌≤◌, Bool, true, false, cond, eqb, ltb, List, [], ◌∷◌, ◌++◌, length, take, drop, get_or, Option, Some, None, refl, sym, ap, ◌∙◌, inl, inr, append_assoc, append-nil, length-append, length-drop, arith, All}
+use Rattle.std.specs.Int.{w32, to_be_bytes}
 use Rattle.std.proofs.lemmas.Bool.{cases_eq, ne_eqb}
 use Rattle.std.proofs.lemmas.List.{length-take-le, take-append-drop, get_or-take, get_or-drop, get_or_append_left, get_or-append-add}
 use Rattle.volt_base.specs.Spelling.{body_bytes}
-use Rattle.volt_base.specs.Reading.{◌>>=◌, number_at, body_at}
-use Rattle.volt_base.proofs.Fields.{IsBytes, IsBytes-rest, Takes, body_takes, body_again, bind_some}
+use Rattle.volt_base.specs.Reading.{number_at, body_at}
+use Rattle.volt_base.proofs.Fields.{body_again, bind_some}
 use Rattle.gate_log.specs.Batches.{open_gate, batch_bytes, first_batch, first_and, first_batches, batches, spelled, AllFit}
 use Rattle.gate_log.proofs.Files.{same_places}
 use Rattle.gate_log.specs.Log.{IsRest, KeepsFront}

@@ -1,10 +1,10 @@
 -- What a crash leaves of a file whose front is kept, or of which one byte is under way.
-use Rattle.std.proofs.Common.{◌≡◌, ◌≢◌, ◌⊎◌, ℕ, zero, suc, ◌+◌, ◌-◌, ◌<◌, ◌≤◌, max, List, [], ◌∷◌, ◌++◌, length, take, drop, replicate, get_or, refl, sym, ap, ◌∙◌, inl, inr, arith, length-append}
+use Rattle.std.proofs.Common.{◌≡◌, ◌≢◌, ◌⊎◌, ℕ, zero, suc, ◌+◌, ◌-◌, ◌<◌, ◌≤◌, List, [], ◌∷◌, ◌++◌, length, take, drop, replicate, get_or, refl, sym, ◌∙◌, inl, inr, arith, length-append}
 use Rattle.std.proofs.lemmas.List.{get_or_past, get_or_append_left, get_or-append_right, length-replicate, length-take-le}
 use Rattle.std.proofs.lemmas.Bool.{cases_lt, cases_eq}
-use Rattle.volt_disk.specs.declared.listing.Listing.TheVariants.{Kept, Leaving, Removed}
-use Rattle.volt_disk.specs.File.{File, IsInRange, IsInSome, IsTorn, IsImage, settled}
-use Rattle.volt_disk.specs.Effects.{lengthened, overwritten, growth_asked, grown, write_asked, after_write, synced, FailsAs}
+use Rattle.volt_disk.specs.declared.listing.Listing.TheVariants.{Kept}
+use Rattle.volt_disk.specs.File.{File, IsInRange, IsInSome, settled}
+use Rattle.volt_disk.specs.Effects.{lengthened, overwritten, growth_asked, grown, write_asked, after_write, FailsAs}
 use Rattle.volt_disk.proofs.Images.{length-overwritten, get-overwritten}
 use Rattle.gate_log.specs.Log.{EachImage, KeepsFront}
 

@@ -1,18 +1,18 @@
 -- What opening makes of a log's file.
-use Rattle.std.proofs.Common.{◌≡◌, ◌≢◌, ◌⊎◌, ℕ, zero, suc, ◌+◌, ◌-◌, ◌<◌, ◌≤◌, List, [], ◌∷◌, ◌++◌, length, take, drop, replicate, get_or, refl, sym, ap, subst, ◌∙◌, inl, inr, append_assoc, append-nil, length-append, length-drop, arith, All}
+use Rattle.std.proofs.Common.{◌≡◌, ◌≢◌, ℕ, suc, ◌+◌, ◌-◌, ◌<◌, ◌≤◌, List, [], ◌∷◌, ◌++◌, length, take, drop, replicate, get_or, refl, sym, ap, subst, ◌∙◌, inl, inr, append_assoc, append-nil, length-append, length-drop, arith}
 use Rattle.std.proofs.lemmas.List.{take_at, drop_at, drop_all, get_or-append-add, length-replicate, nil_from_length}
 use Rattle.std.proofs.lemmas.List.Elements.{All-replicate}
 use Rattle.std.proofs.lemmas.Bool.{cases_eq}
-use Rattle.volt_disk.specs.declared.listing.Listing.TheVariants.{Kept, Leaving, Removed}
-use Rattle.volt_disk.specs.File.{File, IsImage, settled, seen, bytes_if_listed}
+use Rattle.volt_disk.specs.declared.listing.Listing.TheVariants.{Kept}
+use Rattle.volt_disk.specs.File.{File, settled, seen, bytes_if_listed}
 use Rattle.volt_disk.specs.Effects.{overwritten, write_asked, after_write, synced, synced_if, FailsAs}
 use Rattle.volt_disk.proofs.Images.{length-overwritten, get-overwritten}
-use Rattle.gate_log.specs.Batches.{open_gate, batches, spelled, AllFit}
-use Rattle.gate_log.specs.Log.{IsRest, IsFound, IsCleared, IsReady, EachImage, HoldsAlways, KeepsFront}
+use Rattle.gate_log.specs.Batches.{open_gate, batches, spelled}
+use Rattle.gate_log.specs.Log.{IsFound, IsCleared, IsReady, EachImage, HoldsAlways, KeepsFront}
 use Rattle.gate_log.specs.declared.log.GateLog.{GateLog}
 use Rattle.gate_log.proofs.Files.{same_places, FailsAs-any, Holding, Holding-image, Holding-settled, Holding-write_asked, Holding-written, get-overwritten_at}
 use Rattle.gate_log.proofs.Batches.{batches-rest, batches-kept, IsRest-closed}
-use Rattle.gate_log.proofs.Append.{settled-only, seen-settled}
+use Rattle.gate_log.proofs.Append.{settled-only}
 
 -- a byte is put in the place of itself
 pub overwritten-same : (place : ℕ) (bytes : List ℕ) → place < length bytes → overwritten place (get_or bytes place 0 ∷ []) bytes ≡ bytes

@@ -1,7 +1,6 @@
 -- Batches that are read from the front of bytes.
-use Rattle.std.proofs.Common.{◌≡◌, ℕ, zero, suc, ◌+◌, ◌-◌, ◌^◌, ◌<◌, ◌≤◌, Bool, true, false, cond, eqb, List, [], ◌∷◌, ◌++◌, length, take, drop, get_or, Option, Some, None, refl, sym, ap, ◌∙◌, append_assoc, append-nil, length-append, arith, eqb-true}
+use Rattle.std.proofs.Common.{◌≡◌, ℕ, ◌+◌, ◌-◌, ◌^◌, ◌<◌, eqb, List, [], ◌∷◌, ◌++◌, length, drop, Some, None, refl, sym, ap, ◌∙◌, append_assoc, append-nil, length-append, arith, eqb-true}
 use Rattle.std.proofs.lemmas.List.{get_or-append-add, drop_at}
-use Rattle.volt_base.specs.Spelling.{body_bytes}
 use Rattle.volt_base.specs.Reading.{body_at}
 use Rattle.volt_base.proofs.Fields.{IsBytes, IsBytes-rest, body_takes}
 use Rattle.gate_log.specs.Batches.{open_gate, batch_bytes, first_batch, batches, spelled, AllFit}

@@ -1,5 +1,5 @@
 -- A file of batches. A batch is a gate byte, the length of its body and the body.
-use Rattle.std.specs.Prelude.{◌≡◌, ◌≢◌, ℕ, zero, suc, ◌<◌, ◌^◌, ◌==◌, if◌then◌else◌, List, [], ◌∷◌, ◌++◌, length, Option, Some, None, All}
+use Rattle.std.specs.Prelude.{ℕ, zero, suc, ◌<◌, ◌^◌, ◌==◌, if◌then◌else◌, List, [], ◌∷◌, ◌++◌, length, Option, Some, None}
 use Rattle.volt_base.specs.Spelling.{body_bytes}
 use Rattle.volt_base.specs.Reading.{body_at}
 

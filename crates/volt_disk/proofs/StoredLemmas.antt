@@ -1,5 +1,5 @@
 -- What a disk in memory keeps of a file: ranges within it, and writes that are taken back.
-use Rattle.std.proofs.Common.{◌≡◌, ℕ, zero, suc, ◌+◌, ◌-◌, ◌<◌, ◌≤◌, ◌^◌, ◌%◌, get_or, set, slice_range, length-take, length-drop, List, [], ◌∷◌, ◌++◌, length, take, drop, refl, sym, ap, ◌∙◌, arith}
+use Rattle.std.proofs.Common.{◌≡◌, ℕ, zero, suc, ◌+◌, ◌-◌, ◌<◌, ◌≤◌, ◌^◌, ◌%◌, get_or, set, slice_range, length-take, length-drop, List, [], ◌∷◌, ◌++◌, length, refl, ap, ◌∙◌, arith}
 use Rattle.volt_disk.specs.Effects.{overwritten, write_asked, after_write}
 use Rattle.volt_disk.specs.Draws.{next_state, draw_of}
 use Rattle.volt_disk.specs.Stored.{Stored, AreWithin, undone, scattered, ranges, file_of, stored_written, stored_write_asked}

@@ -1,5 +1,5 @@
 -- What a clause sees of a disk over real files.
-use Rattle.std.specs.Prelude.{ℕ, Bool, true, false}
+use Rattle.std.specs.Prelude.{Bool, true, false}
 use Rattle.volt_disk.specs.declared.folder.Tally.{Tally}
 use Rattle.volt_disk.specs.Faults.{one_more}
 use Rattle.volt_disk.specs.Power.{full_power, after_call}

@@ -1,5 +1,5 @@
 -- When a disk loses power.
-use Rattle.std.specs.Prelude.{ℕ, ◌+◌, ◌-◌, ◌^◌, min, Bool, true, false, Option, Some, None, nat_le, if◌then◌else◌}
+use Rattle.std.specs.Prelude.{ℕ, ◌-◌, Bool, true, false, Option, Some, None, nat_le, if◌then◌else◌}
 use Rattle.volt_disk.specs.declared.power.Power.{Power}
 use Rattle.volt_disk.specs.declared.power.Fate.{Fate}
 use Rattle.volt_disk.specs.declared.power.Fate.TheVariants.{Works, Cut, Dark}

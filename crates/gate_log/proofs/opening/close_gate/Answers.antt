@@ -1,7 +1,6 @@
-use Rattle.std.proofs.Common.{◌≡◌, get_or, sym, ap, ◌∙◌, arith}
+use Rattle.std.proofs.Common.{get_or, sym, ap, ◌∙◌}
 use Rattle.std.proofs.lemmas.Result.{on_err_weaker}
 use Rattle.volt_disk.specs.File.{settled}
-use Rattle.volt_disk.specs.Effects.{overwritten}
 use Rattle.gate_log.proofs.Opened.{overwritten-same, any-image}
 use Rattle.gate_log.proofs.opening.close_gate.Goals as goal
 

@@ -1,4 +1,4 @@
-use Rattle.std.proofs.Common.{◌≡◌, ◌++◌, ◌∷◌, [], sym, ap, ◌∙◌, append_assoc, append-nil, rules, arith}
+use Rattle.std.proofs.Common.{◌≡◌, ◌++◌, ◌∷◌, [], sym, ap, ◌∙◌, append_assoc, append-nil, rules}
 use Rattle.gate_log.specs.Batches.{batches}
 use Rattle.gate_log.proofs.Batches.{first_batch-shorter, batches-first, batches-none}
 use Rattle.gate_log.proofs.reading.bodies_of.Goals as goal

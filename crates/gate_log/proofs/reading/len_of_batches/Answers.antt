@@ -1,7 +1,6 @@
-use Rattle.std.proofs.Common.{◌≡◌, sym, rules, arith}
-use Rattle.gate_log.specs.Batches.{batches, AllFit}
+use Rattle.std.proofs.Common.{sym, arith}
 use Rattle.gate_log.proofs.Batches.{first_batch-shorter}
-use Rattle.gate_log.proofs.ReadBatches.{IsRead-more, IsRead-all, IsRead-len, IsRead-whole, IsRead-behind}
+use Rattle.gate_log.proofs.ReadBatches.{IsRead-more, IsRead-all, IsRead-len, IsRead-whole}
 use Rattle.gate_log.proofs.reading.len_of_batches.Goals as goal
 
 pub loop-behind-smaller : goal.loop-behind-smaller

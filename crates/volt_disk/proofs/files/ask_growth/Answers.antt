@@ -1,6 +1,6 @@
-use Rattle.std.proofs.Common.{◌≡◌, ap, sym, length, arith}
+use Rattle.std.proofs.Common.{ap}
 use Rattle.volt_disk.specs.Stored.{stored_growth_asked}
-use Rattle.volt_disk.proofs.FileList.{item-is, changed-this, changed-ok, changed-others}
+use Rattle.volt_disk.proofs.FileList.{changed-this, changed-others}
 use Rattle.volt_disk.proofs.files.ask_growth.Goals as goal
 
 pub returns-clause-ok : goal.returns-clause-ok

@@ -1,7 +1,6 @@
-use Rattle.std.proofs.Common.{◌≡◌, ap, sym, length, arith}
 use Rattle.volt_disk.proofs.StoredLemmas.{file_of-write_asked}
 use Rattle.volt_disk.specs.Stored.{stored_at, stored_write_asked}
-use Rattle.volt_disk.proofs.FileList.{item-is, changed-this, changed-ok, changed-others, OnOk-along}
+use Rattle.volt_disk.proofs.FileList.{item-is, changed-ok, changed-others, OnOk-along}
 use Rattle.volt_disk.proofs.files.ask_write.Goals as goal
 
 pub ask_write-requires : goal.ask_write-requires

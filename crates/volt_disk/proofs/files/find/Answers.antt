@@ -1,4 +1,4 @@
-use Rattle.std.proofs.Common.{◌≡◌, ◌<◌, get_or, length, vec_len, sym, ap, ◌∙◌, arith, rules}
+use Rattle.std.proofs.Common.{◌<◌, length, sym, ap, ◌∙◌, arith, rules}
 use Rattle.volt_disk.specs.Stored.{blank}
 use Rattle.volt_disk.proofs.FileList.{StandsAt-from_index, StandsNowhere-from_index}
 use Rattle.volt_disk.proofs.files.find.Goals as goal

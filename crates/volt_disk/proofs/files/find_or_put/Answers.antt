@@ -1,5 +1,4 @@
-use Rattle.std.proofs.Common.{◌≡◌, ◌≤◌, get_or, length, vec_len, sym, ap, ◌∙◌, arith, rules}
-use Rattle.std.proofs.lemmas.List.Edits.{length-insert}
+use Rattle.std.proofs.Common.{◌≤◌, length, arith}
 use Rattle.volt_disk.proofs.FileList.{StandsAt-insert, stored_at-insert}
 use Rattle.volt_disk.proofs.files.find_or_put.Goals as goal
 

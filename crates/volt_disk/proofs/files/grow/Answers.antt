@@ -1,6 +1,5 @@
-use Rattle.std.proofs.Common.{◌≡◌, ap, sym, length, arith}
 use Rattle.volt_disk.specs.Stored.{stored_grown}
-use Rattle.volt_disk.proofs.FileList.{item-is, changed-this, changed-ok, changed-others}
+use Rattle.volt_disk.proofs.FileList.{item-is, changed-ok, changed-others}
 use Rattle.volt_disk.proofs.files.grow.Goals as goal
 
 pub grow-requires : goal.grow-requires

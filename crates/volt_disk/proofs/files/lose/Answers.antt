@@ -1,4 +1,4 @@
-use Rattle.std.proofs.Common.{◌≡◌, ◌<◌, length, vec_len, add-one, refl, rules, arith}
+use Rattle.std.proofs.Common.{◌≡◌, ◌<◌, length, add-one, rules}
 use Rattle.volt_disk.proofs.Images.{Progress-more, Progress-files, Progress-each}
 use Rattle.volt_disk.proofs.files.lose.Goals as goal
 

@@ -1,4 +1,4 @@
-use Rattle.std.proofs.Common.{◌≡◌, ◌≤◌, get_or, length, vec_len, sym, ap, ◌∙◌, arith, rules}
+use Rattle.std.proofs.Common.{sym, ap, ◌∙◌}
 use Rattle.volt_disk.specs.File.{seen}
 use Rattle.volt_disk.specs.Stored.{file_of}
 use Rattle.volt_disk.proofs.FileList.{stored_at-index, stored_at-nowhere}

@@ -1,4 +1,4 @@
-use Rattle.std.proofs.Common.{◌≡◌, ap, sym, refl, ◌∙◌}
+use Rattle.std.proofs.Common.{ap, sym, refl, ◌∙◌}
 use Rattle.volt_disk.specs.Stored.{stored_synced}
 use Rattle.volt_disk.proofs.FileList.{changed-this, changed-others, stored_at-nowhere, stored_synced-number}
 use Rattle.volt_disk.proofs.files.sync.Goals as goal

@@ -1,4 +1,4 @@
-use Rattle.std.proofs.Common.{◌≡◌, ◌<◌, ◌≤◌, length, append-nil, vec_len, sym, ap, ◌∙◌, set, arith, rules}
+use Rattle.std.proofs.Common.{◌<◌, ◌≤◌, length, append-nil, ap, ◌∙◌, set, rules}
 use Rattle.std.proofs.lemmas.List.{take_all, drop_all}
 use Rattle.std.proofs.lemmas.List.Edits.{map_over_more}
 use Rattle.volt_disk.specs.Stored.{stored_names_synced}

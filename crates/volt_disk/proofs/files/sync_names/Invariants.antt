@@ -1,4 +1,4 @@
-use Rattle.std.proofs.Common.{◌≡◌, ◌++◌, map, take, drop, length, vec_len}
+use Rattle.std.proofs.Common.{◌≡◌, ◌++◌, map, take, drop, vec_len}
 use Rattle.volt_disk.specs.Stored.{stored_names_synced}
 use Rattle.volt_disk.proofs.files.sync_names.Given as goal
 

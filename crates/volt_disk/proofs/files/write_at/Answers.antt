@@ -1,7 +1,6 @@
-use Rattle.std.proofs.Common.{◌≡◌, ap, sym, length, arith}
 use Rattle.volt_disk.proofs.StoredLemmas.{file_of-written}
 use Rattle.volt_disk.specs.Stored.{stored_at, stored_written}
-use Rattle.volt_disk.proofs.FileList.{item-is, changed-this, changed-ok, changed-others, OnOk-along}
+use Rattle.volt_disk.proofs.FileList.{item-is, changed-ok, changed-others, OnOk-along}
 use Rattle.volt_disk.proofs.files.write_at.Goals as goal
 
 pub write_at-requires : goal.write_at-requires

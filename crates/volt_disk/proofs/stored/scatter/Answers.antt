@@ -1,7 +1,4 @@
-use Rattle.std.proofs.Common.{◌≡◌, ◌+◌, ◌-◌, ◌*◌, ◌^◌, ◌%◌, ◌<◌, ◌≤◌, ℕ, zero, suc, List, length, set, slice_set, vec_len, refl, sym, ap, ◌∙◌, rules, arith}
-use Rattle.std.proofs.lemmas.List.{set_past}
-use Rattle.volt_disk.specs.Draws.{next_state, draw_of}
-use Rattle.volt_disk.specs.Stored.{scattered}
+use Rattle.std.proofs.Common.{sym, ap, ◌∙◌, rules, arith}
 use Rattle.volt_disk.proofs.StoredLemmas.{scattered-more, scattered-none}
 use Rattle.volt_disk.proofs.stored.scatter.Goals as goal
 

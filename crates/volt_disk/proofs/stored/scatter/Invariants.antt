@@ -1,4 +1,4 @@
-use Rattle.std.proofs.Common.{◌≡◌, ◌+◌, ◌-◌, vec_len}
+use Rattle.std.proofs.Common.{◌≡◌, ◌+◌, ◌-◌}
 use Rattle.volt_disk.specs.Stored.{scattered}
 use Rattle.volt_disk.proofs.stored.scatter.Given as goal
 

@@ -1,4 +1,3 @@
-use Rattle.std.proofs.Common.{◌<◌, ◌≡◌, length, get_or, rules, arith}
 use Rattle.volt_disk.proofs.StoredLemmas.{AreWithin-at}
 use Rattle.volt_disk.proofs.stored.scatter_all.Goals as goal
 

@@ -1,5 +1,4 @@
-use Rattle.std.proofs.Common.{◌≡◌, ◌++◌, ◌∷◌, [], List, ℕ, sym, ap, ◌∙◌, arith}
-use Rattle.volt_disk.specs.Stored.{AreWithin, undone}
+use Rattle.std.proofs.Common.{sym, ◌∙◌}
 use Rattle.volt_disk.proofs.StoredLemmas.{AreWithin-front, AreWithin-last, undone-push}
 use Rattle.volt_disk.proofs.stored.undo.Goals as goal
 

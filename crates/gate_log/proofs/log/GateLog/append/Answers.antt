@@ -1,4 +1,4 @@
-use Rattle.std.proofs.Common.{◌≡◌, ◌+◌, ◌-◌, ◌^◌, ◌<◌, ◌≤◌, ◌++◌, max, length, drop, ap, sym, refl, ◌∙◌, arith, length-drop, rules}
+use Rattle.std.proofs.Common.{◌≡◌, ◌+◌, ◌^◌, ◌<◌, max, length, drop, ap, refl, arith, length-drop, rules}
 use Rattle.std.proofs.lemmas.Result.{err_from_is_err_and}
 use Rattle.volt_base.specs.Spelling.{body_bytes}
 use Rattle.gate_log.proofs.Append.{append-written, append-behind, append-gate, append-ready}

@@ -1,5 +1,4 @@
-use Rattle.std.proofs.Common.{◌≡◌, length, sym, refl, ap, ◌∙◌, rules, arith}
-use Rattle.volt_disk.specs.File.{seen}
+use Rattle.std.proofs.Common.{◌≡◌, length, sym, refl, ap, ◌∙◌, rules}
 use Rattle.gate_log.specs.Batches.{batches}
 use Rattle.gate_log.proofs.Opened.{cleared-holds, cleared-ready, seen-synced}
 use Rattle.gate_log.proofs.log.GateLog.open.Goals as goal
