@@ -1,9 +1,9 @@
 -- The files of a disk in memory, by their numbers.
-use Rattle.std.proofs.Common.{◌≡◌, ◌≢◌, ℕ, zero, suc, ◌<◌, ◌≤◌, List, [], ◌∷◌, length, map, get_or, set, refl, sym, ap, ◌∙◌, inl, inr, arith, eq-eqb, Result, Ok, Err, OnOk}
+use Rattle.std.proofs.Common.{◌≡◌, ◌≢◌, ℕ, zero, suc, ◌<◌, ◌≤◌, List, [], ◌∷◌, length, map, get_or, set, refl, sym, ap, ◌∙◌, inl, inr, arith, eq-eqb, Result, Ok, Err, OnOk, OnErr}
 use Rattle.std.proofs.lemmas.Bool.{ne_eqb, cases_eq}
 use Rattle.std.specs.List.{insert}
 use Rattle.volt_disk.specs.File.{File}
-use Rattle.volt_disk.specs.Stored.{Stored, file_of, blank, stored_at, StandsAt, StandsNowhere, stored_synced_if, stored_synced, stored_names_synced_if, stored_names_synced}
+use Rattle.volt_disk.specs.Stored.{Stored, bytes_before, file_of, blank, stored_at, StandsAt, StandsNowhere, stored_synced_if, stored_synced, stored_names_synced_if, stored_names_synced}
 use Rattle.volt_disk.specs.Effects.{names_synced_if, names_synced}
 use Rattle.volt_disk.specs.declared.listing.Listing.{Listing}
 use Rattle.volt_disk.specs.declared.listing.Listing.TheVariants.{Kept, Leaving, Removed}
@@ -137,3 +137,17 @@ file_of-names_synced_if Removed s = refl
 pub names_synced-each : (ss news : List Stored) → news ≡ map stored_names_synced ss → (n : ℕ) → file_of (stored_at n news) ≡ names_synced (file_of (stored_at n ss))
 names_synced-each ss news all n =
     rw all (ap file_of (stored_at-names_synced n ss) ∙ file_of-names_synced_if (stored_at n ss).listing (stored_at n ss))
+
+before_of : {T E : Type 0} (r : Result T E) (x y z : Stored) → OnOk r (y ≡ z) → OnErr r (y ≡ x) → bytes_before z ≡ bytes_before x → bytes_before y ≡ bytes_before x
+before_of (Ok t) x y z becomes fails keeps = ap bytes_before becomes ∙ keeps
+before_of (Err e) x y z becomes fails keeps = ap bytes_before fails
+
+-- the bytes at the last sync stay, of that file and of the others
+pub kept-before : {T E : Type 0} (r : Result T E) (n : ℕ) (old mid : List Stored) (i : ℕ) (x y : Stored) (f : Stored → Stored) → StandsAt n i mid → ((m : ℕ) → stored_at m mid ≡ stored_at m old) → x ≡ get_or mid i x → y.number ≡ x.number → OnOk r (y ≡ f x) → OnErr r (y ≡ x) → bytes_before (f x) ≡ bytes_before x → (m : ℕ) → bytes_before (stored_at m (set mid i y)) ≡ bytes_before (stored_at m old)
+kept-before r n old mid i x y f at same is number becomes fails keeps m =
+    let here = item-is n old mid i x at same is in
+    let there = stored_at-set n mid i y at (number ∙ (ap (λ s. s.number) here ∙ stored_at-number n old)) in
+    elim (cases_eq m n) [
+      | inl this ↦ rw this (ap bytes_before there ∙ (before_of r x y (f x) becomes fails keeps ∙ ap bytes_before here))
+      | inr other ↦ ap bytes_before (changed-others n old mid i x y at same is number m other)
+    ]

@@ -61,7 +61,3 @@ MayBeGone Removed = Unit {0}
 -- or not at all.
 abbrev pub IsImage : File → List ℕ → Type 0
 IsImage f image = IsTorn f image ⊎ (MayBeGone f.listing × (image ≡ []))
-
--- a crash leaves these bytes of the file and no others
-abbrev pub LeavesOnly : List ℕ → File → Type 0
-LeavesOnly bytes f = (image : List ℕ) → IsImage f image → image ≡ bytes

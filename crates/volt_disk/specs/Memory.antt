@@ -9,7 +9,7 @@ use Rattle.volt_disk.specs.declared.memory.Turn.TheVariants.{Done, Numbered, Los
 use Rattle.volt_disk.specs.Faults.{Rose, one_more}
 use Rattle.volt_disk.specs.File.{File}
 use Rattle.volt_disk.specs.Power.{full_power, fate, after_call}
-use Rattle.volt_disk.specs.Stored.{Stored, stored_at, file_of}
+use Rattle.volt_disk.specs.Stored.{Stored, stored_at, file_of, bytes_before}
 
 pub record Memory : Type 0 where
   pub files : List Stored
@@ -30,6 +30,10 @@ empty_memory fail = record { files = []; fail = fail; call = 1; faults = 0; star
 -- what it tells of a file
 abbrev pub told_of : Memory → ℕ → File
 told_of m n = file_of (stored_at n m.files)
+
+-- the bytes that a file had at its last sync
+abbrev pub last_synced : Memory → ℕ → List ℕ
+last_synced m n = bytes_before (stored_at n m.files)
 
 abbrev pub turn_by : Fate → Bool → Turn
 turn_by Works numbered = if numbered then Numbered else Done

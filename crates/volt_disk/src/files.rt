@@ -61,6 +61,7 @@ pub fn grow(alloc: Global, files: &mut Vec<MemFile>, number: u64, to: u64) -> Re
     ensures ok { OnOk result (stored_at number files.new.items ≡ stored_grown to (stored_at number files.old.items)) }
     ensures err { OnErr result (stored_at number files.new.items ≡ stored_at number files.old.items) }
     ensures others { (n : ℕ) → n ≢ number → stored_at n files.new.items ≡ stored_at n files.old.items }
+    ensures before { (n : ℕ) → bytes_before (stored_at n files.new.items) ≡ bytes_before (stored_at n files.old.items) }
 {
     let at = find_or_put(alloc, files, number)?;
     files[at].grow(to)
@@ -76,6 +77,7 @@ pub fn ask_growth(
     ensures ok { OnOk result (stored_at number files.new.items ≡ stored_growth_asked to (stored_at number files.old.items)) }
     ensures err { OnErr result (stored_at number files.new.items ≡ stored_at number files.old.items) }
     ensures others { (n : ℕ) → n ≢ number → stored_at n files.new.items ≡ stored_at n files.old.items }
+    ensures before { (n : ℕ) → bytes_before (stored_at n files.new.items) ≡ bytes_before (stored_at n files.old.items) }
 {
     let at = find_or_put(alloc, files, number)?;
     files[at].ask_growth(to);
@@ -94,6 +96,7 @@ pub fn write_at(
     ensures ok { OnOk result (file_of (stored_at number files.new.items) ≡ after_write at bytes.now (file_of (stored_at number files.old.items))) }
     ensures err { OnErr result (stored_at number files.new.items ≡ stored_at number files.old.items) }
     ensures others { (n : ℕ) → n ≢ number → stored_at n files.new.items ≡ stored_at n files.old.items }
+    ensures before { (n : ℕ) → bytes_before (stored_at n files.new.items) ≡ bytes_before (stored_at n files.old.items) }
 {
     let place = find_or_put(alloc, files, number)?;
     files[place].write_at(alloc, at, bytes)
@@ -111,6 +114,7 @@ pub fn ask_write(
     ensures ok { OnOk result (file_of (stored_at number files.new.items) ≡ write_asked at len (file_of (stored_at number files.old.items))) }
     ensures err { OnErr result (stored_at number files.new.items ≡ stored_at number files.old.items) }
     ensures others { (n : ℕ) → n ≢ number → stored_at n files.new.items ≡ stored_at n files.old.items }
+    ensures before { (n : ℕ) → bytes_before (stored_at n files.new.items) ≡ bytes_before (stored_at n files.old.items) }
 {
     let place = find_or_put(alloc, files, number)?;
     files[place].ask_write(alloc, at, len)
@@ -131,6 +135,7 @@ pub fn remove(alloc: Global, files: &mut Vec<MemFile>, number: u64) -> Result<()
     ensures ok { OnOk result (stored_at number files.new.items ≡ stored_removed (stored_at number files.old.items)) }
     ensures err { OnErr result (stored_at number files.new.items ≡ stored_at number files.old.items) }
     ensures others { (n : ℕ) → n ≢ number → stored_at n files.new.items ≡ stored_at n files.old.items }
+    ensures before { (n : ℕ) → bytes_before (stored_at n files.new.items) ≡ bytes_before (stored_at n files.old.items) }
 {
     let at = find_or_put(alloc, files, number)?;
     files[at].remove();
@@ -142,6 +147,7 @@ pub fn ask_removal(alloc: Global, files: &mut Vec<MemFile>, number: u64) -> Resu
     ensures ok { OnOk result (stored_at number files.new.items ≡ stored_removal_asked (stored_at number files.old.items)) }
     ensures err { OnErr result (stored_at number files.new.items ≡ stored_at number files.old.items) }
     ensures others { (n : ℕ) → n ≢ number → stored_at n files.new.items ≡ stored_at n files.old.items }
+    ensures before { (n : ℕ) → bytes_before (stored_at n files.new.items) ≡ bytes_before (stored_at n files.old.items) }
 {
     let at = find_or_put(alloc, files, number)?;
     files[at].ask_removal();

@@ -4,8 +4,8 @@ ghost use Rattle.volt_disk.specs.Faults.{Rose};
 ghost use Rattle.volt_disk.specs.File.{seen};
 ghost use Rattle.volt_disk.specs.Effects.{growth_asked, grown, write_asked, after_write, synced, removed, removal_asked, names_synced, FailsAs, CyclesTo};
 ghost use Rattle.volt_disk.specs.Power.{has_power, after_call, planned, cycled};
-ghost use Rattle.volt_disk.specs.Stored.{stored_at, bytes_before, all_lost};
-ghost use Rattle.volt_disk.specs.Memory.{Memory, empty_memory, told_of, turn_by, turn_of, called, faulted, starving, FailsBy, by_turn, ChangesTo, choice_of};
+ghost use Rattle.volt_disk.specs.Stored.{stored_at, all_lost};
+ghost use Rattle.volt_disk.specs.Memory.{Memory, empty_memory, told_of, turn_by, turn_of, called, faulted, starving, FailsBy, by_turn, ChangesTo, choice_of, last_synced};
 ghost use Rattle.volt_disk.specs.declared.listing.Listing.TheVariants.{Kept};
 
 use crate::disk::{Disk, DiskFailed};
@@ -194,6 +194,7 @@ impl Disk for MemDisk {
         ensures fails { FailsBy (turn_of self.old) result self.old.starved self.new.starved }
         ensures changes { ChangesTo result self.old.starved self.new.starved (told_of self.old file) (told_of self.new file)
             (by_turn (turn_of self.old) (told_of self.old file) (growth_asked to (told_of self.old file)) (grown to (told_of self.old file))) }
+        ensures synced_bytes { (n : ℕ) → last_synced self.new n ≡ last_synced self.old n }
 
         // As each disk.
         ensures grown { OnOk result (told_of self.new file ≡ grown to (told_of self.old file)) }
@@ -229,6 +230,7 @@ impl Disk for MemDisk {
         ensures fails { FailsBy (turn_of self.old) result self.old.starved self.new.starved }
         ensures changes { ChangesTo result self.old.starved self.new.starved (told_of self.old file) (told_of self.new file)
             (by_turn (turn_of self.old) (told_of self.old file) (write_asked at (length bytes.now) (told_of self.old file)) (after_write at bytes.now (told_of self.old file))) }
+        ensures synced_bytes { (n : ℕ) → last_synced self.new n ≡ last_synced self.old n }
 
         // As each disk.
         ensures written { OnOk result (told_of self.new file ≡ after_write at bytes.now (told_of self.old file)) }
@@ -291,6 +293,7 @@ impl Disk for MemDisk {
         ensures fails { FailsBy (turn_of self.old) result self.old.starved self.new.starved }
         ensures changes { ChangesTo result self.old.starved self.new.starved (told_of self.old file) (told_of self.new file)
             (by_turn (turn_of self.old) (told_of self.old file) (removal_asked (told_of self.old file)) (removed (told_of self.old file))) }
+        ensures synced_bytes { (n : ℕ) → last_synced self.new n ≡ last_synced self.old n }
 
         // As each disk.
         ensures removed { OnOk result (told_of self.new file ≡ removed (told_of self.old file)) }

@@ -121,6 +121,7 @@ impl MemFile {
         ensures ok { OnOk result (self.new ≡ stored_grown to self.old) }
         ensures err { OnErr result (self.new ≡ self.old) }
         ensures number { self.new.number ≡ self.old.number }
+        ensures synced { bytes_before (stored_grown to self.old) ≡ bytes_before self.old }
     {
         lengthen(&mut self.bytes, to as usize)?;
         self.most = self.most.max(to);
