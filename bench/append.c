@@ -1,4 +1,4 @@
-// What an append costs at least: two writes and two syncs of one file, 500 times.
+// What an append costs at least: two writes and two syncs of one file, 200 times.
 #include <fcntl.h>
 #include <string.h>
 #include <sys/stat.h>
@@ -11,7 +11,7 @@ int main(void) {
     memset(body, 7, sizeof body);
     unsigned char gate = 0xa5;
     off_t at = 0;
-    for (int i = 0; i < 500; i++) {
+    for (int i = 0; i < 200; i++) {
         if (pwrite(file, body, sizeof body, at + 1) != sizeof body || fsync(file) != 0) return 1;
         if (pwrite(file, &gate, 1, at) != 1 || fsync(file) != 0) return 1;
         at += 1 + sizeof body;
