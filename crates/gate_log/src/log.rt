@@ -42,7 +42,7 @@ impl GateLog {
     pub fn append<D: Disk>(&mut self, disk: &mut D, batch: &mut [u8]) -> Result<(), DiskFailed>
         requires ready { IsTrue D.tells → IsReady self.old (D.told disk.old self.old.file) }
         requires length { 4 ≤ length batch.old }
-        requires body { length batch.old < 2 ^ 32 }
+        requires body { length batch.old < 2 ^ 32 + 4 }
         requires place { self.old.end + 1 + length batch.old < 2 ^ 64 }
 
         // What the file holds, whatever a crash leaves of it.
@@ -78,7 +78,7 @@ impl GateLog {
 // Puts the length of the body into the first four bytes.
 fn put_length(batch: &mut [u8])
     requires length { 4 ≤ length batch.old }
-    requires body { length batch.old < 2 ^ 32 }
+    requires body { length batch.old < 2 ^ 32 + 4 }
     ensures spelled { batch.new ≡ body_bytes (drop 4 batch.old) }
     ensures kept { drop 4 batch.new ≡ drop 4 batch.old }
     ensures len { length batch.new ≡ length batch.old }
