@@ -1,0 +1,5 @@
+pub mod Files
+pub mod Batches
+pub mod Append
+pub mod ReadBatches
+pub mod Opened

@@ -1,0 +1,11 @@
+use Rattle.std.proofs.lemmas.Result.{on_err_weaker}
+use Rattle.std.proofs.Common.{◌+◌, arith}
+use Rattle.gate_log.proofs.Files.{behind-write_failed}
+use Rattle.gate_log.proofs.log.write_behind_gate.Goals as goal
+
+pub returns-clause-partly : goal.returns-clause-partly
+returns-clause-partly g c =
+    on_err_weaker c.write_and_sync.result
+    (λ failed t. behind-write_failed (c.args.gate + 1) c.args.size (c.args.gate + 1) c.args.bytes.now _ _ _
+    (c.requires.durable t) (c.in_ok-grow.ensures.grown t) (c.requires.grows t) (omega arith) c.requires.within (failed t))
+    c.write_and_sync.ensures.failed

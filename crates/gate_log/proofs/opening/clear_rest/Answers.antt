@@ -1,0 +1,29 @@
+use Rattle.std.proofs.Common.{◌≡◌, ◌-◌, ◌<◌, length, replicate, rules, arith}
+use Rattle.std.proofs.lemmas.Result.{err_from_is_err_and}
+use Rattle.gate_log.proofs.Opened.{close-failed, clear-failed, cleared}
+use Rattle.gate_log.proofs.opening.clear_rest.Goals as goal
+
+pub returns-in_err-close_gate-clause-partly : goal.returns-in_err-close_gate-clause-partly
+returns-in_err-close_gate-clause-partly g c =
+    let p = err_from_is_err_and c.from_residual-in_err-close_gate.result c.from_residual-in_err-close_gate.ensures.1 in
+    let found = c.requires.read in
+    let less : c.args.end < length c.args.bytes.now = search rules in
+    rw p.1 (λ t. close-failed c.args.end c.args.bytes.now _ c.requires.read less c.in_err-close_gate.ensures.partly (c.in_err-close_gate.ensures.any t))
+
+pub returns-in_err-write_and_sync-clause-partly : goal.returns-in_err-write_and_sync-clause-partly
+returns-in_err-write_and_sync-clause-partly g c =
+    let p = err_from_is_err_and c.from_residual-in_err-write_and_sync.result c.from_residual-in_err-write_and_sync.ensures.1 in
+    let less : c.args.end < length c.args.bytes.now = search rules in
+    let len : length c.deref.result.now ≡ length c.args.bytes.now - c.args.end - 1 = search rules in
+    rw p.1 (λ t.
+    let closed = c.in_ok-close_gate.ensures.closed t in
+    clear-failed c.args.end closed.0 c.args.bytes.now c.deref.result.now _ _ c.requires.read less closed.1 closed.2 (omega arith)
+    (c.in_err-write_and_sync.ensures.failed t))
+
+pub returns-clause-cleared : goal.returns-clause-cleared
+returns-clause-cleared g c t =
+    let less : c.args.end < length c.args.bytes.now = search rules in
+    let closed = c.in_ok-close_gate.ensures.closed t in
+    let zeros : c.deref.result.now ≡ replicate (length c.args.bytes.now - c.args.end - 1) 0 = search rules in
+    cleared c.args.end closed.0 (length c.args.bytes.now - c.args.end - 1) c.args.bytes.now _ _ c.requires.read less closed.1 closed.2 (omega arith)
+    (rw zeros at c.in_ok-write_and_sync.ensures.written t)
