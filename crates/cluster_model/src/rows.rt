@@ -2,9 +2,9 @@
 //! Each is a function without a body; its clauses say what happens and what the report shows.
 
 ghost use Rattle.std.specs.Prelude.{◌≡◌, true, false, [], ◌∷◌, map, Some};
-ghost use Rattle.volt_wire.specs.declared.actor.Actor.TheVariants.{Agent, Client};
+ghost use Rattle.volt_wire.specs.declared.actor.Actor.TheVariants.{Agent, Client, Site};
 ghost use Rattle.volt_wire.specs.declared.event.Event.TheVariants.{Deliver};
-ghost use Rattle.cluster_model.specs.Runs.{IsRun, may_happen};
+ghost use Rattle.cluster_model.specs.Runs.{IsRun, may_happen, run};
 ghost use Rattle.cluster_model.specs.Events.{can, may_recover};
 ghost use Rattle.cluster_model.specs.Toy.{toy};
 ghost use Rattle.cluster_model.specs.Rows.{outline, stampless};
@@ -78,9 +78,12 @@ pub fn power_cut()
     ensures without_batch { outline (power_cut.last 0) ≡ power_cut.without_batch }
 {}
 
-/// The disk with the later mark is chosen in a recovery, and not the one with the longer log.
+/// A leader whose disk alone has an entry sends no reply. The disk with the later mark is chosen in a
+/// recovery, and not the one with the longer log.
 pub fn mark_before_length()
     ensures given { IsRun toy mark.given_run mark.start }
+    // The leader's disk has the entry and the copy's hasn't: the leader has sent no reply.
+    ensures unanswered { can (run toy mark.given_run mark.start) (Deliver (Agent 1) (Site 0)) ≡ false }
     ensures stopped { may_recover mark.stopped ≡ true }
     ensures contents { map (λ i. (mark.stopped.sites i).contents) (0 ∷ 1 ∷ []) ≡ mark.contents }
     ensures shown { outline mark.last ≡ mark.shown }
