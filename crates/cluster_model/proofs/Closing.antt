@@ -16,8 +16,9 @@ use Rattle.cluster_model.specs.Initiator.{begins, admitting, works_queue, if_idl
 use Rattle.cluster_model.specs.Agent.{to_slot, to_partition, to_initiator, hands_on, unless_down, on_call, on_closed, on_word, on_hello, on_decided, asks_initiator, has_loaded, on_loaded, is_other_word, says, decides_word, agrees, from_agent, from_site, from_director, from_client, agent_row, row_and_word, unless_stopped, takes_each, takes_waiting, agent_runs, agent_takes, takes_start, start_taken, start_after, agent_turn}
 use Rattle.cluster_model.specs.Outside.{Outside, Fair, DiskFails, NoMemory, DisksShow}
 use Rattle.cluster_model.specs.World.{World, took, stamp_of}
-use Rattle.cluster_model.specs.Events.{delivered, allows, can, is_some_letter, step}
+use Rattle.cluster_model.specs.Events.{delivered, allows, can, is_actor, is_some_letter, step}
 use Rattle.volt_wire.specs.declared.event.Event.TheVariants as event
+use Rattle.std.proofs.lemmas.Bool.{and_parts}
 use Rattle.std.proofs.lemmas.Bool.Decides.{nat_tests}
 
 -- ---- a choice
@@ -485,4 +486,6 @@ pub stays-silent : (E : Database) (w : World) (h : ℕ) (from b : Actor) (o : Ou
     → can w (event.Deliver (Agent h) from) ≡ true → allows w (event.Deliver (Agent h) from) o ≡ true
     → (w.agents h).start ≡ 0 → starts_in (take 1 (w.channel from (Agent h))) ≡ []
     → (step E w (event.Deliver (Agent h) from, o)).channel (Agent h) b ≡ left_by w (event.Deliver (Agent h) from) (Agent h) b
-stays-silent E w h from b o some may stopped none = silent-delivered E w h from b (w.channel from (Agent h)) o refl some may stopped none
+stays-silent E w h from b o can_be may stopped none =
+    let some = (and_parts (is_some_letter (w.channel from (Agent h))) (is_actor w.deployment (Agent h)) can_be).0 in
+    silent-delivered E w h from b (w.channel from (Agent h)) o refl some may stopped none

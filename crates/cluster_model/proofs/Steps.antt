@@ -1,6 +1,6 @@
 -- An event changes one actor.
 use Rattle.std.proofs.Common.{◌≡◌, true, false, List, [], ◌∷◌, ◌++◌, append-nil, refl, sym, inl, inr, ◌==◌}
-use Rattle.std.proofs.lemmas.Bool.{cases_Bool}
+use Rattle.std.proofs.lemmas.Bool.{cases_Bool, and_parts}
 use Rattle.std.specs.Prelude.{ℕ}
 use Rattle.volt_wire.specs.declared.actor.Actor.{Actor}
 use Rattle.volt_wire.specs.declared.actor.Actor.TheVariants.{Director, Client, Agent, Site, Scanner}
@@ -15,7 +15,7 @@ use Rattle.cluster_model.specs.Sync.{site_turn, sync_turn}
 use Rattle.cluster_model.specs.Scanner.{scanner_turn, scan_turn}
 use Rattle.cluster_model.specs.Outside.{Outside}
 use Rattle.cluster_model.specs.World.{World, set_at, took, sent, stamp_of}
-use Rattle.cluster_model.specs.Events.{delivered, step, can, may_do, is_some_letter}
+use Rattle.cluster_model.specs.Events.{delivered, step, can, may_do, is_actor, is_some_letter}
 use Rattle.cluster_model.specs.Laws.{ChangesOne, is_one_actors, actor_of}
 
 abbrev Channels : Type 0
@@ -121,7 +121,8 @@ delivered-one E w to from (l ∷ ls) o e = received-one E w to from l ls o
 pub event-one : (E : Database) (w : World) (e : Event) (o : Outside) → is_one_actors e ≡ true → can w e ≡ true
     → ChangesOne w (step E w (e, o)) e (actor_of e)
 event-one E w (event.Deliver to from) o is may =
-    let d = delivered-one E w to from (w.channel from to) o may in record {
+    let some = (and_parts (is_some_letter (w.channel from to)) (is_actor w.deployment to) may).0 in
+    let d = delivered-one E w to from (w.channel from to) o some in record {
       director = d.director;
       clients = d.clients;
       agents = d.agents;

@@ -104,9 +104,9 @@ is_implied w =
 abbrev pub is_actor : Deployment → Actor → Bool
 is_actor D a = list_any (same a) (actors D)
 
--- whether an event may happen
+-- Whether an event may happen. The actor of each is one of the deployment's.
 abbrev pub can : World → Event → Bool
-can w (event.Deliver to from) = is_some_letter (w.channel from to)
+can w (event.Deliver to from) = is_some_letter (w.channel from to) && is_actor w.deployment to
 can w (event.Sync i) = nat_lt i (slots w.deployment) && may_sync (w.sites i)
 can w (event.Scan i) = nat_lt i (slots w.deployment) && may_scan (w.scanners i)
 can w event.Recover = may_recover w

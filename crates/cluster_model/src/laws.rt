@@ -30,9 +30,9 @@ pub fn an_event_changes_one_actor<B: AnyDatabase>()
         → ChangesOne w (step B.database w (e, o)) e (actor_of e) }
 {}
 
-/// Whether a message may be taken depends on its channel alone.
+/// Whether a message may be taken depends on its channel alone, for an actor of the deployment.
 pub fn a_message_may_be_taken_by_its_channel()
-    ensures { (w v : World) (to from : Actor) → w.channel from to ≡ v.channel from to
+    ensures { (w v : World) (to from : Actor) → w.deployment ≡ v.deployment → w.channel from to ≡ v.channel from to
         → can w (event.Deliver to from) ≡ can v (event.Deliver to from) }
 {}
 
