@@ -1,0 +1,220 @@
+-- Whether an agent takes a message, and what it makes of it.
+use Rattle.std.proofs.Common.{◌≡◌, Bool, true, false, [], ◌∷◌, ◌++◌, refl, sym, ap, ◌∙◌, ◌⊎◌, inl, inr, ◌==◌, arith}
+use Rattle.std.proofs.lemmas.Bool.{eqb-true}
+use Rattle.std.proofs.lemmas.Bool.Decides.{nat_tests}
+use Rattle.std.specs.Prelude.{ℕ, ◌||◌, if◌then◌else◌, nat_lt, nat_le}
+use Rattle.volt_wire.specs.declared.actor.Actor.{Actor}
+use Rattle.volt_wire.specs.declared.actor.Actor.TheVariants.{Director, Client, Agent, Site, Scanner}
+use Rattle.volt_wire.specs.declared.message.Msg.{Msg}
+use Rattle.volt_wire.specs.declared.message.Msg.TheVariants as msg
+use Rattle.cluster_model.specs.Outside.{Outside, Fair, DiskFails, NoMemory, DisksShow}
+use Rattle.cluster_model.specs.Engine.{Database}
+use Rattle.cluster_model.specs.Words.{Deployment, term_in}
+use Rattle.cluster_model.specs.Letters.{Blocks, Letter, becomes, ◌▸◌, in_term, Arrival, arrival, Taken, Refused, Waits}
+use Rattle.cluster_model.specs.AgentState.{AgentState, stops, stops_with_host}
+use Rattle.cluster_model.specs.Agent.{row_and_word, unless_stopped, takes_waiting, on_start, agent_runs, agent_takes, takes_start, agent_turn}
+use Rattle.cluster_model.proofs.Closing.{start_after-same}
+use Rattle.word_laws.specs.Histories.{State, WaitingFrom}
+use Rattle.word_laws.proofs.Moves.{BringsWord}
+
+-- ---- whether a message is taken
+
+-- one that waits is of a higher term
+pub arrival-waits : (start here : ℕ) (l : Letter) → arrival start here l ≡ Waits → (l.term == 0) ≡ false
+arrival-waits start here l e = meant (l.start == 0 || l.start == start) e
+  where
+    timed : (none like low : Bool) → (if none || like then Taken else if low then Refused else Waits) ≡ Waits → none ≡ false
+    timed true like low q = absurd (cc)
+    timed false like low q = refl
+
+    meant : (c : Bool) → (if c then in_term here l.term else Refused) ≡ Waits → (l.term == 0) ≡ false
+    meant true q = timed (l.term == 0) (l.term == here) (nat_lt l.term here) q
+    meant false q = absurd (cc)
+
+pub arrival-waits-above : (start here : ℕ) (l : Letter) → arrival start here l ≡ Waits → nat_lt here l.term ≡ true
+arrival-waits-above start here l e = meant (l.start == 0 || l.start == start) e
+  where
+    timed : (none like low : Bool) → (l.term == here) ≡ like → nat_lt l.term here ≡ low → (if none || like then Taken else if low then Refused else Waits) ≡ Waits → nat_lt here l.term ≡ true
+    timed true like low f g q = absurd (cc)
+    timed false true low f g q = absurd (cc)
+    timed false false true f g q = absurd (cc)
+    timed false false false f g q = grind (arith, nat_tests, f, g)
+
+    meant : (c : Bool) → (if c then in_term here l.term else Refused) ≡ Waits → nat_lt here l.term ≡ true
+    meant true q = timed (l.term == 0) (l.term == here) (nat_lt l.term here) refl refl q
+    meant false q = absurd (cc)
+
+-- one that is taken is meant for this start
+pub arrival-taken : (start here : ℕ) (l : Letter) → arrival start here l ≡ Taken → (l.start ≡ 0) ⊎ (l.start ≡ start)
+arrival-taken start here l e = meant (l.start == 0) (l.start == start) refl refl e
+  where
+    meant : (none like : Bool) → (l.start == 0) ≡ none → (l.start == start) ≡ like → (if none || like then in_term here l.term else Refused) ≡ Taken → (l.start ≡ 0) ⊎ (l.start ≡ start)
+    meant true like f g q = inl (eqb-true l.start 0 f)
+    meant false true f g q = inr (eqb-true l.start start g)
+    meant false false f g q = absurd (cc)
+
+-- and so is one that waits
+pub arrival-waits-meant : (start here : ℕ) (l : Letter) → arrival start here l ≡ Waits → (l.start ≡ 0) ⊎ (l.start ≡ start)
+arrival-waits-meant start here l e = meant (l.start == 0) (l.start == start) refl refl e
+  where
+    meant : (none like : Bool) → (l.start == 0) ≡ none → (l.start == start) ≡ like → (if none || like then in_term here l.term else Refused) ≡ Waits → (l.start ≡ 0) ⊎ (l.start ≡ start)
+    meant true like f g q = inl (eqb-true l.start 0 f)
+    meant false true f g q = inr (eqb-true l.start start g)
+    meant false false f g q = absurd (cc)
+
+-- a message for no start and no term is taken
+pub arrival-open : (start here : ℕ) (l : Letter) → (l.start == 0) ≡ true → (l.term == 0) ≡ true → arrival start here l ≡ Taken
+arrival-open start here l none untimed = rw (none, untimed) refl
+
+-- so is one for this start and no term
+pub arrival-own : (start here : ℕ) (l : Letter) → l.term ≡ 0 → l.start ≡ start → arrival start here l ≡ Taken
+arrival-own start here l untimed is =
+    let z : (l.term == 0) ≡ true = grind (arith, nat_tests, untimed) in
+    let s : (l.start == start) ≡ true = grind (arith, nat_tests, is) in
+    choice (l.start == 0) (l.start == start) (l.term == 0) s z
+  where
+    choice : (none like untimed : Bool) → like ≡ true → untimed ≡ true
+        → (if none || like then (if untimed || (l.term == here) then Taken else if nat_lt l.term here then Refused else Waits) else Refused) ≡ Taken
+    choice true true true p q = refl
+    choice false true true p q = refl
+    choice none false untimed p q = absurd (cc)
+    choice none true false p q = absurd (cc)
+
+-- Of a message without a term only one for another start is dropped.
+pub arrival-dropped : (start here : ℕ) (l : Letter) → l.term ≡ 0 → arrival start here l ≡ Refused → (l.start ≡ start → ⊥)
+arrival-dropped start here l untimed e is = let q : Taken ≡ Refused = sym (arrival-own start here l untimed is) ∙ e in absurd (cc)
+
+-- ---- what a running agent makes of a message
+
+-- the messages that start and stop it
+abbrev pub Commands : Letter → Type 0
+Commands l = elim l.body as (λ _. Type 0) [
+  | msg.Start start ↦ Unit {0}
+  | msg.Stop start ↦ Unit {0}
+  | _ ↦ ⊥
+]
+
+pub takes-stop : (E : Database) (D : Deployment) (n stamp : ℕ) (a : AgentState) (from : Actor) (l : Letter) (s : ℕ) → (a.start == 0) ≡ false → l.body ≡ msg.Stop s
+    → (agent_takes E D n stamp a from l ≡ stops D n a.start) ⊎ (agent_takes E D n stamp a from l ≡ becomes a)
+takes-stop E D n stamp a from l s runs is = rw (is, runs) (choice (nat_le a.start s))
+  where
+    choice : (c : Bool) → ((if c then stops D n a.start else becomes a) ≡ stops D n a.start) ⊎ ((if c then stops D n a.start else becomes a) ≡ becomes a)
+    choice true = inl refl
+    choice false = inr refl
+
+pub takes-start : (E : Database) (D : Deployment) (n stamp : ℕ) (a : AgentState) (from : Actor) (l : Letter) (s : ℕ) → (a.start == 0) ≡ false → l.body ≡ msg.Start s
+    → agent_takes E D n stamp a from l ≡ becomes a
+takes-start E D n stamp a from l s runs is = rw is (ignored from)
+  where
+    ignored : (from : Actor) → takes_start D n a from s ≡ becomes a
+    ignored Director = rw runs refl
+    ignored (Client c) = refl
+    ignored (Agent g) = refl
+    ignored (Site x) = refl
+    ignored (Scanner x) = refl
+
+pub takes-other : (E : Database) (D : Deployment) (n stamp : ℕ) (a : AgentState) (from : Actor) (l : Letter) → (a.start == 0) ≡ false → (Commands l → ⊥)
+    → agent_takes E D n stamp a from l ≡ agent_runs E D n stamp a from l
+takes-other E D n stamp a from l runs none =
+    elim l.body as (λ m. (Commands (record l { body = m }) → ⊥) → agent_takes E D n stamp a from (record l { body = m }) ≡ agent_runs E D n stamp a from (record l { body = m })) [
+      | msg.Start start ↦ λ k. absurd (k tt)
+      | msg.Stop start ↦ λ k. absurd (k tt)
+      | m ↦ λ k. rw runs refl
+    ] none
+
+-- The one or the other, whatever the message.
+pub data Takes (E : Database) (D : Deployment) (n stamp : ℕ) (a : AgentState) (from : Actor) (l : Letter) : Type 0 where
+  Stops_ : agent_takes E D n stamp a from l ≡ stops D n a.start → Takes E D n stamp a from l
+  Ignores : agent_takes E D n stamp a from l ≡ becomes a → Commands l → Takes E D n stamp a from l
+  Runs_ : agent_takes E D n stamp a from l ≡ agent_runs E D n stamp a from l → (Commands l → ⊥) → Takes E D n stamp a from l
+
+pub takes-cases : (E : Database) (D : Deployment) (n stamp : ℕ) (a : AgentState) (from : Actor) (l : Letter) → (a.start == 0) ≡ false → Takes E D n stamp a from l
+takes-cases E D n stamp a from l runs = elim l.body as (λ m. Takes E D n stamp a from (record l { body = m })) [
+  | msg.Start start ↦ Ignores (takes-start E D n stamp a from (record l { body = msg.Start start }) start runs refl) tt
+  | msg.Stop start ↦ elim (takes-stop E D n stamp a from (record l { body = msg.Stop start }) start runs refl) [
+    | inl e ↦ Stops_ e
+    | inr e ↦ Ignores e tt
+  ]
+  | m ↦ Runs_ (rw runs refl) (λ k. k)
+]
+
+pub runs-taken : (E : Database) (D : Deployment) (n stamp : ℕ) (a : AgentState) (from : Actor) (l : Letter) → arrival a.start (term_in a.decided) l ≡ Taken
+    → agent_runs E D n stamp a from l ≡ (row_and_word E D n stamp a from l ▸ takes_waiting E D n stamp)
+runs-taken E D n stamp a from l e = rw (e, agent_runs) refl
+
+pub runs-waits : (E : Database) (D : Deployment) (n stamp : ℕ) (a : AgentState) (from : Actor) (l : Letter) → arrival a.start (term_in a.decided) l ≡ Waits
+    → agent_runs E D n stamp a from l ≡ becomes (record a { waiting = a.waiting ++ record { from = from; letter = l } ∷ [] })
+runs-waits E D n stamp a from l e = rw (e, agent_runs) refl
+
+pub runs-refused : (E : Database) (D : Deployment) (n stamp : ℕ) (a : AgentState) (from : Actor) (l : Letter) → arrival a.start (term_in a.decided) l ≡ Refused
+    → agent_runs E D n stamp a from l ≡ becomes a
+runs-refused E D n stamp a from l e = rw (e, agent_runs) refl
+
+-- with the outside's share: without memory it stops with its host
+pub turn-cases : (E : Database) (D : Deployment) (n stamp : ℕ) (a : AgentState) (from : Actor) (l : Letter) (o : Outside) → (a.start == 0) ≡ false
+    → (agent_turn E D n stamp a from l o ≡ stops_with_host D n a.start) ⊎ (agent_turn E D n stamp a from l o ≡ agent_takes E D n stamp a from l)
+turn-cases E D n stamp a from l Fair runs = inr refl
+turn-cases E D n stamp a from l (DiskFails answered) runs = inr refl
+turn-cases E D n stamp a from l (NoMemory answered) runs = inl (ap (λ s. stops_with_host D n s) (start_after-same a from l runs))
+turn-cases E D n stamp a from l (DisksShow shown failed) runs = inr refl
+
+-- ---- what a stopped agent makes of a message: it takes Start from the director alone
+
+pub stopped-cases : (E : Database) (D : Deployment) (n stamp : ℕ) (a : AgentState) (from : Actor) (l : Letter) → (a.start == 0) ≡ true
+    → (agent_takes E D n stamp a from l ≡ becomes a) ⊎ ((from ≡ Director) × ((s : ℕ) × (l.body ≡ msg.Start s) × (agent_takes E D n stamp a from l ≡ on_start D n s)))
+stopped-cases E D n stamp a from l stopped =
+    elim l.body as (λ m. (agent_takes E D n stamp a from (record l { body = m }) ≡ becomes a)
+    ⊎ ((from ≡ Director) × ((s : ℕ) × (m ≡ msg.Start s) × (agent_takes E D n stamp a from (record l { body = m }) ≡ on_start D n s)))) [
+      | msg.Start start ↦ begun from start (msg.Start start) refl
+      | msg.Stop start ↦ inl (rw stopped refl)
+      | m ↦ inl (rw stopped refl)
+    ]
+  where
+    begun : (from : Actor) (start : ℕ) (m : Msg Blocks) → m ≡ msg.Start start
+        → (takes_start D n a from start ≡ becomes a) ⊎ ((from ≡ Director) × ((s : ℕ) × (m ≡ msg.Start s) × (takes_start D n a from start ≡ on_start D n s)))
+    begun Director start m is = inr (refl, (start, is, rw stopped refl))
+    begun (Client c) start m is = inl refl
+    begun (Agent g) start m is = inl refl
+    begun (Site x) start m is = inl refl
+    begun (Scanner x) start m is = inl refl
+
+-- ---- choices
+
+pub arrival-cases : (x : Arrival) → (x ≡ Taken) ⊎ (x ≡ Waits) ⊎ (x ≡ Refused)
+arrival-cases Taken = inl refl
+arrival-cases Waits = inr (inl refl)
+arrival-cases Refused = inr (inr refl)
+
+pub unless-running : (E : Database) (D : Deployment) (n stamp : ℕ) (a : AgentState) (from : Actor) (l : Letter) → (a.start == 0) ≡ false
+    → unless_stopped E D n stamp a from l ≡ row_and_word E D n stamp a from l
+unless-running E D n stamp a from l runs = rw runs refl
+
+pub unless-over : (E : Database) (D : Deployment) (n stamp : ℕ) (a : AgentState) (from : Actor) (l : Letter) → (a.start == 0) ≡ true
+    → unless_stopped E D n stamp a from l ≡ becomes a
+unless-over E D n stamp a from l stopped = rw stopped refl
+
+-- a message brings a word or not
+pub brings-cases : (from : Actor) (l : Letter) → BringsWord from l ⊎ (BringsWord from l → ⊥)
+brings-cases Director l = inr (λ k. k)
+brings-cases (Client c) l = inr (λ k. k)
+brings-cases (Agent g) l = elim l.body as (λ m. BringsWord (Agent g) (record l { body = m }) ⊎ (BringsWord (Agent g) (record l { body = m }) → ⊥)) [
+  | msg.Word base lost admitted ↦ inl tt
+  | msg.Decided w ↦ inl tt
+  | msg.Closed o ↦ inl tt
+  | m ↦ inr (λ k. k)
+]
+brings-cases (Site s) l = inr (λ k. k)
+brings-cases (Scanner x) l = inr (λ k. k)
+
+-- what waits brings none
+pub waiting-brings : (S : State) (n : ℕ) (from : Actor) (l : Letter) → WaitingFrom S n from l → BringsWord from l → ⊥
+waiting-brings S n Director l w = λ k. k
+waiting-brings S n (Client c) l w = λ k. k
+waiting-brings S n (Agent g) l w = elim l.body as (λ m. WaitingFrom S n (Agent g) (record l { body = m }) → BringsWord (Agent g) (record l { body = m }) → ⊥) [
+  | msg.Word base lost admitted ↦ λ v k. v
+  | msg.Decided x ↦ λ v k. v
+  | msg.Closed o ↦ λ v k. v
+  | m ↦ λ v k. k
+] w
+waiting-brings S n (Site s) l w = λ k. k
+waiting-brings S n (Scanner x) l w = λ k. k

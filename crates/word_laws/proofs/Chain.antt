@@ -1,0 +1,69 @@
+-- Decided words of an epoch form a chain, and what follows.
+use Rattle.std.proofs.Common.{◌≡◌, Bool, true, false, List, [], ◌∷◌, ◌++◌, refl, sym, subst, ap, ◌∙◌, ◌⊎◌, inl, inr, ◌==◌}
+use Rattle.std.specs.Prelude.{ℕ, not, map, Option, Some, None}
+use Rattle.std.specs.List.{AllByRecursion, list_any}
+use Rattle.volt_wire.specs.Word.{Membership}
+use Rattle.cluster_model.specs.Engine.{Database}
+use Rattle.cluster_model.specs.Words.{is_in, term_of, not_lost}
+use Rattle.cluster_model.specs.World.{World, Input, first_world}
+use Rattle.cluster_model.specs.Runs.{Happening, IsRun, run}
+use Rattle.word_laws.specs.Histories.{In, State, Comparable, GoodWord, OwnOk, SaidBy, HistoryOk, Holds, names}
+use Rattle.word_laws.specs.Chain.{state_of, InEpoch, IsOneEpoch, HasDecided, HasWord, OneStartPerHost}
+use Rattle.word_laws.proofs.Moves.{Grows}
+use Rattle.word_laws.proofs.Laters.{in-all, in-cases, some-here}
+use Rattle.word_laws.proofs.Members.{in-not_lost}
+use Rattle.word_laws.proofs.Agreement.{said-good, term-same, one-start, hosts-of}
+use Rattle.word_laws.proofs.Worlds.{first-holds, run-holds, run-grows, run-append, run-first, run-second}
+
+pub words-agree : (E : Database) (input : Input) (es : List Happening) → IsRun E es (first_world E input) → InEpoch (run E es (first_world E input))
+words-agree E input es r = run-holds E es (first_world E input) r (first-holds E input)
+
+-- a decided word of a world is one of its epoch's history
+pub decided-in : (w : World) (k : InEpoch w) (m : Membership) → HasDecided w m → In m k.history.decided
+decided-in w k m d = elim d.1 [
+  | inl e ↦ (some-here (λ x. In x k.history.decided × (names x (w.agents d.0).start ≡ true)) (w.agents d.0).decided m e (k.holds.agents d.0).decided).0
+  | inr e ↦ (some-here (λ x. (k.history.took (w.agents d.0).start ≡ Some x) × In x k.history.decided) (w.agents d.0).taken m e (k.holds.agents d.0).taken).1
+]
+
+-- two worlds of a run in one epoch, with the history of the later one
+pub record OfOneEpoch (w v : World) : Type 0 where
+  pub earlier : InEpoch w
+  pub later : InEpoch v
+  pub grows : Grows earlier.history later.history
+
+pub of-one-epoch : (E : Database) (input : Input) (es fs : List Happening) → IsRun E (es ++ fs) (first_world E input) → IsOneEpoch fs
+    → OfOneEpoch (run E es (first_world E input)) (run E (es ++ fs) (first_world E input))
+of-one-epoch E input es fs r one =
+    let k = words-agree E input es (run-first E es fs (first_world E input) r) in
+    let n = run-grows E fs (run E es (first_world E input)) (run-second E es fs (first_world E input) r) one k in
+    subst (OfOneEpoch (run E es (first_world E input))) (sym (run-append E es fs (first_world E input))) (record { earlier = k; later = n.0; grows = n.1 })
+
+pub chained : (w v : World) → OfOneEpoch w v → (m n : Membership) → HasDecided w m → HasDecided v n → Comparable m n
+chained w v o m n d e = o.later.holds.history.chain m n (o.grows.decided m (decided-in w o.earlier m d)) (decided-in v o.later n e)
+
+pub one-of-term : (w v : World) → OfOneEpoch w v → (m n : Membership) → HasDecided w m → HasDecided v n → term_of m ≡ term_of n → m ≡ n
+one-of-term w v o m n d e t =
+    let H = o.later.holds.history in
+    let S = state_of v o.later.owner o.later.history in
+    term-same S H m n (H.decided_good m (o.grows.decided m (decided-in w o.earlier m d))) (H.decided_good n (decided-in v o.later n e)) (chained w v o m n d e) t
+
+-- ---- words of a world are good
+
+pub word-good : (w : World) (k : InEpoch w) (m : Membership) → HasWord w m → GoodWord (state_of w k.owner k.history) m
+word-good w k m (inl d) = k.holds.history.decided_good m (decided-in w k m d)
+word-good w k m (inr (h, inl e)) = (some-here (OwnOk (state_of w k.owner k.history) (w.agents h).start) (w.agents h).own m e (k.holds.agents h).own).good
+word-good w k m (inr (h, inr (g, e))) =
+    let s = some-here (SaidBy (state_of w k.owner k.history) g) ((w.agents h).said g) m e ((k.holds.agents h).heard g) in
+    said-good (state_of w k.owner k.history) k.holds.history s.0 m s.2
+
+-- who is there and isn't lost is named, and is its host's
+there : (S : State) (H : HistoryOk S) (m : Membership) → GoodWord S m → (h s : ℕ) → In (h, s) (not_lost m) → (names m s ≡ true) × (is_in s m.lost ≡ false) × (S.owner s ≡ h)
+there S H m g h s i = in-not_lost S.owner m (hosts-of S H m g) g.owned h s i
+
+pub one-start-each : (w : World) (k : InEpoch w) (m : Membership) → HasWord w m → OneStartPerHost m
+one-start-each w k m d h r s i j =
+    let S = state_of w k.owner k.history in
+    let g = word-good w k m d in
+    let p = there S k.holds.history m g h r i in
+    let q = there S k.holds.history m g h s j in
+    one-start S k.holds.history m r s g p.0 q.0 (p.2 ∙ sym q.2) p.1 q.1
