@@ -1,0 +1,185 @@
+-- A kind is known by its place.
+use Rattle.std.proofs.Common.{rules, ◌≡◌, true, List, [], ◌∷◌, get_or, refl, ap, sym, ◌∙◌}
+use Rattle.sql_grammar.specs.declared.kind.Kind.{Kind}
+use Rattle.sql_grammar.specs.declared.kind.Kind.TheVariants as k
+use Rattle.sql_grammar.specs.Kinds.{place_of, same_kind}
+
+pub tags : (a : Kind) → denote.Enum.Declared.tag_of Rattle.sql_grammar.specs.contracts.kind.Kind.the_type a ≡ place_of a
+tags k.Create = refl
+tags k.Table = refl
+tags k.Constraint = refl
+tags k.Primary = refl
+tags k.Key = refl
+tags k.Not = refl
+tags k.Null = refl
+tags k.Tinyint = refl
+tags k.Smallint = refl
+tags k.Integer = refl
+tags k.Bigint = refl
+tags k.Varchar = refl
+tags k.Bytes = refl
+tags k.Unique = refl
+tags k.Index = refl
+tags k.On = refl
+tags k.Partition = refl
+tags k.Column = refl
+tags k.Procedure = refl
+tags k.Parameter = refl
+tags k.As = refl
+tags k.Program = refl
+tags k.Begin = refl
+tags k.End = refl
+tags k.Insert = refl
+tags k.Into = refl
+tags k.Values = refl
+tags k.Update = refl
+tags k.Set = refl
+tags k.Where = refl
+tags k.Delete = refl
+tags k.From = refl
+tags k.Select = refl
+tags k.Inner = refl
+tags k.Join = refl
+tags k.Group = refl
+tags k.By = refl
+tags k.Order = refl
+tags k.Limit = refl
+tags k.Count = refl
+tags k.Sum = refl
+tags k.Min = refl
+tags k.Max = refl
+tags k.Asc = refl
+tags k.Desc = refl
+tags k.Or = refl
+tags k.And = refl
+tags k.Is = refl
+tags k.Between = refl
+tags k.In = refl
+tags k.Rows = refl
+tags k.First = refl
+tags k.Let = refl
+tags k.Sql = refl
+tags k.If = refl
+tags k.Then = refl
+tags k.Else = refl
+tags k.For = refl
+tags k.Do = refl
+tags k.Abort = refl
+tags k.Return = refl
+tags k.LeftParen = refl
+tags k.RightParen = refl
+tags k.Comma = refl
+tags k.Semicolon = refl
+tags k.Dot = refl
+tags k.Star = refl
+tags k.Plus = refl
+tags k.Minus = refl
+tags k.Slash = refl
+tags k.Equal = refl
+tags k.NotEqual = refl
+tags k.Less = refl
+tags k.LessEqual = refl
+tags k.Greater = refl
+tags k.GreaterEqual = refl
+tags k.Question = refl
+tags k.Colon = refl
+tags k.Name = refl
+tags k.Number = refl
+tags k.Text = refl
+tags k.Bad = refl
+
+-- the kinds in the order of their places
+abbrev kinds : List Kind
+kinds = k.Create ∷ k.Table ∷ k.Constraint ∷ k.Primary ∷ k.Key ∷ k.Not ∷ k.Null ∷ k.Tinyint ∷ k.Smallint ∷ k.Integer ∷ k.Bigint ∷ k.Varchar ∷ k.Bytes ∷ k.Unique ∷ k.Index ∷ k.On ∷ k.Partition ∷ k.Column ∷ k.Procedure ∷ k.Parameter ∷ k.As ∷ k.Program ∷ k.Begin ∷ k.End ∷ k.Insert ∷ k.Into ∷ k.Values ∷ k.Update ∷ k.Set ∷ k.Where ∷ k.Delete ∷ k.From ∷ k.Select ∷ k.Inner ∷ k.Join ∷ k.Group ∷ k.By ∷ k.Order ∷ k.Limit ∷ k.Count ∷ k.Sum ∷ k.Min ∷ k.Max ∷ k.Asc ∷ k.Desc ∷ k.Or ∷ k.And ∷ k.Is ∷ k.Between ∷ k.In ∷ k.Rows ∷ k.First ∷ k.Let ∷ k.Sql ∷ k.If ∷ k.Then ∷ k.Else ∷ k.For ∷ k.Do ∷ k.Abort ∷ k.Return ∷ k.LeftParen ∷ k.RightParen ∷ k.Comma ∷ k.Semicolon ∷ k.Dot ∷ k.Star ∷ k.Plus ∷ k.Minus ∷ k.Slash ∷ k.Equal ∷ k.NotEqual ∷ k.Less ∷ k.LessEqual ∷ k.Greater ∷ k.GreaterEqual ∷ k.Question ∷ k.Colon ∷ k.Name ∷ k.Number ∷ k.Text ∷ k.Bad ∷ []
+
+at_place : (a : Kind) → get_or kinds (place_of a) k.Bad ≡ a
+at_place k.Create = refl
+at_place k.Table = refl
+at_place k.Constraint = refl
+at_place k.Primary = refl
+at_place k.Key = refl
+at_place k.Not = refl
+at_place k.Null = refl
+at_place k.Tinyint = refl
+at_place k.Smallint = refl
+at_place k.Integer = refl
+at_place k.Bigint = refl
+at_place k.Varchar = refl
+at_place k.Bytes = refl
+at_place k.Unique = refl
+at_place k.Index = refl
+at_place k.On = refl
+at_place k.Partition = refl
+at_place k.Column = refl
+at_place k.Procedure = refl
+at_place k.Parameter = refl
+at_place k.As = refl
+at_place k.Program = refl
+at_place k.Begin = refl
+at_place k.End = refl
+at_place k.Insert = refl
+at_place k.Into = refl
+at_place k.Values = refl
+at_place k.Update = refl
+at_place k.Set = refl
+at_place k.Where = refl
+at_place k.Delete = refl
+at_place k.From = refl
+at_place k.Select = refl
+at_place k.Inner = refl
+at_place k.Join = refl
+at_place k.Group = refl
+at_place k.By = refl
+at_place k.Order = refl
+at_place k.Limit = refl
+at_place k.Count = refl
+at_place k.Sum = refl
+at_place k.Min = refl
+at_place k.Max = refl
+at_place k.Asc = refl
+at_place k.Desc = refl
+at_place k.Or = refl
+at_place k.And = refl
+at_place k.Is = refl
+at_place k.Between = refl
+at_place k.In = refl
+at_place k.Rows = refl
+at_place k.First = refl
+at_place k.Let = refl
+at_place k.Sql = refl
+at_place k.If = refl
+at_place k.Then = refl
+at_place k.Else = refl
+at_place k.For = refl
+at_place k.Do = refl
+at_place k.Abort = refl
+at_place k.Return = refl
+at_place k.LeftParen = refl
+at_place k.RightParen = refl
+at_place k.Comma = refl
+at_place k.Semicolon = refl
+at_place k.Dot = refl
+at_place k.Star = refl
+at_place k.Plus = refl
+at_place k.Minus = refl
+at_place k.Slash = refl
+at_place k.Equal = refl
+at_place k.NotEqual = refl
+at_place k.Less = refl
+at_place k.LessEqual = refl
+at_place k.Greater = refl
+at_place k.GreaterEqual = refl
+at_place k.Question = refl
+at_place k.Colon = refl
+at_place k.Name = refl
+at_place k.Number = refl
+at_place k.Text = refl
+at_place k.Bad = refl
+
+pub same_eq : (a b : Kind) → same_kind a b ≡ true → a ≡ b
+same_eq a b e =
+    let p : place_of a ≡ place_of b = search (rules, e) in
+    sym (at_place a) ∙ ap (λ n. get_or kinds n k.Bad) p ∙ at_place b
+
+pub same_refl : (a : Kind) → same_kind a a ≡ true
+same_refl a = search rules

@@ -1,0 +1,10 @@
+pub mod Digits
+pub mod Exact
+pub mod Fronts
+pub mod KindPlaces
+pub mod Langs
+pub mod Lists
+pub mod OneAnswer
+pub mod Readings
+pub mod Rows
+pub mod Rules
