@@ -1,35 +1,31 @@
 -- An agent takes a message: what holds, holds after all that it does then.
-use Rattle.std.proofs.Common.{◌≡◌, ◌<◌, ◌≤◌, Bool, true, false, List, [], ◌∷◌, ◌++◌, append-nil, refl, sym, subst, ap, ◌∙◌, ◌⊎◌, inl, inr, ◌==◌, arith}
-use Rattle.std.proofs.lemmas.Bool.{cases_Bool, eqb-true}
+use Rattle.std.proofs.Common.{◌≡◌, ◌<◌, true, false, List, [], ◌∷◌, ◌++◌, refl, sym, subst, ap, ◌∙◌, inl, inr, ◌==◌, arith}
 use Rattle.std.proofs.lemmas.Bool.Decides.{nat_tests}
-use Rattle.std.proofs.Math.Path.{fun_ext}
-use Rattle.std.specs.Prelude.{ℕ, ◌&&◌, not, nat_lt, if◌then◌else◌, Option, Some, None}
-use Rattle.std.specs.List.{AllByRecursion, list_any}
-use Rattle.volt_wire.specs.Word.{Membership}
+use Rattle.std.proofs.lemmas.Bool.{cases_eq}
+use Rattle.std.specs.Prelude.{ℕ, nat_lt}
+use Rattle.std.specs.List.{AllByRecursion}
 use Rattle.volt_wire.specs.declared.actor.Actor.{Actor}
 use Rattle.volt_wire.specs.declared.actor.Actor.TheVariants.{Director, Client, Agent, Site, Scanner}
 use Rattle.volt_wire.specs.declared.message.Msg.TheVariants as msg
 use Rattle.cluster_model.specs.Engine.{Database}
-use Rattle.cluster_model.specs.Words.{Deployment, is_host, term_in, admits}
-use Rattle.cluster_model.specs.Letters.{same, Letter, Sends, Turn, becomes, ◌▸◌, arrival, Arrival, Taken, Refused, Waits, Waiting, of_term, above_term}
-use Rattle.cluster_model.specs.AgentState.{AgentState, Queued, Job_, Admission, new_agent, stops, stops_with_host}
-use Rattle.cluster_model.specs.Agent.{agent_row, row_and_word, unless_stopped, takes_each, takes_waiting, agent_runs, agent_takes, agent_turn, start_after, start_taken, on_start, takes_start}
+use Rattle.cluster_model.specs.Words.{Deployment, is_host, term_in}
+use Rattle.cluster_model.specs.Letters.{Letter, Turn, becomes, ◌▸◌, arrival, Arrival, Taken, Refused, Waits, Waiting, of_term, above_term}
+use Rattle.cluster_model.specs.AgentState.{AgentState, Admission, new_agent, stops, stops_with_host}
+use Rattle.cluster_model.specs.Agent.{agent_row, row_and_word, unless_stopped, takes_each, takes_waiting, agent_runs, agent_takes, agent_turn, start_after, start_taken, on_start}
 use Rattle.cluster_model.specs.Outside.{Outside, Fair, DiskFails, NoMemory, DisksShow}
-use Rattle.cluster_model.specs.World.{took, sent, rest, set_at}
+use Rattle.cluster_model.specs.World.{took, rest}
 use Rattle.cluster_model.specs.Laws.{start_in_letter, starts_in}
-use Rattle.word_laws.proofs.Rows.{All-mono}
-use Rattle.word_laws.specs.Histories.{In, State, History, Admitted, start_at, starts_to, Holds, LetterOk, AskOk, CameOk, QueuedOk, WaitingFrom, WaitingOk, ClosesFrom, InOrder, OwnIs, names}
-use Rattle.word_laws.proofs.Moves.{after, popped, Later, BringsWord, asked_by, Heeded, Grows, Goes}
+use Rattle.word_laws.specs.Histories.{In, State, start_at, starts_to, Holds, LetterOk, AskOk, CameOk, QueuedOk, WaitingFrom, WaitingOk, ClosesFrom, InOrder}
+use Rattle.word_laws.proofs.Lists.{all-mono, all-filter, eqb-same, not-both}
+use Rattle.word_laws.proofs.Moves.{after, popped, Later, BringsWord, asked_by, Heeded, Goes}
 use Rattle.word_laws.proofs.Laters.{ask-later, came-later, closes-later, ask-began, waiting-later}
-use Rattle.word_laws.proofs.Steps.{later-moved, pops, pops_other, took-sent, waiting-shrinks, waits_of-holds, All-kept}
 use Rattle.word_laws.proofs.Turns.{row-calm, tells, concludes, stops_with_host-closed}
-use Rattle.word_laws.proofs.Arrivals.{arrival-waits, arrival-taken, arrival-open, arrival-own, arrival-dropped, arrival-cases, Commands, Takes, Stops_, Ignores, Runs_, takes-cases, runs-taken, runs-waits, runs-refused, turn-cases, stopped-cases, unless-running, waiting-brings}
+use Rattle.word_laws.proofs.Arrivals.{arrival-waits, arrival-taken, arrival-open, arrival-dropped, Commands, Takes, Stops_, Ignores, Runs_, takes-cases, runs-taken, runs-waits, runs-refused, turn-cases, stopped-cases, unless-running, waiting-brings}
+use Rattle.word_laws.proofs.Steps.{later-moved, pops, pops-other, waiting-shrinks, waits-holds}
 use Rattle.word_laws.proofs.Rejoins.{start-goes, start-stops-goes}
 use Rattle.word_laws.proofs.Draws.{director-drops-holds}
-use Rattle.word_laws.proofs.OwnWords.{self-test, cases_eq}
-use Rattle.word_laws.proofs.Agreement.{not-both}
-use Rattle.word_laws.proofs.Hearings.{Row, Going, row-plain, stay-row, agent-there, then-row, on-row, then-assoc, calm-row, concluded-row, after-same}
-use Rattle.word_laws.proofs.Letters.{pop-row, stop-row, closed-row, word-row, decided-row}
+use Rattle.word_laws.proofs.Hearings.{Row, row-plain, stay-row, agent-there, on-row, then-assoc, calm-row, concluded-row, after-same}
+use Rattle.word_laws.proofs.Letters.{forgets-row, stop-row, closed-row, word-row, decided-row}
 
 -- ---- a message leaves its channel
 
@@ -41,42 +37,28 @@ pub pops-any : (S : State) (from : Actor) (n : ℕ) (l : Letter) (ls : List Lett
     → ((k : ℕ) → from ≡ Agent k → Heeded S n l) → Holds S → Holds (popped S from n)
 pops-any S (Agent k) n l ls is heeded h = pops S k n l ls is (heeded k refl) h
 pops-any S Director n l ls is heeded h = director-drops-holds S n h
-pops-any S (Client c) n l ls is heeded h = pops_other S (Client c) n (λ k. refl) (λ e. absurd (cc)) h
-pops-any S (Site i) n l ls is heeded h = pops_other S (Site i) n (λ k. refl) (λ e. absurd (cc)) h
-pops-any S (Scanner i) n l ls is heeded h = pops_other S (Scanner i) n (λ k. refl) (λ e. absurd (cc)) h
+pops-any S (Client c) n l ls is heeded h = pops-other S (Client c) n (λ k. refl) (λ e. absurd (cc)) h
+pops-any S (Site i) n l ls is heeded h = pops-other S (Site i) n (λ k. refl) (λ e. absurd (cc)) h
+pops-any S (Scanner i) n l ls is heeded h = pops-other S (Scanner i) n (λ k. refl) (λ e. absurd (cc)) h
 
 -- The agent stops, and then the message leaves its channel.
 pub stop-pops : (S : State) (from : Actor) (n : ℕ) (l : Letter) (ls : List Letter) (t : Turn AgentState) → S.channel from (Agent n) ≡ l ∷ ls → Holds S → 0 < start_at S n → t.state ≡ new_agent 0
     → ((g : ℕ) → t.sends (Agent g) ≡ (stops S.deployment n (start_at S n)).sends (Agent g)) → Row (popped S from n) n t
-stop-pops S from n l ls t is h up e sends =
-    let r = stop-row S n t h up e sends in
-    record {
-      history = r.history;
-      goes = r.goes;
-      first = r.first;
-      began = r.began;
-      said = r.said;
-      took_word = r.took_word;
-      decided = r.decided;
-      admitted = r.admitted;
-      holds = subst Holds (sym (took-sent S from n t.state t.sends r.history l ls is))
-          (pops-any (after S n t.state t.sends r.history) from n l (behind r).0 (behind r).1 (λ k q. unheeded r l) r.holds);
-    }
+stop-pops S from n l ls t is h up e sends = forgets-row S n from l ls t is r (λ more q. pops-any T from n l more q (λ k z. unheeded) r.holds)
   where
-    choose : (b : Bool) (r : Row S n t) → (more : List Letter) × ((if b then S.channel from (Agent n) ++ t.sends (Agent n) else S.channel from (Agent n)) ≡ l ∷ more)
-    choose true r = (ls ++ t.sends (Agent n), ap (λ z. z ++ t.sends (Agent n)) is)
-    choose false r = (ls, is)
+    r : Row S n t
+    r = stop-row S n t h up e sends
 
-    behind : (r : Row S n t) → (more : List Letter) × ((after S n t.state t.sends r.history).channel from (Agent n) ≡ l ∷ more)
-    behind r = choose (same (Agent n) from) r
+    T : State
+    T = after S n t.state t.sends r.history
 
-    zero : (r : Row S n t) → start_at (after S n t.state t.sends r.history) n ≡ 0
-    zero r = ap (λ x. x.start) (agent-there S n t.state t.sends r.history ∙ e)
+    zero : start_at T n ≡ 0
+    zero = ap (λ x. x.start) (agent-there S n t.state t.sends r.history ∙ e)
 
-    unheeded : (r : Row S n t) (l : Letter) → Heeded (after S n t.state t.sends r.history) n l
-    unheeded r l = elim l.body as (λ m. Heeded (after S n t.state t.sends r.history) n (record l { body = m })) [
-      | msg.Word base lost admitted ↦ λ u q. absurd (no-zero (after S n t.state t.sends r.history) n (zero r) u)
-      | msg.Closed o ↦ λ u. absurd (no-zero (after S n t.state t.sends r.history) n (zero r) u)
+    unheeded : Heeded T n l
+    unheeded = elim l.body as (λ m. Heeded T n (record l { body = m })) [
+      | msg.Word base lost admitted ↦ λ u q. absurd (no-zero T n zero u)
+      | msg.Closed o ↦ λ u. absurd (no-zero T n zero u)
       | m ↦ tt
     ]
 
@@ -96,7 +78,7 @@ came-popped S k n j l ls h is = (
     order = (subst (InOrder (S.history.began k)) is (h.channels k n).ordered).0
 
     left : took S.channel (Agent k) (Agent n) (Agent k) (Agent n) ≡ ls
-    left = rw (self-test n, self-test k) (ap rest is)
+    left = rw (eqb-same n, eqb-same k) (ap rest is)
 
 -- ---- a message that brings no word
 
@@ -108,6 +90,7 @@ calm-event E P n stamp from l h up calm new =
 
 -- ---- the row of a message, and what the agent says then
 
+-- of a message that is taken
 pub row-event : (E : Database) (S : State) (n stamp : ℕ) (from : Actor) (l : Letter) (ls : List Letter) → Holds S → 0 < start_at S n → S.channel from (Agent n) ≡ l ∷ ls
     → arrival (start_at S n) (term_in (S.agents n).decided) l ≡ Taken
     → Row (popped S from n) n (agent_row E S.deployment n stamp (S.agents n) from l ▸ tells n (S.agents n).own)
@@ -157,7 +140,7 @@ waited-row E P n stamp from l h up w =
 came-still : (P T : State) (n : ℕ) → Later P T → ((h : ℕ) → (h == n) ≡ false → T.channel (Agent h) (Agent n) ≡ P.channel (Agent h) (Agent n)) → (h term j : ℕ) → CameOk P h n term j → CameOk T h n term j
 came-still P T n later others h term j k = came-later P T later h n term j
     (subst (AllByRecursion (ClosesFrom (T.history.began h) j)) (sym (others h k.0.other))
-    (All-mono (ClosesFrom (P.history.began h) j) (ClosesFrom (T.history.began h) j) (λ l c. closes-later P T later h j (ask-began P h n term j k.0) l c) (P.channel (Agent h) (Agent n)) k.1)) k
+    (all-mono (ClosesFrom (P.history.began h) j) (ClosesFrom (T.history.began h) j) (λ l c. closes-later P T later h j (ask-began P h n term j k.0) l c) (P.channel (Agent h) (Agent n)) k.1)) k
 
 none-taken : (E : Database) (D : Deployment) (n stamp : ℕ) (ws : List Waiting) → takes_each E D n stamp ws (new_agent 0) ≡ becomes (new_agent 0)
 none-taken E D n stamp [] = refl
@@ -168,7 +151,7 @@ waited-each : (E : Database) (D : Deployment) (n stamp : ℕ) (ws : List Waiting
 waited-each E D n stamp [] P d h up w = stay-row P n (inl (refl, up)) h
 waited-each E D n stamp (w ∷ ws) P d h up k = on-row P n (unless_stopped E D n stamp (P.agents n) w.from w.letter) (takes_each E D n stamp ws) first (none-taken E D n stamp ws)
     (λ T e q later others g u. waited-each E D n stamp ws T (q ∙ d) g u
-    (All-mono (λ x. WaitingFrom P n x.from x.letter) (λ x. WaitingFrom T n x.from x.letter) (λ x p. waiting-later P T n (came-still P T n later others) x.from x.letter p) ws k.1))
+    (all-mono (λ x. WaitingFrom P n x.from x.letter) (λ x. WaitingFrom T n x.from x.letter) (λ x p. waiting-later P T n (came-still P T n later others) x.from x.letter p) ws k.1))
   where
     running : (P.agents n).start == 0 ≡ false
     running = grind (arith, nat_tests, up)
@@ -184,15 +167,16 @@ waited E D n stamp P d h up =
     (waiting-shrinks P n (λ w. nat_lt (term_in (P.agents n).decided) w.letter.term) h))
     (none-taken E D n stamp (of_term (term_in (P.agents n).decided) (P.agents n).waiting))
     (λ T e q later others g u. waited-each E D n stamp (of_term (term_in (P.agents n).decided) (P.agents n).waiting) T (q ∙ d) g u
-    (All-mono (λ x. WaitingFrom P n x.from x.letter) (λ x. WaitingFrom T n x.from x.letter) (λ x p. waiting-later P T n (came-still P T n later others) x.from x.letter p)
+    (all-mono (λ x. WaitingFrom P n x.from x.letter) (λ x. WaitingFrom T n x.from x.letter) (λ x p. waiting-later P T n (came-still P T n later others) x.from x.letter p)
     (of_term (term_in (P.agents n).decided) (P.agents n).waiting)
-    (All-kept (WaitingOk P n) (λ w. w.letter.term == term_in (P.agents n).decided) (P.agents n).waiting (h.agents n).waiting)))
+    (all-filter (WaitingOk P n) (λ w. w.letter.term == term_in (P.agents n).decided) (P.agents n).waiting (h.agents n).waiting)))
 
 none-waited : (E : Database) (D : Deployment) (n stamp : ℕ) → takes_waiting E D n stamp (new_agent 0) ≡ becomes (new_agent 0)
 none-waited E D n stamp = refl
 
 -- ---- a message of a running agent
 
+-- and what follows: it takes those that waited for the term
 pub taken-event : (E : Database) (S : State) (n stamp : ℕ) (from : Actor) (l : Letter) (ls : List Letter) → Holds S → 0 < start_at S n → S.channel from (Agent n) ≡ l ∷ ls
     → arrival (start_at S n) (term_in (S.agents n).decided) l ≡ Taken
     → Row (popped S from n) n (row_and_word E S.deployment n stamp (S.agents n) from l ▸ takes_waiting E S.deployment n stamp)
@@ -209,7 +193,7 @@ waits-event : (S : State) (n : ℕ) (from : Actor) (l : Letter) (ls : List Lette
     → Row (popped S from n) n (becomes (record (S.agents n) { waiting = (S.agents n).waiting ++ record { from = from; letter = l } ∷ [] }))
 waits-event S n from l ls h up is waits =
     row-plain (popped S from n) n (becomes (record (S.agents n) { waiting = (S.agents n).waiting ++ record { from = from; letter = l } ∷ [] })) (inl (refl, up))
-    (waits_of-holds (popped S from n) from n l (may-wait from l is waits)
+    (waits-holds (popped S from n) from n l (may-wait from l is waits)
     (pops-any S from n l ls is (λ k e. unheeded k l (subst (λ z. S.channel z (Agent n) ≡ l ∷ ls) e is) waits) h))
   where
     -- it has a term
@@ -355,6 +339,7 @@ stopped-memory S n from l ls h z host is some = (elim l.body as (λ m. S.channel
 
 -- ---- an agent takes a message
 
+-- A message of an agent that is there: what holds, holds after its turn, with a history that grew.
 pub agent-event : (E : Database) (S : State) (n stamp : ℕ) (from : Actor) (l : Letter) (ls : List Letter) (o : Outside) → S.channel from (Agent n) ≡ l ∷ ls → is_host S.deployment n ≡ true
     → ((answered : ℕ) → o ≡ NoMemory answered → nat_lt 0 (start_after (S.agents n) from l) ≡ true) → Holds S → Goes S n from (agent_turn E S.deployment n stamp (S.agents n) from l o)
 agent-event E S n stamp from l ls o is host memory h = elim (cases_eq (start_at S n) 0) [

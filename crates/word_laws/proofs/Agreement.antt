@@ -1,59 +1,44 @@
 -- What follows from the history alone: members, and that decided words form a chain.
-use Rattle.std.proofs.Common.{◌≡◌, ◌≤◌, Bool, true, false, List, [], ◌∷◌, refl, sym, subst, ap, ◌∙◌, ◌⊎◌, inl, inr, ◌==◌, arith}
+use Rattle.std.proofs.Common.{◌≡◌, ◌≤◌, true, false, List, [], ◌∷◌, sym, subst, ap, ◌∙◌, ◌⊎◌, inl, inr, ◌==◌, arith}
 use Rattle.std.proofs.lemmas.Bool.{cases_Bool}
-use Rattle.std.specs.Prelude.{ℕ, map, Option, Some, None}
-use Rattle.std.specs.List.{AllByRecursion, list_any}
+use Rattle.std.specs.Prelude.{ℕ, Some}
+use Rattle.std.specs.List.{list_any}
 use Rattle.volt_wire.specs.Word.{Membership}
-use Rattle.cluster_model.specs.Words.{is_in, term_of, start_of, initiator, admits, with_admitted}
-use Rattle.word_laws.specs.Histories.{In, State, Within, Alike, Comparable, Admitted, Begun, Runs, Gone, names, Recorded, GoodWord, Falls, AdmittedOk, HistoryOk, OwnIs}
-use Rattle.word_laws.proofs.Algebra.{within-refl, within-trans, names-first, names-admits, names-cases, names-within, admits-fresh, within_test, within-tested, test-within, within-with_admitted-back, with_admitted-admits, alike-is, within-of-term}
+use Rattle.cluster_model.specs.Words.{is_in, term_of, start_of, admits, with_admitted}
+use Rattle.word_laws.specs.Histories.{In, State, Within, Alike, Comparable, Admitted, Runs, names, Recorded, GoodWord, Falls, HistoryOk}
+use Rattle.word_laws.proofs.Lists.{not-both, all-at}
+use Rattle.word_laws.proofs.Algebra.{HostsOwned, within-cases, within-refl, within-trans, names-first, names-admits, names-cases, names-within, admits-fresh, within-with_admitted-back, with_admitted-admits, alike-is, within-of-term}
 use Rattle.word_laws.proofs.Members.{start_of-named, start_of-greatest, initiator-member, best-within, least-outside}
 
--- ---- cases
-
-pub not-both : (b : Bool) → b ≡ true → b ≡ false → ⊥
-not-both true p q = absurd (cc)
-not-both false p q = absurd (cc)
-
-pub within-cases : (v w : Membership) → Within v w ⊎ (Within v w → ⊥)
-within-cases v w = elim (cases_Bool (within_test v w)) [
-  | inl p ↦ inl (within-tested v w p)
-  | inr p ↦ inr (λ k. not-both (within_test v w) (test-within v w k) p)
-]
-
-falls-below : (v w : Membership) (ws : List Membership) → AllByRecursion (λ x. Within x w) ws → In v ws → Within v w
-falls-below v w [] h i = absurd i
-falls-below v w (x ∷ xs) h (inl e) = subst (λ z. Within z w) e h.0
-falls-below v w (x ∷ xs) h (inr i) = falls-below v w xs h.1 i
+-- ---- words that fall
 
 -- of words that fall, one is within the other
 pub falls-comparable : (v w : Membership) (ws : List Membership) → Falls ws → In v ws → In w ws → Comparable v w
 falls-comparable v w [] f i k = absurd i
 falls-comparable v w (x ∷ xs) f (inl e) (inl d) = inl (subst (λ z. Within v z) (sym e ∙ d) (within-refl v))
-falls-comparable v w (x ∷ xs) f (inl e) (inr k) = inr (subst (λ z. Within w z) e (falls-below w x xs f.0 k))
-falls-comparable v w (x ∷ xs) f (inr i) (inl d) = inl (subst (λ z. Within v z) d (falls-below v x xs f.0 i))
+falls-comparable v w (x ∷ xs) f (inl e) (inr k) = inr (subst (λ z. Within w z) e (all-at (λ z. Within z x) xs f.0 w k))
+falls-comparable v w (x ∷ xs) f (inr i) (inl d) = inl (subst (λ z. Within v z) d (all-at (λ z. Within z x) xs f.0 v i))
 falls-comparable v w (x ∷ xs) f (inr i) (inr k) = falls-comparable v w xs f.1 i k
 
 -- ---- words of the epoch
 
 module _ (S : State) (H : HistoryOk S) where
-  pub hosts-of : (w : Membership) → GoodWord S w → AllByRecursion (λ m. S.owner m.1 ≡ m.0) w.first
-  hosts-of w g = subst (λ x. AllByRecursion (λ m. S.owner m.1 ≡ m.0) x) (sym g.first) H.first_owned
+  -- the first hosts of a word have the starts that are theirs
+  pub hosts-of : (w : Membership) → GoodWord S w → HostsOwned S.owner w.first
+  hosts-of w g = subst (λ x. HostsOwned S.owner x) (sym g.first) H.first_owned
 
+  -- all words of the epoch have one list of first hosts
   pub one-first : (v w : Membership) → GoodWord S v → GoodWord S w → v.first ≡ w.first
   one-first v w g k = g.first ∙ sym k.first
 
+  -- words at which starts were admitted, and words that were said, are good
   pub at-good : (x : Admitted) → In x S.history.admitted → GoodWord S x.at
   at-good x i = H.decided_good x.at (H.admitted_ok x i).decided
 
   pub said-good : (s : ℕ) (w : Membership) → In w (S.history.said s) → GoodWord S w
-  said-good s w i = good-in (S.history.said s) (H.said_good s) i
-    where
-      good-in : (ws : List Membership) → AllByRecursion (GoodWord S) ws → In w ws → GoodWord S w
-      good-in [] h i = absurd i
-      good-in (v ∷ vs) h (inl e) = subst (GoodWord S) e h.0
-      good-in (v ∷ vs) h (inr i) = good-in vs h.1 i
+  said-good s w i = all-at (GoodWord S) (S.history.said s) (H.said_good s) w i
 
+  -- two good words that are each within the other are one
   pub alike-same : (v w : Membership) → GoodWord S v → GoodWord S w → Alike v w → v ≡ w
   alike-same v w g k a = alike-is S.owner v w (g.base ∙ sym k.base) (one-first v w g k) g.lost_rises k.lost_rises g.admitted_rises k.admitted_rises g.owned k.owned a
 
@@ -64,6 +49,7 @@ module _ (S : State) (H : HistoryOk S) where
   term-same v w g k (inr p) e =
       alike-same v w g k (within-of-term w v (k.base ∙ sym g.base) k.lost_rises g.lost_rises k.admitted_rises g.admitted_rises p (sym e), p)
 
+  -- words at which starts were admitted form a chain
   pub chain-at : (x y : Admitted) → In x S.history.admitted → In y S.history.admitted → Comparable x.at y.at
   chain-at x y i k = H.chain x.at y.at (H.admitted_ok x i).decided (H.admitted_ok y k).decided
 
@@ -79,6 +65,7 @@ module _ (S : State) (H : HistoryOk S) where
       → names x.at s ≡ true → is_in s w.lost ≡ true
   apart w r s g e x i same p n = p.lost s ((H.admitted_ok x i).one_host s n (sym e ∙ ap S.owner (sym same)))
 
+  -- of two starts of one host that a word names and has not lost, there is only one
   pub one-start : (w : Membership) (r s : ℕ) → GoodWord S w → names w r ≡ true → names w s ≡ true → S.owner r ≡ S.owner s
       → is_in r w.lost ≡ false → is_in s w.lost ≡ false → r ≡ s
   one-start w r s g nr ns e lr ls = elim (names-cases w r nr) [
@@ -114,9 +101,11 @@ module _ (S : State) (H : HistoryOk S) where
       le : {r : ℕ} → r ≡ s → r ≤ s
       le e = omega (arith, e)
 
+  -- a member is named and not lost, and is its host's
   pub member-is : (w : Membership) (h s : ℕ) → GoodWord S w → start_of w h ≡ Some s → (names w s ≡ true) × (is_in s w.lost ≡ false) × (S.owner s ≡ h)
   member-is w h s g p = start_of-named S.owner w h s (hosts-of w g) g.owned p
 
+  -- a start that runs is lost in no good word, so it is a member where it is named
   pub runs-not-lost : (w : Membership) (s : ℕ) → GoodWord S w → Runs S s → is_in s w.lost ≡ false
   runs-not-lost w s g r = elim (cases_Bool (is_in s w.lost)) [
     | inl p ↦ absurd ((g.lost_gone s p).1 r)
@@ -131,9 +120,11 @@ module _ (S : State) (H : HistoryOk S) where
   initiator-named x i =
       (member-is x.at (S.owner x.by) x.by (at-good x i) (initiator-member x.at (S.owner x.by) x.by (H.admitted_ok x i).by_initiator)).0
 
+  -- the words that one start said are a chain
   pub said-comparable : (s : ℕ) (v w : Membership) → In v (S.history.said s) → In w (S.history.said s) → Comparable v w
   said-comparable s v w i k = falls-comparable v w (S.history.said s) (H.said_falls s) i k
 
+  -- the word with which the epoch began is within every word
   pub first-within : (w : Membership) → Within S.history.first w
   first-within w = record {
     lost = λ s p. absurd (none-lost s p);
@@ -243,6 +234,7 @@ module _ (S : State) (H : HistoryOk S) where
       | inr q ↦ absurd (not-both (names x.at x.start) (subst (λ z. names x.at z ≡ true) (sym same) (names-within U x.at u (one-first U x.at gU (at-good x i)) (least x.at (H.admitted_ok x i).decided q) n)) (H.admitted_ok x i).fresh)
     ]
 
+    -- so the word that all its members said is within it
     pub least-above : Within V U
     least-above = elim (H.has_member U ud) [
       | inl p ↦ absurd (out (within-trans U S.history.first V p (first-within V)))

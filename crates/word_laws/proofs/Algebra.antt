@@ -1,6 +1,6 @@
 -- Words as sets: what is lost, admitted and named in a word that was made of others, and when two words are the same.
 use Rattle.std.proofs.Common.{◌≡◌, ◌+◌, ◌<◌, ◌≤◌, Bool, true, false, List, [], ◌∷◌, length, get_or, refl, sym, ap, subst, ◌∙◌, ◌⊎◌, inl, inr, ◌==◌, arith, true≢false}
-use Rattle.std.proofs.lemmas.Bool.{cond_both, cases_eq, or_cases, and_parts, and_from, or_left, or_right, eqb-true, eqb-false, eq-eqb, ltb-true, ltb-false}
+use Rattle.std.proofs.lemmas.Bool.{cases_Bool, cond_both, cases_eq, or_cases, and_parts, and_from, or_left, or_right, eqb-true, eqb-false, eq-eqb, ltb-true, ltb-false}
 use Rattle.std.proofs.lemmas.List.{length-map}
 use Rattle.std.specs.Prelude.{ℕ, ◌&&◌, ◌||◌, map, if◌then◌else◌, nat_lt}
 use Rattle.std.specs.List.{AllByRecursion, list_any, list_all}
@@ -8,48 +8,12 @@ use Rattle.volt_wire.specs.Word.{Membership}
 use Rattle.cluster_model.specs.Words.{is_in, same_numbers, same_pairs, with_number, with_numbers, with_pair, with_pairs, term_of, same_word, union, with_lost, with_admitted, admits}
 use Rattle.cluster_model.specs.World.{rest}
 use Rattle.cluster_model.specs.Laws.{RiseFrom}
-use Rattle.word_laws.specs.Histories.{In, Within, Alike, names}
-
--- ---- tests of lists
-
-pub eqb-same : (n : ℕ) → (n == n) ≡ true
-eqb-same n = eq-eqb n n refl
-
--- of a list whose elements pass the first test, and one of them the second: one that passes both
-pub all-any : {A : Type 0} (p q : A → Bool) (xs : List A) → list_all p xs ≡ true → list_any q xs ≡ true → (x : A) × (p x ≡ true) × (q x ≡ true)
-all-any p q [] h e = absurd (true≢false (sym e))
-all-any p q (x ∷ xs) h e = elim (or_cases (q x) (list_any q xs) e) [
-  | inl k ↦ (x, (and_parts (p x) (list_all p xs) h).0, k)
-  | inr k ↦ all-any p q xs (and_parts (p x) (list_all p xs) h).1 k
-]
-
-pub all-from : {A : Type 0} (p : A → Bool) (xs : List A) → ((x : A) → In x xs → p x ≡ true) → list_all p xs ≡ true
-all-from p [] f = refl
-all-from p (x ∷ xs) f = and_from (p x) (list_all p xs) (f x (inl refl)) (all-from p xs (λ y i. f y (inr i)))
-
-pub all-in : {A : Type 0} (p : A → Bool) (xs : List A) (x : A) → list_all p xs ≡ true → In x xs → p x ≡ true
-all-in p [] x h i = absurd i
-all-in p (y ∷ ys) x h i = elim i [
-  | inl e ↦ ap p (sym e) ∙ (and_parts (p y) (list_all p ys) h).0
-  | inr k ↦ all-in p ys x (and_parts (p y) (list_all p ys) h).1 k
-]
-
-pub any-in : {A : Type 0} (p : A → Bool) (xs : List A) (x : A) → In x xs → p x ≡ true → list_any p xs ≡ true
-any-in p [] x i e = absurd i
-any-in p (y ∷ ys) x i e = elim i [
-  | inl k ↦ or_left (p y) (list_any p ys) (ap p k ∙ e)
-  | inr k ↦ or_right (p y) (list_any p ys) (any-in p ys x k e)
-]
-
-pub in-any : {A : Type 0} (p : A → Bool) (xs : List A) → list_any p xs ≡ true → (x : A) × In x xs × (p x ≡ true)
-in-any p [] e = absurd (true≢false (sym e))
-in-any p (x ∷ xs) e = elim (or_cases (p x) (list_any p xs) e) [
-  | inl k ↦ (x, inl refl, k)
-  | inr k ↦ let r = in-any p xs k in (r.0, inr r.1, r.2)
-]
+use Rattle.word_laws.specs.Histories.{Within, Alike, names}
+use Rattle.word_laws.proofs.Lists.{not-both, eqb-same, list_all-from, list_any-in, list_all-any, rise-lower}
 
 -- ---- a number more in a rising list
 
+-- what is in the list with the number is the number, or was in it
 pub in-with_number : (x s : ℕ) (ys : List ℕ) → is_in s (with_number x ys) ≡ true → (x ≡ s) ⊎ (is_in s ys ≡ true)
 in-with_number x s [] e = elim (or_cases (x == s) false e) [
   | inl k ↦ inl (eqb-true x s k)
@@ -105,6 +69,7 @@ with_number-rises low x (y ∷ ys) l h = cond_both (x == y) (y ∷ ys) (if nat_l
 
 -- ---- more numbers
 
+-- what is in two lists together is in one of them
 pub in-with_numbers : (s : ℕ) (xs ys : List ℕ) → is_in s (with_numbers xs ys) ≡ true → (is_in s xs ≡ true) ⊎ (is_in s ys ≡ true)
 in-with_numbers s [] ys e = inr e
 in-with_numbers s (x ∷ xs) ys e = elim (in-with_number x s (with_numbers xs ys) e) [
@@ -128,11 +93,7 @@ with_numbers-right s (x ∷ xs) ys e = with_number-keeps x s (with_numbers xs ys
 
 pub with_numbers-rises : (low : ℕ) (xs ys : List ℕ) → RiseFrom low xs → RiseFrom low ys → RiseFrom low (with_numbers xs ys)
 with_numbers-rises low [] ys h k = k
-with_numbers-rises low (x ∷ xs) ys h k = with_number-rises low x (with_numbers xs ys) h.0 (with_numbers-rises low xs ys (lower low x xs h.0 h.1) k)
-  where
-    lower : (low x : ℕ) (xs : List ℕ) → low ≤ x → RiseFrom (x + 1) xs → RiseFrom low xs
-    lower low x [] l h = tt
-    lower low x (y ∷ ys) l h = (omega (arith, l, h.0), h.1)
+with_numbers-rises low (x ∷ xs) ys h k = with_number-rises low x (with_numbers xs ys) h.0 (with_numbers-rises low xs ys (rise-lower low (x + 1) xs (omega (arith, h.0)) h.1) k)
 
 -- ---- pairs by their first numbers
 
@@ -140,6 +101,15 @@ with_numbers-rises low (x ∷ xs) ys h k = with_number-rises low x (with_numbers
 abbrev pub firsts : List (ℕ × ℕ) → List ℕ
 firsts xs = map (λ a. a.0) xs
 
+-- each of these starts is the host's that stands behind it
+abbrev pub StartsOwned : (ℕ → ℕ) → List (ℕ × ℕ) → Type 0
+StartsOwned owner xs = AllByRecursion (λ a. owner a.0 ≡ a.1) xs
+
+-- or before it
+abbrev pub HostsOwned : (ℕ → ℕ) → List (ℕ × ℕ) → Type 0
+HostsOwned owner xs = AllByRecursion (λ m. owner m.1 ≡ m.0) xs
+
+-- a start is the first number of a pair exactly where it is among the first numbers
 pub any-firsts : (s : ℕ) (xs : List (ℕ × ℕ)) → list_any (λ a. a.0 == s) xs ≡ is_in s (firsts xs)
 any-firsts s [] = refl
 any-firsts s (x ∷ xs) = ap (λ b. (x.0 == s) || b) (any-firsts s xs)
@@ -173,6 +143,7 @@ with_pairs-all P (x ∷ xs) ys h k = with_pair-all P x (with_pairs xs ys) h.0 (w
 
 -- ---- one word within another
 
+-- one word within another, and one word made of another
 pub within-refl : (v : Membership) → Within v v
 within-refl v = record { lost = λ s e. e; admitted = λ s e. e }
 
@@ -181,6 +152,7 @@ within-trans u v w h k = record { lost = λ s e. k.lost s (h.lost s e); admitted
 
 -- ---- a start more that is lost, or admitted
 
+-- a word with a start more that is lost
 pub in-with_lost : (o s : ℕ) (w : Membership) → is_in s (with_lost o w).lost ≡ true → (o ≡ s) ⊎ (is_in s w.lost ≡ true)
 in-with_lost o s w e = in-with_number o s w.lost e
 
@@ -197,6 +169,7 @@ with_lost-rises o w h = with_number-rises 0 o w.lost (omega arith) h
 pub admits-of-with_admitted : (j h s : ℕ) (w : Membership) → admits (with_admitted j h w) s ≡ is_in s (with_number j (firsts w.admitted))
 admits-of-with_admitted j h s w = any-firsts s (with_pair (j, h) w.admitted) ∙ ap (is_in s) (firsts-with_pair (j, h) w.admitted)
 
+-- a word with a start more that is admitted
 pub admits-with_admitted : (j h s : ℕ) (w : Membership) → admits (with_admitted j h w) s ≡ true → (j ≡ s) ⊎ (admits w s ≡ true)
 admits-with_admitted j h s w e = elim (in-with_number j s (firsts w.admitted) (sym (admits-of-with_admitted j h s w) ∙ e)) [
   | inl k ↦ inl k
@@ -212,15 +185,6 @@ with_admitted-keeps j h s w e = admits-of-with_admitted j h s w ∙ with_number-
 pub within-with_admitted : (j h : ℕ) (w : Membership) → Within w (with_admitted j h w)
 within-with_admitted j h w = record { lost = λ s e. e; admitted = λ s e. with_admitted-keeps j h s w e }
 
-pub with_admitted-within : (j h : ℕ) (v w : Membership) → Within v w → admits w j ≡ true → Within (with_admitted j h v) w
-with_admitted-within j h v w i a = record {
-  lost = i.lost;
-  admitted = λ s e. elim (admits-with_admitted j h s v e) [
-    | inl k ↦ subst (λ t. admits w t ≡ true) k a
-    | inr k ↦ i.admitted s k
-  ];
-}
-
 -- what is within the word once it has admitted j was within it before, if it hasn't admitted j itself
 pub within-with_admitted-back : (j h : ℕ) (v w : Membership) → Within v (with_admitted j h w) → admits v j ≡ false → Within v w
 within-with_admitted-back j h v w i n = record {
@@ -231,14 +195,15 @@ within-with_admitted-back j h v w i n = record {
   ];
 }
 
-pub with_admitted-rises : (j h : ℕ) (w : Membership) → RiseFrom 0 (map (λ a. a.0) w.admitted) → RiseFrom 0 (map (λ a. a.0) (with_admitted j h w).admitted)
+pub with_admitted-rises : (j h : ℕ) (w : Membership) → RiseFrom 0 (firsts w.admitted) → RiseFrom 0 (firsts (with_admitted j h w).admitted)
 with_admitted-rises j h w r = subst (RiseFrom 0) (sym (firsts-with_pair (j, h) w.admitted)) (with_number-rises 0 j (firsts w.admitted) (omega arith) r)
 
-pub with_admitted-owned : (owner : ℕ → ℕ) (j h : ℕ) (w : Membership) → owner j ≡ h → AllByRecursion (λ a. owner a.0 ≡ a.1) w.admitted → AllByRecursion (λ a. owner a.0 ≡ a.1) (with_admitted j h w).admitted
+pub with_admitted-owned : (owner : ℕ → ℕ) (j h : ℕ) (w : Membership) → owner j ≡ h → StartsOwned owner w.admitted → StartsOwned owner (with_admitted j h w).admitted
 with_admitted-owned owner j h w o k = with_pair-all (λ a. owner a.0 ≡ a.1) (j, h) w.admitted o k
 
 -- ---- what two words say together
 
+-- what two words say together
 pub lost-union : (v w : Membership) (s : ℕ) → is_in s (union v w).lost ≡ true → (is_in s v.lost ≡ true) ⊎ (is_in s w.lost ≡ true)
 lost-union v w s e = in-with_numbers s v.lost w.lost e
 
@@ -263,23 +228,18 @@ within-union-right v w = record {
   admitted = λ s e. admits-of-union v w s ∙ with_numbers-right s (firsts v.admitted) (firsts w.admitted) (sym (admits-firsts w s) ∙ e);
 }
 
-pub union-within : (u v w : Membership) → Within u w → Within v w → Within (union u v) w
-union-within u v w h k = record {
-  lost = λ s e. elim (lost-union u v s e) [ inl j ↦ h.lost s j | inr j ↦ k.lost s j ];
-  admitted = λ s e. elim (admits-union u v s e) [ inl j ↦ h.admitted s j | inr j ↦ k.admitted s j ];
-}
-
 pub union-lost-rises : (v w : Membership) → RiseFrom 0 v.lost → RiseFrom 0 w.lost → RiseFrom 0 (union v w).lost
 union-lost-rises v w h k = with_numbers-rises 0 v.lost w.lost h k
 
-pub union-admitted-rises : (v w : Membership) → RiseFrom 0 (map (λ a. a.0) v.admitted) → RiseFrom 0 (map (λ a. a.0) w.admitted) → RiseFrom 0 (map (λ a. a.0) (union v w).admitted)
+pub union-admitted-rises : (v w : Membership) → RiseFrom 0 (firsts v.admitted) → RiseFrom 0 (firsts w.admitted) → RiseFrom 0 (firsts (union v w).admitted)
 union-admitted-rises v w h k = subst (RiseFrom 0) (sym (firsts-with_pairs v.admitted w.admitted)) (with_numbers-rises 0 (firsts v.admitted) (firsts w.admitted) h k)
 
-pub union-owned : (owner : ℕ → ℕ) (v w : Membership) → AllByRecursion (λ a. owner a.0 ≡ a.1) v.admitted → AllByRecursion (λ a. owner a.0 ≡ a.1) w.admitted → AllByRecursion (λ a. owner a.0 ≡ a.1) (union v w).admitted
+pub union-owned : (owner : ℕ → ℕ) (v w : Membership) → StartsOwned owner v.admitted → StartsOwned owner w.admitted → StartsOwned owner (union v w).admitted
 union-owned owner v w h k = with_pairs-all (λ a. owner a.0 ≡ a.1) v.admitted w.admitted h k
 
 -- ---- whom a word names
 
+-- whom a word names
 pub names-first : (w : Membership) (s : ℕ) → list_any (λ m. m.1 == s) w.first ≡ true → names w s ≡ true
 names-first w s e = or_left (list_any (λ m. m.1 == s) w.first) (admits w s) e
 
@@ -306,18 +266,25 @@ admits-fresh v w s f n e = elim (names-cases w s e) [
 abbrev pub within_test : Membership → Membership → Bool
 within_test v w = list_all (λ s. is_in s w.lost) v.lost && list_all (λ a. admits w a.0) v.admitted
 
+-- the test says what it should
 pub within-tested : (v w : Membership) → within_test v w ≡ true → Within v w
 within-tested v w e =
     let p = and_parts (list_all (λ s. is_in s w.lost) v.lost) (list_all (λ a. admits w a.0) v.admitted) e in
     record {
-      lost = λ s k. let r = all-any (λ s. is_in s w.lost) (λ y. y == s) v.lost p.0 k in subst (λ t. is_in t w.lost ≡ true) (eqb-true r.0 s r.2) r.1;
-      admitted = λ s k. let r = all-any (λ a. admits w a.0) (λ a. a.0 == s) v.admitted p.1 k in subst (λ t. admits w t ≡ true) (eqb-true r.0.0 s r.2) r.1;
+      lost = λ s k. let r = list_all-any (λ s. is_in s w.lost) (λ y. y == s) v.lost p.0 k in subst (λ t. is_in t w.lost ≡ true) (eqb-true r.0 s r.2) r.1;
+      admitted = λ s k. let r = list_all-any (λ a. admits w a.0) (λ a. a.0 == s) v.admitted p.1 k in subst (λ t. admits w t ≡ true) (eqb-true r.0.0 s r.2) r.1;
     }
 
 pub test-within : (v w : Membership) → Within v w → within_test v w ≡ true
 test-within v w h = and_from (list_all (λ s. is_in s w.lost) v.lost) (list_all (λ a. admits w a.0) v.admitted)
-    (all-from (λ s. is_in s w.lost) v.lost (λ s i. h.lost s (any-in (λ y. y == s) v.lost s i (eqb-same s))))
-    (all-from (λ a. admits w a.0) v.admitted (λ a i. h.admitted a.0 (any-in (λ b. b.0 == a.0) v.admitted a i (eqb-same a.0))))
+    (list_all-from (λ s. is_in s w.lost) v.lost (λ s i. h.lost s (list_any-in (λ y. y == s) v.lost s i (eqb-same s))))
+    (list_all-from (λ a. admits w a.0) v.admitted (λ a i. h.admitted a.0 (list_any-in (λ b. b.0 == a.0) v.admitted a i (eqb-same a.0))))
+
+pub within-cases : (v w : Membership) → Within v w ⊎ (Within v w → ⊥)
+within-cases v w = elim (cases_Bool (within_test v w)) [
+  | inl p ↦ inl (within-tested v w p)
+  | inr p ↦ inr (λ k. not-both (within_test v w) (test-within v w k) p)
+]
 
 -- ---- rising lists, one within another
 
@@ -369,6 +336,7 @@ subset-length low (x ∷ xs) (y ∷ ys) h k f = elim (cases_eq x y) [
       | inr q ↦ q
     ]
 
+-- two rising lists of the same numbers are one
 pub numbers-alike : (low : ℕ) (xs ys : List ℕ) → RiseFrom low xs → RiseFrom low ys → Subset xs ys → Subset ys xs → xs ≡ ys
 numbers-alike low xs ys h k f g =
     let a = subset-length low xs ys h k f in
@@ -377,6 +345,7 @@ numbers-alike low xs ys h k f g =
 
 -- ---- equal words
 
+-- what the model takes for the same is, where the first hosts are
 pub same_numbers-is : (xs ys : List ℕ) → same_numbers xs ys ≡ true → xs ≡ ys
 same_numbers-is [] [] e = refl
 same_numbers-is [] (y ∷ ys) e = absurd (true≢false (sym e))
@@ -418,7 +387,7 @@ same_word-refl w = and_from (w.base == w.base && same_numbers w.lost w.lost) (sa
     (and_from (w.base == w.base) (same_numbers w.lost w.lost) (eqb-same w.base) (same_numbers-refl w.lost)) (same_pairs-refl w.admitted)
 
 -- pairs are the same where their first numbers are, and each second number is the owner of the first
-pairs-by-firsts : (owner : ℕ → ℕ) (xs ys : List (ℕ × ℕ)) → firsts xs ≡ firsts ys → AllByRecursion (λ a. owner a.0 ≡ a.1) xs → AllByRecursion (λ a. owner a.0 ≡ a.1) ys → xs ≡ ys
+pairs-by-firsts : (owner : ℕ → ℕ) (xs ys : List (ℕ × ℕ)) → firsts xs ≡ firsts ys → StartsOwned owner xs → StartsOwned owner ys → xs ≡ ys
 pairs-by-firsts owner [] [] e h k = refl
 pairs-by-firsts owner [] (y ∷ ys) e h k = let l = ap length e in absurd (omega (arith, l))
 pairs-by-firsts owner (x ∷ xs) [] e h k = let l = ap length e in absurd (omega (arith, l))
@@ -431,9 +400,10 @@ pairs-by-firsts owner (x ∷ xs) (y ∷ ys) e h k =
 within-firsts : (v w : Membership) → Within v w → Subset (firsts v.admitted) (firsts w.admitted)
 within-firsts v w h s e = sym (admits-firsts w s) ∙ h.admitted s (admits-firsts v s ∙ e)
 
+-- words of one base and the same first hosts that are each within the other are one
 pub alike-is : (owner : ℕ → ℕ) (v w : Membership) → v.base ≡ w.base → v.first ≡ w.first
-    → RiseFrom 0 v.lost → RiseFrom 0 w.lost → RiseFrom 0 (map (λ a. a.0) v.admitted) → RiseFrom 0 (map (λ a. a.0) w.admitted)
-    → AllByRecursion (λ a. owner a.0 ≡ a.1) v.admitted → AllByRecursion (λ a. owner a.0 ≡ a.1) w.admitted → Alike v w → v ≡ w
+    → RiseFrom 0 v.lost → RiseFrom 0 w.lost → RiseFrom 0 (firsts v.admitted) → RiseFrom 0 (firsts w.admitted)
+    → StartsOwned owner v.admitted → StartsOwned owner w.admitted → Alike v w → v ≡ w
 alike-is owner v w b f vl wl va wa vo wo h =
     let l = numbers-alike 0 v.lost w.lost vl wl h.0.lost h.1.lost in
     let k = numbers-alike 0 (firsts v.admitted) (firsts w.admitted) va wa (within-firsts v w h.0) (within-firsts w v h.1) in
@@ -442,7 +412,7 @@ alike-is owner v w b f vl wl va wa vo wo h =
 
 -- of two words of one base and one term, one within the other: the other is within it too
 pub within-of-term : (v w : Membership) → v.base ≡ w.base
-    → RiseFrom 0 v.lost → RiseFrom 0 w.lost → RiseFrom 0 (map (λ a. a.0) v.admitted) → RiseFrom 0 (map (λ a. a.0) w.admitted)
+    → RiseFrom 0 v.lost → RiseFrom 0 w.lost → RiseFrom 0 (firsts v.admitted) → RiseFrom 0 (firsts w.admitted)
     → Within v w → term_of v ≡ term_of w → Within w v
 within-of-term v w b vl wl va wa h t =
     let l = subset-length 0 v.lost w.lost vl wl h.lost in
@@ -455,14 +425,3 @@ within-of-term v w b vl wl va wa h t =
       lost = λ s e. subst (λ x. is_in s x ≡ true) (sym p) e;
       admitted = λ s e. admits-firsts v s ∙ subst (λ x. is_in s x ≡ true) (sym q) (sym (admits-firsts w s) ∙ e);
     }
-
--- the terms of words rise with them
-pub term-within : (v w : Membership) → v.base ≡ w.base
-    → RiseFrom 0 v.lost → RiseFrom 0 w.lost → RiseFrom 0 (map (λ a. a.0) v.admitted) → RiseFrom 0 (map (λ a. a.0) w.admitted)
-    → Within v w → term_of v ≤ term_of w
-term-within v w b vl wl va wa h =
-    let l = subset-length 0 v.lost w.lost vl wl h.lost in
-    let a = subset-length 0 (firsts v.admitted) (firsts w.admitted) va wa (within-firsts v w h) in
-    let n = length-map v.admitted (λ a. a.0) in
-    let m = length-map w.admitted (λ a. a.0) in
-    omega (arith, l.0, a.0, n, m, b)

@@ -10,7 +10,7 @@ use Rattle.volt_wire.specs.declared.message.Msg.TheVariants as msg
 use Rattle.cluster_model.specs.Outside.{Outside, Fair, DiskFails, NoMemory, DisksShow}
 use Rattle.cluster_model.specs.Engine.{Database}
 use Rattle.cluster_model.specs.Words.{Deployment, term_in}
-use Rattle.cluster_model.specs.Letters.{Blocks, Letter, becomes, ◌▸◌, in_term, Arrival, arrival, Taken, Refused, Waits}
+use Rattle.cluster_model.specs.Letters.{Blocks, Letter, becomes, ◌▸◌, in_term, arrival, Taken, Refused, Waits}
 use Rattle.cluster_model.specs.AgentState.{AgentState, stops, stops_with_host}
 use Rattle.cluster_model.specs.Agent.{row_and_word, unless_stopped, takes_waiting, on_start, agent_runs, agent_takes, takes_start, agent_turn}
 use Rattle.cluster_model.proofs.Closing.{start_after-same}
@@ -31,33 +31,11 @@ arrival-waits start here l e = meant (l.start == 0 || l.start == start) e
     meant true q = timed (l.term == 0) (l.term == here) (nat_lt l.term here) q
     meant false q = absurd (cc)
 
-pub arrival-waits-above : (start here : ℕ) (l : Letter) → arrival start here l ≡ Waits → nat_lt here l.term ≡ true
-arrival-waits-above start here l e = meant (l.start == 0 || l.start == start) e
-  where
-    timed : (none like low : Bool) → (l.term == here) ≡ like → nat_lt l.term here ≡ low → (if none || like then Taken else if low then Refused else Waits) ≡ Waits → nat_lt here l.term ≡ true
-    timed true like low f g q = absurd (cc)
-    timed false true low f g q = absurd (cc)
-    timed false false true f g q = absurd (cc)
-    timed false false false f g q = grind (arith, nat_tests, f, g)
-
-    meant : (c : Bool) → (if c then in_term here l.term else Refused) ≡ Waits → nat_lt here l.term ≡ true
-    meant true q = timed (l.term == 0) (l.term == here) (nat_lt l.term here) refl refl q
-    meant false q = absurd (cc)
-
 -- one that is taken is meant for this start
 pub arrival-taken : (start here : ℕ) (l : Letter) → arrival start here l ≡ Taken → (l.start ≡ 0) ⊎ (l.start ≡ start)
 arrival-taken start here l e = meant (l.start == 0) (l.start == start) refl refl e
   where
     meant : (none like : Bool) → (l.start == 0) ≡ none → (l.start == start) ≡ like → (if none || like then in_term here l.term else Refused) ≡ Taken → (l.start ≡ 0) ⊎ (l.start ≡ start)
-    meant true like f g q = inl (eqb-true l.start 0 f)
-    meant false true f g q = inr (eqb-true l.start start g)
-    meant false false f g q = absurd (cc)
-
--- and so is one that waits
-pub arrival-waits-meant : (start here : ℕ) (l : Letter) → arrival start here l ≡ Waits → (l.start ≡ 0) ⊎ (l.start ≡ start)
-arrival-waits-meant start here l e = meant (l.start == 0) (l.start == start) refl refl e
-  where
-    meant : (none like : Bool) → (l.start == 0) ≡ none → (l.start == start) ≡ like → (if none || like then in_term here l.term else Refused) ≡ Waits → (l.start ≡ 0) ⊎ (l.start ≡ start)
     meant true like f g q = inl (eqb-true l.start 0 f)
     meant false true f g q = inr (eqb-true l.start start g)
     meant false false f g q = absurd (cc)
@@ -94,6 +72,7 @@ Commands l = elim l.body as (λ _. Type 0) [
   | _ ↦ ⊥
 ]
 
+-- Stop of this start or a later one stops it, and Start is ignored
 pub takes-stop : (E : Database) (D : Deployment) (n stamp : ℕ) (a : AgentState) (from : Actor) (l : Letter) (s : ℕ) → (a.start == 0) ≡ false → l.body ≡ msg.Stop s
     → (agent_takes E D n stamp a from l ≡ stops D n a.start) ⊎ (agent_takes E D n stamp a from l ≡ becomes a)
 takes-stop E D n stamp a from l s runs is = rw (is, runs) (choice (nat_le a.start s))
@@ -113,21 +92,13 @@ takes-start E D n stamp a from l s runs is = rw is (ignored from)
     ignored (Site x) = refl
     ignored (Scanner x) = refl
 
-pub takes-other : (E : Database) (D : Deployment) (n stamp : ℕ) (a : AgentState) (from : Actor) (l : Letter) → (a.start == 0) ≡ false → (Commands l → ⊥)
-    → agent_takes E D n stamp a from l ≡ agent_runs E D n stamp a from l
-takes-other E D n stamp a from l runs none =
-    elim l.body as (λ m. (Commands (record l { body = m }) → ⊥) → agent_takes E D n stamp a from (record l { body = m }) ≡ agent_runs E D n stamp a from (record l { body = m })) [
-      | msg.Start start ↦ λ k. absurd (k tt)
-      | msg.Stop start ↦ λ k. absurd (k tt)
-      | m ↦ λ k. rw runs refl
-    ] none
-
 -- The one or the other, whatever the message.
 pub data Takes (E : Database) (D : Deployment) (n stamp : ℕ) (a : AgentState) (from : Actor) (l : Letter) : Type 0 where
   Stops_ : agent_takes E D n stamp a from l ≡ stops D n a.start → Takes E D n stamp a from l
   Ignores : agent_takes E D n stamp a from l ≡ becomes a → Commands l → Takes E D n stamp a from l
   Runs_ : agent_takes E D n stamp a from l ≡ agent_runs E D n stamp a from l → (Commands l → ⊥) → Takes E D n stamp a from l
 
+-- one of the three holds of each message
 pub takes-cases : (E : Database) (D : Deployment) (n stamp : ℕ) (a : AgentState) (from : Actor) (l : Letter) → (a.start == 0) ≡ false → Takes E D n stamp a from l
 takes-cases E D n stamp a from l runs = elim l.body as (λ m. Takes E D n stamp a from (record l { body = m })) [
   | msg.Start start ↦ Ignores (takes-start E D n stamp a from (record l { body = msg.Start start }) start runs refl) tt
@@ -138,6 +109,7 @@ takes-cases E D n stamp a from l runs = elim l.body as (λ m. Takes E D n stamp 
   | m ↦ Runs_ (rw runs refl) (λ k. k)
 ]
 
+-- the three things that it makes of others
 pub runs-taken : (E : Database) (D : Deployment) (n stamp : ℕ) (a : AgentState) (from : Actor) (l : Letter) → arrival a.start (term_in a.decided) l ≡ Taken
     → agent_runs E D n stamp a from l ≡ (row_and_word E D n stamp a from l ▸ takes_waiting E D n stamp)
 runs-taken E D n stamp a from l e = rw (e, agent_runs) refl
@@ -180,31 +152,10 @@ stopped-cases E D n stamp a from l stopped =
 
 -- ---- choices
 
-pub arrival-cases : (x : Arrival) → (x ≡ Taken) ⊎ (x ≡ Waits) ⊎ (x ≡ Refused)
-arrival-cases Taken = inl refl
-arrival-cases Waits = inr (inl refl)
-arrival-cases Refused = inr (inr refl)
-
+-- the row of a message, for one that runs
 pub unless-running : (E : Database) (D : Deployment) (n stamp : ℕ) (a : AgentState) (from : Actor) (l : Letter) → (a.start == 0) ≡ false
     → unless_stopped E D n stamp a from l ≡ row_and_word E D n stamp a from l
 unless-running E D n stamp a from l runs = rw runs refl
-
-pub unless-over : (E : Database) (D : Deployment) (n stamp : ℕ) (a : AgentState) (from : Actor) (l : Letter) → (a.start == 0) ≡ true
-    → unless_stopped E D n stamp a from l ≡ becomes a
-unless-over E D n stamp a from l stopped = rw stopped refl
-
--- a message brings a word or not
-pub brings-cases : (from : Actor) (l : Letter) → BringsWord from l ⊎ (BringsWord from l → ⊥)
-brings-cases Director l = inr (λ k. k)
-brings-cases (Client c) l = inr (λ k. k)
-brings-cases (Agent g) l = elim l.body as (λ m. BringsWord (Agent g) (record l { body = m }) ⊎ (BringsWord (Agent g) (record l { body = m }) → ⊥)) [
-  | msg.Word base lost admitted ↦ inl tt
-  | msg.Decided w ↦ inl tt
-  | msg.Closed o ↦ inl tt
-  | m ↦ inr (λ k. k)
-]
-brings-cases (Site s) l = inr (λ k. k)
-brings-cases (Scanner x) l = inr (λ k. k)
 
 -- what waits brings none
 pub waiting-brings : (S : State) (n : ℕ) (from : Actor) (l : Letter) → WaitingFrom S n from l → BringsWord from l → ⊥

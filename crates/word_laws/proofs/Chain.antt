@@ -1,20 +1,20 @@
 -- Decided words of an epoch form a chain, and what follows.
-use Rattle.std.proofs.Common.{◌≡◌, Bool, true, false, List, [], ◌∷◌, ◌++◌, refl, sym, subst, ap, ◌∙◌, ◌⊎◌, inl, inr, ◌==◌}
-use Rattle.std.specs.Prelude.{ℕ, not, map, Option, Some, None}
-use Rattle.std.specs.List.{AllByRecursion, list_any}
+use Rattle.std.proofs.Common.{◌≡◌, true, false, List, ◌++◌, sym, subst, ◌∙◌, inl, inr}
+use Rattle.std.specs.Prelude.{ℕ, Some}
 use Rattle.volt_wire.specs.Word.{Membership}
 use Rattle.cluster_model.specs.Engine.{Database}
 use Rattle.cluster_model.specs.Words.{is_in, term_of, not_lost}
 use Rattle.cluster_model.specs.World.{World, Input, first_world}
 use Rattle.cluster_model.specs.Runs.{Happening, IsRun, run}
-use Rattle.word_laws.specs.Histories.{In, State, Comparable, GoodWord, OwnOk, SaidBy, HistoryOk, Holds, names}
+use Rattle.word_laws.specs.Histories.{In, State, Comparable, GoodWord, OwnOk, SaidBy, HistoryOk, names}
 use Rattle.word_laws.specs.Chain.{state_of, InEpoch, IsOneEpoch, HasDecided, HasWord, OneStartPerHost}
-use Rattle.word_laws.proofs.Moves.{Grows}
-use Rattle.word_laws.proofs.Laters.{in-all, in-cases, some-here}
+use Rattle.word_laws.proofs.Lists.{some-here}
 use Rattle.word_laws.proofs.Members.{in-not_lost}
+use Rattle.word_laws.proofs.Moves.{Grows}
 use Rattle.word_laws.proofs.Agreement.{said-good, term-same, one-start, hosts-of}
 use Rattle.word_laws.proofs.Worlds.{first-holds, run-holds, run-grows, run-append, run-first, run-second}
 
+-- Each world of a run is in an epoch, of which all holds.
 pub words-agree : (E : Database) (input : Input) (es : List Happening) → IsRun E es (first_world E input) → InEpoch (run E es (first_world E input))
 words-agree E input es r = run-holds E es (first_world E input) r (first-holds E input)
 
@@ -31,6 +31,7 @@ pub record OfOneEpoch (w v : World) : Type 0 where
   pub later : InEpoch v
   pub grows : Grows earlier.history later.history
 
+-- so are the worlds of a run between which no recovery works
 pub of-one-epoch : (E : Database) (input : Input) (es fs : List Happening) → IsRun E (es ++ fs) (first_world E input) → IsOneEpoch fs
     → OfOneEpoch (run E es (first_world E input)) (run E (es ++ fs) (first_world E input))
 of-one-epoch E input es fs r one =
@@ -38,6 +39,7 @@ of-one-epoch E input es fs r one =
     let n = run-grows E fs (run E es (first_world E input)) (run-second E es fs (first_world E input) r) one k in
     subst (OfOneEpoch (run E es (first_world E input))) (sym (run-append E es fs (first_world E input))) (record { earlier = k; later = n.0; grows = n.1 })
 
+-- Of two words that were decided in one epoch, one is within the other; of one term, they are one.
 pub chained : (w v : World) → OfOneEpoch w v → (m n : Membership) → HasDecided w m → HasDecided v n → Comparable m n
 chained w v o m n d e = o.later.holds.history.chain m n (o.grows.decided m (decided-in w o.earlier m d)) (decided-in v o.later n e)
 
@@ -49,6 +51,7 @@ one-of-term w v o m n d e t =
 
 -- ---- words of a world are good
 
+-- each word of a world is one of its epoch's
 pub word-good : (w : World) (k : InEpoch w) (m : Membership) → HasWord w m → GoodWord (state_of w k.owner k.history) m
 word-good w k m (inl d) = k.holds.history.decided_good m (decided-in w k m d)
 word-good w k m (inr (h, inl e)) = (some-here (OwnOk (state_of w k.owner k.history) (w.agents h).start) (w.agents h).own m e (k.holds.agents h).own).good
@@ -60,6 +63,7 @@ word-good w k m (inr (h, inr (g, e))) =
 there : (S : State) (H : HistoryOk S) (m : Membership) → GoodWord S m → (h s : ℕ) → In (h, s) (not_lost m) → (names m s ≡ true) × (is_in s m.lost ≡ false) × (S.owner s ≡ h)
 there S H m g h s i = in-not_lost S.owner m (hosts-of S H m g) g.owned h s i
 
+-- Of each host one start is there.
 pub one-start-each : (w : World) (k : InEpoch w) (m : Membership) → HasWord w m → OneStartPerHost m
 one-start-each w k m d h r s i j =
     let S = state_of w k.owner k.history in

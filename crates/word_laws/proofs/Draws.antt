@@ -1,7 +1,6 @@
 -- What the director sends, and how it draws starts for hosts.
-use Rattle.std.proofs.Common.{◌≡◌, ◌+◌, ◌<◌, ◌≤◌, Bool, true, false, List, [], ◌∷◌, ◌++◌, append-nil, inl, inr, append_assoc, refl, sym, subst, ap, ◌∙◌, ◌==◌, arith}
-use Rattle.std.proofs.lemmas.Bool.{cases_eq, eqb-true, or_left, or_right}
-use Rattle.std.proofs.lemmas.Bool.Decides.{nat_tests}
+use Rattle.std.proofs.Common.{◌≡◌, ◌+◌, ◌<◌, ◌≤◌, Bool, true, false, List, [], ◌∷◌, ◌++◌, refl, sym, subst, ◌∙◌, ◌==◌, arith}
+use Rattle.std.proofs.lemmas.Bool.{eqb-true, or_left, or_right}
 use Rattle.std.proofs.Math.Path.{fun_ext}
 use Rattle.std.specs.Prelude.{ℕ, ◌&&◌, if◌then◌else◌}
 use Rattle.std.specs.List.{AllByRecursion, list_any}
@@ -10,16 +9,15 @@ use Rattle.volt_wire.specs.declared.actor.Actor.{Actor}
 use Rattle.volt_wire.specs.declared.actor.Actor.TheVariants.{Director, Client, Agent, Site, Scanner}
 use Rattle.volt_wire.specs.declared.message.Msg.TheVariants as msg
 use Rattle.cluster_model.specs.Words.{admits, with_admitted}
-use Rattle.cluster_model.specs.Letters.{no_sends, becomes, same, Letter, Sends, open_letter, only}
+use Rattle.cluster_model.specs.Letters.{same, Letter, Sends, open_letter, only}
 use Rattle.cluster_model.specs.AgentState.{AgentState}
 use Rattle.cluster_model.specs.World.{set_at, took, sent}
-use Rattle.cluster_model.specs.Laws.{RiseFrom, start_in_letter, starts_in}
-use Rattle.word_laws.proofs.Rows.{All-mono, All-append}
-use Rattle.word_laws.proofs.Starts.{rise-lower, letters-all, letters-rise}
+use Rattle.cluster_model.specs.Laws.{RiseFrom, starts_in}
 use Rattle.word_laws.specs.Histories.{In, names, Admitted, State, start_at, Begun, Runs, Gone, HostOk, GoodWord, Unnamed, AskOk, LetterOk, CameOk, QueuedOk, WaitingOk, OwnOk, AgentOk, AdmittedOk, HistoryOk, Told, Heard, Holds}
-use Rattle.word_laws.proofs.Moves.{Goes, after, popped}
-use Rattle.word_laws.proofs.Rejoins.{set-here, set-there, and_none}
-use Rattle.word_laws.proofs.Laters.{in-all, some-mono, waiting-later, queued-later}
+use Rattle.word_laws.proofs.Lists.{all-mono, all-append, set-here, set-there, and-false, all-at, some-mono, rise-append, eqb-same, all-from, all-both, list_any-in}
+use Rattle.word_laws.proofs.Channels.{starts-append, starts-all, starts-rise}
+use Rattle.word_laws.proofs.Moves.{popped}
+use Rattle.word_laws.proofs.Laters.{waiting-later, queued-later}
 
 -- ---- a start is drawn
 
@@ -53,10 +51,10 @@ director-took channel n = fun_ext (λ a. fun_ext (λ b. each a b))
   where
     each : (a b : Actor) → director_to channel (λ b. took channel Director (Agent n) Director b) a b ≡ took channel Director (Agent n) a b
     each Director b = refl
-    each (Client k) b = let e : (same (Agent n) b && false) ≡ false = and_none (same (Agent n) b) in rw e
-    each (Agent k) b = let e : (same (Agent n) b && false) ≡ false = and_none (same (Agent n) b) in rw e
-    each (Site k) b = let e : (same (Agent n) b && false) ≡ false = and_none (same (Agent n) b) in rw e
-    each (Scanner k) b = let e : (same (Agent n) b && false) ≡ false = and_none (same (Agent n) b) in rw e
+    each (Client k) b = let e : (same (Agent n) b && false) ≡ false = and-false (same (Agent n) b) in rw e
+    each (Agent k) b = let e : (same (Agent n) b && false) ≡ false = and-false (same (Agent n) b) in rw e
+    each (Site k) b = let e : (same (Agent n) b && false) ≡ false = and-false (same (Agent n) b) in rw e
+    each (Scanner k) b = let e : (same (Agent n) b && false) ≡ false = and-false (same (Agent n) b) in rw e
 
 -- What holds is kept, where starts that were drawn keep their hosts, and the starts under way to each host are as they should be.
 module _ (S : State) (next : ℕ) (owner : ℕ → ℕ) (director : Actor → List Letter) (h : Holds S) (up : S.next ≤ next) (same_owner : (x : ℕ) → x < S.next → owner x ≡ S.owner x)
@@ -74,7 +72,7 @@ module _ (S : State) (next : ℕ) (owner : ℕ → ℕ) (director : Actor → Li
 
   begun-back : (x : ℕ) → Begun U x → Begun S x
   begun-back x b =
-      let l : x < S.next = (in-all (λ y. (S.owner y ≡ owner x) × (0 < y) × (y < S.next)) (S.history.began (owner x)) (h.hosts (owner x)).began x b.began).2 in
+      let l : x < S.next = (all-at (λ y. (S.owner y ≡ owner x) × (0 < y) × (y < S.next)) (S.history.began (owner x)) (h.hosts (owner x)).began x b.began).2 in
       record {
         some = b.some;
         below = l;
@@ -89,16 +87,10 @@ module _ (S : State) (next : ℕ) (owner : ℕ → ℕ) (director : Actor → Li
   gone-back x g = let b = begun-back x g.0 in (b, λ r. g.1 (rw (same_owner x b.below) r))
 
   by-keys : (P : ℕ → Type 0) (xs : List (ℕ × ℕ)) → ((s : ℕ) → list_any (λ a. a.0 == s) xs ≡ true → P s) → AllByRecursion (λ a. P a.0) xs
-  by-keys P [] f = tt
-  by-keys P (x ∷ xs) f = (f x.0 (let e : (x.0 == x.0) ≡ true = grind (arith, nat_tests) in rw e), by-keys P xs (λ s e. f s (or_right (x.0 == s) (list_any (λ a. a.0 == s) xs) e)))
+  by-keys P xs f = all-from (λ a. P a.0) xs (λ a i. f a.0 (list_any-in (λ b. b.0 == a.0) xs a i (eqb-same a.0)))
 
   by-starts : (P : ℕ → Type 0) (xs : List (ℕ × ℕ)) → ((s : ℕ) → list_any (λ a. a.1 == s) xs ≡ true → P s) → AllByRecursion (λ a. P a.1) xs
-  by-starts P [] f = tt
-  by-starts P (x ∷ xs) f = (f x.1 (let e : (x.1 == x.1) ≡ true = grind (arith, nat_tests) in rw e), by-starts P xs (λ s e. f s (or_right (x.1 == s) (list_any (λ a. a.1 == s) xs) e)))
-
-  All-both : {A : Type 0} (P Q R : A → Type 0) → ((x : A) → P x → Q x → R x) → (xs : List A) → AllByRecursion P xs → AllByRecursion Q xs → AllByRecursion R xs
-  All-both P Q R f [] p q = tt
-  All-both P Q R f (x ∷ xs) p q = (f x p.0 q.0, All-both P Q R f xs p.1 q.1)
+  by-starts P xs f = all-from (λ a. P a.1) xs (λ a i. f a.1 (list_any-in (λ b. b.1 == a.1) xs a i (eqb-same a.1)))
 
   good-to : (w : Membership) → GoodWord S w → GoodWord U w
   good-to w g = record {
@@ -106,7 +98,7 @@ module _ (S : State) (next : ℕ) (owner : ℕ → ℕ) (director : Actor → Li
     first = g.first;
     lost_rises = g.lost_rises;
     admitted_rises = g.admitted_rises;
-    owned = All-both (λ a. a.0 < S.next) (λ a. S.owner a.0 ≡ a.1) (λ a. owner a.0 ≡ a.1) (λ a l e. same_owner a.0 l ∙ e) w.admitted
+    owned = all-both (λ a. a.0 < S.next) (λ a. S.owner a.0 ≡ a.1) (λ a. owner a.0 ≡ a.1) (λ a l e. same_owner a.0 l ∙ e) w.admitted
         (by-keys (λ s. s < S.next) w.admitted (λ s e. (g.named_begun s (or_right (list_any (λ m. m.1 == s) w.first) (admits w s) e)).below)) g.owned;
     lost_gone = λ s e. gone-to s (g.lost_gone s e);
     named_begun = λ s e. begun-to s (g.named_begun s e);
@@ -148,8 +140,8 @@ module _ (S : State) (next : ℕ) (owner : ℕ → ℕ) (director : Actor → Li
     wordless = k.wordless;
     joins = k.joins;
     heard = k.heard;
-    waiting = All-mono (WaitingOk S g) (WaitingOk U g) (λ x p. waiting-later S U g (λ f term j q. came-to f g term j q) x.from x.letter p) a.waiting k.waiting;
-    queue = All-mono (QueuedOk S g) (QueuedOk U g) (λ x p. queued-later S U g (λ f term j q. came-to f g term j q) x p) a.initiating.queue k.queue;
+    waiting = all-mono (WaitingOk S g) (WaitingOk U g) (λ x p. waiting-later S U g (λ f term j q. came-to f g term j q) x.from x.letter p) a.waiting k.waiting;
+    queue = all-mono (QueuedOk S g) (QueuedOk U g) (λ x p. queued-later S U g (λ f term j q. came-to f g term j q) x p) a.initiating.queue k.queue;
     initiates = k.initiates;
   }
 
@@ -157,8 +149,8 @@ module _ (S : State) (next : ℕ) (owner : ℕ → ℕ) (director : Actor → Li
   by-begun : (x : Admitted) → AdmittedOk S x → Begun S x.by
   by-begun x k =
       let w = with_admitted x.start (S.owner x.start) x.at in
-      (in-all (GoodWord S) (S.history.said x.by) (h.history.said_good x.by) w k.said).named_begun x.by
-      (in-all (λ v. names v x.by ≡ true) (S.history.said x.by) (h.history.said_names x.by) w k.said)
+      (all-at (GoodWord S) (S.history.said x.by) (h.history.said_good x.by) w k.said).named_begun x.by
+      (all-at (λ v. names v x.by ≡ true) (S.history.said x.by) (h.history.said_names x.by) w k.said)
 
   named-to : (w : Membership) → In w S.history.decided → (s : ℕ) → names w s ≡ true → owner s ≡ S.owner s
   named-to w i s e = same_owner s ((h.history.decided_good w i).named_begun s e).below
@@ -183,13 +175,13 @@ module _ (S : State) (next : ℕ) (owner : ℕ → ℕ) (director : Actor → Li
 
   history-to : HistoryOk U
   history-to = let o = h.history in record {
-    first_owned = All-both (λ m. owner m.1 ≡ S.owner m.1) (λ m. S.owner m.1 ≡ m.0) (λ m. owner m.1 ≡ m.0) (λ m p q. p ∙ q) S.history.first.first
+    first_owned = all-both (λ m. owner m.1 ≡ S.owner m.1) (λ m. S.owner m.1 ≡ m.0) (λ m. owner m.1 ≡ m.0) (λ m p q. p ∙ q) S.history.first.first
         (by-starts (λ s. owner s ≡ S.owner s) S.history.first.first first-names) o.first_owned;
     first_one = λ r s p q e. o.first_one r s p q (sym (first-names r p) ∙ e ∙ first-names s q);
     first_plain = o.first_plain;
     first_decided = o.first_decided;
     decided_good = λ w i. good-to w (o.decided_good w i);
-    said_good = λ x. All-mono (GoodWord S) (GoodWord U) (λ w g. good-to w g) (S.history.said x) (o.said_good x);
+    said_good = λ x. all-mono (GoodWord S) (GoodWord U) (λ w g. good-to w g) (S.history.said x) (o.said_good x);
     said_names = o.said_names;
     said_falls = o.said_falls;
     knows = o.knows;
@@ -227,7 +219,7 @@ module _ (S : State) (next : ℕ) (owner : ℕ → ℕ) (director : Actor → Li
     hosts = hosts;
     agents = λ g. agent-to g (S.agents g) (h.agents g);
     channels = λ f g. record {
-      letters = All-mono (LetterOk S f g) (LetterOk U f g) (λ l p. letter-to f g l p) (S.channel (Agent f) (Agent g)) (h.channels f g).letters;
+      letters = all-mono (LetterOk S f g) (LetterOk U f g) (λ l p. letter-to f g l p) (S.channel (Agent f) (Agent g)) (h.channels f g).letters;
       ordered = (h.channels f g).ordered;
     };
     history = history-to;
@@ -236,14 +228,6 @@ module _ (S : State) (next : ℕ) (owner : ℕ → ℕ) (director : Actor → Li
   }
 
 -- ---- starts under way
-
-pub starts-append : (xs ys : List Letter) → starts_in (xs ++ ys) ≡ starts_in xs ++ starts_in ys
-starts-append [] ys = refl
-starts-append (l ∷ xs) ys = ap (λ zs. start_in_letter l ++ zs) (starts-append xs ys) ∙ sym (append_assoc (start_in_letter l) (starts_in xs) (starts_in ys))
-
-rise-append : (low middle : ℕ) (xs ys : List ℕ) → low ≤ middle → AllByRecursion (λ x. x < middle) xs → RiseFrom low xs → RiseFrom middle ys → RiseFrom low (xs ++ ys)
-rise-append low middle [] ys l b r s = rise-lower low middle ys l s
-rise-append low middle (x ∷ xs) ys l b r s = (r.0, rise-append (x + 1) middle xs ys (omega (arith, b.0)) b.1 r.1 s)
 
 -- starts that the director draws for a host, from this one on and below that one
 abbrev pub Drawn : ℕ → ℕ → (ℕ → ℕ) → ℕ → ℕ → Type 0
@@ -262,14 +246,14 @@ host-widened S next owner out g some k up same_owner drawn rise =
       outside = k.outside;
       running = λ u. let r = k.running u in (same_owner (start_at S g) r.1 ∙ r.0, omega (arith, r.1, up));
       last = k.last;
-      began = All-mono Own Owned kept (S.history.began g) k.began;
+      began = all-mono Own Owned kept (S.history.began g) k.began;
       distinct = k.distinct;
-      owned = rw e (All-append Owned old (starts_in (out (Agent g))) (All-mono Own Owned kept old k.owned)
-          (All-mono (Drawn S.next next owner g) Owned (λ x d. (d.0, omega (arith, d.1, some), d.2)) (starts_in (out (Agent g))) drawn));
-      fresh = rw e (All-append (λ x. In x (S.history.began g) → ⊥) old (starts_in (out (Agent g))) k.fresh
-          (All-mono (Drawn S.next next owner g) (λ x. In x (S.history.began g) → ⊥)
-          (λ x d i. absurd (omega (arith, d.1, (in-all Own (S.history.began g) k.began x i).2))) (starts_in (out (Agent g))) drawn));
-      rising = rw e (rise-append 0 S.next old (starts_in (out (Agent g))) (omega arith) (All-mono Own (λ x. x < S.next) (λ x o. o.2) old k.owned) k.rising rise);
+      owned = rw e (all-append Owned old (starts_in (out (Agent g))) (all-mono Own Owned kept old k.owned)
+          (all-mono (Drawn S.next next owner g) Owned (λ x d. (d.0, omega (arith, d.1, some), d.2)) (starts_in (out (Agent g))) drawn));
+      fresh = rw e (all-append (λ x. In x (S.history.began g) → ⊥) old (starts_in (out (Agent g))) k.fresh
+          (all-mono (Drawn S.next next owner g) (λ x. In x (S.history.began g) → ⊥)
+          (λ x d i. absurd (omega (arith, d.1, (all-at Own (S.history.began g) k.began x i).2))) (starts_in (out (Agent g))) drawn));
+      rising = rw e (rise-append 0 S.next old (starts_in (out (Agent g))) (omega arith) (all-mono Own (λ x. x < S.next) (λ x o. o.2) old k.owned) k.rising rise);
     }
 
 -- The director sends: the starts among it are drawn in order, each for the host to which it goes.
@@ -314,39 +298,12 @@ host-dropped S n g k = record {
   last = k.last;
   began = k.began;
   distinct = k.distinct;
-  owned = letters-all (λ x. (S.owner x ≡ g) × (0 < x) × (x < S.next)) S.channel Director (Agent n) g k.owned;
-  fresh = letters-all (λ x. In x (S.history.began g) → ⊥) S.channel Director (Agent n) g k.fresh;
-  rising = letters-rise S.channel Director (Agent n) g k.rising;
+  owned = starts-all (λ x. (S.owner x ≡ g) × (0 < x) × (x < S.next)) S.channel Director (Agent n) g k.owned;
+  fresh = starts-all (λ x. In x (S.history.began g) → ⊥) S.channel Director (Agent n) g k.fresh;
+  rising = starts-rise S.channel Director (Agent n) g k.rising;
 }
 
 pub director-drops-holds : (S : State) (n : ℕ) → Holds S → Holds (popped S Director n)
 director-drops-holds S n h =
     subst (λ ch. Holds (record S { channel = ch })) (director-took S.channel n)
     (directed-holds S S.next S.owner (λ b. took S.channel Director (Agent n) Director b) h (omega arith) (λ x l. refl) (λ g. host-dropped S n g (h.hosts g)))
-
--- an agent that goes on as it is and says nothing
-pub set-same : {A : Type 0} (f : ℕ → A) (n : ℕ) → set_at f n (f n) ≡ f
-set-same f n = fun_ext (λ g. elim (cases_eq g n) [
-  | inl e ↦ subst (λ x. set_at f n (f n) x ≡ f x) (sym e) (set-here f n (f n))
-  | inr d ↦ set-there f n (f n) g d
-])
-
-pub sent-none : (channel : Actor → Actor → List Letter) (a : Actor) → sent channel a no_sends ≡ channel
-sent-none channel a = fun_ext (λ b. fun_ext (λ c. choice (same a b) (channel b c)))
-  where
-    choice : (t : Bool) (ls : List Letter) → (if t then ls ++ [] else ls) ≡ ls
-    choice true ls = append-nil ls
-    choice false ls = refl
-
-pub after-same : (S : State) (n : ℕ) → after S n (S.agents n) no_sends S.history ≡ S
-after-same S n =
-    ap (λ a. record S { agents = a; channel = sent S.channel (Agent n) no_sends }) (set-same S.agents n)
-    ∙ ap (λ ch. record S { channel = ch }) (sent-none S.channel (Agent n))
-
--- The agent takes a message of the director, and it changes nothing.
-pub director-drops-goes : (S : State) (n : ℕ) → Holds S → Goes S n Director (becomes (S.agents n))
-director-drops-goes S n h = record {
-  history = S.history;
-  grows = record { first = refl; said = λ x w i. i; decided = λ w i. i; admitted = λ x i. i };
-  holds = subst Holds (sym (after-same (popped S Director n) n)) (director-drops-holds S n h);
-}

@@ -1,21 +1,22 @@
--- How an epoch begins, and how starts are drawn and taken.
+-- How an epoch begins: all holds in the first world, and once a recovery has worked.
 use Rattle.std.proofs.Common.{◌≡◌, ◌+◌, ◌<◌, ◌≤◌, Bool, true, false, List, [], ◌∷◌, append-nil, refl, sym, subst, ap, ◌∙◌, ◌⊎◌, inl, inr, ◌==◌, arith, zero, suc}
 use Rattle.std.proofs.lemmas.Bool.{eqb-true, cases_Bool, cases_eq}
 use Rattle.std.proofs.lemmas.Bool.Decides.{nat_tests}
 use Rattle.std.specs.Prelude.{ℕ, ◌-◌, ◌||◌, not, nat_le, if◌then◌else◌, filter, fold, Option, Some, None}
 use Rattle.std.specs.List.{AllByRecursion, list_any, list_all}
-use Rattle.partition_ring.specs.Placement.{greater_start}
 use Rattle.volt_wire.specs.Word.{Membership}
 use Rattle.volt_wire.specs.declared.actor.Actor.{Actor}
 use Rattle.volt_wire.specs.declared.actor.Actor.TheVariants.{Director, Agent}
+use Rattle.partition_ring.specs.Placement.{greater_start}
 use Rattle.cluster_model.specs.Letters.{same, Letter}
 use Rattle.cluster_model.specs.AgentState.{AgentState, new_agent, initiates, is_initiator_in}
 use Rattle.cluster_model.specs.Laws.{RiseFrom, starts_in}
 use Rattle.cluster_model.specs.Words.{Deployment, is_host, is_in, not_lost, members, start_of, first_of, initiator}
 use Rattle.cluster_model.specs.World.{hosts_from, new_word, first_initiating, member_agent}
 use Rattle.cluster_model.specs.Recover.{new_channels}
-use Rattle.word_laws.proofs.Rows.{All-mono}
 use Rattle.word_laws.specs.Histories.{In, names, Within, Comparable, History, State, start_at, starts_to, Begun, Gone, HostOk, GoodWord, LetterOk, InOrder, ChannelOk, QueuedOk, IsOff, AgentOk, Falls, HistoryOk, Holds}
+use Rattle.word_laws.proofs.Lists.{all-mono, if-true, if-false, or-false, in-one, only-one, all-one, of-only, all-from, list_all-all, filter-all}
+use Rattle.word_laws.proofs.Steps.{new_agent-known}
 
 -- ---- the first word
 
@@ -23,11 +24,12 @@ use Rattle.word_laws.specs.Histories.{In, names, Within, Comparable, History, St
 abbrev pub HostFrom : ℕ → ℕ → ℕ → ℕ × ℕ → Type 0
 HostFrom n host start m = (host ≤ m.0) × (m.0 < host + n) × (m.1 + host ≡ m.0 + start)
 
+-- they stand in the list from this host and start on
 pub hosts-all : (n host start : ℕ) → AllByRecursion (HostFrom n host start) (hosts_from n host start)
 hosts-all zero host start = tt
 hosts-all (suc n) host start = (
   (omega arith, omega arith, omega arith),
-  All-mono (HostFrom n (host + 1) (start + 1)) (HostFrom (suc n) host start) (λ m k. (omega (arith, k.0), omega (arith, k.1), omega (arith, k.2)))
+  all-mono (HostFrom n (host + 1) (start + 1)) (HostFrom (suc n) host start) (λ m k. (omega (arith, k.0), omega (arith, k.1), omega (arith, k.2)))
       (hosts_from n (host + 1) (start + 1)) (hosts-all n (host + 1) (start + 1)),
 )
 
@@ -39,6 +41,7 @@ hosts-any (suc n) host start s e = elim (cases_Bool (start == s)) [
   | inr q ↦ let k = hosts-any n (host + 1) (start + 1) s (rw q at e) in (omega (arith, k.0), omega (arith, k.1))
 ]
 
+-- each start of the list is there
 pub hosts-there : (n host start s : ℕ) → start ≤ s → s < start + n → list_any (λ m. m.1 == s) (hosts_from n host start) ≡ true
 hosts-there zero host start s low high = absurd (omega (arith, low, high))
 hosts-there (suc n) host start s low high = elim (cases_Bool (start == s)) [
@@ -46,20 +49,8 @@ hosts-there (suc n) host start s low high = elim (cases_Bool (start == s)) [
   | inr q ↦ let d : (start ≡ s → ⊥) = grind (arith, nat_tests, q) in rw q (hosts-there n (host + 1) (start + 1) s (omega (arith, low, d)) (omega (arith, high)))
 ]
 
-filter-all : {A : Type 0} (test : A → Bool) (xs : List A) → AllByRecursion (λ x. test x ≡ true) xs → filter test xs ≡ xs
-filter-all test [] h = refl
-filter-all test (x ∷ xs) h = rw h.0 (ap (λ ys. x ∷ ys) (filter-all test xs h.1))
-
-all-list_all : {A : Type 0} (test : A → Bool) (xs : List A) → AllByRecursion (λ x. test x ≡ true) xs → list_all test xs ≡ true
-all-list_all test [] h = refl
-all-list_all test (x ∷ xs) h = rw h.0 (all-list_all test xs h.1)
-
-All-any : {A : Type 0} (P : A → Type 0) → ((x : A) → P x) → (xs : List A) → AllByRecursion P xs
-All-any P f [] = tt
-All-any P f (x ∷ xs) = (f x, All-any P f xs)
-
 not_lost-first : (D : Deployment) (base start : ℕ) → not_lost (new_word D base start) ≡ hosts_from D.layout.hosts 0 start
-not_lost-first D base start = rw append-nil (filter-all (λ m. true) (hosts_from D.layout.hosts 0 start) (All-any (λ m. true ≡ true) (λ m. refl) (hosts_from D.layout.hosts 0 start)))
+not_lost-first D base start = rw append-nil (filter-all (λ m. true) (hosts_from D.layout.hosts 0 start) (all-from (λ m. true ≡ true) (hosts_from D.layout.hosts 0 start) (λ m i. refl)))
 
 one-greatest : (n host start : ℕ) (k m : ℕ × ℕ) → HostFrom n host start k → HostFrom n host start m → (not (k.0 == m.0) || nat_le k.1 m.1) ≡ true
 one-greatest n host start k m a b = elim (cases_Bool (k.0 == m.0)) [
@@ -67,15 +58,16 @@ one-greatest n host start k m a b = elim (cases_Bool (k.0 == m.0)) [
   | inr q ↦ rw q
 ]
 
+-- all of them are members of the word with which an epoch begins
 pub members-first : (D : Deployment) (base start : ℕ) → members (new_word D base start) ≡ hosts_from D.layout.hosts 0 start
 members-first D base start =
     let hosts = hosts_from D.layout.hosts 0 start in
     let all = hosts-all D.layout.hosts 0 start in
     ap (λ xs. filter (λ m. list_all (λ n. not (n.0 == m.0) || nat_le n.1 m.1) xs) xs) (not_lost-first D base start)
     ∙ filter-all (λ m. list_all (λ n. not (n.0 == m.0) || nat_le n.1 m.1) hosts) hosts
-    (All-mono (HostFrom D.layout.hosts 0 start) (λ m. list_all (λ n. not (n.0 == m.0) || nat_le n.1 m.1) hosts ≡ true)
-    (λ m b. all-list_all (λ n. not (n.0 == m.0) || nat_le n.1 m.1) hosts
-    (All-mono (HostFrom D.layout.hosts 0 start) (λ n. (not (n.0 == m.0) || nat_le n.1 m.1) ≡ true) (λ k a. one-greatest D.layout.hosts 0 start k m a b) hosts all))
+    (all-mono (HostFrom D.layout.hosts 0 start) (λ m. list_all (λ n. not (n.0 == m.0) || nat_le n.1 m.1) hosts ≡ true)
+    (λ m b. list_all-all (λ n. not (n.0 == m.0) || nat_le n.1 m.1) hosts
+    (all-mono (HostFrom D.layout.hosts 0 start) (λ n. (not (n.0 == m.0) || nat_le n.1 m.1) ≡ true) (λ k a. one-greatest D.layout.hosts 0 start k m a b) hosts all))
     hosts all)
 
 -- the start of a host among these
@@ -125,6 +117,7 @@ first_of-hosts : (n start : ℕ) → 0 < n → first_of (hosts_from n 0 start) �
 first_of-hosts zero start e = absurd (omega (arith, e))
 first_of-hosts (suc n) start e = refl
 
+-- host 0 initiates
 pub initiator-first : (D : Deployment) (base start : ℕ) → is_host D 0 ≡ true → initiator (new_word D base start) ≡ Some (0, start)
 initiator-first D base start e = rw (members-first D base start) (first_of-hosts D.layout.hosts start (grind (arith, nat_tests, e)))
 
@@ -174,43 +167,9 @@ epoch_state D base start next agents channel owner = record {
 
 -- ---- choices
 
-if-true : {A : Type 0} (c : Bool) (x y : A) → c ≡ true → (if c then x else y) ≡ x
-if-true true x y e = refl
-if-true false x y e = absurd (cc)
-
-if-false : {A : Type 0} (c : Bool) (x y : A) → c ≡ false → (if c then x else y) ≡ y
-if-false false x y e = refl
-if-false true x y e = absurd (cc)
-
--- what stands in a list of one or none
-in-one : {A : Type 0} (c : Bool) (x : A) → c ≡ true → In x (if c then x ∷ [] else [])
-in-one true x e = inl refl
-in-one false x e = absurd (cc)
-
-only-one : {A : Type 0} (c : Bool) (x v : A) → In v (if c then x ∷ [] else []) → (c ≡ true) × (x ≡ v)
-only-one true x v (inl e) = (refl, e)
-only-one true x v (inr i) = absurd i
-only-one false x v i = absurd i
-
-all-one : {A : Type 0} (P : A → Type 0) (c : Bool) (x : A) → (c ≡ true → P x) → AllByRecursion P (if c then x ∷ [] else [])
-all-one P true x f = (f refl, tt)
-all-one P false x f = tt
-
 falls-one : (c : Bool) (x : Membership) → Falls (if c then x ∷ [] else [])
 falls-one true x = (tt, tt)
 falls-one false x = tt
-
-of-only : {A : Type 0} (P : A → Type 0) (x : A) → P x → (v : A) → In v (x ∷ []) → P v
-of-only P x h v (inl e) = subst P e h
-of-only P x h v (inr i) = absurd i
-
-or_none : (c : Bool) → (c || false) ≡ true → c ≡ true
-or_none true e = refl
-or_none false e = e
-
-none_or : (c : Bool) → c ≡ true → (c || false) ≡ true
-none_or true e = refl
-none_or false e = e
 
 initiates-first : (start : ℕ) (i : Option (ℕ × ℕ)) → i ≡ Some (0, start) → is_initiator_in 0 (start + 0) i ≡ true
 initiates-first start i e = rw e (grind (arith, nat_tests))
@@ -246,7 +205,7 @@ module _ (D : Deployment) (base start number next : ℕ) (agents : ℕ → Agent
   }
 
   named-begun : (s : ℕ) → names W s ≡ true → Begun T s
-  named-begun s e = let k = first-any D start s (or_none (names_first s) e) in rw k.2 (host-begun k.0 k.1)
+  named-begun s e = let k = first-any D start s (sym (or-false (names_first s)) ∙ e) in rw k.2 (host-begun k.0 k.1)
 
   word-good : GoodWord T W
   word-good = record {
@@ -296,13 +255,13 @@ module _ (D : Deployment) (base start number next : ℕ) (agents : ℕ → Agent
 
   history-ok : HistoryOk T
   history-ok = record {
-    first_owned = All-mono (λ m. HostFrom D.layout.hosts 0 start m) (λ m. owner m.1 ≡ m.0) host-owned (hosts_from D.layout.hosts 0 start) (hosts-all D.layout.hosts 0 start);
+    first_owned = all-mono (λ m. HostFrom D.layout.hosts 0 start m) (λ m. owner m.1 ≡ m.0) host-owned (hosts_from D.layout.hosts 0 start) (hosts-all D.layout.hosts 0 start);
     first_one = first-one;
     first_plain = (refl, refl);
     first_decided = inl refl;
     decided_good = of-only (λ w. GoodWord T w) W word-good;
     said_good = λ s. all-one (GoodWord T) (names_first s) W (λ e. word-good);
-    said_names = λ s. all-one (λ w. names w s ≡ true) (names_first s) W (λ e. none_or (names_first s) e);
+    said_names = λ s. all-one (λ w. names w s ≡ true) (names_first s) W (λ e. or-false (names_first s) ∙ e);
     said_falls = λ s. falls-one (names_first s) W;
     knows = λ s w i x k. absurd k;
     one_way = λ r s v w i k e. λ f. none-lost s v (said-first r v i).1 e;
@@ -317,10 +276,10 @@ module _ (D : Deployment) (base start number next : ℕ) (agents : ℕ → Agent
   }
 
   older-below : (h : ℕ) → AllByRecursion (λ x. (owner x ≡ h) × (0 < x) × (x < next)) (starts_to T h)
-  older-below h = All-mono (λ x. (owner x ≡ h) × (0 < x) × (x < start)) (λ x. (owner x ≡ h) × (0 < x) × (x < next)) (λ x k. (k.0, k.1, omega (arith, k.2, b.room))) (starts_to T h) (b.older h)
+  older-below h = all-mono (λ x. (owner x ≡ h) × (0 < x) × (x < start)) (λ x. (owner x ≡ h) × (0 < x) × (x < next)) (λ x k. (k.0, k.1, omega (arith, k.2, b.room))) (starts_to T h) (b.older h)
 
   older-fresh : (h : ℕ) → AllByRecursion (λ x. In x (T.history.began h) → ⊥) (starts_to T h)
-  older-fresh h = All-mono (λ x. (owner x ≡ h) × (0 < x) × (x < start)) (λ x. In x (T.history.began h) → ⊥)
+  older-fresh h = all-mono (λ x. (owner x ≡ h) × (0 < x) × (x < start)) (λ x. In x (T.history.began h) → ⊥)
       (λ x k i. absurd (omega (arith, k.2, (only-one (is_host D h) (start + h) x i).1))) (starts_to T h) (b.older h)
 
   host-ok : (h : ℕ) (c : Bool) → is_host D h ≡ c → HostOk T h
@@ -345,21 +304,6 @@ module _ (D : Deployment) (base start number next : ℕ) (agents : ℕ → Agent
     rising = b.rising h;
   }
 
-  new-ok : (h : ℕ) → AgentOk T h (new_agent 0)
-  new-ok h = record {
-    own = tt;
-    alone = λ u. absurd (omega (arith, u));
-    decided = tt;
-    taken = tt;
-    untaken = λ u. absurd (omega (arith, u));
-    wordless = λ e. refl;
-    joins = λ d t. refl;
-    heard = λ k. tt;
-    waiting = tt;
-    queue = tt;
-    initiates = inl tt;
-  }
-
   begins-or-off : (h : ℕ) → is_host D h ≡ true → IsOff (first_initiating h number).phase ⊎ (initiates h (member_agent W number start h) (Some W) ≡ true)
   begins-or-off zero q = inr (initiates-first start (initiator W) (initiator-first D base start q))
   begins-or-off (suc h) q = inl tt
@@ -370,7 +314,7 @@ module _ (D : Deployment) (base start number next : ℕ) (agents : ℕ → Agent
 
   member-ok : (h : ℕ) → is_host D h ≡ true → AgentOk T h (member_agent W number start h)
   member-ok h q =
-      let n : names W (start + h) ≡ true = none_or (names_first (start + h)) (first-there D start h q) in
+      let n : names W (start + h) ≡ true = or-false (names_first (start + h)) ∙ (first-there D start h q) in
       record {
         own = record {
           good = word-good;
@@ -391,7 +335,7 @@ module _ (D : Deployment) (base start number next : ℕ) (agents : ℕ → Agent
 
   agent-ok : (h : ℕ) (c : Bool) → is_host D h ≡ c → AgentOk T h (agents h)
   agent-ok h true q = subst (λ a. AgentOk T h a) (sym (b.hosts h q)) (member-ok h q)
-  agent-ok h false q = subst (λ a. AgentOk T h a) (sym (b.others h q)) (new-ok h)
+  agent-ok h false q = subst (λ a. AgentOk T h a) (sym (b.others h q)) (new_agent-known T h)
 
   channel-ok : (h g : ℕ) → ChannelOk T h g
   channel-ok h g = record {
@@ -405,6 +349,7 @@ module _ (D : Deployment) (base start number next : ℕ) (agents : ℕ → Agent
       let i = only-one (is_host D (owner o)) (start + owner o) o k.0.began in
       k.1 (run-start (owner o) i.0 ∙ i.1)
 
+  -- All holds as an epoch begins.
   pub epoch-holds : Holds T
   epoch-holds = record {
     some = omega (arith, b.positive, b.room);
@@ -464,7 +409,7 @@ recovery-holds S base number h others =
       quiet = λ f g. refl;
       owned = λ g e. new_owner-new S.next S.owner g;
       older = λ g. subst (λ ls. AllByRecursion (λ x. (new_owner S.next S.owner x ≡ g) × (0 < x) × (x < S.next)) (starts_in ls)) (sym (append-nil (S.channel Director (Agent g))))
-          (All-mono (λ x. (S.owner x ≡ g) × (0 < x) × (x < S.next)) (λ x. (new_owner S.next S.owner x ≡ g) × (0 < x) × (x < S.next))
+          (all-mono (λ x. (S.owner x ≡ g) × (0 < x) × (x < S.next)) (λ x. (new_owner S.next S.owner x ≡ g) × (0 < x) × (x < S.next))
           (λ x k. (new_owner-old S.next S.owner x k.2 ∙ k.0, k.1, k.2)) (starts_to S g) (h.hosts g).owned);
       rising = λ g. subst (λ ls. RiseFrom 0 (starts_in ls)) (sym (append-nil (S.channel Director (Agent g)))) (h.hosts g).rising;
     })

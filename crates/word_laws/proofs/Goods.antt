@@ -4,14 +4,15 @@ use Rattle.std.specs.Prelude.{ℕ}
 use Rattle.volt_wire.specs.Word.{Membership}
 use Rattle.cluster_model.specs.Words.{union, with_lost, with_admitted}
 use Rattle.word_laws.specs.Histories.{In, State, Admitted, Within, Begun, Gone, Recorded, GoodWord}
+use Rattle.word_laws.proofs.Algebra.{within-trans, within-with_lost, within-with_admitted, within-union-left, within-union-right, in-with_lost, with_lost-rises, admits-with_admitted, with_admitted-rises, with_admitted-owned, lost-union, admits-union, union-lost-rises, union-admitted-rises, union-owned, names-first, names-admits, names-cases}
 use Rattle.word_laws.proofs.Moves.{Later}
 use Rattle.word_laws.proofs.Laters.{good-later}
-use Rattle.word_laws.proofs.Algebra.{within-trans, within-with_lost, within-with_admitted, within-union-left, within-union-right, in-with_lost, with_lost-rises, admits-with_admitted, with_admitted-rises, with_admitted-owned, lost-union, admits-union, union-lost-rises, union-admitted-rises, union-owned, names-first, names-admits, names-cases}
 
 -- what was admitted at a word within v was so at one within w
 pub recorded-within : (S : State) (v w : Membership) (s : ℕ) → Within v w → Recorded S v s → Recorded S w s
 recorded-within S v w s p r = record { entry = r.entry; is_one = r.is_one; same = r.same; within = within-trans r.entry.at v w r.within p }
 
+-- a start more that has stopped
 pub good-lost : (S : State) (o : ℕ) (w : Membership) → Gone S o → GoodWord S w → GoodWord S (with_lost o w)
 good-lost S o w gone g = record {
   base = g.base;
@@ -27,6 +28,7 @@ good-lost S o w gone g = record {
   recorded = λ s e. recorded-within S w (with_lost o w) s (within-with_lost o w) (g.recorded s e);
 }
 
+-- what either has lost or admitted
 pub good-union : (S : State) (v w : Membership) → GoodWord S v → GoodWord S w → GoodWord S (union v w)
 good-union S v w g k = record {
   base = g.base;

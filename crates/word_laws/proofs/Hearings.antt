@@ -1,34 +1,28 @@
 -- The rows of an agent, and what it says of a new word: what holds, holds after them.
-use Rattle.std.proofs.Common.{◌≡◌, ◌<◌, ◌≤◌, Bool, true, false, List, [], ◌∷◌, ◌++◌, append-nil, append_assoc, refl, sym, subst, ap, ◌∙◌, ◌⊎◌, inl, inr, ◌==◌, arith}
+use Rattle.std.proofs.Common.{◌≡◌, ◌<◌, Bool, true, false, List, [], ◌∷◌, ◌++◌, append-nil, append_assoc, refl, sym, subst, ap, ◌∙◌, ◌⊎◌, inl, inr, ◌==◌, arith}
 use Rattle.std.proofs.lemmas.Bool.{cases_Bool, eqb-true}
-use Rattle.std.proofs.lemmas.Bool.Decides.{nat_tests}
 use Rattle.std.proofs.Math.Path.{fun_ext}
-use Rattle.std.specs.Prelude.{ℕ, ◌&&◌, ◌||◌, not, if◌then◌else◌, Option, Some, None}
-use Rattle.std.specs.List.{AllByRecursion, list_any, list_all}
+use Rattle.std.specs.Prelude.{ℕ, ◌||◌, if◌then◌else◌, Option, Some, None}
+use Rattle.std.specs.List.{list_all}
 use Rattle.volt_wire.specs.Word.{Membership}
 use Rattle.volt_wire.specs.declared.actor.Actor.{Actor}
-use Rattle.volt_wire.specs.declared.actor.Actor.TheVariants.{Director, Client, Agent, Site, Scanner}
-use Rattle.volt_wire.specs.declared.message.Msg.TheVariants as msg
-use Rattle.cluster_model.specs.Engine.{Database}
-use Rattle.cluster_model.specs.Words.{Deployment, is_in, term_of, start_of, is_member, members, initiator, admits, same_word, union, with_lost, with_admitted}
-use Rattle.cluster_model.specs.Letters.{same, Letter, Sends, Turn, becomes, ◌▸◌, open_letter}
-use Rattle.cluster_model.specs.AgentState.{AgentState, Queued, Job_, Admission, new_agent, initiates, stops, stops_with_host}
-use Rattle.cluster_model.specs.Agent.{agent_row, is_other_word, says, is_word, may_decide, decides_word, on_closed, on_word, on_decided, takes_word}
-use Rattle.cluster_model.specs.World.{took, sent, set_at}
-use Rattle.word_laws.proofs.Rows.{All-mono}
-use Rattle.word_laws.specs.Histories.{In, OnSome, State, History, Admitted, Within, names, start_at, Begun, Runs, Gone, GoodWord, SaidBy, Unnamed, LetterOk, ClosesFrom, CameOk, QueuedOk, OwnOk, AgentOk, HistoryOk, IsClosed, Telling, OwnIs, Told, Holds}
-use Rattle.word_laws.proofs.Moves.{after, popped, Later, Plain, Calm, AdmitsNow, BringsWord, asked_by, Heeded, Grows}
-use Rattle.word_laws.proofs.Laters.{in-all, in-cases, some-here, good-later, admitted_ok-later}
-use Rattle.word_laws.proofs.Steps.{later-after, calm-holds, after-after, took-sent, pops, stops-holds, came-turn, plain-closes, unnamed-not}
-use Rattle.word_laws.proofs.Turns.{Decides, row-calm, tells, concludes, tells-same, tells-other, concludes-not, concludes-is, decides-state, decides-sends, may_decide-cases, is_other_word-equal, stops-sends, stops-sends-none, stops_with_host-closed}
-use Rattle.word_laws.proofs.Algebra.{within-with_lost, within-union-left, within-union-right, in-with_lost, with_lost-in, lost-union, names-within, same_word-refl, same_word-is, with_admitted-admits, names-admits}
-use Rattle.word_laws.proofs.Members.{members-all, is_member-start, start-is_member, initiates-is}
-use Rattle.word_laws.proofs.Agreement.{not-both, member-is, runs-not-lost, said-good, knows-told}
-use Rattle.word_laws.proofs.OwnWords.{said_more, spoken, NewHere, said-both, says-holds, said_to, self-test, set-both}
+use Rattle.volt_wire.specs.declared.actor.Actor.TheVariants.{Agent}
+use Rattle.cluster_model.specs.Words.{Deployment, start_of, is_member, members, initiator, with_admitted}
+use Rattle.cluster_model.specs.Letters.{same, Letter, Sends, Turn, becomes, ◌▸◌}
+use Rattle.cluster_model.specs.AgentState.{AgentState, Queued, Admission, new_agent, initiates}
+use Rattle.cluster_model.specs.Agent.{is_other_word, says, is_word, may_decide, decides_word}
+use Rattle.cluster_model.specs.World.{set_at}
+use Rattle.word_laws.specs.Histories.{In, OnSome, State, History, Admitted, names, start_at, GoodWord, SaidBy, ClosesFrom, CameOk, QueuedOk, OwnOk, Holds}
+use Rattle.word_laws.proofs.Lists.{all-mono, all-at, in-cases, some-here, not-both, eqb-same, same-some}
+use Rattle.word_laws.proofs.Algebra.{same_word-refl, same_word-is, with_admitted-admits, names-admits}
+use Rattle.word_laws.proofs.Members.{members-all, is_member-start, initiates-is}
+use Rattle.word_laws.proofs.Moves.{after, Later, Plain, Calm, AdmitsNow}
+use Rattle.word_laws.proofs.Agreement.{member-is, said-good}
+use Rattle.word_laws.proofs.Turns.{Decides, tells, concludes, tells-same, tells-other, concludes-not, concludes-is, decides-state, decides-sends, may_decide-cases, is_other_word-equal}
+use Rattle.word_laws.proofs.Steps.{later-after, calm-holds, after-after, came-turn, plain-closes}
+use Rattle.word_laws.proofs.OwnWords.{said_more, said-both, said_to}
 use Rattle.word_laws.proofs.Decisions.{decides-holds}
-use Rattle.word_laws.proofs.Admissions.{same-some, admits-holds, fresh}
-use Rattle.word_laws.proofs.Goods.{good-lost, good-union}
-use Rattle.word_laws.proofs.Joins.{takes-holds, grows-holds, heard-holds}
+use Rattle.word_laws.proofs.Admissions.{admits-holds, fresh}
 
 -- ---- turns, one behind the other
 
@@ -48,6 +42,7 @@ pub record Row (P : State) (n : ℕ) (t : Turn AgentState) : Type 0 where
   pub admitted : (x : Admitted) → In x P.history.admitted → In x history.admitted
   pub holds : Holds (after P n t.state t.sends history)
 
+-- such a turn only adds to the state
 pub row-later : (P : State) (n : ℕ) (t : Turn AgentState) (r : Row P n t) → Later P (after P n t.state t.sends r.history)
 row-later P n t r = later-after P n t.state t.sends r.history (elim r.goes [ inl e ↦ inl e.0 | inr e ↦ inr (ap (λ x. x.start) e) ]) r.first r.began r.said r.took_word r.decided r.admitted
 
@@ -65,9 +60,11 @@ row-plain P n t g h = record {
   holds = h;
 }
 
+-- the agent is what the turn made of it
 pub agent-there : (P : State) (n : ℕ) (a : AgentState) (out : Sends) (H : History) → (after P n a out H).agents n ≡ a
-agent-there P n a out H = rw (self-test n) refl
+agent-there P n a out H = rw (eqb-same n) refl
 
+-- One turn, and then another one from the state after it.
 pub then-row : (P : State) (n : ℕ) (t : Turn AgentState) (f : AgentState → Turn AgentState) → Row P n t
     → ((T : State) → T.agents n ≡ t.state → T.deployment ≡ P.deployment → Later P T → ((h : ℕ) → (h == n) ≡ false → T.channel (Agent h) (Agent n) ≡ P.channel (Agent h) (Agent n)) → Holds T
     → Row T n (f t.state)) → Row P n (t ▸ f)
@@ -90,11 +87,11 @@ then-row P n t f r g = record {
     here = agent-there P n t.state t.sends r.history
 
     others : (h : ℕ) → (h == n) ≡ false → (after P n t.state t.sends r.history).channel (Agent h) (Agent n) ≡ P.channel (Agent h) (Agent n)
-    others h e = choose (n == h) refl
+    others h e = choice (n == h) refl
       where
-        choose : (b : Bool) → (n == h) ≡ b → (if b then P.channel (Agent h) (Agent n) ++ t.sends (Agent n) else P.channel (Agent h) (Agent n)) ≡ P.channel (Agent h) (Agent n)
-        choose true q = absurd (not-both (h == n) (subst (λ z. (h == z) ≡ true) (sym (eqb-true n h q)) (self-test h)) e)
-        choose false q = refl
+        choice : (b : Bool) → (n == h) ≡ b → (if b then P.channel (Agent h) (Agent n) ++ t.sends (Agent n) else P.channel (Agent h) (Agent n)) ≡ P.channel (Agent h) (Agent n)
+        choice true q = absurd (not-both (h == n) (subst (λ z. (h == z) ≡ true) (sym (eqb-true n h q)) (eqb-same h)) e)
+        choice false q = refl
 
     q : Row (after P n t.state t.sends r.history) n (f t.state)
     q = g (after P n t.state t.sends r.history) here refl (row-later P n t r) others r.holds
@@ -110,10 +107,12 @@ then-row P n t f r g = record {
 pub then-assoc : (t : Turn AgentState) (f g : AgentState → Turn AgentState) → (t ▸ f) ▸ g ≡ t ▸ (λ x. f x ▸ g)
 then-assoc t f g = ap (λ z. record { state = (g (f t.state).state).state; sends = z }) (fun_ext (λ b. append_assoc (t.sends b) ((f t.state).sends b) ((g (f t.state).state).sends b)))
 
+-- a turn that does nothing leaves the one before
 pub then-quiet : (t : Turn AgentState) (f : AgentState → Turn AgentState) → f t.state ≡ becomes t.state → t ▸ f ≡ t
 then-quiet t f e = ap (λ u. record { state = u.state; sends = λ b. t.sends b ++ u.sends b }) e
     ∙ ap (λ z. record { state = t.state; sends = z }) (fun_ext (λ b. append-nil (t.sends b)))
 
+-- a word isn't another one than itself
 pub other-self : (o : Option Membership) → is_other_word o o ≡ false
 other-self None = refl
 other-self (Some w) = rw (same_word-refl w) refl
@@ -132,6 +131,7 @@ after-same P n = ap (λ c. record P { agents = set_at P.agents n (P.agents n); c
     place h true e = ap P.agents (sym (eqb-true h n e))
     place h false e = refl
 
+-- a turn of an agent that stays as it is
 pub stay-row : (P : State) (n : ℕ) → Going P n (P.agents n) → Holds P → Row P n (becomes (P.agents n))
 stay-row P n g h = row-plain P n (becomes (P.agents n)) g (subst Holds (sym (after-same P n)) h)
 
@@ -155,11 +155,11 @@ module _ (T : State) (H : Holds T) (n : ℕ) (D : Deployment) (up : 0 < start_at
       d : Decides n (T.agents n) v (decides_word D n (T.agents n) (Some v)).state
       d = decides-state D n (T.agents n) v
 
-      own_ok : OwnOk T (start_at T n) v
-      own_ok = some-here (OwnOk T (start_at T n)) (T.agents n).own v own (H.agents n).own
+      own-ok : OwnOk T (start_at T n) v
+      own-ok = some-here (OwnOk T (start_at T n)) (T.agents n).own v own (H.agents n).own
 
       good : GoodWord T v
-      good = own_ok.good
+      good = own-ok.good
 
       both : (is_member v n (start_at T n) ≡ true) × (list_all (λ m. m.0 == n || is_word v ((T.agents n).said m.0)) (members v) ≡ true)
       both = may_decide-cases n (T.agents n) v may
@@ -168,7 +168,7 @@ module _ (T : State) (H : Holds T) (n : ℕ) (D : Deployment) (up : 0 < start_at
       mine = is_member-start v n (start_at T n) both.0
 
       said-here : In v (T.history.said (start_at T n))
-      said-here = let m = own_ok.member (member-is T H.history v n (start_at T n) good mine).0 in subst (λ z. In v z) (sym m.1) (inl refl)
+      said-here = let m = own-ok.member (member-is T H.history v n (start_at T n) good mine).0 in subst (λ z. In v z) (sym m.1) (inl refl)
 
       heard-from : (h r : ℕ) (o : Option Membership) → start_of v h ≡ Some r → OnSome (SaidBy T h) o → is_word v o ≡ true → In v (T.history.said r)
       heard-from h r None e k i = absurd (cc)
@@ -178,14 +178,15 @@ module _ (T : State) (H : Holds T) (n : ℕ) (D : Deployment) (up : 0 < start_at
           subst (λ z. In v (T.history.said z)) start (subst (λ z. In z (T.history.said k.0)) same k.2)
 
       others : (h r : ℕ) → start_of v h ≡ Some r → In v (T.history.said r)
-      others h r e = choose (h == n) refl (members-all v (λ m. m.0 == n || is_word v ((T.agents n).said m.0)) h r both.1 e)
+      others h r e = choice (h == n) refl (members-all v (λ m. m.0 == n || is_word v ((T.agents n).said m.0)) h r both.1 e)
         where
-          choose : (b : Bool) → (h == n) ≡ b → (b || is_word v ((T.agents n).said h)) ≡ true → In v (T.history.said r)
-          choose true q i =
+          choice : (b : Bool) → (h == n) ≡ b → (b || is_word v ((T.agents n).said h)) ≡ true → In v (T.history.said r)
+          choice true q i =
               let start : start_at T n ≡ r = same-some (sym mine ∙ ap (start_of v) (sym (eqb-true h n q)) ∙ e) in
               subst (λ z. In v (T.history.said z)) start said-here
-          choose false q i = heard-from h r ((T.agents n).said h) e ((H.agents n).heard h) i
+          choice false q i = heard-from h r ((T.agents n).said h) e ((H.agents n).heard h) i
 
+  -- It decides its word, or goes on as it was.
   pub concludes-row : Row T n (concludes D n (T.agents n))
   concludes-row = go (T.agents n).own refl
     where
@@ -207,7 +208,7 @@ module _ (P : State) (H : Holds P) (n : ℕ) (came : List Queued) (t : Turn Agen
   -- it admits a start
   admits-row : AdmitsNow (P.agents n) came t.state.own → Row P n (t ▸ tells n (P.agents n).own)
   admits-row m = record {
-    history = record P.history { said = said_more P.history.said (start_at S1 n) v; admitted = record { start = m.start; by = start_at S1 n; at = m.word } ∷ P.history.admitted };
+    history = G;
     goes = inl (ap (λ u. u.state.start) turn-is ∙ c.start, up);
     first = refl;
     began = refl;
@@ -215,12 +216,13 @@ module _ (P : State) (H : Holds P) (n : ℕ) (came : List Queued) (t : Turn Agen
     took_word = λ s w e. e;
     decided = λ w i. i;
     admitted = λ x i. inr i;
-    holds = subst (λ u. Holds (after P n u.state u.sends (record P.history { said = said_more P.history.said (start_at S1 n) v; admitted = record { start = m.start; by = start_at S1 n; at = m.word } ∷ P.history.admitted }))) (sym turn-is)
-        (subst Holds (ap (λ z. after S1 n z out (record P.history { said = said_more P.history.said (start_at S1 n) v; admitted = record { start = m.start; by = start_at S1 n; at = m.word } ∷ P.history.admitted })) state-is
-        ∙ after-after P n t0 t.state t.sends out P.history (record P.history { said = said_more P.history.said (start_at S1 n) v; admitted = record { start = m.start; by = start_at S1 n; at = m.word } ∷ P.history.admitted }))
+    holds = subst (λ u. Holds (after P n u.state u.sends G)) (sym turn-is)
+        (subst Holds (ap (λ z. after S1 n z out G) state-is
+        ∙ after-after P n t0 t.state t.sends out P.history G)
         (admits-holds S1 H1 n m.word m.decided m.start m.host m.term out up1 own1 decided1 m.same init came1 m.term_is sends));
   }
     where
+      -- first the turn without the new word, and then the word
       t0 : AgentState
       t0 = record t.state { own = (P.agents n).own }
 
@@ -228,9 +230,9 @@ module _ (P : State) (H : Holds P) (n : ℕ) (came : List Queued) (t : Turn Agen
       v = with_admitted m.start m.host m.word
 
       out : Sends
-      out = (says n t.state (Some (with_admitted m.start m.host m.word))).sends
+      out = (says n t.state (Some v)).sends
 
-      c0 : Calm n (P.agents n) came (record { state = record t.state { own = (P.agents n).own }; sends = t.sends })
+      c0 : Calm n (P.agents n) came (record { state = t0; sends = t.sends })
       c0 = record {
         start = c.start;
         decided = c.decided;
@@ -244,27 +246,30 @@ module _ (P : State) (H : Holds P) (n : ℕ) (came : List Queued) (t : Turn Agen
       }
 
       S1 : State
-      S1 = after P n (record t.state { own = (P.agents n).own }) t.sends P.history
+      S1 = after P n t0 t.sends P.history
 
-      H1 : Holds (after P n (record t.state { own = (P.agents n).own }) t.sends P.history)
-      H1 = calm-holds P n came (record { state = record t.state { own = (P.agents n).own }; sends = t.sends }) up c0 refl new H
+      G : History
+      G = record P.history { said = said_more P.history.said (start_at S1 n) v; admitted = record { start = m.start; by = start_at S1 n; at = m.word } ∷ P.history.admitted }
 
-      here : (after P n (record t.state { own = (P.agents n).own }) t.sends P.history).agents n ≡ record t.state { own = (P.agents n).own }
-      here = agent-there P n (record t.state { own = (P.agents n).own }) t.sends P.history
+      H1 : Holds S1
+      H1 = calm-holds P n came (record { state = t0; sends = t.sends }) up c0 refl new H
 
-      start1 : start_at (after P n (record t.state { own = (P.agents n).own }) t.sends P.history) n ≡ start_at P n
+      here : S1.agents n ≡ t0
+      here = agent-there P n t0 t.sends P.history
+
+      start1 : start_at S1 n ≡ start_at P n
       start1 = ap (λ x. x.start) here ∙ c.start
 
-      up1 : 0 < start_at (after P n (record t.state { own = (P.agents n).own }) t.sends P.history) n
+      up1 : 0 < start_at S1 n
       up1 = subst (λ z. 0 < z) (sym start1) up
 
-      own1 : ((after P n (record t.state { own = (P.agents n).own }) t.sends P.history).agents n).own ≡ Some m.word
+      own1 : (S1.agents n).own ≡ Some m.word
       own1 = ap (λ x. x.own) here ∙ m.is_own
 
-      decided1 : ((after P n (record t.state { own = (P.agents n).own }) t.sends P.history).agents n).decided ≡ Some m.decided
+      decided1 : (S1.agents n).decided ≡ Some m.decided
       decided1 = ap (λ x. x.decided) here ∙ c.decided ∙ m.is_decided
 
-      init : initiator m.decided ≡ Some (n, start_at (after P n (record t.state { own = (P.agents n).own }) t.sends P.history) n)
+      init : initiator m.decided ≡ Some (n, start_at S1 n)
       init = elim (H.agents n).initiates [
         | inl off ↦ absurd (m.works off)
         | inr i ↦ initiates-is n (P.agents n) m.decided (ap (λ z. initiates n (P.agents n) z) (sym m.is_decided) ∙ i) ∙ ap (λ z. Some (n, z)) (sym start1)
@@ -272,35 +277,35 @@ module _ (P : State) (H : Holds P) (n : ℕ) (came : List Queued) (t : Turn Agen
 
       came0 : CameOk P m.host n m.term m.start
       came0 = elim (in-cases (Admission m.start m.host m.term) (P.agents n).initiating.queue came m.queued) [
-        | inl i ↦ in-all (QueuedOk P n) (P.agents n).initiating.queue (H.agents n).queue (Admission m.start m.host m.term) i
+        | inl i ↦ all-at (QueuedOk P n) (P.agents n).initiating.queue (H.agents n).queue (Admission m.start m.host m.term) i
         | inr i ↦ new m.start m.host m.term i
       ]
 
-      came1 : CameOk (after P n (record t.state { own = (P.agents n).own }) t.sends P.history) m.host n m.term m.start
-      came1 = came-turn P n (record t.state { own = (P.agents n).own }) t.sends (inl c.start)
-          (λ g j. All-mono (Plain n (P.agents n) g) (ClosesFrom (P.history.began n) j) (λ l p. plain-closes n (P.agents n) g (P.history.began n) j l p) (t.sends (Agent g)) (c.sends g))
+      came1 : CameOk S1 m.host n m.term m.start
+      came1 = came-turn P n t0 t.sends (inl c.start)
+          (λ g j. all-mono (Plain n (P.agents n) g) (ClosesFrom (P.history.began n) j) (λ l p. plain-closes n (P.agents n) g (P.history.began n) j l p) (t.sends (Agent g)) (c.sends g))
           n m.host m.term m.start came0
 
-      sends : (g : ℕ) → (says n t.state (Some (with_admitted m.start m.host m.word))).sends (Agent g)
-          ≡ said_to n (start_at (after P n (record t.state { own = (P.agents n).own }) t.sends P.history) n) (with_admitted m.start m.host m.word) g
-      sends g = ap {A = ℕ} {B = List Letter} (λ z. said_to n z (with_admitted m.start m.host m.word) g) (c.start ∙ sym start1)
+      sends : (g : ℕ) → (says n t.state (Some v)).sends (Agent g)
+          ≡ said_to n (start_at S1 n) v g
+      sends g = ap {A = ℕ} {B = List Letter} (λ z. said_to n z v g) (c.start ∙ sym start1)
 
-      state-is : record ((after P n (record t.state { own = (P.agents n).own }) t.sends P.history).agents n) { own = Some (with_admitted m.start m.host m.word) } ≡ t.state
-      state-is = ap {A = AgentState} {B = AgentState} (λ x. record x { own = Some (with_admitted m.start m.host m.word) }) here
+      state-is : record (S1.agents n) { own = Some v } ≡ t.state
+      state-is = ap {A = AgentState} {B = AgentState} (λ x. record x { own = Some v }) here
           ∙ ap {A = Option Membership} {B = AgentState} (λ o. record t.state { own = o }) (sym m.becomes)
 
-      other : is_other_word (P.agents n).own (Some (with_admitted m.start m.host m.word)) ≡ true
-      other = elim (cases_Bool (is_other_word (P.agents n).own (Some (with_admitted m.start m.host m.word)))) [
+      other : is_other_word (P.agents n).own (Some v) ≡ true
+      other = elim (cases_Bool (is_other_word (P.agents n).own (Some v))) [
         | inl o ↦ o
         | inr o ↦
-            let same = is_other_word-equal m.word (with_admitted m.start m.host m.word) refl (ap (λ z. is_other_word z (Some (with_admitted m.start m.host m.word))) (sym m.is_own) ∙ o) in
+            let same = is_other_word-equal m.word v refl (ap (λ z. is_other_word z (Some v)) (sym m.is_own) ∙ o) in
             absurd (not-both (names m.word m.start)
-            (subst (λ z. names z m.start ≡ true) (sym same) (names-admits (with_admitted m.start m.host m.word) m.start (with_admitted-admits m.start m.host m.word)))
+            (subst (λ z. names z m.start ≡ true) (sym same) (names-admits v m.start (with_admitted-admits m.start m.host m.word)))
             (fresh S1 H1 n m.word m.decided m.start m.host m.term out up1 own1 decided1 m.same init came1 m.term_is sends))
       ]
 
-      turn-is : t ▸ tells n (P.agents n).own ≡ record { state = t.state; sends = λ b. t.sends b ++ (says n t.state (Some (with_admitted m.start m.host m.word))).sends b }
-      turn-is = ap (λ u. record { state = u.state; sends = λ b. t.sends b ++ u.sends b }) (says-word n t.state (P.agents n).own (with_admitted m.start m.host m.word) m.becomes other)
+      turn-is : t ▸ tells n (P.agents n).own ≡ record { state = t.state; sends = λ b. t.sends b ++ (says n t.state (Some v)).sends b }
+      turn-is = ap (λ u. record { state = u.state; sends = λ b. t.sends b ++ u.sends b }) (says-word n t.state (P.agents n).own v m.becomes other)
 
   -- A turn that brings no word, and what the agent says then.
   pub calm-row : Row P n (t ▸ tells n (P.agents n).own)

@@ -1,6 +1,6 @@
 -- What is kept from one state to a later one.
-use Rattle.std.proofs.Common.{◌≡◌, List, [], ◌∷◌, ◌++◌, refl, sym, subst, ap, ◌∙◌, ◌⊎◌, inl, inr, ◌==◌}
-use Rattle.std.specs.Prelude.{ℕ, Option, Some, None}
+use Rattle.std.proofs.Common.{◌≡◌, List, [], ◌∷◌, sym, subst, ap, ◌∙◌, ◌==◌}
+use Rattle.std.specs.Prelude.{ℕ, Some}
 use Rattle.std.specs.List.{AllByRecursion, list_any}
 use Rattle.volt_wire.specs.Word.{Membership}
 use Rattle.volt_wire.specs.declared.actor.Actor.{Actor}
@@ -9,79 +9,13 @@ use Rattle.volt_wire.specs.declared.message.Msg.TheVariants as msg
 use Rattle.cluster_model.specs.Words.{start_of, with_admitted}
 use Rattle.cluster_model.specs.Letters.{Letter}
 use Rattle.cluster_model.specs.AgentState.{Queued, Job_, Admission}
-use Rattle.word_laws.proofs.Rows.{All-mono}
-use Rattle.word_laws.specs.Histories.{In, OnSome, State, Admitted, Recorded, GoodWord, SaidBy, Unnamed, AskOk, LetterOk, ClosesFrom, InOrder, CameOk, QueuedOk, WaitingFrom, OwnOk, AdmittedOk}
+use Rattle.word_laws.specs.Histories.{In, State, Admitted, Recorded, GoodWord, SaidBy, Unnamed, AskOk, LetterOk, ClosesFrom, InOrder, CameOk, QueuedOk, WaitingFrom, OwnOk, AdmittedOk}
+use Rattle.word_laws.proofs.Lists.{all-mono}
 use Rattle.word_laws.proofs.Moves.{Later}
-
--- ---- lists
-
-pub in-all : {A : Type 0} (P : A → Type 0) (xs : List A) → AllByRecursion P xs → (x : A) → In x xs → P x
-in-all P [] h x i = absurd i
-in-all P (y ∷ ys) h x (inl e) = subst P e h.0
-in-all P (y ∷ ys) h x (inr i) = in-all P ys h.1 x i
-
-pub all-in : {A : Type 0} (P : A → Type 0) (xs : List A) → ((x : A) → In x xs → P x) → AllByRecursion P xs
-all-in P [] f = tt
-all-in P (y ∷ ys) f = (f y (inl refl), all-in P ys (λ x i. f x (inr i)))
-
-pub in-left : {A : Type 0} (x : A) (xs ys : List A) → In x xs → In x (xs ++ ys)
-in-left x [] ys i = absurd i
-in-left x (z ∷ xs) ys (inl e) = inl e
-in-left x (z ∷ xs) ys (inr i) = inr (in-left x xs ys i)
-
-pub in-right : {A : Type 0} (x : A) (xs ys : List A) → In x ys → In x (xs ++ ys)
-in-right x [] ys i = i
-in-right x (z ∷ xs) ys i = inr (in-right x xs ys i)
-
-pub in-cases : {A : Type 0} (x : A) (xs ys : List A) → In x (xs ++ ys) → In x xs ⊎ In x ys
-in-cases x [] ys i = inr i
-in-cases x (z ∷ xs) ys (inl e) = inl (inl e)
-in-cases x (z ∷ xs) ys (inr i) = elim (in-cases x xs ys i) [
-  | inl k ↦ inl (inr k)
-  | inr k ↦ inr k
-]
-
--- a value that is there
-pub some-here : {A : Type 0} (P : A → Type 0) (o : Option A) (x : A) → o ≡ Some x → OnSome P o → P x
-some-here P o x e h = subst (λ y. OnSome P y) e h
-
-pub some-mono : {A : Type 0} (P Q : A → Type 0) → ((x : A) → P x → Q x) → (o : Option A) → OnSome P o → OnSome Q o
-some-mono P Q f None h = tt
-some-mono P Q f (Some x) h = f x h
 
 -- ---- what is so in S is so in a later T
 
-pub later-refl : (S : State) → Later S S
-later-refl S = record {
-  deployment = refl;
-  owner = refl;
-  first = refl;
-  earlier = λ h r s i e. e;
-  earlier_too = λ h r s e. e;
-  begun = λ s b. b;
-  gone = λ s g. g;
-  said = λ s w i. i;
-  took_word = λ s w e. e;
-  decided = λ w i. i;
-  admitted = λ x i. i;
-}
-
--- the lists of starts that began keep what is in them
-pub later-trans : (S T U : State) → ((h s : ℕ) → In s (S.history.began h) → In s (T.history.began h)) → Later S T → Later T U → Later S U
-later-trans S T U keeps f g = record {
-  deployment = g.deployment ∙ f.deployment;
-  owner = g.owner ∙ f.owner;
-  first = g.first ∙ f.first;
-  earlier = λ h r s i e. f.earlier h r s i (g.earlier h r s (keeps h s i) e);
-  earlier_too = λ h r s e. g.earlier_too h r s (f.earlier_too h r s e);
-  begun = λ s b. g.begun s (f.begun s b);
-  gone = λ s b. g.gone s (f.gone s b);
-  said = λ s w i. g.said s w (f.said s w i);
-  took_word = λ s w e. g.took_word s w (f.took_word s w e);
-  decided = λ w i. g.decided w (f.decided w i);
-  admitted = λ x i. g.admitted x (f.admitted x i);
-}
-
+-- words, messages, and what agents know
 pub recorded-later : (S T : State) → Later S T → (w : Membership) (s : ℕ) → Recorded S w s → Recorded T w s
 recorded-later S T f w s r = record { entry = r.entry; is_one = f.admitted r.entry r.is_one; same = r.same; within = r.within }
 
@@ -121,9 +55,11 @@ letter-later S T f h g l p = elim l.body as (λ m. LetterOk S h g (record l { bo
   | m ↦ λ k. tt
 ] p
 
+-- an Admit that came, where no Closed of an earlier start has come into its channel
 pub came-later : (S T : State) → Later S T → (h g term j : ℕ) → AllByRecursion (ClosesFrom (T.history.began h) j) (T.channel (Agent h) (Agent g)) → CameOk S h g term j → CameOk T h g term j
 came-later S T f h g term j c k = (ask-later S T f h g term j k.0, c)
 
+-- a Closed isn't of an earlier start, if it wasn't
 pub closes-later : (S T : State) → Later S T → (h j : ℕ) → In j (S.history.began h) → (l : Letter) → ClosesFrom (S.history.began h) j l → ClosesFrom (T.history.began h) j l
 closes-later S T f h j i l p = elim l.body as (λ m. ClosesFrom (S.history.began h) j (record l { body = m }) → ClosesFrom (T.history.began h) j (record l { body = m })) [
   | msg.Closed o ↦ λ k e. k (f.earlier h o j i e)
@@ -134,6 +70,7 @@ closes-later S T f h j i l p = elim l.body as (λ m. ClosesFrom (S.history.began
 pub ask-began : (S : State) (h g term j : ℕ) → AskOk S h g term j → In j (S.history.began h)
 ask-began S h g term j k = subst (λ x. In j (S.history.began x)) k.owned k.begun.began
 
+-- an agent's own word, where its start said nothing more
 pub own-later : (S T : State) → Later S T → (s : ℕ) (w : Membership) → T.history.said s ≡ S.history.said s → OwnOk S s w → OwnOk T s w
 own-later S T f s w e k = record {
   good = good-later S T f w k.good;
@@ -185,7 +122,7 @@ order-later S T f h g [] k o = tt
 order-later S T f h g (l ∷ ls) k o = (
   (elim l.body as (λ m. LetterOk S h g (record l { body = m }) → InOrder (S.history.began h) (record l { body = m } ∷ ls)
       → (elim m as (λ _. Type 0) [ msg.Admit j ↦ AllByRecursion (ClosesFrom (T.history.began h) j) ls | _ ↦ Unit {0} ])) [
-        | msg.Admit j ↦ λ a p. All-mono (ClosesFrom (S.history.began h) j) (ClosesFrom (T.history.began h) j) (λ x c. closes-later S T f h j (ask-began S h g l.term j a) x c) ls p.0
+        | msg.Admit j ↦ λ a p. all-mono (ClosesFrom (S.history.began h) j) (ClosesFrom (T.history.began h) j) (λ x c. closes-later S T f h j (ask-began S h g l.term j a) x c) ls p.0
         | m ↦ λ a p. tt
       ] k.0 o),
   order-later S T f h g ls k.1 o.1,

@@ -1,3 +1,5 @@
+pub mod Lists
+pub mod Channels
 pub mod Algebra
 pub mod Members
 pub mod Moves
@@ -9,6 +11,7 @@ pub mod Steps
 pub mod Epochs
 pub mod Rejoins
 pub mod Draws
+pub mod Continues
 pub mod OwnWords
 pub mod Decisions
 pub mod Goods
@@ -19,6 +22,4 @@ pub mod Letters
 pub mod AgentEvents
 pub mod Worlds
 pub mod Chain
-pub mod Rows
-pub mod Starts
-pub mod Runs
+pub mod Lost

@@ -1,85 +1,16 @@
 -- Who is a member of a word, and words that are compared one by one.
 use Rattle.std.proofs.Common.{◌≡◌, ◌≤◌, max, Bool, true, false, List, [], ◌∷◌, ◌++◌, refl, sym, ap, subst, ◌∙◌, ◌⊎◌, inl, inr, ◌==◌, arith, true≢false}
-use Rattle.std.proofs.lemmas.Bool.{cond_both, cases_Bool, cases_lt, or_cases, and_parts, and_from, or_left, or_right, not_from_true, not_from_false, eqb-true, eqb-false, leb-true, le-leb}
-use Rattle.std.proofs.lemmas.Option.{same_Some, none-some}
-use Rattle.std.specs.Prelude.{ℕ, ◌||◌, not, fold, filter, map, nat_le, Option, Some, None}
-use Rattle.std.specs.List.{AllByRecursion, list_all}
+use Rattle.std.proofs.lemmas.Bool.{cond_both, cases_Bool, cases_lt, or_cases, and_parts, or_left, or_right, not_from_true, not_from_false, eqb-true, eqb-false, leb-true, le-leb, not-true}
+use Rattle.std.proofs.lemmas.Option.{none-some}
+use Rattle.std.specs.Prelude.{ℕ, ◌||◌, not, fold, map, nat_le, Option, Some, None}
+use Rattle.std.specs.List.{list_all}
 use Rattle.volt_wire.specs.Word.{Membership}
 use Rattle.partition_ring.specs.Placement.{greater_start}
 use Rattle.cluster_model.specs.Words.{is_in, not_lost, members, start_of, is_some_of, is_member, first_of, initiator}
 use Rattle.cluster_model.specs.AgentState.{AgentState, is_initiator_in, initiates}
 use Rattle.word_laws.specs.Histories.{In, Within, Comparable, names}
-use Rattle.word_laws.proofs.Algebra.{eqb-same, all-from, all-in, any-in, in-any, within-refl, within-trans, within_test, within-tested, test-within, names-first, names-admits, names-cases}
-
--- ---- what is in a list
-
-pub in-append-left : {A : Type 0} (x : A) (xs ys : List A) → In x xs → In x (xs ++ ys)
-in-append-left x [] ys i = absurd i
-in-append-left x (y ∷ xs) ys i = elim i [
-  | inl e ↦ inl e
-  | inr k ↦ inr (in-append-left x xs ys k)
-]
-
-pub in-append-right : {A : Type 0} (x : A) (xs ys : List A) → In x ys → In x (xs ++ ys)
-in-append-right x [] ys i = i
-in-append-right x (y ∷ xs) ys i = inr (in-append-right x xs ys i)
-
-pub in-append-cases : {A : Type 0} (x : A) (xs ys : List A) → In x (xs ++ ys) → In x xs ⊎ In x ys
-in-append-cases x [] ys i = inr i
-in-append-cases x (y ∷ xs) ys i = elim i [
-  | inl e ↦ inl (inl e)
-  | inr k ↦ elim (in-append-cases x xs ys k) [
-    | inl j ↦ inl (inr j)
-    | inr j ↦ inr j
-  ]
-]
-
-pub in-map : {A B : Type 0} (f : A → B) (x : A) (xs : List A) → In x xs → In (f x) (map f xs)
-in-map f x [] i = absurd i
-in-map f x (y ∷ xs) i = elim i [
-  | inl e ↦ inl (ap f e)
-  | inr k ↦ inr (in-map f x xs k)
-]
-
--- what is in the image comes from something in the list
-pub in-map-from : {A B : Type 0} (f : A → B) (y : B) (xs : List A) → In y (map f xs) → (x : A) × In x xs × (f x ≡ y)
-in-map-from f y [] i = absurd i
-in-map-from f y (x ∷ xs) i = elim i [
-  | inl e ↦ (x, inl refl, e)
-  | inr k ↦ let r = in-map-from f y xs k in (r.0, inr r.1, r.2)
-]
-
-pub in-filter : {A : Type 0} (p : A → Bool) (x : A) (xs : List A) → In x (filter p xs) → In x xs × (p x ≡ true)
-in-filter p x [] i = absurd i
-in-filter p x (y ∷ ys) i = cond_both (p y) (y ∷ filter p ys) (filter p ys) (λ l. In x l → In x (y ∷ ys) × (p x ≡ true))
-    (λ e j. elim j [
-      | inl k ↦ (inl k, ap p (sym k) ∙ e)
-      | inr k ↦ let r = in-filter p x ys k in (inr r.0, r.1)
-    ])
-    (λ _ k. let r = in-filter p x ys k in (inr r.0, r.1)) i
-
-pub filter-in : {A : Type 0} (p : A → Bool) (x : A) (xs : List A) → In x xs → p x ≡ true → In x (filter p xs)
-filter-in p x [] i e = absurd i
-filter-in p x (y ∷ ys) i e = cond_both (p y) (y ∷ filter p ys) (filter p ys) (λ l. In x l)
-    (λ _. elim i [
-      | inl k ↦ inl k
-      | inr k ↦ inr (filter-in p x ys k e)
-    ])
-    (λ n. elim i [
-      | inl k ↦ absurd (true≢false (sym e ∙ ap p (sym k) ∙ n))
-      | inr k ↦ filter-in p x ys k e
-    ])
-
-pub all-at : {A : Type 0} (P : A → Type 0) (x : A) (xs : List A) → AllByRecursion P xs → In x xs → P x
-all-at P x [] h i = absurd i
-all-at P x (y ∷ ys) h i = elim i [
-  | inl e ↦ subst P e h.0
-  | inr k ↦ all-at P x ys h.1 k
-]
-
-pub all-by : {A : Type 0} (P : A → Type 0) (xs : List A) → ((x : A) → In x xs → P x) → AllByRecursion P xs
-all-by P [] f = tt
-all-by P (x ∷ xs) f = (f x (inl refl), all-by P xs (λ y i. f y (inr i)))
+use Rattle.word_laws.proofs.Lists.{eqb-same, list_all-from, list_all-at, list_any-in, list_any-from, same-some, in-left, in-right, in-cases, in-map, in-map-from, in-filter, filter-in, all-at}
+use Rattle.word_laws.proofs.Algebra.{StartsOwned, HostsOwned, within-cases, within-refl, within-trans, names-first, names-admits, names-cases}
 
 -- ---- the start that stands with a host
 
@@ -87,7 +18,7 @@ abbrev StartIs : ℕ → Option ℕ → List (ℕ × ℕ) → ℕ → Type 0
 StartIs h o ms s = fold (greater_start h) o ms ≡ Some s
 
 from-some : (h t s : ℕ) (ms : List (ℕ × ℕ)) → StartIs h (Some t) ms s → (s ≡ t) ⊎ In (h, s) ms
-from-some h t s [] e = inl (sym (same_Some t s e))
+from-some h t s [] e = inl (sym (same-some e))
 from-some h t s (m ∷ ms) k = cond_both (m.0 == h) (max t m.1) t (λ x. StartIs h (Some x) ms s → (s ≡ t) ⊎ In (h, s) (m ∷ ms))
     (λ e j. elim (from-some h (max t m.1) s ms j) [
       | inl q ↦ either (eqb-true m.0 h e) (larger t m.1 s q)
@@ -172,16 +103,18 @@ stays w m = not (is_in m.1 w.lost)
 abbrev all_named : Membership → List (ℕ × ℕ)
 all_named w = w.first ++ map (λ a. (a.1, a.0)) w.admitted
 
+-- the start that a word has for a host is one of its members, and conversely
 pub start-in-members : (w : Membership) (h s : ℕ) → start_of w h ≡ Some s → In (h, s) (members w)
 start-in-members w h s e = from-none h s (members w) e
 
 pub members-not_lost : (w : Membership) (h s : ℕ) → In (h, s) (members w) → In (h, s) (not_lost w)
 members-not_lost w h s i = (in-filter (greatest (not_lost w)) (h, s) (not_lost w) i).0
 
+-- no start of its host that isn't lost is greater than a member
 pub members-greatest : (w : Membership) (h r s : ℕ) → In (h, s) (members w) → In (h, r) (not_lost w) → r ≤ s
 members-greatest w h r s i j =
     let g = (in-filter (greatest (not_lost w)) (h, s) (not_lost w) i).1 in
-    let a = all-in (λ n. not (n.0 == h) || nat_le n.1 s) (not_lost w) (h, r) g j in
+    let a = list_all-at (λ n. not (n.0 == h) || nat_le n.1 s) (not_lost w) (h, r) g j in
     elim (or_cases (not (h == h)) (nat_le r s) a) [
       | inl k ↦ absurd (true≢false (sym k ∙ not_from_true (h == h) (eqb-same h)))
       | inr k ↦ leb-true r s k
@@ -194,82 +127,69 @@ member-start w h s i =
     let e : f.0 ≡ s = omega (arith, f.2, members-greatest w h f.0 s i j) in
     f.1 ∙ ap Some e
 
-stays-is : (w : Membership) (s : ℕ) → not (is_in s w.lost) ≡ true → is_in s w.lost ≡ false
-stays-is w s e = by (is_in s w.lost) e
-  where
-    by : (b : Bool) → not b ≡ true → b ≡ false
-    by true e = sym e
-    by false e = refl
-
-module _ (owner : ℕ → ℕ) (w : Membership) (fo : AllByRecursion (λ m. owner m.1 ≡ m.0) w.first) (ao : AllByRecursion (λ a. owner a.0 ≡ a.1) w.admitted) where
+module _ (owner : ℕ → ℕ) (w : Membership) (fo : HostsOwned owner w.first) (ao : StartsOwned owner w.admitted) where
   named-in : (s : ℕ) → names w s ≡ true → In (owner s, s) (all_named w)
   named-in s e = elim (names-cases w s e) [
     | inl k ↦
-        let r = in-any (λ m. m.1 == s) w.first k in
+        let r = list_any-from (λ m. m.1 == s) w.first k in
         let q = eqb-true r.0.1 s r.2 in
-        let o = sym (all-at (λ m. owner m.1 ≡ m.0) r.0 w.first fo r.1) ∙ ap owner q in
-        in-append-left (owner s, s) w.first (map (λ a. (a.1, a.0)) w.admitted) (subst (λ x. In x w.first) (λ i. (o i, q i)) r.1)
+        let o = sym (all-at (λ m. owner m.1 ≡ m.0) w.first fo r.0 r.1) ∙ ap owner q in
+        in-left (owner s, s) w.first (map (λ a. (a.1, a.0)) w.admitted) (subst (λ x. In x w.first) (λ i. (o i, q i)) r.1)
     | inr k ↦
-        let r = in-any (λ a. a.0 == s) w.admitted k in
+        let r = list_any-from (λ a. a.0 == s) w.admitted k in
         let q = eqb-true r.0.0 s r.2 in
-        let o = sym (all-at (λ a. owner a.0 ≡ a.1) r.0 w.admitted ao r.1) ∙ ap owner q in
-        in-append-right (owner s, s) w.first (map (λ a. (a.1, a.0)) w.admitted)
+        let o = sym (all-at (λ a. owner a.0 ≡ a.1) w.admitted ao r.0 r.1) ∙ ap owner q in
+        in-right (owner s, s) w.first (map (λ a. (a.1, a.0)) w.admitted)
         (subst (λ x. In x (map (λ a. (a.1, a.0)) w.admitted)) (λ i. (o i, q i)) (in-map (λ a. (a.1, a.0)) r.0 w.admitted r.1))
   ]
 
   in-named : (h s : ℕ) → In (h, s) (all_named w) → (names w s ≡ true) × (owner s ≡ h)
-  in-named h s i = elim (in-append-cases (h, s) w.first (map (λ a. (a.1, a.0)) w.admitted) i) [
-    | inl k ↦ (names-first w s (any-in (λ m. m.1 == s) w.first (h, s) k (eqb-same s)), all-at (λ m. owner m.1 ≡ m.0) (h, s) w.first fo k)
+  in-named h s i = elim (in-cases (h, s) w.first (map (λ a. (a.1, a.0)) w.admitted) i) [
+    | inl k ↦ (names-first w s (list_any-in (λ m. m.1 == s) w.first (h, s) k (eqb-same s)), all-at (λ m. owner m.1 ≡ m.0) w.first fo (h, s) k)
     | inr k ↦
         let r = in-map-from (λ a. (a.1, a.0)) (h, s) w.admitted k in
         let q : r.0.0 ≡ s = ap (λ x. x.1) r.2 in
         let p : r.0.1 ≡ h = ap (λ x. x.0) r.2 in
         let j = subst (λ x. In x w.admitted) (λ i. (q i, p i)) r.1 in
-        (names-admits w s (any-in (λ a. a.0 == s) w.admitted (s, h) j (eqb-same s)), all-at (λ a. owner a.0 ≡ a.1) (s, h) w.admitted ao j)
+        (names-admits w s (list_any-in (λ a. a.0 == s) w.admitted (s, h) j (eqb-same s)), all-at (λ a. owner a.0 ≡ a.1) w.admitted ao (s, h) j)
   ]
 
+  -- who is there and not lost is named, not lost, and its host's
   pub in-not_lost : (h s : ℕ) → In (h, s) (not_lost w) → (names w s ≡ true) × (is_in s w.lost ≡ false) × (owner s ≡ h)
   in-not_lost h s i =
       let f = in-filter (stays w) (h, s) (all_named w) i in
       let n = in-named h s f.0 in
-      (n.0, stays-is w s f.1, n.1)
+      (n.0, not-true (is_in s w.lost) f.1, n.1)
 
   not_lost-in : (s : ℕ) → names w s ≡ true → is_in s w.lost ≡ false → In (owner s, s) (not_lost w)
   not_lost-in s e n = filter-in (stays w) (owner s, s) (all_named w) (named-in s e) (not_from_false (is_in s w.lost) n)
 
-  by_greatest : (s : ℕ) → names w s ≡ true → is_in s w.lost ≡ false
+  member-of-greatest : (s : ℕ) → names w s ≡ true → is_in s w.lost ≡ false
       → ((r : ℕ) → names w r ≡ true → owner r ≡ owner s → is_in r w.lost ≡ false → r ≤ s) → In (owner s, s) (members w)
-  by_greatest s e n most = filter-in (greatest (not_lost w)) (owner s, s) (not_lost w) (not_lost-in s e n)
-      (all-from (λ m. not (m.0 == owner s) || nat_le m.1 s) (not_lost w) (λ m i. let k = in-not_lost m.0 m.1 i in elim (cases_Bool (m.0 == owner s)) [
+  member-of-greatest s e n most = filter-in (greatest (not_lost w)) (owner s, s) (not_lost w) (not_lost-in s e n)
+      (list_all-from (λ m. not (m.0 == owner s) || nat_le m.1 s) (not_lost w) (λ m i. let k = in-not_lost m.0 m.1 i in elim (cases_Bool (m.0 == owner s)) [
         | inl q ↦ or_right (not (m.0 == owner s)) (nat_le m.1 s) (le-leb m.1 s (most m.1 k.0 (k.2 ∙ eqb-true m.0 (owner s) q) k.1))
         | inr q ↦ or_left (not (m.0 == owner s)) (nat_le m.1 s) (not_from_false (m.0 == owner s) q)
       ]))
 
-pub start_of-named : (owner : ℕ → ℕ) (w : Membership) (h s : ℕ) → AllByRecursion (λ m. owner m.1 ≡ m.0) w.first → AllByRecursion (λ a. owner a.0 ≡ a.1) w.admitted
+-- a member is named, not lost, and its host's
+pub start_of-named : (owner : ℕ → ℕ) (w : Membership) (h s : ℕ) → HostsOwned owner w.first → StartsOwned owner w.admitted
     → start_of w h ≡ Some s → (names w s ≡ true) × (is_in s w.lost ≡ false) × (owner s ≡ h)
 start_of-named owner w h s fo ao e = in-not_lost owner w fo ao h s (members-not_lost w h s (start-in-members w h s e))
 
-pub start_of-greatest : (owner : ℕ → ℕ) (w : Membership) (s : ℕ) → AllByRecursion (λ m. owner m.1 ≡ m.0) w.first → AllByRecursion (λ a. owner a.0 ≡ a.1) w.admitted
+-- who is named and not lost, and is the greatest such of its host, is a member
+pub start_of-greatest : (owner : ℕ → ℕ) (w : Membership) (s : ℕ) → HostsOwned owner w.first → StartsOwned owner w.admitted
     → names w s ≡ true → is_in s w.lost ≡ false
     → ((r : ℕ) → names w r ≡ true → owner r ≡ owner s → is_in r w.lost ≡ false → r ≤ s) → start_of w (owner s) ≡ Some s
-start_of-greatest owner w s fo ao e n most = member-start w (owner s) s (by_greatest owner w fo ao s e n most)
+start_of-greatest owner w s fo ao e n most = member-start w (owner s) s (member-of-greatest owner w fo ao s e n most)
 
--- and of a member: no other start of its host that is named and not lost is greater
-pub start_of-most : (owner : ℕ → ℕ) (w : Membership) (h r s : ℕ) → AllByRecursion (λ m. owner m.1 ≡ m.0) w.first → AllByRecursion (λ a. owner a.0 ≡ a.1) w.admitted
-    → start_of w h ≡ Some s → names w r ≡ true → owner r ≡ h → is_in r w.lost ≡ false → r ≤ s
-start_of-most owner w h r s fo ao e k o n =
-    members-greatest w h r s (start-in-members w h s e) (subst (λ x. In (x, r) (not_lost w)) o (not_lost-in owner w fo ao r k n))
-
+-- a test that all members pass is passed by each
 pub members-all : (w : Membership) (p : ℕ × ℕ → Bool) (h s : ℕ) → list_all p (members w) ≡ true → start_of w h ≡ Some s → p (h, s) ≡ true
-members-all w p h s a e = all-in p (members w) (h, s) a (start-in-members w h s e)
-
--- the converse: what holds of each host's start holds of all members
-pub all-members : (w : Membership) (p : ℕ × ℕ → Bool) → ((h s : ℕ) → start_of w h ≡ Some s → p (h, s) ≡ true) → list_all p (members w) ≡ true
-all-members w p f = all-from p (members w) (λ m i. f m.0 m.1 (member-start w m.0 m.1 i))
+members-all w p h s a e = list_all-at p (members w) (h, s) a (start-in-members w h s e)
 
 first-in : {A : Type 0} (x : A) (xs : List A) → first_of xs ≡ Some x → In x xs
 first-in x [] e = absurd (none-some x e)
-first-in x (y ∷ ys) e = inl (same_Some y x e)
+first-in x (y ∷ ys) e = inl (same-some e)
 
 pub initiator-member : (w : Membership) (h s : ℕ) → initiator w ≡ Some (h, s) → start_of w h ≡ Some s
 initiator-member w h s e = member-start w h s (first-in (h, s) (members w) e)
@@ -293,19 +213,10 @@ initiator_in-is h s (Some m) e =
 pub initiates-is : (h : ℕ) (a : AgentState) (w : Membership) → initiates h a (Some w) ≡ true → initiator w ≡ Some (h, a.start)
 initiates-is h a w e = initiator_in-is h a.start (initiator w) e
 
-pub initiates-from : (h : ℕ) (a : AgentState) (w : Membership) → initiator w ≡ Some (h, a.start) → initiates h a (Some w) ≡ true
-initiates-from h a w e = ap (is_initiator_in h a.start) e ∙ and_from (h == h) (a.start == a.start) (eqb-same h) (eqb-same a.start)
-
 -- ---- words of which any two can be compared
 
 abbrev pub Comparing : List Membership → Type 0
 Comparing ds = (v w : Membership) → In v ds → In w ds → Comparable v w
-
-within-or-not : (v w : Membership) → Within v w ⊎ (Within v w → ⊥)
-within-or-not v w = elim (cases_Bool (within_test v w)) [
-  | inl e ↦ inl (within-tested v w e)
-  | inr n ↦ inr (λ h. true≢false (sym (test-within v w h) ∙ n))
-]
 
 fewer : (d : Membership) (ds : List Membership) → Comparing (d ∷ ds) → Comparing ds
 fewer d ds c v w i j = c v w (inr i) (inr j)
@@ -317,7 +228,7 @@ Best V ds = (best : Membership) × In best ds × Within best V × ((d : Membersh
 -- none of these is within V, or there is a greatest
 best-or-none : (V : Membership) (ds : List Membership) → Comparing ds → ((d : Membership) → In d ds → Within d V → ⊥) ⊎ Best V ds
 best-or-none V [] c = inl (λ d i h. i)
-best-or-none V (w ∷ ds) c = elim (within-or-not w V) [
+best-or-none V (w ∷ ds) c = elim (within-cases w V) [
   | inr n ↦ elim (best-or-none V ds (fewer w ds c)) [
     | inl none ↦ inl (λ d i h. elim i [
       | inl e ↦ n (subst (λ x. Within x V) (sym e) h)
@@ -366,6 +277,7 @@ best-or-none V (w ∷ ds) c = elim (within-or-not w V) [
   ]
 ]
 
+-- of words of which one is within V there is a greatest
 pub best-within : (V : Membership) (ds : List Membership) (c : Membership) → Comparing ds → In c ds → Within c V
     → (best : Membership) × In best ds × Within best V × ((d : Membership) → In d ds → Within d V → Within d best)
 best-within V ds c k i h = elim (best-or-none V ds k) [
@@ -377,7 +289,7 @@ best-within V ds c k i h = elim (best-or-none V ds k) [
 pub least-outside : (V : Membership) (ds : List Membership) → Comparing ds
     → ((d : Membership) → In d ds → Within d V) ⊎ ((u : Membership) × In u ds × (Within u V → ⊥) × ((d : Membership) → In d ds → (Within d V → ⊥) → Within u d))
 least-outside V [] c = inl (λ d i. absurd i)
-least-outside V (w ∷ ds) c = elim (within-or-not w V) [
+least-outside V (w ∷ ds) c = elim (within-cases w V) [
   | inl y ↦ elim (least-outside V ds (fewer w ds c)) [
     | inl all ↦ inl (λ d i. elim i [
       | inl e ↦ subst (λ x. Within x V) e y

@@ -1,16 +1,16 @@
--- What an agent's turn changes, and what is kept from one state to a later one.
-use Rattle.std.proofs.Common.{◌≡◌, ◌<◌, Bool, true, false, List, [], ◌∷◌, ◌++◌, ◌⊎◌, ◌==◌}
+-- Of what the proofs speak: the state after a turn, what is kept in a later one, turns that bring no word, and events of agents.
+use Rattle.std.proofs.Common.{◌≡◌, ◌<◌, true, false, List, [], ◌∷◌, ◌++◌, ◌⊎◌, ◌==◌}
 use Rattle.std.specs.Prelude.{ℕ, Option, Some, None}
 use Rattle.std.specs.List.{AllByRecursion, list_any}
 use Rattle.volt_wire.specs.Word.{Membership}
 use Rattle.volt_wire.specs.declared.actor.Actor.{Actor}
-use Rattle.volt_wire.specs.declared.actor.Actor.TheVariants.{Director, Client, Agent, Site, Scanner}
+use Rattle.volt_wire.specs.declared.actor.Actor.TheVariants.{Agent}
 use Rattle.volt_wire.specs.declared.message.Msg.TheVariants as msg
 use Rattle.cluster_model.specs.Words.{is_in, term_of, same_word, admits, with_admitted}
 use Rattle.cluster_model.specs.Letters.{Letter, Sends, Turn}
 use Rattle.cluster_model.specs.AgentState.{AgentState, Queued, Admission}
 use Rattle.cluster_model.specs.World.{took, sent, set_at}
-use Rattle.word_laws.specs.Histories.{In, OnSome, State, History, Admitted, Begun, Gone, IsOff, OwnIs, Earlier, Holds, start_at, names}
+use Rattle.word_laws.specs.Histories.{In, State, History, Admitted, Begun, Gone, IsOff, OwnIs, Earlier, Holds, start_at, names}
 
 -- ---- states
 
@@ -94,6 +94,16 @@ BringsWord (Agent g) l = elim l.body as (λ _. Type 0) [
 ]
 BringsWord from l = ⊥
 
+-- ---- what an agent's own word says
+
+-- that this start is lost
+abbrev pub OwnLost : ℕ → AgentState → Type 0
+OwnLost o a = OwnIs (λ w. is_in o w.lost ≡ true) a
+
+-- that this start was admitted
+abbrev pub OwnAdmits : ℕ → AgentState → Type 0
+OwnAdmits j a = OwnIs (λ w. admits w j ≡ true) a
+
 -- ---- a message that may be forgotten
 
 -- The agent of host n has heeded a message from another agent: what it says of words is in its own word.
@@ -101,10 +111,10 @@ abbrev pub Heeded : State → ℕ → Letter → Type 0
 Heeded S n l = elim l.body as (λ _. Type 0) [
   | msg.Word base lost admitted ↦
       0 < start_at S n → l.start ≡ start_at S n
-      → ((S.agents n).own ≡ None) ⊎ ((j : ℕ) → list_any (λ a. a.0 == j) admitted ≡ true → OwnIs (λ w. admits w j ≡ true) (S.agents n))
+      → ((S.agents n).own ≡ None) ⊎ ((j : ℕ) → list_any (λ a. a.0 == j) admitted ≡ true → OwnAdmits j (S.agents n))
   | msg.Closed o ↦
       0 < start_at S n
-      → OwnIs (λ w. is_in o w.lost ≡ true) (S.agents n) ⊎ ((w : Membership) → In w (S.history.said o) → names w (start_at S n) ≡ false)
+      → OwnLost o (S.agents n) ⊎ ((w : Membership) → In w (S.history.said o) → names w (start_at S n) ≡ false)
   | _ ↦ Unit {0}
 ]
 

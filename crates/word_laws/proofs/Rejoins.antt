@@ -7,30 +7,18 @@ use Rattle.std.specs.List.{AllByRecursion, list_any}
 use Rattle.volt_wire.specs.Word.{Membership}
 use Rattle.volt_wire.specs.declared.actor.Actor.TheVariants.{Director, Agent}
 use Rattle.volt_wire.specs.declared.message.Msg.TheVariants as msg
-use Rattle.cluster_model.specs.Words.{Deployment, is_host, is_in, admits}
+use Rattle.cluster_model.specs.Words.{Deployment, is_host, admits}
 use Rattle.cluster_model.specs.Letters.{Letter, Sends, open_letter}
 use Rattle.cluster_model.specs.AgentState.{AgentState, new_agent, stops_with_host}
 use Rattle.cluster_model.specs.Agent.{on_start}
 use Rattle.cluster_model.specs.World.{set_at, took, rest}
 use Rattle.cluster_model.specs.Laws.{RiseFrom, starts_in}
-use Rattle.word_laws.proofs.Rows.{All-mono, All-append, All-if}
-use Rattle.word_laws.proofs.Starts.{rise-lower}
-use Rattle.word_laws.specs.Histories.{In, names, Admitted, History, State, start_at, starts_to, Begun, Runs, Gone, Earlier, HostOk, GoodWord, SaidBy, Unnamed, LetterOk, ClosesFrom, InOrder, ChannelOk, CameOk, QueuedOk, WaitingOk, OwnOk, AgentOk, HistoryOk, Telling, Closing, OwnIs, Told, Heard, Holds}
-use Rattle.word_laws.proofs.Moves.{Later, Grows, Goes, after, popped}
-use Rattle.word_laws.proofs.Steps.{Telling-append, Closing-left, earlier-in}
-use Rattle.word_laws.proofs.Laters.{in-all, some-mono, good-later, said_by-later, letter-later, came-later, closes-later, ask-began, own-later, admitted_ok-later, waiting-later, queued-later, order-later}
-
--- ---- places
-
-pub set-here : {A : Type 0} (f : ℕ → A) (n : ℕ) (v : A) → set_at f n v n ≡ v
-set-here f n v = let e : (n == n) ≡ true = grind (arith, nat_tests) in rw e
-
-pub set-there : {A : Type 0} (f : ℕ → A) (n : ℕ) (v : A) (g : ℕ) → (g ≡ n → ⊥) → set_at f n v g ≡ f g
-set-there f n v g d = let e : (g == n) ≡ false = grind (arith, nat_tests, d) in rw e
-
-pub and_none : (c : Bool) → (c && false) ≡ false
-and_none true = refl
-and_none false = refl
+use Rattle.word_laws.specs.Histories.{In, names, Admitted, History, State, start_at, starts_to, Begun, Runs, Gone, Earlier, HostOk, GoodWord, Unnamed, LetterOk, ClosesFrom, InOrder, ChannelOk, CameOk, AgentOk, HistoryOk, Telling, Closing, Told, Heard, Holds}
+use Rattle.word_laws.proofs.Lists.{all-mono, all-append, all-if, all-at, and-false, set-here, set-there, rise-lower, in-none, all-both, rise-above}
+use Rattle.word_laws.proofs.Channels.{telling-left, closing-left}
+use Rattle.word_laws.proofs.Moves.{OwnLost, OwnAdmits, Later, Grows, Goes, after, popped}
+use Rattle.word_laws.proofs.Laters.{letter-later, came-later, closes-later, ask-began, order-later}
+use Rattle.word_laws.proofs.Steps.{history-renewed, agent-later, earlier-in}
 
 -- ---- channels
 
@@ -43,16 +31,16 @@ FirstSays s k l = elim l.body as (λ _. Type 0) [
 ]
 
 -- letters behind others, where those behind are in order and no Admit comes before an earlier Closed
-order-append : (S : State) (g f : ℕ) (began : List ℕ) (xs ys : List Letter) → AllByRecursion (LetterOk S g f) xs → InOrder began xs → InOrder began ys
+order-asked : (S : State) (g f : ℕ) (began : List ℕ) (xs ys : List Letter) → AllByRecursion (LetterOk S g f) xs → InOrder began xs → InOrder began ys
     → ((j : ℕ) → In j (S.history.began g) → AllByRecursion (ClosesFrom began j) ys) → InOrder began (xs ++ ys)
-order-append S g f began [] ys h o p k = p
-order-append S g f began (l ∷ ls) ys h o p k = (
+order-asked S g f began [] ys h o p k = p
+order-asked S g f began (l ∷ ls) ys h o p k = (
   (elim l.body as (λ m. LetterOk S g f (record l { body = m }) → (elim m as (λ _. Type 0) [ msg.Admit j ↦ AllByRecursion (ClosesFrom began j) ls | _ ↦ Unit {0} ])
       → (elim m as (λ _. Type 0) [ msg.Admit j ↦ AllByRecursion (ClosesFrom began j) (ls ++ ys) | _ ↦ Unit {0} ])) [
-        | msg.Admit j ↦ λ a q. All-append (ClosesFrom began j) ls ys q (k j (ask-began S g f l.term j a))
+        | msg.Admit j ↦ λ a q. all-append (ClosesFrom began j) ls ys q (k j (ask-began S g f l.term j a))
         | m ↦ λ a q. tt
       ] h.0 o.0),
-  order-append S g f began ls ys h.1 o.1 p k,
+  order-asked S g f began ls ys h.1 o.1 p k,
 )
 
 first-order : (s k : ℕ) (began : List ℕ) (ls : List Letter) → AllByRecursion (FirstSays s k) ls → InOrder began ls
@@ -188,7 +176,7 @@ module _ (S : State) (n s k : ℕ) (out : Sends) (h : Holds S) (c : TakesStart S
     pub from : (g ≡ n) ⊎ (more ≡ [])
 
   left-there : (g f : ℕ) → took S.channel Director (Agent n) (Agent g) (Agent f) ≡ S.channel (Agent g) (Agent f)
-  left-there g f = let e : ((n == f) && false) ≡ false = and_none (n == f) in rw e
+  left-there g f = let e : ((n == f) && false) ≡ false = and-false (n == f) in rw e
 
   grows : (g f : ℕ) → Adds g f
   grows g f = choice (n == g) refl
@@ -218,18 +206,10 @@ module _ (S : State) (n s k : ℕ) (out : Sends) (h : Holds S) (c : TakesStart S
   rest-rises : RiseFrom (s + 1) (starts_in (rest (S.channel Director (Agent n))))
   rest-rises = let a = subst (λ xs. RiseFrom 0 xs) c.comes (h.hosts n).rising in a.1
 
-  rise-above : (low : ℕ) (xs : List ℕ) → RiseFrom low xs → AllByRecursion (λ x. low ≤ x) xs
-  rise-above low [] r = tt
-  rise-above low (x ∷ xs) r = (r.0, All-mono (λ y. x + 1 ≤ y) (λ y. low ≤ y) (λ y l. omega (arith, r.0, l)) xs (rise-above (x + 1) xs r.1))
-
-  both : (P Q R : ℕ → Type 0) → ((x : ℕ) → P x → Q x → R x) → (xs : List ℕ) → AllByRecursion P xs → AllByRecursion Q xs → AllByRecursion R xs
-  both P Q R f [] p q = tt
-  both P Q R f (x ∷ xs) p q = (f x p.0 q.0, both P Q R f xs p.1 q.1)
-
   rest-fresh : AllByRecursion (λ x. In x (s ∷ S.history.began n) → ⊥) (starts_in (rest (S.channel Director (Agent n))))
   rest-fresh =
       let a = subst (λ xs. AllByRecursion (λ x. In x (S.history.began n) → ⊥) xs) c.comes (h.hosts n).fresh in
-      both (λ x. s + 1 ≤ x) (λ x. In x (S.history.began n) → ⊥) (λ x. In x (s ∷ S.history.began n) → ⊥)
+      all-both (λ x. s + 1 ≤ x) (λ x. In x (S.history.began n) → ⊥) (λ x. In x (s ∷ S.history.began n) → ⊥)
       (λ x l f i. elim i [ inl e ↦ absurd (omega (arith, l, e)) | inr j ↦ f j ])
       (starts_in (rest (S.channel Director (Agent n)))) (rise-above (s + 1) (starts_in (rest (S.channel Director (Agent n)))) rest-rises) a.1
 
@@ -275,7 +255,7 @@ module _ (S : State) (n s k : ℕ) (out : Sends) (h : Holds S) (c : TakesStart S
 
   -- no Closed of it comes behind an Admit
   first-closes : (g j : ℕ) → g ≡ n → In j (S.history.began g) → (ls : List Letter) → AllByRecursion (FirstSays s k) ls → AllByRecursion (ClosesFrom (T.history.began g) j) ls
-  first-closes g j e i ls a = All-mono (FirstSays s k) (ClosesFrom (T.history.began g) j) (λ l p. one l p) ls a
+  first-closes g j e i ls a = all-mono (FirstSays s k) (ClosesFrom (T.history.began g) j) (λ l p. one l p) ls a
     where
       one : (l : Letter) → FirstSays s k l → ClosesFrom (T.history.began g) j l
       one l p = elim l.body as (λ m. FirstSays s k (record l { body = m }) → ClosesFrom (T.history.began g) j (record l { body = m })) [
@@ -287,7 +267,7 @@ module _ (S : State) (n s k : ℕ) (out : Sends) (h : Holds S) (c : TakesStart S
   not-running z r = let e : k ≡ s = sym run-here ∙ ap (λ y. start_at T y) (sym drawn.0) ∙ r in absurd (omega (arith, e, z, drawn.1))
 
   first-letters : (g f : ℕ) → g ≡ n → (ls : List Letter) → AllByRecursion (FirstSays s k) ls → AllByRecursion (LetterOk T g f) ls
-  first-letters g f e ls a = All-mono (FirstSays s k) (LetterOk T g f) (λ l p. one l p) ls a
+  first-letters g f e ls a = all-mono (FirstSays s k) (LetterOk T g f) (λ l p. one l p) ls a
     where
       one : (l : Letter) → FirstSays s k l → LetterOk T g f l
       one l p = elim l.body as (λ m. FirstSays s k (record l { body = m }) → LetterOk T g f (record l { body = m })) [
@@ -303,10 +283,10 @@ module _ (S : State) (n s k : ℕ) (out : Sends) (h : Holds S) (c : TakesStart S
       let r = grows g f in
       let old : AllByRecursion (LetterOk S g f) (S.channel (Agent g) (Agent f)) = (h.channels g f).letters in
       record {
-        letters = rw r.ends (All-append (LetterOk T g f) (S.channel (Agent g) (Agent f)) r.more
-            (All-mono (LetterOk S g f) (LetterOk T g f) (λ l p. letter-later S T later g f l p) (S.channel (Agent g) (Agent f)) old)
+        letters = rw r.ends (all-append (LetterOk T g f) (S.channel (Agent g) (Agent f)) r.more
+            (all-mono (LetterOk S g f) (LetterOk T g f) (λ l p. letter-later S T later g f l p) (S.channel (Agent g) (Agent f)) old)
             (elim r.from [ inl e ↦ first-letters g f e r.more r.says | inr z ↦ subst (λ ls. AllByRecursion (LetterOk T g f) ls) (sym z) tt ]));
-        ordered = rw r.ends (order-append S g f (T.history.began g) (S.channel (Agent g) (Agent f)) r.more old
+        ordered = rw r.ends (order-asked S g f (T.history.began g) (S.channel (Agent g) (Agent f)) r.more old
             (order-later S T later g f (S.channel (Agent g) (Agent f)) old (h.channels g f).ordered)
             (first-order s k (T.history.began g) r.more r.says)
             (λ j i. more-closes g f r j i));
@@ -321,8 +301,8 @@ module _ (S : State) (n s k : ℕ) (out : Sends) (h : Holds S) (c : TakesStart S
       let r = grows g f in
       let i = ask-began S g f term j a.0 in
       came-later S T later g f term j
-      (subst (λ ls. AllByRecursion (ClosesFrom (T.history.began g) j) ls) (sym r.ends) (All-append (ClosesFrom (T.history.began g) j) (S.channel (Agent g) (Agent f)) r.more
-      (All-mono (ClosesFrom (S.history.began g) j) (ClosesFrom (T.history.began g) j) (λ l p. closes-later S T later g j i l p) (S.channel (Agent g) (Agent f)) a.1)
+      (subst (λ ls. AllByRecursion (ClosesFrom (T.history.began g) j) ls) (sym r.ends) (all-append (ClosesFrom (T.history.began g) j) (S.channel (Agent g) (Agent f)) r.more
+      (all-mono (ClosesFrom (S.history.began g) j) (ClosesFrom (T.history.began g) j) (λ l p. closes-later S T later g j i l p) (S.channel (Agent g) (Agent f)) a.1)
       (elim r.from [ inl e ↦ first-closes g j e i r.more r.says | inr z ↦ subst (λ ls. AllByRecursion (ClosesFrom (T.history.began g) j) ls) (sym z) tt ])))
       a
 
@@ -336,14 +316,10 @@ module _ (S : State) (n s k : ℕ) (out : Sends) (h : Holds S) (c : TakesStart S
   ]
 
   nothing-said : (w : Membership) → In w (S.history.said s) → ⊥
-  nothing-said w i = not-begun ((in-all (GoodWord S) (S.history.said s) (h.history.said_good s) w i).named_begun s (in-all (λ v. names v s ≡ true) (S.history.said s) (h.history.said_names s) w i))
-
-  empty : {A : Type 0} (xs : List A) → ((x : A) → In x xs → ⊥) → xs ≡ []
-  empty [] f = refl
-  empty (x ∷ xs) f = absurd (f x (inl refl))
+  nothing-said w i = not-begun ((all-at (GoodWord S) (S.history.said s) (h.history.said_good s) w i).named_begun s (all-at (λ v. names v s ≡ true) (S.history.said s) (h.history.said_names s) w i))
 
   said-none : S.history.said s ≡ []
-  said-none = empty (S.history.said s) nothing-said
+  said-none = in-none (S.history.said s) nothing-said
 
   took-none : (o : Option Membership) → S.history.took s ≡ o → o ≡ None
   took-none None e = refl
@@ -378,19 +354,7 @@ module _ (S : State) (n s k : ℕ) (out : Sends) (h : Holds S) (c : TakesStart S
   }
 
   agent-kept : (g : ℕ) (a : AgentState) → AgentOk S g a → AgentOk T g a
-  agent-kept g a k = record {
-    own = some-mono (OwnOk S a.start) (OwnOk T a.start) (λ w o. own-later S T later a.start w refl o) a.own k.own;
-    alone = λ u e. let x = k.alone u e in (unnamed-kept a.start x.0, x.1);
-    decided = k.decided;
-    taken = k.taken;
-    untaken = k.untaken;
-    wordless = k.wordless;
-    joins = k.joins;
-    heard = λ f. some-mono (SaidBy S f) (SaidBy T f) (λ w o. said_by-later S T later f w o) (a.said f) (k.heard f);
-    waiting = All-mono (WaitingOk S g) (WaitingOk T g) (λ x p. waiting-later S T g (λ f term j q. came g f term j q) x.from x.letter p) a.waiting k.waiting;
-    queue = All-mono (QueuedOk S g) (QueuedOk T g) (λ x p. queued-later S T g (λ f term j q. came g f term j q) x p) a.initiating.queue k.queue;
-    initiates = k.initiates;
-  }
+  agent-kept g a k = agent-later S T later g a refl refl (λ up e x i q. i) (came g) k
 
   agent-ok : (g : ℕ) → AgentOk T g (T.agents g)
   agent-ok g = elim (cases_eq g n) [
@@ -401,35 +365,17 @@ module _ (S : State) (n s k : ℕ) (out : Sends) (h : Holds S) (c : TakesStart S
   -- ---- the history
 
   history-ok : HistoryOk T
-  history-ok = let o = h.history in record {
-    first_owned = o.first_owned;
-    first_one = o.first_one;
-    first_plain = o.first_plain;
-    first_decided = o.first_decided;
-    decided_good = λ w i. good-later S T later w (o.decided_good w i);
-    said_good = λ x. All-mono (GoodWord S) (GoodWord T) (λ w g. good-later S T later w g) (S.history.said x) (o.said_good x);
-    said_names = o.said_names;
-    said_falls = o.said_falls;
-    knows = o.knows;
-    one_way = o.one_way;
-    members_said = o.members_said;
-    has_member = o.has_member;
-    chain = o.chain;
-    took_ok = λ j w e. let t = o.took_ok j w e in (t.0, begun-later j t.1, λ x m q. by-began (λ xs. Earlier x j xs) (S.owner j) (λ r f. inr f) (t.2 x m q));
-    admitted_ok = λ x i. admitted_ok-later S T later x (o.admitted_ok x i);
-    once = o.once;
-    one_each = o.one_each;
-    nothing_between = o.nothing_between;
-  }
+  history-ok = history-renewed S T.agents T.channel T.history.began S.history.took later
+      (λ j w e. let t = h.history.took_ok j w e in (t.0, begun-later j t.1, λ x m q. by-began (λ xs. Earlier x j xs) (S.owner j) (λ r f. inr f) (t.2 x m q))) h.history
 
   -- ---- what is under way
 
   told-later : (x : Admitted) (y : ℕ) → (S.owner y ≡ n → ⊥) → Told S x y → Told T x y
   told-later x y d t = elim t [
-    | inl o ↦ inl (subst (λ a. OwnIs (λ w. admits w x.start ≡ true) a) (sym (run-there (S.owner y) d)) o)
+    | inl o ↦ inl (subst (λ a. OwnAdmits x.start a) (sym (run-there (S.owner y) d)) o)
     | inr p ↦ inr (
       let r = grows (S.owner x.by) (S.owner y) in
-          subst (λ ls. Telling y x.start x.by ls) (sym r.ends) (Telling-append y x.start x.by (S.channel (Agent (S.owner x.by)) (Agent (S.owner y))) r.more p.0),
+          subst (λ ls. Telling y x.start x.by ls) (sym r.ends) (telling-left y x.start x.by (S.channel (Agent (S.owner x.by)) (Agent (S.owner y))) r.more p.0),
       λ w e. p.1 w (ap (λ a. a.own) (sym (run-there (S.owner y) d)) ∙ e),
     )
   ]
@@ -442,9 +388,9 @@ module _ (S : State) (n s k : ℕ) (out : Sends) (h : Holds S) (c : TakesStart S
 
   heard-later : (g o : ℕ) → (g ≡ n → ⊥) → Heard S g o → Heard T g o
   heard-later g o d t = elim t [
-    | inl p ↦ inl (let r = grows (S.owner o) g in subst (λ ls. Closing o ls) (sym r.ends) (Closing-left o (S.channel (Agent (S.owner o)) (Agent g)) r.more p))
+    | inl p ↦ inl (let r = grows (S.owner o) g in subst (λ ls. Closing o ls) (sym r.ends) (closing-left o (S.channel (Agent (S.owner o)) (Agent g)) r.more p))
     | inr p ↦ elim p [
-      | inl q ↦ inr (inl (subst (λ a. OwnIs (λ w. is_in o w.lost ≡ true) a) (sym (run-there g d)) q))
+      | inl q ↦ inr (inl (subst (λ a. OwnLost o a) (sym (run-there g d)) q))
       | inr q ↦ inr (inr (λ w i. rw (ap (λ a. a.start) (run-there g d)) (q w i)))
     ]
   ]
@@ -465,13 +411,14 @@ module _ (S : State) (n s k : ℕ) (out : Sends) (h : Holds S) (c : TakesStart S
     | inr b ↦ elim (cases_eq g n) [
       | inl e ↦ inr (inr (λ w i.
           let v : start_at T g ≡ s = ap (λ x. start_at T x) e ∙ run-here ∙ goes-on (subst (λ x. 0 < x) (ap (λ x. start_at T x) e ∙ run-here) u) in
-          rw v (not-named w (in-all (GoodWord S) (S.history.said o) (h.history.said_good o) w i))))
+          rw v (not-named w (all-at (GoodWord S) (S.history.said o) (h.history.said_good o) w i))))
       | inr d ↦ heard-later g o d (h.heard g o (subst (λ x. 0 < x) (ap (λ a. a.start) (run-there g d)) u) (gone-before o b q.1) other)
     ]
   ]
 
-  pub takes-holds : Holds T
-  takes-holds = record {
+  -- What holds, holds once the agent took it.
+  pub takes_start-holds : Holds T
+  takes_start-holds = record {
     some = h.some;
     hosts = host-ok;
     agents = agent-ok;
@@ -483,19 +430,19 @@ module _ (S : State) (n s k : ℕ) (out : Sends) (h : Holds S) (c : TakesStart S
 
 -- what an agent that begins says is Hello
 hello-says : (D : Deployment) (n s g : ℕ) → AllByRecursion (FirstSays s s) ((on_start D n s).sends (Agent g))
-hello-says D n s g = All-if (FirstSays s s) (is_host D g && not (g == n)) (open_letter (msg.Hello s) ∷ []) [] (tt, tt) tt
+hello-says D n s g = all-if (FirstSays s s) (is_host D g && not (g == n)) (open_letter (msg.Hello s) ∷ []) [] (tt, tt) tt
 
 -- what one that has stopped at once says is that it has closed
 closed-says : (D : Deployment) (n s g : ℕ) → AllByRecursion (FirstSays s 0) ((stops_with_host D n s).sends (Agent g))
 closed-says D n s g =
-    All-if (FirstSays s 0) (is_host D g) (if g == n then [] else open_letter (msg.Closed s) ∷ []) []
-    (All-if (FirstSays s 0) (g == n) [] (open_letter (msg.Closed s) ∷ []) tt ((refl, refl, refl, refl), tt)) tt
+    all-if (FirstSays s 0) (is_host D g) (if g == n then [] else open_letter (msg.Closed s) ∷ []) []
+    (all-if (FirstSays s 0) (g == n) [] (open_letter (msg.Closed s) ∷ []) tt ((refl, refl, refl, refl), tt)) tt
 
 -- The stopped agent of host n takes start s.
 pub start-holds : (S : State) (n s : ℕ) → Holds S → start_at S n ≡ 0 → is_host S.deployment n ≡ true
     → starts_to S n ≡ s ∷ starts_in (rest (S.channel Director (Agent n)))
     → Holds (after (popped S Director n) n (on_start S.deployment n s).state (on_start S.deployment n s).sends (with_began S.history n s))
-start-holds S n s h stopped host comes = takes-holds S n s s (on_start S.deployment n s).sends h (record {
+start-holds S n s h stopped host comes = takes_start-holds S n s s (on_start S.deployment n s).sends h (record {
   stopped = stopped;
   host = host;
   comes = comes;
@@ -507,7 +454,7 @@ start-holds S n s h stopped host comes = takes-holds S n s s (on_start S.deploym
 pub start-stops-holds : (S : State) (n s : ℕ) → Holds S → start_at S n ≡ 0 → is_host S.deployment n ≡ true
     → starts_to S n ≡ s ∷ starts_in (rest (S.channel Director (Agent n)))
     → Holds (after (popped S Director n) n (stops_with_host S.deployment n s).state (stops_with_host S.deployment n s).sends (with_began S.history n s))
-start-stops-holds S n s h stopped host comes = takes-holds S n s 0 (stops_with_host S.deployment n s).sends h (record {
+start-stops-holds S n s h stopped host comes = takes_start-holds S n s 0 (stops_with_host S.deployment n s).sends h (record {
   stopped = stopped;
   host = host;
   comes = comes;
@@ -519,6 +466,7 @@ start-stops-holds S n s h stopped host comes = takes-holds S n s 0 (stops_with_h
 start-grows : (H : History) (n s : ℕ) → Grows H (with_began H n s)
 start-grows H n s = record { first = refl; said = λ x w i. i; decided = λ w i. i; admitted = λ x i. i }
 
+-- it runs
 pub start-goes : (S : State) (n s : ℕ) → Holds S → start_at S n ≡ 0 → is_host S.deployment n ≡ true
     → starts_to S n ≡ s ∷ starts_in (rest (S.channel Director (Agent n))) → Goes S n Director (on_start S.deployment n s)
 start-goes S n s h stopped host comes = record {
@@ -527,6 +475,7 @@ start-goes S n s h stopped host comes = record {
   holds = start-holds S n s h stopped host comes;
 }
 
+-- it has stopped at once
 pub start-stops-goes : (S : State) (n s : ℕ) → Holds S → start_at S n ≡ 0 → is_host S.deployment n ≡ true
     → starts_to S n ≡ s ∷ starts_in (rest (S.channel Director (Agent n))) → Goes S n Director (stops_with_host S.deployment n s)
 start-stops-goes S n s h stopped host comes = record {

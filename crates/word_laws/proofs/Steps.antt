@@ -1,4 +1,4 @@
--- What the events that change no history keep of what holds.
+-- What turns and messages that add no word to the history keep of what holds.
 use Rattle.std.proofs.Common.{◌≡◌, ◌<◌, Bool, true, false, List, [], ◌∷◌, ◌++◌, append_assoc, refl, sym, subst, ap, ◌∙◌, ◌⊎◌, inl, inr, ◌==◌, arith}
 use Rattle.std.proofs.lemmas.Bool.{false≢true, eqb-true, cases_Bool, and_parts}
 use Rattle.std.proofs.lemmas.Bool.Decides.{nat_tests}
@@ -14,12 +14,13 @@ use Rattle.cluster_model.specs.Letters.{same, Letter, Sends, Turn, Waiting, open
 use Rattle.cluster_model.specs.AgentState.{AgentState, Queued, Job_, Admission, initiates, is_initiator_in, new_agent}
 use Rattle.cluster_model.specs.World.{took, sent, rest, set_at}
 use Rattle.cluster_model.specs.Laws.{RiseFrom, starts_in}
-use Rattle.word_laws.proofs.Rows.{All-append, All-mono, All-if}
-use Rattle.word_laws.proofs.Starts.{took-all}
 use Rattle.word_laws.specs.Histories.{In, OnSome, State, History, Admitted, Begun, Runs, Gone, Earlier, Distinct, HostOk, GoodWord, SaidBy, Unnamed, LetterOk, ClosesFrom, InOrder, CameOk, QueuedOk, WaitingFrom, WaitingOk, IsOff, OwnOk, AgentOk, HistoryOk, Tells, IsClosed, Telling, Closing, OwnIs, Told, Heard, Holds, names, start_at, starts_to}
-use Rattle.word_laws.proofs.Moves.{Later, after, popped, Plain, Calm, Heeded}
-use Rattle.word_laws.proofs.Laters.{in-all, all-in, in-cases, some-here, some-mono, good-later, letter-later, own-later, said_by-later, admitted_ok-later, unnamed-later, came-later, waiting-later, queued-later}
+use Rattle.word_laws.proofs.Lists.{all-append, all-mono, all-at, all-from, in-cases, some-here, some-mono, all-filter}
+use Rattle.word_laws.proofs.Channels.{telling-left, closing-left, closing-right, order-append, order-rest, sent-both, sent-keep, taken-both, took-starts, took-all}
+use Rattle.word_laws.proofs.Moves.{OwnLost, OwnAdmits, Later, after, popped, Plain, Calm, Heeded}
+use Rattle.word_laws.proofs.Laters.{good-later, letter-later, own-later, said_by-later, admitted_ok-later, unnamed-later, came-later, waiting-later, queued-later}
 
+-- actors that the model takes for the same are
 pub same-true : (a b : Actor) → same a b ≡ true → a ≡ b
 same-true Director Director e = refl
 same-true (Client a) (Client b) e = ap Client (eqb-true a b e)
@@ -30,9 +31,11 @@ same-true _ _ e = absurd (false≢true e)
 
 -- ---- an agent's start after its turn
 
+-- it keeps its start, or has stopped
 abbrev pub GoesOn : State → ℕ → AgentState → Type 0
 GoesOn S n a = (a.start ≡ start_at S n) ⊎ (a.start ≡ 0)
 
+-- so does the agent of each host
 pub starts-after : (S : State) (n : ℕ) (a : AgentState) (out : Sends) (H : History) → GoesOn S n a
     → (h : ℕ) → (start_at (after S n a out H) h ≡ start_at S h) ⊎ (start_at (after S n a out H) h ≡ 0)
 starts-after S n a out H e h = choice (h == n) refl
@@ -44,10 +47,12 @@ starts-after S n a out H e h = choice (h == n) refl
       | inr x ↦ inr x
     ]
 
+-- starts that began, where the lists of them only grow
 pub begun-after : (S : State) (n : ℕ) (a : AgentState) (out : Sends) (H : History) → ((h s : ℕ) → In s (S.history.began h) → In s (H.began h))
     → (s : ℕ) → Begun S s → Begun (after S n a out H) s
 begun-after S n a out H keeps s b = record { some = b.some; below = b.below; host = b.host; began = keeps (S.owner s) s b.began }
 
+-- starts that have stopped stay so
 pub gone-after : (S : State) (n : ℕ) (a : AgentState) (out : Sends) (H : History) → ((h s : ℕ) → In s (S.history.began h) → In s (H.began h)) → GoesOn S n a
     → (s : ℕ) → Gone S s → Gone (after S n a out H) s
 gone-after S n a out H keeps e s g = (
@@ -82,6 +87,7 @@ later-after S n a out H e first began said took_word decided admitted = record {
     keeps : (h s : ℕ) → In s (S.history.began h) → In s (H.began h)
     keeps h s i = subst (λ f. In s (f h)) (sym began) i
 
+-- what holds of a host, where the starts that began stay
 pub host-after : (S : State) (n : ℕ) (a : AgentState) (out : Sends) (H : History) → GoesOn S n a → H.began ≡ S.history.began → (h : ℕ) → HostOk S h → HostOk (after S n a out H) h
 host-after S n a out H e began h k = record {
   outside = λ o. elim runs [ inl q ↦ q ∙ k.outside o | inr z ↦ z ];
@@ -102,12 +108,14 @@ host-after S n a out H e began h k = record {
 
 -- ---- where the history stays
 
+-- other agents and other channels, with the history as it was
 abbrev pub moved : State → (ℕ → AgentState) → (Actor → Actor → List Letter) → State
 moved S agents channel = record S { agents = agents; channel = channel }
 
 pub begun-moved : (S : State) (agents : ℕ → AgentState) (channel : Actor → Actor → List Letter) (s : ℕ) → Begun S s → Begun (moved S agents channel) s
 begun-moved S agents channel s b = record { some = b.some; below = b.below; host = b.host; began = b.began }
 
+-- what began behind it began before
 pub begun-back : (S : State) (agents : ℕ → AgentState) (channel : Actor → Actor → List Letter) (s : ℕ) → Begun (moved S agents channel) s → Begun S s
 begun-back S agents channel s b = record { some = b.some; below = b.below; host = b.host; began = b.began }
 
@@ -127,14 +135,21 @@ later-moved S agents channel runs = record {
   admitted = λ x i. i;
 }
 
-pub history-moved : (S : State) (agents : ℕ → AgentState) (channel : Actor → Actor → List Letter) → Later S (moved S agents channel) → HistoryOk S → HistoryOk (moved S agents channel)
-history-moved S agents channel f h = let T = moved S agents channel in record {
+-- where at most more starts began, or took a word
+abbrev pub renewed : State → (ℕ → AgentState) → (Actor → Actor → List Letter) → (ℕ → List ℕ) → (ℕ → Option Membership) → State
+renewed S agents channel began took_word = record S { agents = agents; channel = channel; history = record S.history { began = began; took = took_word } }
+
+-- what holds of the history, if it holds of the words that starts took
+pub history-renewed : (S : State) (agents : ℕ → AgentState) (channel : Actor → Actor → List Letter) (began : ℕ → List ℕ) (K : ℕ → Option Membership) → Later S (renewed S agents channel began K)
+    → ((j : ℕ) (w : Membership) → K j ≡ Some w → In w S.history.decided × Begun (renewed S agents channel began K) j × ((s : ℕ) → names w s ≡ true → S.owner s ≡ S.owner j → Earlier s j (began (S.owner j))))
+    → HistoryOk S → HistoryOk (renewed S agents channel began K)
+history-renewed S agents channel began K f took_ok h = let T = renewed S agents channel began K in record {
   first_owned = h.first_owned;
   first_one = h.first_one;
   first_plain = h.first_plain;
   first_decided = h.first_decided;
   decided_good = λ w i. good-later S T f w (h.decided_good w i);
-  said_good = λ s. All-mono (GoodWord S) (GoodWord T) (good-later S T f) (S.history.said s) (h.said_good s);
+  said_good = λ s. all-mono (GoodWord S) (GoodWord T) (good-later S T f) (S.history.said s) (h.said_good s);
   said_names = h.said_names;
   said_falls = h.said_falls;
   knows = h.knows;
@@ -142,12 +157,15 @@ history-moved S agents channel f h = let T = moved S agents channel in record {
   members_said = h.members_said;
   has_member = h.has_member;
   chain = h.chain;
-  took_ok = λ j w e. let k = h.took_ok j w e in (k.0, f.begun j k.1, k.2);
+  took_ok = took_ok;
   admitted_ok = λ x i. admitted_ok-later S T f x (h.admitted_ok x i);
   once = h.once;
   one_each = h.one_each;
   nothing_between = h.nothing_between;
 }
+
+pub history-moved : (S : State) (agents : ℕ → AgentState) (channel : Actor → Actor → List Letter) → Later S (moved S agents channel) → HistoryOk S → HistoryOk (moved S agents channel)
+history-moved S agents channel f h = history-renewed S agents channel S.history.began S.history.took f (λ j w e. let k = h.took_ok j w e in (k.0, f.begun j k.1, k.2)) h
 
 -- an agent of which nothing changes, and whose start said and took nothing
 pub agent-later : (S T : State) → Later S T → (h : ℕ) (a : AgentState) → T.history.said a.start ≡ S.history.said a.start → T.history.took a.start ≡ S.history.took a.start
@@ -162,8 +180,8 @@ agent-later S T f h a said took_word admitted came k = record {
   wordless = k.wordless;
   joins = k.joins;
   heard = λ g. some-mono (SaidBy S g) (SaidBy T g) (said_by-later S T f g) (a.said g) (k.heard g);
-  waiting = All-mono (WaitingOk S h) (WaitingOk T h) (λ x p. waiting-later S T h came x.from x.letter p) a.waiting k.waiting;
-  queue = All-mono (QueuedOk S h) (QueuedOk T h) (queued-later S T h came) a.initiating.queue k.queue;
+  waiting = all-mono (WaitingOk S h) (WaitingOk T h) (λ x p. waiting-later S T h came x.from x.letter p) a.waiting k.waiting;
+  queue = all-mono (QueuedOk S h) (QueuedOk T h) (queued-later S T h came) a.initiating.queue k.queue;
   initiates = k.initiates;
 }
 
@@ -184,74 +202,12 @@ agent-same S h a b start own decided taken said waiting queue phase k = record {
   initiates = phase;
 }
 
--- ---- channels
-
-pub Telling-append : (c j i : ℕ) (xs ys : List Letter) → Telling c j i xs → Telling c j i (xs ++ ys)
-Telling-append c j i [] ys t = absurd t
-Telling-append c j i (x ∷ xs) ys (inl k) = inl k
-Telling-append c j i (x ∷ xs) ys (inr k) = inr (k.0, Telling-append c j i xs ys k.1)
-
-pub Closing-left : (o : ℕ) (xs ys : List Letter) → Closing o xs → Closing o (xs ++ ys)
-Closing-left o [] ys t = absurd t
-Closing-left o (x ∷ xs) ys (inl k) = inl k
-Closing-left o (x ∷ xs) ys (inr k) = inr (Closing-left o xs ys k)
-
-pub Closing-right : (o : ℕ) (xs ys : List Letter) → Closing o ys → Closing o (xs ++ ys)
-Closing-right o [] ys t = t
-Closing-right o (x ∷ xs) ys t = inr (Closing-right o xs ys t)
-
-pub InOrder-append : (began : List ℕ) (xs ys : List Letter) → InOrder began xs → InOrder began ys → ((j : ℕ) → AllByRecursion (ClosesFrom began j) ys) → InOrder began (xs ++ ys)
-InOrder-append began [] ys h k c = k
-InOrder-append began (x ∷ xs) ys h k c = (
-  (elim x.body as (λ m. InOrder began (record x { body = m } ∷ xs)
-      → (elim m as (λ _. Type 0) [ msg.Admit j ↦ AllByRecursion (ClosesFrom began j) (xs ++ ys) | _ ↦ Unit {0} ])) [
-        | msg.Admit j ↦ λ p. All-append (ClosesFrom began j) xs ys p.0 (c j)
-        | m ↦ λ p. tt
-      ] h),
-  InOrder-append began xs ys h.1 k c,
-)
-
-pub InOrder-rest : (began : List ℕ) (ls : List Letter) → InOrder began ls → InOrder began (rest ls)
-InOrder-rest began [] h = tt
-InOrder-rest began (l ∷ ls) h = h.1
-
--- what holds of a channel after a turn, where it is the agent's, and where it is another's
-pub sent-both : (P : List Letter → Type 0) (ch : Actor → Actor → List Letter) (n : ℕ) (out : Sends) (h : ℕ) (b : Actor)
-    → (n ≡ h → P (ch (Agent h) b ++ out b)) → ((n ≡ h → ⊥) → P (ch (Agent h) b)) → P (sent ch (Agent n) out (Agent h) b)
-sent-both P ch n out h b here other = choice (n == h) refl
-  where
-    choice : (c : Bool) → (n == h) ≡ c → P (if c then ch (Agent h) b ++ out b else ch (Agent h) b)
-    choice true q = here (eqb-true n h q)
-    choice false q = other (λ e. grind (arith, nat_tests, q, e))
-
-pub sent-keep : (P : List Letter → Type 0) → ((xs ys : List Letter) → P xs → P (xs ++ ys)) → (ch : Actor → Actor → List Letter) (n : ℕ) (out : Sends) (h : ℕ) (b : Actor) → P (ch (Agent h) b) → P (sent ch (Agent n) out (Agent h) b)
-sent-keep P more ch n out h b k = choice (n == h)
-  where
-    choice : (c : Bool) → P (if c then ch (Agent h) b ++ out b else ch (Agent h) b)
-    choice true = more (ch (Agent h) b) (out b) k
-    choice false = k
-
--- the channels after a message was taken, where it is that channel, and elsewhere
-pub took-cases : (P : List Letter → Type 0) (ch : Actor → Actor → List Letter) (k n h g : ℕ)
-    → (k ≡ h → n ≡ g → P (rest (ch (Agent h) (Agent g)))) → P (ch (Agent h) (Agent g)) → P (took ch (Agent k) (Agent n) (Agent h) (Agent g))
-took-cases P ch k n h g here other = choice (n == g && k == h) refl
-  where
-    choice : (c : Bool) → (n == g && k == h) ≡ c → P (if c then rest (ch (Agent h) (Agent g)) else ch (Agent h) (Agent g))
-    choice true q = let e = and_parts (n == g) (k == h) q in here (eqb-true k h e.1) (eqb-true n g e.0)
-    choice false q = other
-
-pub took-starts : (ch : Actor → Actor → List Letter) (k n h : ℕ) → starts_in (took ch (Agent k) (Agent n) Director (Agent h)) ≡ starts_in (ch Director (Agent h))
-took-starts ch k n h = choice (n == h)
-  where
-    choice : (c : Bool) → starts_in (if c && false then rest (ch Director (Agent h)) else ch Director (Agent h)) ≡ starts_in (ch Director (Agent h))
-    choice true = refl
-    choice false = refl
-
 -- ---- channels that change, where the agents stay
 
 pub own_is-keep : (P : Membership → Type 0) (a b : AgentState) → b.own ≡ a.own → OwnIs P a → OwnIs P b
 own_is-keep P a b e k = (k.0, e ∙ k.1, k.2)
 
+-- What must hold of new channels, so that what holds, holds with them.
 pub channel-moves : (S : State) (ch : Actor → Actor → List Letter) → ((h : ℕ) → starts_in (ch Director (Agent h)) ≡ starts_to S h)
     → ((P : Letter → Type 0) (h g : ℕ) → AllByRecursion P (S.channel (Agent h) (Agent g)) → AllByRecursion P (ch (Agent h) (Agent g)))
     → ((began : List ℕ) (h g : ℕ) → InOrder began (S.channel (Agent h) (Agent g)) → InOrder began (ch (Agent h) (Agent g)))
@@ -273,7 +229,7 @@ channel-moves S ch starts all order told heard h = record {
   agents = λ g. agent-later S T f g (S.agents g) refl refl (λ up e x i q. i)
       (λ k term j c. came-later S T f k g term j (all (ClosesFrom (S.history.began k) j) k g c.1) c) (h.agents g);
   channels = λ k g. record {
-    letters = all (LetterOk T k g) k g (All-mono (LetterOk S k g) (LetterOk T k g) (letter-later S T f k g) (S.channel (Agent k) (Agent g)) (h.channels k g).letters);
+    letters = all (LetterOk T k g) k g (all-mono (LetterOk S k g) (LetterOk T k g) (letter-later S T f k g) (S.channel (Agent k) (Agent g)) (h.channels k g).letters);
     ordered = order (S.history.began k) k g (h.channels k g).ordered;
   };
   history = history-moved S S.agents ch f h.history;
@@ -287,9 +243,10 @@ channel-moves S ch starts all order told heard h = record {
     f : Later S T
     f = later-moved S S.agents ch (λ s b r. r)
 
+-- who knows of an admission, where what tells it of that is still under way, or it knows of it itself
 pub told-channel : (S : State) (ch : Actor → Actor → List Letter) (x : Admitted) (c : ℕ)
     → (Telling c x.start x.by (S.channel (Agent (S.owner x.by)) (Agent (S.owner c)))
-    → OwnIs (λ w. admits w x.start ≡ true) (S.agents (S.owner c)) ⊎ Telling c x.start x.by (ch (Agent (S.owner x.by)) (Agent (S.owner c))))
+    → OwnAdmits x.start (S.agents (S.owner c)) ⊎ Telling c x.start x.by (ch (Agent (S.owner x.by)) (Agent (S.owner c))))
     → Told S x c → Told (record S { channel = ch }) x c
 told-channel S ch x c f (inl k) = inl k
 told-channel S ch x c f (inr k) = elim (f k.0) [
@@ -297,9 +254,10 @@ told-channel S ch x c f (inr k) = elim (f k.0) [
   | inr t ↦ inr (t, k.1)
 ]
 
+-- who knows of a start that stopped, likewise
 pub heard-channel : (S : State) (ch : Actor → Actor → List Letter) (g o : ℕ)
     → (Closing o (S.channel (Agent (S.owner o)) (Agent g))
-    → Closing o (ch (Agent (S.owner o)) (Agent g)) ⊎ OwnIs (λ w. is_in o w.lost ≡ true) (S.agents g) ⊎ ((w : Membership) → In w (S.history.said o) → names w (start_at S g) ≡ false))
+    → Closing o (ch (Agent (S.owner o)) (Agent g)) ⊎ OwnLost o (S.agents g) ⊎ ((w : Membership) → In w (S.history.said o) → names w (start_at S g) ≡ false))
     → Heard S g o → Heard (record S { channel = ch }) g o
 heard-channel S ch g o f (inl k) = f k
 heard-channel S ch g o f (inr k) = inr k
@@ -315,9 +273,9 @@ channel-holds S ch stays starts h = channel-moves S ch starts
     h
 
 -- A message from no agent, which is no Start.
-pub pops_other : (S : State) (from : Actor) (n : ℕ) → ((h : ℕ) → same from (Agent h) ≡ false)
+pub pops-other : (S : State) (from : Actor) (n : ℕ) → ((h : ℕ) → same from (Agent h) ≡ false)
     → (same from Director ≡ true → starts_in (rest (S.channel Director (Agent n))) ≡ starts_to S n) → Holds S → Holds (popped S from n)
-pops_other S from n apart starts h = channel-holds S (took S.channel from (Agent n))
+pops-other S from n apart starts h = channel-holds S (took S.channel from (Agent n))
     (λ k g. elsewhere (n == g) (same from (Agent k)) (rest (S.channel (Agent k) (Agent g))) (S.channel (Agent k) (Agent g)) (apart k))
     (λ g. choice g (n == g) (same from Director) refl refl) h
   where
@@ -333,6 +291,7 @@ pops_other S from n apart starts h = channel-holds S (took S.channel from (Agent
 
 -- ---- a message that an agent takes and has heeded
 
+-- a start that no word names is named in no good word
 pub unnamed-not : (S : State) (c : ℕ) (w : Membership) → GoodWord S w → names w c ≡ true → Unnamed S c → ⊥
 unnamed-not S c w good named u = elim (cases_Bool (admits w c)) [
   | inl q ↦ let r = good.recorded c q in u.not_admitted r.entry r.is_one r.same
@@ -344,8 +303,9 @@ unnamed-not S c w good named u = elim (cases_Bool (admits w c)) [
     first false true e q z = absurd (cc)
     first false false e q z = absurd (cc)
 
-pub tells-own : (S : State) (n : ℕ) (l : Letter) (c j : ℕ) → Heeded S n l → start_at S n ≡ c → 0 < c → ((S.agents n).own ≡ None → ⊥) → Tells c j l → OwnIs (λ w. admits w j ≡ true) (S.agents n)
-tells-own S n l c j heeded is up known tells = elim l.body as (λ m. Heeded S n (record l { body = m }) → Tells c j (record l { body = m }) → OwnIs (λ w. admits w j ≡ true) (S.agents n)) [
+-- a message that told a start of an admission, and that it heeded, is in its word
+pub tells-own : (S : State) (n : ℕ) (l : Letter) (c j : ℕ) → Heeded S n l → start_at S n ≡ c → 0 < c → ((S.agents n).own ≡ None → ⊥) → Tells c j l → OwnAdmits j (S.agents n)
+tells-own S n l c j heeded is up known tells = elim l.body as (λ m. Heeded S n (record l { body = m }) → Tells c j (record l { body = m }) → OwnAdmits j (S.agents n)) [
   | msg.Word base lost admitted ↦ λ f t. elim (f (subst (λ x. 0 < x) (sym is) up) (t.0 ∙ sym is)) [
     | inl none ↦ absurd (known none)
     | inr k ↦ k j t.1
@@ -353,11 +313,12 @@ tells-own S n l c j heeded is up known tells = elim l.body as (λ m. Heeded S n 
   | m ↦ λ f t. absurd t
 ] heeded tells
 
+-- a Closed that it heeded is in its word, or its start is in no word of the start that stopped
 pub closed-own : (S : State) (n : ℕ) (l : Letter) (o : ℕ) → Heeded S n l → 0 < start_at S n → IsClosed o l
-    → OwnIs (λ w. is_in o w.lost ≡ true) (S.agents n) ⊎ ((w : Membership) → In w (S.history.said o) → names w (start_at S n) ≡ false)
+    → OwnLost o (S.agents n) ⊎ ((w : Membership) → In w (S.history.said o) → names w (start_at S n) ≡ false)
 closed-own S n l o heeded up closed = elim l.body as (λ m. Heeded S n (record l { body = m }) → IsClosed o (record l { body = m })
-    → OwnIs (λ w. is_in o w.lost ≡ true) (S.agents n) ⊎ ((w : Membership) → In w (S.history.said o) → names w (start_at S n) ≡ false)) [
-      | msg.Closed s ↦ λ f e. subst (λ y. OwnIs (λ w. is_in y w.lost ≡ true) (S.agents n) ⊎ ((w : Membership) → In w (S.history.said y) → names w (start_at S n) ≡ false)) e (f up)
+    → OwnLost o (S.agents n) ⊎ ((w : Membership) → In w (S.history.said o) → names w (start_at S n) ≡ false)) [
+      | msg.Closed s ↦ λ f e. subst (λ y. OwnLost y (S.agents n) ⊎ ((w : Membership) → In w (S.history.said y) → names w (start_at S n) ≡ false)) e (f up)
       | m ↦ λ f e. absurd e
     ] heeded closed
 
@@ -368,13 +329,14 @@ named-knows S h x i c m r none =
     let up : 0 < start_at S (S.owner c) = subst (λ y. 0 < y) (sym r) (good.named_begun c m).some in
     unnamed-not S c x.at good m (subst (λ y. Unnamed S y) r ((h.agents (S.owner c)).alone up none).0)
 
+-- A message between agents that the other has heeded may leave its channel.
 pub pops : (S : State) (k n : ℕ) (l : Letter) (ls : List Letter) → S.channel (Agent k) (Agent n) ≡ l ∷ ls → Heeded S n l → Holds S → Holds (popped S (Agent k) n)
 pops S k n l ls is heeded h = channel-moves S ch (took-starts S.channel k n)
     (λ P a b. took-all P S.channel (Agent k) (Agent n) (Agent a) (Agent b))
-    (λ began a b p. took-cases (λ x. InOrder began x) S.channel k n a b (λ ea eb. InOrder-rest began (S.channel (Agent a) (Agent b)) p) p)
-    (λ x i c m r. told-channel S ch x c (λ t. took-cases (λ y. OwnIs (λ w. admits w x.start ≡ true) (S.agents (S.owner c)) ⊎ Telling c x.start x.by y) S.channel k n (S.owner x.by) (S.owner c)
+    (λ began a b p. taken-both (λ x. InOrder began x) S.channel k n a b (λ ea eb. order-rest began (S.channel (Agent a) (Agent b)) p) p)
+    (λ x i c m r. told-channel S ch x c (λ t. taken-both (λ y. OwnAdmits x.start (S.agents (S.owner c)) ⊎ Telling c x.start x.by y) S.channel k n (S.owner x.by) (S.owner c)
     (λ ea eb. told-rest x i c m r ea eb t) (inr t)))
-    (λ g o up. heard-channel S ch g o (λ t. took-cases (λ y. Closing o y ⊎ OwnIs (λ w. is_in o w.lost ≡ true) (S.agents g) ⊎ ((w : Membership) → In w (S.history.said o) → names w (start_at S g) ≡ false))
+    (λ g o up. heard-channel S ch g o (λ t. taken-both (λ y. Closing o y ⊎ OwnLost o (S.agents g) ⊎ ((w : Membership) → In w (S.history.said o) → names w (start_at S g) ≡ false))
     S.channel k n (S.owner o) g (λ ea eb. heard-rest g o up ea eb t) (inl t)))
     h
   where
@@ -386,10 +348,10 @@ pops S k n l ls is heeded h = channel-moves S ch (took-starts S.channel k n)
 
     told-rest : (x : Admitted) → In x S.history.admitted → (c : ℕ) → names x.at c ≡ true → Runs S c → k ≡ S.owner x.by → n ≡ S.owner c
         → Telling c x.start x.by (S.channel (Agent (S.owner x.by)) (Agent (S.owner c)))
-        → OwnIs (λ w. admits w x.start ≡ true) (S.agents (S.owner c)) ⊎ Telling c x.start x.by (rest (S.channel (Agent (S.owner x.by)) (Agent (S.owner c))))
+        → OwnAdmits x.start (S.agents (S.owner c)) ⊎ Telling c x.start x.by (rest (S.channel (Agent (S.owner x.by)) (Agent (S.owner c))))
     told-rest x i c m r ea eb t =
         let e = first (S.owner x.by) (S.owner c) ea eb in
-        subst (λ y. OwnIs (λ w. admits w x.start ≡ true) (S.agents (S.owner c)) ⊎ Telling c x.start x.by (rest y)) (sym e)
+        subst (λ y. OwnAdmits x.start (S.agents (S.owner c)) ⊎ Telling c x.start x.by (rest y)) (sym e)
         (elim (subst (λ y. Telling c x.start x.by y) e t) [
           | inl tells ↦ inl (tells-own S (S.owner c) l c x.start (subst (λ y. Heeded S y l) eb heeded) r
               ((h.history.decided_good x.at (h.history.admitted_ok x i).decided).named_begun c m).some (named-knows S h x i c m r) tells)
@@ -397,10 +359,10 @@ pops S k n l ls is heeded h = channel-moves S ch (took-starts S.channel k n)
         ])
 
     heard-rest : (g o : ℕ) → 0 < start_at S g → k ≡ S.owner o → n ≡ g → Closing o (S.channel (Agent (S.owner o)) (Agent g))
-        → Closing o (rest (S.channel (Agent (S.owner o)) (Agent g))) ⊎ OwnIs (λ w. is_in o w.lost ≡ true) (S.agents g) ⊎ ((w : Membership) → In w (S.history.said o) → names w (start_at S g) ≡ false)
+        → Closing o (rest (S.channel (Agent (S.owner o)) (Agent g))) ⊎ OwnLost o (S.agents g) ⊎ ((w : Membership) → In w (S.history.said o) → names w (start_at S g) ≡ false)
     heard-rest g o up ea eb t =
         let e = first (S.owner o) g ea eb in
-        subst (λ y. Closing o (rest y) ⊎ OwnIs (λ w. is_in o w.lost ≡ true) (S.agents g) ⊎ ((w : Membership) → In w (S.history.said o) → names w (start_at S g) ≡ false)) (sym e)
+        subst (λ y. Closing o (rest y) ⊎ OwnLost o (S.agents g) ⊎ ((w : Membership) → In w (S.history.said o) → names w (start_at S g) ≡ false)) (sym e)
         (elim (subst (λ y. Closing o y) e t) [
           | inl closed ↦ inr (closed-own S g l o (subst (λ y. Heeded S y l) eb heeded) up closed)
           | inr later ↦ inl later
@@ -418,17 +380,25 @@ pub ends-goes : (S : State) (n : ℕ) (a : AgentState) (out : Sends) → Ends S 
 ends-goes S n a out (inl k) = inl k.0
 ends-goes S n a out (inr k) = inr k.0
 
+-- such a turn only adds to the state
 pub later-turn : (S : State) (n : ℕ) (a : AgentState) (out : Sends) → GoesOn S n a → Later S (after S n a out S.history)
 later-turn S n a out e = later-after S n a out S.history e refl refl (λ s w i. i) (λ s w i. i) (λ w i. i) (λ x i. i)
 
+-- an Admit that came, after a turn that closes no earlier start
+pub came-after : (S : State) (n : ℕ) (a : AgentState) (out : Sends) (H : History) → Later S (after S n a out H) → H.began ≡ S.history.began
+    → ((g j : ℕ) → AllByRecursion (ClosesFrom (S.history.began n) j) (out (Agent g))) → (g h term j : ℕ) → CameOk S h g term j → CameOk (after S n a out H) h g term j
+came-after S n a out H f began closes g h term j k = came-later S (after S n a out H) f h g term j
+    (subst (λ b. AllByRecursion (ClosesFrom (b h) j) (sent S.channel (Agent n) out (Agent h) (Agent g))) (sym began)
+    (sent-both (λ x. AllByRecursion (ClosesFrom (S.history.began h) j) x) S.channel n out h (Agent g)
+    (λ q. all-append (ClosesFrom (S.history.began h) j) (S.channel (Agent h) (Agent g)) (out (Agent g)) k.1
+    (subst (λ y. AllByRecursion (ClosesFrom (S.history.began y) j) (out (Agent g))) q (closes g j)))
+    (λ q. k.1)))
+    k
+
+-- and an Admit that came is still ahead of all Closed of earlier starts
 pub came-turn : (S : State) (n : ℕ) (a : AgentState) (out : Sends) → GoesOn S n a → ((g j : ℕ) → AllByRecursion (ClosesFrom (S.history.began n) j) (out (Agent g)))
     → (g h term j : ℕ) → CameOk S h g term j → CameOk (after S n a out S.history) h g term j
-came-turn S n a out e closes g h term j k = came-later S (after S n a out S.history) (later-turn S n a out e) h g term j
-    (sent-both (λ x. AllByRecursion (ClosesFrom (S.history.began h) j) x) S.channel n out h (Agent g)
-    (λ q. All-append (ClosesFrom (S.history.began h) j) (S.channel (Agent h) (Agent g)) (out (Agent g)) k.1
-    (subst (λ y. AllByRecursion (ClosesFrom (S.history.began y) j) (out (Agent g))) q (closes g j)))
-    (λ q. k.1))
-    k
+came-turn S n a out e closes = came-after S n a out S.history (later-turn S n a out e) refl closes
 
 -- any agent as it was before
 pub agent-turn : (S : State) (n : ℕ) (a : AgentState) (out : Sends) → GoesOn S n a → ((g j : ℕ) → AllByRecursion (ClosesFrom (S.history.began n) j) (out (Agent g)))
@@ -447,6 +417,7 @@ alive-same S n a out e g up = choice (g == n) refl up
       | inr k ↦ absurd (omega (arith, k.0, u))
     ]
 
+-- who ran runs, unless it is the agent itself and it stopped
 pub runs-still : (S : State) (n : ℕ) (a : AgentState) (out : Sends) (o : ℕ) → (n ≡ S.owner o → a.start ≡ start_at S n) → Runs S o → Runs (after S n a out S.history) o
 runs-still S n a out o e r = choice (S.owner o == n) refl
   where
@@ -454,6 +425,7 @@ runs-still S n a out o e r = choice (S.owner o == n) refl
     choice true q = let z = eqb-true (S.owner o) n q in e (sym z) ∙ ap (λ y. start_at S y) (sym z) ∙ r
     choice false q = r
 
+-- What must hold of such a turn, so that what holds, holds after it.
 pub turn-holds : (S : State) (n : ℕ) (a : AgentState) (out : Sends) → Ends S n a out → AgentOk (after S n a out S.history) n a
     → ((g : ℕ) → AllByRecursion (LetterOk (after S n a out S.history) n g) (out (Agent g)))
     → ((g : ℕ) → InOrder (S.history.began n) (out (Agent g)))
@@ -465,10 +437,10 @@ turn-holds S n a out e own letters order closes h = record {
   agents = λ g. agent g (g == n) refl;
   channels = λ k g. record {
     letters = sent-both (λ x. AllByRecursion (LetterOk T k g) x) S.channel n out k (Agent g)
-        (λ q. All-append (LetterOk T k g) (S.channel (Agent k) (Agent g)) (out (Agent g)) (old k g) (subst (λ y. AllByRecursion (LetterOk T y g) (out (Agent g))) q (letters g)))
+        (λ q. all-append (LetterOk T k g) (S.channel (Agent k) (Agent g)) (out (Agent g)) (old k g) (subst (λ y. AllByRecursion (LetterOk T y g) (out (Agent g))) q (letters g)))
         (λ q. old k g);
     ordered = sent-both (λ x. InOrder (S.history.began k) x) S.channel n out k (Agent g)
-        (λ q. InOrder-append (S.history.began k) (S.channel (Agent k) (Agent g)) (out (Agent g)) (h.channels k g).ordered
+        (λ q. order-append (S.history.began k) (S.channel (Agent k) (Agent g)) (out (Agent g)) (h.channels k g).ordered
         (subst (λ y. InOrder (S.history.began y) (out (Agent g))) q (order g))
         (λ j. subst (λ y. AllByRecursion (ClosesFrom (S.history.began y) j) (out (Agent g))) q (closes g j)))
         (λ q. (h.channels k g).ordered);
@@ -491,23 +463,23 @@ turn-holds S n a out e own letters order closes h = record {
     f = later-turn S n a out goes
 
     old : (k g : ℕ) → AllByRecursion (LetterOk T k g) (S.channel (Agent k) (Agent g))
-    old k g = All-mono (LetterOk S k g) (LetterOk T k g) (letter-later S T f k g) (S.channel (Agent k) (Agent g)) (h.channels k g).letters
+    old k g = all-mono (LetterOk S k g) (LetterOk T k g) (letter-later S T f k g) (S.channel (Agent k) (Agent g)) (h.channels k g).letters
 
     agent : (g : ℕ) (c : Bool) → (g == n) ≡ c → AgentOk T g (if c then a else S.agents g)
     agent g true q = subst (λ y. AgentOk T y a) (sym (eqb-true g n q)) own
     agent g false q = agent-turn S n a out goes closes g (S.agents g) (h.agents g)
 
     told : (x : Admitted) (c : ℕ) (b : AgentState) → b.own ≡ (S.agents (S.owner c)).own → Told S x c
-        → OwnIs (λ w. admits w x.start ≡ true) b
+        → OwnAdmits x.start b
         ⊎ (Telling c x.start x.by (T.channel (Agent (S.owner x.by)) (Agent (S.owner c))) × ((w : Membership) → b.own ≡ Some w → is_in x.by w.lost ≡ true → ⊥))
     told x c b q (inl k) = inl (own_is-keep (λ w. admits w x.start ≡ true) (S.agents (S.owner c)) b q k)
     told x c b q (inr k) = inr (
-      sent-keep (λ y. Telling c x.start x.by y) (Telling-append c x.start x.by) S.channel n out (S.owner x.by) (Agent (S.owner c)) k.0,
+      sent-keep (λ y. Telling c x.start x.by y) (telling-left c x.start x.by) S.channel n out (S.owner x.by) (Agent (S.owner c)) k.0,
       λ w z. k.1 w (sym q ∙ z),
     )
 
     keeps : (g o : ℕ) → 0 < start_at T g → Heard S g o → Heard T g o
-    keeps g o up (inl k) = inl (sent-keep (λ y. Closing o y) (Closing-left o) S.channel n out (S.owner o) (Agent g) k)
+    keeps g o up (inl k) = inl (sent-keep (λ y. Closing o y) (closing-left o) S.channel n out (S.owner o) (Agent g) k)
     keeps g o up (inr (inl k)) = inr (inl (own_is-keep (λ w. is_in o w.lost ≡ true) (S.agents g) (T.agents g) (alive-same S n a out e g up).1 k))
     keeps g o up (inr (inr k)) = inr (inr (λ w i. subst (λ s. names w s ≡ false) (sym (alive-same S n a out e g up).0) (k w i)))
 
@@ -516,7 +488,7 @@ turn-holds S n a out e own letters order closes h = record {
     stopped g o up ne r not (inl q) = let alive = alive-same S n a out e g up in elim e [
       | inl k ↦ absurd (not (runs-still S n a out o (λ z. k.0) r))
       | inr k ↦ sent-both (λ y. Closing o y) S.channel n out (S.owner o) (Agent g)
-          (λ z. Closing-right o (S.channel (Agent (S.owner o)) (Agent g)) (out (Agent g)) (subst (λ y. Closing y (out (Agent g))) (ap (λ y. start_at S y) q ∙ r)
+          (λ z. closing-right o (S.channel (Agent (S.owner o)) (Agent g)) (out (Agent g)) (subst (λ y. Closing y (out (Agent g))) (ap (λ y. start_at S y) q ∙ r)
           (k.1 g (subst (λ y. 0 < y) alive.0 up) (λ y. ne (sym q ∙ sym y)))))
           (λ z. absurd (z q))
     ]
@@ -568,6 +540,7 @@ after-after S n a b out out' H H' =
 
 -- ---- a turn that brings no word
 
+-- a start that runs has begun
 pub begun-running : (S : State) (n : ℕ) → Holds S → 0 < start_at S n → Begun S (start_at S n)
 begun-running S n h up = record {
   some = up;
@@ -583,6 +556,7 @@ begun-running S n h up = record {
     is-host true q = refl
     is-host false q = let z = k.outside q in absurd (omega (arith, z, up))
 
+-- what an agent sends in a turn that brings no word may be sent
 pub plain-ok : (S : State) (n g : ℕ) → Holds S → 0 < start_at S n → (l : Letter) → Plain n (S.agents n) g l → LetterOk S n g l
 plain-ok S n g h up l p = elim l.body as (λ m. Plain n (S.agents n) g (record l { body = m }) → LetterOk S n g (record l { body = m })) [
   | msg.Word base lost admitted ↦ λ k. absurd k
@@ -599,22 +573,25 @@ plain-ok S n g h up l p = elim l.body as (λ m. Plain n (S.agents n) g (record l
   | m ↦ λ k. tt
 ] p
 
+-- it closes no start
 pub plain-closes : (n : ℕ) (a : AgentState) (g : ℕ) (began : List ℕ) (j : ℕ) (l : Letter) → Plain n a g l → ClosesFrom began j l
 plain-closes n a g began j l p = elim l.body as (λ m. Plain n a g (record l { body = m }) → ClosesFrom began j (record l { body = m })) [
   | msg.Closed o ↦ λ k. absurd k
   | m ↦ λ k. tt
 ] p
 
+-- and all of it is in order
 pub plain-order : (n : ℕ) (a : AgentState) (g : ℕ) (began : List ℕ) (ls : List Letter) → AllByRecursion (Plain n a g) ls → InOrder began ls
 plain-order n a g began [] p = tt
 plain-order n a g began (l ∷ ls) p = (
   (elim l.body as (λ m. (elim m as (λ _. Type 0) [ msg.Admit j ↦ AllByRecursion (ClosesFrom began j) ls | _ ↦ Unit {0} ])) [
-    | msg.Admit j ↦ All-mono (Plain n a g) (ClosesFrom began j) (plain-closes n a g began j) ls p.1
+    | msg.Admit j ↦ all-mono (Plain n a g) (ClosesFrom began j) (plain-closes n a g began j) ls p.1
     | m ↦ tt
   ]),
   plain-order n a g began ls p.1,
 )
 
+-- only the start and the decided word say who initiates
 pub initiates-same : (n : ℕ) (a b : AgentState) → b.start ≡ a.start → b.decided ≡ a.decided → initiates n b b.decided ≡ initiates n a a.decided
 initiates-same n a b start decided = ap (λ o. initiates n b o) decided ∙ one a.decided
   where
@@ -622,25 +599,27 @@ initiates-same n a b start decided = ap (λ o. initiates n b o) decided ∙ one 
     one None = refl
     one (Some w) = ap (λ s. is_initiator_in n s (initiator w)) start
 
+-- what is queued behind a turn was queued before, or has just come
 pub queue-later : (S T : State) (n : ℕ) → ((h term j : ℕ) → CameOk S h n term j → CameOk T h n term j) → (q came more : List Queued) → AllByRecursion (QueuedOk S n) q
     → ((j h term : ℕ) → In (Admission j h term) came → QueuedOk S n (Admission j h term)) → ((j h term : ℕ) → In (Admission j h term) more → In (Admission j h term) (q ++ came))
     → AllByRecursion (QueuedOk T n) more
-queue-later S T n up q came more k new from = all-in (QueuedOk T n) more one
+queue-later S T n up q came more k new from = all-from (QueuedOk T n) more one
   where
     one : (x : Queued) → In x more → QueuedOk T n x
     one (Job_ job) i = tt
     one (Admission j h term) i = elim (in-cases (Admission j h term) q came (from j h term i)) [
-      | inl z ↦ up h term j (in-all (QueuedOk S n) q k (Admission j h term) z)
+      | inl z ↦ up h term j (all-at (QueuedOk S n) q k (Admission j h term) z)
       | inr z ↦ up h term j (new j h term z)
     ]
 
+-- A turn that brings no word and admits no start.
 pub calm-holds : (S : State) (n : ℕ) (came : List Queued) (t : Turn AgentState) → 0 < start_at S n → Calm n (S.agents n) came t → (t.state.own ≡ (S.agents n).own)
     → ((j h term : ℕ) → In (Admission j h term) came → QueuedOk S n (Admission j h term)) → Holds S → Holds (after S n t.state t.sends S.history)
 calm-holds S n came t up c own new h = turn-holds S n t.state t.sends (inl (c.start, own))
     (agent-same T n (S.agents n) t.state c.start own c.decided c.taken c.said (subst (λ x. AllByRecursion (WaitingOk T n) x) (sym c.waiting) k.waiting)
     (queue-later S T n (came-turn S n t.state t.sends (inl c.start) closes n) (S.agents n).initiating.queue came t.state.initiating.queue (h.agents n).queue new c.queue)
     phase k)
-    (λ g. All-mono (Plain n (S.agents n) g) (LetterOk T n g) (λ l p. letter-later S T f n g l (plain-ok S n g h up l p)) (t.sends (Agent g)) (c.sends g))
+    (λ g. all-mono (Plain n (S.agents n) g) (LetterOk T n g) (λ l p. letter-later S T f n g l (plain-ok S n g h up l p)) (t.sends (Agent g)) (c.sends g))
     (λ g. plain-order n (S.agents n) g (S.history.began n) (t.sends (Agent g)) (c.sends g))
     closes
     h
@@ -652,7 +631,7 @@ calm-holds S n came t up c own new h = turn-holds S n t.state t.sends (inl (c.st
     f = later-turn S n t.state t.sends (inl c.start)
 
     closes : (g j : ℕ) → AllByRecursion (ClosesFrom (S.history.began n) j) (t.sends (Agent g))
-    closes g j = All-mono (Plain n (S.agents n) g) (ClosesFrom (S.history.began n) j) (plain-closes n (S.agents n) g (S.history.began n) j) (t.sends (Agent g)) (c.sends g)
+    closes g j = all-mono (Plain n (S.agents n) g) (ClosesFrom (S.history.began n) j) (plain-closes n (S.agents n) g (S.history.began n) j) (t.sends (Agent g)) (c.sends g)
 
     k : AgentOk T n (S.agents n)
     k = agent-turn S n t.state t.sends (inl c.start) closes n (S.agents n) (h.agents n)
@@ -672,7 +651,7 @@ calm-holds S n came t up c own new h = turn-holds S n t.state t.sends (inl (c.st
 pub waiting-holds : (S : State) (n : ℕ) (ws : List Waiting) → AllByRecursion (WaitingOk S n) ws → Holds S → Holds (after S n (record (S.agents n) { waiting = ws }) (λ b. []) S.history)
 waiting-holds S n ws ok h = turn-holds S n a (λ b. []) (inl (refl, refl))
     (agent-same T n (S.agents n) a refl refl refl refl refl
-    (All-mono (WaitingOk S n) (WaitingOk T n) (λ x p. waiting-later S T n (came-turn S n a (λ b. []) (inl refl) (λ g j. tt) n) x.from x.letter p) ws ok)
+    (all-mono (WaitingOk S n) (WaitingOk T n) (λ x p. waiting-later S T n (came-turn S n a (λ b. []) (inl refl) (λ g j. tt) n) x.from x.letter p) ws ok)
     k.queue phase k)
     (λ g. tt) (λ g. tt) (λ g j. tt) h
   where
@@ -692,27 +671,19 @@ waiting-holds S n ws ok h = turn-holds S n a (λ b. []) (inl (refl, refl))
     ]
 
 -- a message of any actor that waits
-pub waits_of-holds : (S : State) (from : Actor) (n : ℕ) (l : Letter) → WaitingFrom S n from l → Holds S
+pub waits-holds : (S : State) (from : Actor) (n : ℕ) (l : Letter) → WaitingFrom S n from l → Holds S
     → Holds (after S n (record (S.agents n) { waiting = (S.agents n).waiting ++ record { from = from; letter = l } ∷ [] }) (λ b. []) S.history)
-waits_of-holds S from n l p h = waiting-holds S n ((S.agents n).waiting ++ record { from = from; letter = l } ∷ [])
-    (All-append (WaitingOk S n) (S.agents n).waiting (record { from = from; letter = l } ∷ []) (h.agents n).waiting (p, tt)) h
-
--- one of an agent
-pub waits-holds : (S : State) (k n : ℕ) (l : Letter) → WaitingFrom S n (Agent k) l → Holds S
-    → Holds (after S n (record (S.agents n) { waiting = (S.agents n).waiting ++ record { from = Agent k; letter = l } ∷ [] }) (λ b. []) S.history)
-waits-holds S k n l p h = waits_of-holds S (Agent k) n l p h
-
-pub All-kept : {A : Type 0} (P : A → Type 0) (test : A → Bool) (xs : List A) → AllByRecursion P xs → AllByRecursion P (filter test xs)
-All-kept P test [] h = tt
-All-kept P test (x ∷ xs) h = All-if P (test x) (x ∷ filter test xs) (filter test xs) (h.0, All-kept P test xs h.1) (All-kept P test xs h.1)
+waits-holds S from n l p h = waiting-holds S n ((S.agents n).waiting ++ record { from = from; letter = l } ∷ [])
+    (all-append (WaitingOk S n) (S.agents n).waiting (record { from = from; letter = l } ∷ []) (h.agents n).waiting (p, tt)) h
 
 -- of those that wait, the ones that pass a test
 pub waiting-shrinks : (S : State) (n : ℕ) (test : Waiting → Bool) → Holds S
     → Holds (after S n (record (S.agents n) { waiting = filter test (S.agents n).waiting }) (λ b. []) S.history)
-waiting-shrinks S n test h = waiting-holds S n (filter test (S.agents n).waiting) (All-kept (WaitingOk S n) test (S.agents n).waiting (h.agents n).waiting) h
+waiting-shrinks S n test h = waiting-holds S n (filter test (S.agents n).waiting) (all-filter (WaitingOk S n) test (S.agents n).waiting (h.agents n).waiting) h
 
 -- ---- an agent that stops
 
+-- what came before another began too
 pub earlier-in : (r s : ℕ) (xs : List ℕ) → Earlier r s xs → In r xs
 earlier-in r s [] e = absurd e
 earlier-in r s (x ∷ xs) (inl e) = inr e.1
@@ -723,6 +694,7 @@ pub last-not-earlier : (r s : ℕ) (xs : List ℕ) → Distinct (r ∷ xs) → E
 last-not-earlier r s xs d (inl e) = d.0 e.1
 last-not-earlier r s xs d (inr e) = d.0 (earlier-in r s xs e)
 
+-- an agent that never ran knows nothing that could fail
 pub new_agent-known : (S : State) (h : ℕ) → AgentOk S h (new_agent 0)
 new_agent-known S h = record {
   own = tt;
@@ -738,6 +710,7 @@ new_agent-known S h = record {
   initiates = inl tt;
 }
 
+-- An agent that stops says so to all others.
 pub stops-holds : (S : State) (n : ℕ) (t : Turn AgentState) → 0 < start_at S n → t.state ≡ new_agent 0
     → ((g : ℕ) → is_host S.deployment g ≡ true → (g == n) ≡ false → t.sends (Agent g) ≡ open_letter (msg.Closed (start_at S n)) ∷ [])
     → ((g : ℕ) → ((is_host S.deployment g ≡ false) ⊎ ((g == n) ≡ true)) → t.sends (Agent g) ≡ [])

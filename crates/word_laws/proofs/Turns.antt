@@ -12,72 +12,23 @@ use Rattle.volt_wire.specs.declared.end.End.{End}
 use Rattle.volt_wire.specs.declared.message.Msg.{Msg}
 use Rattle.volt_wire.specs.declared.message.Msg.TheVariants as msg
 use Rattle.cluster_model.specs.Engine.{Database, CoordStep, Round, Finish}
-use Rattle.cluster_model.specs.Words.{Deployment, part_of_slot, is_host, slots_of_host, all_parts, with_number, is_in, term_of, same_numbers, same_pairs, same_word, members, initiator, leader, start_of, start_of_slot, is_member, part_down, admits, with_admitted, with_lost, union}
+use Rattle.cluster_model.specs.Words.{Deployment, part_of_slot, is_host, slots_of_host, all_parts, with_number, is_in, term_of, same_word, members, initiator, leader, start_of, start_of_slot, is_member, part_down, admits, with_admitted}
 use Rattle.cluster_model.specs.Letters.{Blocks, same, Letter, Turn, becomes, sending, ◌▸◌, open_letter, letter_to, letter_in, only}
-use Rattle.cluster_model.specs.AgentState.{AgentState, Phase, Off, Hears, Closes, Idle, Works, Work, Job, RunCall, TakeSnapshot, Queued, Job_, Admission, Heard, Initiating, new_agent, initiates, answers_client, on_reply, stops, stops_with_host}
+use Rattle.cluster_model.specs.AgentState.{AgentState, Phase, Off, Hears, Closes, Idle, Works, Work, Job, RunCall, TakeSnapshot, Queued, Job_, Admission, Heard, Initiating, initiates, answers_client, on_reply, stops, stops_with_host}
 use Rattle.cluster_model.specs.Initiator.{to_all_leaders, begins, admitting, works_queue, if_idle, queues, answers, no_work, with_work, with_phase, all_finished, open_told, rests, ends_job, goes_on, feeds, ends_round, gathers, on_frag_done, settles, on_finished, done_to, closes_open, first_number, hears, on_mp_state}
-use Rattle.cluster_model.specs.Agent.{to_slot, to_partition, to_initiator, hands_on, unless_down, on_call, on_closed, on_word, on_hello, takes_word, on_decided, asks_initiator, has_loaded, on_loaded, is_other_word, word_to, says, decides_word, is_word, may_decide, agrees, from_agent, from_site, from_director, from_client, agent_row}
+use Rattle.cluster_model.specs.Agent.{to_slot, to_partition, to_initiator, hands_on, unless_down, on_call, on_hello, on_decided, asks_initiator, has_loaded, on_loaded, is_other_word, says, decides_word, is_word, may_decide, from_agent, from_site, from_director, from_client, agent_row}
 use Rattle.word_laws.specs.Histories.{In, IsOff}
+use Rattle.word_laws.proofs.Lists.{all-append, all-if, same-some, in-left, in-right, in-cases}
+use Rattle.word_laws.proofs.Algebra.{same_word-is}
 use Rattle.word_laws.proofs.Moves.{Plain, AdmitsNow, Calm, asked_by, BringsWord}
-use Rattle.word_laws.proofs.Rows.{All-append, All-if}
 
 -- ---- words that are the same
 
-pub same_numbers-equal : (xs ys : List ℕ) → same_numbers xs ys ≡ true → xs ≡ ys
-same_numbers-equal [] [] e = refl
-same_numbers-equal [] (y ∷ ys) e = absurd (cc)
-same_numbers-equal (x ∷ xs) [] e = absurd (cc)
-same_numbers-equal (x ∷ xs) (y ∷ ys) e =
-    let (one, rest) = and_parts (x == y) (same_numbers xs ys) e in
-    rw (eqb-true x y one, same_numbers-equal xs ys rest)
-
-pub same_pairs-equal : (xs ys : List (ℕ × ℕ)) → same_pairs xs ys ≡ true → xs ≡ ys
-same_pairs-equal [] [] e = refl
-same_pairs-equal [] (y ∷ ys) e = absurd (cc)
-same_pairs-equal (x ∷ xs) [] e = absurd (cc)
-same_pairs-equal (x ∷ xs) (y ∷ ys) e =
-    let (both, rest) = and_parts (x.0 == y.0 && x.1 == y.1) (same_pairs xs ys) e in
-    let (one, two) = and_parts (x.0 == y.0) (x.1 == y.1) both in
-    let p : x ≡ y = ap (λ z. (z, x.1)) (eqb-true x.0 y.0 one) ∙ ap (λ z. (y.0, z)) (eqb-true x.1 y.1 two) in
-    rw (p, same_pairs-equal xs ys rest)
-
--- with the same first hosts they are equal
-pub same_word-equal : (v w : Membership) → v.first ≡ w.first → same_word v w ≡ true → v ≡ w
-same_word-equal v w f e =
-    let (two, three) = and_parts (v.base == w.base && same_numbers v.lost w.lost) (same_pairs v.admitted w.admitted) e in
-    let (one, two) = and_parts (v.base == w.base) (same_numbers v.lost w.lost) two in
-    ap (λ x. record v { base = x }) (eqb-true v.base w.base one)
-    ∙ ap (λ x. record v { base = w.base; first = x }) f
-    ∙ ap (λ x. record w { lost = x; admitted = v.admitted }) (same_numbers-equal v.lost w.lost two)
-    ∙ ap (λ x. record w { admitted = x }) (same_pairs-equal v.admitted w.admitted three)
-
 same_word-like : (v w d : Membership) → v.first ≡ w.first → same_word v d ≡ true → same_word w d ≡ true → v ≡ w
 same_word-like v w d f e g =
-    let p : v ≡ record d { first = v.first } = same_word-equal v (record d { first = v.first }) refl e in
-    let q : w ≡ record d { first = w.first } = same_word-equal w (record d { first = w.first }) refl g in
+    let p : v ≡ record d { first = v.first } = same_word-is v (record d { first = v.first }) refl e in
+    let q : w ≡ record d { first = w.first } = same_word-is w (record d { first = w.first }) refl g in
     p ∙ ap (λ x. record d { first = x }) f ∙ sym q
-
-Some-same : {A : Type 0} (x y : A) → Some x ≡ Some y → x ≡ y
-Some-same x y e = cc
-
--- ---- lists
-
-pub In-append : {A : Type 0} (x : A) (xs ys : List A) → In x xs → In x (xs ++ ys)
-In-append x [] ys i = elim i [ ]
-In-append x (y ∷ xs) ys (inl e) = inl e
-In-append x (y ∷ xs) ys (inr i) = inr (In-append x xs ys i)
-
-pub In-append-later : {A : Type 0} (x : A) (xs ys : List A) → In x ys → In x (xs ++ ys)
-In-append-later x [] ys i = i
-In-append-later x (y ∷ xs) ys i = inr (In-append-later x xs ys i)
-
-pub In-append-cases : {A : Type 0} (x : A) (xs ys : List A) → In x (xs ++ ys) → In x xs ⊎ In x ys
-In-append-cases x [] ys i = inr i
-In-append-cases x (y ∷ xs) ys (inl e) = inl (inl e)
-In-append-cases x (y ∷ xs) ys (inr i) = elim (In-append-cases x xs ys i) [
-  | inl j ↦ inl (inr j)
-  | inr j ↦ inr j
-]
 
 -- ---- a turn that brings no word, from a first state through others
 
@@ -101,7 +52,7 @@ calm-first a came = record {
   said = refl;
   waiting = refl;
   own = inl refl;
-  queue = λ j h term i. In-append (Admission j h term) a.initiating.queue came i;
+  queue = λ j h term i. in-left (Admission j h term) a.initiating.queue came i;
   phase = off-or a.initiating.phase;
 }
   where
@@ -112,6 +63,7 @@ calm-first a came = record {
     off-or Idle = inr (λ x. x)
     off-or Works = inr (λ x. x)
 
+-- at a state, with what was sent on the way there, and back
 pub calm-at : (n : ℕ) (a0 : AgentState) (came : List Queued) (t : Turn AgentState) → CalmAt a0 came t.state
     → ((g : ℕ) → AllByRecursion (Plain n a0 g) (t.sends (Agent g))) → Calm n a0 came t
 calm-at n a0 came t h s = record {
@@ -138,9 +90,11 @@ calm-state n a0 came t h = record {
   phase = h.phase;
 }
 
+-- a turn that sends nothing
 pub becomes-calm : (n : ℕ) (a0 : AgentState) (came : List Queued) (a : AgentState) → CalmAt a0 came a → Calm n a0 came (becomes a)
 becomes-calm n a0 came a h = calm-at n a0 came (becomes a) h (λ g. tt)
 
+-- the one turn or the other
 pub calm-if : (n : ℕ) (a0 : AgentState) (came : List Queued) (c : Bool) (x y : Turn AgentState) → Calm n a0 came x → Calm n a0 came y → Calm n a0 came (if c then x else y)
 calm-if n a0 came true x y p q = p
 calm-if n a0 came false x y p q = q
@@ -150,7 +104,7 @@ pub then-calm : (n : ℕ) (a0 : AgentState) (came : List Queued) (t : Turn Agent
     → Calm n a0 came t → (CalmAt a0 came t.state → Calm n a0 came (f t.state)) → Calm n a0 came (t ▸ f)
 then-calm n a0 came t f h k = let r = k (calm-state n a0 came t h) in
     calm-at n a0 came (t ▸ f) (calm-state n a0 came (f t.state) r)
-    (λ g. All-append (Plain n a0 g) (t.sends (Agent g)) ((f t.state).sends (Agent g)) (h.sends g) (r.sends g))
+    (λ g. all-append (Plain n a0 g) (t.sends (Agent g)) ((f t.state).sends (Agent g)) (h.sends g) (r.sends g))
 
 -- with its own word, decided and taken ones, and all else that words go by
 calm-with : (a0 : AgentState) (came : List Queued) (a b : AgentState) → CalmAt a0 came a
@@ -210,9 +164,9 @@ admits-again : (a0 : AgentState) (came : List Queued) (now : Option Membership) 
     → (now ≡ a0.own) ⊎ AdmitsNow a0 came now → now ≡ Some own → a0.decided ≡ Some decided → same_word own decided ≡ true → a0.own ≡ Some own
 admits-again a0 came now own decided (inl e) is d same = sym e ∙ is
 admits-again a0 came now own decided (inr m) is d same =
-    let q : own ≡ with_admitted m.start m.host m.word = Some-same own (with_admitted m.start m.host m.word) (sym is ∙ m.becomes) in
+    let q : own ≡ with_admitted m.start m.host m.word = same-some (sym is ∙ m.becomes) in
     let f : own.first ≡ m.word.first = ap (λ x. x.first) q in
-    let k : m.decided ≡ decided = Some-same m.decided decided (sym m.is_decided ∙ d) in
+    let k : m.decided ≡ decided = same-some (sym m.is_decided ∙ d) in
     let p : own ≡ m.word = same_word-like own m.word decided f same (rw k at m.same) in
     rw p m.is_own
 
@@ -249,6 +203,7 @@ admitting-calm a0 came a (Some own) (Some decided) start host term on asked o d 
       phase = h.phase;
     }
 
+-- the queue of an initiator, of which it may admit a start
 pub works_queue-calm : (n : ℕ) (a0 : AgentState) (came : List Queued) (E : Database) (D : Deployment) (a : AgentState) (q : List Queued)
     → (IsOff a0.initiating.phase → ⊥) → FromFirst a0 came q → CalmAt a0 came a → Calm n a0 came (works_queue E D a q)
 works_queue-calm n a0 came E D a [] on from h =
@@ -276,7 +231,7 @@ queues-calm n a0 came E D a q from h =
     let b = record a { initiating = record a.initiating { queue = a.initiating.queue ++ q ∷ [] } } in
     if_idle-calm n a0 came E D b b.initiating.phase h.phase
     (calm-initiating a0 came a b.initiating h
-    (λ j k term i. elim (In-append-cases (Admission j k term) a.initiating.queue (q ∷ []) i) [
+    (λ j k term i. elim (in-cases (Admission j k term) a.initiating.queue (q ∷ []) i) [
       | inl p ↦ h.queue j k term p
       | inr p ↦ from j k term p
     ]) h.phase)
@@ -292,7 +247,7 @@ answers-calm n a0 came D a TakeSnapshot (Some e) h = becomes-calm n a0 came a h
 answers-calm n a0 came D a (RunCall call host start body) (Some e) h =
     let reply = sending a (only (Agent host) (letter_to start (msg.MpReply call e))) in
     calm-if n a0 came (host == n && start == a.start) (on_reply D a call e) reply (on_reply-calm n a0 came D a call e h)
-    (calm-at n a0 came reply h (λ g. All-if (Plain n a0 g) (same (Agent host) (Agent g)) (letter_to start (msg.MpReply call e) ∷ []) [] (tt, tt) tt))
+    (calm-at n a0 came reply h (λ g. all-if (Plain n a0 g) (same (Agent host) (Agent g)) (letter_to start (msg.MpReply call e) ∷ []) [] (tt, tt) tt))
 
 rests-calm : (n : ℕ) (a0 : AgentState) (came : List Queued) (E : Database) (D : Deployment) (a : AgentState)
     → (IsOff a0.initiating.phase → ⊥) → CalmAt a0 came a → Calm n a0 came (rests E D a)
@@ -426,7 +381,7 @@ to_initiator-calm : (n : ℕ) (a0 : AgentState) (came : List Queued) (a : AgentS
 to_initiator-calm n a0 came a call c body None h = becomes-calm n a0 came a h
 to_initiator-calm n a0 came a call c body (Some first) h =
     calm-at n a0 came (to_initiator a call c body (Some first)) (calm-with a0 came a _ h refl refl refl refl refl refl h.queue h.phase)
-    (λ g. All-if (Plain n a0 g) (same (Agent first.0) (Agent g)) (letter_to first.1 (msg.MpCall call a.start body) ∷ []) [] (tt, tt) tt)
+    (λ g. all-if (Plain n a0 g) (same (Agent first.0) (Agent g)) (letter_to first.1 (msg.MpCall call a.start body) ∷ []) [] (tt, tt) tt)
 
 hands_on-calm : (n : ℕ) (a0 : AgentState) (came : List Queued) (D : Deployment) (a : AgentState) (w : Membership) (c call : ℕ) (part : Option ℕ) (body : List ℕ) → CalmAt a0 came a → Calm n a0 came (hands_on D a w c call part body)
 hands_on-calm n a0 came D a w c call (Some part) body h = to_partition-calm n a0 came D a w call c body (leader D w part) h
@@ -449,7 +404,7 @@ on_hello-calm n a0 came a None host start d h = becomes-calm n a0 came a h
 on_hello-calm n a0 came a (Some w) host start d h =
     let reply = sending a (only (Agent host) (letter_to start (msg.Decided w))) in
     calm-if n a0 came (is_member w n a.start) reply (becomes a)
-    (calm-at n a0 came reply h (λ g. All-if (Plain n a0 g) (same (Agent host) (Agent g)) (letter_to start (msg.Decided w) ∷ []) [] ((refl, d), tt) tt))
+    (calm-at n a0 came reply h (λ g. all-if (Plain n a0 g) (same (Agent host) (Agent g)) (letter_to start (msg.Decided w) ∷ []) [] ((refl, d), tt) tt))
     (becomes-calm n a0 came a h)
 
 asks_initiator-calm : (n : ℕ) (a0 : AgentState) (came : List Queued) (a : AgentState) (w : Membership) (first : Option (ℕ × ℕ)) → a0.taken ≡ Some w → CalmAt a0 came a → Calm n a0 came (asks_initiator n a w first)
@@ -488,7 +443,7 @@ from_agent-calm E D n stamp a g l none =
       | msg.MpCall call start body ↦ λ k. let job = RunCall call g start body in queues-calm n a [] E D a (Job_ job) (job-none a [] job) (calm-first a [])
       | msg.MpReply call e ↦ λ k. on_reply-calm n a [] D a call e (calm-first a [])
       | msg.Admit start ↦ λ k. let came = Admission start g l.term ∷ [] in
-          queues-calm n a came E D a (Admission start g l.term) (λ j h term i. In-append-later (Admission j h term) a.initiating.queue came i) (calm-first a came)
+          queues-calm n a came E D a (Admission start g l.term) (λ j h term i. in-right (Admission j h term) a.initiating.queue came i) (calm-first a came)
       | m ↦ λ k. becomes-calm n a [] a (calm-first a [])
     ] none
 
@@ -531,64 +486,7 @@ row-calm E D n stamp a (Scanner x) l none = becomes-calm n a [] a (calm-first a 
 
 -- ---- the rows that bring words
 
--- What such a row keeps, unless the agent stops or takes its first word.
-pub record Keeps (a b : AgentState) : Type 0 where
-  pub start : b.start ≡ a.start
-  pub decided : b.decided ≡ a.decided
-  pub taken : b.taken ≡ a.taken
-  pub waiting : b.waiting ≡ a.waiting
-  pub initiating : b.initiating ≡ a.initiating
-
-pub keeps-all : (a : AgentState) → Keeps a a
-keeps-all a = record { start = refl; decided = refl; taken = refl; waiting = refl; initiating = refl }
-
-pub on_closed-keeps : (a : AgentState) (own : Option Membership) (s : ℕ) → Keeps a (on_closed a own s) × ((on_closed a own s).said ≡ a.said)
-on_closed-keeps a None s = (keeps-all a, refl)
-on_closed-keeps a (Some w) s = (record { start = refl; decided = refl; taken = refl; waiting = refl; initiating = refl }, refl)
-
-pub on_closed-none : (a : AgentState) (s : ℕ) → on_closed a None s ≡ a
-on_closed-none a s = refl
-
-pub on_closed-own : (a : AgentState) (w : Membership) (s : ℕ) → (on_closed a (Some w) s).own ≡ Some (with_lost s w)
-on_closed-own a w s = refl
-
-pub on_word-keeps : (a : AgentState) (own : Option Membership) (host base : ℕ) (lost : List ℕ) (admitted : List (ℕ × ℕ)) → Keeps a (on_word a own host base lost admitted)
-on_word-keeps a None host base lost admitted = keeps-all a
-on_word-keeps a (Some w) host base lost admitted = choice (w.base == base) _ (record { start = refl; decided = refl; taken = refl; waiting = refl; initiating = refl })
-  where
-    choice : (c : Bool) (x : AgentState) → Keeps a x → Keeps a (if c then x else a)
-    choice true x k = k
-    choice false x k = keeps-all a
-
-pub on_word-none : (a : AgentState) (host base : ℕ) (lost : List ℕ) (admitted : List (ℕ × ℕ)) → on_word a None host base lost admitted ≡ a
-on_word-none a host base lost admitted = refl
-
--- of another base
-pub on_word-other : (a : AgentState) (w : Membership) (host base : ℕ) (lost : List ℕ) (admitted : List (ℕ × ℕ)) → (w.base == base) ≡ false
-    → on_word a (Some w) host base lost admitted ≡ a
-on_word-other a w host base lost admitted other = rw other refl
-
--- the word that was heard, of the first hosts of the agent's own
-abbrev pub heard_word : Membership → List ℕ → List (ℕ × ℕ) → Membership
-heard_word w lost admitted = record w { lost = lost; admitted = admitted }
-
-pub on_word-own : (a : AgentState) (w : Membership) (host base : ℕ) (lost : List ℕ) (admitted : List (ℕ × ℕ)) → (w.base == base) ≡ true
-    → (on_word a (Some w) host base lost admitted).own ≡ Some (union (heard_word w lost admitted) w)
-on_word-own a w host base lost admitted like = rw like refl
-
-pub on_word-said : (a : AgentState) (w : Membership) (host base : ℕ) (lost : List ℕ) (admitted : List (ℕ × ℕ)) (g : ℕ) → (w.base == base) ≡ true
-    → (on_word a (Some w) host base lost admitted).said g ≡ (if g == host then Some (heard_word w lost admitted) else a.said g)
-on_word-said a w host base lost admitted g like = rw like refl
-
--- Decided, to an agent that decided a word
-pub on_decided-member : (D : Deployment) (n : ℕ) (a : AgentState) (decided : Membership) (taken : Option Membership) (w : Membership) → on_decided D n a (Some decided) taken w ≡ becomes a
-on_decided-member D n a decided taken w = refl
-
--- to a joiner without a word
-pub on_decided-first : (D : Deployment) (n : ℕ) (a : AgentState) (w : Membership) → on_decided D n a None None w ≡ takes_word D n a w
-on_decided-first D n a w = refl
-
--- to one that took a word
+-- Decided, as it comes to a joiner that took a word: it stops, or does nothing
 pub on_decided-joiner : (D : Deployment) (n : ℕ) (a : AgentState) (taken w : Membership)
     → (on_decided D n a None (Some taken) w ≡ stops_with_host D n a.start) ⊎ (on_decided D n a None (Some taken) w ≡ becomes a)
 on_decided-joiner D n a taken w = choice (nat_lt (term_of taken) (term_of w) && not (admits w a.start))
@@ -597,25 +495,12 @@ on_decided-joiner D n a taken w = choice (nat_lt (term_of taken) (term_of w) && 
     choice true = inl refl
     choice false = inr refl
 
--- it goes on with a word that isn't later, or that admits it
-pub on_decided-stays : (D : Deployment) (n : ℕ) (a : AgentState) (taken w : Membership) → (nat_lt (term_of taken) (term_of w) && not (admits w a.start)) ≡ false
-    → on_decided D n a None (Some taken) w ≡ becomes a
-on_decided-stays D n a taken w e = rw e refl
-
-pub takes_word-state : (D : Deployment) (n : ℕ) (a : AgentState) (w : Membership) → (takes_word D n a w).state ≡ record a { own = Some w; taken = Some w }
-takes_word-state D n a w = refl
-
-pub takes_word-silent : (D : Deployment) (n : ℕ) (a : AgentState) (w : Membership) (g : ℕ) → (takes_word D n a w).sends (Agent g) ≡ []
-takes_word-silent D n a w g = refl
-
 -- ---- an agent that stops
 
 pub stops_with_host-closed : (D : Deployment) (n s g : ℕ) → (stops_with_host D n s).sends (Agent g) ≡ (stops D n s).sends (Agent g)
 stops_with_host-closed D n s g = refl
 
-pub stops_with_host-state : (D : Deployment) (n s : ℕ) → (stops_with_host D n s).state ≡ new_agent 0
-stops_with_host-state D n s = refl
-
+-- an agent that stops says Closed to each other host, and to no one else
 pub stops-sends : (D : Deployment) (n s g : ℕ) → is_host D g ≡ true → (g == n) ≡ false → (stops D n s).sends (Agent g) ≡ open_letter (msg.Closed s) ∷ []
 stops-sends D n s g is other = rw (is, other) refl
 
@@ -628,21 +513,11 @@ stops-sends-none D n s g (inr e) = choice (is_host D g) (g == n) e
     choice true false q = absurd (cc)
     choice false b q = refl
 
--- all that it says to other agents is Closed
-pub stops-says : (D : Deployment) (n s g : ℕ) → AllByRecursion (λ l. l ≡ open_letter (msg.Closed s)) ((stops D n s).sends (Agent g))
-stops-says D n s g =
-    All-if (λ l. l ≡ open_letter (msg.Closed s)) (is_host D g) (if g == n then [] else open_letter (msg.Closed s) ∷ []) []
-    (All-if (λ l. l ≡ open_letter (msg.Closed s)) (g == n) [] (open_letter (msg.Closed s) ∷ []) tt (refl, tt)) tt
-
 -- ---- what follows a row: the agent says its word, and decides it
 
 pub says-state : (n : ℕ) (a : AgentState) (own : Option Membership) → (says n a own).state ≡ a
 says-state n a None = refl
 says-state n a (Some w) = refl
-
-pub says-sends : (n : ℕ) (a : AgentState) (w : Membership) (g : ℕ)
-    → (says n a (Some w)).sends (Agent g) ≡ (if is_member w n a.start && not (g == n) then word_to w (start_of w g) else [])
-says-sends n a w g = refl
 
 -- if it is another than before
 abbrev pub tells : ℕ → Option Membership → AgentState → Turn AgentState
@@ -652,12 +527,14 @@ tells n before a = if is_other_word before a.own then says n a a.own else become
 abbrev pub concludes : Deployment → ℕ → AgentState → Turn AgentState
 concludes D n a = if may_decide n a a.own then decides_word D n a a.own else becomes a
 
+-- with the same word as before it says nothing, with another one it says that
 pub tells-same : (n : ℕ) (before : Option Membership) (a : AgentState) → is_other_word before a.own ≡ false → tells n before a ≡ becomes a
 tells-same n before a e = rw e refl
 
 pub tells-other : (n : ℕ) (before : Option Membership) (a : AgentState) → is_other_word before a.own ≡ true → tells n before a ≡ says n a a.own
 tells-other n before a e = rw e refl
 
+-- it decides its word where it may, and else does nothing
 pub concludes-not : (D : Deployment) (n : ℕ) (a : AgentState) → may_decide n a a.own ≡ false → concludes D n a ≡ becomes a
 concludes-not D n a e = rw e refl
 
@@ -671,20 +548,6 @@ tells-state n before a = choice (is_other_word before a.own)
     choice true = says-state n a a.own
     choice false = refl
 
-pub agrees-state : (D : Deployment) (n : ℕ) (before : Option Membership) (a : AgentState) → (agrees D n before a).state ≡ (concludes D n a).state
-agrees-state D n before a = ap (λ b. (concludes D n b).state) (tells-state n before a)
-
-pub agrees-sends : (D : Deployment) (n : ℕ) (before : Option Membership) (a : AgentState) (b : Actor)
-    → (agrees D n before a).sends b ≡ (tells n before a).sends b ++ (concludes D n a).sends b
-agrees-sends D n before a b = ap (λ c. (tells n before a).sends b ++ (concludes D n c).sends b) (tells-state n before a)
-
-pub agrees-same : (D : Deployment) (n : ℕ) (before : Option Membership) (a : AgentState) → is_other_word before a.own ≡ false → may_decide n a a.own ≡ false
-    → ((agrees D n before a).state ≡ a) × ((b : Actor) → (agrees D n before a).sends b ≡ [])
-agrees-same D n before a like not_all = (
-  agrees-state D n before a ∙ ap (λ t. t.state) (concludes-not D n a not_all),
-  λ b. agrees-sends D n before a b ∙ ap (λ t. t.sends b ++ (concludes D n a).sends b) (tells-same n before a like) ∙ ap (λ t. t.sends b) (concludes-not D n a not_all),
-)
-
 -- What an agent knows once it has decided the word w.
 pub record Decides (n : ℕ) (a : AgentState) (w : Membership) (b : AgentState) : Type 0 where
   pub start : b.start ≡ a.start
@@ -696,6 +559,7 @@ pub record Decides (n : ℕ) (a : AgentState) (w : Membership) (b : AgentState) 
   pub decided : b.decided ≡ Some w
   pub phase : IsOff b.initiating.phase ⊎ (initiates n b (Some w) ≡ true)
 
+-- what it is then, and what it says
 pub decides-state : (D : Deployment) (n : ℕ) (a : AgentState) (w : Membership) → Decides n a w (decides_word D n a (Some w)).state
 decides-state D n a w = choice (initiates n a (Some w)) refl
   where
@@ -707,24 +571,16 @@ decides-state D n a w = choice (initiates n a (Some w)) refl
 
 pub decides-sends : (D : Deployment) (n : ℕ) (a : AgentState) (w : Membership) (g : ℕ)
     → AllByRecursion (λ l. l ≡ open_letter (msg.Decided w)) ((decides_word D n a (Some w)).sends (Agent g))
-decides-sends D n a w g = All-if (λ l. l ≡ open_letter (msg.Decided w)) (is_host D g && not (g == n) && is_none (start_of w g)) (open_letter (msg.Decided w) ∷ []) [] (refl, tt) tt
+decides-sends D n a w g = all-if (λ l. l ≡ open_letter (msg.Decided w)) (is_host D g && not (g == n) && is_none (start_of w g)) (open_letter (msg.Decided w) ∷ []) [] (refl, tt) tt
 
+-- where it may, it is a member, and has heard the word from all others
 pub may_decide-cases : (n : ℕ) (a : AgentState) (w : Membership) → may_decide n a (Some w) ≡ true
     → (is_member w n a.start ≡ true) × (list_all (λ m. m.0 == n || is_word w (a.said m.0)) (members w) ≡ true)
 may_decide-cases n a w e =
     let (front, all) = and_parts (is_member w n a.start && not (is_word w a.decided)) (list_all (λ m. m.0 == n || is_word w (a.said m.0)) (members w)) e in
     ((and_parts (is_member w n a.start) (not (is_word w a.decided)) front).0, all)
 
--- it is another word than the one that it decided last
-pub may_decide-new : (n : ℕ) (a : AgentState) (w : Membership) → may_decide n a (Some w) ≡ true → is_word w a.decided ≡ false
-may_decide-new n a w e =
-    let (front, all) = and_parts (is_member w n a.start && not (is_word w a.decided)) (list_all (λ m. m.0 == n || is_word w (a.said m.0)) (members w)) e in
-    not-true (is_word w a.decided) (and_parts (is_member w n a.start) (not (is_word w a.decided)) front).1
-  where
-    not-true : (c : Bool) → not c ≡ true → c ≡ false
-    not-true true q = absurd (cc)
-    not-true false q = refl
-
+-- of two words that aren't other ones
 pub is_other_word-same : (v w : Membership) → is_other_word (Some v) (Some w) ≡ false → same_word v w ≡ true
 is_other_word-same v w e = choice (same_word v w) e
   where
@@ -734,4 +590,4 @@ is_other_word-same v w e = choice (same_word v w) e
 
 -- so then two words of the same first hosts are one
 pub is_other_word-equal : (v w : Membership) → v.first ≡ w.first → is_other_word (Some v) (Some w) ≡ false → v ≡ w
-is_other_word-equal v w f e = same_word-equal v w f (is_other_word-same v w e)
+is_other_word-equal v w f e = same_word-is v w f (is_other_word-same v w e)

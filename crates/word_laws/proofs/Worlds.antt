@@ -1,10 +1,9 @@
--- In every world of a run what holds of words holds of the epoch that it is in; from one recovery that works to the next its
--- history only grows.
+-- Each world of a run is in an epoch of which all holds, and from one recovery that works to the next the history only grows.
 use Rattle.std.proofs.Common.{◌≡◌, ◌+◌, ◌<◌, Bool, true, false, List, [], ◌∷◌, ◌++◌, append-nil, refl, sym, subst, ap, ◌∙◌, inl, inr, ◌==◌, arith, zero, suc}
 use Rattle.std.proofs.lemmas.Bool.{and_parts, eqb-true, false≢true, or_cases}
 use Rattle.std.proofs.lemmas.Bool.Decides.{nat_tests}
 use Rattle.std.proofs.lemmas.List.Folds.{list_any-append}
-use Rattle.std.specs.Prelude.{ℕ, ◌&&◌, ◌||◌, not, if◌then◌else◌, nat_lt, nat_le, map, Option, Some, None, is_none}
+use Rattle.std.specs.Prelude.{ℕ, ◌&&◌, ◌||◌, not, nat_lt, nat_le, map, Option, Some, None, is_none}
 use Rattle.std.specs.List.{AllByRecursion, list_any, range_with_len}
 use Rattle.volt_wire.specs.declared.actor.Actor.{Actor}
 use Rattle.volt_wire.specs.declared.actor.Actor.TheVariants.{Director, Client, Agent, Site, Scanner}
@@ -17,7 +16,7 @@ use Rattle.volt_wire.specs.declared.message.Msg.TheVariants as msg
 use Rattle.cluster_model.specs.Engine.{Database}
 use Rattle.cluster_model.specs.Words.{Deployment, is_host, parts, slots}
 use Rattle.cluster_model.specs.Letters.{same, Letter, Turn, open_letter}
-use Rattle.cluster_model.specs.Director.{DirectorState, does, does_next, stops_host, stops_all}
+use Rattle.cluster_model.specs.Director.{DirectorState, does, does_next}
 use Rattle.cluster_model.specs.Outside.{Outside, Fair, DiskFails, NoMemory, DisksShow}
 use Rattle.cluster_model.specs.AgentState.{new_agent}
 use Rattle.cluster_model.specs.Agent.{agent_turn, start_after}
@@ -27,9 +26,11 @@ use Rattle.cluster_model.specs.Events.{is_actor, is_some_letter, can, allows, de
 use Rattle.cluster_model.specs.Runs.{Happening, IsRun, has_failed, may_happen, run}
 use Rattle.cluster_model.specs.Laws.{starts_in}
 use Rattle.cluster_model.proofs.Starts.{takes-next}
-use Rattle.word_laws.specs.Histories.{State, History, Holds}
+use Rattle.word_laws.specs.Histories.{History, Holds}
 use Rattle.word_laws.specs.Chain.{state_of, InEpoch, renews_by, renews_at, renews}
-use Rattle.word_laws.proofs.Moves.{Grows, Goes}
+use Rattle.word_laws.proofs.Lists.{if-false}
+use Rattle.word_laws.proofs.Channels.{starts-if, stops_all-starts}
+use Rattle.word_laws.proofs.Moves.{Grows}
 use Rattle.word_laws.proofs.Steps.{channel-holds}
 use Rattle.word_laws.proofs.Epochs.{new_history, new_owner, boot-holds, recovery-holds}
 use Rattle.word_laws.proofs.Draws.{director-quiet-holds, draws-holds}
@@ -61,15 +62,15 @@ actor-host D n e =
     let no_client = none-same n Client (λ g. refl) (range_with_len 1 D.clients) in
     let no_site = none-same n Site (λ g. refl) (range_with_len 0 (slots D)) in
     let no_scanner = none-same n Scanner (λ g. refl) (range_with_len 0 (slots D)) in
-    let among : list_any Test agents ≡ true = only_second (list_any Test clients) (list_any Test agents) (list_any Test sites) (list_any Test scanners) no_client no_site no_scanner (sym parts_are ∙ e) in
+    let among : list_any Test agents ≡ true = only-second (list_any Test clients) (list_any Test agents) (list_any Test sites) (list_any Test scanners) no_client no_site no_scanner (sym parts_are ∙ e) in
     let below : n < 0 + D.layout.hosts = agent-within n 0 D.layout.hosts among in
     grind (arith, nat_tests, below)
   where
-    only_second : (a b c d : Bool) → a ≡ false → c ≡ false → d ≡ false → (((a || b) || c) || d) ≡ true → b ≡ true
-    only_second a true c d p q r e = refl
-    only_second true false c d p q r e = absurd (false≢true (sym p))
-    only_second false false true d p q r e = absurd (false≢true (sym q))
-    only_second false false false d p q r e = sym r ∙ e
+    only-second : (a b c d : Bool) → a ≡ false → c ≡ false → d ≡ false → (((a || b) || c) || d) ≡ true → b ≡ true
+    only-second a true c d p q r e = refl
+    only-second true false c d p q r e = absurd (false≢true (sym p))
+    only-second false false true d p q r e = absurd (false≢true (sym q))
+    only-second false false false d p q r e = sym r ∙ e
 
 host-apart : (D : Deployment) (n h : ℕ) → is_host D n ≡ true → is_host D h ≡ false → (h == n) ≡ false
 host-apart D n h is not_one = grind (arith, nat_tests, is, not_one)
@@ -142,36 +143,25 @@ plain-reaches w t c k same none = keeps w (with_director w t) c k k.owner
     (subst (λ n. Holds (record (state_of w k.owner k.history) { next = n; channel = sent w.channel Director t.sends })) same
     (director-quiet-holds (state_of w k.owner k.history) t.sends k.holds none)) k.outsiders
 
-none-if : (c : Bool) (xs : List Letter) → starts_in xs ≡ [] → starts_in (if c then xs else []) ≡ []
-none-if true xs h = h
-none-if false xs h = refl
-
-stops_all-none : (D : Deployment) (last : ℕ → ℕ) (g : ℕ) → starts_in (stops_all D last (Agent g)) ≡ []
-stops_all-none D last g = none-if (is_host D g) (stops_host D last g (Agent g)) (none-if (g == g) (open_letter (msg.Stop (last g)) ∷ []) refl)
-
 item-reaches : (w : World) (left : List TimedItem) (i : Item) (c : Bool) (k : InEpoch w) → Reaches k.history c (with_director w (does w.deployment (record w.director { items = left }) i))
 item-reaches w left (item.Lose host) c k = plain-reaches w (does w.deployment (record w.director { items = left }) (item.Lose host)) c k refl
-    (λ g. none-if (g == host) (open_letter (msg.Stop (w.director.last_start host)) ∷ []) refl)
+    (λ g. starts-if (g == host) (open_letter (msg.Stop (w.director.last_start host)) ∷ []) refl)
 item-reaches w left (item.Rejoin host) c k = keeps w (with_director w (does w.deployment (record w.director { items = left }) (item.Rejoin host))) c k (set_at k.owner w.director.next_start host)
     (draws-holds (state_of w k.owner k.history) host k.holds) k.outsiders
 item-reaches w left item.Snapshot c k = plain-reaches w (does w.deployment (record w.director { items = left }) item.Snapshot) c k refl
-    (λ g. none-if (is_host w.deployment g) (open_letter msg.Snap ∷ []) refl)
+    (λ g. starts-if (is_host w.deployment g) (open_letter msg.Snap ∷ []) refl)
 item-reaches w left (item.Power slot call choice) c k = plain-reaches w (does w.deployment (record w.director { items = left }) (item.Power slot call choice)) c k refl (λ g. refl)
 item-reaches w left (item.Look slot) c k = plain-reaches w (does w.deployment (record w.director { items = left }) (item.Look slot)) c k refl (λ g. refl)
-item-reaches w left item.Halt c k = plain-reaches w (does w.deployment (record w.director { items = left }) item.Halt) c k refl (λ g. stops_all-none w.deployment w.director.last_start g)
-item-reaches w left item.Recover c k = plain-reaches w (does w.deployment (record w.director { items = left }) item.Recover) c k refl (λ g. stops_all-none w.deployment w.director.last_start g)
+item-reaches w left item.Halt c k = plain-reaches w (does w.deployment (record w.director { items = left }) item.Halt) c k refl (λ g. stops_all-starts w.deployment w.director.last_start g)
+item-reaches w left item.Recover c k = plain-reaches w (does w.deployment (record w.director { items = left }) item.Recover) c k refl (λ g. stops_all-starts w.deployment w.director.last_start g)
 item-reaches w left item.Quiet c k = plain-reaches w (does w.deployment (record w.director { items = left }) item.Quiet) c k refl (λ g. refl)
 
 next-reaches : (w : World) (may : Bool) (items : List TimedItem) (c : Bool) (k : InEpoch w) → Reaches k.history c (with_director w (does_next w.deployment may w.director items))
 next-reaches w true (next ∷ left) c k = item-reaches w left next.item c k
-next-reaches w true [] c k = plain-reaches w (does_next w.deployment true w.director []) c k refl (λ g. stops_all-none w.deployment w.director.last_start g)
-next-reaches w false items c k = plain-reaches w (does_next w.deployment false w.director items) c k refl (λ g. stops_all-none w.deployment w.director.last_start g)
+next-reaches w true [] c k = plain-reaches w (does_next w.deployment true w.director []) c k refl (λ g. stops_all-starts w.deployment w.director.last_start g)
+next-reaches w false items c k = plain-reaches w (does_next w.deployment false w.director items) c k refl (λ g. stops_all-starts w.deployment w.director.last_start g)
 
 -- ---- an epoch begins
-
-if-false : {A : Type 0} (c : Bool) (x y : A) → c ≡ false → (if c then x else y) ≡ y
-if-false false x y e = refl
-if-false true x y e = absurd (false≢true (sym e))
 
 pub first-holds : (E : Database) (I : Input) → InEpoch (first_world E I)
 first-holds E I =
@@ -272,10 +262,12 @@ step-grows E w e may same k = let r = step-reaches E w e may k in (r.next, r.gro
 
 -- ---- runs
 
+-- Each world of a run is in an epoch, if the first one is.
 pub run-holds : (E : Database) (es : List Happening) (w : World) → IsRun E es w → InEpoch w → InEpoch (run E es w)
 run-holds E [] w r k = k
 run-holds E (e ∷ es) w r k = run-holds E es (step E w e) r.1 (step-holds E w e r.0 k)
 
+-- Where no recovery works on the way, it is the same one.
 pub run-grows : (E : Database) (es : List Happening) (w : World) → IsRun E es w → AllByRecursion (λ e. renews e ≡ false) es → (k : InEpoch w)
     → (n : InEpoch (run E es w)) × Grows k.history n.history
 run-grows E [] w r same k = (k, grows-same k.history)

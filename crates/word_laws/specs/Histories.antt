@@ -1,10 +1,10 @@
 -- The history by which the law of words is proved, and what holds of a world and its history in every run.
-use Rattle.std.proofs.Common.{◌≡◌, ◌+◌, ◌<◌, ◌≤◌, Bool, true, false, List, [], ◌∷◌, ◌++◌, ◌⊎◌, ◌==◌}
-use Rattle.std.specs.Prelude.{ℕ, ◌&&◌, ◌||◌, map, Option, Some, None}
+use Rattle.std.proofs.Common.{◌≡◌, ◌<◌, Bool, true, false, List, [], ◌∷◌, ◌⊎◌, ◌==◌}
+use Rattle.std.specs.Prelude.{ℕ, ◌||◌, map, Option, Some, None}
 use Rattle.std.specs.List.{AllByRecursion, list_any}
 use Rattle.volt_wire.specs.Word.{Membership}
 use Rattle.volt_wire.specs.declared.actor.Actor.{Actor}
-use Rattle.volt_wire.specs.declared.actor.Actor.TheVariants.{Director, Client, Agent, Site, Scanner}
+use Rattle.volt_wire.specs.declared.actor.Actor.TheVariants.{Director, Agent}
 use Rattle.volt_wire.specs.declared.message.Msg.TheVariants as msg
 use Rattle.cluster_model.specs.Words.{Deployment, is_host, is_in, term_of, start_of, initiator, admits, with_admitted}
 use Rattle.cluster_model.specs.Letters.{Letter, Waiting}

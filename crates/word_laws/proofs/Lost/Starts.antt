@@ -2,7 +2,7 @@
 use Rattle.std.proofs.Common.{◌≡◌, ◌+◌, ◌<◌, ◌≤◌, Bool, true, false, List, [], ◌∷◌, ◌++◌, refl, sym, subst, ap, ◌∙◌, ◌⊎◌, inl, inr, ◌==◌, arith}
 use Rattle.std.proofs.lemmas.Bool.{eqb-true}
 use Rattle.std.proofs.lemmas.Bool.Decides.{nat_tests}
-use Rattle.std.specs.Prelude.{ℕ, ◌&&◌, if◌then◌else◌, nat_lt, Option, Some, None}
+use Rattle.std.specs.Prelude.{ℕ, if◌then◌else◌, nat_lt, Option, Some, None}
 use Rattle.std.specs.List.{AllByRecursion}
 use Rattle.volt_wire.specs.Word.{Membership}
 use Rattle.volt_wire.specs.declared.actor.Actor.{Actor}
@@ -12,24 +12,26 @@ use Rattle.cluster_model.specs.Engine.{Database}
 use Rattle.cluster_model.specs.Letters.{same, Letter, Turn}
 use Rattle.cluster_model.specs.Outside.{Outside}
 use Rattle.cluster_model.specs.AgentState.{AgentState, new_agent}
-use Rattle.cluster_model.specs.World.{World, took, sent, rest, set_at}
+use Rattle.cluster_model.specs.World.{World, took, sent, set_at}
 use Rattle.cluster_model.specs.Events.{delivered}
 use Rattle.cluster_model.specs.Runs.{run}
 use Rattle.cluster_model.specs.Laws.{RiseFrom, start_in_letter, starts_in}
 use Rattle.word_laws.specs.Lost.{OfLost, OfLetter, OfLetterFrom, OfAgent, IsStopped, LostAreStopped}
-use Rattle.word_laws.proofs.Rows.{All-append, All-mono, All-if, OrOwn, StopsWith, Kept}
+use Rattle.word_laws.proofs.Lists.{all-append, all-mono, rise-lower}
+use Rattle.word_laws.proofs.Channels.{took-all, starts-all, starts-rise}
+use Rattle.word_laws.proofs.Lost.Rows.{OrOwn, StopsWith, Kept}
 
 -- ---- what is monotone
 
 pub lost-mono : (P Q : ℕ → Type 0) → ((s : ℕ) → P s → Q s) → (w : Option Membership) → OfLost P w → OfLost Q w
 lost-mono P Q f None h = tt
-lost-mono P Q f (Some w) h = All-mono P Q f w.lost h
+lost-mono P Q f (Some w) h = all-mono P Q f w.lost h
 
 pub letter-mono : (P Q : ℕ → Type 0) → ((s : ℕ) → P s → Q s) → (l : Letter) → OfLetter P l → OfLetter Q l
 letter-mono P Q f l h = elim l.body as (λ m. OfLetter P (record l { body = m }) → OfLetter Q (record l { body = m })) [
-  | msg.Word base lost admitted ↦ All-mono P Q f lost
-  | msg.Decided w ↦ All-mono P Q f w.lost
-  | msg.View w ↦ All-mono P Q f w.lost
+  | msg.Word base lost admitted ↦ all-mono P Q f lost
+  | msg.Decided w ↦ all-mono P Q f w.lost
+  | msg.View w ↦ all-mono P Q f w.lost
   | msg.Closed s ↦ f s
   | m ↦ λ p. tt
 ] h
@@ -47,7 +49,7 @@ agent-mono P Q f a h = record {
   of_decided = lost-mono P Q f a.decided h.of_decided;
   of_taken = lost-mono P Q f a.taken h.of_taken;
   of_said = λ g. lost-mono P Q f (a.said g) (h.of_said g);
-  of_waiting = All-mono (λ w. OfLetterFrom P w.from w.letter) (λ w. OfLetterFrom Q w.from w.letter) (λ w. from-mono P Q f w.from w.letter) a.waiting h.of_waiting;
+  of_waiting = all-mono (λ w. OfLetterFrom P w.from w.letter) (λ w. OfLetterFrom Q w.from w.letter) (λ w. from-mono P Q f w.from w.letter) a.waiting h.of_waiting;
 }
 
 pub new_agent-ok : (P : ℕ → Type 0) (start : ℕ) → OfAgent P (new_agent start)
@@ -115,17 +117,8 @@ dead-stopped w h s d g up e =
 pub holds-lost : (w : World) → Holds w → LostAreStopped w
 holds-lost w h = record {
   held = λ n. agent-mono (DeadOf w h) (IsStopped w) (dead-stopped w h) (w.agents n) (h.held n);
-  travelling = λ n b. All-mono (OfLetter (DeadOf w h)) (OfLetter (IsStopped w)) (letter-mono (DeadOf w h) (IsStopped w) (dead-stopped w h)) (w.channel (Agent n) b) (h.travelling n b);
+  travelling = λ n b. all-mono (OfLetter (DeadOf w h)) (OfLetter (IsStopped w)) (letter-mono (DeadOf w h) (IsStopped w) (dead-stopped w h)) (w.channel (Agent n) b) (h.travelling n b);
 }
-
--- ---- channels
-
-pub All-rest : {A : Type 0} (P : A → Type 0) (xs : List A) → AllByRecursion P xs → AllByRecursion P (rest xs)
-All-rest P [] h = tt
-All-rest P (x ∷ xs) h = h.1
-
-pub took-all : (P : Letter → Type 0) (ch : Actor → Actor → List Letter) (from to a b : Actor) → AllByRecursion P (ch a b) → AllByRecursion P (took ch from to a b)
-took-all P ch from to a b h = All-if P (same to b && same from a) (rest (ch a b)) (ch a b) (All-rest P (ch a b) h) h
 
 -- ---- messages to others than agents
 
@@ -174,41 +167,6 @@ dead-make owner owner' next next' starts starts' letters letters' s d same up ru
 
 -- ---- starts under way
 
-pub All-behind : {A : Type 0} (P : A → Type 0) (xs ys : List A) → AllByRecursion P (xs ++ ys) → AllByRecursion P ys
-All-behind P [] ys h = h
-All-behind P (x ∷ xs) ys h = All-behind P xs ys h.1
-
-pub rise-lower : (low high : ℕ) (xs : List ℕ) → low ≤ high → RiseFrom high xs → RiseFrom low xs
-rise-lower low high [] b h = tt
-rise-lower low high (x ∷ xs) b h = (omega (arith, b, h.0), h.1)
-
-pub rise-behind : (low : ℕ) (xs ys : List ℕ) → RiseFrom low (xs ++ ys) → RiseFrom low ys
-rise-behind low [] ys h = h
-rise-behind low (x ∷ xs) ys h = rise-lower low (x + 1) ys (omega (arith, h.0)) (rise-behind (x + 1) xs ys h.1)
-
-pub rest-all : (P : ℕ → Type 0) (ls : List Letter) → AllByRecursion P (starts_in ls) → AllByRecursion P (starts_in (rest ls))
-rest-all P [] h = h
-rest-all P (l ∷ ls) h = All-behind P (start_in_letter l) (starts_in ls) h
-
-pub rest-rise : (ls : List Letter) → RiseFrom 0 (starts_in ls) → RiseFrom 0 (starts_in (rest ls))
-rest-rise [] h = h
-rest-rise (l ∷ ls) h = rise-behind 0 (start_in_letter l) (starts_in ls) h
-
--- after a message was taken
-pub letters-all : (P : ℕ → Type 0) (ch : Channels) (from to : Actor) (g : ℕ) → AllByRecursion P (letters_of ch g) → AllByRecursion P (starts_in (took ch from to Director (Agent g)))
-letters-all P ch from to g h = choice (same to (Agent g) && same from Director)
-  where
-    choice : (c : Bool) → AllByRecursion P (starts_in (if c then rest (ch Director (Agent g)) else ch Director (Agent g)))
-    choice true = rest-all P (ch Director (Agent g)) h
-    choice false = h
-
-pub letters-rise : (ch : Channels) (from to : Actor) (g : ℕ) → RiseFrom 0 (letters_of ch g) → RiseFrom 0 (starts_in (took ch from to Director (Agent g)))
-letters-rise ch from to g h = choice (same to (Agent g) && same from Director)
-  where
-    choice : (c : Bool) → RiseFrom 0 (starts_in (if c then rest (ch Director (Agent g)) else ch Director (Agent g)))
-    choice true = rest-rise (ch Director (Agent g)) h
-    choice false = h
-
 -- a host whose agent goes on, or has stopped, when a message was taken
 pub host-after : (owner : ℕ → ℕ) (next h start start' : ℕ) (ch : Channels) (from to : Actor) → HostOk owner next h start (letters_of ch h)
     → (start' ≡ start) ⊎ (start' ≡ 0) → HostOk owner next h start' (starts_in (took ch from to Director (Agent h)))
@@ -217,11 +175,11 @@ host-after owner next h start start' ch from to k e = record {
     | inl q ↦ subst (λ x. Owned owner next h x) (sym q) (k.running (subst (λ x. nat_lt 0 x ≡ true) q up))
     | inr z ↦ let y = rw z at up in absurd (cc)
   ];
-  owned = letters-all (Owned owner next h) ch from to h k.owned;
-  rising = letters-rise ch from to h k.rising;
-  apart = letters-all (λ s. s ≡ start' → ⊥) ch from to h (elim e [
+  owned = starts-all (Owned owner next h) ch from to h k.owned;
+  rising = starts-rise ch from to h k.rising;
+  apart = starts-all (λ s. s ≡ start' → ⊥) ch from to h (elim e [
     | inl q ↦ subst (λ x. AllByRecursion (λ s. s ≡ x → ⊥) (letters_of ch h)) (sym q) k.apart
-    | inr z ↦ All-mono (Owned owner next h) (λ s. s ≡ start' → ⊥) (λ s o y. no-zero s start' z o.some y) (letters_of ch h) k.owned
+    | inr z ↦ all-mono (Owned owner next h) (λ s. s ≡ start' → ⊥) (λ s o y. no-zero s start' z o.some y) (letters_of ch h) k.owned
   ]);
 }
   where
@@ -258,7 +216,7 @@ dead-after owner next agents ch from n t e s d =
       | inl q ↦ d.not_run (sym q ∙ x)
       | inr z ↦ absurd (omega (arith, d.some, sym z ∙ x))
     ])
-    (letters-all (λ x. x ≡ s → ⊥) ch from (Agent n) (owner s) d.not_sent)
+    (starts-all (λ x. x ≡ s → ⊥) ch from (Agent n) (owner s) d.not_sent)
 
 -- everything holds after the turn, if what the agent knows and says is of dead starts
 pub turn-holds : (next : ℕ) (agents : Agents) (ch : Channels) (from : Actor) (n : ℕ) (t : Turn AgentState) (h : HoldsOf next agents ch)
@@ -279,12 +237,12 @@ turn-holds next agents ch from n t h e knows sends = record {
     held-after g false = agent-mono (DeadIn h.owner next agents ch) (DeadIn h.owner next (agents_after agents n t) (channels_after ch from n t)) (dead-after h.owner next agents ch from n t e) (agents g) (h.held g)
 
     before : (g : ℕ) (b : Actor) → AllByRecursion (OfLetter (DeadIn h.owner next (agents_after agents n t) (channels_after ch from n t))) (took ch from (Agent n) (Agent g) b)
-    before g b = All-mono (OfLetter (DeadIn h.owner next agents ch)) (OfLetter (DeadIn h.owner next (agents_after agents n t) (channels_after ch from n t)))
+    before g b = all-mono (OfLetter (DeadIn h.owner next agents ch)) (OfLetter (DeadIn h.owner next (agents_after agents n t) (channels_after ch from n t)))
         (letter-mono (DeadIn h.owner next agents ch) (DeadIn h.owner next (agents_after agents n t) (channels_after ch from n t)) (dead-after h.owner next agents ch from n t e))
         (took ch from (Agent n) (Agent g) b) (took-all (OfLetter (DeadIn h.owner next agents ch)) ch from (Agent n) (Agent g) b (h.travelling g b))
 
     sent-after : (g : ℕ) (b : Actor) (c : Bool) → AllByRecursion (OfLetter (DeadIn h.owner next (agents_after agents n t) (channels_after ch from n t))) (if c then took ch from (Agent n) (Agent g) b ++ t.sends b else took ch from (Agent n) (Agent g) b)
-    sent-after g b true = All-append (OfLetter (DeadIn h.owner next (agents_after agents n t) (channels_after ch from n t))) (took ch from (Agent n) (Agent g) b) (t.sends b) (before g b) (sends b)
+    sent-after g b true = all-append (OfLetter (DeadIn h.owner next (agents_after agents n t) (channels_after ch from n t))) (took ch from (Agent n) (Agent g) b) (t.sends b) (before g b) (sends b)
     sent-after g b false = before g b
 
 -- ---- an agent that runs takes a message
@@ -298,13 +256,13 @@ kept-holds next agents ch from n t h up (inl k) =
     let f = dead-after h.owner next agents ch from n t e in
     turn-holds next agents ch from n t h e
     (agent-mono (DeadIn h.owner next agents ch) (DeadIn h.owner next (agents_after agents n t) (channels_after ch from n t)) f t.state k.1.knows)
-    (λ b. All-mono (OfLetter (DeadIn h.owner next agents ch)) (OfLetter (DeadIn h.owner next (agents_after agents n t) (channels_after ch from n t)))
+    (λ b. all-mono (OfLetter (DeadIn h.owner next agents ch)) (OfLetter (DeadIn h.owner next (agents_after agents n t) (channels_after ch from n t)))
     (letter-mono (DeadIn h.owner next agents ch) (DeadIn h.owner next (agents_after agents n t) (channels_after ch from n t)) f) (t.sends b) (k.1.sends b))
 kept-holds next agents ch from n t h up (inr s) =
     let z : t.state.start ≡ 0 = ap (λ x. x.start) s.state in
     turn-holds next agents ch from n t h (inr z)
     (subst (λ x. OfAgent (DeadIn h.owner next (agents_after agents n t) (channels_after ch from n t)) x) (sym s.state) (new_agent-ok (DeadIn h.owner next (agents_after agents n t) (channels_after ch from n t)) 0))
-    (λ b. All-mono (OfLetter (OrOwn (DeadIn h.owner next agents ch) (agents n).start)) (OfLetter (DeadIn h.owner next (agents_after agents n t) (channels_after ch from n t)))
+    (λ b. all-mono (OfLetter (OrOwn (DeadIn h.owner next agents ch) (agents n).start)) (OfLetter (DeadIn h.owner next (agents_after agents n t) (channels_after ch from n t)))
     (letter-mono (OrOwn (DeadIn h.owner next agents ch) (agents n).start) (DeadIn h.owner next (agents_after agents n t) (channels_after ch from n t)) (λ s o. or-own z s o)) (t.sends b) (s.sends b))
   where
     own : t.state.start ≡ 0 → DeadIn h.owner next (agents_after agents n t) (channels_after ch from n t) (agents n).start
@@ -317,7 +275,7 @@ kept-holds next agents ch from n t h up (inr s) =
             | inl q ↦ not-there z o.host o.some e
             | inr y ↦ absurd (omega (arith, o.some, sym y ∙ e))
           ];
-          not_sent = letters-all (λ x. x ≡ (agents n).start → ⊥) ch from (Agent n) (h.owner (agents n).start)
+          not_sent = starts-all (λ x. x ≡ (agents n).start → ⊥) ch from (Agent n) (h.owner (agents n).start)
               (subst (λ g. AllByRecursion (λ x. x ≡ (agents n).start → ⊥) (letters_of ch g)) (sym o.host) (h.hosts n).apart);
         }
       where
@@ -394,7 +352,7 @@ start-runs next agents ch n t s l ls h is it state sends = record {
 
     dead : (d : ℕ) → DeadIn h.owner next agents ch d → DeadIn h.owner next (agents_after agents n t) (channels_after ch Director n t) d
     dead d k = dead-make h.owner h.owner next next (starts_of agents) (starts_of (agents_after agents n t)) (letters_of ch) (letters_of (channels_after ch Director n t)) d k refl (omega arith)
-        (λ x. not-run (h.owner d == n) refl x) (letters-all (λ x. x ≡ d → ⊥) ch Director (Agent n) (h.owner d) k.not_sent)
+        (λ x. not-run (h.owner d == n) refl x) (starts-all (λ x. x ≡ d → ⊥) ch Director (Agent n) (h.owner d) k.not_sent)
       where
         not-run : (c : Bool) → (h.owner d == n) ≡ c → (if c then t.state else agents (h.owner d)).start ≡ d → ⊥
         not-run false q x = k.not_run x
@@ -407,12 +365,12 @@ start-runs next agents ch n t s l ls h is it state sends = record {
     held-after g false = agent-mono (DeadIn h.owner next agents ch) (DeadIn h.owner next (agents_after agents n t) (channels_after ch Director n t)) dead (agents g) (h.held g)
 
     before : (g : ℕ) (b : Actor) → AllByRecursion (OfLetter (DeadIn h.owner next (agents_after agents n t) (channels_after ch Director n t))) (took ch Director (Agent n) (Agent g) b)
-    before g b = All-mono (OfLetter (DeadIn h.owner next agents ch)) (OfLetter (DeadIn h.owner next (agents_after agents n t) (channels_after ch Director n t)))
+    before g b = all-mono (OfLetter (DeadIn h.owner next agents ch)) (OfLetter (DeadIn h.owner next (agents_after agents n t) (channels_after ch Director n t)))
         (letter-mono (DeadIn h.owner next agents ch) (DeadIn h.owner next (agents_after agents n t) (channels_after ch Director n t)) dead)
         (took ch Director (Agent n) (Agent g) b) (took-all (OfLetter (DeadIn h.owner next agents ch)) ch Director (Agent n) (Agent g) b (h.travelling g b))
 
     sent-after : (g : ℕ) (b : Actor) (c : Bool) → AllByRecursion (OfLetter (DeadIn h.owner next (agents_after agents n t) (channels_after ch Director n t))) (if c then took ch Director (Agent n) (Agent g) b ++ t.sends b else took ch Director (Agent n) (Agent g) b)
-    sent-after g b true = All-append (OfLetter (DeadIn h.owner next (agents_after agents n t) (channels_after ch Director n t))) (took ch Director (Agent n) (Agent g) b) (t.sends b) (before g b) (sends (DeadIn h.owner next (agents_after agents n t) (channels_after ch Director n t)) b)
+    sent-after g b true = all-append (OfLetter (DeadIn h.owner next (agents_after agents n t) (channels_after ch Director n t))) (took ch Director (Agent n) (Agent g) b) (t.sends b) (before g b) (sends (DeadIn h.owner next (agents_after agents n t) (channels_after ch Director n t)) b)
     sent-after g b false = before g b
 
 -- It stops again at once, and says so.
@@ -422,7 +380,7 @@ pub start-stops : (next : ℕ) (agents : Agents) (ch : Channels) (n : ℕ) (t : 
 start-stops next agents ch n t s l ls h is it stop =
     turn-holds next agents ch Director n t h (inr none)
     (subst (λ x. OfAgent (DeadIn h.owner next (agents_after agents n t) (channels_after ch Director n t)) x) (sym stop.state) (new_agent-ok (DeadIn h.owner next (agents_after agents n t) (channels_after ch Director n t)) 0))
-    (λ b. All-mono (OfLetter (OrOwn (DeadIn h.owner next agents ch) s)) (OfLetter (DeadIn h.owner next (agents_after agents n t) (channels_after ch Director n t)))
+    (λ b. all-mono (OfLetter (OrOwn (DeadIn h.owner next agents ch) s)) (OfLetter (DeadIn h.owner next (agents_after agents n t) (channels_after ch Director n t)))
     (letter-mono (OrOwn (DeadIn h.owner next agents ch) s) (DeadIn h.owner next (agents_after agents n t) (channels_after ch Director n t)) or-own) (t.sends b) (stop.sends b))
   where
     none : t.state.start ≡ 0

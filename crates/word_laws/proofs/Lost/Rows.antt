@@ -1,6 +1,6 @@
 -- What holds of the lost starts that an agent knows holds of those that it says.
 use Rattle.std.proofs.Common.{◌≡◌, Bool, true, false, List, [], ◌∷◌, ◌++◌, append-nil, refl, sym, subst, ap, ◌∙◌, ◌⊎◌, inl, inr, ◌==◌}
-use Rattle.std.specs.Prelude.{ℕ, ◌&&◌, not, filter, map, if◌then◌else◌, nat_lt, nat_le, Option, Some, None, is_none}
+use Rattle.std.specs.Prelude.{ℕ, ◌&&◌, not, filter, if◌then◌else◌, nat_lt, nat_le, Option, Some, None, is_none}
 use Rattle.std.specs.List.{AllByRecursion, list_all}
 use Rattle.volt_base.specs.declared.entry.Outcome.{Outcome}
 use Rattle.volt_wire.specs.Word.{Membership}
@@ -18,36 +18,13 @@ use Rattle.cluster_model.specs.Initiator.{to_leader, to_leaders, to_all_leaders,
 use Rattle.cluster_model.specs.Agent.{to_slot, to_partition, to_initiator, hands_on, unless_down, on_call, on_closed, on_word, on_hello, takes_word, on_decided, asks_initiator, has_loaded, on_loaded, is_other_word, word_to, says, unknown_ends, decided_sends, decides_word, may_decide, agrees, from_agent, from_site, from_director, from_client, agent_row, row_and_word, unless_stopped, takes_each, takes_waiting, agent_runs, agent_takes, takes_start}
 use Rattle.cluster_model.proofs.Closing.{Over, row_and_word-over}
 use Rattle.word_laws.specs.Lost.{OfLost, OfLetter, OfLetterFrom, OfAgent}
+use Rattle.word_laws.proofs.Lists.{all-append, all-mono, all-if, all-filter, all-map}
 
 -- ---- lists
 
-pub All-append : {A : Type 0} (P : A → Type 0) (xs ys : List A) → AllByRecursion P xs → AllByRecursion P ys → AllByRecursion P (xs ++ ys)
-All-append P [] ys h k = k
-All-append P (x ∷ xs) ys h k = (h.0, All-append P xs ys h.1 k)
-
-pub All-mono : {A : Type 0} (P Q : A → Type 0) → ((x : A) → P x → Q x) → (xs : List A) → AllByRecursion P xs → AllByRecursion Q xs
-All-mono P Q f [] h = tt
-All-mono P Q f (x ∷ xs) h = (f x h.0, All-mono P Q f xs h.1)
-
-All-filter : {A : Type 0} (P : A → Type 0) (test : A → Bool) (xs : List A) → AllByRecursion P xs → AllByRecursion P (filter test xs)
-All-filter P test [] h = tt
-All-filter P test (x ∷ xs) h = All-choice P (test x) (x ∷ filter test xs) (filter test xs) (h.0, All-filter P test xs h.1) (All-filter P test xs h.1)
-  where
-    All-choice : {A : Type 0} (P : A → Type 0) (c : Bool) (xs ys : List A) → AllByRecursion P xs → AllByRecursion P ys → AllByRecursion P (if c then xs else ys)
-    All-choice P true xs ys h k = h
-    All-choice P false xs ys h k = k
-
-pub All-if : {A : Type 0} (P : A → Type 0) (c : Bool) (xs ys : List A) → AllByRecursion P xs → AllByRecursion P ys → AllByRecursion P (if c then xs else ys)
-All-if P true xs ys h k = h
-All-if P false xs ys h k = k
-
-All-map : {A B : Type 0} (P : B → Type 0) (f : A → B) → ((x : A) → P (f x)) → (xs : List A) → AllByRecursion P (map f xs)
-All-map P f g [] = tt
-All-map P f g (x ∷ xs) = (g x, All-map P f g xs)
-
 with_number-all : (P : ℕ → Type 0) (x : ℕ) (ys : List ℕ) → P x → AllByRecursion P ys → AllByRecursion P (with_number x ys)
 with_number-all P x [] p h = (p, tt)
-with_number-all P x (y ∷ ys) p h = All-if P (x == y) _ _ h (All-if P (nat_lt x y) _ _ (p, h) (h.0, with_number-all P x ys p h.1))
+with_number-all P x (y ∷ ys) p h = all-if P (x == y) _ _ h (all-if P (nat_lt x y) _ _ (p, h) (h.0, with_number-all P x ys p h.1))
 
 with_numbers-all : (P : ℕ → Type 0) (xs ys : List ℕ) → AllByRecursion P xs → AllByRecursion P ys → AllByRecursion P (with_numbers xs ys)
 with_numbers-all P [] ys h k = k
@@ -74,11 +51,11 @@ becomes-ok P a h = record { knows = h; sends = λ b. tt }
 then-ok : (P : ℕ → Type 0) (t : Turn AgentState) (f : AgentState → Turn AgentState) → OfTurn P t → (OfAgent P t.state → OfTurn P (f t.state)) → OfTurn P (t ▸ f)
 then-ok P t f h g = let k = g h.knows in record {
   knows = k.knows;
-  sends = λ b. All-append (OfLetter P) (t.sends b) ((f t.state).sends b) (h.sends b) (k.sends b);
+  sends = λ b. all-append (OfLetter P) (t.sends b) ((f t.state).sends b) (h.sends b) (k.sends b);
 }
 
 only-ok : (P : ℕ → Type 0) (to b : Actor) (l : Letter) → OfLetter P l → AllByRecursion (OfLetter P) (only to l b)
-only-ok P to b l h = All-if (OfLetter P) (same to b) _ _ (h, tt) tt
+only-ok P to b l h = all-if (OfLetter P) (same to b) _ _ (h, tt) tt
 
 -- ---- calls on all partitions: none of their messages has a word
 
@@ -88,7 +65,7 @@ to_leader-ok P D w m s (Some start) plain = (plain (term_of w) start, tt)
 
 to_leaders-ok : (P : ℕ → Type 0) (D : Deployment) (w : Membership) (parts : ℕ → Bool) (m : Msg Blocks) (b : Actor) → ((term k : ℕ) → OfLetter P (letter_in term k m)) → AllByRecursion (OfLetter P) (to_leaders D w parts m b)
 to_leaders-ok P D w parts m (Site s) plain =
-    All-if (OfLetter P) (parts (part_of_slot D s) && is_some_of (leader D w (part_of_slot D s)) s) (to_leader D w m s (start_of_slot D w s)) []
+    all-if (OfLetter P) (parts (part_of_slot D s) && is_some_of (leader D w (part_of_slot D s)) s) (to_leader D w m s (start_of_slot D w s)) []
     (to_leader-ok P D w m s (start_of_slot D w s) plain) tt
 to_leaders-ok P D w parts m Director plain = tt
 to_leaders-ok P D w parts m (Client n) plain = tt
@@ -287,7 +264,7 @@ takes_word-ok P D n a w k h = record {
     takes-sends Director = tt
     takes-sends (Client c) = tt
     takes-sends (Agent g) = tt
-    takes-sends (Site s) = All-if (OfLetter P) (is_slot_of D n s) (open_letter (msg.Start a.start) ∷ letter_to a.start (msg.View w) ∷ []) [] (tt, (k, tt)) tt
+    takes-sends (Site s) = all-if (OfLetter P) (is_slot_of D n s) (open_letter (msg.Start a.start) ∷ letter_to a.start (msg.View w) ∷ []) [] (tt, (k, tt)) tt
     takes-sends (Scanner x) = tt
 
 asks_initiator-ok : (P : ℕ → Type 0) (n : ℕ) (a : AgentState) (w : Membership) (first : Option (ℕ × ℕ)) → OfAgent P a → OfTurn P (asks_initiator n a w first)
@@ -320,8 +297,8 @@ abbrev pub Goes : (ℕ → Type 0) → ℕ → Turn AgentState → Type 0
 Goes P start t = OfTurn P t ⊎ StopsWith P start t
 
 closes-ok : (P : ℕ → Type 0) (D : Deployment) (n start : ℕ) (b : Actor) → AllByRecursion (OfLetter (OrOwn P start)) (closes D n start b)
-closes-ok P D n start (Agent g) = All-if (OfLetter (OrOwn P start)) (is_host D g) (if g == n then [] else open_letter (msg.Closed start) ∷ []) [] (All-if (OfLetter (OrOwn P start)) (g == n) [] (open_letter (msg.Closed start) ∷ []) tt (inr refl, tt)) tt
-closes-ok P D n start (Client c) = All-if (OfLetter (OrOwn P start)) (is_client D c) (open_letter (msg.Closed start) ∷ []) [] (inr refl, tt) tt
+closes-ok P D n start (Agent g) = all-if (OfLetter (OrOwn P start)) (is_host D g) (if g == n then [] else open_letter (msg.Closed start) ∷ []) [] (all-if (OfLetter (OrOwn P start)) (g == n) [] (open_letter (msg.Closed start) ∷ []) tt (inr refl, tt)) tt
+closes-ok P D n start (Client c) = all-if (OfLetter (OrOwn P start)) (is_client D c) (open_letter (msg.Closed start) ∷ []) [] (inr refl, tt) tt
 closes-ok P D n start Director = tt
 closes-ok P D n start (Site s) = tt
 closes-ok P D n start (Scanner x) = tt
@@ -334,16 +311,16 @@ stops_with_host-with P D n start = record { state = refl; sends = λ b. all-send
   where
     all-sends : (b : Actor) → AllByRecursion (OfLetter (OrOwn P start)) ((stops_with_host D n start).sends b)
     all-sends (Agent g) = closes-ok P D n start (Agent g)
-    all-sends (Client c) = All-append (OfLetter (OrOwn P start)) (closes D n start (Client c)) [] (closes-ok P D n start (Client c)) tt
+    all-sends (Client c) = all-append (OfLetter (OrOwn P start)) (closes D n start (Client c)) [] (closes-ok P D n start (Client c)) tt
     all-sends Director = tt
-    all-sends (Site s) = All-if (OfLetter (OrOwn P start)) (is_slot_of D n s) (open_letter (msg.Stop start) ∷ []) [] (tt, tt) tt
-    all-sends (Scanner x) = All-if (OfLetter (OrOwn P start)) (is_slot_of D n x) (open_letter (msg.Stop start) ∷ []) [] (tt, tt) tt
+    all-sends (Site s) = all-if (OfLetter (OrOwn P start)) (is_slot_of D n s) (open_letter (msg.Stop start) ∷ []) [] (tt, tt) tt
+    all-sends (Scanner x) = all-if (OfLetter (OrOwn P start)) (is_slot_of D n x) (open_letter (msg.Stop start) ∷ []) [] (tt, tt) tt
 
 letter-or : (P : ℕ → Type 0) (start : ℕ) (l : Letter) → OfLetter P l → OfLetter (OrOwn P start) l
 letter-or P start l h = elim l.body as (λ m. OfLetter P (record l { body = m }) → OfLetter (OrOwn P start) (record l { body = m })) [
-  | msg.Word base lost admitted ↦ All-mono P (OrOwn P start) (λ x p. inl p) lost
-  | msg.Decided w ↦ All-mono P (OrOwn P start) (λ x p. inl p) w.lost
-  | msg.View w ↦ All-mono P (OrOwn P start) (λ x p. inl p) w.lost
+  | msg.Word base lost admitted ↦ all-mono P (OrOwn P start) (λ x p. inl p) lost
+  | msg.Decided w ↦ all-mono P (OrOwn P start) (λ x p. inl p) w.lost
+  | msg.View w ↦ all-mono P (OrOwn P start) (λ x p. inl p) w.lost
   | msg.Closed s ↦ λ p. inl p
   | m ↦ λ p. tt
 ] h
@@ -361,7 +338,7 @@ then-stops : (P : ℕ → Type 0) (start : ℕ) (t : Turn AgentState) (f : Agent
     → OfTurn P t → StopsWith P start (f t.state) → StopsWith P start (t ▸ f)
 then-stops P start t f h s = record {
   state = s.state;
-  sends = λ b. All-append (OfLetter (OrOwn P start)) (t.sends b) ((f t.state).sends b) (All-mono (OfLetter P) (OfLetter (OrOwn P start)) (letter-or P start) (t.sends b) (h.sends b)) (s.sends b);
+  sends = λ b. all-append (OfLetter (OrOwn P start)) (t.sends b) ((f t.state).sends b) (all-mono (OfLetter P) (OfLetter (OrOwn P start)) (letter-or P start) (t.sends b) (h.sends b)) (s.sends b);
 }
 
 -- ---- the row of a message
@@ -427,20 +404,20 @@ says-ok P n a (Some w) k h = record { knows = h; sends = λ b. said b }
     said-to (Some start) = (k, tt)
 
     said : (b : Actor) → AllByRecursion (OfLetter P) ((says n a (Some w)).sends b)
-    said (Agent g) = All-if (OfLetter P) (is_member w n a.start && not (g == n)) (word_to w (start_of w g)) [] (said-to (start_of w g)) tt
+    said (Agent g) = all-if (OfLetter P) (is_member w n a.start && not (g == n)) (word_to w (start_of w g)) [] (said-to (start_of w g)) tt
     said Director = tt
     said (Client c) = tt
     said (Site s) = tt
     said (Scanner x) = tt
 
 decided_sends-ok : (P : ℕ → Type 0) (D : Deployment) (n : ℕ) (a : AgentState) (w : Membership) (b : Actor) → AllByRecursion P w.lost → AllByRecursion (OfLetter P) (decided_sends D n a w b)
-decided_sends-ok P D n a w (Site s) k = All-if (OfLetter P) (is_slot_of D n s && not (is_down D w)) (letter_to a.start (msg.View w) ∷ []) [] (k, tt) tt
-decided_sends-ok P D n a w (Agent g) k = All-if (OfLetter P) (is_host D g && not (g == n) && is_none (start_of w g)) (open_letter (msg.Decided w) ∷ []) [] (k, tt) tt
+decided_sends-ok P D n a w (Site s) k = all-if (OfLetter P) (is_slot_of D n s && not (is_down D w)) (letter_to a.start (msg.View w) ∷ []) [] (k, tt) tt
+decided_sends-ok P D n a w (Agent g) k = all-if (OfLetter P) (is_host D g && not (g == n) && is_none (start_of w g)) (open_letter (msg.Decided w) ∷ []) [] (k, tt) tt
 decided_sends-ok P D n a w (Client c) k =
-    All-if (OfLetter P) (is_client D c) ((if is_none a.decided then open_letter (msg.Opened a.start) ∷ [] else []) ++ unknown_ends w a.pending c) []
-    (All-append (OfLetter P) (if is_none a.decided then open_letter (msg.Opened a.start) ∷ [] else []) (unknown_ends w a.pending c)
-    (All-if (OfLetter P) (is_none a.decided) (open_letter (msg.Opened a.start) ∷ []) [] (tt, tt) tt)
-    (All-map (OfLetter P) (λ p. open_letter (msg.Answer p.call (end.Unknown p.target (term_of w)))) (λ p. tt)
+    all-if (OfLetter P) (is_client D c) ((if is_none a.decided then open_letter (msg.Opened a.start) ∷ [] else []) ++ unknown_ends w a.pending c) []
+    (all-append (OfLetter P) (if is_none a.decided then open_letter (msg.Opened a.start) ∷ [] else []) (unknown_ends w a.pending c)
+    (all-if (OfLetter P) (is_none a.decided) (open_letter (msg.Opened a.start) ∷ []) [] (tt, tt) tt)
+    (all-map (OfLetter P) (λ p. open_letter (msg.Answer p.call (end.Unknown p.target (term_of w)))) (λ p. tt)
     (filter (λ p. p.client == c && is_in p.target w.lost) a.pending)))
     tt
 decided_sends-ok P D n a w Director k = tt
@@ -492,7 +469,7 @@ kept-from P D n start t (inl q) (inl k) = inl (q, k)
 kept-from P D n start t (inl q) (inr s) = inr s
 kept-from P D n start t (inr o) (inl k) = inr (record {
   state = o.state;
-  sends = λ b. All-mono (OfLetter P) (OfLetter (OrOwn P start)) (letter-or P start) (t.sends b) (k.sends b);
+  sends = λ b. all-mono (OfLetter P) (OfLetter (OrOwn P start)) (letter-or P start) (t.sends b) (k.sends b);
 })
 kept-from P D n start t (inr o) (inr s) = inr s
 
@@ -527,13 +504,13 @@ takes_each-kept P E D n stamp (w ∷ ws) a p h =
 takes_waiting-kept : (P : ℕ → Type 0) (E : Database) (D : Deployment) (n stamp : ℕ) (a : AgentState) → OfAgent P a → Kept P a.start (takes_waiting E D n stamp a)
 takes_waiting-kept P E D n stamp a h =
     takes_each-kept P E D n stamp (of_term (term_in a.decided) a.waiting) (record a { waiting = above_term (term_in a.decided) a.waiting })
-    (All-filter (λ w. OfLetterFrom P w.from w.letter) (λ w. w.letter.term == term_in a.decided) a.waiting h.of_waiting)
+    (all-filter (λ w. OfLetterFrom P w.from w.letter) (λ w. w.letter.term == term_in a.decided) a.waiting h.of_waiting)
     (record {
       of_own = h.of_own;
       of_decided = h.of_decided;
       of_taken = h.of_taken;
       of_said = h.of_said;
-      of_waiting = All-filter (λ w. OfLetterFrom P w.from w.letter) (λ w. nat_lt (term_in a.decided) w.letter.term) a.waiting h.of_waiting;
+      of_waiting = all-filter (λ w. OfLetterFrom P w.from w.letter) (λ w. nat_lt (term_in a.decided) w.letter.term) a.waiting h.of_waiting;
     })
 
 -- ---- the whole of a message
@@ -557,7 +534,7 @@ runs-kept P E D n stamp a from l p h = elim (arrival a.start (term_in a.decided)
       of_decided = h.of_decided;
       of_taken = h.of_taken;
       of_said = h.of_said;
-      of_waiting = All-append (λ w. OfLetterFrom P w.from w.letter) a.waiting (record { from = from; letter = l } ∷ []) h.of_waiting (p, tt);
+      of_waiting = all-append (λ w. OfLetterFrom P w.from w.letter) a.waiting (record { from = from; letter = l } ∷ []) h.of_waiting (p, tt);
     }),
   )
   | Refused ↦ inl (refl, becomes-ok P a h)

@@ -1,5 +1,5 @@
 -- Lost starts are stopped in every world of a run.
-use Rattle.std.proofs.Common.{◌≡◌, ◌+◌, ◌-◌, ◌<◌, ◌≤◌, Bool, true, false, List, [], ◌∷◌, ◌++◌, append-nil, append_assoc, refl, sym, subst, ap, ◌∙◌, inl, inr, ◌==◌, arith}
+use Rattle.std.proofs.Common.{◌≡◌, ◌+◌, ◌-◌, ◌<◌, Bool, true, false, List, [], ◌∷◌, ◌++◌, append-nil, refl, sym, subst, ap, ◌∙◌, inl, inr, ◌==◌, arith}
 use Rattle.std.proofs.lemmas.Bool.{cases_Bool, and_parts, eqb-true}
 use Rattle.std.proofs.lemmas.Bool.Decides.{nat_tests}
 use Rattle.std.specs.Prelude.{ℕ, ◌&&◌, not, if◌then◌else◌, nat_lt, nat_le, Option, Some, None}
@@ -22,16 +22,18 @@ use Rattle.cluster_model.specs.Sync.{sync_turn}
 use Rattle.cluster_model.specs.Scanner.{scan_turn}
 use Rattle.cluster_model.specs.AgentState.{AgentState, new_agent, stops_with_host}
 use Rattle.cluster_model.specs.Agent.{agent_runs, agent_takes, takes_start, on_start, on_stop, start_taken, start_after, agent_turn}
-use Rattle.cluster_model.specs.World.{World, Input, first_world, took, sent, stamp_of, member_agent, new_word, greatest_done}
+use Rattle.cluster_model.specs.World.{World, Input, first_world, took, sent, stamp_of, member_agent, new_word, greatest_done, set_at}
 use Rattle.cluster_model.specs.Recover.{recovers, starts_anew, new_base, new_log, opens}
 use Rattle.cluster_model.specs.Events.{can, allows, delivered, recovered_with, may_do, step}
 use Rattle.cluster_model.specs.Runs.{Happening, IsRun, has_failed, run}
-use Rattle.cluster_model.specs.Laws.{RiseFrom, start_in_letter, starts_in}
-use Rattle.word_laws.specs.Lost.{OfLetter, OfLetterFrom, OfAgent, LostAreStopped}
-use Rattle.word_laws.proofs.Rows.{All-append, All-mono, All-if, StopsWith, Kept, takes-kept, stops_with_host-with}
+use Rattle.cluster_model.specs.Laws.{start_in_letter, starts_in}
 use Rattle.cluster_model.proofs.Closing.{start_after-same}
 use Rattle.cluster_model.proofs.Starts.{takes-next}
-use Rattle.word_laws.proofs.Starts.{letter-mono, agent-mono, new_agent-ok, Owned, HostOk, Agents, Channels, starts_of, letters_of, DeadIn, HoldsOf, Holds, DeadOf, holds-lost, took-all, to_site-holds, to_client-holds, to_scanner-holds, dead-make, agents_after, channels_after, kept-holds, stays-holds, start-runs, start-stops}
+use Rattle.word_laws.specs.Lost.{OfLetter, OfLetterFrom, OfAgent, LostAreStopped}
+use Rattle.word_laws.proofs.Lists.{all-append, all-mono, all-if, rise-append, set-here, set-there}
+use Rattle.word_laws.proofs.Channels.{starts-append, starts-if, stops_all-starts, took-all}
+use Rattle.word_laws.proofs.Lost.Rows.{StopsWith, Kept, takes-kept, stops_with_host-with}
+use Rattle.word_laws.proofs.Lost.Starts.{letter-mono, agent-mono, new_agent-ok, Owned, HostOk, Agents, Channels, starts_of, letters_of, DeadIn, HoldsOf, Holds, DeadOf, holds-lost, to_site-holds, to_client-holds, to_scanner-holds, dead-make, agents_after, channels_after, kept-holds, stays-holds, start-runs, start-stops}
 
 -- ---- an agent takes a message
 
@@ -51,7 +53,7 @@ runs-turn P E D n stamp a from l (NoMemory answered) runs p h =
 runs-turn P E D n stamp a from l (DisksShow shown failed) runs p h = takes-kept P E D n stamp a from l runs p h
 
 hello-sends : (P : ℕ → Type 0) (D : Deployment) (n s : ℕ) (b : Actor) → AllByRecursion (OfLetter P) ((on_start D n s).sends b)
-hello-sends P D n s (Agent g) = All-if (OfLetter P) (is_host D g && not (g == n)) (open_letter (msg.Hello s) ∷ []) [] (tt, tt) tt
+hello-sends P D n s (Agent g) = all-if (OfLetter P) (is_host D g && not (g == n)) (open_letter (msg.Hello s) ∷ []) [] (tt, tt) tt
 hello-sends P D n s Director = tt
 hello-sends P D n s (Client c) = tt
 hello-sends P D n s (Site i) = tt
@@ -141,7 +143,7 @@ same-holds next next' agents ch ch' h up same stays = record {
   hosts = λ g. subst (λ x. HostOk h.owner next' g (starts_of agents g) x) (sym (same g)) (subst (λ x. HostOk h.owner x g (starts_of agents g) (letters_of ch g)) up (h.hosts g));
   held = λ g. agent-mono (DeadIn h.owner next agents ch) (DeadIn h.owner next' agents ch') dead (agents g) (h.held g);
   travelling = λ g b. subst (λ x. AllByRecursion (OfLetter (DeadIn h.owner next' agents ch')) x) (sym (stays g b))
-      (All-mono (OfLetter (DeadIn h.owner next agents ch)) (OfLetter (DeadIn h.owner next' agents ch')) (letter-mono (DeadIn h.owner next agents ch) (DeadIn h.owner next' agents ch') dead) (ch (Agent g) b) (h.travelling g b));
+      (all-mono (OfLetter (DeadIn h.owner next agents ch)) (OfLetter (DeadIn h.owner next' agents ch')) (letter-mono (DeadIn h.owner next agents ch) (DeadIn h.owner next' agents ch') dead) (ch (Agent g) b) (h.travelling g b));
 }
   where
     dead : (s : ℕ) → DeadIn h.owner next agents ch s → DeadIn h.owner next' agents ch' s
@@ -155,7 +157,7 @@ taken-holds w from to h same = record {
   some = h.some;
   hosts = λ g. subst (λ x. HostOk h.owner w.director.next_start g (starts_of w.agents g) x) (sym (same g)) (h.hosts g);
   held = λ g. agent-mono (DeadOf w h) (DeadIn h.owner w.director.next_start w.agents (took w.channel from to)) dead (w.agents g) (h.held g);
-  travelling = λ g b. All-mono (OfLetter (DeadOf w h)) (OfLetter (DeadIn h.owner w.director.next_start w.agents (took w.channel from to)))
+  travelling = λ g b. all-mono (OfLetter (DeadOf w h)) (OfLetter (DeadIn h.owner w.director.next_start w.agents (took w.channel from to)))
       (letter-mono (DeadOf w h) (DeadIn h.owner w.director.next_start w.agents (took w.channel from to)) dead) (took w.channel from to (Agent g) b)
       (took-all (OfLetter (DeadOf w h)) w.channel from to (Agent g) b (h.travelling g b));
 }
@@ -179,24 +181,11 @@ delivered-holds E w (Scanner i) from o may h = to_scanner-holds E w i from (w.ch
 
 -- ---- an item
 
-starts-append : (xs ys : List Letter) → starts_in (xs ++ ys) ≡ starts_in xs ++ starts_in ys
-starts-append [] ys = refl
-starts-append (x ∷ xs) ys = ap (λ z. start_in_letter x ++ z) (starts-append xs ys) ∙ sym (append_assoc (start_in_letter x) (starts_in xs) (starts_in ys))
-
 -- one in which no start is drawn
 plain-item : (w : World) (sends : Sends) (h : Holds w) → ((g : ℕ) → starts_in (sends (Agent g)) ≡ []) → HoldsOf w.director.next_start w.agents (sent w.channel Director sends)
 plain-item w sends h none =
     same-holds w.director.next_start w.director.next_start w.agents w.channel (sent w.channel Director sends) h refl
     (λ g. starts-append (w.channel Director (Agent g)) (sends (Agent g)) ∙ ap (λ x. letters_of w.channel g ++ x) (none g) ∙ append-nil (letters_of w.channel g)) (λ g b. refl)
-
-none-if : (c : Bool) (xs : List Letter) → starts_in xs ≡ [] → starts_in (if c then xs else []) ≡ []
-none-if true xs h = h
-none-if false xs h = refl
-
--- numbers that rise, and a greater one behind them
-rise-behind-all : (low n : ℕ) (xs : List ℕ) → low ≤ n → RiseFrom low xs → AllByRecursion (λ x. x < n) xs → RiseFrom low (xs ++ n ∷ [])
-rise-behind-all low n [] up r b = (up, tt)
-rise-behind-all low n (x ∷ xs) up r b = (r.0, rise-behind-all (x + 1) n xs (omega (arith, b.0)) r.1 b.1)
 
 start-below : (owner : ℕ → ℕ) (next h start : ℕ) (ls : List ℕ) → 0 < next → HostOk owner next h start ls → start < next
 start-below owner next h start ls some k = elim (cases_Bool (nat_lt 0 start)) [
@@ -204,41 +193,34 @@ start-below owner next h start ls some k = elim (cases_Bool (nat_lt 0 start)) [
   | inr q ↦ let z : start ≡ 0 = grind (arith, nat_tests, q) in omega (arith, z, some)
 ]
 
--- the next start goes to a host
-abbrev owner-with : (ℕ → ℕ) → ℕ → ℕ → ℕ → ℕ
-owner-with owner next host s = if s == next then host else owner s
+owner-old : (owner : ℕ → ℕ) (next host s : ℕ) → s < next → set_at owner next host s ≡ owner s
+owner-old owner next host s b = set-there owner next host s (λ e. omega (arith, e, b))
 
-owner-old : (owner : ℕ → ℕ) (next host s : ℕ) → s < next → owner-with owner next host s ≡ owner s
-owner-old owner next host s b = let q : (s == next) ≡ false = grind (arith, nat_tests, b) in rw q refl
-
-owner-new : (owner : ℕ → ℕ) (next host : ℕ) → owner-with owner next host next ≡ host
-owner-new owner next host = let q : (next == next) ≡ true = grind (arith, nat_tests) in rw q refl
-
-owned-up : (owner : ℕ → ℕ) (next host h s : ℕ) → Owned owner next h s → Owned (owner-with owner next host) (next + 1) h s
+owned-up : (owner : ℕ → ℕ) (next host h s : ℕ) → Owned owner next h s → Owned (set_at owner next host) (next + 1) h s
 owned-up owner next host h s o = record { host = owner-old owner next host s o.below ∙ o.host; some = o.some; below = omega (arith, o.below) }
 
 rejoin-host : (owner : ℕ → ℕ) (next host g start : ℕ) (ls : List ℕ) → 0 < next → HostOk owner next g start ls
-    → HostOk (owner-with owner next host) (next + 1) g start (ls ++ (if host == g then next ∷ [] else []))
+    → HostOk (set_at owner next host) (next + 1) g start (ls ++ (if host == g then next ∷ [] else []))
 rejoin-host owner next host g start ls some k = choice (host == g) refl
   where
     low : start < next
     low = start-below owner next g start ls some k
 
-    old : AllByRecursion (Owned (owner-with owner next host) (next + 1) g) ls
-    old = All-mono (Owned owner next g) (Owned (owner-with owner next host) (next + 1) g) (λ s o. owned-up owner next host g s o) ls k.owned
+    old : AllByRecursion (Owned (set_at owner next host) (next + 1) g) ls
+    old = all-mono (Owned owner next g) (Owned (set_at owner next host) (next + 1) g) (λ s o. owned-up owner next host g s o) ls k.owned
 
-    runs : nat_lt 0 start ≡ true → Owned (owner-with owner next host) (next + 1) g start
+    runs : nat_lt 0 start ≡ true → Owned (set_at owner next host) (next + 1) g start
     runs up = owned-up owner next host g start (k.running up)
 
-    choice : (c : Bool) → (host == g) ≡ c → HostOk (owner-with owner next host) (next + 1) g start (ls ++ (if c then next ∷ [] else []))
+    choice : (c : Bool) → (host == g) ≡ c → HostOk (set_at owner next host) (next + 1) g start (ls ++ (if c then next ∷ [] else []))
     choice true q = record {
       running = runs;
-      owned = All-append (Owned (owner-with owner next host) (next + 1) g) ls (next ∷ []) old
-          (record { host = owner-new owner next host ∙ eqb-true host g q; some = some; below = omega arith }, tt);
-      rising = rise-behind-all 0 next ls (omega arith) k.rising (All-mono (Owned owner next g) (λ x. x < next) (λ s o. o.below) ls k.owned);
-      apart = All-append (λ s. s ≡ start → ⊥) ls (next ∷ []) k.apart ((λ e. absurd (omega (arith, low, e))), tt);
+      owned = all-append (Owned (set_at owner next host) (next + 1) g) ls (next ∷ []) old
+          (record { host = set-here owner next host ∙ eqb-true host g q; some = some; below = omega arith }, tt);
+      rising = rise-append 0 next ls (next ∷ []) (omega arith) (all-mono (Owned owner next g) (λ x. x < next) (λ s o. o.below) ls k.owned) k.rising (omega arith, tt);
+      apart = all-append (λ s. s ≡ start → ⊥) ls (next ∷ []) k.apart ((λ e. absurd (omega (arith, low, e))), tt);
     }
-    choice false q = subst (λ x. HostOk (owner-with owner next host) (next + 1) g start x) (sym (append-nil ls)) (record {
+    choice false q = subst (λ x. HostOk (set_at owner next host) (next + 1) g start x) (sym (append-nil ls)) (record {
       running = runs;
       owned = old;
       rising = k.rising;
@@ -248,50 +230,46 @@ rejoin-host owner next host g start ls some k = choice (host == g) refl
 rejoin-holds : (w : World) (host : ℕ) (sends : Sends) (h : Holds w) → ((g : ℕ) → starts_in (sends (Agent g)) ≡ (if host == g then w.director.next_start ∷ [] else []))
     → HoldsOf (w.director.next_start + 1) w.agents (sent w.channel Director sends)
 rejoin-holds w host sends h one = record {
-  owner = owner-with h.owner w.director.next_start host;
+  owner = set_at h.owner w.director.next_start host;
   some = omega (arith, h.some);
-  hosts = λ g. subst (λ x. HostOk (owner-with h.owner w.director.next_start host) (w.director.next_start + 1) g (starts_of w.agents g) x) (sym (letters g))
+  hosts = λ g. subst (λ x. HostOk (set_at h.owner w.director.next_start host) (w.director.next_start + 1) g (starts_of w.agents g) x) (sym (letters g))
       (rejoin-host h.owner w.director.next_start host g (starts_of w.agents g) (letters_of w.channel g) h.some (h.hosts g));
-  held = λ g. agent-mono (DeadOf w h) (DeadIn (owner-with h.owner w.director.next_start host) (w.director.next_start + 1) w.agents (sent w.channel Director sends)) dead (w.agents g) (h.held g);
-  travelling = λ g b. All-mono (OfLetter (DeadOf w h)) (OfLetter (DeadIn (owner-with h.owner w.director.next_start host) (w.director.next_start + 1) w.agents (sent w.channel Director sends)))
-      (letter-mono (DeadOf w h) (DeadIn (owner-with h.owner w.director.next_start host) (w.director.next_start + 1) w.agents (sent w.channel Director sends)) dead) (w.channel (Agent g) b) (h.travelling g b);
+  held = λ g. agent-mono (DeadOf w h) (DeadIn (set_at h.owner w.director.next_start host) (w.director.next_start + 1) w.agents (sent w.channel Director sends)) dead (w.agents g) (h.held g);
+  travelling = λ g b. all-mono (OfLetter (DeadOf w h)) (OfLetter (DeadIn (set_at h.owner w.director.next_start host) (w.director.next_start + 1) w.agents (sent w.channel Director sends)))
+      (letter-mono (DeadOf w h) (DeadIn (set_at h.owner w.director.next_start host) (w.director.next_start + 1) w.agents (sent w.channel Director sends)) dead) (w.channel (Agent g) b) (h.travelling g b);
 }
   where
     letters : (g : ℕ) → letters_of (sent w.channel Director sends) g ≡ letters_of w.channel g ++ (if host == g then w.director.next_start ∷ [] else [])
     letters g = starts-append (w.channel Director (Agent g)) (sends (Agent g)) ∙ ap (λ x. letters_of w.channel g ++ x) (one g)
 
-    dead : (s : ℕ) → DeadOf w h s → DeadIn (owner-with h.owner w.director.next_start host) (w.director.next_start + 1) w.agents (sent w.channel Director sends) s
-    dead s d = dead-make h.owner (owner-with h.owner w.director.next_start host) w.director.next_start (w.director.next_start + 1) (starts_of w.agents) (starts_of w.agents) (letters_of w.channel) (letters_of (sent w.channel Director sends)) s d
+    dead : (s : ℕ) → DeadOf w h s → DeadIn (set_at h.owner w.director.next_start host) (w.director.next_start + 1) w.agents (sent w.channel Director sends) s
+    dead s d = dead-make h.owner (set_at h.owner w.director.next_start host) w.director.next_start (w.director.next_start + 1) (starts_of w.agents) (starts_of w.agents) (letters_of w.channel) (letters_of (sent w.channel Director sends)) s d
         (owner-old h.owner w.director.next_start host s d.below) (omega arith) d.not_run
         (subst (λ x. AllByRecursion (λ y. y ≡ s → ⊥) x) (sym (letters (h.owner s)))
-        (All-append (λ y. y ≡ s → ⊥) (letters_of w.channel (h.owner s)) (if host == h.owner s then w.director.next_start ∷ [] else []) d.not_sent
-        (All-if (λ y. y ≡ s → ⊥) (host == h.owner s) (w.director.next_start ∷ []) [] ((λ e. absurd (omega (arith, d.below, e))), tt) tt)))
-
--- Stop and Snap draw none
-stops_all-none : (D : Deployment) (last : ℕ → ℕ) (g : ℕ) → starts_in (stops_all D last (Agent g)) ≡ []
-stops_all-none D last g = none-if (is_host D g) (stops_host D last g (Agent g)) (none-if (g == g) (open_letter (msg.Stop (last g)) ∷ []) refl)
+        (all-append (λ y. y ≡ s → ⊥) (letters_of w.channel (h.owner s)) (if host == h.owner s then w.director.next_start ∷ [] else []) d.not_sent
+        (all-if (λ y. y ≡ s → ⊥) (host == h.owner s) (w.director.next_start ∷ []) [] ((λ e. absurd (omega (arith, d.below, e))), tt) tt)))
 
 item-holds : (w : World) (left : List TimedItem) (i : Item) (h : Holds w)
     → HoldsOf (does w.deployment (record w.director { items = left }) i).state.next_start w.agents (sent w.channel Director (does w.deployment (record w.director { items = left }) i).sends)
 item-holds w left (item.Lose host) h = plain-item w (stops_host w.deployment w.director.last_start host) h
-    (λ g. none-if (g == host) (open_letter (msg.Stop (w.director.last_start host)) ∷ []) refl)
+    (λ g. starts-if (g == host) (open_letter (msg.Stop (w.director.last_start host)) ∷ []) refl)
 item-holds w left (item.Rejoin host) h = rejoin-holds w host (only (Agent host) (open_letter (msg.Start w.director.next_start))) h (λ g. one-if (host == g) w.director.next_start)
   where
     one-if : (c : Bool) (n : ℕ) → starts_in (if c then open_letter (msg.Start n) ∷ [] else []) ≡ (if c then n ∷ [] else [])
     one-if true n = refl
     one-if false n = refl
-item-holds w left item.Snapshot h = plain-item w (snaps w.deployment) h (λ g. none-if (is_host w.deployment g) (open_letter msg.Snap ∷ []) refl)
+item-holds w left item.Snapshot h = plain-item w (snaps w.deployment) h (λ g. starts-if (is_host w.deployment g) (open_letter msg.Snap ∷ []) refl)
 item-holds w left (item.Power slot call choice) h = plain-item w (only (Site slot) (open_letter (msg.Power call choice))) h (λ g. refl)
 item-holds w left (item.Look slot) h = plain-item w (only (Site slot) (open_letter msg.Look)) h (λ g. refl)
-item-holds w left item.Halt h = plain-item w (stops_all w.deployment w.director.last_start) h (λ g. stops_all-none w.deployment w.director.last_start g)
-item-holds w left item.Recover h = plain-item w (stops_all w.deployment w.director.last_start) h (λ g. stops_all-none w.deployment w.director.last_start g)
+item-holds w left item.Halt h = plain-item w (stops_all w.deployment w.director.last_start) h (λ g. stops_all-starts w.deployment w.director.last_start g)
+item-holds w left item.Recover h = plain-item w (stops_all w.deployment w.director.last_start) h (λ g. stops_all-starts w.deployment w.director.last_start g)
 item-holds w left item.Quiet h = plain-item w (λ b. []) h (λ g. refl)
 
 next-holds : (w : World) (may : Bool) (items : List TimedItem) (h : Holds w)
     → HoldsOf (does_next w.deployment may w.director items).state.next_start w.agents (sent w.channel Director (does_next w.deployment may w.director items).sends)
 next-holds w true (next ∷ left) h = item-holds w left next.item h
-next-holds w true [] h = plain-item w (stops_all w.deployment w.director.last_start) h (λ g. stops_all-none w.deployment w.director.last_start g)
-next-holds w false items h = plain-item w (stops_all w.deployment w.director.last_start) h (λ g. stops_all-none w.deployment w.director.last_start g)
+next-holds w true [] h = plain-item w (stops_all w.deployment w.director.last_start) h (λ g. stops_all-starts w.deployment w.director.last_start g)
+next-holds w false items h = plain-item w (stops_all w.deployment w.director.last_start) h (λ g. stops_all-starts w.deployment w.director.last_start g)
 
 -- ---- a recovery
 
@@ -313,7 +291,7 @@ anew-host : (owner : ℕ → ℕ) (next hosts h start : ℕ) (ls : List ℕ) →
     → HostOk (owner-from owner next) (next + hosts) h (if c then next + h else start) ls
 anew-host owner next hosts h start ls some k c q = record {
   running = runs c q;
-  owned = All-mono (Owned owner next h) (Owned (owner-from owner next) (next + hosts) h) (λ s o. up s o) ls k.owned;
+  owned = all-mono (Owned owner next h) (Owned (owner-from owner next) (next + hosts) h) (λ s o. up s o) ls k.owned;
   rising = k.rising;
   apart = apart c;
 }
@@ -327,7 +305,7 @@ anew-host owner next hosts h start ls some k c q = record {
     runs false q u = up start (k.running u)
 
     apart : (c : Bool) → AllByRecursion (λ s. s ≡ (if c then next + h else start) → ⊥) ls
-    apart true = All-mono (Owned owner next h) (λ s. s ≡ next + h → ⊥) (λ s o e. absurd (omega (arith, o.below, e))) ls k.owned
+    apart true = all-mono (Owned owner next h) (λ s. s ≡ next + h → ⊥) (λ s o e. absurd (omega (arith, o.below, e))) ls k.owned
     apart false = k.apart
 
 abbrev member_anew : Database → World → List ℕ → ℕ → AgentState
@@ -367,12 +345,12 @@ anew-held E w shown h g false = agent-mono (DeadOf w h) (DeadAnew E w shown h) (
 
 anew-travels : (E : Database) (w : World) (shown : List ℕ) (h : Holds w) (g : ℕ) (b : Actor) → AllByRecursion (OfLetter (DeadAnew E w shown h)) ((starts_anew E w shown).channel (Agent g) b)
 anew-travels E w shown h g (Client c) =
-    All-append (OfLetter (DeadAnew E w shown h)) (w.channel (Agent g) (Client c)) (opens w.deployment w.director.next_start (Agent g) (Client c))
-    (All-mono (OfLetter (DeadOf w h)) (OfLetter (DeadAnew E w shown h)) (letter-mono (DeadOf w h) (DeadAnew E w shown h) (anew-dead E w shown h)) (w.channel (Agent g) (Client c)) (h.travelling g (Client c)))
-    (All-if (OfLetter (DeadAnew E w shown h)) (is_host w.deployment g && is_client w.deployment c) (open_letter (msg.Opened (w.director.next_start + g)) ∷ []) [] (tt, tt) tt)
+    all-append (OfLetter (DeadAnew E w shown h)) (w.channel (Agent g) (Client c)) (opens w.deployment w.director.next_start (Agent g) (Client c))
+    (all-mono (OfLetter (DeadOf w h)) (OfLetter (DeadAnew E w shown h)) (letter-mono (DeadOf w h) (DeadAnew E w shown h) (anew-dead E w shown h)) (w.channel (Agent g) (Client c)) (h.travelling g (Client c)))
+    (all-if (OfLetter (DeadAnew E w shown h)) (is_host w.deployment g && is_client w.deployment c) (open_letter (msg.Opened (w.director.next_start + g)) ∷ []) [] (tt, tt) tt)
 anew-travels E w shown h g Director =
-    All-append (OfLetter (DeadAnew E w shown h)) (w.channel (Agent g) Director) []
-    (All-mono (OfLetter (DeadOf w h)) (OfLetter (DeadAnew E w shown h)) (letter-mono (DeadOf w h) (DeadAnew E w shown h) (anew-dead E w shown h)) (w.channel (Agent g) Director) (h.travelling g Director)) tt
+    all-append (OfLetter (DeadAnew E w shown h)) (w.channel (Agent g) Director) []
+    (all-mono (OfLetter (DeadOf w h)) (OfLetter (DeadAnew E w shown h)) (letter-mono (DeadOf w h) (DeadAnew E w shown h) (anew-dead E w shown h)) (w.channel (Agent g) Director) (h.travelling g Director)) tt
 anew-travels E w shown h g (Agent k) = tt
 anew-travels E w shown h g (Site i) = tt
 anew-travels E w shown h g (Scanner x) = tt
