@@ -1,0 +1,4 @@
+pub mod Names
+pub mod Rules
+pub mod Catalog
+pub mod Held
