@@ -153,6 +153,70 @@ fn limits_hold(rt: HostRuntime) -> Result<(), Fail> {
     Ok(())
 }
 
+/// Texts that no statement continues, each with the number of the token at which it is refused.
+const REFUSED: [(&str, u32); 25] = [
+    ("SELECT a FROM t GROUP a", 5),
+    ("SELECT a FROM t ORDER a", 5),
+    ("SELECT a FROM t WHERE a BETWEEN 1 OR 2", 8),
+    ("SELECT a FROM t JOIN u WHERE a = 1", 6),
+    ("SELECT SUM(*) FROM t", 3),
+    ("SELECT COUNT() FROM t", 3),
+    ("SELECT ROWS(1) FROM t", 3),
+    ("SELECT FIRST(r) FROM t", 4),
+    ("SELECT :1 FROM t", 2),
+    ("SELECT a AS 1 FROM t", 3),
+    ("SELECT a, FROM t", 3),
+    ("SELECT *, a FROM t", 2),
+    ("SELECT a FROM t LIMIT a", 5),
+    ("SELECT a FROM t WHERE a IS 1", 7),
+    ("SELECT a FROM t WHERE a IN (1,)", 10),
+    ("SELECT a FROM t WHERE (a", 7),
+    ("SELECT a FROM t WHERE a +", 7),
+    ("SELECT a FROM t WHERE a < < b", 7),
+    ("SELECT t. FROM t", 3),
+    ("INSERT INTO t (a b) VALUES (1)", 5),
+    ("INSERT INTO t (a) (1)", 6),
+    ("INSERT INTO t VALUES (1", 6),
+    ("UPDATE t a = 1", 2),
+    ("UPDATE t SET a = 1,", 7),
+    ("DELETE FROM 1", 2),
+];
+
+#[test]
+fn each_part_is_refused_at_its_place(rt: HostRuntime) -> Result<(), Fail> {
+    for (text, place) in REFUSED {
+        assert!(rt; text.len() < 100_000);
+        assert_eq!(rt; refusal_of(rt.alloc(), text)?, Some(place));
+    }
+    Ok(())
+}
+
+/// A statement whose condition is 4095 tokens of a sum behind these.
+fn summed(alloc: Global, front: &str) -> Result<String, Fail> {
+    let mut text = String::from_str(alloc, "DELETE FROM t WHERE ")?;
+    text.push_str(front)?;
+    for _turn in 0..2047 {
+        text.push_str("1+")?;
+    }
+    text.push_str("1")?;
+    Ok(text)
+}
+
+#[test]
+fn the_greatest_numbers_are_within_the_limits(rt: HostRuntime) -> Result<(), Fail> {
+    let alloc = rt.alloc();
+    let inverted = nested(alloc, 100, "NOT ", "")?;
+    assert!(rt; inverted.len() < 100_000);
+    assert_eq!(rt; end_of(alloc, inverted.as_str())?, Some(105));
+    let long = summed(alloc, "-")?;
+    assert!(rt; long.len() < 100_000);
+    assert_eq!(rt; end_of(alloc, long.as_str())?, Some(4100));
+    let longer = summed(alloc, "- -")?;
+    assert!(rt; longer.len() < 100_000);
+    assert_eq!(rt; refusal_of(alloc, longer.as_str())?, Some(4100));
+    Ok(())
+}
+
 /// Whether the expression is `(NOT a = b) AND (c + (d * (-e)))`.
 fn is_by_strength(expr: &Expr) -> bool {
     let Expr::And(left, right) = expr else {
