@@ -1,0 +1,15 @@
+pub mod CommaLists
+pub mod Cut
+pub mod DdlOk
+pub mod Deeper
+pub mod ExpressionsOk
+pub mod Halves
+pub mod MoreSteps
+pub mod ProceduresOk
+pub mod Public
+pub mod Returned
+pub mod Standing
+pub mod StatementsOk
+pub mod Steps
+pub mod Turns
+pub mod Whereabouts

@@ -1,0 +1,98 @@
+//! Statements.
+
+ghost use Rattle.std.specs.Prelude.{◌≡◌, ◌<◌, ◌≤◌, ◌^◌, ℕ, All, length, IfOk, Err};
+ghost use Rattle.volt_text.specs.Tokens.{Reads as Lexes, Tokens as Lexed};
+ghost use Rattle.sql_grammar.specs.Grammar.{parse};
+ghost use Rattle.sql_grammar.specs.Reading.{IsRead, IsRefused};
+ghost use Rattle.sql_parse.specs.Cursor.{Stands, toks};
+ghost use Rattle.sql_parse.specs.Statements.{statement};
+ghost use Rattle.sql_parse.specs.Reads.{Reads, refused_at};
+ghost use Rattle.sql_parse.specs.Statements as spec;
+
+use crate::cursor::Tokens;
+use crate::fault::{Fault, ParseFault};
+use crate::select::select;
+use crate::statement::Stmt;
+use crate::writes::{delete, insert, update};
+use sql_grammar::Kind;
+use std::alloc::Global;
+use volt_text::Token;
+
+/// A statement, where so many nestings are left.
+#[tactic(auto, using(crate::proofs::Steps::steps), unfolding(crate::specs::Statements::stmt))]
+pub fn stmt(alloc: Global, tokens: &mut Tokens<'_>, depth: usize) -> Result<Stmt, Fault>
+    ensures { Reads (parse (spec.stmt depth) tokens.old) result tokens.new }
+{
+    if tokens.eat(Kind::Insert) {
+        tokens.expect(Kind::Into)?;
+        return Ok(Stmt::Insert(insert(alloc, tokens, depth)?));
+    }
+    if tokens.eat(Kind::Update) {
+        return Ok(Stmt::Update(update(alloc, tokens, depth)?));
+    }
+    if tokens.eat(Kind::Delete) {
+        tokens.expect(Kind::From)?;
+        return Ok(Stmt::Delete(delete(alloc, tokens, depth)?));
+    }
+    tokens.expect(Kind::Select)?;
+    Ok(Stmt::Select(select(alloc, tokens, depth)?))
+}
+
+/// How deep steps, parentheses, NOT and unary minus nest.
+pub const MAX_NESTING: usize = 100;
+
+/// The answer where reading ended at this token.
+pub fn refusal(fault: Fault, place: usize) -> ParseFault
+    requires { place < 2 ^ 32 }
+    ensures { result ≡ refused_at fault place }
+{
+    match fault {
+        Fault::Syntax => ParseFault::Syntax(place as u32),
+        Fault::NoMemory => ParseFault::NoMemory,
+    }
+}
+
+/// A statement at the front of the tokens from one on, where each token stands in the text.
+fn statement_at(
+    alloc: Global,
+    text: &str,
+    tokens: &[Token],
+    from: usize,
+) -> Result<(Stmt, usize), ParseFault>
+    requires standing { All (Stands text.now) tokens.now }
+    requires few { length tokens.now < 2 ^ 32 }
+    requires within { from ≤ length tokens.now }
+    ensures read { IfOk result (λ r. IsRead statement (toks text.now tokens.now) from r.0 r.1) }
+    ensures refused { (place : ℕ) → result ≡ Err (ParseFault.Syntax place) → IsRefused statement (toks text.now tokens.now) from place }
+{
+    let (_, rest) = tokens.split_at(from);
+    let mut cursor = Tokens::new(text, rest);
+    let read = stmt(alloc, &mut cursor, MAX_NESTING);
+    let place = tokens.len().saturating_sub(cursor.left());
+    match read {
+        Ok(tree) => Ok((tree, place)),
+        Err(fault) => Err(refusal(fault, place)),
+    }
+}
+
+/// Reads the statement that stands at the front of a text's tokens from the token of this number
+/// on, and answers it with the number of the token behind it.
+///
+/// The tokens are those of the text, which has fewer than 2^32 bytes. The longest front decides: of
+/// the tokens with which a statement begins it takes as many as there are. If they are a statement,
+/// that is the answer. Else it is `Syntax`, with the number of the token behind them, which is the
+/// number of all tokens where the text ends there.
+pub fn parse_statement(
+    alloc: Global,
+    text: &str,
+    tokens: &[Token],
+    from: usize,
+) -> Result<(Stmt, usize), ParseFault>
+    requires small { length text.now < 2 ^ 32 }
+    requires lexed { Lexes text.now (Lexed tokens.now) }
+    requires within { from ≤ length tokens.now }
+    ensures read { IfOk result (λ r. IsRead statement (toks text.now tokens.now) from r.0 r.1) }
+    ensures refused { (place : ℕ) → result ≡ Err (ParseFault.Syntax place) → IsRefused statement (toks text.now tokens.now) from place }
+{
+    statement_at(alloc, text, tokens, from)
+}
