@@ -12,6 +12,7 @@ pub mod PartitionDown
 pub mod StreamOfAnOldTerm
 pub mod JoinerHearsOfALoss
 pub mod StopOvertakesStart
+pub mod SecondJoinerOfASlot
 use Rattle.std.specs.Prelude.{ℕ, zero, suc, ◌==◌, Bool, true, false, List, [], ◌∷◌, Option, Some, None, map}
 use Rattle.std.specs.List.{list_any}
 use Rattle.volt_base.specs.declared.entry.Applied.{Applied}

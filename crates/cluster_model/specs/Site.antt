@@ -291,8 +291,8 @@ on_repair E D i s from entries =
 
 -- ---- joins, at the leader
 
--- The leader can take a joiner: its mark is on disk, no transaction is open, no scan runs, and the joiner's start isn't
--- lost in its word.
+-- The leader can take a joiner: its mark is on disk, no transaction is open, no scan runs, the joiner's start isn't lost in
+-- its word, and it counts no joiner of that slot. A later start of a slot that it counts would take no stream of its term.
 abbrev pub is_lost_in : Option Membership → ℕ → Bool
 is_lost_in None start = false
 is_lost_in (Some w) start = is_in start w.lost
@@ -300,6 +300,7 @@ is_lost_in (Some w) start = is_in start w.lost
 abbrev pub can_take : Deployment → ℕ → SiteState → Ask → Bool
 can_take D i s a =
     leads D i s && s.mark == site_term s && nothing_open s.log && is_none s.scanning && not (is_lost_in s.view a.start)
+    && not (list_any (λ j. j.slot == a.slot) s.joiners)
 
 -- what the stream begins with
 abbrev pub stream_head : Database → Deployment → ℕ → SiteState → StreamHead
@@ -311,15 +312,12 @@ stream_head E D i s =
       last = last_done E (part_of_slot D i) s.log;
     }
 
--- It fixes the position nj, and sends StreamStart. A scan begins for the joiner, which gets Task from nj on. A leader has
--- one place for a joiner of a slot.
+-- It fixes the position nj, and sends StreamStart. A scan begins for the joiner, which gets Task from nj on.
 abbrev pub takes_joiner : Database → Deployment → ℕ → Ask → SiteState → Turn SiteState
 takes_joiner E D i a s =
     sending
     (record s {
-      joiners =
-          filter (λ j. not (j.slot == a.slot)) s.joiners
-          ++ record { slot = a.slot; start = a.start; nj = length s.log; position = length s.log; count = None } ∷ [];
+      joiners = s.joiners ++ record { slot = a.slot; start = a.start; nj = length s.log; position = length s.log; count = None } ∷ [];
       scans = s.scans + 1;
       scanning = Some (ForJoiner (s.scans + 1) a.slot);
     })

@@ -21,6 +21,7 @@ ghost use Rattle.cluster_model.specs.Rows.PartitionDown as down;
 ghost use Rattle.cluster_model.specs.Rows.StreamOfAnOldTerm as stale;
 ghost use Rattle.cluster_model.specs.Rows.JoinerHearsOfALoss as joiner;
 ghost use Rattle.cluster_model.specs.Rows.StopOvertakesStart as overtaken;
+ghost use Rattle.cluster_model.specs.Rows.SecondJoinerOfASlot as second;
 
 /// One host: a call puts an account, and the next one reads it.
 pub fn put_and_get()
@@ -124,4 +125,15 @@ pub fn joiner_hears_of_a_loss()
 pub fn stop_overtakes_start()
     ensures run { IsRun toy overtaken.events overtaken.start }
     ensures stopped { (overtaken.last.sites 0).start ≡ 0 }
+{}
+
+/// A slot asks a leader of an old term to join a second time. Its first start was admitted, and led a
+/// later term without the call that this leader has. The leader still counts the first joiner, and so
+/// doesn't answer the call.
+pub fn second_joiner_of_a_slot()
+    ensures run { IsRun toy second.events second.start }
+    ensures counted { map (λ j. j.start) (second.last.sites 0).joiners ≡ 5 ∷ [] }
+    ensures unanswered { can second.last (Deliver (Agent 2) (Site 0)) ≡ false }
+    ensures contents { map (λ i. (second.last.sites i).contents) (0 ∷ 1 ∷ []) ≡ second.contents }
+    ensures lead { second.last.lead_of 0 ≡ second.lead }
 {}
