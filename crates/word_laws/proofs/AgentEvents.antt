@@ -17,19 +17,19 @@ use Rattle.cluster_model.specs.World.{took, rest}
 use Rattle.cluster_model.specs.Laws.{start_in_letter, starts_in}
 use Rattle.word_laws.specs.Histories.{In, State, start_at, starts_to, Holds, LetterOk, AskOk, CameOk, QueuedOk, WaitingFrom, WaitingOk, ClosesFrom, InOrder}
 use Rattle.word_laws.proofs.Lists.{all-mono, all-filter, eqb-same, not-both}
-use Rattle.word_laws.proofs.Moves.{after, popped, Later, BringsWord, asked_by, Heeded, Goes}
+use Rattle.word_laws.proofs.Moves.{Nobody, Anyone, after, popped, Later, BringsWord, asked_by, Heeded, Goes}
 use Rattle.word_laws.proofs.Laters.{ask-later, came-later, closes-later, ask-began, waiting-later}
 use Rattle.word_laws.proofs.Turns.{row-calm, tells, concludes, stops_with_host-closed}
 use Rattle.word_laws.proofs.Arrivals.{arrival-waits, arrival-taken, arrival-open, arrival-dropped, Commands, Takes, Stops_, Ignores, Runs_, takes-cases, runs-taken, runs-waits, runs-refused, turn-cases, stopped-cases, unless-running, waiting-brings}
 use Rattle.word_laws.proofs.Steps.{later-moved, pops, pops-other, waiting-shrinks, waits-holds}
 use Rattle.word_laws.proofs.Rejoins.{start-goes, start-stops-goes}
 use Rattle.word_laws.proofs.Draws.{director-drops-holds}
-use Rattle.word_laws.proofs.Hearings.{Row, row-plain, stay-row, agent-there, on-row, then-assoc, calm-row, concluded-row, after-same}
+use Rattle.word_laws.proofs.Hearings.{Row, none-row, row-grows, row-plain, stay-row, agent-there, on-row, then-assoc, calm-row, concluded-row, after-same}
 use Rattle.word_laws.proofs.Letters.{forgets-row, stop-row, closed-row, word-row, decided-row}
 
 -- ---- a message leaves its channel
 
-no-zero : (P : State) (n : ℕ) → start_at P n ≡ 0 → 0 < start_at P n → ⊥
+pub no-zero : (P : State) (n : ℕ) → start_at P n ≡ 0 → 0 < start_at P n → ⊥
 no-zero P n z u = absurd (omega (arith, z, u))
 
 -- one that the agent has heeded, or needn't
@@ -43,10 +43,10 @@ pops-any S (Scanner i) n l ls is heeded h = pops-other S (Scanner i) n (λ k. re
 
 -- The agent stops, and then the message leaves its channel.
 pub stop-pops : (S : State) (from : Actor) (n : ℕ) (l : Letter) (ls : List Letter) (t : Turn AgentState) → S.channel from (Agent n) ≡ l ∷ ls → Holds S → 0 < start_at S n → t.state ≡ new_agent 0
-    → ((g : ℕ) → t.sends (Agent g) ≡ (stops S.deployment n (start_at S n)).sends (Agent g)) → Row (popped S from n) n t
+    → ((g : ℕ) → t.sends (Agent g) ≡ (stops S.deployment n (start_at S n)).sends (Agent g)) → Row Nobody (popped S from n) n t
 stop-pops S from n l ls t is h up e sends = forgets-row S n from l ls t is r (λ more q. pops-any T from n l more q (λ k z. unheeded) r.holds)
   where
-    r : Row S n t
+    r : Row Nobody S n t
     r = stop-row S n t h up e sends
 
     T : State
@@ -82,44 +82,52 @@ came-popped S k n j l ls h is = (
 
 -- ---- a message that brings no word
 
-calm-event : (E : Database) (P : State) (n stamp : ℕ) (from : Actor) (l : Letter) → Holds P → 0 < start_at P n → (BringsWord from l → ⊥)
+pub calm-event : {M : ℕ → ℕ → Type 0} (E : Database) (P : State) (n stamp : ℕ) (from : Actor) (l : Letter) → Holds P → 0 < start_at P n → (BringsWord from l → ⊥)
     → ((j h term : ℕ) → In (Admission j h term) (asked_by from l) → QueuedOk P n (Admission j h term))
-    → Row P n (agent_row E P.deployment n stamp (P.agents n) from l ▸ tells n (P.agents n).own)
-calm-event E P n stamp from l h up calm new =
-    calm-row P h n (asked_by from l) (agent_row E P.deployment n stamp (P.agents n) from l) up (row-calm E P.deployment n stamp (P.agents n) from l calm) new
+    → ((j h term : ℕ) → In (Admission j h term) ((P.agents n).initiating.queue ++ asked_by from l) → M j h)
+    → Row M P n (agent_row E P.deployment n stamp (P.agents n) from l ▸ tells n (P.agents n).own)
+calm-event E P n stamp from l h up calm new may =
+    calm-row P h n (asked_by from l) (agent_row E P.deployment n stamp (P.agents n) from l) up (row-calm E P.deployment n stamp (P.agents n) from l calm) new may
 
 -- ---- the row of a message, and what the agent says then
 
 -- of a message that is taken
-pub row-event : (E : Database) (S : State) (n stamp : ℕ) (from : Actor) (l : Letter) (ls : List Letter) → Holds S → 0 < start_at S n → S.channel from (Agent n) ≡ l ∷ ls
+pub row-event : {M : ℕ → ℕ → Type 0} (E : Database) (S : State) (n stamp : ℕ) (from : Actor) (l : Letter) (ls : List Letter) → Holds S → 0 < start_at S n
+    → S.channel from (Agent n) ≡ l ∷ ls
     → arrival (start_at S n) (term_in (S.agents n).decided) l ≡ Taken
-    → Row (popped S from n) n (agent_row E S.deployment n stamp (S.agents n) from l ▸ tells n (S.agents n).own)
-row-event E S n stamp (Agent k) l ls h up is taken = elim l.body as (λ m. S.channel (Agent k) (Agent n) ≡ record l { body = m } ∷ ls
+    → ((j h term : ℕ) → In (Admission j h term) ((S.agents n).initiating.queue ++ asked_by from l) → M j h)
+    → Row M (popped S from n) n (agent_row E S.deployment n stamp (S.agents n) from l ▸ tells n (S.agents n).own)
+row-event {M = M} E S n stamp (Agent k) l ls h up is taken may = elim l.body as (λ m. S.channel (Agent k) (Agent n) ≡ record l { body = m } ∷ ls
     → arrival (start_at S n) (term_in (S.agents n).decided) (record l { body = m }) ≡ Taken
-    → Row (popped S (Agent k) n) n (agent_row E S.deployment n stamp (S.agents n) (Agent k) (record l { body = m }) ▸ tells n (S.agents n).own)) [
-      | msg.Closed o ↦ λ e a. closed-row S h n k o l ls up e
-      | msg.Word base lost admitted ↦ λ e a. word-row S h n k base lost admitted l ls up e (arrival-taken (start_at S n) (term_in (S.agents n).decided) (record l { body = msg.Word base lost admitted }) a)
-      | msg.Decided w ↦ λ e a. decided-row (popped S (Agent k) n) (pops S k n (record l { body = msg.Decided w }) ls e tt h) n w up
-          (subst (AllByRecursion (LetterOk S k n)) e (h.channels k n).letters).0.1
-      | msg.Admit j ↦ λ e a. calm-event E (popped S (Agent k) n) n stamp (Agent k) (record l { body = msg.Admit j }) (pops S k n (record l { body = msg.Admit j }) ls e tt h) up (λ b. b)
+    → ((j h term : ℕ) → In (Admission j h term) ((S.agents n).initiating.queue ++ asked_by (Agent k) (record l { body = m })) → M j h)
+    → Row M (popped S (Agent k) n) n (agent_row E S.deployment n stamp (S.agents n) (Agent k) (record l { body = m }) ▸ tells n (S.agents n).own)) [
+      | msg.Closed o ↦ λ e a may. none-row (closed-row S h n k o l ls up e)
+      | msg.Word base lost admitted ↦ λ e a may. none-row (word-row S h n k base lost admitted l ls up e
+          (arrival-taken (start_at S n) (term_in (S.agents n).decided) (record l { body = msg.Word base lost admitted }) a))
+      | msg.Decided w ↦ λ e a may. none-row (decided-row (popped S (Agent k) n) (pops S k n (record l { body = msg.Decided w }) ls e tt h) n w up
+          (subst (AllByRecursion (LetterOk S k n)) e (h.channels k n).letters).0.1)
+      | msg.Admit j ↦ λ e a may. calm-event E (popped S (Agent k) n) n stamp (Agent k) (record l { body = msg.Admit j })
+          (pops S k n (record l { body = msg.Admit j }) ls e tt h) up (λ b. b)
           (λ i g term q. elim q [
             | inl p ↦ subst (QueuedOk (popped S (Agent k) n) n) p (came-popped S k n j l ls h e)
             | inr p ↦ absurd p
-          ])
-      | m ↦ λ e a. calm-event E (popped S (Agent k) n) n stamp (Agent k) (record l { body = m }) (pops S k n (record l { body = m }) ls e tt h) up (λ b. b) (λ i g term q. absurd q)
-    ] is taken
-row-event E S n stamp Director l ls h up is taken =
-    calm-event E (popped S Director n) n stamp Director l (director-drops-holds S n h) up (λ b. b) (λ i g term q. absurd q)
-row-event E S n stamp (Client c) l ls h up is taken =
-    calm-event E (popped S (Client c) n) n stamp (Client c) l (pops-any S (Client c) n l ls is (λ k q. absurd (cc)) h) up (λ b. b) (λ i g term q. absurd q)
-row-event E S n stamp (Site i) l ls h up is taken =
-    calm-event E (popped S (Site i) n) n stamp (Site i) l (pops-any S (Site i) n l ls is (λ k q. absurd (cc)) h) up (λ b. b) (λ i g term q. absurd q)
-row-event E S n stamp (Scanner i) l ls h up is taken =
-    calm-event E (popped S (Scanner i) n) n stamp (Scanner i) l (pops-any S (Scanner i) n l ls is (λ k q. absurd (cc)) h) up (λ b. b) (λ i g term q. absurd q)
+          ]) may
+      | m ↦ λ e a may. calm-event E (popped S (Agent k) n) n stamp (Agent k) (record l { body = m }) (pops S k n (record l { body = m }) ls e tt h) up (λ b. b)
+          (λ i g term q. absurd q) may
+    ] is taken may
+row-event {M = M} E S n stamp Director l ls h up is taken may =
+    calm-event E (popped S Director n) n stamp Director l (director-drops-holds S n h) up (λ b. b) (λ i g term q. absurd q) may
+row-event {M = M} E S n stamp (Client c) l ls h up is taken may =
+    calm-event E (popped S (Client c) n) n stamp (Client c) l (pops-any S (Client c) n l ls is (λ k q. absurd (cc)) h) up (λ b. b) (λ i g term q. absurd q) may
+row-event {M = M} E S n stamp (Site i) l ls h up is taken may =
+    calm-event E (popped S (Site i) n) n stamp (Site i) l (pops-any S (Site i) n l ls is (λ k q. absurd (cc)) h) up (λ b. b) (λ i g term q. absurd q) may
+row-event {M = M} E S n stamp (Scanner i) l ls h up is taken may =
+    calm-event E (popped S (Scanner i) n) n stamp (Scanner i) l (pops-any S (Scanner i) n l ls is (λ k q. absurd (cc)) h) up (λ b. b) (λ i g term q. absurd q) may
 
 -- ---- a message that waited
 
-asked-waiting : (P : State) (n : ℕ) (from : Actor) (l : Letter) → WaitingFrom P n from l → (j h term : ℕ) → In (Admission j h term) (asked_by from l) → QueuedOk P n (Admission j h term)
+pub asked-waiting : (P : State) (n : ℕ) (from : Actor) (l : Letter) → WaitingFrom P n from l → (j h term : ℕ) → In (Admission j h term) (asked_by from l)
+    → QueuedOk P n (Admission j h term)
 asked-waiting P n (Agent k) l w j h term i = (elim l.body as (λ m. WaitingFrom P n (Agent k) (record l { body = m }) → In (Admission j h term) (asked_by (Agent k) (record l { body = m })) → QueuedOk P n (Admission j h term)) [
   | msg.Admit s ↦ λ p q. elim q [ inl e ↦ subst (QueuedOk P n) e p | inr e ↦ absurd e ]
   | m ↦ λ p q. absurd q
@@ -130,24 +138,25 @@ asked-waiting P n (Site s) l w j h term i = absurd i
 asked-waiting P n (Scanner x) l w j h term i = absurd i
 
 waited-row : (E : Database) (P : State) (n stamp : ℕ) (from : Actor) (l : Letter) → Holds P → 0 < start_at P n → WaitingFrom P n from l
-    → Row P n (row_and_word E P.deployment n stamp (P.agents n) from l)
+    → Row Anyone P n (row_and_word E P.deployment n stamp (P.agents n) from l)
 waited-row E P n stamp from l h up w =
-    subst (Row P n) (then-assoc (agent_row E P.deployment n stamp (P.agents n) from l) (tells n (P.agents n).own) (concludes P.deployment n))
+    subst (Row Anyone P n) (then-assoc (agent_row E P.deployment n stamp (P.agents n) from l) (tells n (P.agents n).own) (concludes P.deployment n))
     (concluded-row P n P.deployment (agent_row E P.deployment n stamp (P.agents n) from l ▸ tells n (P.agents n).own)
-    (calm-event E P n stamp from l h up (waiting-brings P n from l w) (asked-waiting P n from l w)))
+    (calm-event E P n stamp from l h up (waiting-brings P n from l w) (asked-waiting P n from l w) (λ j g term i. tt)))
 
 -- an Admit that came stays one that came
-came-still : (P T : State) (n : ℕ) → Later P T → ((h : ℕ) → (h == n) ≡ false → T.channel (Agent h) (Agent n) ≡ P.channel (Agent h) (Agent n)) → (h term j : ℕ) → CameOk P h n term j → CameOk T h n term j
+pub came-still : (P T : State) (n : ℕ) → Later P T → ((h : ℕ) → (h == n) ≡ false → T.channel (Agent h) (Agent n) ≡ P.channel (Agent h) (Agent n)) → (h term j : ℕ)
+    → CameOk P h n term j → CameOk T h n term j
 came-still P T n later others h term j k = came-later P T later h n term j
     (subst (AllByRecursion (ClosesFrom (T.history.began h) j)) (sym (others h k.0.other))
     (all-mono (ClosesFrom (P.history.began h) j) (ClosesFrom (T.history.began h) j) (λ l c. closes-later P T later h j (ask-began P h n term j k.0) l c) (P.channel (Agent h) (Agent n)) k.1)) k
 
-none-taken : (E : Database) (D : Deployment) (n stamp : ℕ) (ws : List Waiting) → takes_each E D n stamp ws (new_agent 0) ≡ becomes (new_agent 0)
+pub none-taken : (E : Database) (D : Deployment) (n stamp : ℕ) (ws : List Waiting) → takes_each E D n stamp ws (new_agent 0) ≡ becomes (new_agent 0)
 none-taken E D n stamp [] = refl
 none-taken E D n stamp (w ∷ ws) = none-taken E D n stamp ws
 
 waited-each : (E : Database) (D : Deployment) (n stamp : ℕ) (ws : List Waiting) (P : State) → P.deployment ≡ D → Holds P → 0 < start_at P n → AllByRecursion (λ w. WaitingFrom P n w.from w.letter) ws
-    → Row P n (takes_each E D n stamp ws (P.agents n))
+    → Row Anyone P n (takes_each E D n stamp ws (P.agents n))
 waited-each E D n stamp [] P d h up w = stay-row P n (inl (refl, up)) h
 waited-each E D n stamp (w ∷ ws) P d h up k = on-row P n (unless_stopped E D n stamp (P.agents n) w.from w.letter) (takes_each E D n stamp ws) first (none-taken E D n stamp ws)
     (λ T e q later others g u. waited-each E D n stamp ws T (q ∙ d) g u
@@ -156,11 +165,11 @@ waited-each E D n stamp (w ∷ ws) P d h up k = on-row P n (unless_stopped E D n
     running : (P.agents n).start == 0 ≡ false
     running = grind (arith, nat_tests, up)
 
-    first : Row P n (unless_stopped E D n stamp (P.agents n) w.from w.letter)
-    first = subst (Row P n) (sym (unless-running E D n stamp (P.agents n) w.from w.letter running))
-        (subst (λ z. Row P n (row_and_word E z n stamp (P.agents n) w.from w.letter)) d (waited-row E P n stamp w.from w.letter h up k.0))
+    first : Row Anyone P n (unless_stopped E D n stamp (P.agents n) w.from w.letter)
+    first = subst (Row Anyone P n) (sym (unless-running E D n stamp (P.agents n) w.from w.letter running))
+        (subst (λ z. Row Anyone P n (row_and_word E z n stamp (P.agents n) w.from w.letter)) d (waited-row E P n stamp w.from w.letter h up k.0))
 
-waited : (E : Database) (D : Deployment) (n stamp : ℕ) (P : State) → P.deployment ≡ D → Holds P → 0 < start_at P n → Row P n (takes_waiting E D n stamp (P.agents n))
+waited : (E : Database) (D : Deployment) (n stamp : ℕ) (P : State) → P.deployment ≡ D → Holds P → 0 < start_at P n → Row Anyone P n (takes_waiting E D n stamp (P.agents n))
 waited E D n stamp P d h up =
     on-row P n (becomes (record (P.agents n) { waiting = above_term (term_in (P.agents n).decided) (P.agents n).waiting })) (takes_each E D n stamp (of_term (term_in (P.agents n).decided) (P.agents n).waiting))
     (row-plain P n (becomes (record (P.agents n) { waiting = above_term (term_in (P.agents n).decided) (P.agents n).waiting })) (inl (refl, up))
@@ -171,7 +180,7 @@ waited E D n stamp P d h up =
     (of_term (term_in (P.agents n).decided) (P.agents n).waiting)
     (all-filter (WaitingOk P n) (λ w. w.letter.term == term_in (P.agents n).decided) (P.agents n).waiting (h.agents n).waiting)))
 
-none-waited : (E : Database) (D : Deployment) (n stamp : ℕ) → takes_waiting E D n stamp (new_agent 0) ≡ becomes (new_agent 0)
+pub none-waited : (E : Database) (D : Deployment) (n stamp : ℕ) → takes_waiting E D n stamp (new_agent 0) ≡ becomes (new_agent 0)
 none-waited E D n stamp = refl
 
 -- ---- a message of a running agent
@@ -179,18 +188,19 @@ none-waited E D n stamp = refl
 -- and what follows: it takes those that waited for the term
 pub taken-event : (E : Database) (S : State) (n stamp : ℕ) (from : Actor) (l : Letter) (ls : List Letter) → Holds S → 0 < start_at S n → S.channel from (Agent n) ≡ l ∷ ls
     → arrival (start_at S n) (term_in (S.agents n).decided) l ≡ Taken
-    → Row (popped S from n) n (row_and_word E S.deployment n stamp (S.agents n) from l ▸ takes_waiting E S.deployment n stamp)
+    → Row Anyone (popped S from n) n (row_and_word E S.deployment n stamp (S.agents n) from l ▸ takes_waiting E S.deployment n stamp)
 taken-event E S n stamp from l ls h up is taken =
     on-row (popped S from n) n (row_and_word E S.deployment n stamp (S.agents n) from l) (takes_waiting E S.deployment n stamp)
-    (subst (Row (popped S from n) n) (then-assoc (agent_row E S.deployment n stamp (S.agents n) from l) (tells n (S.agents n).own) (concludes S.deployment n))
-    (concluded-row (popped S from n) n S.deployment (agent_row E S.deployment n stamp (S.agents n) from l ▸ tells n (S.agents n).own) (row-event E S n stamp from l ls h up is taken)))
+    (subst (Row Anyone (popped S from n) n) (then-assoc (agent_row E S.deployment n stamp (S.agents n) from l) (tells n (S.agents n).own) (concludes S.deployment n))
+    (concluded-row (popped S from n) n S.deployment (agent_row E S.deployment n stamp (S.agents n) from l ▸ tells n (S.agents n).own)
+    (row-event E S n stamp from l ls h up is taken (λ j g term i. tt))))
     (none-waited E S.deployment n stamp)
     (λ T e q later others g u. waited E S.deployment n stamp T q g u)
 
 -- one that waits for its term
-waits-event : (S : State) (n : ℕ) (from : Actor) (l : Letter) (ls : List Letter) → Holds S → 0 < start_at S n → S.channel from (Agent n) ≡ l ∷ ls
+pub waits-event : {M : ℕ → ℕ → Type 0} (S : State) (n : ℕ) (from : Actor) (l : Letter) (ls : List Letter) → Holds S → 0 < start_at S n → S.channel from (Agent n) ≡ l ∷ ls
     → arrival (start_at S n) (term_in (S.agents n).decided) l ≡ Waits
-    → Row (popped S from n) n (becomes (record (S.agents n) { waiting = (S.agents n).waiting ++ record { from = from; letter = l } ∷ [] }))
+    → Row M (popped S from n) n (becomes (record (S.agents n) { waiting = (S.agents n).waiting ++ record { from = from; letter = l } ∷ [] }))
 waits-event S n from l ls h up is waits =
     row-plain (popped S from n) n (becomes (record (S.agents n) { waiting = (S.agents n).waiting ++ record { from = from; letter = l } ∷ [] })) (inl (refl, up))
     (waits-holds (popped S from n) from n l (may-wait from l is waits)
@@ -222,8 +232,8 @@ waits-event S n from l ls h up is waits =
     may-wait (Scanner i) l is w = tt
 
 -- one for another start, or of a lower term
-refused-event : (S : State) (n : ℕ) (from : Actor) (l : Letter) (ls : List Letter) → Holds S → 0 < start_at S n → S.channel from (Agent n) ≡ l ∷ ls
-    → arrival (start_at S n) (term_in (S.agents n).decided) l ≡ Refused → Row (popped S from n) n (becomes (S.agents n))
+pub refused-event : {M : ℕ → ℕ → Type 0} (S : State) (n : ℕ) (from : Actor) (l : Letter) (ls : List Letter) → Holds S → 0 < start_at S n → S.channel from (Agent n) ≡ l ∷ ls
+    → arrival (start_at S n) (term_in (S.agents n).decided) l ≡ Refused → Row M (popped S from n) n (becomes (S.agents n))
 refused-event S n from l ls h up is refused =
     stay-row (popped S from n) n (inl (refl, up)) (pops-any S from n l ls is (λ k e. unheeded k l (subst (λ z. S.channel z (Agent n) ≡ l ∷ ls) e is) refused) h)
   where
@@ -244,7 +254,8 @@ refused-event S n from l ls h up is refused =
     ] is w
 
 -- a Start or a Stop that doesn't concern it
-ignored-event : (S : State) (n : ℕ) (from : Actor) (l : Letter) (ls : List Letter) → Holds S → 0 < start_at S n → S.channel from (Agent n) ≡ l ∷ ls → Commands l → Row (popped S from n) n (becomes (S.agents n))
+pub ignored-event : {M : ℕ → ℕ → Type 0} (S : State) (n : ℕ) (from : Actor) (l : Letter) (ls : List Letter) → Holds S → 0 < start_at S n → S.channel from (Agent n) ≡ l ∷ ls
+    → Commands l → Row M (popped S from n) n (becomes (S.agents n))
 ignored-event S n from l ls h up is c = stay-row (popped S from n) n (inl (refl, up)) (pops-any S from n l ls is (λ k e. heeded l c) h)
   where
     heeded : (l : Letter) → Commands l → Heeded S n l
@@ -255,40 +266,39 @@ ignored-event S n from l ls h up is c = stay-row (popped S from n) n (inl (refl,
     ]) c
 
 running-event : (E : Database) (S : State) (n stamp : ℕ) (from : Actor) (l : Letter) (ls : List Letter) (o : Outside) → Holds S → 0 < start_at S n → S.channel from (Agent n) ≡ l ∷ ls
-    → Row (popped S from n) n (agent_turn E S.deployment n stamp (S.agents n) from l o)
+    → Row Anyone (popped S from n) n (agent_turn E S.deployment n stamp (S.agents n) from l o)
 running-event E S n stamp from l ls o h up is = elim (turn-cases E S.deployment n stamp (S.agents n) from l o running) [
-  | inl e ↦ subst (Row (popped S from n) n) (sym e) (stop-pops S from n l ls (stops_with_host S.deployment n (start_at S n)) is h up refl (λ g. stops_with_host-closed S.deployment n (start_at S n) g))
-  | inr e ↦ subst (Row (popped S from n) n) (sym e) (takes (takes-cases E S.deployment n stamp (S.agents n) from l running))
+  | inl e ↦ subst (Row Anyone (popped S from n) n) (sym e) (none-row
+      (stop-pops S from n l ls (stops_with_host S.deployment n (start_at S n)) is h up refl (λ g. stops_with_host-closed S.deployment n (start_at S n) g)))
+  | inr e ↦ subst (Row Anyone (popped S from n) n) (sym e) (takes (takes-cases E S.deployment n stamp (S.agents n) from l running))
 ]
   where
     running : ((S.agents n).start == 0) ≡ false
     running = grind (arith, nat_tests, up)
 
-    runs : (x : Arrival) → arrival (start_at S n) (term_in (S.agents n).decided) l ≡ x → Row (popped S from n) n (agent_runs E S.deployment n stamp (S.agents n) from l)
-    runs Taken e = subst (Row (popped S from n) n) (sym (runs-taken E S.deployment n stamp (S.agents n) from l e)) (taken-event E S n stamp from l ls h up is e)
-    runs Waits e = subst (Row (popped S from n) n) (sym (runs-waits E S.deployment n stamp (S.agents n) from l e)) (waits-event S n from l ls h up is e)
-    runs Refused e = subst (Row (popped S from n) n) (sym (runs-refused E S.deployment n stamp (S.agents n) from l e)) (refused-event S n from l ls h up is e)
+    runs : (x : Arrival) → arrival (start_at S n) (term_in (S.agents n).decided) l ≡ x → Row Anyone (popped S from n) n (agent_runs E S.deployment n stamp (S.agents n) from l)
+    runs Taken e = subst (Row Anyone (popped S from n) n) (sym (runs-taken E S.deployment n stamp (S.agents n) from l e)) (taken-event E S n stamp from l ls h up is e)
+    runs Waits e = subst (Row Anyone (popped S from n) n) (sym (runs-waits E S.deployment n stamp (S.agents n) from l e)) (waits-event S n from l ls h up is e)
+    runs Refused e = subst (Row Anyone (popped S from n) n) (sym (runs-refused E S.deployment n stamp (S.agents n) from l e)) (refused-event S n from l ls h up is e)
 
-    takes : Takes E S.deployment n stamp (S.agents n) from l → Row (popped S from n) n (agent_takes E S.deployment n stamp (S.agents n) from l)
-    takes (Stops_ e) = subst (Row (popped S from n) n) (sym e) (stop-pops S from n l ls (stops S.deployment n (start_at S n)) is h up refl (λ g. refl))
-    takes (Ignores e c) = subst (Row (popped S from n) n) (sym e) (ignored-event S n from l ls h up is c)
-    takes (Runs_ e c) = subst (Row (popped S from n) n) (sym e) (runs (arrival (start_at S n) (term_in (S.agents n).decided) l) refl)
+    takes : Takes E S.deployment n stamp (S.agents n) from l → Row Anyone (popped S from n) n (agent_takes E S.deployment n stamp (S.agents n) from l)
+    takes (Stops_ e) = subst (Row Anyone (popped S from n) n) (sym e) (none-row (stop-pops S from n l ls (stops S.deployment n (start_at S n)) is h up refl (λ g. refl)))
+    takes (Ignores e c) = subst (Row Anyone (popped S from n) n) (sym e) (ignored-event S n from l ls h up is c)
+    takes (Runs_ e c) = subst (Row Anyone (popped S from n) n) (sym e) (runs (arrival (start_at S n) (term_in (S.agents n).decided) l) refl)
 
 -- ---- the whole
 
-row-goes : (S : State) (n : ℕ) (from : Actor) (t : Turn AgentState) → Row (popped S from n) n t → Goes S n from t
+row-goes : (S : State) (n : ℕ) (from : Actor) (t : Turn AgentState) → Row Anyone (popped S from n) n t → Goes S n from t
 row-goes S n from t r = record {
   history = r.history;
-  grows = record { first = r.first; said = r.said; decided = r.decided; admitted = r.admitted };
+  grows = row-grows r;
   holds = r.holds;
 }
 
-stays-goes : (S : State) (n : ℕ) (from : Actor) (l : Letter) (ls : List Letter) → Holds S → S.channel from (Agent n) ≡ l ∷ ls → start_at S n ≡ 0 → Goes S n from (becomes (S.agents n))
-stays-goes S n from l ls h is z = record {
-  history = S.history;
-  grows = record { first = refl; said = λ s w i. i; decided = λ w i. i; admitted = λ x i. i };
-  holds = subst Holds (sym (after-same (popped S from n) n)) (pops-any S from n l ls is (λ k e. unheeded l) h);
-}
+-- a stopped agent stays as it is
+pub stays-holds : (S : State) (n : ℕ) (from : Actor) (l : Letter) (ls : List Letter) → Holds S → S.channel from (Agent n) ≡ l ∷ ls → start_at S n ≡ 0
+    → Holds (after (popped S from n) n (S.agents n) (λ b. []) S.history)
+stays-holds S n from l ls h is z = subst Holds (sym (after-same (popped S from n) n)) (pops-any S from n l ls is (λ k e. unheeded l) h)
   where
     unheeded : (l : Letter) → Heeded S n l
     unheeded l = elim l.body as (λ m. Heeded S n (record l { body = m })) [
@@ -297,13 +307,29 @@ stays-goes S n from l ls h is z = record {
       | m ↦ tt
     ]
 
+stays-goes : (S : State) (n : ℕ) (from : Actor) (l : Letter) (ls : List Letter) → Holds S → S.channel from (Agent n) ≡ l ∷ ls → start_at S n ≡ 0
+    → Goes S n from (becomes (S.agents n))
+stays-goes S n from l ls h is z = record {
+  history = S.history;
+  grows = record {
+    first = refl;
+    began = λ g s i. i;
+    said = λ s w i. i;
+    took_word = λ s w e. e;
+    decided = λ w i. i;
+    admitted = λ x i. i;
+  };
+  holds = stays-holds S n from l ls h is z;
+}
+
 -- ---- a message of an agent that is stopped
 
 -- the start in the first message from the director
-comes-first : (S : State) (n s : ℕ) (l : Letter) (ls : List Letter) → S.channel Director (Agent n) ≡ l ∷ ls → start_in_letter l ≡ s ∷ [] → starts_to S n ≡ s ∷ starts_in (rest (S.channel Director (Agent n)))
+pub comes-first : (S : State) (n s : ℕ) (l : Letter) (ls : List Letter) → S.channel Director (Agent n) ≡ l ∷ ls → start_in_letter l ≡ s ∷ []
+    → starts_to S n ≡ s ∷ starts_in (rest (S.channel Director (Agent n)))
 comes-first S n s l ls is e = ap starts_in is ∙ ap (λ x. x ++ starts_in ls) e ∙ ap (λ x. s ∷ starts_in (rest x)) (sym is)
 
-start-of-body : (l : Letter) (s : ℕ) → l.body ≡ msg.Start s → start_in_letter l ≡ s ∷ []
+pub start-of-body : (l : Letter) (s : ℕ) → l.body ≡ msg.Start s → start_in_letter l ≡ s ∷ []
 start-of-body l s e = ap (λ m. start_in_letter (record l { body = m })) e
 
 stopped-takes : (E : Database) (S : State) (n stamp : ℕ) (from : Actor) (l : Letter) (ls : List Letter) → Holds S → start_at S n ≡ 0 → is_host S.deployment n ≡ true → S.channel from (Agent n) ≡ l ∷ ls

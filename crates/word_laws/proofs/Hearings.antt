@@ -16,7 +16,7 @@ use Rattle.word_laws.specs.Histories.{In, OnSome, State, History, Admitted, name
 use Rattle.word_laws.proofs.Lists.{all-mono, all-at, in-cases, some-here, not-both, eqb-same, same-some}
 use Rattle.word_laws.proofs.Algebra.{same_word-refl, same_word-is, with_admitted-admits, names-admits}
 use Rattle.word_laws.proofs.Members.{members-all, is_member-start, initiates-is}
-use Rattle.word_laws.proofs.Moves.{after, Later, Plain, Calm, AdmitsNow}
+use Rattle.word_laws.proofs.Moves.{Nobody, after, Later, Plain, Calm, AdmitsNow, Grows}
 use Rattle.word_laws.proofs.Agreement.{member-is, said-good}
 use Rattle.word_laws.proofs.Turns.{Decides, tells, concludes, tells-same, tells-other, concludes-not, concludes-is, decides-state, decides-sends, may_decide-cases, is_other_word-equal}
 use Rattle.word_laws.proofs.Steps.{later-after, calm-holds, after-after, came-turn, plain-closes}
@@ -31,7 +31,7 @@ abbrev pub Going : State → ℕ → AgentState → Type 0
 Going P n a = ((a.start ≡ start_at P n) × (0 < start_at P n)) ⊎ (a ≡ new_agent 0)
 
 -- A turn of the agent of host n, from a state: the agent goes on or has stopped, and what holds of the state after it.
-pub record Row (P : State) (n : ℕ) (t : Turn AgentState) : Type 0 where
+pub record Row (M : ℕ → ℕ → Type 0) (P : State) (n : ℕ) (t : Turn AgentState) : Type 0 where
   pub history : History
   pub goes : Going P n t.state
   pub first : history.first ≡ P.history.first
@@ -40,14 +40,48 @@ pub record Row (P : State) (n : ℕ) (t : Turn AgentState) : Type 0 where
   pub took_word : (s : ℕ) (w : Membership) → P.history.took s ≡ Some w → history.took s ≡ Some w
   pub decided : (w : Membership) → In w P.history.decided → In w history.decided
   pub admitted : (x : Admitted) → In x P.history.admitted → In x history.admitted
+  -- of each start that it admits, and of its host, this holds
+  pub admits : (x : Admitted) → In x history.admitted → In x P.history.admitted ⊎ M x.start (P.owner x.start)
+  -- it is the one that admits them
+  pub by : (x : Admitted) → In x history.admitted → In x P.history.admitted ⊎ ((x.by ≡ start_at P n) × (0 < start_at P n))
   pub holds : Holds (after P n t.state t.sends history)
 
--- such a turn only adds to the state
-pub row-later : (P : State) (n : ℕ) (t : Turn AgentState) (r : Row P n t) → Later P (after P n t.state t.sends r.history)
+-- such a turn only adds to the history
+pub row-grows : {M : ℕ → ℕ → Type 0} {P : State} {n : ℕ} {t : Turn AgentState} (r : Row M P n t) → Grows P.history r.history
+row-grows r = record {
+  first = r.first;
+  began = λ h s i. rw r.began i;
+  said = r.said;
+  took_word = r.took_word;
+  decided = r.decided;
+  admitted = r.admitted;
+}
+
+-- and to the state
+pub row-later : {M : ℕ → ℕ → Type 0} (P : State) (n : ℕ) (t : Turn AgentState) (r : Row M P n t) → Later P (after P n t.state t.sends r.history)
 row-later P n t r = later-after P n t.state t.sends r.history (elim r.goes [ inl e ↦ inl e.0 | inr e ↦ inr (ap (λ x. x.start) e) ]) r.first r.began r.said r.took_word r.decided r.admitted
 
+-- where nobody is admitted, this holds of all who are
+pub none-row : {M : ℕ → ℕ → Type 0} {P : State} {n : ℕ} {t : Turn AgentState} → Row Nobody P n t → Row M P n t
+none-row r = record {
+  history = r.history;
+  goes = r.goes;
+  first = r.first;
+  began = r.began;
+  said = r.said;
+  took_word = r.took_word;
+  decided = r.decided;
+  admitted = r.admitted;
+  admits = λ x i. elim (r.admits x i) [
+    | inl k ↦ inl k
+    | inr k ↦ absurd k
+  ];
+  by = r.by;
+  holds = r.holds;
+}
+
 -- a turn in which the history stays
-pub row-plain : (P : State) (n : ℕ) (t : Turn AgentState) → Going P n t.state → Holds (after P n t.state t.sends P.history) → Row P n t
+pub row-plain : {M : ℕ → ℕ → Type 0} (P : State) (n : ℕ) (t : Turn AgentState) → Going P n t.state → Holds (after P n t.state t.sends P.history) → Row M P n t
 row-plain P n t g h = record {
   history = P.history;
   goes = g;
@@ -57,6 +91,8 @@ row-plain P n t g h = record {
   took_word = λ s w e. e;
   decided = λ w i. i;
   admitted = λ x i. i;
+  admits = λ x i. inl i;
+  by = λ x i. inl i;
   holds = h;
 }
 
@@ -64,43 +100,66 @@ row-plain P n t g h = record {
 pub agent-there : (P : State) (n : ℕ) (a : AgentState) (out : Sends) (H : History) → (after P n a out H).agents n ≡ a
 agent-there P n a out H = rw (eqb-same n) refl
 
--- One turn, and then another one from the state after it.
-pub then-row : (P : State) (n : ℕ) (t : Turn AgentState) (f : AgentState → Turn AgentState) → Row P n t
-    → ((T : State) → T.agents n ≡ t.state → T.deployment ≡ P.deployment → Later P T → ((h : ℕ) → (h == n) ≡ false → T.channel (Agent h) (Agent n) ≡ P.channel (Agent h) (Agent n)) → Holds T
-    → Row T n (f t.state)) → Row P n (t ▸ f)
-then-row P n t f r g = record {
-  history = q.history;
-  goes = elim q.goes [
-    | inl e ↦ there (e.0 ∙ ap (λ x. x.start) here) (subst (λ x. 0 < x.start) here e.1)
-    | inr e ↦ inr e
-  ];
-  first = q.first ∙ r.first;
-  began = q.began ∙ r.began;
-  said = λ s w i. q.said s w (r.said s w i);
-  took_word = λ s w e. q.took_word s w (r.took_word s w e);
-  decided = λ w i. q.decided w (r.decided w i);
-  admitted = λ x i. q.admitted x (r.admitted x i);
-  holds = subst Holds (after-after P n t.state (f t.state).state t.sends (f t.state).sends r.history q.history) q.holds;
-}
+-- and what comes to it from others is as it was
+pub others-after : (P : State) (n : ℕ) (a : AgentState) (out : Sends) (H : History) (h : ℕ) → (h == n) ≡ false
+    → (after P n a out H).channel (Agent h) (Agent n) ≡ P.channel (Agent h) (Agent n)
+others-after P n a out H h e = choice (n == h) refl
+  where
+    choice : (b : Bool) → (n == h) ≡ b → (if b then P.channel (Agent h) (Agent n) ++ out (Agent n) else P.channel (Agent h) (Agent n)) ≡ P.channel (Agent h) (Agent n)
+    choice true q = absurd (not-both (h == n) (subst (λ z. (h == z) ≡ true) (sym (eqb-true n h q)) (eqb-same h)) e)
+    choice false q = refl
+
+-- One turn, and then another one from the state after it, with the history that this one leaves.
+pub after-row : {M : ℕ → ℕ → Type 0} (P : State) (n : ℕ) (t : Turn AgentState) (f : AgentState → Turn AgentState) (r : Row M P n t)
+    → (q : Row M (after P n t.state t.sends r.history) n (f t.state)) → (both : Row M P n (t ▸ f)) × (both.history ≡ q.history)
+after-row P n t f r q = (
+  record {
+    history = q.history;
+    goes = elim q.goes [
+      | inl e ↦ there (e.0 ∙ ap (λ x. x.start) here) (subst (λ x. 0 < x.start) here e.1)
+      | inr e ↦ inr e
+    ];
+    first = q.first ∙ r.first;
+    began = q.began ∙ r.began;
+    said = λ s w i. q.said s w (r.said s w i);
+    took_word = λ s w e. q.took_word s w (r.took_word s w e);
+    decided = λ w i. q.decided w (r.decided w i);
+    admitted = λ x i. q.admitted x (r.admitted x i);
+    admits = λ x i. elim (q.admits x i) [
+      | inl k ↦ r.admits x k
+      | inr k ↦ inr k
+    ];
+    by = λ x i. elim (q.by x i) [
+      | inl k ↦ r.by x k
+      | inr k ↦ inr (ran (k.0 ∙ ap (λ a. a.start) here) (subst (λ a. 0 < a.start) here k.1))
+    ];
+    holds = subst Holds (after-after P n t.state (f t.state).state t.sends (f t.state).sends r.history q.history) q.holds;
+  },
+  refl,
+)
   where
     here : (after P n t.state t.sends r.history).agents n ≡ t.state
     here = agent-there P n t.state t.sends r.history
-
-    others : (h : ℕ) → (h == n) ≡ false → (after P n t.state t.sends r.history).channel (Agent h) (Agent n) ≡ P.channel (Agent h) (Agent n)
-    others h e = choice (n == h) refl
-      where
-        choice : (b : Bool) → (n == h) ≡ b → (if b then P.channel (Agent h) (Agent n) ++ t.sends (Agent n) else P.channel (Agent h) (Agent n)) ≡ P.channel (Agent h) (Agent n)
-        choice true q = absurd (not-both (h == n) (subst (λ z. (h == z) ≡ true) (sym (eqb-true n h q)) (eqb-same h)) e)
-        choice false q = refl
-
-    q : Row (after P n t.state t.sends r.history) n (f t.state)
-    q = g (after P n t.state t.sends r.history) here refl (row-later P n t r) others r.holds
 
     there : (f t.state).state.start ≡ t.state.start → 0 < t.state.start → Going P n (f t.state).state
     there e up = elim r.goes [
       | inl d ↦ inl (e ∙ d.0, d.1)
       | inr d ↦ let z : t.state.start ≡ 0 = ap (λ x. x.start) d in absurd (omega (arith, up, z))
     ]
+
+    ran : {x : ℕ} → x ≡ t.state.start → 0 < t.state.start → (x ≡ start_at P n) × (0 < start_at P n)
+    ran e up = elim r.goes [
+      | inl d ↦ (e ∙ d.0, d.1)
+      | inr d ↦ let z : t.state.start ≡ 0 = ap (λ x. x.start) d in absurd (omega (arith, up, z))
+    ]
+
+-- from whatever state that is
+pub then-row : {M : ℕ → ℕ → Type 0} (P : State) (n : ℕ) (t : Turn AgentState) (f : AgentState → Turn AgentState) → Row M P n t
+    → ((T : State) → T.agents n ≡ t.state → T.deployment ≡ P.deployment → Later P T
+    → ((h : ℕ) → (h == n) ≡ false → T.channel (Agent h) (Agent n) ≡ P.channel (Agent h) (Agent n)) → Holds T
+    → Row M T n (f t.state)) → Row M P n (t ▸ f)
+then-row P n t f r g = (after-row P n t f r
+    (g (after P n t.state t.sends r.history) (agent-there P n t.state t.sends r.history) refl (row-later P n t r) (others-after P n t.state t.sends r.history) r.holds)).0
 
 -- ---- turns that are one
 
@@ -132,13 +191,13 @@ after-same P n = ap (λ c. record P { agents = set_at P.agents n (P.agents n); c
     place h false e = refl
 
 -- a turn of an agent that stays as it is
-pub stay-row : (P : State) (n : ℕ) → Going P n (P.agents n) → Holds P → Row P n (becomes (P.agents n))
+pub stay-row : {M : ℕ → ℕ → Type 0} (P : State) (n : ℕ) → Going P n (P.agents n) → Holds P → Row M P n (becomes (P.agents n))
 stay-row P n g h = row-plain P n (becomes (P.agents n)) g (subst Holds (sym (after-same P n)) h)
 
 -- ---- a word is decided, where it may be
 
-module _ (T : State) (H : Holds T) (n : ℕ) (D : Deployment) (up : 0 < start_at T n) where
-  decides-row : (v : Membership) → (T.agents n).own ≡ Some v → may_decide n (T.agents n) (Some v) ≡ true → Row T n (decides_word D n (T.agents n) (Some v))
+module _ {M : ℕ → ℕ → Type 0} (T : State) (H : Holds T) (n : ℕ) (D : Deployment) (up : 0 < start_at T n) where
+  pub decides-row : (v : Membership) → (T.agents n).own ≡ Some v → may_decide n (T.agents n) (Some v) ≡ true → Row M T n (decides_word D n (T.agents n) (Some v))
   decides-row v own may = record {
     history = record T.history { decided = v ∷ T.history.decided };
     goes = inl (d.start, up);
@@ -148,6 +207,8 @@ module _ (T : State) (H : Holds T) (n : ℕ) (D : Deployment) (up : 0 < start_at
     took_word = λ s w e. e;
     decided = λ w i. inr i;
     admitted = λ x i. i;
+    admits = λ x i. inl i;
+    by = λ x i. inl i;
     holds = decides-holds T H n v (decides_word D n (T.agents n) (Some v)).state (decides_word D n (T.agents n) (Some v)).sends up own
         (member-is T H.history v n (start_at T n) good mine).0 others d (decides-sends D n (T.agents n) v);
   }
@@ -187,14 +248,14 @@ module _ (T : State) (H : Holds T) (n : ℕ) (D : Deployment) (up : 0 < start_at
           choice false q i = heard-from h r ((T.agents n).said h) e ((H.agents n).heard h) i
 
   -- It decides its word, or goes on as it was.
-  pub concludes-row : Row T n (concludes D n (T.agents n))
+  pub concludes-row : Row M T n (concludes D n (T.agents n))
   concludes-row = go (T.agents n).own refl
     where
-      go : (o : Option Membership) → (T.agents n).own ≡ o → Row T n (concludes D n (T.agents n))
-      go None e = subst (Row T n) (sym (concludes-not D n (T.agents n) (ap (λ z. may_decide n (T.agents n) z) e))) (stay-row T n (inl (refl, up)) H)
+      go : (o : Option Membership) → (T.agents n).own ≡ o → Row M T n (concludes D n (T.agents n))
+      go None e = subst (Row M T n) (sym (concludes-not D n (T.agents n) (ap (λ z. may_decide n (T.agents n) z) e))) (stay-row T n (inl (refl, up)) H)
       go (Some v) e = elim (cases_Bool (may_decide n (T.agents n) (Some v))) [
-        | inl m ↦ subst (Row T n) (sym (concludes-is D n (T.agents n) (ap (λ z. may_decide n (T.agents n) z) e ∙ m) ∙ ap (decides_word D n (T.agents n)) e)) (decides-row v e m)
-        | inr m ↦ subst (Row T n) (sym (concludes-not D n (T.agents n) (ap (λ z. may_decide n (T.agents n) z) e ∙ m))) (stay-row T n (inl (refl, up)) H)
+        | inl m ↦ subst (Row M T n) (sym (concludes-is D n (T.agents n) (ap (λ z. may_decide n (T.agents n) z) e ∙ m) ∙ ap (decides_word D n (T.agents n)) e)) (decides-row v e m)
+        | inr m ↦ subst (Row M T n) (sym (concludes-not D n (T.agents n) (ap (λ z. may_decide n (T.agents n) z) e ∙ m))) (stay-row T n (inl (refl, up)) H)
       ]
 
 -- ---- a message that brings no word
@@ -203,10 +264,11 @@ module _ (T : State) (H : Holds T) (n : ℕ) (D : Deployment) (up : 0 < start_at
 pub says-word : (n : ℕ) (x : AgentState) (before : Option Membership) (v : Membership) → x.own ≡ Some v → is_other_word before (Some v) ≡ true → tells n before x ≡ says n x (Some v)
 says-word n x before v e o = tells-other n before x (ap (is_other_word before) e ∙ o) ∙ ap (says n x) e
 
-module _ (P : State) (H : Holds P) (n : ℕ) (came : List Queued) (t : Turn AgentState) (up : 0 < start_at P n) (c : Calm n (P.agents n) came t)
-    (new : (j h term : ℕ) → In (Admission j h term) came → QueuedOk P n (Admission j h term)) where
+module _ {M : ℕ → ℕ → Type 0} (P : State) (H : Holds P) (n : ℕ) (came : List Queued) (t : Turn AgentState) (up : 0 < start_at P n) (c : Calm n (P.agents n) came t)
+    (new : (j h term : ℕ) → In (Admission j h term) came → QueuedOk P n (Admission j h term))
+    (may : (j h term : ℕ) → In (Admission j h term) ((P.agents n).initiating.queue ++ came) → M j h) where
   -- it admits a start
-  admits-row : AdmitsNow (P.agents n) came t.state.own → Row P n (t ▸ tells n (P.agents n).own)
+  admits-row : AdmitsNow (P.agents n) came t.state.own → Row M P n (t ▸ tells n (P.agents n).own)
   admits-row m = record {
     history = G;
     goes = inl (ap (λ u. u.state.start) turn-is ∙ c.start, up);
@@ -216,6 +278,14 @@ module _ (P : State) (H : Holds P) (n : ℕ) (came : List Queued) (t : Turn Agen
     took_word = λ s w e. e;
     decided = λ w i. i;
     admitted = λ x i. inr i;
+    admits = λ x i. elim i [
+      | inl e ↦ inr (subst (λ y. M y.start (P.owner y.start)) e (subst (λ h. M m.start h) (sym came0.0.owned) (may m.start m.host m.term m.queued)))
+      | inr k ↦ inl k
+    ];
+    by = λ x i. elim i [
+      | inl e ↦ inr (sym (ap (λ y. y.by) e) ∙ start1, up)
+      | inr k ↦ inl k
+    ];
     holds = subst (λ u. Holds (after P n u.state u.sends G)) (sym turn-is)
         (subst Holds (ap (λ z. after S1 n z out G) state-is
         ∙ after-after P n t0 t.state t.sends out P.history G)
@@ -308,25 +378,27 @@ module _ (P : State) (H : Holds P) (n : ℕ) (came : List Queued) (t : Turn Agen
       turn-is = ap (λ u. record { state = u.state; sends = λ b. t.sends b ++ u.sends b }) (says-word n t.state (P.agents n).own v m.becomes other)
 
   -- A turn that brings no word, and what the agent says then.
-  pub calm-row : Row P n (t ▸ tells n (P.agents n).own)
+  pub calm-row : Row M P n (t ▸ tells n (P.agents n).own)
   calm-row = elim c.own [
-    | inl same ↦ subst (Row P n) (sym (then-quiet t (tells n (P.agents n).own) (tells-same n (P.agents n).own t.state (ap (is_other_word (P.agents n).own) same ∙ other-self (P.agents n).own))))
+    | inl same ↦ subst (Row M P n) (sym (then-quiet t (tells n (P.agents n).own)
+        (tells-same n (P.agents n).own t.state (ap (is_other_word (P.agents n).own) same ∙ other-self (P.agents n).own))))
         (row-plain P n t (inl (c.start, up)) (calm-holds P n came t up c same new H))
     | inr m ↦ admits-row m
   ]
 
 -- One turn, and then another one of an agent that goes on. One that has stopped does nothing then.
-pub on-row : (P : State) (n : ℕ) (t : Turn AgentState) (f : AgentState → Turn AgentState) → Row P n t → f (new_agent 0) ≡ becomes (new_agent 0)
-    → ((T : State) → T.agents n ≡ t.state → T.deployment ≡ P.deployment → Later P T → ((h : ℕ) → (h == n) ≡ false → T.channel (Agent h) (Agent n) ≡ P.channel (Agent h) (Agent n)) → Holds T
-    → 0 < start_at T n → Row T n (f (T.agents n))) → Row P n (t ▸ f)
-on-row P n t f r silent g = then-row P n t f r (λ T e d k o h. elim r.goes [
-  | inl q ↦ subst (λ z. Row T n (f z)) e (g T e d k o h (subst (λ z. 0 < z) (sym (ap (λ x. x.start) e ∙ q.0)) q.1))
-  | inr z ↦ subst (λ u. Row T n u) (sym (ap f z ∙ silent)) (subst (λ u. Row T n (becomes u)) (e ∙ z) (stay-row T n (inr (e ∙ z)) h))
+pub on-row : {M : ℕ → ℕ → Type 0} (P : State) (n : ℕ) (t : Turn AgentState) (f : AgentState → Turn AgentState) → Row M P n t → f (new_agent 0) ≡ becomes (new_agent 0)
+    → ((T : State) → T.agents n ≡ t.state → T.deployment ≡ P.deployment → Later P T
+    → ((h : ℕ) → (h == n) ≡ false → T.channel (Agent h) (Agent n) ≡ P.channel (Agent h) (Agent n)) → Holds T
+    → 0 < start_at T n → Row M T n (f (T.agents n))) → Row M P n (t ▸ f)
+on-row {M = M} P n t f r silent g = then-row P n t f r (λ T e d k o h. elim r.goes [
+  | inl q ↦ subst (λ z. Row M T n (f z)) e (g T e d k o h (subst (λ z. 0 < z) (sym (ap (λ x. x.start) e ∙ q.0)) q.1))
+  | inr z ↦ subst (λ u. Row M T n u) (sym (ap f z ∙ silent)) (subst (λ u. Row M T n (becomes u)) (e ∙ z) (stay-row T n (inr (e ∙ z)) h))
 ])
 
-concludes-none : (D : Deployment) (n : ℕ) → concludes D n (new_agent 0) ≡ becomes (new_agent 0)
+pub concludes-none : (D : Deployment) (n : ℕ) → concludes D n (new_agent 0) ≡ becomes (new_agent 0)
 concludes-none D n = refl
 
 -- what follows a row, when the agent has said its word
-pub concluded-row : (P : State) (n : ℕ) (D : Deployment) (t : Turn AgentState) → Row P n t → Row P n (t ▸ concludes D n)
+pub concluded-row : {M : ℕ → ℕ → Type 0} (P : State) (n : ℕ) (D : Deployment) (t : Turn AgentState) → Row M P n t → Row M P n (t ▸ concludes D n)
 concluded-row P n D t r = on-row P n t (concludes D n) r (concludes-none D n) (λ T e d k o h up. concludes-row T h n D up)

@@ -15,7 +15,7 @@ use Rattle.word_laws.specs.Histories.{In, OnSome, State, Admitted, Within, names
 use Rattle.word_laws.proofs.Lists.{some-here, not-both, eqb-same, same-some}
 use Rattle.word_laws.proofs.Algebra.{within-with_lost, within-union-left, within-union-right, in-with_lost, with_lost-in, lost-union, names-within}
 use Rattle.word_laws.proofs.Members.{is_member-start}
-use Rattle.word_laws.proofs.Moves.{OwnLost, after, popped, Later, Heeded}
+use Rattle.word_laws.proofs.Moves.{Nobody, OwnLost, after, popped, Later, Heeded}
 use Rattle.word_laws.proofs.Agreement.{member-is, runs-not-lost, said-good, knows-told}
 use Rattle.word_laws.proofs.Laters.{good-later, admitted_ok-later}
 use Rattle.word_laws.proofs.Turns.{tells, tells-same, tells-state, is_other_word-equal, on_decided-joiner, stops-sends, stops-sends-none, stops_with_host-closed}
@@ -28,9 +28,10 @@ use Rattle.word_laws.proofs.Hearings.{Row, row-plain, stay-row, agent-there, oth
 -- ---- a message is forgotten behind the turn in which it was heeded
 
 -- behind a turn, where it may be forgotten after it
-pub forgets-row : (S : State) (n : ℕ) (from : Actor) (l : Letter) (ls : List Letter) (t : Turn AgentState) → S.channel from (Agent n) ≡ l ∷ ls → (r : Row S n t)
+pub forgets-row : {M : ℕ → ℕ → Type 0} (S : State) (n : ℕ) (from : Actor) (l : Letter) (ls : List Letter) (t : Turn AgentState) → S.channel from (Agent n) ≡ l ∷ ls
+    → (r : Row M S n t)
     → ((more : List Letter) → (after S n t.state t.sends r.history).channel from (Agent n) ≡ l ∷ more → Holds (popped (after S n t.state t.sends r.history) from n))
-    → Row (popped S from n) n t
+    → Row M (popped S from n) n t
 forgets-row S n from l ls t is r forgets = record {
   history = r.history;
   goes = r.goes;
@@ -40,6 +41,8 @@ forgets-row S n from l ls t is r forgets = record {
   took_word = r.took_word;
   decided = r.decided;
   admitted = r.admitted;
+  admits = r.admits;
+  by = r.by;
   holds = let b = behind (same (Agent n) from) in subst Holds (sym (took-sent S from n t.state t.sends r.history l ls is)) (forgets b.0 b.1);
 }
   where
@@ -48,15 +51,15 @@ forgets-row S n from l ls t is r forgets = record {
     behind false = (ls, is)
 
 -- a message between agents that it has heeded
-pub pop-row : (S : State) (n k : ℕ) (l : Letter) (ls : List Letter) (t : Turn AgentState) → S.channel (Agent k) (Agent n) ≡ l ∷ ls
-    → (r : Row S n t) → Heeded (after S n t.state t.sends r.history) n l → Row (popped S (Agent k) n) n t
+pub pop-row : {M : ℕ → ℕ → Type 0} (S : State) (n k : ℕ) (l : Letter) (ls : List Letter) (t : Turn AgentState) → S.channel (Agent k) (Agent n) ≡ l ∷ ls
+    → (r : Row M S n t) → Heeded (after S n t.state t.sends r.history) n l → Row M (popped S (Agent k) n) n t
 pop-row S n k l ls t is r heeded = forgets-row S n (Agent k) l ls t is r (λ more e. pops (after S n t.state t.sends r.history) k n l more e heeded r.holds)
 
 -- ---- an agent stops
 
 -- it says Closed as it should
 pub stop-row : (S : State) (n : ℕ) (t : Turn AgentState) → Holds S → 0 < start_at S n → t.state ≡ new_agent 0
-    → ((g : ℕ) → t.sends (Agent g) ≡ (stops S.deployment n (start_at S n)).sends (Agent g)) → Row S n t
+    → ((g : ℕ) → t.sends (Agent g) ≡ (stops S.deployment n (start_at S n)).sends (Agent g)) → Row Nobody S n t
 stop-row S n t H up e sends = row-plain S n t (inr e) (stops-holds S n t up e
     (λ g i o. sends g ∙ stops-sends S.deployment n (start_at S n) g i o)
     (λ g o. sends g ∙ stops-sends-none S.deployment n (start_at S n) g o) H)
@@ -71,7 +74,7 @@ module _ (S : State) (H : Holds S) (n : ℕ) (w v : Membership) (heard : ℕ →
 
   -- a member says it
   pub own-row : names v (start_at S n) ≡ true → ((y : Admitted) → In y S.history.admitted → is_in y.by v.lost ≡ true → admits v y.start ≡ true)
-      → Row S n (says n speaker (Some v))
+      → Row Nobody S n (says n speaker (Some v))
   own-row member knows = record {
     history = record S.history { said = said_more S.history.said (start_at S n) v };
     goes = inl (refl, up);
@@ -81,6 +84,8 @@ module _ (S : State) (H : Holds S) (n : ℕ) (w v : Membership) (heard : ℕ →
     took_word = λ s u e. e;
     decided = λ u i. i;
     admitted = λ y i. i;
+    admits = λ y i. inl i;
+    by = λ y i. inl i;
     holds = says-holds S H n w v heard (says n speaker (Some v)).sends S.history.admitted up own low member hears (λ g. refl) (λ y i. i) (λ y i. inl i)
         (good-later S T later v good) (λ y i. admitted_ok-later S T later y (H.history.admitted_ok y i)) H.history.once H.history.one_each H.history.nothing_between knows;
   }
@@ -102,7 +107,7 @@ module _ (S : State) (H : Holds S) (n : ℕ) (w v : Membership) (heard : ℕ →
 
   -- a joiner says nothing
   pub silent-row : names v (start_at S n) ≡ false → ((y : Admitted) → In y S.history.admitted → names y.at (start_at S n) ≡ true → is_in y.by v.lost ≡ true → admits v y.start ≡ true)
-      → Row S n (says n speaker (Some v))
+      → Row Nobody S n (says n speaker (Some v))
   silent-row other knows = row-plain S n (says n speaker (Some v)) (inl (refl, up))
       (grows-holds S H n w v heard (says n speaker (Some v)).sends up own low other good hears knows (silent-words other))
 
@@ -149,22 +154,22 @@ module _ (S : State) (H : Holds S) (n k o : ℕ) (l : Letter) (ls : List Letter)
           (subst (λ z. Telling (start_at S n) y.start y.by (S.channel (Agent (S.owner y.by)) (Agent z))) owned t)) in
           elim u [ inl p ↦ p | inr p ↦ p.0 e ]
 
-  pub closed-row : Row (popped S (Agent k) n) n closed-turn
+  pub closed-row : Row Nobody (popped S (Agent k) n) n closed-turn
   closed-row = go (S.agents n).own refl
     where
       stays : closed-turn ≡ becomes (S.agents n)
           → (0 < start_at S n → OwnLost o (S.agents n) ⊎ ((u : Membership) → In u (S.history.said o) → names u (start_at S n) ≡ false))
-          → Row (popped S (Agent k) n) n closed-turn
-      stays e heeded = subst (Row (popped S (Agent k) n) n) (sym e)
+          → Row Nobody (popped S (Agent k) n) n closed-turn
+      stays e heeded = subst (Row Nobody (popped S (Agent k) n) n) (sym e)
           (stay-row (popped S (Agent k) n) n (inl (refl, up)) (pops S k n (record l { body = msg.Closed o }) ls is heeded H))
 
       grown : (w : Membership) → (S.agents n).own ≡ Some w → (t : Turn AgentState) → closed-turn ≡ t
-          → t.state ≡ record (S.agents n) { own = Some (with_lost o w) } → Row S n t → Row (popped S (Agent k) n) n closed-turn
-      grown w own t e state r = subst (Row (popped S (Agent k) n) n) (sym e)
+          → t.state ≡ record (S.agents n) { own = Some (with_lost o w) } → Row Nobody S n t → Row Nobody (popped S (Agent k) n) n closed-turn
+      grown w own t e state r = subst (Row Nobody (popped S (Agent k) n) n) (sym e)
           (pop-row S n k (record l { body = msg.Closed o }) ls t is r
           (λ up. inl (with_lost o w, ap (λ a. a.own) (agent-there S n t.state t.sends r.history ∙ state), with_lost-in o w)))
 
-      go : (z : Option Membership) → (S.agents n).own ≡ z → Row (popped S (Agent k) n) n closed-turn
+      go : (z : Option Membership) → (S.agents n).own ≡ z → Row Nobody (popped S (Agent k) n) n closed-turn
       go None e = stays (ap (λ z. becomes (on_closed (S.agents n) z o) ▸ tells n z) e ∙ tells-same n None (S.agents n) (ap (is_other_word None) e))
           (λ u. inr (λ w i. elim (cases_Bool (names w (start_at S n))) [
             | inl m ↦ absurd (unnamed-not S (start_at S n) w (said-good S H.history o w i) m ((H.agents n).alone up e).0)
@@ -280,13 +285,13 @@ module _ (S : State) (H : Holds S) (n k base : ℕ) (lost : List ℕ) (admitted 
         ≡ tells n (Some w) hearer
     row-is = rw base-same refl
 
-    tells-row : Row S n (tells n (Some w) hearer)
+    tells-row : Row Nobody S n (tells n (Some w) hearer)
     tells-row = elim (cases_Bool (is_other_word (Some w) (Some v))) [
-      | inl other ↦ subst (Row S n) (sym (says-word n hearer (Some w) v refl other)) (own-row S H n w v heard up own low v-good hears member knows)
+      | inl other ↦ subst (Row Nobody S n) (sym (says-word n hearer (Some w) v refl other)) (own-row S H n w v heard up own low v-good hears member knows)
       | inr other ↦
           let same = is_other_word-equal w v refl other in
-          subst (Row S n) (sym (tells-same n (Some w) hearer other))
-          (subst (λ z. Row S n (becomes (record (S.agents n) { own = z; said = heard }))) (own ∙ ap Some same)
+          subst (Row Nobody S n) (sym (tells-same n (Some w) hearer other))
+          (subst (λ z. Row Nobody S n (becomes (record (S.agents n) { own = z; said = heard }))) (own ∙ ap Some same)
           (row-plain S n (becomes (record (S.agents n) { said = heard })) (inl (refl, up)) (heard-holds S H n heard up hears)))
     ]
 
@@ -294,17 +299,17 @@ module _ (S : State) (H : Holds S) (n k base : ℕ) (lost : List ℕ) (admitted 
   abbrev word-turn : Turn AgentState
   word-turn = becomes (on_word (S.agents n) (S.agents n).own k base lost admitted) ▸ tells n (S.agents n).own
 
-  pub word-row : Row (popped S (Agent k) n) n word-turn
+  pub word-row : Row Nobody (popped S (Agent k) n) n word-turn
   word-row = go (S.agents n).own refl
     where
-      go : (z : Option Membership) → (S.agents n).own ≡ z → Row (popped S (Agent k) n) n word-turn
-      go None e = subst (Row (popped S (Agent k) n) n)
+      go : (z : Option Membership) → (S.agents n).own ≡ z → Row Nobody (popped S (Agent k) n) n word-turn
+      go None e = subst (Row Nobody (popped S (Agent k) n) n)
           (sym (ap (λ z. becomes (on_word (S.agents n) z k base lost admitted) ▸ tells n z) e ∙ tells-same n None (S.agents n) (ap (is_other_word None) e)))
           (stay-row (popped S (Agent k) n) n (inl (refl, up)) (pops S k n (record l { body = msg.Word base lost admitted }) ls is (λ u m. inl e) H))
       go (Some w) e =
           let t = tells n (Some w) (hearer w e) in
           let r = tells-row w e in
-          subst (Row (popped S (Agent k) n) n) (sym (ap (λ z. becomes (on_word (S.agents n) z k base lost admitted) ▸ tells n z) e ∙ row-is w e))
+          subst (Row Nobody (popped S (Agent k) n) n) (sym (ap (λ z. becomes (on_word (S.agents n) z k base lost admitted) ▸ tells n z) e ∙ row-is w e))
           (pop-row S n k (record l { body = msg.Word base lost admitted }) ls t is r
           (λ u m. inr (λ j q. (
             v w e,
@@ -323,18 +328,18 @@ module _ (P : State) (H : Holds P) (n : ℕ) (w : Membership) (up : 0 < start_at
       choice true = refl
       choice false = refl
 
-  unchanged : Row P n (becomes (P.agents n) ▸ tells n (P.agents n).own)
-  unchanged = subst (Row P n) (sym (tells-same n (P.agents n).own (P.agents n) (other-self (P.agents n).own))) (stay-row P n (inl (refl, up)) H)
+  unchanged : Row Nobody P n (becomes (P.agents n) ▸ tells n (P.agents n).own)
+  unchanged = subst (Row Nobody P n) (sym (tells-same n (P.agents n).own (P.agents n) (other-self (P.agents n).own))) (stay-row P n (inl (refl, up)) H)
 
-  stops-then : Row P n (stops_with_host P.deployment n (start_at P n) ▸ tells n (P.agents n).own)
-  stops-then = subst (Row P n) (sym (then-quiet (stops_with_host P.deployment n (start_at P n)) (tells n (P.agents n).own) (tells-nothing n (P.agents n).own)))
+  stops-then : Row Nobody P n (stops_with_host P.deployment n (start_at P n) ▸ tells n (P.agents n).own)
+  stops-then = subst (Row Nobody P n) (sym (then-quiet (stops_with_host P.deployment n (start_at P n)) (tells n (P.agents n).own) (tells-nothing n (P.agents n).own)))
       (stop-row P n (stops_with_host P.deployment n (start_at P n)) H up refl (λ g. stops_with_host-closed P.deployment n (start_at P n) g))
 
   abbrev joiner : AgentState
   joiner = record (P.agents n) { own = Some w; taken = Some w }
 
   -- a joiner takes its first word
-  takes : (P.agents n).own ≡ None → (P.agents n).taken ≡ None → Row P n (takes_word P.deployment n (P.agents n) w ▸ tells n (P.agents n).own)
+  takes : (P.agents n).own ≡ None → (P.agents n).taken ≡ None → Row Nobody P n (takes_word P.deployment n (P.agents n) w ▸ tells n (P.agents n).own)
   takes own taken = record {
     history = record P.history { took = λ r. if r == start_at P n then Some w else P.history.took r };
     goes = inl (ap (λ u. u.state.start) turn-is, up);
@@ -344,6 +349,8 @@ module _ (P : State) (H : Holds P) (n : ℕ) (w : Membership) (up : 0 < start_at
     took_word = grows;
     decided = λ u i. i;
     admitted = λ x i. i;
+    admits = λ x i. inl i;
+    by = λ x i. inl i;
     holds = subst (λ u. Holds (after P n u.state u.sends (record P.history { took = λ r. if r == start_at P n then Some w else P.history.took r }))) (sym turn-is)
         (takes_word-holds P H n w (λ b. (takes_word P.deployment n (P.agents n) w).sends b ++ (says n joiner (Some w)).sends b) up own taken decided silent);
   }
@@ -377,16 +384,17 @@ module _ (P : State) (H : Holds P) (n : ℕ) (w : Membership) (up : 0 < start_at
       grows : (s : ℕ) (u : Membership) → P.history.took s ≡ Some u → (if s == start_at P n then Some w else P.history.took s) ≡ Some u
       grows = took-keeps P.history.took (start_at P n) w ((H.agents n).untaken up taken)
 
-  pub decided-row : Row P n (on_decided P.deployment n (P.agents n) (P.agents n).decided (P.agents n).taken w ▸ tells n (P.agents n).own)
+  pub decided-row : Row Nobody P n (on_decided P.deployment n (P.agents n) (P.agents n).decided (P.agents n).taken w ▸ tells n (P.agents n).own)
   decided-row = go (P.agents n).decided (P.agents n).taken refl refl
     where
-      go : (d t : Option Membership) → (P.agents n).decided ≡ d → (P.agents n).taken ≡ t → Row P n (on_decided P.deployment n (P.agents n) (P.agents n).decided (P.agents n).taken w ▸ tells n (P.agents n).own)
-      go (Some d) t e f = subst (λ z. Row P n (on_decided P.deployment n (P.agents n) z (P.agents n).taken w ▸ tells n (P.agents n).own)) (sym e) unchanged
-      go None None e f = subst (λ z. Row P n (on_decided P.deployment n (P.agents n) z (P.agents n).taken w ▸ tells n (P.agents n).own)) (sym e)
-          (subst (λ z. Row P n (on_decided P.deployment n (P.agents n) None z w ▸ tells n (P.agents n).own)) (sym f) (takes ((H.agents n).joins e f) f))
-      go None (Some t) e f = subst (λ z. Row P n (on_decided P.deployment n (P.agents n) z (P.agents n).taken w ▸ tells n (P.agents n).own)) (sym e)
-          (subst (λ z. Row P n (on_decided P.deployment n (P.agents n) None z w ▸ tells n (P.agents n).own)) (sym f)
+      go : (d t : Option Membership) → (P.agents n).decided ≡ d → (P.agents n).taken ≡ t
+          → Row Nobody P n (on_decided P.deployment n (P.agents n) (P.agents n).decided (P.agents n).taken w ▸ tells n (P.agents n).own)
+      go (Some d) t e f = subst (λ z. Row Nobody P n (on_decided P.deployment n (P.agents n) z (P.agents n).taken w ▸ tells n (P.agents n).own)) (sym e) unchanged
+      go None None e f = subst (λ z. Row Nobody P n (on_decided P.deployment n (P.agents n) z (P.agents n).taken w ▸ tells n (P.agents n).own)) (sym e)
+          (subst (λ z. Row Nobody P n (on_decided P.deployment n (P.agents n) None z w ▸ tells n (P.agents n).own)) (sym f) (takes ((H.agents n).joins e f) f))
+      go None (Some t) e f = subst (λ z. Row Nobody P n (on_decided P.deployment n (P.agents n) z (P.agents n).taken w ▸ tells n (P.agents n).own)) (sym e)
+          (subst (λ z. Row Nobody P n (on_decided P.deployment n (P.agents n) None z w ▸ tells n (P.agents n).own)) (sym f)
           (elim (on_decided-joiner P.deployment n (P.agents n) t w) [
-            | inl s ↦ subst (λ z. Row P n (z ▸ tells n (P.agents n).own)) (sym s) stops-then
-            | inr b ↦ subst (λ z. Row P n (z ▸ tells n (P.agents n).own)) (sym b) unchanged
+            | inl s ↦ subst (λ z. Row Nobody P n (z ▸ tells n (P.agents n).own)) (sym s) stops-then
+            | inr b ↦ subst (λ z. Row Nobody P n (z ▸ tells n (P.agents n).own)) (sym b) unchanged
           ]))

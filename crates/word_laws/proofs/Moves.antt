@@ -123,9 +123,18 @@ Heeded S n l = elim l.body as (λ _. Type 0) [
 -- what only grows while no recovery works
 pub record Grows (G H : History) : Type 0 where
   pub first : H.first ≡ G.first
+  pub began : (h s : ℕ) → In s (G.began h) → In s (H.began h)
   pub said : (s : ℕ) (w : Membership) → In w (G.said s) → In w (H.said s)
+  pub took_word : (s : ℕ) (w : Membership) → G.took s ≡ Some w → H.took s ≡ Some w
   pub decided : (w : Membership) → In w G.decided → In w H.decided
   pub admitted : (x : Admitted) → In x G.admitted → In x H.admitted
+
+-- no start is admitted, and any may be
+abbrev pub Nobody : ℕ → ℕ → Type 0
+Nobody j h = ⊥
+
+abbrev pub Anyone : ℕ → ℕ → Type 0
+Anyone j h = Unit {0}
 
 -- The agent of host n took the first message from this actor, and that is its turn: what holds, holds after it, with a history
 -- that grew.

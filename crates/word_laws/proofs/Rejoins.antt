@@ -14,7 +14,7 @@ use Rattle.cluster_model.specs.Agent.{on_start}
 use Rattle.cluster_model.specs.World.{set_at, took, rest}
 use Rattle.cluster_model.specs.Laws.{RiseFrom, starts_in}
 use Rattle.word_laws.specs.Histories.{In, names, Admitted, History, State, start_at, starts_to, Begun, Runs, Gone, Earlier, HostOk, GoodWord, Unnamed, LetterOk, ClosesFrom, InOrder, ChannelOk, CameOk, AgentOk, HistoryOk, Telling, Closing, Told, Heard, Holds}
-use Rattle.word_laws.proofs.Lists.{all-mono, all-append, all-if, all-at, and-false, set-here, set-there, rise-lower, in-none, all-both, rise-above}
+use Rattle.word_laws.proofs.Lists.{all-mono, all-append, all-if, all-at, and-false, set-here, set-there, set-both, rise-lower, in-none, all-both, rise-above}
 use Rattle.word_laws.proofs.Channels.{telling-left, closing-left}
 use Rattle.word_laws.proofs.Moves.{OwnLost, OwnAdmits, Later, Grows, Goes, after, popped}
 use Rattle.word_laws.proofs.Laters.{letter-later, came-later, closes-later, ask-began, order-later}
@@ -463,8 +463,15 @@ start-stops-holds S n s h stopped host comes = takes_start-holds S n s 0 (stops_
 })
 
 -- of a start that is taken, as an event of its agent
-start-grows : (H : History) (n s : ℕ) → Grows H (with_began H n s)
-start-grows H n s = record { first = refl; said = λ x w i. i; decided = λ w i. i; admitted = λ x i. i }
+pub start-grows : (H : History) (n s : ℕ) → Grows H (with_began H n s)
+start-grows H n s = record {
+  first = refl;
+  began = λ h x i. set-both (λ k xs. In x (H.began k) → In x xs) H.began n (s ∷ H.began n) (λ i. inr i) (λ k d i. i) h i;
+  said = λ x w i. i;
+  took_word = λ x w e. e;
+  decided = λ w i. i;
+  admitted = λ x i. i;
+}
 
 -- it runs
 pub start-goes : (S : State) (n s : ℕ) → Holds S → start_at S n ≡ 0 → is_host S.deployment n ≡ true

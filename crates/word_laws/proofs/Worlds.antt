@@ -72,18 +72,27 @@ actor-host D n e =
     only-second false false true d p q r e = absurd (false≢true (sym q))
     only-second false false false d p q r e = sym r ∙ e
 
-host-apart : (D : Deployment) (n h : ℕ) → is_host D n ≡ true → is_host D h ≡ false → (h == n) ≡ false
+pub host-apart : (D : Deployment) (n h : ℕ) → is_host D n ≡ true → is_host D h ≡ false → (h == n) ≡ false
 host-apart D n h is not_one = grind (arith, nat_tests, is, not_one)
 
 -- ---- histories that grow
 
 pub grows-same : (G : History) → Grows G G
-grows-same G = record { first = refl; said = λ s w i. i; decided = λ w i. i; admitted = λ x i. i }
+grows-same G = record {
+  first = refl;
+  began = λ h s i. i;
+  said = λ s w i. i;
+  took_word = λ s w e. e;
+  decided = λ w i. i;
+  admitted = λ x i. i;
+}
 
 pub grows-then : (F G H : History) → Grows F G → Grows G H → Grows F H
 grows-then F G H p q = record {
   first = q.first ∙ p.first;
+  began = λ h s i. q.began h s (p.began h s i);
   said = λ s w i. q.said s w (p.said s w i);
+  took_word = λ s w e. q.took_word s w (p.took_word s w e);
   decided = λ w i. q.decided w (p.decided w i);
   admitted = λ x i. q.admitted x (p.admitted x i);
 }
@@ -203,7 +212,8 @@ recovery-reaches E w (DisksShow shown failed) k = recovers-reaches E w shown fai
 -- ---- an agent takes a message
 
 -- an agent that may find no memory runs once it has taken its message
-memory-runs : (w : World) (n answered : ℕ) (from : Actor) (l : Letter) (ls : List Letter) (o : Outside) → w.channel from (Agent n) ≡ l ∷ ls → allows w (event.Deliver (Agent n) from) o ≡ true
+pub memory-runs : (w : World) (n answered : ℕ) (from : Actor) (l : Letter) (ls : List Letter) (o : Outside) → w.channel from (Agent n) ≡ l ∷ ls
+    → allows w (event.Deliver (Agent n) from) o ≡ true
     → o ≡ NoMemory answered → nat_lt 0 (start_after (w.agents n) from l) ≡ true
 memory-runs w n answered from l ls o is may e =
     let out : allows w (event.Deliver (Agent n) from) (NoMemory answered) ≡ true = subst (λ x. allows w (event.Deliver (Agent n) from) x ≡ true) e may in

@@ -1,0 +1,141 @@
+-- What a recovery may choose: whatever contents the disks show, the log that it goes on with has all that was counted firm.
+use Rattle.std.proofs.Common.{◌≡◌, ◌<◌, ◌≤◌, zero, suc, Bool, true, false, List, [], ◌∷◌, length, take, refl, sym, subst, ap, ◌∙◌, inl, inr, arith}
+use Rattle.std.proofs.lemmas.Bool.{cases_Bool, cases_eq}
+use Rattle.std.proofs.lemmas.Bool.Decides.{nat_tests}
+use Rattle.std.specs.Prelude.{ℕ, nat_lt, slice_get, slice_index, option_and_then, Option, Some, None}
+use Rattle.std.specs.List.{AllByRecursion, range_with_len}
+use Rattle.volt_base.specs.declared.entry.Entry.{Entry}
+use Rattle.cluster_model.specs.Engine.{Database}
+use Rattle.cluster_model.specs.Words.{slots}
+use Rattle.cluster_model.specs.Disk.{Content, Shown, chosen, recovered}
+use Rattle.cluster_model.specs.World.{World, Lead}
+use Rattle.cluster_model.specs.Recover.{shown_of, count_shown, new_log}
+use Rattle.cluster_model.specs.Events.{is_shown}
+use Rattle.word_laws.specs.Histories as word
+use Rattle.word_laws.specs.Histories.{In}
+use Rattle.word_laws.proofs.Lists.{none-and-some, not-both, all-at, list_all-at}
+use Rattle.log_laws.specs.Histories.{Logs, LogState, Holds, Front, Reign, IsSlot, part}
+use Rattle.log_laws.specs.Copies.{log_state, HasLogs, LeadOk}
+use Rattle.log_laws.proofs.Plain.Fronts.{front-none, front-trans, fronts-order}
+use Rattle.log_laws.proofs.Runs.Agreeing.{take-short}
+use Rattle.disk_laws.specs.Disks.{AtLeast, Written, Firm, ContentOk, DisksHold, shown_at}
+use Rattle.disk_laws.proofs.Order.{take-of-front, top-chosen, range-in, chosen-recovered}
+use Rattle.disk_laws.proofs.Contents.{firm-within, firm-begun, firm-front, firm-same}
+
+-- ---- what the disks show
+
+-- one of its contents for each slot, and nothing where there is no slot
+pub record Shows (S : LogState) (shown : ℕ → Shown) : Type 0 where
+  pub one : (c : ℕ) → IsSlot S c → In (shown c) (shown_at S c)
+  pub none : (c : ℕ) → (IsSlot S c → ⊥) → shown c ≡ None
+
+-- so what is there is a slot's
+pub shows-slot : (S : LogState) (shown : ℕ → Shown) → Shows S shown → (c : ℕ) (x : Content) → shown c ≡ Some x → IsSlot S c
+shows-slot S shown k c x e = elim (cases_Bool (nat_lt c (slots S.words.deployment))) [
+  | inl q ↦ q
+  | inr q ↦ absurd (none-and-some (k.none c (λ y. not-both (nat_lt c (slots S.words.deployment)) y q)) e)
+]
+
+-- ---- what the disks of a world show
+
+-- one of several contents
+get-one : (xs : List Shown) (n : ℕ) → n < length xs → In (option_and_then (λ c. c) (slice_get xs n)) xs
+get-one [] n l = absurd (omega (arith, l))
+get-one (x ∷ xs) zero l = inl refl
+get-one (x ∷ xs) (suc n) l = inr (get-one xs n (omega (arith, l)))
+
+-- of blank ones nothing
+pub get-none : (xs : List Shown) (n : ℕ) → AllByRecursion (λ x. x ≡ None) xs → option_and_then (λ c. c) (slice_get xs n) ≡ None
+get-none [] n h = refl
+get-none (x ∷ xs) zero h = h.0
+get-none (x ∷ xs) (suc n) h = get-none xs n h.1
+
+pub disk-shows : (w : World) (shown : List ℕ) (failed : Option (ℕ × Bool)) → is_shown w shown failed ≡ true → (c : ℕ) → c < count_shown w.deployment failed
+    → In (shown_of w shown c) (w.sites c).contents
+disk-shows w shown failed e c l =
+    let t = list_all-at (λ i. nat_lt (slice_index shown i) (length (w.sites i).contents)) (range_with_len 0 (count_shown w.deployment failed)) c e
+    (range-in c 0 (count_shown w.deployment failed) (omega arith) (omega (arith, l))) in
+    get-one (w.sites c).contents (slice_index shown c) (grind (arith, nat_tests, t))
+
+-- where each of them showed one
+pub world-shows : (w : World) (owner : ℕ → ℕ) (history : word.History) (logs : Logs) (F : Firm) (halted : Bool) → DisksHold (log_state w owner history logs) F halted
+    → (shown : List ℕ) (failed : Option (ℕ × Bool)) → is_shown w shown failed ≡ true → count_shown w.deployment failed ≡ slots w.deployment
+    → Shows (log_state w owner history logs) (shown_of w shown)
+world-shows w owner history logs F halted K shown failed e n = record {
+  one = λ c q. disk-shows w shown failed e c (grind (arith, nat_tests, q, n));
+  none = λ c out. get-none (w.sites c).contents (slice_index shown c) (K.outside c out);
+}
+
+-- ---- what was counted firm
+
+-- of a content that is good enough
+module _ (S : LogState) (H : Holds S) (F : Firm) (p v : ℕ) (g : Reign) (led : S.logs.reign p v ≡ Some g) (low : F p ≤ S.logs.reach p v) where
+  written-firm : (x : Content) → Written S p x → AtLeast v (F p) (Some x) → Front (take (F p) g.log) x.log
+  written-firm x w (inl above) =
+      front-trans (take (F p) g.log) w.reign.begun x.log (firm-begun S H p v x.mark (F p) g w.reign led w.led low above).1 w.begun
+  written-firm x w (inr same) =
+      let short = take-short (F p) g.log in
+      fronts-order (take (F p) g.log) x.log w.later.log
+      (firm-front S H p v w.term (F p) g w.later led w.later_led low (omega (arith, same.0, w.above))) w.front (omega (arith, same.1, short))
+
+  content-firm : (halted : Bool) (x : Content) → ContentOk S F halted p (Some x) → AtLeast v (F p) (Some x) → Front (take (F p) g.log) x.log
+  content-firm false x w a = written-firm x w a
+  content-firm true x (inl w) a = written-firm x w a
+  content-firm true x (inr r) a = r v g led low
+
+-- ---- any choice
+
+module _ (S : LogState) (H : Holds S) (F : Firm) (halted : Bool) (K : DisksHold S F halted) (shown : ℕ → Shown) (k : Shows S shown) (p : ℕ) where
+  -- all that was counted firm, in the term of its witness
+  abbrev counted : List Entry
+  counted = take (F p) (K.firm p).reign.log
+
+  some-chosen : 0 < F p → Front counted (chosen S.words.deployment shown p)
+  some-chosen some =
+      let firm = K.firm p in
+      let r = top-chosen S shown k.one p firm.term (F p) (firm.top some) in
+      let q = shows-slot S shown k r.slot r.content r.shows in
+      let ok : ContentOk S F halted (part S r.slot) (Some r.content) = subst (ContentOk S F halted (part S r.slot)) r.shows
+      (all-at (ContentOk S F halted (part S r.slot)) (shown_at S r.slot) (K.disks r.slot q).contents (shown r.slot) (k.one r.slot q)) in
+      subst (Front counted) (sym r.log_is)
+      (content-firm S H F p firm.term firm.reign firm.led firm.reach halted r.content (subst (λ x. ContentOk S F halted x (Some r.content)) r.part_is ok) r.good)
+
+  any-chosen : Front counted (chosen S.words.deployment shown p)
+  any-chosen = elim (cases_eq (F p) 0) [
+    | inl e ↦ subst (λ n. Front (take n (K.firm p).reign.log) (chosen S.words.deployment shown p)) (sym e) (front-none (chosen S.words.deployment shown p))
+    | inr d ↦ some-chosen (omega (arith, d))
+  ]
+
+  -- It has what was taken to be everywhere in any term, where that is all that was counted firm.
+  pub chosen-firm : (v : ℕ) (g : Reign) → S.logs.reign p v ≡ Some g → F p ≤ S.logs.reach p v → Front (take (F p) g.log) (chosen S.words.deployment shown p)
+  chosen-firm v g led low =
+      let firm = K.firm p in
+      subst (λ l. Front l (chosen S.words.deployment shown p)) (firm-same S H p firm.term v (F p) firm.reign g firm.led led firm.reach low) any-chosen
+
+  -- So has the log with which a recovery goes on.
+  pub recovered-firm : (E : Database) (v : ℕ) (g : Reign) → S.logs.reign p v ≡ Some g → F p ≤ S.logs.reach p v
+      → Front (take (F p) g.log) (recovered E S.words.deployment shown p)
+  recovered-firm E v g led low =
+      front-trans (take (F p) g.log) (chosen S.words.deployment shown p) (recovered E S.words.deployment shown p) (chosen-firm v g led low)
+      (chosen-recovered E S.words.deployment shown p)
+
+  -- What is firm in the lead is at the front of what is chosen, and of the log with which a recovery goes on.
+  pub lead-chosen : (l : Lead) → LeadOk S.logs p l → Front (take (F p) l.log) (chosen S.words.deployment shown p)
+  lead-chosen l o =
+      let firm = K.firm p in
+      let later : Front counted o.reign.log = firm-front S H p firm.term l.term (F p) firm.reign o.reign firm.led o.led firm.reach (o.greatest firm.term firm.reign firm.led) in
+      let same : take (F p) l.log ≡ counted =
+      ap (take (F p)) o.log ∙ take-of-front (F p) firm.reign.log o.reign.log later (firm-within S H p firm.term (F p) firm.reign firm.led firm.reach) in
+      subst (λ x. Front x (chosen S.words.deployment shown p)) (sym same) any-chosen
+
+  pub lead-recovered : (E : Database) (l : Lead) → LeadOk S.logs p l → Front (take (F p) l.log) (recovered E S.words.deployment shown p)
+  lead-recovered E l o =
+      front-trans (take (F p) l.log) (chosen S.words.deployment shown p) (recovered E S.words.deployment shown p) (lead-chosen l o)
+      (chosen-recovered E S.words.deployment shown p)
+
+-- Whatever contents the disks of a world show, a recovery goes on with all that is firm.
+pub no-choice-lacks : (E : Database) (w : World) (k : HasLogs w) (F : Firm) (halted : Bool) → DisksHold (log_state w k.owner k.history k.logs) F halted
+    → (shown : List ℕ) → is_shown w shown None ≡ true → (p : ℕ) → LeadOk k.logs p (w.lead_of p) → Front (take (F p) (w.lead_of p).log) (new_log E w shown p)
+no-choice-lacks E w k F halted K shown e p o =
+    lead-recovered (log_state w k.owner k.history k.logs) k.holds F halted K (shown_of w shown)
+    (world-shows w k.owner k.history k.logs F halted K shown None e refl) p E (w.lead_of p) o

@@ -1,0 +1,212 @@
+-- Contents and firm positions from one state to a later one, and where the logs that stand behind them are.
+use Rattle.std.proofs.Common.{◌≡◌, ◌<◌, ◌≤◌, Bool, true, false, List, length, take, refl, sym, subst, ap, ◌∙◌, inl, inr, arith}
+use Rattle.std.proofs.lemmas.Bool.{cases_eq, cases_lt, cases_Bool}
+use Rattle.std.specs.Prelude.{ℕ, Option, Some, None}
+use Rattle.std.specs.List.{AllByRecursion}
+use Rattle.volt_base.specs.declared.entry.Entry.{Entry}
+use Rattle.volt_wire.specs.Word.{Membership}
+use Rattle.cluster_model.specs.Disk.{Content, Shown}
+use Rattle.cluster_model.specs.Words.{term_of, term_in}
+use Rattle.cluster_model.specs.SiteState.{SiteState}
+use Rattle.word_laws.proofs.Lists.{all-mono, same-some, none-and-some, not-both}
+use Rattle.log_laws.specs.Histories.{LogState, Holds, Front, Reign, Line, IsSlot, MemberOk, LeadsIn, FollowsIn, part, start_at, log_at, term_at, base_of, line, between}
+use Rattle.log_laws.proofs.Plain.Fronts.{front-refl, front-same, front-trans}
+use Rattle.log_laws.proofs.Plain.Copies.{leads-or-follows}
+use Rattle.log_laws.proofs.Kept.Terms.{base-least, last-below, reign-entered}
+use Rattle.log_laws.proofs.Runs.Agreeing.{front-take, agrees-begun}
+use Rattle.disk_laws.specs.Disks.{Written, Firm, Rebuilt, ContentOk, Top, FirmOk}
+use Rattle.disk_laws.proofs.Order.{take-front, take-grown, take-of-front}
+
+-- ---- from a state to a later one
+
+-- Terms that were led are led, with what they began with and with logs that have only grown. What is everywhere only rises.
+pub record Rises (S T : LogState) : Type 0 where
+  pub deployment : T.words.deployment ≡ S.words.deployment
+  pub kept : (p t : ℕ) (g : Reign) → S.logs.reign p t ≡ Some g → (h : Reign) × (T.logs.reign p t ≡ Some h) × (h.begun ≡ g.begun) × Front g.log h.log
+  pub reach : (p t : ℕ) → S.logs.reach p t ≤ T.logs.reach p t
+
+-- with the same history
+pub rises-same : (S T : LogState) → T.words.deployment ≡ S.words.deployment → T.logs ≡ S.logs → Rises S T
+rises-same S T same logs = record {
+  deployment = same;
+  kept = λ p t g is. (g, ap (λ G. G.reign p t) logs ∙ is, refl, front-refl g.log);
+  reach = λ p t. let e : T.logs.reach p t ≡ S.logs.reach p t = ap (λ G. G.reach p t) logs in omega (arith, e);
+}
+
+pub rises-trans : (S T U : LogState) → Rises S T → Rises T U → Rises S U
+rises-trans S T U f g = record {
+  deployment = g.deployment ∙ f.deployment;
+  kept = λ p t r is.
+      let a = f.kept p t r is in
+      let b = g.kept p t a.0 a.1 in
+      (b.0, b.1, b.2 ∙ a.2, front-trans r.log a.0.log b.0.log a.3 b.3);
+  reach = λ p t. let a = f.reach p t in let b = g.reach p t in omega (arith, a, b);
+}
+
+-- ---- what is everywhere in a led term
+
+module _ (S : LogState) (H : Holds S) (p : ℕ) where
+  -- is in its log
+  pub firm-within : (v n : ℕ) (g : Reign) → S.logs.reign p v ≡ Some g → n ≤ S.logs.reach p v → n ≤ length g.log
+  firm-within v n g led reach = let k = (H.reigns p v g led).within in omega (arith, k, reach)
+
+  -- A later term began with it.
+  pub firm-begun : (v t n : ℕ) (g h : Reign) → S.logs.reign p v ≡ Some g → S.logs.reign p t ≡ Some h → n ≤ S.logs.reach p v → v < t
+      → (n ≤ length h.begun) × Front (take n g.log) h.begun
+  firm-begun v t n g h led is reach above =
+      let k = agrees-begun S H p v g led t h is above in
+      (omega (arith, k.0, reach), front-trans (take n g.log) (take (S.logs.reach p v) g.log) h.begun (take-front n (S.logs.reach p v) g.log reach) k.1)
+
+  -- It is at the front of the log of that term and of each later one.
+  pub firm-front : (v t n : ℕ) (g h : Reign) → S.logs.reign p v ≡ Some g → S.logs.reign p t ≡ Some h → n ≤ S.logs.reach p v → v ≤ t → Front (take n g.log) h.log
+  firm-front v t n g h led is reach above = elim (cases_eq v t) [
+    | inl e ↦ subst (λ x. Front (take n g.log) x.log) (same-some (sym led ∙ ap (S.logs.reign p) e ∙ is)) (front-take n g.log)
+    | inr d ↦ front-trans (take n g.log) h.begun h.log (firm-begun v t n g h led is reach (omega (arith, above, d))).1 (H.reigns p t h is).grown
+  ]
+
+  -- So it is the same in all terms that have it.
+  pub firm-same : (v t n : ℕ) (g h : Reign) → S.logs.reign p v ≡ Some g → S.logs.reign p t ≡ Some h → n ≤ S.logs.reach p v → n ≤ S.logs.reach p t
+      → take n g.log ≡ take n h.log
+  firm-same v t n g h led is reach more = elim (cases_lt v t) [
+    | inl l ↦ sym (take-of-front n g.log h.log (firm-front v t n g h led is reach (omega (arith, l))) (firm-within v n g led reach))
+    | inr l ↦ take-of-front n h.log g.log (firm-front t v n h g is led more l) (firm-within t n h is more)
+  ]
+
+-- ---- contents
+
+module _ (S T : LogState) (f : Rises S T) where
+  pub written-later : (p : ℕ) (x : Content) → Written S p x → Written T p x
+  written-later p x w =
+      let g = f.kept p x.mark w.reign w.led in
+      let h = f.kept p w.term w.later w.later_led in
+      record {
+        reign = g.0;
+        led = g.1;
+        begun = subst (λ b. Front b x.log) (sym g.2) w.begun;
+        term = w.term;
+        above = w.above;
+        later = h.0;
+        later_led = h.1;
+        front = front-trans x.log w.later.log h.0.log w.front h.3;
+      }
+
+  -- where what was counted firm stays so
+  module _ (H : Holds S) (K : Holds T) (F G : Firm) (p : ℕ) (firm : FirmOk S F p) where
+    pub rebuilt-later : G p ≡ F p → (x : Content) → Rebuilt S F p x → Rebuilt T G p x
+    rebuilt-later same x r v h led reach =
+        let k = f.kept p firm.term firm.reign firm.led in
+        let up = f.reach p firm.term in
+        let e : take (G p) h.log ≡ take (G p) k.0.log = firm-same T K p v firm.term (G p) h k.0 led k.1 reach (omega (arith, same, firm.reach, up)) in
+        let within : G p ≤ length firm.reign.log = firm-within S H p firm.term (G p) firm.reign firm.led (omega (arith, same, firm.reach)) in
+        subst (λ l. Front l x.log) (sym (e ∙ take-grown (G p) firm.reign.log k.0.log k.3 within))
+        (subst (λ n. Front (take n firm.reign.log) x.log) (sym same) (r firm.term firm.reign firm.led firm.reach))
+
+    pub content-later : (halted : Bool) → (halted ≡ true → G p ≡ F p) → (x : Shown) → ContentOk S F halted p x → ContentOk T G halted p x
+    content-later true same None h = tt
+    content-later false same None h = tt
+    content-later false same (Some x) h = written-later p x h
+    content-later true same (Some x) (inl h) = inl (written-later p x h)
+    content-later true same (Some x) (inr h) = inr (rebuilt-later (same refl) x h)
+
+    pub contents-later : (halted : Bool) → (halted ≡ true → G p ≡ F p) → (xs : List Shown)
+        → AllByRecursion (ContentOk S F halted p) xs → AllByRecursion (ContentOk T G halted p) xs
+    contents-later halted same xs h = all-mono (ContentOk S F halted p) (ContentOk T G halted p) (content-later halted same) xs h
+
+  -- What was counted firm stands where it stood.
+  pub firm-later : (F G : Firm) (p : ℕ) → G p ≡ F p → ((m n : ℕ) → Top S p m n → Top T p m n) → FirmOk S F p → FirmOk T G p
+  firm-later F G p same tops k =
+      let g = f.kept p k.term k.reign k.led in
+      let up = f.reach p k.term in
+      record {
+        term = k.term;
+        reign = g.0;
+        led = g.1;
+        reach = omega (arith, same, k.reach, up);
+        top = λ some. subst (Top T p k.term) (sym same) (tops k.term (F p) (k.top (omega (arith, some, same))));
+      }
+
+-- ---- members
+
+-- The log of a slot's site is at the front of that of a term that was led, not before that of a mark.
+pub record Behind (S : LogState) (c mark : ℕ) : Type 0 where
+  pub term : ℕ
+  pub above : mark ≤ term
+  pub later : Reign
+  pub led : S.logs.reign (part S c) term ≡ Some later
+  pub front : Front (log_at S c) later.log
+
+-- a term that was begun, and a log at the front of what its leader has
+abbrev Ahead : Option Reign → List Entry → Type 0
+Ahead o xs = (g : Reign) × (o ≡ Some g) × Front xs g.log
+
+-- where a site is repaired, it has its leader's log, or lacks what is under way
+leads-ahead : (s : SiteState) (o : Option Reign) → s.repaired ≡ true → LeadsIn s o → Ahead o s.log
+leads-ahead s None r k = absurd (not-both s.repaired r k)
+leads-ahead s (Some g) r k = (g, refl, front-same s.log g.log k.1)
+
+follows-ahead : (s : SiteState) (ln : List Line) (o : Option Reign) → s.repaired ≡ true → FollowsIn s ln o → Ahead o s.log
+follows-ahead s ln None r k = absurd (not-both s.repaired r k.0)
+follows-ahead s ln (Some g) r (inl k) = (g, refl, (k.0, sym k.3))
+follows-ahead s ln (Some g) r (inr k) = absurd (not-both s.repaired r k.1)
+
+module _ (S : LogState) (H : Holds S) (c mark : ℕ) (r : Reign) (led : S.logs.reign (part S c) mark ≡ Some r) where
+  module _ (slot : IsSlot S c) (w : Membership) (m : MemberOk S c w) (low : mark ≤ term_of w) where
+    in-term : Ahead (S.logs.reign (part S c) (term_of w)) (log_at S c) → Behind S c mark
+    in-term k = record { term = term_of w; above = low; later = k.0; led = k.1; front = k.2 }
+
+    repaired-behind : (S.sites c).repaired ≡ true → Behind S c mark
+    repaired-behind t = elim (leads-or-follows S.words.deployment w c (start_at S c) m.start_is) [
+      | inl k ↦ in-term (leads-ahead (S.sites c) (S.logs.reign (part S c) (term_of w)) t (m.leading k))
+      | inr (l, f) ↦ in-term (follows-ahead (S.sites c) (line (start_at S c) (term_of w) (between S l c)) (S.logs.reign (part S c) (term_of w)) t (m.following l f))
+    ]
+
+    -- Until then it has the log with which it entered.
+    waiting-behind : (S.sites c).repaired ≡ false → (o : Option Reign) → S.logs.reign (part S c) (term_of w) ≡ o → Behind S c mark
+    waiting-behind t (Some g) is =
+        let n = reign-entered S H (part S c) (term_of w) g is w (record { decided = m.decided; term_is = refl }) c (start_at S c) slot refl m.start_is in
+        let one : n.0 ≡ m.entered = same-some (sym n.1 ∙ m.is_entered) in
+        let entered = subst (λ l. Front l g.begun) (ap (λ y. y.log) one ∙ sym (m.still t).0) n.3 in
+        in-term (g, is, front-trans (log_at S c) g.begun g.log entered (H.reigns (part S c) (term_of w) g is).grown)
+    waiting-behind t None is =
+        let unlike : mark ≡ term_of w → ⊥ = λ e. none-and-some is (ap (S.logs.reign (part S c)) (sym e) ∙ led) in
+        let first = H.first (part S c) in
+        let unbegun : base_of S ≡ term_of w → ⊥ = λ e. none-and-some is (ap (S.logs.reign (part S c)) (sym e) ∙ first.1) in
+        let least = base-least S H w m.decided in
+        let l = last-below S H (part S c) (term_of w) (omega (arith, least, unbegun)) in
+        let above = l.1.greatest mark r led (omega (arith, low, unlike)) in
+        record {
+          term = l.0;
+          above = above;
+          later = l.1.reign;
+          led = l.1.led;
+          front = subst (λ x. Front x l.1.reign.log) (sym (m.still t).0) ((H.entered c (term_of w) m.entered m.is_entered).behind l.0 l.1).0;
+        }
+
+    word-behind : Behind S c mark
+    word-behind = elim (cases_Bool (S.sites c).repaired) [
+      | inl t ↦ repaired-behind t
+      | inr t ↦ waiting-behind t (S.logs.reign (part S c) (term_of w)) refl
+    ]
+
+  -- A member's log is at the front of that of a term that was led: its own, or the last one before.
+  pub member-behind : IsSlot S c → 0 < start_at S c → (S.sites c).joining ≡ None → mark ≤ term_at S c → Behind S c mark
+  member-behind slot up joins low =
+      let k = (H.sites c).member up joins in
+      let term : term_at S c ≡ term_of k.0 = ap term_in k.1 in
+      word-behind slot k.0 k.2 (omega (arith, low, term))
+
+  -- So a content with a front of its log is written, once that has all that the mark's term began with.
+  pub member-written : IsSlot S c → 0 < start_at S c → (S.sites c).joining ≡ None → mark ≤ term_at S c
+      → (x : Content) → x.mark ≡ mark → Front x.log (log_at S c) → Front r.begun x.log → Written S (part S c) x
+  member-written slot up joins low x same front begun =
+      let k = member-behind slot up joins low in
+      record {
+        reign = r;
+        led = ap (S.logs.reign (part S c)) same ∙ led;
+        begun = begun;
+        term = k.term;
+        above = omega (arith, same, k.above);
+        later = k.later;
+        later_led = k.led;
+        front = front-trans x.log (log_at S c) k.later.log front k.front;
+      }

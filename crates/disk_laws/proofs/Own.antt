@@ -1,0 +1,92 @@
+-- What is said of the disk of a running site, of its state alone: a turn that leaves its disk keeps it.
+use Rattle.std.proofs.Common.{◌≡◌, ◌≤◌, Bool, true, false, [], ◌∷◌, length, take, refl, sym, subst, ap, ◌∙◌, ◌⊎◌, inl, inr, arith}
+use Rattle.std.specs.Prelude.{ℕ, Option, Some, None}
+use Rattle.std.specs.List.{AllByRecursion}
+use Rattle.cluster_model.specs.Disk.{Shown, mark_of}
+use Rattle.cluster_model.specs.Words.{Deployment}
+use Rattle.cluster_model.specs.SiteState.{SiteState, Joining, Streamed, site_term}
+use Rattle.log_laws.specs.Histories.{Front, Reign}
+use Rattle.log_laws.proofs.Plain.Fronts.{front-length}
+use Rattle.disk_laws.specs.Disks.{own_content}
+use Rattle.disk_laws.proofs.Order.{take-grown}
+use Rattle.disk_laws.proofs.Rows.{DiskAt, FirmRises, at-term, at-was-member, at-was-joiner}
+
+-- Of a member, in whose partition these terms were led, and this was counted firm.
+pub record OwnMember (led : ℕ → Option Reign) (top : ℕ) (s : SiteState) : Type 0 where
+  pub shows : s.contents ≡ own_content s ∷ []
+  pub mark : s.mark ≤ site_term s
+  pub reign : Reign
+  pub is_led : led s.mark ≡ Some reign
+  pub begun : Front reign.begun (take s.on_disk s.log)
+  pub marked : s.mark ≡ site_term s → s.repaired ≡ true
+  pub firm : s.firm ≤ top
+  pub owes : (s.owes ≡ None) ⊎ ((s.owes ≡ Some (site_term s)) × (s.repaired ≡ true))
+
+-- Of a joiner with this stream.
+abbrev pub OwnStream : SiteState → Joining → Option Streamed → Type 0
+OwnStream s j None = AllByRecursion (λ x. mark_of x ≤ s.earlier) s.contents
+OwnStream s j (Some st) =
+    (st.mark ≡ site_term s)
+    × (j.is_based ≡ false → s.contents ≡ None ∷ [])
+    × (j.is_based ≡ true → (s.contents ≡ own_content s ∷ []) × (s.mark ≡ st.mark) × (s.base ≡ st.nj) × (st.nj ≤ s.on_disk))
+
+pub record Own (halted : Bool) (C : Shown → Type 0) (led : ℕ → Option Reign) (top : ℕ) (s : SiteState) : Type 0 where
+  pub some : (s.contents ≡ []) → ⊥
+  pub contents : AllByRecursion C s.contents
+  pub marks : halted ≡ false → AllByRecursion (λ x. mark_of x ≤ s.greatest) s.contents
+  pub whole : s.on_disk ≤ length s.log
+  pub member : s.joining ≡ None → OwnMember led top s
+  pub joiner : halted ≡ false → (j : Joining) → s.joining ≡ Some j → OwnStream s j j.stream
+
+-- ---- a turn that leaves the disk
+
+module _ (D : Deployment) (i : ℕ) (s u : SiteState) (h : DiskAt D i s u) (whole : s.on_disk ≤ length s.log) where
+  taken-same : take u.on_disk u.log ≡ take s.on_disk s.log
+  taken-same = ap (λ n. take n u.log) h.on_disk ∙ take-grown s.on_disk s.log u.log h.log whole
+
+  -- the site knows the same content
+  pub own-same : own_content u ≡ own_content s
+  own-same = rw (h.mark, h.base, taken-same) refl
+
+  member-row : (led : ℕ → Option Reign) (top : ℕ) → (FirmRises D i s u → u.firm ≤ top) → OwnMember led top s → OwnMember led top u
+  member-row led top rises k = record {
+    shows = h.contents ∙ k.shows ∙ ap (λ x. x ∷ []) (sym own-same);
+    mark = let a = at-term D i s u h in omega (arith, k.mark, h.mark, a);
+    reign = k.reign;
+    is_led = ap led h.mark ∙ k.is_led;
+    begun = subst (Front k.reign.begun) (sym taken-same) k.begun;
+    marked = λ e. h.repaired (k.marked (sym h.mark ∙ e ∙ at-term D i s u h));
+    firm = elim h.firm [
+      | inl e ↦ omega (arith, e, k.firm)
+      | inr r ↦ rises r
+    ];
+    owes = elim h.owes [
+      | inr x ↦ inr (x.0 ∙ ap Some (sym (at-term D i s u h)), x.1)
+      | inl e ↦ elim k.owes [
+        | inl none ↦ inl (e ∙ none)
+        | inr x ↦ inr (e ∙ x.0 ∙ ap Some (sym (at-term D i s u h)), h.repaired x.1)
+      ]
+    ];
+  }
+
+  stream-row : (j k : Joining) → k.is_based ≡ j.is_based → (o : Option Streamed) → OwnStream s j o → OwnStream u k o
+  stream-row j k based None q = subst (AllByRecursion (λ x. mark_of x ≤ u.earlier)) (sym h.contents) (subst (λ n. AllByRecursion (λ x. mark_of x ≤ n) s.contents) (sym h.earlier) q)
+  stream-row j k based (Some st) q = (
+    q.0 ∙ sym (at-term D i s u h),
+    λ e. h.contents ∙ q.1 (sym based ∙ e),
+    λ e. let r = q.2 (sym based ∙ e) in
+        (h.contents ∙ r.0 ∙ ap (λ x. x ∷ []) (sym own-same), h.mark ∙ r.1, h.base ∙ r.2, (let a = r.3 in omega (arith, a, h.on_disk))),
+  )
+
+-- What is said of the site stays so.
+pub own-row : (D : Deployment) (i : ℕ) (s u : SiteState) → DiskAt D i s u → (halted : Bool) (C : Shown → Type 0) (led : ℕ → Option Reign) (top : ℕ)
+    → (FirmRises D i s u → u.firm ≤ top) → Own halted C led top s → Own halted C led top u
+own-row D i s u h halted C led top rises k = record {
+  some = λ e. k.some (sym h.contents ∙ e);
+  contents = subst (AllByRecursion C) (sym h.contents) k.contents;
+  marks = λ e. subst (AllByRecursion (λ x. mark_of x ≤ u.greatest)) (sym h.contents) (subst (λ n. AllByRecursion (λ x. mark_of x ≤ n) s.contents) (sym h.greatest) (k.marks e));
+  whole = let a = front-length s.log u.log h.log in omega (arith, a, k.whole, h.on_disk);
+  member = λ e. member-row D i s u h k.whole led top rises (k.member (at-was-member D i s u h e));
+  joiner = λ e j is. let r = at-was-joiner D i s u h j is in
+      stream-row D i s u h k.whole r.0 j r.3 j.stream (subst (OwnStream s r.0) (sym r.2) (k.joiner e r.0 r.1));
+}

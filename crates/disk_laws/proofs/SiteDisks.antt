@@ -1,0 +1,236 @@
+-- What disks show is kept when one site's state changes: the other sites, the letters, and what is firm.
+use Rattle.std.proofs.Common.{◌≡◌, ◌<◌, ◌≤◌, Bool, true, false, List, [], ◌∷◌, length, take, length-take, refl, sym, subst, ap, ◌∙◌, ◌⊎◌, inl, inr, arith}
+use Rattle.std.proofs.lemmas.Bool.{cases_Bool, cases_eq, cases_lt}
+use Rattle.std.specs.Prelude.{ℕ, nat_le, max, if◌then◌else◌, Option, Some, None}
+use Rattle.std.specs.List.{AllByRecursion}
+use Rattle.volt_wire.specs.Word.{Membership}
+use Rattle.volt_wire.specs.declared.actor.Actor.{Actor}
+use Rattle.volt_wire.specs.declared.actor.Actor.TheVariants.{Site}
+use Rattle.volt_wire.specs.declared.message.Msg.TheVariants as msg
+use Rattle.cluster_model.specs.Disk.{Shown, mark_of}
+use Rattle.cluster_model.specs.Words.{Deployment, part_of_slot, term_of, term_in}
+use Rattle.cluster_model.specs.Letters.{Letter, Sends}
+use Rattle.cluster_model.specs.SiteState.{SiteState, Joining, Streamed, site_term, leads}
+use Rattle.cluster_model.specs.World.{Lead, set_at, lead_after}
+use Rattle.word_laws.specs.Histories.{In}
+use Rattle.word_laws.proofs.Lists.{all-at, all-from, all-append, none-and-some, if-false, set-here, set-there}
+use Rattle.log_laws.specs.Histories.{LogState, Logs, Front, Holds, IsSlot, part, start_at, log_at, between}
+use Rattle.log_laws.proofs.Plain.Copies.{leader-view, leads-parts}
+use Rattle.log_laws.proofs.Entries.Leads.{Leading, leading}
+use Rattle.log_laws.proofs.Kept.Moves.{Grown, after}
+use Rattle.log_laws.proofs.Kept.Plumbing.{here, there, sent-either}
+use Rattle.disk_laws.proofs.Contents.{Rises, contents-later, firm-later}
+use Rattle.disk_laws.specs.Disks.{AtLeast, Top, Firm, ContentOk, MemberDisk, StreamDisk, DiskOk, StreamLetter, Halted, FirmOk, DisksHold, own_content}
+
+-- ---- what is firm, after a turn of one site
+
+-- The greatest position that was counted firm is as it was, but for the site's partition, where a leader may have raised it.
+pub record Raised (D : Deployment) (i : ℕ) (s : SiteState) (F G : Firm) : Type 0 where
+  pub own : G (part_of_slot D i) ≡ (if leads D i s then max (F (part_of_slot D i)) s.firm else F (part_of_slot D i))
+  pub others : (p : ℕ) → (p ≡ part_of_slot D i → ⊥) → G p ≡ F p
+
+-- so it is with what the world keeps of a partition's lead
+pub lead-raised : (D : Deployment) (i : ℕ) (s : SiteState) (lead : ℕ → Lead)
+    → Raised D i s (λ p. (lead p).firm) (λ p. (set_at lead (part_of_slot D i) (lead_after D i s (lead (part_of_slot D i))) p).firm)
+lead-raised D i s lead = record {
+  own = ap (λ x. x.firm) (set-here lead (part_of_slot D i) (lead_after D i s l)) ∙ choice (leads D i s);
+  others = λ p n. ap (λ x. x.firm) (set-there lead (part_of_slot D i) (lead_after D i s l) p n);
+}
+  where
+    l : Lead
+    l = lead (part_of_slot D i)
+
+    choice : (b : Bool) → (if b then record {
+      term = max l.term (site_term s);
+      log = if nat_le l.term (site_term s) then s.log else l.log;
+      firm = max l.firm s.firm;
+    } else l).firm ≡ (if b then max l.firm s.firm else l.firm)
+    choice true = refl
+    choice false = refl
+
+-- ---- a slot whose site stays as it is
+
+-- of a joiner
+pub stream-same : (S T : LogState) (c : ℕ) → T.sites c ≡ S.sites c → (j : Joining) (o : Option Streamed) → StreamDisk S c j o → StreamDisk T c j o
+stream-same S T c site j None k = subst (λ x. AllByRecursion (λ y. mark_of y ≤ x.earlier) x.contents) (sym site) k
+stream-same S T c site j (Some st) k = (
+  k.0 ∙ ap site_term (sym site),
+  λ b. ap (λ x. x.contents) site ∙ k.1 b,
+  λ b. subst (λ x. (x.contents ≡ own_content x ∷ []) × (x.mark ≡ st.mark) × (x.base ≡ st.nj) × (st.nj ≤ x.on_disk)) (sym site) (k.2 b),
+)
+
+-- ---- one site changes, and what is under way
+
+module _ (S : LogState) (H : Holds S) (F M : Firm) (halted : Bool) (K : DisksHold S F halted) (ch : Actor → Actor → List Letter)
+    (fewer : (a b : Actor) (l : Letter) → In l (ch a b) → In l (S.words.channel a b)) (i : ℕ) (slot : IsSlot S i) (s : SiteState) (out : Sends) (G : Logs) where
+  -- with fewer messages under way
+  abbrev pub less : LogState
+  less = record S { words = record S.words { channel = ch } }
+
+  abbrev pub later : LogState
+  later = after less i s out G
+
+  module _ (L : Holds later) (grown : Grown S.words.deployment i s S.logs G) (raised : Raised S.words.deployment i s F M) (halts : halted ≡ true → Halted later) where
+    abbrev D : Deployment
+    D = S.words.deployment
+
+    site : later.sites i ≡ s
+    site = here less i s out G
+
+    -- one with a word runs
+    pub runs : (w : Membership) → s.view ≡ Some w → 0 < start_at later i
+    runs w e = elim (cases_eq (start_at later i) 0) [
+      | inl z ↦ absurd (none-and-some ((L.sites i).blank z) (ap (λ x. x.view) site ∙ e))
+      | inr n ↦ omega (arith, n)
+    ]
+
+    -- ---- after a recovery that was stopped nobody leads
+
+    none-leads : halted ≡ true → leads D i s ≡ true → ⊥
+    none-leads e l =
+        let v = leader-view D i s (leads-parts D i s l).0 in
+        let j = (halts e).joiners i (runs v.1.0 v.1.1) in
+        none-and-some v.0 (ap (λ x. x.joining) (sym site) ∙ j.1)
+
+    firm-same : leads D i s ≡ false → (p : ℕ) → M p ≡ F p
+    firm-same e p = elim (cases_eq p (part S i)) [
+      | inl q ↦ subst (λ z. M z ≡ F z) (sym q) (raised.own ∙ if-false (leads D i s) (max (F (part S i)) s.firm) (F (part S i)) e)
+      | inr n ↦ raised.others p n
+    ]
+
+    halted-same : halted ≡ true → (p : ℕ) → M p ≡ F p
+    halted-same e = elim (cases_Bool (leads D i s)) [
+      | inl l ↦ absurd (none-leads e l)
+      | inr l ↦ firm-same l
+    ]
+
+    -- it never falls
+    pub firm-up : (p : ℕ) → F p ≤ M p
+    firm-up p = elim (cases_eq p (part S i)) [
+      | inl q ↦ subst (λ z. F z ≤ M z) (sym q) (own (leads D i s) raised.own)
+      | inr n ↦ let e = raised.others p n in omega (arith, e)
+    ]
+      where
+        own : (b : Bool) → M (part S i) ≡ (if b then max (F (part S i)) s.firm else F (part S i)) → F (part S i) ≤ M (part S i)
+        own true e = omega (arith, e)
+        own false e = omega (arith, e)
+
+    -- ---- contents
+
+    rises : Rises S later
+    rises = record { deployment = refl; kept = grown.onward.kept; reach = grown.onward.reach }
+
+    -- What a disk may show stays what it may show.
+    pub contents-on : (p : ℕ) (xs : List Shown) → AllByRecursion (ContentOk S F halted p) xs → AllByRecursion (ContentOk later M halted p) xs
+    contents-on p = contents-later S later rises H L F M p (K.firm p) halted (λ e. halted-same e p)
+
+    -- ---- the other slots
+
+    member-other : (c : ℕ) → later.sites c ≡ S.sites c → MemberDisk S F c → MemberDisk later M c
+    member-other c same m = let r = grown.onward.kept (part S c) (S.sites c).mark m.reign m.led in record {
+      shows = subst (λ x. x.contents ≡ own_content x ∷ []) (sym same) m.shows;
+      mark = subst (λ x. x.mark ≤ site_term x) (sym same) m.mark;
+      reign = r.0;
+      led = subst (λ x. G.reign (part S c) x.mark ≡ Some r.0) (sym same) r.1;
+      begun = subst (λ x. Front r.0.begun (take x.on_disk x.log)) (sym same) (subst (λ b. Front b (take (S.sites c).on_disk (log_at S c))) (sym r.2) m.begun);
+      marked = subst (λ x. x.mark ≡ site_term x → x.repaired ≡ true) (sym same) m.marked;
+      firm = let a = m.firm in let b = firm-up (part S c) in subst (λ x. x.firm ≤ M (part S c)) (sym same) (omega (arith, a, b));
+      owes = subst (λ x. (x.owes ≡ None) ⊎ ((x.owes ≡ Some (site_term x)) × (x.repaired ≡ true))) (sym same) m.owes;
+    }
+
+    pub disk-other : (c : ℕ) → later.sites c ≡ S.sites c → DiskOk S F halted c → DiskOk later M halted c
+    disk-other c same k = record {
+      some = λ e. k.some (ap (λ x. x.contents) (sym same) ∙ e);
+      contents = subst (λ x. AllByRecursion (ContentOk later M halted (part S c)) x.contents) (sym same)
+          (contents-on (part S c) (S.sites c).contents k.contents);
+      marks = λ e. subst (λ x. AllByRecursion (λ y. mark_of y ≤ x.greatest) x.contents) (sym same) (k.marks e);
+      member = λ up none. member-other c same (k.member (subst (λ x. 0 < x.start) same up) (ap (λ x. x.joining) (sym same) ∙ none));
+      joiner = λ e j is. stream-same S later c same j j.stream (k.joiner e j (ap (λ x. x.joining) (sym same) ∙ is));
+    }
+
+    -- ---- what is firm
+
+    module _ (own : DiskOk later M halted i) (tops : (p m n : ℕ) → Top S p m n → Top later p m n)
+        (counted : leads D i s ≡ true → (s.firm ≤ F (part S i)) ⊎ ((s.mark ≡ site_term s) × (s.firm ≤ s.on_disk))) where
+      firm-kept : (p : ℕ) → M p ≡ F p → FirmOk later M p
+      firm-kept p e = firm-later S later rises F M p e (tops p) (K.firm p)
+
+      -- a leader that raised it has it on its own disk
+      firm-raised : leads D i s ≡ true → M (part S i) ≡ s.firm → s.mark ≡ site_term s → s.firm ≤ s.on_disk → FirmOk later M (part S i)
+      firm-raised l e mark disk = record {
+        term = term_of x.word;
+        reign = x.reign;
+        led = x.led;
+        reach = let a = x.member.firm in let b = ap (λ z. z.firm) site in omega (arith, a, b, e);
+        top = λ some. record {
+          slot = i;
+          is_slot = slot;
+          part_is = refl;
+          all = subst (AllByRecursion (AtLeast (term_of x.word) (M (part S i)))) (sym (own.member up x.joins).shows) (inr (marked, whole), tt);
+        };
+      }
+        where
+          up : 0 < start_at later i
+          up = let v = leader-view D i s (leads-parts D i s l).0 in runs v.1.0 v.1.1
+
+          x : Leading later i
+          x = leading later i L up (subst (λ z. leads D i z ≡ true) (sym site) l)
+
+          marked : (later.sites i).mark ≡ term_of x.word
+          marked = subst (λ z. z.mark ≡ site_term z) (sym site) mark ∙ ap term_in x.view
+
+          whole : M (part S i) ≤ length (take (later.sites i).on_disk (log_at later i))
+          whole =
+              let a = ((L.sites i).keeps up).on_disk in
+              let b = length-take (later.sites i).on_disk (log_at later i) in
+              let c : s.firm ≤ (later.sites i).on_disk = subst (λ z. s.firm ≤ z.on_disk) (sym site) disk in
+              omega (arith, a, b, c, e)
+
+      firm-own : FirmOk later M (part S i)
+      firm-own = choice (leads D i s) refl raised.own
+        where
+          choice : (b : Bool) → leads D i s ≡ b → M (part S i) ≡ (if b then max (F (part S i)) s.firm else F (part S i)) → FirmOk later M (part S i)
+          choice false l e = firm-kept (part S i) e
+          choice true l e = elim (cases_lt (F (part S i)) s.firm) [
+            | inr low ↦ firm-kept (part S i) (omega (arith, e, low))
+            | inl high ↦ elim (counted l) [
+              | inl low ↦ absurd (omega (arith, low, high))
+              | inr k ↦ firm-raised l (omega (arith, e, high)) k.0 k.1
+            ]
+          ]
+
+      firm-on : (p : ℕ) → FirmOk later M p
+      firm-on p = elim (cases_eq p (part S i)) [
+        | inl q ↦ subst (FirmOk later M) (sym q) firm-own
+        | inr n ↦ firm-kept p (raised.others p n)
+      ]
+
+      -- ---- letters
+
+      letter-on : (c : ℕ) (l : Letter) → StreamLetter S c l → StreamLetter later c l
+      letter-on c l k = elim l.body as (λ m. StreamLetter S c (record l { body = m }) → StreamLetter later c (record l { body = m })) [
+        | msg.StreamStart head ↦ λ k. record { mark_is = k.mark_is; top = tops (part S c) l.term 0 k.top }
+        | m ↦ λ k. tt
+      ] k
+
+      -- Where the site's own disk is well, so are all that were.
+      pub disks-after : ((c : ℕ) → IsSlot S c → AllByRecursion (StreamLetter later c) (out (Site c))) → DisksHold later M halted
+      disks-after new = record {
+        disks = λ c is. elim (cases_eq c i) [
+          | inl e ↦ subst (DiskOk later M halted) (sym e) own
+          | inr n ↦ disk-other c (there less i s out G c n) (K.disks c is)
+        ];
+        outside = λ c not. elim (cases_eq c i) [
+          | inl e ↦ absurd (not (subst (IsSlot S) (sym e) slot))
+          | inr n ↦ subst (λ x. AllByRecursion (λ y. y ≡ None) x.contents) (sym (there less i s out G c n)) (K.outside c not)
+        ];
+        streams = λ j c is. sent-either less i s out G (λ j ls. AllByRecursion (StreamLetter later c) ls) (Site c)
+            (all-append (StreamLetter later c) (ch (Site i) (Site c)) (out (Site c)) (old i c is) (new c is))
+            (λ k n. old k c is) j;
+        firm = firm-on;
+        halts = halts;
+      }
+        where
+          old : (j c : ℕ) → IsSlot S c → AllByRecursion (StreamLetter later c) (ch (Site j) (Site c))
+          old j c is = all-from (StreamLetter later c) (ch (Site j) (Site c)) (λ l m.
+              letter-on c l (all-at (StreamLetter S c) (between S j c) (K.streams j c is) l (fewer (Site j) (Site c) l m)))

@@ -1,0 +1,623 @@
+-- Disks hold after a site has taken a message, whatever the outside's share is.
+use Rattle.std.proofs.Common.{◌≡◌, ◌<◌, ◌≤◌, Bool, true, false, List, [], ◌∷◌, ◌++◌, length, take, length-take, append_assoc, refl, sym, subst, ap, ◌∙◌, ◌⊎◌, inl, inr, ◌==◌, arith}
+use Rattle.std.proofs.lemmas.Bool.{cases_Bool, and_parts, and_from, eq-eqb}
+use Rattle.std.proofs.lemmas.Bool.Decides.{nat_tests}
+use Rattle.std.specs.Prelude.{ℕ, ◌&&◌, not, nat_lt, nat_le, is_none, is_some, max, if◌then◌else◌, Option, Some, None}
+use Rattle.std.specs.List.{AllByRecursion}
+use Rattle.volt_wire.specs.Stream.{StreamHead}
+use Rattle.volt_wire.specs.Word.{Membership}
+use Rattle.volt_wire.specs.declared.actor.Actor.{Actor}
+use Rattle.volt_wire.specs.declared.actor.Actor.TheVariants.{Director, Client, Agent, Site, Scanner}
+use Rattle.volt_wire.specs.declared.message.Msg.{Msg}
+use Rattle.volt_wire.specs.declared.message.Msg.TheVariants as msg
+use Rattle.cluster_model.specs.Engine.{Database}
+use Rattle.cluster_model.specs.Words.{Deployment, host_of_slot, is_slot_of, is_member, term_of, term_in}
+use Rattle.cluster_model.specs.Disk.{Shown, mark_of, after_parts, after_failure}
+use Rattle.cluster_model.specs.Letters.{Blocks, Letter, Turn, becomes, sending, only, open_letter, Arrival, arrival, Taken, Refused, Waits}
+use Rattle.cluster_model.specs.AgentState.{stops_others}
+use Rattle.cluster_model.specs.SiteState.{SiteState, Joining, Streamed, new_joiner, stopped_site, site_term, is_joiner}
+use Rattle.cluster_model.specs.Site.{in_new_term, may_stream, on_stream_start, on_start, on_stop, site_runs, site_takes}
+use Rattle.cluster_model.specs.Sync.{may_stream_in, parts_of_stream, parts_of_message, stops_so, start_after, site_turn}
+use Rattle.cluster_model.specs.Laws.{starts_in}
+use Rattle.cluster_model.specs.World.{took}
+use Rattle.cluster_model.specs.Outside.{Outside, Fair, DiskFails, NoMemory, DisksShow}
+use Rattle.word_laws.specs.Histories.{In}
+use Rattle.word_laws.proofs.Lists.{all-if, all-mono, none-and-some, same-some, not-both}
+use Rattle.word_laws.proofs.Agreement.{member-is}
+use Rattle.word_laws.proofs.Members.{is_member-start, start-is_member}
+use Rattle.log_laws.specs.Histories.{LogState, Logs, Reign, Front, Holds, IsSlot, SiteLetterOk, WaitingOk, JoinerOk, ViewIn, StreamIn, InWord, Took, HeldOk, StreamedOk, from_agent, part, start_at, log_at, term_at}
+use Rattle.log_laws.proofs.Runs.Agreeing.{front-take}
+use Rattle.log_laws.proofs.Plain.Copies.{a-joiner}
+use Rattle.log_laws.proofs.NewTerms.Entering.{took-admitted, ran-owner, running-ran}
+use Rattle.log_laws.proofs.Plain.Fronts.{fronts-order, front-trans}
+use Rattle.log_laws.proofs.Kept.Moves.{Grown, NoStreamStart, after, popped}
+use Rattle.log_laws.proofs.Kept.Plumbing.{here}
+use Rattle.log_laws.proofs.Messages.Pops.{taken-for, waits-for}
+use Rattle.log_laws.proofs.NewTerms.Taking.{first-word, later-word}
+use Rattle.log_laws.proofs.Kept.Terms.{took-unnamed}
+use Rattle.disk_laws.specs.Disks.{Firm, ContentOk, StreamDisk, StreamOk, StreamLetter, Halted, DisksHold, shown_at}
+use Rattle.disk_laws.proofs.Order.{Raise, in-take, in-after_parts, in-after_failure, some-after_parts, some-after_failure, raise-take, raise-after_parts, raise-after_failure}
+use Rattle.disk_laws.proofs.Rows.{DiskRow, Plain, PlainWaiting, waiting-plain}
+use Rattle.disk_laws.proofs.SiteRows.{stays_joiner, as_joiner, as_entered, site_runs-row, site_runs-refused, site_runs-stream, site_runs-joins, site_runs-enters, entered-held}
+use Rattle.disk_laws.proofs.Own.{Own, OwnMember, OwnStream}
+use Rattle.disk_laws.proofs.SiteDisks.{Raised, firm-up}
+use Rattle.disk_laws.proofs.Turning.{Kept, Wiped, Leaves, firm-before, own-before, same-tops, wiped-tops, row-disks, row-kept, row-goes, row-begins, halts-after, still-kept, begins-kept, stops-kept, leaves-same, noted-kept, none-ok, fewer}
+
+-- ---- messages
+
+-- none but a word and a stream
+abbrev PlainKind : Letter → Type 0
+PlainKind l = elim l.body as (λ _. Type 0) [
+  | msg.View w ↦ ⊥
+  | msg.StreamStart head ↦ ⊥
+  | _ ↦ Unit {0}
+]
+
+plain-for : (from : Actor) (l : Letter) → PlainKind l → Plain from l
+plain-for (Site k) l p = elim l.body as (λ m. PlainKind (record l { body = m }) → Plain (Site k) (record l { body = m })) [
+  | msg.StreamStart head ↦ λ p. absurd p
+  | m ↦ λ p. tt
+] p
+plain-for (Agent h) l p = elim l.body as (λ m. PlainKind (record l { body = m }) → Plain (Agent h) (record l { body = m })) [
+  | msg.View w ↦ λ p. absurd p
+  | m ↦ λ p. tt
+] p
+plain-for Director l p = tt
+plain-for (Client n) l p = tt
+plain-for (Scanner x) l p = tt
+
+not-none : (o : Option Joining) → is_some o ≡ true → o ≡ None → ⊥
+not-none None e q = absurd (cc)
+not-none (Some j) e q = absurd (cc)
+
+both-not : (b : Bool) → b ≡ true → not b ≡ true → ⊥
+both-not true e q = absurd (cc)
+both-not false e q = absurd (cc)
+
+-- where it isn't both, it isn't the second
+second-not : (a b : Bool) → a ≡ true → (a && not b) ≡ false → b ≡ true
+second-not true true e q = refl
+second-not true false e q = absurd (cc)
+second-not false b e q = absurd (cc)
+
+module _ (S : LogState) (H : Holds S) (F : Firm) (halted : Bool) (K : DisksHold S F halted) (i : ℕ) (slot : IsSlot S i) where
+  abbrev D : Deployment
+  D = S.words.deployment
+
+  abbrev s : SiteState
+  s = S.sites i
+
+  waits-plain : 0 < start_at S i → AllByRecursion PlainWaiting s.waiting
+  waits-plain up = all-mono (WaitingOk S i) PlainWaiting (waiting-plain S i) s.waiting ((H.sites i).keeps up).waiting
+
+  -- a joiner that has no stream has loaded nothing
+  unbased : (j : Joining) → s.joining ≡ Some j → j.stream ≡ None → (j.is_loaded ≡ false) × (log_at S i ≡ [])
+  unbased j e none = seen s.view k.view
+    where
+      k : JoinerOk S i j
+      k = (H.sites i).joiner j e
+
+      streamed : (w : Membership) (o : Option Streamed) → o ≡ None → StreamIn S i w j o → (j.is_loaded ≡ false) × (log_at S i ≡ [])
+      streamed w None q u = (u.loads, u.empty)
+      streamed w (Some st) q u = absurd (none-and-some q refl)
+
+      seen : (o : Option Membership) → ViewIn S i j o → (j.is_loaded ≡ false) × (log_at S i ≡ [])
+      seen None u = (u.loads, u.empty)
+      seen (Some w) u = streamed w j.stream none u.stream
+
+  -- ---- a stream that the joiner takes
+
+  module _ (k : ℕ) (l : Letter) (head : StreamHead) (ls : List Letter) (is : S.words.channel (Site k) (Site i) ≡ record l { body = msg.StreamStart head } ∷ ls)
+      (up : 0 < start_at S i) (take-it : arrival (start_at S i) (term_at S i) (record l { body = msg.StreamStart head }) ≡ Taken) where
+    reached : (0 < l.start) × (0 < l.term)
+    reached = (subst (AllByRecursion (SiteLetterOk S k i)) is (H.letters k i slot)).0.0
+
+    letter : StreamOk S i (record l { body = msg.StreamStart head }) head.mark
+    letter = (subst (AllByRecursion (StreamLetter S i)) is (K.streams k i slot)).0
+
+    start-is : l.start ≡ start_at S i
+    start-is = elim (taken-for (start_at S i) (term_at S i) (record l { body = msg.StreamStart head }) take-it).0 [
+      | inl z ↦ let a = reached.0 in absurd (omega (arith, a, z))
+      | inr e ↦ e
+    ]
+
+    term-is : l.term ≡ term_at S i
+    term-is = elim (taken-for (start_at S i) (term_at S i) (record l { body = msg.StreamStart head }) take-it).1 [
+      | inl z ↦ let a = reached.1 in absurd (omega (arith, a, z))
+      | inr e ↦ e
+    ]
+
+    pub goes-on : halted ≡ false
+    goes-on = elim (cases_Bool halted) [
+      | inr e ↦ e
+      | inl e ↦ absurd ((rw is at ((K.halts e).streams i k up)).0 start-is)
+    ]
+
+    module _ (j : Joining) (joins : s.joining ≡ Some j) (may : may_stream s j l ≡ true) where
+      fresh : j.stream ≡ None
+      fresh = unstreamed j.stream (and_parts (is_none j.stream) (nat_lt s.earlier l.term) may).0
+        where
+          unstreamed : (o : Option Streamed) → is_none o ≡ true → o ≡ None
+          unstreamed None e = refl
+          unstreamed (Some st) e = absurd (cc)
+
+      above : s.earlier < l.term
+      above = let e = (and_parts (is_none j.stream) (nat_lt s.earlier l.term) may).1 in grind (arith, nat_tests, e)
+
+      old-marks : AllByRecursion (λ x. mark_of x ≤ s.earlier) (shown_at S i)
+      old-marks = subst (StreamDisk S i j) fresh ((K.disks i slot).joiner goes-on j joins)
+
+      -- its disk may be wiped
+      pub wiped : Wiped S i
+      wiped = record {
+        mark = l.term;
+        marks = all-mono (λ x. mark_of x ≤ s.earlier) (λ x. mark_of x < l.term) (λ x a. let b = above in omega (arith, a, b)) (shown_at S i) old-marks;
+        top = letter.top;
+      }
+
+      -- the joiner with its stream
+      abbrev u : SiteState
+      u = record s {
+        joining = Some (record j { stream = Some (record { nj = head.nj; mark = head.mark }) });
+        log = l.past;
+        floor = head.nj;
+        contents = None ∷ [];
+      }
+
+      unwritten : s.on_disk ≤ length l.past
+      unwritten =
+          let a = ((H.sites i).keeps up).on_disk in
+          let b = ap length (unbased j joins fresh).1 in
+          omega (arith, a, b)
+
+      blank-based : j.is_based ≡ false
+      blank-based = elim (cases_Bool j.is_based) [
+        | inr e ↦ e
+        | inl e ↦ absurd (not-both j.is_loaded (((H.sites i).joiner j joins).based e) (unbased j joins fresh).0)
+      ]
+
+      stream-own : (C : Shown → Type 0) (led : ℕ → Option Reign) (top : ℕ) → C None → Own halted C led top u
+      stream-own C led top c = record {
+        some = λ e. absurd (cc);
+        contents = (c, tt);
+        marks = λ e. (omega arith, tt);
+        whole = unwritten;
+        member = λ e. absurd (cc);
+        joiner = λ e x q. subst (λ y. OwnStream u y y.stream) (same-some q)
+            (letter.mark_is ∙ term-is, λ b. refl, λ b. absurd (not-both j.is_based b blank-based));
+      }
+
+      pub stream-kept : (t : Turn SiteState) → DiskRow D i u t → Kept S F halted (Site k) i t
+      stream-kept t row M G L grown raised =
+          let halts : halted ≡ true → Halted (after (popped S (Site k) i) i t.state t.sends G) = λ e. absurd (not-both halted e goes-on) in
+          let C : Shown → Type 0 = ContentOk (after (popped S (Site k) i) i t.state t.sends G) M halted (part S i) in
+          row-disks S H F halted K (Site k) i slot t M G L grown raised halts u
+          (stream-own C (G.reign (part S i)) (M (part S i)) (none-ok (after (popped S (Site k) i) i t.state t.sends G) M halted (part S i)))
+          row (subst (λ n. 0 < n) (sym row.at.start) up) ((H.sites i).keeps up).held (firm-before S H F halted K (Site k) i slot up)
+          (wiped-tops S H F halted K (Site k) i slot t M G L grown raised halts wiped)
+
+    -- Its turn, whether the site takes the stream or not.
+    pub start-kept : (E : Database) (stamp : ℕ) → Kept S F halted (Site k) i (site_runs E D stamp i s (Site k) (record l { body = msg.StreamStart head }))
+    start-kept E stamp = choice s.joining refl
+        (site_runs-stream E D stamp i s k (record l { body = msg.StreamStart head }) head refl take-it (waits-plain up))
+      where
+        t : Turn SiteState
+        t = site_runs E D stamp i s (Site k) (record l { body = msg.StreamStart head })
+
+        may : (j : Joining) → s.joining ≡ Some j → (b : Bool) → may_stream s j l ≡ b → DiskRow D i (if b then record s {
+          joining = Some (record j { stream = Some (record { nj = head.nj; mark = head.mark }) });
+          log = l.past;
+          floor = head.nj;
+          contents = None ∷ [];
+        } else s) t → Kept S F halted (Site k) i t
+        may j e true m row = stream-kept j e m t row
+        may j e false m row = row-kept S H F halted K (Site k) i slot t up row
+
+        choice : (o : Option Joining) → s.joining ≡ o → DiskRow D i (on_stream_start s o (record l { body = msg.StreamStart head }) head) t → Kept S F halted (Site k) i t
+        choice None e row = row-kept S H F halted K (Site k) i slot t up row
+        choice (Some j) e row = may j e (may_stream s j l) refl row
+
+  -- ---- a word
+
+  module _ (h : ℕ) (l : Letter) (w : Membership) (ls : List Letter) (is : S.words.channel (Agent h) (Site i) ≡ record l { body = msg.View w } ∷ ls) (up : 0 < start_at S i) where
+    own-is : from_agent S i ≡ record l { body = msg.View w } ∷ ls
+    own-is = ap (λ z. S.words.channel (Agent z) (Site i)) (sym (rw is at (H.foreign (Agent h) i)).0) ∙ is
+
+    meant : (l.term ≡ 0) × (0 < l.start)
+    meant = (rw own-is at (H.views i).plain).0
+
+    module _ (take-it : arrival (start_at S i) (term_at S i) (record l { body = msg.View w }) ≡ Taken) where
+      word-start : l.start ≡ start_at S i
+      word-start = elim (taken-for (start_at S i) (term_at S i) (record l { body = msg.View w }) take-it).0 [
+        | inl z ↦ let a = meant.1 in absurd (omega (arith, a, z))
+        | inr e ↦ e
+      ]
+
+      later-named : (v : Membership) → s.view ≡ Some v → is_member w (host_of_slot D i) (start_at S i) ≡ true
+      later-named v e = start-is_member w (host_of_slot D i) (start_at S i) (later-word S H h i l w ls is word-start up v e).1
+
+      higher : (v : Membership) → s.view ≡ Some v → term_at S i < term_of w
+      higher v e = let a = (later-word S H h i l w ls is word-start up v e).2 in let b = ap term_in e in omega (arith, a, b)
+
+      held : AllByRecursion HeldOk (in_new_term s w).held
+      held = entered-held s w ((H.sites i).keeps up).held
+
+      -- a joiner that stays one has no word before
+      module _ (stays : stays_joiner D i s w ≡ true) where
+        view-none : s.view ≡ None
+        view-none = choice s.view refl
+          where
+            choice : (o : Option Membership) → s.view ≡ o → o ≡ None
+            choice None e = refl
+            choice (Some v) e = absurd (both-not (is_member w (host_of_slot D i) (start_at S i)) (later-named v e)
+                (and_parts (is_joiner s) (not (is_member w (host_of_slot D i) (start_at S i))) stays).1)
+
+        joins-own : (C : Shown → Type 0) (led : ℕ → Option Reign) (top : ℕ) → Own halted C led top s → Own halted C led top (as_joiner s w)
+        joins-own C led top o = record {
+          some = o.some;
+          contents = o.contents;
+          marks = λ e. all-mono (λ x. mark_of x ≤ s.greatest) (λ x. mark_of x ≤ max s.greatest (term_of w)) (λ x a. omega (arith, a)) (shown_at S i) (o.marks e);
+          whole = o.whole;
+          member = λ none. absurd (not-none s.joining (and_parts (is_joiner s) (not (is_member w (host_of_slot D i) (start_at S i))) stays).0 none);
+          joiner = λ e j q.
+              let none : j.stream ≡ None = (subst (ViewIn S i j) view-none ((H.sites i).joiner j q).view).stream in
+              subst (OwnStream (as_joiner s w) j) (sym none) (old j none (o.joiner e j q));
+        }
+          where
+            old : (j : Joining) → j.stream ≡ None → OwnStream s j j.stream → AllByRecursion (λ x. mark_of x ≤ s.earlier) (shown_at S i)
+            old j none k = subst (OwnStream s j) none k
+
+        pub joins-kept : (t : Turn SiteState) → DiskRow D i (as_joiner s w) t → Kept S F halted (Agent h) i t
+        joins-kept t row M G L grown raised =
+            let halts = halts-after S H F halted K (Agent h) i slot t G L (row-goes S H F halted K (Agent h) i slot t (as_joiner s w) row refl (λ j e. (j, e, refl)))
+            (row-begins S H F halted K (Agent h) i slot t (as_joiner s w) row held) in
+            row-disks S H F halted K (Agent h) i slot t M G L grown raised halts (as_joiner s w)
+            (joins-own (ContentOk (after (popped S (Agent h) i) i t.state t.sends G) M halted (part S i)) (G.reign (part S i)) (M (part S i))
+            (own-before S H F halted K (Agent h) i slot t M G L grown raised halts up))
+            row (subst (λ n. 0 < n) (sym row.at.start) up) held (firm-before S H F halted K (Agent h) i slot up)
+            (same-tops S H F halted K (Agent h) i slot t M G L grown raised halts row.at.contents)
+
+      -- ---- a joiner that the word admits
+
+      module _ (j : Joining) (joins : s.joining ≡ Some j) (v : Membership) (view : s.view ≡ Some v) where
+        ok : JoinerOk S i j
+        ok = (H.sites i).joiner j joins
+
+        in_word : InWord S i v j
+        in_word = subst (ViewIn S i j) view ok.view
+
+        -- its base is on disk
+        based : j.is_based ≡ true
+        based =
+            let lw = later-word S H h i l w ls is word-start up v view in
+            let good = H.words.history.decided_good w lw.0 in
+            let named = (member-is S.words H.words.history w (host_of_slot D i) (start_at S i) good lw.1).0 in
+            let x = took-admitted S H (start_at S i) v w in_word.took lw.0 named in
+            let owned = ran-owner S H i (start_at S i) (running-ran S H i up) in
+            let here : is_slot_of D (S.words.owner x.0.start) i ≡ true =
+            and_from _ (host_of_slot D i == S.words.owner x.0.start) slot (eq-eqb _ _ (sym (ap S.words.owner x.2 ∙ owned))) in
+            (H.loads.admitted x.0 x.1 i here).1 up (sym x.2) j joins
+
+        module _ (st : Streamed) (stream : j.stream ≡ Some st) where
+          taken : Took S i v j st.nj
+          taken = subst (StreamIn S i v j) stream in_word.stream
+
+          streamed : StreamedOk S i (term_of v) (record { start = start_at S i; nj = st.nj })
+          streamed = H.streamed i (term_of v) (record { start = start_at S i; nj = st.nj }) taken.streamed
+
+          log-front : Front (log_at S i) streamed.reign.log
+          log-front = subst (λ g. Front (log_at S i) g.log) (same-some (sym taken.led ∙ streamed.led))
+              (j.tasks ++ taken.more, sym taken.whole ∙ append_assoc (log_at S i) j.tasks taken.more)
+
+          -- with all that its mark's term began with
+          base-begun : st.nj ≤ s.on_disk → Front streamed.reign.begun (take s.on_disk s.log)
+          base-begun low = fronts-order streamed.reign.begun (take s.on_disk s.log) streamed.reign.log
+              (H.reigns (part S i) (term_of v) streamed.reign streamed.led).grown
+              (front-trans (take s.on_disk s.log) s.log streamed.reign.log (front-take s.on_disk s.log) log-front)
+              (let a = streamed.behind in let b = ((H.sites i).keeps up).on_disk in let c = length-take s.on_disk s.log in omega (arith, a, b, c, low))
+
+          admitted-own : (G : Logs) → ((p t : ℕ) (g : Reign) → S.logs.reign p t ≡ Some g → (x : Reign) × (G.reign p t ≡ Some x) × (x.begun ≡ g.begun) × Front g.log x.log)
+              → (top : ℕ) → s.firm ≤ top → OwnStream s j (Some st) → OwnMember (G.reign (part S i)) top (as_entered s w)
+          admitted-own G kept top firm os =
+              let f = os.2 based in
+              let e : s.mark ≡ term_of v = f.1 ∙ os.0 ∙ ap term_in view in
+              let r = kept (part S i) (term_of v) streamed.reign streamed.led in
+              let above = (later-word S H h i l w ls is word-start up v view).2 in
+              record {
+                shows = f.0;
+                mark = omega (arith, e, above);
+                reign = r.0;
+                is_led = ap (G.reign (part S i)) e ∙ r.1;
+                begun = subst (λ b. Front b (take s.on_disk s.log)) (sym r.2) (base-begun f.3);
+                marked = λ q. absurd (omega (arith, e, above, q));
+                firm = firm;
+                owes = inl refl;
+              }
+
+      -- ---- one that is a member from then on
+
+      module _ (stays : stays_joiner D i s w ≡ false) (t : Turn SiteState) (row : DiskRow D i (as_entered s w) t) (M : Firm) (G : Logs)
+          (L : Holds (after (popped S (Agent h) i) i t.state t.sends G)) (grown : Grown D i t.state S.logs G) (raised : Raised D i t.state F M) where
+        abbrev U : LogState
+        U = after (popped S (Agent h) i) i t.state t.sends G
+
+        halts : halted ≡ true → Halted U
+        halts = halts-after S H F halted K (Agent h) i slot t G L (row-goes S H F halted K (Agent h) i slot t (as_entered s w) row refl (λ j e. absurd (cc)))
+            (row-begins S H F halted K (Agent h) i slot t (as_entered s w) row held)
+
+        -- so it isn't that all stays stopped
+        entered-on : halted ≡ false
+        entered-on = elim (cases_Bool halted) [
+          | inr e ↦ e
+          | inl e ↦
+              let site = here (popped S (Agent h) i) i t.state t.sends G in
+              let j = (halts e).joiners i (subst (λ x. 0 < x.start) (sym site) (subst (λ n. 0 < n) (sym row.at.start) up)) in
+              absurd (none-and-some (row.at.member refl) (ap (λ x. x.joining) (sym site) ∙ j.1))
+        ]
+
+        old-own : Own halted (ContentOk U M halted (part S i)) (G.reign (part S i)) (M (part S i)) s
+        old-own = own-before S H F halted K (Agent h) i slot t M G L grown raised halts up
+
+        firm-top : s.firm ≤ M (part S i)
+        firm-top =
+            let a = firm-before S H F halted K (Agent h) i slot up in
+            let b = firm-up S H F M halted K (took S.words.channel (Agent h) (Site i)) (fewer S H F halted K (Agent h) i slot) i slot
+            t.state t.sends G L grown raised halts (part S i) in
+            omega (arith, a, b)
+
+        member-own : (s.joining ≡ None) → OwnMember (G.reign (part S i)) (M (part S i)) (as_entered s w)
+        member-own none =
+            let m = old-own.member none in
+            let v = (H.sites i).member up none in
+            let above = higher v.0 v.1 in
+            record {
+              shows = m.shows;
+              mark = let a = m.mark in omega (arith, a, above);
+              reign = m.reign;
+              is_led = m.is_led;
+              begun = m.begun;
+              marked = λ q. let a = m.mark in absurd (omega (arith, a, above, q));
+              firm = m.firm;
+              owes = inl refl;
+            }
+
+        joiner-own : (j : Joining) → s.joining ≡ Some j → OwnMember (G.reign (part S i)) (M (part S i)) (as_entered s w)
+        joiner-own j joins = worded s.view refl
+          where
+            streamed-own : (v : Membership) → s.view ≡ Some v → (o : Option Streamed) → j.stream ≡ o → OwnStream s j o
+                → OwnMember (G.reign (part S i)) (M (part S i)) (as_entered s w)
+            streamed-own v e (Some st) q k = admitted-own j joins v e st q G grown.onward.kept (M (part S i)) firm-top k
+            streamed-own v e None q k =
+                absurd (not-both j.is_loaded (((H.sites i).joiner j joins).based (based j joins v e)) (unbased j joins q).0)
+
+            worded : (o : Option Membership) → s.view ≡ o → OwnMember (G.reign (part S i)) (M (part S i)) (as_entered s w)
+            worded (Some v) e = streamed-own v e j.stream refl (old-own.joiner entered-on j joins)
+            worded None e =
+                let counted = second-not (is_joiner s) (is_member w (host_of_slot D i) (start_at S i)) (a-joiner s j joins) stays in
+                absurd (took-unnamed S H (start_at S i) w i (first-word S H h i l w ls is word-start up e) (is_member-start w (host_of_slot D i) (start_at S i) counted))
+
+        entered-own : Own halted (ContentOk U M halted (part S i)) (G.reign (part S i)) (M (part S i)) (as_entered s w)
+        entered-own = record {
+          some = old-own.some;
+          contents = old-own.contents;
+          marks = λ e. all-mono (λ x. mark_of x ≤ s.greatest) (λ x. mark_of x ≤ max s.greatest (term_of w)) (λ x a. omega (arith, a)) (shown_at S i) (old-own.marks e);
+          whole = old-own.whole;
+          member = λ _. choice s.joining refl;
+          joiner = λ e j q. absurd (cc);
+        }
+          where
+            choice : (o : Option Joining) → s.joining ≡ o → OwnMember (G.reign (part S i)) (M (part S i)) (as_entered s w)
+            choice None e = member-own e
+            choice (Some j) e = joiner-own j e
+
+        pub enters-disks : DisksHold U M halted
+        enters-disks = row-disks S H F halted K (Agent h) i slot t M G L grown raised halts (as_entered s w) entered-own
+            row (subst (λ n. 0 < n) (sym row.at.start) up) held (firm-before S H F halted K (Agent h) i slot up)
+            (same-tops S H F halted K (Agent h) i slot t M G L grown raised halts row.at.contents)
+
+    -- Its turn: it is taken, or dropped; it doesn't wait.
+    pub view-kept : (E : Database) (stamp : ℕ) → Kept S F halted (Agent h) i (site_runs E D stamp i s (Agent h) (record l { body = msg.View w }))
+    view-kept E stamp = choice (arrival (start_at S i) (term_at S i) (record l { body = msg.View w })) refl
+      where
+        t : Turn SiteState
+        t = site_runs E D stamp i s (Agent h) (record l { body = msg.View w })
+
+        taken : arrival (start_at S i) (term_at S i) (record l { body = msg.View w }) ≡ Taken → (b : Bool) → stays_joiner D i s w ≡ b → Kept S F halted (Agent h) i t
+        taken e true q = joins-kept e q t (site_runs-joins E D stamp i s h (record l { body = msg.View w }) w refl e q (waits-plain up))
+        taken e false q = λ M G L grown raised.
+            enters-disks e q t (site_runs-enters E D stamp i s h (record l { body = msg.View w }) w refl e q (waits-plain up)) M G L grown raised
+
+        choice : (a : Arrival) → arrival (start_at S i) (term_at S i) (record l { body = msg.View w }) ≡ a → Kept S F halted (Agent h) i t
+        choice Taken e = taken e (stays_joiner D i s w) refl
+        choice Refused e = row-kept S H F halted K (Agent h) i slot t up (site_runs-refused E D stamp i s (Agent h) (record l { body = msg.View w }) e)
+        choice Waits e =
+            let a = (waits-for (start_at S i) (term_at S i) (record l { body = msg.View w }) e).1 in
+            let b = meant.0 in
+            absurd (omega (arith, a, b))
+
+  -- ---- a stream, whether it is taken or not
+
+  stream-turn : (from : Actor) (l : Letter) (head : StreamHead) (ls : List Letter) → S.words.channel from (Site i) ≡ record l { body = msg.StreamStart head } ∷ ls
+      → 0 < start_at S i → (E : Database) (stamp : ℕ) → Kept S F halted from i (site_runs E D stamp i s from (record l { body = msg.StreamStart head }))
+  stream-turn (Site k) l head ls is up E stamp = choice (arrival (start_at S i) (term_at S i) (record l { body = msg.StreamStart head })) refl
+    where
+      reach : (0 < l.start) × (0 < l.term) × (start_at S i ≡ l.start → l.term ≤ term_at S i)
+      reach = let r = (subst (AllByRecursion (SiteLetterOk S k i)) is (H.letters k i slot)).0 in (r.0.0, r.0.1, r.2)
+
+      choice : (a : Arrival) → arrival (start_at S i) (term_at S i) (record l { body = msg.StreamStart head }) ≡ a
+          → Kept S F halted (Site k) i (site_runs E D stamp i s (Site k) (record l { body = msg.StreamStart head }))
+      choice Taken e = start-kept k l head ls is up e E stamp
+      choice Refused e = row-kept S H F halted K (Site k) i slot (site_runs E D stamp i s (Site k) (record l { body = msg.StreamStart head })) up
+          (site_runs-refused E D stamp i s (Site k) (record l { body = msg.StreamStart head }) e)
+      choice Waits e =
+          let w = waits-for (start_at S i) (term_at S i) (record l { body = msg.StreamStart head }) e in
+          elim w.0 [
+            | inl z ↦ let a = reach.0 in absurd (omega (arith, a, z))
+            | inr q ↦ let a = reach.2 (sym q) in let b = w.1 in absurd (omega (arith, a, b))
+          ]
+  stream-turn (Agent h) l head ls is up E stamp = absurd ((rw is at (H.foreign (Agent h) i)).0)
+  stream-turn Director l head ls is up E stamp = absurd ((rw is at (H.foreign Director i)).0)
+  stream-turn (Client n) l head ls is up E stamp = absurd ((rw is at (H.foreign (Client n) i)).0)
+  stream-turn (Scanner x) l head ls is up E stamp = absurd ((rw is at (H.foreign (Scanner x) i)).0)
+
+  plain-turn : (from : Actor) (l : Letter) → Plain from l → 0 < start_at S i → (E : Database) (stamp : ℕ) → Kept S F halted from i (site_runs E D stamp i s from l)
+  plain-turn from l p up E stamp = row-kept S H F halted K from i slot (site_runs E D stamp i s from l) up (site_runs-row E D stamp i s from l p (waits-plain up))
+
+  view-turn : (from : Actor) (l : Letter) (w : Membership) (ls : List Letter) → S.words.channel from (Site i) ≡ record l { body = msg.View w } ∷ ls → 0 < start_at S i
+      → (E : Database) (stamp : ℕ) → Kept S F halted from i (site_runs E D stamp i s from (record l { body = msg.View w }))
+  view-turn (Agent h) l w ls is = view-kept h l w ls is
+  view-turn (Site k) l w ls is = plain-turn (Site k) (record l { body = msg.View w }) tt
+  view-turn Director l w ls is = plain-turn Director (record l { body = msg.View w }) tt
+  view-turn (Client n) l w ls is = plain-turn (Client n) (record l { body = msg.View w }) tt
+  view-turn (Scanner x) l w ls is = plain-turn (Scanner x) (record l { body = msg.View w }) tt
+
+  -- ---- starts and stops
+
+  -- a start that comes is one that the slot hasn't run with
+  fresh-start : (from : Actor) (l : Letter) (a : ℕ) (ls : List Letter) → S.words.channel from (Site i) ≡ record l { body = msg.Start a } ∷ ls → In a (S.logs.ran i) → ⊥
+  fresh-start (Agent h) l a ls is =
+      let own : from_agent S i ≡ record l { body = msg.Start a } ∷ ls = ap (λ z. S.words.channel (Agent z) (Site i)) (sym (rw is at (H.foreign (Agent h) i)).0) ∙ is in
+      ((H.views i).starting a (subst (λ x. In a (starts_in x)) (sym own) (inl refl))).0
+  fresh-start (Site k) l a ls is = absurd ((rw is at (H.foreign (Site k) i)).0)
+  fresh-start Director l a ls is = absurd ((rw is at (H.foreign Director i)).0)
+  fresh-start (Client n) l a ls is = absurd ((rw is at (H.foreign (Client n) i)).0)
+  fresh-start (Scanner x) l a ls is = absurd ((rw is at (H.foreign (Scanner x) i)).0)
+
+  module _ (from : Actor) where
+    start-turn : (a : ℕ) → (In a (S.logs.ran i) → ⊥) → Kept S F halted from i (on_start i s a)
+    start-turn a fresh = choice (nat_lt s.start a && nat_lt s.stop a)
+      where
+        choice : (b : Bool) → Kept S F halted from i (if b then sending (new_joiner s a) (only (Scanner i) (open_letter (msg.Start a))) else becomes s)
+        choice true = begins-kept S H F halted K from i slot a fresh
+        choice false = still-kept S H F halted K from i slot
+
+    stop-turn : (a : ℕ) → Kept S F halted from i (becomes (on_stop s a))
+    stop-turn a = choice (nat_le s.start a)
+      where
+        choice : (b : Bool) → Kept S F halted from i (becomes (if b then stopped_site (record s { stop = max s.stop a }) else record s { stop = max s.stop a }))
+        choice true = stops-kept S H F halted K from i slot (becomes (stopped_site (record s { stop = max s.stop a }))) refl refl (leaves-same S H F halted K from i slot) (λ c. tt)
+        choice false = noted-kept S H F halted K from i slot (max s.stop a) s.plans
+
+    fails-kept : (start : ℕ) (xs : List Shown) → Leaves S i xs → Kept S F halted from i (stops_so D i s start xs)
+    fails-kept start xs k = stops-kept S H F halted K from i slot (stops_so D i s start xs) refl refl k (λ c.
+        all-if NoStreamStart (i == c) [] (stops_others D (host_of_slot D i) start (Site c)) tt
+        (all-if NoStreamStart (is_slot_of D (host_of_slot D i) c) (open_letter (msg.Stop start) ∷ []) [] (tt, tt) tt))
+
+    running : (x : Letter) (E : Database) (stamp : ℕ) (b : Bool) → (start_at S i == 0) ≡ b → (0 < start_at S i → Kept S F halted from i (site_runs E D stamp i s from x))
+        → Kept S F halted from i (if b then becomes s else site_runs E D stamp i s from x)
+    running x E stamp true e k = still-kept S H F halted K from i slot
+    running x E stamp false e k = k (grind (arith, nat_tests, e))
+
+    takes-kept : (E : Database) (stamp : ℕ) (l : Letter) (ls : List Letter) (m : Msg Blocks) → S.words.channel from (Site i) ≡ record l { body = m } ∷ ls
+        → Kept S F halted from i (site_takes E D stamp i s from (record l { body = m }))
+    takes-kept E stamp l ls m = elim m as (λ m. S.words.channel from (Site i) ≡ record l { body = m } ∷ ls
+        → Kept S F halted from i (site_takes E D stamp i s from (record l { body = m }))) [
+          | msg.Start a ↦ λ is. start-turn a (fresh-start from l a ls is)
+          | msg.Stop a ↦ λ is. stop-turn a
+          | msg.Power call choice ↦ λ is. noted-kept S H F halted K from i slot s.stop (s.plans ++ (call, choice) ∷ [])
+          | msg.View w ↦ λ is. running (record l { body = msg.View w }) E stamp (start_at S i == 0) refl (λ up. view-turn from l w ls is up E stamp)
+          | msg.StreamStart head ↦ λ is. running (record l { body = msg.StreamStart head }) E stamp (start_at S i == 0) refl (λ up. stream-turn from l head ls is up E stamp)
+          | m ↦ λ is. running (record l { body = m }) E stamp (start_at S i == 0) refl (λ up.
+              plain-turn from (record l { body = m }) (plain-for from (record l { body = m }) tt) up E stamp)
+        ]
+
+  -- ---- parts of a message, that may fail
+
+  -- they wipe the disk, or there are none
+  record Parts (parts : List Shown) : Type 0 where
+    blank : (y : Shown) → In y parts → y ≡ None
+    wipes : (parts ≡ []) ⊎ Wiped S i
+
+  no-parts : Parts []
+  no-parts = record { blank = λ y m. absurd m; wipes = inl refl }
+
+  stream-parts : (k : ℕ) (l : Letter) (head : StreamHead) (ls : List Letter) → S.words.channel (Site k) (Site i) ≡ record l { body = msg.StreamStart head } ∷ ls
+      → Parts (parts_of_message s (record l { body = msg.StreamStart head }))
+  stream-parts k l head ls is = runs (s.start == 0) refl
+    where
+      taken : 0 < start_at S i → arrival s.start (site_term s) (record l { body = msg.StreamStart head }) ≡ Taken → (o : Option Joining) → s.joining ≡ o
+          → Parts (if may_stream_in s o (record l { body = msg.StreamStart head }) then None ∷ [] else [])
+      taken up e None q = no-parts
+      taken up e (Some j) q = may (may_stream s j l) refl
+        where
+          may : (b : Bool) → may_stream s j l ≡ b → Parts (if b then None ∷ [] else [])
+          may true m = record {
+            blank = λ y n. elim n [
+              | inl z ↦ sym z
+              | inr z ↦ absurd z
+            ];
+            wipes = inr (wiped k l head ls is up e j q m);
+          }
+          may false m = no-parts
+
+      arrives : 0 < start_at S i → (a : Arrival) → arrival s.start (site_term s) (record l { body = msg.StreamStart head }) ≡ a → Parts (elim a as (λ _. List Shown) [
+        | Taken ↦ if may_stream_in s s.joining (record l { body = msg.StreamStart head }) then None ∷ [] else []
+        | Refused ↦ []
+        | Waits ↦ []
+      ])
+      arrives up Taken e = taken up e s.joining refl
+      arrives up Refused e = no-parts
+      arrives up Waits e = no-parts
+
+      runs : (b : Bool) → (s.start == 0) ≡ b → Parts (if b then [] else parts_of_stream s (record l { body = msg.StreamStart head }))
+      runs true e = no-parts
+      runs false e = arrives (grind (arith, nat_tests, e)) (arrival s.start (site_term s) (record l { body = msg.StreamStart head })) refl
+
+  stream-parts-from : (from : Actor) (l : Letter) (head : StreamHead) (ls : List Letter) → S.words.channel from (Site i) ≡ record l { body = msg.StreamStart head } ∷ ls
+      → Parts (parts_of_message s (record l { body = msg.StreamStart head }))
+  stream-parts-from (Site k) l head ls is = stream-parts k l head ls is
+  stream-parts-from (Agent h) l head ls is = absurd ((rw is at (H.foreign (Agent h) i)).0)
+  stream-parts-from Director l head ls is = absurd ((rw is at (H.foreign Director i)).0)
+  stream-parts-from (Client n) l head ls is = absurd ((rw is at (H.foreign (Client n) i)).0)
+  stream-parts-from (Scanner x) l head ls is = absurd ((rw is at (H.foreign (Scanner x) i)).0)
+
+  parts-ok : (from : Actor) (l : Letter) (ls : List Letter) (m : Msg Blocks) → S.words.channel from (Site i) ≡ record l { body = m } ∷ ls
+      → Parts (parts_of_message s (record l { body = m }))
+  parts-ok from l ls m = elim m as (λ m. S.words.channel from (Site i) ≡ record l { body = m } ∷ ls → Parts (parts_of_message s (record l { body = m }))) [
+    | msg.StreamStart head ↦ λ is. stream-parts-from from l head ls is
+    | m ↦ λ is. no-parts
+  ]
+
+  module _ (parts : List Shown) (k : Parts parts) (n : ℕ) where
+    some : (shown_at S i ≡ []) → ⊥
+    some = (K.disks i slot).some
+
+    not-raised : parts ≡ [] → Raise (shown_at S i) parts
+    not-raised e y m = absurd (subst (In y) e m)
+
+    leaves-failure : Leaves S i (after_failure (shown_at S i) parts n)
+    leaves-failure = record {
+      some = some-after_failure (shown_at S i) parts n some;
+      from = λ y m. elim (in-after_failure (shown_at S i) parts n y m) [
+        | inl a ↦ inl a
+        | inr b ↦ inr (k.blank y b)
+      ];
+      wipes = elim k.wipes [
+        | inl e ↦ inl (raise-after_failure (shown_at S i) parts (not-raised e) n)
+        | inr w ↦ inr w
+      ];
+    }
+
+    leaves-parts : Leaves S i (after_parts (shown_at S i) (take n parts))
+    leaves-parts = record {
+      some = some-after_parts (shown_at S i) (take n parts) some;
+      from = λ y m. elim (in-after_parts (shown_at S i) (take n parts) y m) [
+        | inl a ↦ inl a
+        | inr b ↦ inr (k.blank y (in-take n y parts b))
+      ];
+      wipes = elim k.wipes [
+        | inl e ↦ inl (raise-after_parts (shown_at S i) (take n parts) (raise-take (shown_at S i) parts (not-raised e) n))
+        | inr w ↦ inr w
+      ];
+    }
+
+  -- ---- whatever the outside does
+
+  pub site_turn-kept : (E : Database) (stamp : ℕ) (from : Actor) (l : Letter) (ls : List Letter) (o : Outside) → S.words.channel from (Site i) ≡ l ∷ ls
+      → Kept S F halted from i (site_turn E D stamp i s from l o)
+  site_turn-kept E stamp from l ls Fair is = takes-kept from E stamp l ls l.body is
+  site_turn-kept E stamp from l ls (DisksShow shown failed) is = takes-kept from E stamp l ls l.body is
+  site_turn-kept E stamp from l ls (DiskFails n) is =
+      fails-kept from s.start (after_failure (shown_at S i) (parts_of_message s l) n) (leaves-failure (parts_of_message s l) (parts-ok from l ls l.body is) n)
+  site_turn-kept E stamp from l ls (NoMemory n) is =
+      fails-kept from (start_after s l) (after_parts (shown_at S i) (take n (parts_of_message s l))) (leaves-parts (parts_of_message s l) (parts-ok from l ls l.body is) n)

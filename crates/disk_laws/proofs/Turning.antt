@@ -1,0 +1,369 @@
+-- Disks hold after a turn with which a site takes a message, by what the turn makes of the site.
+use Rattle.std.proofs.Common.{◌≡◌, ◌<◌, ◌≤◌, Bool, true, false, true≢false, List, [], ◌∷◌, take, refl, sym, subst, ap, ◌∙◌, ◌⊎◌, inl, inr, arith}
+use Rattle.std.proofs.lemmas.Bool.{cases_eq}
+use Rattle.std.specs.Prelude.{ℕ, max, Option, Some, None}
+use Rattle.std.specs.List.{AllByRecursion}
+use Rattle.volt_wire.specs.declared.actor.Actor.{Actor}
+use Rattle.volt_wire.specs.declared.actor.Actor.TheVariants.{Site, Scanner}
+use Rattle.volt_wire.specs.declared.message.Msg.TheVariants as msg
+use Rattle.cluster_model.specs.Disk.{Shown, mark_of}
+use Rattle.cluster_model.specs.Words.{Deployment}
+use Rattle.cluster_model.specs.Letters.{Letter, Turn, becomes, sending, only, open_letter}
+use Rattle.cluster_model.specs.SiteState.{SiteState, Joining, Streamed, new_joiner, new_joining, site_term, leads}
+use Rattle.cluster_model.specs.World.{took}
+use Rattle.word_laws.specs.Histories.{In}
+use Rattle.word_laws.proofs.Channels.{took-all}
+use Rattle.word_laws.proofs.Lists.{all-at, all-from, all-mono, in-map-from, if-true, same-some}
+use Rattle.log_laws.specs.Histories.{LogState, Logs, Front, Holds, IsSlot, HeldOk, CountedOk, part, start_at, term_at}
+use Rattle.log_laws.proofs.Plain.Copies.{leader-view, leads-parts}
+use Rattle.log_laws.proofs.Plain.Fronts.{front-refl}
+use Rattle.log_laws.proofs.Kept.Moves.{Grown, NoStreamStart, after, popped}
+use Rattle.log_laws.proofs.Kept.Plumbing.{here, there}
+use Rattle.disk_laws.specs.Disks.{AtLeast, Top, Firm, ContentOk, StreamDisk, DiskOk, StreamLetter, Halted, DisksHold, shown_at, own_content}
+use Rattle.disk_laws.proofs.Order.{Raise, raise-refl, raise-same, top-raise, top-wipe}
+use Rattle.disk_laws.proofs.Rows.{DiskAt, DiskRow, Counts, Begins, at-term, at-was-joiner, row-becomes}
+use Rattle.disk_laws.proofs.Own.{Own, OwnStream, own-row}
+use Rattle.disk_laws.proofs.Halts.{SiteGoes, LeadersBegin, halted-site}
+use Rattle.disk_laws.proofs.SiteDisks.{Raised, contents-on, disk-other, disks-after, firm-up, runs}
+
+-- Disks hold after this turn of the site of slot i, with which it takes the first message from this actor: with what the leader of its
+-- partition, where it leads, has counted firm by then.
+abbrev pub Kept : LogState → Firm → Bool → Actor → ℕ → Turn SiteState → Type 0
+Kept S F halted from i t =
+    (M : Firm) (G : Logs) → Holds (after (popped S from i) i t.state t.sends G) → Grown S.words.deployment i t.state S.logs G
+    → Raised S.words.deployment i t.state F M → DisksHold (after (popped S from i) i t.state t.sends G) M halted
+
+-- The disk of slot i may be wiped: another slot of its partition shows this mark or a later one, and all of its own are lower.
+pub record Wiped (S : LogState) (i : ℕ) : Type 0 where
+  pub mark : ℕ
+  pub marks : AllByRecursion (λ x. mark_of x < mark) (shown_at S i)
+  pub top : Top S (part S i) mark 0
+
+-- What it shows then, of what it showed, or blank.
+pub record Leaves (S : LogState) (i : ℕ) (xs : List Shown) : Type 0 where
+  pub some : (xs ≡ []) → ⊥
+  pub from : (y : Shown) → In y xs → In y (shown_at S i) ⊎ (y ≡ None)
+  pub wipes : Raise (shown_at S i) xs ⊎ Wiped S i
+
+pub none-ok : (S : LogState) (F : Firm) (halted : Bool) (p : ℕ) → ContentOk S F halted p None
+none-ok S F true p = tt
+none-ok S F false p = tt
+
+leaders-letter : (D : Deployment) (i : ℕ) (s : SiteState) (l : Letter) → NoStreamStart l → LeadersBegin D i s l
+leaders-letter D i s l k = elim l.body as (λ m. NoStreamStart (record l { body = m }) → LeadersBegin D i s (record l { body = m })) [
+  | msg.StreamStart head ↦ λ k. absurd k
+  | m ↦ λ k. tt
+] k
+
+begins-leader : (D : Deployment) (i c : ℕ) (m s : SiteState) (l : Letter) → Begins D i c m s l → LeadersBegin D i s l
+begins-leader D i c m s l k = elim l.body as (λ b. Begins D i c m s (record l { body = b }) → LeadersBegin D i s (record l { body = b })) [
+  | msg.StreamStart head ↦ λ k. k.leads
+  | b ↦ λ k. tt
+] k
+
+no-letter : (S : LogState) (c : ℕ) (l : Letter) → NoStreamStart l → StreamLetter S c l
+no-letter S c l k = elim l.body as (λ m. NoStreamStart (record l { body = m }) → StreamLetter S c (record l { body = m })) [
+  | msg.StreamStart head ↦ λ k. absurd k
+  | m ↦ λ k. tt
+] k
+
+module _ (S : LogState) (H : Holds S) (F : Firm) (halted : Bool) (K : DisksHold S F halted) (from : Actor) (i : ℕ) (slot : IsSlot S i) where
+  pub fewer : (a b : Actor) (l : Letter) → In l (took S.words.channel from (Site i) a b) → In l (S.words.channel a b)
+  fewer a b l m = all-at (λ x. In x (S.words.channel a b)) (took S.words.channel from (Site i) a b)
+      (took-all (λ x. In x (S.words.channel a b)) S.words.channel from (Site i) a b (all-from (λ x. In x (S.words.channel a b)) (S.words.channel a b) (λ x k. k))) l m
+
+  -- what the site counted firm is no more than what was
+  pub firm-before : 0 < start_at S i → (S.sites i).firm ≤ F (part S i)
+  firm-before up = choice (S.sites i).joining refl
+    where
+      choice : (o : Option Joining) → (S.sites i).joining ≡ o → (S.sites i).firm ≤ F (part S i)
+      choice None e = ((K.disks i slot).member up e).firm
+      choice (Some j) e = let z = ((H.sites i).joiner j e).firm in omega (arith, z)
+
+  module _ (t : Turn SiteState) (M : Firm) (G : Logs) (L : Holds (after (popped S from i) i t.state t.sends G)) (grown : Grown S.words.deployment i t.state S.logs G)
+      (raised : Raised S.words.deployment i t.state F M) (halts : halted ≡ true → Halted (after (popped S from i) i t.state t.sends G)) where
+    abbrev T : LogState
+    T = after (popped S from i) i t.state t.sends G
+
+    abbrev C : Shown → Type 0
+    C = ContentOk T M halted (part S i)
+
+    site : T.sites i ≡ t.state
+    site = here (popped S from i) i t.state t.sends G
+
+    others : (c : ℕ) → (c ≡ i → ⊥) → shown_at T c ≡ shown_at S c
+    others c n = ap (λ x. x.contents) (there (popped S from i) i t.state t.sends G c n)
+
+    old-contents : AllByRecursion C (shown_at S i)
+    old-contents = contents-on S H F M halted K (took S.words.channel from (Site i)) fewer i slot t.state t.sends G L grown raised halts
+        (part S i) (shown_at S i) (K.disks i slot).contents
+
+    leads-runs : leads S.words.deployment i t.state ≡ true → 0 < t.state.start
+    leads-runs l =
+        let v = leader-view S.words.deployment i t.state (leads-parts S.words.deployment i t.state l).0 in
+        subst (λ x. 0 < x.start) site (runs S H F M halted K (took S.words.channel from (Site i)) fewer i slot t.state t.sends G L grown raised halts v.1.0 v.1.1)
+
+    -- ---- the site's own disk
+
+    stream-before : (j : Joining) (o : Option Streamed) → StreamDisk S i j o → OwnStream (S.sites i) j o
+    stream-before j None k = k
+    stream-before j (Some st) k = k
+
+    pub own-before : 0 < start_at S i → Own halted C (G.reign (part S i)) (M (part S i)) (S.sites i)
+    own-before up = record {
+      some = k.some;
+      contents = old-contents;
+      marks = k.marks;
+      whole = ((H.sites i).keeps up).on_disk;
+      member = λ none. let m = k.member up none in let r = grown.onward.kept (part S i) (S.sites i).mark m.reign m.led in record {
+        shows = m.shows;
+        mark = m.mark;
+        reign = r.0;
+        is_led = r.1;
+        begun = rw (r.2) m.begun;
+        marked = m.marked;
+        firm = let a = m.firm in
+            let b = firm-up S H F M halted K (took S.words.channel from (Site i)) fewer i slot t.state t.sends G L grown raised halts (part S i) in
+            omega (arith, a, b);
+        owes = m.owes;
+      };
+      joiner = λ e j is. stream-before j j.stream (k.joiner e j is);
+    }
+      where
+        k : DiskOk S F halted i
+        k = K.disks i slot
+
+    stream-after : (j : Joining) (o : Option Streamed) → OwnStream t.state j o → StreamDisk T i j o
+    stream-after j None k = subst (λ x. AllByRecursion (λ y. mark_of y ≤ x.earlier) x.contents) (sym site) k
+    stream-after j (Some st) k = (
+      k.0 ∙ ap site_term (sym site),
+      λ b. ap (λ x. x.contents) site ∙ k.1 b,
+      λ b. subst (λ x. (x.contents ≡ own_content x ∷ []) × (x.mark ≡ st.mark) × (x.base ≡ st.nj) × (st.nj ≤ x.on_disk)) (sym site) (k.2 b),
+    )
+
+    own-after : Own halted C (G.reign (part S i)) (M (part S i)) t.state → DiskOk T M halted i
+    own-after o = record {
+      some = λ e. o.some (ap (λ x. x.contents) (sym site) ∙ e);
+      contents = subst (λ x. AllByRecursion C x.contents) (sym site) o.contents;
+      marks = λ e. subst (λ x. AllByRecursion (λ y. mark_of y ≤ x.greatest) x.contents) (sym site) (o.marks e);
+      member = λ up none. let m = o.member (ap (λ x. x.joining) (sym site) ∙ none) in record {
+        shows = subst (λ x. x.contents ≡ own_content x ∷ []) (sym site) m.shows;
+        mark = subst (λ x. x.mark ≤ site_term x) (sym site) m.mark;
+        reign = m.reign;
+        led = subst (λ x. G.reign (part S i) x.mark ≡ Some m.reign) (sym site) m.is_led;
+        begun = subst (λ x. Front m.reign.begun (take x.on_disk x.log)) (sym site) m.begun;
+        marked = subst (λ x. x.mark ≡ site_term x → x.repaired ≡ true) (sym site) m.marked;
+        firm = subst (λ x. x.firm ≤ M (part S i)) (sym site) m.firm;
+        owes = subst (λ x. (x.owes ≡ None) ⊎ ((x.owes ≡ Some (site_term x)) × (x.repaired ≡ true))) (sym site) m.owes;
+      };
+      joiner = λ e j is. stream-after j j.stream (o.joiner e j (ap (λ x. x.joining) (sym site) ∙ is));
+    }
+
+    -- ---- what some slot shows
+
+    raised-tops : Raise (shown_at S i) t.state.contents → (p m n : ℕ) → Top S p m n → Top T p m n
+    raised-tops f = top-raise S T refl i (subst (λ x. Raise (shown_at S i) x.contents) (sym site) f) others
+
+    pub same-tops : t.state.contents ≡ shown_at S i → (p m n : ℕ) → Top S p m n → Top T p m n
+    same-tops e = raised-tops (raise-same (shown_at S i) t.state.contents e)
+
+    pub wiped-tops : Wiped S i → (p m n : ℕ) → Top S p m n → Top T p m n
+    wiped-tops w = top-wipe S T refl i w.mark others (K.disks i slot).some w.marks w.top
+
+    assembled : DiskOk T M halted i → ((p m n : ℕ) → Top S p m n → Top T p m n)
+        → (leads S.words.deployment i t.state ≡ true → (t.state.firm ≤ F (part S i)) ⊎ ((t.state.mark ≡ site_term t.state) × (t.state.firm ≤ t.state.on_disk)))
+        → ((c : ℕ) → IsSlot S c → AllByRecursion (StreamLetter T c) (t.sends (Site c))) → DisksHold T M halted
+    assembled own tops counted new = disks-after S H F M halted K (took S.words.channel from (Site i)) fewer i slot t.state t.sends G L grown raised halts own tops counted new
+
+    -- ---- a turn that leaves the disk, from a state on
+
+    module _ (m : SiteState) (o : Own halted C (G.reign (part S i)) (M (part S i)) m) (row : DiskRow S.words.deployment i m t) (up : 0 < t.state.start) where
+      own : DiskOk T M halted i
+      own = own-after (own-row S.words.deployment i m t.state row.at halted C (G.reign (part S i)) (M (part S i))
+          (λ r. let e = raised.own ∙ if-true (leads S.words.deployment i t.state) (max (F (part S i)) t.state.firm) (F (part S i)) r.leads in omega (arith, e)) o)
+
+      letter : (c : ℕ) (l : Letter) → Begins S.words.deployment i c m t.state l → StreamLetter T c l
+      letter c l k = elim l.body as (λ b. Begins S.words.deployment i c m t.state (record l { body = b }) → StreamLetter T c (record l { body = b })) [
+        | msg.StreamStart head ↦ λ k. record {
+          mark_is = k.mark_is ∙ sym k.term_is;
+          top = record {
+            slot = i;
+            is_slot = slot;
+            part_is = receiver k.counted;
+            all = shows (row.at.mark ∙ k.own ∙ sym k.term_is) (leader-view S.words.deployment i t.state (leads-parts S.words.deployment i t.state k.leads).0).0;
+          };
+        }
+        | b ↦ λ k. tt
+      ] k
+        where
+          there-up : 0 < start_at T i
+          there-up = subst (λ x. 0 < x.start) (sym site) up
+
+          -- the receiver is of the site's partition, which counts it
+          receiver : Counts t.state c → part T i ≡ part T c
+          receiver k =
+              let r = in-map-from (λ j. j.slot) c t.state.joiners k in
+              let joined = subst (λ x. AllByRecursion (CountedOk T (part T i) (term_at T i)) x.joiners) site ((L.sites i).keeps there-up).joiners in
+              sym (ap (part T) (sym r.2) ∙ (all-at (CountedOk T (part T i) (term_at T i)) t.state.joiners joined r.0 r.1).part_is)
+
+          shows : t.state.mark ≡ l.term → t.state.joining ≡ None → AllByRecursion (AtLeast l.term 0) (shown_at T i)
+          shows e none =
+              let k = own.member there-up (ap (λ x. x.joining) site ∙ none) in
+              subst (AllByRecursion (AtLeast l.term 0)) (sym k.shows) (inr (ap (λ x. x.mark) site ∙ e, omega arith), tt)
+
+      pub row-disks : AllByRecursion HeldOk m.held → m.firm ≤ F (part S i) → ((p n k : ℕ) → Top S p n k → Top T p n k) → DisksHold T M halted
+      row-disks held firm tops = assembled own tops counted
+          (λ c _. all-mono (Begins S.words.deployment i c m t.state) (StreamLetter T c) (letter c) (t.sends (Site c)) (row.sends held c))
+        where
+          counted : leads S.words.deployment i t.state ≡ true → (t.state.firm ≤ F (part S i)) ⊎ ((t.state.mark ≡ site_term t.state) × (t.state.firm ≤ t.state.on_disk))
+          counted l = elim row.at.firm [
+            | inl e ↦ inl (omega (arith, e, firm))
+            | inr r ↦ inr (row.at.mark ∙ r.mark ∙ sym (at-term S.words.deployment i m t.state row.at), (let a = r.disk in let b = row.at.on_disk in omega (arith, a, b)))
+          ]
+
+    pub row-same : 0 < start_at S i → DiskRow S.words.deployment i (S.sites i) t → DisksHold T M halted
+    row-same up row = row-disks (S.sites i) (own-before up) row (subst (λ n. 0 < n) (sym row.at.start) up) ((H.sites i).keeps up).held (firm-before up) (same-tops row.at.contents)
+
+    -- ---- a site that stops
+
+    pub stops-disks : t.state.start ≡ 0 → t.state.greatest ≡ (S.sites i).greatest → Leaves S i t.state.contents → ((c : ℕ) → AllByRecursion NoStreamStart (t.sends (Site c)))
+        → DisksHold T M halted
+    stops-disks down greatest k none = assembled own tops (λ l. let u = leads-runs l in absurd (omega (arith, u, down)))
+        (λ c _. all-mono NoStreamStart (StreamLetter T c) (no-letter T c) (t.sends (Site c)) (none c))
+      where
+        down-there : start_at T i ≡ 0
+        down-there = ap (λ x. x.start) site ∙ down
+
+        contents : (y : Shown) → In y t.state.contents → C y
+        contents y m = elim (k.from y m) [
+          | inl old ↦ all-at C (shown_at S i) old-contents y old
+          | inr e ↦ subst C (sym e) (none-ok T M halted (part S i))
+        ]
+
+        mark : halted ≡ false → (y : Shown) → In y t.state.contents → mark_of y ≤ t.state.greatest
+        mark e y m = elim (k.from y m) [
+          | inl old ↦ let a = all-at (λ x. mark_of x ≤ (S.sites i).greatest) (shown_at S i) ((K.disks i slot).marks e) y old in omega (arith, a, greatest)
+          | inr none ↦ let a = ap mark_of none in omega (arith, a)
+        ]
+
+        own : DiskOk T M halted i
+        own = record {
+          some = λ e. k.some (ap (λ x. x.contents) (sym site) ∙ e);
+          contents = subst (λ x. AllByRecursion C x.contents) (sym site) (all-from C t.state.contents contents);
+          marks = λ e. subst (λ x. AllByRecursion (λ y. mark_of y ≤ x.greatest) x.contents) (sym site)
+              (all-from (λ y. mark_of y ≤ t.state.greatest) t.state.contents (mark e));
+          member = λ up none. absurd (omega (arith, up, down-there));
+          joiner = λ e j is. let up = ((L.sites i).joiner j is).runs in absurd (omega (arith, up, down-there));
+        }
+
+        tops : (p m n : ℕ) → Top S p m n → Top T p m n
+        tops = elim k.wipes [
+          | inl f ↦ raised-tops f
+          | inr w ↦ wiped-tops w
+        ]
+
+    -- ---- a site that stays as it is
+
+    pub still-disks : t.state ≡ S.sites i → ((c : ℕ) → t.sends (Site c) ≡ []) → DisksHold T M halted
+    still-disks e none = assembled
+        (disk-other S H F M halted K (took S.words.channel from (Site i)) fewer i slot t.state t.sends G L grown raised halts i (site ∙ e) (K.disks i slot))
+        (same-tops (ap (λ x. x.contents) e))
+        (λ l. inl (subst (λ x. x.firm ≤ F (part S i)) (sym e) (firm-before (subst (λ x. 0 < x.start) e (leads-runs l)))))
+        (λ c _. subst (AllByRecursion (StreamLetter T c)) (sym (none c)) tt)
+
+    -- ---- a site that begins
+
+    pub begins-disks : (a : ℕ) → t.state ≡ new_joiner (S.sites i) a → ((c : ℕ) → t.sends (Site c) ≡ []) → DisksHold T M halted
+    begins-disks a e none = assembled
+        (own-after (subst (Own halted C (G.reign (part S i)) (M (part S i))) (sym e) new))
+        (same-tops (ap (λ x. x.contents) e))
+        (λ l. absurd (true≢false (sym l ∙ ap (leads S.words.deployment i) e)))
+        (λ c _. subst (AllByRecursion (StreamLetter T c)) (sym (none c)) tt)
+      where
+        new : Own halted C (G.reign (part S i)) (M (part S i)) (new_joiner (S.sites i) a)
+        new = record {
+          some = (K.disks i slot).some;
+          contents = old-contents;
+          marks = (K.disks i slot).marks;
+          whole = omega arith;
+          member = λ q. absurd (cc);
+          joiner = λ q j is. subst (λ x. OwnStream (new_joiner (S.sites i) a) x x.stream) (same-some is) ((K.disks i slot).marks q);
+        }
+
+  -- ---- what goes on while all is stopped
+
+  pub halts-after : (t : Turn SiteState) (G : Logs) → Holds (after (popped S from i) i t.state t.sends G) → SiteGoes S i t.state
+      → ((c : ℕ) → AllByRecursion (LeadersBegin S.words.deployment i t.state) (t.sends (Site c))) → halted ≡ true → Halted (after (popped S from i) i t.state t.sends G)
+  halts-after t G L goes begins e = halted-site S H (K.halts e) (took S.words.channel from (Site i)) fewer i slot t.state t.sends G L goes begins
+
+  -- behind a turn that leaves the disk, from a state on
+  pub row-goes : (t : Turn SiteState) (m : SiteState) → DiskRow S.words.deployment i m t → m.start ≡ start_at S i
+      → ((j : Joining) → m.joining ≡ Some j → (k : Joining) × ((S.sites i).joining ≡ Some k) × (j.stream ≡ k.stream)) → SiteGoes S i t.state
+  row-goes t m row start joins = inr (inl (
+    row.at.start ∙ start,
+    λ k e.
+        let a = at-was-joiner S.words.deployment i m t.state row.at k e in
+        let b = joins a.0 a.1 in
+        (b.0, b.1, a.2 ∙ b.2),
+  ))
+
+  pub row-begins : (t : Turn SiteState) (m : SiteState) → DiskRow S.words.deployment i m t → AllByRecursion HeldOk m.held
+      → (c : ℕ) → AllByRecursion (LeadersBegin S.words.deployment i t.state) (t.sends (Site c))
+  row-begins t m row held c = all-mono (Begins S.words.deployment i c m t.state) (LeadersBegin S.words.deployment i t.state)
+      (begins-leader S.words.deployment i c m t.state) (t.sends (Site c)) (row.sends held c)
+
+  -- ---- the turns
+
+  pub row-kept : (t : Turn SiteState) → 0 < start_at S i → DiskRow S.words.deployment i (S.sites i) t → Kept S F halted from i t
+  row-kept t up row M G L grown raised = row-same t M G L grown raised
+      (halts-after t G L (row-goes t (S.sites i) row refl (λ j e. (j, e, refl))) (row-begins t (S.sites i) row ((H.sites i).keeps up).held)) up row
+
+  pub still-kept : Kept S F halted from i (becomes (S.sites i))
+  still-kept M G L grown raised = still-disks (becomes (S.sites i)) M G L grown raised
+      (halts-after (becomes (S.sites i)) G L (inr (inl (refl, λ k e. (k, e, refl)))) (λ c. tt)) refl (λ c. refl)
+
+  -- a start that its slot hasn't run with
+  pub begins-kept : (a : ℕ) → (In a (S.logs.ran i) → ⊥) → Kept S F halted from i (sending (new_joiner (S.sites i) a) (only (Scanner i) (open_letter (msg.Start a))))
+  begins-kept a fresh M G L grown raised =
+      let t = sending (new_joiner (S.sites i) a) (only (Scanner i) (open_letter (msg.Start a))) in
+      begins-disks t M G L grown raised (halts-after t G L (inr (inr ((new_joining, refl, refl), fresh))) (λ c. tt)) a refl (λ c. refl)
+
+  pub stops-kept : (t : Turn SiteState) → t.state.start ≡ 0 → t.state.greatest ≡ (S.sites i).greatest → Leaves S i t.state.contents
+      → ((c : ℕ) → AllByRecursion NoStreamStart (t.sends (Site c))) → Kept S F halted from i t
+  stops-kept t down greatest k none M G L grown raised = stops-disks t M G L grown raised
+      (halts-after t G L (inl down) (λ c.
+      all-mono NoStreamStart (LeadersBegin S.words.deployment i t.state) (leaders-letter S.words.deployment i t.state) (t.sends (Site c)) (none c)))
+      down greatest k none
+
+  -- where the disk stays
+  pub leaves-same : Leaves S i (shown_at S i)
+  leaves-same = record { some = (K.disks i slot).some; from = λ y m. inl m; wipes = inl (raise-refl (shown_at S i)) }
+
+  -- a number is noted
+  noted : (stop : ℕ) (plans : List (ℕ × ℕ)) → DiskAt S.words.deployment i (S.sites i) (record (S.sites i) { stop = stop; plans = plans })
+  noted stop plans = record {
+    start = refl;
+    greatest = refl;
+    earlier = refl;
+    view = refl;
+    contents = refl;
+    mark = refl;
+    base = refl;
+    on_disk = refl;
+    log = front-refl (S.sites i).log;
+    member = λ e. e;
+    joiner = λ j e. (j, e, refl, refl);
+    repaired = λ e. e;
+    owes = inl refl;
+    firm = inl refl;
+    held = λ k. k;
+    waiting = λ k. k;
+    counted = λ c k. k;
+  }
+
+  pub noted-kept : (stop : ℕ) (plans : List (ℕ × ℕ)) → Kept S F halted from i (becomes (record (S.sites i) { stop = stop; plans = plans }))
+  noted-kept stop plans = elim (cases_eq (start_at S i) 0) [
+    | inl z ↦ stops-kept (becomes (record (S.sites i) { stop = stop; plans = plans })) z refl leaves-same (λ c. tt)
+    | inr n ↦ row-kept (becomes (record (S.sites i) { stop = stop; plans = plans })) (omega (arith, n))
+        (row-becomes S.words.deployment i (S.sites i) (record (S.sites i) { stop = stop; plans = plans }) (noted stop plans))
+  ]

@@ -1,0 +1,10 @@
+-- Events of agents.
+pub mod Words
+pub mod Decided
+pub mod AgentSends
+pub mod Views
+pub mod Admits
+pub mod AgentTurns
+pub mod AgentWords
+pub mod AgentRows
+pub mod AgentEvents

@@ -1,0 +1,337 @@
+-- An agent takes a message: what holds, holds after all that it does then.
+use Rattle.std.proofs.Common.{◌≡◌, ◌<◌, true, false, List, [], ◌∷◌, ◌++◌, refl, sym, subst, ap, ◌⊎◌, inl, inr, ◌==◌, arith}
+use Rattle.std.proofs.lemmas.Bool.{cases_eq}
+use Rattle.std.proofs.lemmas.Bool.Decides.{nat_tests}
+use Rattle.std.specs.Prelude.{ℕ, ◌&&◌, not, nat_lt, None}
+use Rattle.std.specs.List.{AllByRecursion}
+use Rattle.volt_wire.specs.declared.actor.Actor.{Actor}
+use Rattle.volt_wire.specs.declared.actor.Actor.TheVariants.{Director, Client, Agent, Site, Scanner}
+use Rattle.volt_wire.specs.declared.message.Msg.TheVariants as msg
+use Rattle.cluster_model.specs.Engine.{Database}
+use Rattle.cluster_model.specs.Words.{is_host, term_in}
+use Rattle.cluster_model.specs.Letters.{Letter, Sends, Turn, becomes, open_letter, ◌▸◌, arrival, Arrival, Taken, Refused, Waits, Waiting, of_term, above_term}
+use Rattle.cluster_model.specs.AgentState.{AgentState, new_agent, stops, stops_with_host}
+use Rattle.cluster_model.specs.Agent.{agent_row, row_and_word, unless_stopped, takes_each, takes_waiting, agent_runs, agent_takes, agent_turn, start_after, start_taken, on_start}
+use Rattle.cluster_model.specs.World.{rest}
+use Rattle.cluster_model.specs.Laws.{start_in_letter, starts_in}
+use Rattle.cluster_model.specs.Outside.{Outside, Fair, DiskFails, NoMemory, DisksShow}
+use Rattle.word_laws.specs.Histories as word
+use Rattle.word_laws.specs.Histories.{In, History, Admitted, CameOk, WaitingFrom, WaitingOk}
+use Rattle.word_laws.proofs.Lists.{all-mono, all-append, all-filter, all-if}
+use Rattle.word_laws.proofs.Moves as word_moves
+use Rattle.word_laws.proofs.Moves.{Grows}
+use Rattle.word_laws.proofs.Laters.{waiting-later}
+use Rattle.word_laws.proofs.Worlds.{grows-same}
+use Rattle.word_laws.proofs.Turns.{tells, concludes}
+use Rattle.word_laws.proofs.Arrivals.{Takes, Stops_, Ignores, Runs_, takes-cases, runs-taken, runs-waits, runs-refused, turn-cases, stopped-cases, unless-running, waiting-brings}
+use Rattle.word_laws.proofs.Steps.{pops, waiting-shrinks}
+use Rattle.word_laws.proofs.Rejoins.{with_began, start-grows, start-holds, start-stops-holds}
+use Rattle.word_laws.proofs.Hearings.{Row, none-row, row-grows, row-plain, row-later, others-after, then-assoc, concludes-none}
+use Rattle.word_laws.proofs.AgentEvents.{calm-event, row-event, asked-waiting, came-still, none-taken, none-waited, waits-event, refused-event, ignored-event, stop-pops, stays-holds, comes-first, start-of-body}
+use Rattle.log_laws.specs.Histories.{LogState, AskedOk, Holds}
+use Rattle.log_laws.proofs.Agents.AgentSends.{NoView, NoAdmit, stops-plain, stops-none, stops_with_host-plain}
+use Rattle.log_laws.proofs.Agents.Views.{turned}
+use Rattle.log_laws.proofs.Agents.Admits.{asked-worded}
+use Rattle.log_laws.proofs.Agents.AgentTurns.{Rest, rest-of, holds-of, heard, rest-heard, MayJoin, AgentRow, plain-rest, plain-agent, stay-plain, stay-agent, stopped-agent, then-agent}
+use Rattle.log_laws.proofs.Agents.AgentWords.{concludes-agent, begins-rest}
+use Rattle.log_laws.proofs.Agents.AgentRows.{BringsDecided, may-join, first-agent}
+
+-- ---- a message that comes
+
+-- what a first message asks
+first-asks : (S : LogState) (from : Actor) (n : ℕ) (l : Letter) (ls : List Letter) → Rest S → S.words.channel from (Agent n) ≡ l ∷ ls → AskedOk (heard S from n) from l
+first-asks S (Agent h) n l ls r is = (subst (AllByRecursion (AskedOk S (Agent h))) is (r.loads.asked h n)).0
+first-asks S (Site c) n l ls r is = (subst (AllByRecursion (AskedOk S (Site c))) is (r.loads.told c n)).0
+first-asks S Director n l ls r is = tt
+first-asks S (Client c) n l ls r is = tt
+first-asks S (Scanner x) n l ls r is = tt
+
+-- a message that brings a word may leave its place at once
+decided-pops : (S : LogState) (from : Actor) (n : ℕ) (l : Letter) (ls : List Letter) → word.Holds S.words → S.words.channel from (Agent n) ≡ l ∷ ls → BringsDecided from l
+    → word.Holds (heard S from n).words
+decided-pops S (Agent k) n l ls h is b = (elim l.body as (λ m. S.words.channel (Agent k) (Agent n) ≡ record l { body = m } ∷ ls → BringsDecided (Agent k) (record l { body = m })
+    → word.Holds (heard S (Agent k) n).words) [
+      | msg.Decided w ↦ λ e b. pops S.words k n (record l { body = msg.Decided w }) ls e tt h
+      | m ↦ λ e b. absurd b
+    ]) is b
+decided-pops S Director n l ls h is b = absurd b
+decided-pops S (Client c) n l ls h is b = absurd b
+decided-pops S (Site c) n l ls h is b = absurd b
+decided-pops S (Scanner x) n l ls h is b = absurd b
+
+-- what follows a row, when the agent has said its word
+concluded-agent : (S : LogState) (n : ℕ) (t : Turn AgentState) → AgentRow S n t → AgentRow S n (t ▸ concludes S.words.deployment n)
+concluded-agent S n t r =
+    then-agent S n t (concludes S.words.deployment n) r (concludes-none S.words.deployment n) (concludes-agent (turned S n t.state t.sends r.row.history) n)
+
+-- ---- messages that waited
+
+row-waited : (E : Database) (S : LogState) (n stamp : ℕ) (from : Actor) (l : Letter) → word.Holds S.words → Rest S → 0 < word.start_at S.words n
+    → WaitingFrom S.words n from l → AskedOk S from l
+    → AgentRow S n (unless_stopped E S.words.deployment n stamp (S.words.agents n) from l)
+row-waited E S n stamp from l h r up w asked =
+    let D = S.words.deployment in
+    let a = S.words.agents n in
+    subst (AgentRow S n) (sym (unless-running E D n stamp a from l running))
+    (subst (AgentRow S n) (then-assoc (agent_row E D n stamp a from l) (tells n a.own) (concludes D n))
+    (concluded-agent S n (agent_row E D n stamp a from l ▸ tells n a.own)
+    (first-agent S n r up E stamp from l asked (λ b. h)
+    (calm-event E S.words n stamp from l h up (waiting-brings S.words n from l w) (asked-waiting S.words n from l w) (may-join S n r up from l asked)))))
+  where
+    running : (S.words.agents n).start == 0 ≡ false
+    running = grind (arith, nat_tests, up)
+
+-- what waits and what it asks stay as they are behind a turn
+module _ (S : LogState) (n : ℕ) (t : Turn AgentState) (r : AgentRow S n t) where
+  abbrev V : LogState
+  V = turned S n t.state t.sends r.row.history
+
+  waits-on : (ws : List Waiting) → AllByRecursion (λ x. WaitingFrom S.words n x.from x.letter) ws → AllByRecursion (λ x. WaitingFrom V.words n x.from x.letter) ws
+  waits-on ws k = all-mono _ _ (λ x p. waiting-later S.words V.words n came x.from x.letter p) ws k
+    where
+      came : (h term j : ℕ) → CameOk S.words h n term j → CameOk V.words h n term j
+      came = came-still S.words V.words n (row-later S.words n t r.row) (others-after S.words n t.state t.sends r.row.history)
+
+  asks-on : (ws : List Waiting) → AllByRecursion (λ x. AskedOk S x.from x.letter) ws → AllByRecursion (λ x. AskedOk V x.from x.letter) ws
+  asks-on ws k = all-mono _ _ (λ x p. asked-worded S V.words.agents V.words.channel r.row.history x.from x.letter p) ws k
+
+waited-each : (E : Database) (n stamp : ℕ) (ws : List Waiting) (S : LogState) → word.Holds S.words → Rest S → 0 < word.start_at S.words n
+    → AllByRecursion (λ x. WaitingFrom S.words n x.from x.letter) ws → AllByRecursion (λ x. AskedOk S x.from x.letter) ws
+    → AgentRow S n (takes_each E S.words.deployment n stamp ws (S.words.agents n))
+waited-each E n stamp [] S h r up w asked = stay-agent S n h r up
+waited-each E n stamp (x ∷ xs) S h r up w asked = then-agent S n t (takes_each E S.words.deployment n stamp xs) first (none-taken E S.words.deployment n stamp xs)
+    (λ k q u. waited-each E n stamp xs (V S n t first) k q u (waits-on S n t first xs w.1) (asks-on S n t first xs asked.1))
+  where
+    t : Turn AgentState
+    t = unless_stopped E S.words.deployment n stamp (S.words.agents n) x.from x.letter
+
+    first : AgentRow S n t
+    first = row-waited E S n stamp x.from x.letter h r up w.0 asked.0
+
+-- those of the term that the agent has come to
+waited-agent : (E : Database) (S : LogState) (n stamp : ℕ) → word.Holds S.words → Rest S → 0 < word.start_at S.words n
+    → AgentRow S n (takes_waiting E S.words.deployment n stamp (S.words.agents n))
+waited-agent E S n stamp h r up = then-agent S n t (takes_each E S.words.deployment n stamp ws) first (none-taken E S.words.deployment n stamp ws)
+    (λ k q u. waited-each E n stamp ws (V S n t first) k q u
+    (waits-on S n t first ws (all-filter (WaitingOk S.words n) (λ w. w.letter.term == term) (S.words.agents n).waiting (h.agents n).waiting))
+    (asks-on S n t first ws (all-filter (λ x. AskedOk S x.from x.letter) (λ w. w.letter.term == term) (S.words.agents n).waiting (r.loads.waiting n))))
+  where
+    term : ℕ
+    term = term_in (S.words.agents n).decided
+
+    ws : List Waiting
+    ws = of_term term (S.words.agents n).waiting
+
+    t : Turn AgentState
+    t = becomes (record (S.words.agents n) { waiting = above_term term (S.words.agents n).waiting })
+
+    first : AgentRow S n t
+    first = plain-agent S n t r (row-plain S.words n t (inl (refl, up)) (waiting-shrinks S.words n (λ w. nat_lt term w.letter.term) h)) (record {
+      start = refl;
+      decided = refl;
+      taken = refl;
+      sites = λ c. tt;
+      asked = λ g. tt;
+      heard = λ u c i. r.loads.heard n c u i;
+      waiting = all-filter (λ x. AskedOk S x.from x.letter) (λ w. nat_lt term w.letter.term) (S.words.agents n).waiting (r.loads.waiting n);
+      queued = r.loads.queued n;
+    })
+
+-- ---- a message of a running agent
+
+module _ (E : Database) (S : LogState) (n stamp : ℕ) (from : Actor) (l : Letter) (ls : List Letter) (H : Holds S) (up : 0 < word.start_at S.words n)
+    (is : S.words.channel from (Agent n) ≡ l ∷ ls) where
+  abbrev a : AgentState
+  a = S.words.agents n
+
+  -- the state without the message
+  abbrev P : LogState
+  P = heard S from n
+
+  left : Rest P
+  left = rest-heard S from n (rest-of S H)
+
+  asks : AskedOk P from l
+  asks = first-asks S from n l ls (rest-of S H) is
+
+  -- it is taken, and then those that waited for the term
+  taken-agent : arrival a.start (term_in a.decided) l ≡ Taken → AgentRow P n (row_and_word E S.words.deployment n stamp a from l ▸ takes_waiting E S.words.deployment n stamp)
+  taken-agent e = then-agent P n (row_and_word E S.words.deployment n stamp a from l) (takes_waiting E S.words.deployment n stamp) first (none-waited E S.words.deployment n stamp)
+      (waited-agent E (turned P n t.state t.sends first.row.history) n stamp)
+    where
+      t : Turn AgentState
+      t = row_and_word E S.words.deployment n stamp a from l
+
+      first : AgentRow P n t
+      first = subst (AgentRow P n) (then-assoc (agent_row E S.words.deployment n stamp a from l) (tells n a.own) (concludes S.words.deployment n))
+          (concluded-agent P n (agent_row E S.words.deployment n stamp a from l ▸ tells n a.own)
+          (first-agent P n left up E stamp from l asks (decided-pops S from n l ls H.words is)
+          (row-event E S.words n stamp from l ls H.words up is e (may-join P n left up from l asks))))
+
+  -- it waits for its term
+  waits-agent : arrival a.start (term_in a.decided) l ≡ Waits → AgentRow P n (becomes (record a { waiting = a.waiting ++ record { from = from; letter = l } ∷ [] }))
+  waits-agent e = plain-agent P n (becomes (record a { waiting = a.waiting ++ record { from = from; letter = l } ∷ [] })) left
+      (waits-event S.words n from l ls H.words up is e) (record {
+        start = refl;
+        decided = refl;
+        taken = refl;
+        sites = λ c. tt;
+        asked = λ g. tt;
+        heard = λ u c i. left.loads.heard n c u i;
+        waiting = all-append (λ x. AskedOk P x.from x.letter) a.waiting (record { from = from; letter = l } ∷ []) (left.loads.waiting n) (asks, tt);
+        queued = left.loads.queued n;
+      })
+
+  -- it is dropped
+  dropped-agent : Row (MayJoin P) P.words n (becomes a) → AgentRow P n (becomes a)
+  dropped-agent row = plain-agent P n (becomes a) left row (stay-plain P n left)
+
+  runs-agent : (x : Arrival) → arrival a.start (term_in a.decided) l ≡ x → AgentRow P n (agent_runs E S.words.deployment n stamp a from l)
+  runs-agent Taken e = subst (AgentRow P n) (sym (runs-taken E S.words.deployment n stamp a from l e)) (taken-agent e)
+  runs-agent Waits e = subst (AgentRow P n) (sym (runs-waits E S.words.deployment n stamp a from l e)) (waits-agent e)
+  runs-agent Refused e = subst (AgentRow P n) (sym (runs-refused E S.words.deployment n stamp a from l e)) (dropped-agent (refused-event S.words n from l ls H.words up is e))
+
+  -- it stops
+  stops-agent : (t : Turn AgentState) → t.state ≡ new_agent 0 → ((g : ℕ) → t.sends (Agent g) ≡ (stops S.words.deployment n a.start).sends (Agent g))
+      → ((c : ℕ) → AllByRecursion NoView (t.sends (Site c))) → AgentRow P n t
+  stops-agent t z sends sites = stopped-agent P n t left (none-row (stop-pops S.words from n l ls t is H.words up z sends)) z sites
+      (λ g. subst (AllByRecursion NoAdmit) (sym (sends g)) (stops-none S.words.deployment n a.start g))
+
+  takes-agent : Takes E S.words.deployment n stamp a from l → AgentRow P n (agent_takes E S.words.deployment n stamp a from l)
+  takes-agent (Stops_ e) = subst (AgentRow P n) (sym e) (stops-agent (stops S.words.deployment n a.start) refl (λ g. refl) (stops-plain S.words.deployment n a.start))
+  takes-agent (Ignores e c) = subst (AgentRow P n) (sym e) (dropped-agent (ignored-event S.words n from l ls H.words up is c))
+  takes-agent (Runs_ e c) = subst (AgentRow P n) (sym e) (runs-agent (arrival a.start (term_in a.decided) l) refl)
+
+  running-agent : (o : Outside) → AgentRow P n (agent_turn E S.words.deployment n stamp a from l o)
+  running-agent o = elim (turn-cases E S.words.deployment n stamp a from l o running) [
+    | inl e ↦ subst (AgentRow P n) (sym e)
+        (stops-agent (stops_with_host S.words.deployment n a.start) refl (λ g. refl) (stops_with_host-plain S.words.deployment n a.start))
+    | inr e ↦ subst (AgentRow P n) (sym e) (takes-agent (takes-cases E S.words.deployment n stamp a from l running))
+  ]
+    where
+      running : (a.start == 0) ≡ false
+      running = grind (arith, nat_tests, up)
+
+-- ---- the whole
+
+-- The agent of host n took the first message from this actor, and that is its turn: what holds, holds after it, with a history
+-- of words that grew. The agent has its start still, or no word. Who was admitted was so by it.
+pub record AgentGoes (S : LogState) (n : ℕ) (from : Actor) (t : Turn AgentState) : Type 0 where
+  pub history : History
+  pub grows : Grows S.words.history history
+  pub goes : (t.state.start ≡ word.start_at S.words n) ⊎ (t.state.own ≡ None)
+  pub by : (x : Admitted) → In x history.admitted → In x S.words.history.admitted ⊎ ((x.by ≡ word.start_at S.words n) × (0 < word.start_at S.words n))
+  pub holds : Holds (record S { words = word_moves.after (word_moves.popped S.words from n) n t.state t.sends history })
+
+row-goes : (S : LogState) (n : ℕ) (from : Actor) (t : Turn AgentState) → AgentRow (heard S from n) n t → AgentGoes S n from t
+row-goes S n from t r = record {
+  history = r.row.history;
+  grows = row-grows r.row;
+  goes = elim r.row.goes [
+    | inl e ↦ inl e.0
+    | inr z ↦ inr (ap (λ a. a.own) z)
+  ];
+  by = r.row.by;
+  holds = holds-of (turned (heard S from n) n t.state t.sends r.row.history) r.row.holds r.rest;
+}
+
+-- one that is stopped, and stays so
+stays-goes : (S : LogState) (n : ℕ) (from : Actor) (l : Letter) (ls : List Letter) → Holds S → S.words.channel from (Agent n) ≡ l ∷ ls → word.start_at S.words n ≡ 0
+    → AgentGoes S n from (becomes (S.words.agents n))
+stays-goes S n from l ls h is z = let r = rest-heard S from n (rest-of S h) in record {
+  history = S.words.history;
+  grows = grows-same S.words.history;
+  goes = inl refl;
+  by = λ x i. inl i;
+  holds = holds-of (turned (heard S from n) n (S.words.agents n) (λ b. []) S.words.history) (stays-holds S.words n from l ls h.words is z)
+      (plain-rest (heard S from n) n (becomes (S.words.agents n)) S.words.history r (grows-same S.words.history) r.loads.admitted (stay-plain (heard S from n) n r));
+}
+
+-- the start that comes to it hasn't begun
+module _ (S : LogState) (n s : ℕ) (H : Holds S) (z : word.start_at S.words n ≡ 0) (host : is_host S.words.deployment n ≡ true)
+    (comes : word.starts_to S.words n ≡ s ∷ starts_in (rest (S.words.channel Director (Agent n)))) where
+  begun-rest : (k : ℕ) (out : Sends) → (k ≡ s) ⊎ (k ≡ 0) → ((c : ℕ) → AllByRecursion NoView (out (Site c))) → ((g : ℕ) → AllByRecursion NoAdmit (out (Agent g)))
+      → Rest (turned (heard S Director n) n (new_agent k) out (with_began S.words.history n s))
+  begun-rest k out = begins-rest (heard S Director n) n s k out (rest-heard S Director n (rest-of S H)) some fresh
+    where
+      some : 0 < s
+      some = (subst (AllByRecursion (λ x. (S.words.owner x ≡ n) × (0 < x) × (x < S.words.next))) comes (H.words.hosts n).owned).0.1
+
+      fresh : In s (S.words.history.began n) → ⊥
+      fresh = (subst (AllByRecursion (λ x. In x (S.words.history.began n) → ⊥)) comes (H.words.hosts n).fresh).0
+
+  -- it runs
+  starts-goes : AgentGoes S n Director (on_start S.words.deployment n s)
+  starts-goes = record {
+    history = with_began S.words.history n s;
+    grows = start-grows S.words.history n s;
+    goes = inr refl;
+    by = λ x i. inl i;
+    holds = holds-of (turned (heard S Director n) n (new_agent s) (on_start S.words.deployment n s).sends (with_began S.words.history n s))
+        (start-holds S.words n s H.words z host comes)
+        (begun-rest s (on_start S.words.deployment n s).sends (inl refl) (λ c. tt)
+        (λ g. all-if NoAdmit (is_host S.words.deployment g && not (g == n)) (open_letter (msg.Hello s) ∷ []) [] (tt, tt) tt));
+  }
+
+  -- it has stopped at once
+  ends-goes : AgentGoes S n Director (stops_with_host S.words.deployment n s)
+  ends-goes = record {
+    history = with_began S.words.history n s;
+    grows = start-grows S.words.history n s;
+    goes = inr refl;
+    by = λ x i. inl i;
+    holds = holds-of (turned (heard S Director n) n (new_agent 0) (stops_with_host S.words.deployment n s).sends (with_began S.words.history n s))
+        (start-stops-holds S.words n s H.words z host comes)
+        (begun-rest 0 (stops_with_host S.words.deployment n s).sends (inr refl) (stops_with_host-plain S.words.deployment n s) (stops-none S.words.deployment n s));
+  }
+
+stopped-takes : (E : Database) (S : LogState) (n stamp : ℕ) (from : Actor) (l : Letter) (ls : List Letter) → Holds S → word.start_at S.words n ≡ 0
+    → is_host S.words.deployment n ≡ true
+    → S.words.channel from (Agent n) ≡ l ∷ ls → AgentGoes S n from (agent_takes E S.words.deployment n stamp (S.words.agents n) from l)
+stopped-takes E S n stamp from l ls h z host is = elim (stopped-cases E S.words.deployment n stamp (S.words.agents n) from l (subst (λ x. (x == 0) ≡ true) (sym z) refl)) [
+  | inl e ↦ subst (AgentGoes S n from) (sym e) (stays-goes S n from l ls h is z)
+  | inr c ↦ subst (AgentGoes S n from) (sym c.1.2) (subst (λ f. AgentGoes S n f (on_start S.words.deployment n c.1.0)) (sym c.0)
+      (starts-goes S n c.1.0 h z host (comes-first S.words n c.1.0 l ls (subst (λ f. S.words.channel f (Agent n) ≡ l ∷ ls) c.0 is) (start-of-body l c.1.0 c.1.1))))
+]
+
+-- it finds no memory for a Start
+stopped-memory : (S : LogState) (n : ℕ) (from : Actor) (l : Letter) (ls : List Letter) → Holds S → word.start_at S.words n ≡ 0 → is_host S.words.deployment n ≡ true
+    → S.words.channel from (Agent n) ≡ l ∷ ls → nat_lt 0 (start_after (S.words.agents n) from l) ≡ true
+    → AgentGoes S n from (stops_with_host S.words.deployment n (start_after (S.words.agents n) from l))
+stopped-memory S n from l ls h z host is some =
+    (elim l.body as (λ m. S.words.channel from (Agent n) ≡ record l { body = m } ∷ ls → nat_lt 0 (start_after (S.words.agents n) from (record l { body = m })) ≡ true
+    → AgentGoes S n from (stops_with_host S.words.deployment n (start_after (S.words.agents n) from (record l { body = m })))) [
+      | msg.Start s ↦ λ e u. started from s (record l { body = msg.Start s }) e refl u
+      | m ↦ λ e u. absurd (not-some u)
+    ]) is some
+  where
+    not-some : nat_lt 0 (word.start_at S.words n) ≡ true → ⊥
+    not-some u = let v = subst (λ x. nat_lt 0 x ≡ true) z u in absurd (cc)
+
+    started : (from : Actor) (s : ℕ) (l : Letter) → S.words.channel from (Agent n) ≡ l ∷ ls → start_in_letter l ≡ s ∷ [] → nat_lt 0 (start_taken (S.words.agents n) from s) ≡ true
+        → AgentGoes S n from (stops_with_host S.words.deployment n (start_taken (S.words.agents n) from s))
+    started Director s l e b u = subst (λ k. AgentGoes S n Director (stops_with_host S.words.deployment n k)) (sym taken)
+        (ends-goes S n s h z host (comes-first S.words n s l ls e b))
+      where
+        taken : start_taken (S.words.agents n) Director s ≡ s
+        taken = rw z refl
+    started (Client c) s l e b u = absurd (not-some u)
+    started (Agent g) s l e b u = absurd (not-some u)
+    started (Site i) s l e b u = absurd (not-some u)
+    started (Scanner i) s l e b u = absurd (not-some u)
+
+-- A message of an agent that is there, with any share of the outside's: what holds, holds after its turn.
+pub agent-event : (E : Database) (S : LogState) (n stamp : ℕ) (from : Actor) (l : Letter) (ls : List Letter) (o : Outside) → S.words.channel from (Agent n) ≡ l ∷ ls
+    → is_host S.words.deployment n ≡ true → ((answered : ℕ) → o ≡ NoMemory answered → nat_lt 0 (start_after (S.words.agents n) from l) ≡ true) → Holds S
+    → AgentGoes S n from (agent_turn E S.words.deployment n stamp (S.words.agents n) from l o)
+agent-event E S n stamp from l ls o is host memory h = elim (cases_eq (word.start_at S.words n) 0) [
+  | inl z ↦ stopped o z memory
+  | inr r ↦ row-goes S n from (agent_turn E S.words.deployment n stamp (S.words.agents n) from l o) (running-agent E S n stamp from l ls h (omega (arith, r)) is o)
+]
+  where
+    stopped : (o : Outside) → word.start_at S.words n ≡ 0 → ((answered : ℕ) → o ≡ NoMemory answered → nat_lt 0 (start_after (S.words.agents n) from l) ≡ true)
+        → AgentGoes S n from (agent_turn E S.words.deployment n stamp (S.words.agents n) from l o)
+    stopped Fair z m = stopped-takes E S n stamp from l ls h z host is
+    stopped (DiskFails answered) z m = stopped-takes E S n stamp from l ls h z host is
+    stopped (NoMemory answered) z m = stopped-memory S n from l ls h z host is (m answered refl)
+    stopped (DisksShow shown failed) z m = stopped-takes E S n stamp from l ls h z host is

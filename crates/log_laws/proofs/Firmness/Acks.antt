@@ -1,0 +1,102 @@
+-- The leader notes what a copy or a joiner acknowledged, and counts what is firm.
+use Rattle.std.proofs.Common.{◌≡◌, ◌<◌, ◌≤◌, Bool, true, false, ◌∷◌, refl, sym, subst, ap, ◌∙◌, inl, inr, ◌==◌, arith}
+use Rattle.std.proofs.lemmas.Bool.{cases_eq, eqb-true}
+use Rattle.std.specs.Prelude.{ℕ, not, if◌then◌else◌, filter, map, length}
+use Rattle.cluster_model.specs.Words.{is_in}
+use Rattle.cluster_model.specs.Letters.{no_sends, becomes}
+use Rattle.cluster_model.specs.SiteState.{Joiner, is_leader, other_copies}
+use Rattle.cluster_model.specs.Site.{with_position, noted, counts, on_ack}
+use Rattle.word_laws.specs.Histories.{Distinct}
+use Rattle.word_laws.proofs.Lists.{all-at, all-from, all-filter, all-if, in-map-from}
+use Rattle.log_laws.specs.Histories.{LogState, Holds, IsSlot, WasIn, AckOk, CountedOk, KeepsOk, part, start_at, log_at, term_at}
+use Rattle.log_laws.proofs.Kept.Moves.{Goes}
+use Rattle.log_laws.proofs.Kept.Terms.{one-in, was-been}
+use Rattle.log_laws.proofs.Kept.Plumbing.{goes-then, goes-same}
+use Rattle.log_laws.proofs.Kept.Rests.{SiteRests, map-joiners, map-slots, part-from, reach-same, site-same, says-nothing, rests-goes}
+use Rattle.log_laws.proofs.Firmness.Firm.{counts-goes}
+
+-- Where the earlier starts of a slot that runs had lower terms, its own start is the one that was in the term.
+pub runs-in : (S : LogState) → Holds S → (c t a : ℕ) → WasIn S c t a → 0 < start_at S c → (S.sites c).earlier < t → start_at S c ≡ a
+runs-in S H c t a was up low = elim (cases_eq (start_at S c) a) [
+  | inl e ↦ e
+  | inr n ↦ let k = (was-been S H c t a was).others up n in absurd (omega (arith, k, low))
+]
+
+-- ---- the position of a joiner
+
+position-slot : (slot position : ℕ) (j : Joiner) → (with_position slot position j).slot ≡ j.slot
+position-slot slot position j = choice (j.slot == slot)
+  where
+    choice : (b : Bool) → (if b then record j { position = position } else j).slot ≡ j.slot
+    choice true = refl
+    choice false = refl
+
+position-start : (slot position : ℕ) (j : Joiner) → (with_position slot position j).start ≡ j.start
+position-start slot position j = choice (j.slot == slot)
+  where
+    choice : (b : Bool) → (if b then record j { position = position } else j).start ≡ j.start
+    choice true = refl
+    choice false = refl
+
+position-nj : (slot position : ℕ) (j : Joiner) → (with_position slot position j).nj ≡ j.nj
+position-nj slot position j = choice (j.slot == slot)
+  where
+    choice : (b : Bool) → (if b then record j { position = position } else j).nj ≡ j.nj
+    choice true = refl
+    choice false = refl
+
+module _ (T : LogState) (H : Holds T) (i slot position : ℕ) (up : 0 < start_at T i) (ack : AckOk T slot (term_at T i) position) where
+  -- with what its slot acknowledged it is counted as before
+  position-counted : (j : Joiner) → CountedOk T (part T i) (term_at T i) j → CountedOk T (part T i) (term_at T i) (with_position slot position j)
+  position-counted j k = choice (j.slot == slot) refl
+    where
+      here : AckOk T j.slot (term_at T i) position → start_at T j.slot ≡ j.start → (T.sites j.slot).earlier < term_at T i → position ≤ length (log_at T j.slot)
+      here a runs low = a.now (runs-in T H j.slot (term_at T i) a.start a.was (let some = k.been.some in omega (arith, some, runs)) low)
+
+      choice : (b : Bool) → (j.slot == slot) ≡ b → CountedOk T (part T i) (term_at T i) (if b then record j { position = position } else j)
+      choice true e = let mine = subst (λ c. AckOk T c (term_at T i) position) (sym (eqb-true j.slot slot e)) ack in record {
+        been = k.been;
+        part_is = k.part_is;
+        reached = k.reached;
+        position = λ runs low. let m = here mine runs low in omega (arith, m);
+        later = λ x streamed start u f above entered same. let m = mine.later u f above entered
+            (same ∙ sym start ∙ one-in T H j.slot (term_at T i) x.start mine.start (inr (x, streamed, refl)) mine.was) in omega (arith, m);
+      }
+      choice false e = k
+
+  noted-rests : SiteRests T T.logs.reach i (noted T.words.deployment i (T.sites i) slot position)
+  noted-rests = record {
+    is = refl;
+    member = λ e. e;
+    joiner = (site-same T H i T.logs.reach i).joiner;
+    counts = inl (refl, refl);
+    acks = λ _. all-if (λ a. IsSlot T a.0 → AckOk T a.0 (term_at T i) a.1) (is_in slot (other_copies T.words.deployment i (T.sites i)))
+        ((slot, position) ∷ filter (λ a. not (a.0 == slot)) (T.sites i).acks) (T.sites i).acks
+        (λ _. ack, all-filter (λ a. IsSlot T a.0 → AckOk T a.0 (term_at T i) a.1) (λ a. not (a.0 == slot)) (T.sites i).acks k.acks) k.acks;
+    joiners = λ _. all-from (CountedOk T (part T i) (term_at T i)) (map (with_position slot position) (T.sites i).joiners) (λ j here.
+        let r = in-map-from (with_position slot position) j (T.sites i).joiners here in
+        subst (CountedOk T (part T i) (term_at T i)) r.2 (position-counted r.0 (all-at (CountedOk T (part T i) (term_at T i)) (T.sites i).joiners k.joiners r.0 r.1)));
+    alone = λ _. subst Distinct (sym (map-slots (with_position slot position) (position-slot slot position) (T.sites i).joiners)) k.alone;
+    leads = λ _. elim k.leads [
+      | inl e ↦ inl (ap (map (with_position slot position)) e)
+      | inr e ↦ inr e
+    ];
+    counted = map-joiners (with_position slot position) (position-slot slot position) (position-start slot position) (position-nj slot position) (T.sites i).joiners;
+    on_disk = λ _. k.on_disk;
+    held = λ _. k.held;
+  }
+    where
+      k : KeepsOk T i
+      k = (H.sites i).keeps up
+
+  noted-goes : Goes T i (becomes (noted T.words.deployment i (T.sites i) slot position))
+  noted-goes = rests-goes T H i (noted T.words.deployment i (T.sites i) slot position) no_sends T.logs.reach noted-rests (reach-same T H) (says-nothing T H i)
+
+  -- Ack
+  pub on_ack-goes : Goes T i (on_ack T.words.deployment i (T.sites i) slot position)
+  on_ack-goes = choice (is_leader T.words.deployment i (T.sites i))
+    where
+      choice : (b : Bool) → Goes T i (if b then counts T.words.deployment i (noted T.words.deployment i (T.sites i) slot position) else becomes (T.sites i))
+      choice true = goes-then T i (becomes (noted T.words.deployment i (T.sites i) slot position)) (counts T.words.deployment i) noted-goes
+          (part-from T i (noted T.words.deployment i (T.sites i) slot position) (λ D s. counts D i s) (λ S K u. counts-goes S K i u) up)
+      choice false = goes-same T i H

@@ -1,0 +1,351 @@
+-- A site takes a block, the end of a stream or of a scan: a joiner may have loaded all then.
+use Rattle.std.proofs.Common.{Bool, List, ap, append-nil, arith, false, inl, inr, refl, subst, sym, true, true≢false, ◌≡◌, ◌++◌, ◌∷◌, ◌∙◌, ◌⊎◌, ◌<◌, ◌≤◌, ◌==◌, [], ◌+◌}
+use Rattle.std.proofs.lemmas.Bool.{and_parts}
+use Rattle.std.proofs.lemmas.List.{length-append}
+use Rattle.std.specs.List.{AllByRecursion}
+use Rattle.std.specs.Prelude.{None, Option, Some, is_some, length, map, not, ◌&&◌, if◌then◌else◌, ℕ}
+use Rattle.volt_base.specs.declared.entry.Entry.{Entry}
+use Rattle.volt_wire.specs.Word.{Membership}
+use Rattle.cluster_model.specs.Letters.{Letter, becomes}
+use Rattle.cluster_model.specs.Site.{finishes_load, may_finish, on_chunk, on_scan_end, on_stream_end, with_count, with_joining}
+use Rattle.cluster_model.specs.SiteState.{ForBase, ForJoiner, Joiner, Joining, Scanning, SiteState, Streamed}
+use Rattle.cluster_model.specs.Words.{is_some_of, term_in, term_of}
+use Rattle.word_laws.proofs.Lists.{in-map, in-map-from, none-and-some, same-some, set-here, set-there}
+use Rattle.word_laws.specs.Histories.{Distinct, In}
+use Rattle.log_laws.specs.Histories.{CountedOk, EndOk, Holds, JoinerOk, KeepsOk, LogState, MemberOk, StreamIn, Took, asked, asks_in, asks_of_term, asks_waiting, between, log_at, part, start_at, term_at}
+use Rattle.log_laws.proofs.Kept.Asked.{AtMost, asks-at, asks-of-same, at-most-same}
+use Rattle.log_laws.proofs.Kept.Keeps.{Still}
+use Rattle.log_laws.proofs.Kept.Moves.{Goes}
+use Rattle.log_laws.proofs.Kept.OneSite.{LessTo, Takes, becomes-goes, counts-on, same-counts, same-uncounts, takes-asks, takes-holds, takes-joined, takes-joiner, takes-joiner-same, takes-joiners, takes-keeps, takes-kept, takes-letters, takes-member, takes-stream, takes-took, takes-untaken, takes-word, takes-wordless, uncounts-on, with-site}
+use Rattle.log_laws.proofs.Kept.Plumbing.{goes-same}
+use Rattle.log_laws.proofs.Kept.Steady.{GoesOn}
+
+-- ---- a site changes with nothing under way
+
+module _ (S : LogState) (H : Holds S) (i : ℕ) (up : 0 < start_at S i) (s : SiteState) (g : GoesOn (S.sites i) s) (asks : s.asks ≡ (S.sites i).asks)
+    (each : (j : Joiner) → In j (S.sites i).joiners → (n : Joiner) × In n s.joiners × (n.slot ≡ j.slot) × (n.start ≡ j.start) × (n.nj ≡ j.nj))
+    (back : (n : Joiner) → In n s.joiners → (j : Joiner) × In j (S.sites i).joiners × (j.slot ≡ n.slot) × (j.start ≡ n.start)) where
+  pub alone-takes : Takes S i s S.words.channel S.pending S.logs.streamed
+  alone-takes = record {
+    up = up;
+    goes = g;
+    others = λ a c n. refl;
+    agents = λ h b. refl;
+    told = λ c h. refl;
+    director = λ h. refl;
+    pending = λ c n. refl;
+    streamed = λ c t n. refl;
+    stays = λ t x is. is;
+    fresh = λ t x is. inl is;
+    asks = asks-at S (with-site S i s S.words.channel S.pending S.logs.streamed) i (λ l n. (set-there S.sites i s l n, refl, λ c. refl)) (λ c t.
+        subst (λ x. AtMost (asked S c i t) (asks_in t (between S c i) ++ asks_waiting c t x.waiting ++ asks_waiting c t (S.pending i) ++ asks_of_term c t x))
+        (sym (set-here S.sites i s))
+        (rw (g.waiting, asks-of-same c t (S.sites i) s g.view asks) (at-most-same (asked S c i t))));
+    counted = counts-on S i s S.words.channel S.pending S.logs.streamed g each;
+    uncounted = uncounts-on S i s S.words.channel S.pending S.logs.streamed g back;
+  }
+
+  pub alone-less : LessTo S i S.words.channel
+  alone-less = record { lines = λ l a t. refl; flows = λ l a t e. e; ends = λ l a t e. e }
+
+  pub alone-goes : ((w : Membership) → (S.sites i).joining ≡ None → MemberOk S i w → MemberOk (with-site S i s S.words.channel S.pending S.logs.streamed) i w)
+      → ((j : Joining) → s.joining ≡ Some j → JoinerOk (with-site S i s S.words.channel S.pending S.logs.streamed) i j)
+      → (KeepsOk S i → KeepsOk (with-site S i s S.words.channel S.pending S.logs.streamed) i)
+      → Goes S i (becomes s)
+  alone-goes member joiner keeps = becomes-goes S i s S.logs.streamed g.start g.view
+      (takes-holds S H i s S.words.channel S.pending S.logs.streamed alone-takes member joiner keeps
+      (λ l slot. takes-letters S H i s S.words.channel S.pending S.logs.streamed alone-takes (λ t. refl) l (λ a t nj b. b) (between S l i) (H.letters l i slot))
+      (λ from. H.foreign from i)
+      (takes-stream S H i s S.words.channel S.pending S.logs.streamed alone-takes))
+
+-- ---- a joiner loads
+
+-- the site with this load and this log
+abbrev pub with-load : SiteState → Joining → List Entry → SiteState
+with-load s n log = record s { joining = Some n; log = log }
+
+-- What is so of the load of a joiner that took its stream, from which it goes on to another one with this log.
+pub record LoadsOn (S : LogState) (i : ℕ) (j n : Joining) (log : List Entry) (w : Membership) (nj : ℕ) : Type 0 where
+  pub whole : log ++ n.tasks ≡ log_at S i ++ j.tasks
+  pub loading : n.is_loaded ≡ false → length log ≡ nj
+  pub loaded : n.is_loaded ≡ true → n.tasks ≡ []
+  pub ends : (n.is_loaded ≡ true ⊎ is_some n.count ≡ true) → nj ≤ S.logs.reach (part S i) (term_of w)
+
+pub load-on : (s : SiteState) (j n : Joining) (log : List Entry) → s.joining ≡ Some j → length s.log ≤ length log → (j.is_based ≡ true → n.is_based ≡ true)
+    → GoesOn s (with-load s n log)
+load-on s j n log is longer based = record {
+  start = refl;
+  greatest = refl;
+  earlier = refl;
+  view = refl;
+  acks = refl;
+  reports = refl;
+  held = refl;
+  waiting = refl;
+  log = longer;
+  member = λ e. absurd (none-and-some e is);
+  joins = λ x e. (n, refl);
+  loaded = λ x e. (j, is, λ b. subst (λ z. z.is_based ≡ true) (same-some e) (based b));
+}
+
+module _ (S : LogState) (H : Holds S) (i : ℕ) (up : 0 < start_at S i) (j n : Joining) (log : List Entry) (is : (S.sites i).joining ≡ Some j)
+    (longer : length (log_at S i) ≤ length log) (loaded : j.is_loaded ≡ true → n.is_loaded ≡ true) where
+  load-goes : n.has_told ≡ j.has_told → n.is_based ≡ j.is_based → n.stream ≡ j.stream
+      → (j.stream ≡ None → (n.is_loaded ≡ j.is_loaded) × (n.count ≡ j.count) × (n.tasks ≡ j.tasks) × (log ≡ log_at S i))
+      → ((w : Membership) (nj : ℕ) → (S.sites i).view ≡ Some w → Took S i w j nj → LoadsOn S i j n log w nj)
+      → Goes S i (becomes (with-load (S.sites i) n log))
+  load-goes told based stream untaken took = becomes-goes S i s S.logs.streamed refl refl
+      (takes-joined S H i s S.words.channel S.pending S.logs.streamed k j n is refl refl refl (λ h. let d = h.on_disk in omega (arith, d, longer)) (λ h. h)
+      (takes-joiner S H i s S.words.channel S.pending S.logs.streamed k j n refl
+      (λ e. loaded (old.told (sym told ∙ e))) (λ e. loaded (old.based (sym based ∙ e)))
+      (λ w view h. takes-word S H i s S.words.channel S.pending S.logs.streamed k less w j n
+      (λ u. subst (StreamIn T i w n) (sym stream) (in-stream w view j.stream refl u)) h)
+      (λ none h. let u = untaken h.stream in
+      takes-wordless S H i s S.words.channel S.pending S.logs.streamed k j n stream u.0 u.1 u.2 u.3 refl (λ t. refl) h) old)
+      (λ l slot. takes-letters S H i s S.words.channel S.pending S.logs.streamed k (λ t. refl) l (λ a t nj b. b) (between S l i) (H.letters l i slot))
+      (λ from. H.foreign from i)
+      (takes-stream S H i s S.words.channel S.pending S.logs.streamed k))
+    where
+      s : SiteState
+      s = with-load (S.sites i) n log
+
+      T : LogState
+      T = with-site S i s S.words.channel S.pending S.logs.streamed
+
+      each : (x : Joiner) → In x (S.sites i).joiners → (y : Joiner) × In y s.joiners × (y.slot ≡ x.slot) × (y.start ≡ x.start) × (y.nj ≡ x.nj)
+      each = same-counts (S.sites i).joiners s.joiners refl
+
+      back : (y : Joiner) → In y s.joiners → (x : Joiner) × In x (S.sites i).joiners × (x.slot ≡ y.slot) × (x.start ≡ y.start)
+      back = same-uncounts (S.sites i).joiners s.joiners refl
+
+      k : Takes S i s S.words.channel S.pending S.logs.streamed
+      k = alone-takes S H i up s (load-on (S.sites i) j n log is longer (λ b. based ∙ b)) refl each back
+
+      less : LessTo S i S.words.channel
+      less = alone-less S H i up s (load-on (S.sites i) j n log is longer (λ b. based ∙ b)) refl each back
+
+      old : JoinerOk S i j
+      old = (H.sites i).joiner j is
+
+      in-stream : (w : Membership) → (S.sites i).view ≡ Some w → (o : Option Streamed) → j.stream ≡ o → StreamIn S i w j o → StreamIn T i w n o
+      in-stream w view None e h = let u = untaken e in
+          takes-untaken S H i s S.words.channel S.pending S.logs.streamed k less (λ t. refl) w j n u.0 u.1 u.2 u.3 refl (λ l f low. refl) h
+      in-stream w view (Some x) e h = let u = took w x.nj view h in
+          takes-took S H i s S.words.channel S.pending S.logs.streamed k w j n x.nj h h.more h.flow_is (ap (λ z. z ++ h.more) u.whole ∙ h.whole) u.loading u.loaded u.ends refl
+
+-- ---- with all blocks its load is finished
+
+module _ (S : LogState) (H : Holds S) (i : ℕ) (up : 0 < start_at S i) (j n : Joining) (is : (S.sites i).joining ≡ Some j)
+    (stream : n.stream ≡ j.stream) (loads : n.is_loaded ≡ j.is_loaded) (tasks : n.tasks ≡ j.tasks) (based : n.is_based ≡ j.is_based) (told : n.has_told ≡ j.has_told)
+    (counts : j.stream ≡ None → n.count ≡ j.count)
+    (ends : (w : Membership) (nj : ℕ) → (S.sites i).view ≡ Some w → Took S i w j nj → is_some n.count ≡ true → nj ≤ S.logs.reach (part S i) (term_of w)) where
+  finish-goes : Goes S i (becomes (finishes_load (S.sites i) n))
+  finish-goes = choice (may_finish n) refl
+    where
+      done : Joining
+      done = record n { is_loaded = true; tasks = [] }
+
+      parts : may_finish n ≡ true → (is_some n.stream ≡ true) × (is_some n.count ≡ true)
+      parts e =
+          let p = and_parts (is_some n.stream && not n.is_loaded) (is_some_of n.count n.blocks) e in
+          let q = and_parts (is_some n.stream) (not n.is_loaded) p.0 in
+          (q.0, some n.count p.1)
+        where
+          some : (o : Option ℕ) → is_some_of o n.blocks ≡ true → is_some o ≡ true
+          some None e = absurd (true≢false (sym e))
+          some (Some x) e = refl
+
+      choice : (b : Bool) → may_finish n ≡ b → Goes S i (becomes (if b then with-load (S.sites i) done (log_at S i ++ n.tasks) else with_joining (S.sites i) n))
+      choice true e = load-goes S H i up j done (log_at S i ++ n.tasks) is (rw (length-append (log_at S i) n.tasks) (omega arith)) (λ _. refl) told based stream
+          (λ none. absurd (true≢false (sym (parts e).0 ∙ ap is_some (stream ∙ none))))
+          (λ w nj view h. record {
+            whole = append-nil (log_at S i ++ n.tasks) ∙ ap (λ z. log_at S i ++ z) tasks;
+            loading = λ no. absurd (true≢false no);
+            loaded = λ _. refl;
+            ends = λ _. ends w nj view h (parts e).1;
+          })
+      choice false e = load-goes S H i up j n (log_at S i) is (omega arith) (λ l. loads ∙ l) told based stream
+          (λ none. (loads, counts none, tasks, refl))
+          (λ w nj view h. record {
+            whole = ap (λ z. log_at S i ++ z) tasks;
+            loading = λ no. h.loading (sym loads ∙ no);
+            loaded = λ whole. tasks ∙ h.loaded (sym loads ∙ whole);
+            ends = λ some. elim some [
+              | inl whole ↦ h.ends (inl (sym loads ∙ whole))
+              | inr known ↦ ends w nj view h known
+            ];
+          })
+
+-- the end of a stream
+pub stream-end-goes : (S : LogState) → Holds S → (i c : ℕ) (x : Letter) (count : ℕ) → 0 < start_at S i → x.start ≡ start_at S i → x.term ≡ term_at S i → EndOk S c i x
+    → Goes S i (becomes (on_stream_end (S.sites i) (S.sites i).joining count))
+stream-end-goes S H i c x count up start term e = go (S.sites i).joining refl
+  where
+    go : (o : Option Joining) → (S.sites i).joining ≡ o → Goes S i (becomes (on_stream_end (S.sites i) o count))
+    go None none = goes-same S i H
+    go (Some j) is = choice (is_some j.stream) refl
+      where
+        n : Joining
+        n = record j { count = Some count }
+
+        ends : (w : Membership) (nj : ℕ) → (S.sites i).view ≡ Some w → Took S i w j nj → is_some n.count ≡ true → nj ≤ S.logs.reach (part S i) (term_of w)
+        ends w nj view h _ =
+            let same-term : x.term ≡ term_of w = term ∙ ap term_in view in
+            let at = e.taken (sym start) (sym term) (record { start = start_at S i; nj = nj }) (ap (S.logs.streamed i) same-term ∙ h.streamed) (sym start) in
+            let low = subst (λ t. e.nj ≤ S.logs.reach (part S i) t) same-term e.everywhere in
+            omega (arith, at, low)
+
+        choice : (b : Bool) → is_some j.stream ≡ b → Goes S i (becomes (if b then finishes_load (S.sites i) n else S.sites i))
+        choice true some = finish-goes S H i up j n is refl refl refl refl refl (λ none. absurd (true≢false (sym some ∙ ap is_some none))) ends
+        choice false none = goes-same S i H
+
+-- ---- a block, and the end of a scan
+
+-- a site that stays as it was, but for what it keeps
+still-goes : (S : LogState) (H : Holds S) (i : ℕ) (up : 0 < start_at S i) (s : SiteState) (g : GoesOn (S.sites i) s) → Still (S.sites i) s → (asks : s.asks ≡ (S.sites i).asks)
+    → (each : (j : Joiner) → In j (S.sites i).joiners → (n : Joiner) × In n s.joiners × (n.slot ≡ j.slot) × (n.start ≡ j.start) × (n.nj ≡ j.nj))
+    → (back : (n : Joiner) → In n s.joiners → (j : Joiner) × In j (S.sites i).joiners × (j.slot ≡ n.slot) × (j.start ≡ n.start))
+    → (KeepsOk S i → KeepsOk (with-site S i s S.words.channel S.pending S.logs.streamed) i) → Goes S i (becomes s)
+still-goes S H i up s g still asks each back keeps = alone-goes S H i up s g asks each back
+    (λ w none h. takes-member S H i s S.words.channel S.pending S.logs.streamed k less still w h)
+    (λ j is. takes-joiner-same S H i s S.words.channel S.pending S.logs.streamed k less still (λ t. refl) (λ w view l f low. refl) j
+    ((H.sites i).joiner j (sym still.joining ∙ is)))
+    keeps
+  where
+    k : Takes S i s S.words.channel S.pending S.logs.streamed
+    k = alone-takes S H i up s g asks each back
+
+    less : LessTo S i S.words.channel
+    less = alone-less S H i up s g asks each back
+
+-- it goes on with another scan, or none, and counts so
+abbrev scans : SiteState → Option Scanning → List Joiner → SiteState
+scans s scanning js = record s { scanning = scanning; joiners = js }
+
+scans-on : (s : SiteState) (scanning : Option Scanning) (js : List Joiner) → GoesOn s (scans s scanning js)
+scans-on s scanning js = record {
+  start = refl;
+  greatest = refl;
+  earlier = refl;
+  view = refl;
+  acks = refl;
+  reports = refl;
+  held = refl;
+  waiting = refl;
+  log = omega arith;
+  member = λ e. e;
+  joins = λ j e. (j, e);
+  loaded = λ j e. (j, e, λ l. l);
+}
+
+scans-still : (s : SiteState) (scanning : Option Scanning) (js : List Joiner) → Still s (scans s scanning js)
+scans-still s scanning js = record { start = refl; greatest = refl; earlier = refl; view = refl; joining = refl; log = refl; floor = refl; repaired = refl; firm = refl }
+
+scan-goes : (S : LogState) → Holds S → (i : ℕ) → 0 < start_at S i → (scanning : Option Scanning) → Goes S i (becomes (record (S.sites i) { scanning = scanning }))
+scan-goes S H i up scanning = still-goes S H i up s (scans-on (S.sites i) scanning (S.sites i).joiners) (scans-still (S.sites i) scanning (S.sites i).joiners) refl each back
+    (takes-kept S H i s S.words.channel S.pending S.logs.streamed
+    (alone-takes S H i up s (scans-on (S.sites i) scanning (S.sites i).joiners) refl each back) refl refl (λ e. e) (λ h. h.on_disk) (λ h. h))
+  where
+    s : SiteState
+    s = record (S.sites i) { scanning = scanning }
+
+    each : (x : Joiner) → In x (S.sites i).joiners → (y : Joiner) × In y s.joiners × (y.slot ≡ x.slot) × (y.start ≡ x.start) × (y.nj ≡ x.nj)
+    each = same-counts (S.sites i).joiners s.joiners refl
+
+    back : (y : Joiner) → In y s.joiners → (x : Joiner) × In x (S.sites i).joiners × (x.slot ≡ y.slot) × (x.start ≡ y.start)
+    back = same-uncounts (S.sites i).joiners s.joiners refl
+
+-- with the number of blocks that a joiner was sent it is the same one
+pub record SameJoiner (j n : Joiner) : Type 0 where
+  pub slot : n.slot ≡ j.slot
+  pub start : n.start ≡ j.start
+  pub nj : n.nj ≡ j.nj
+  pub position : n.position ≡ j.position
+
+pub with_count-same : (slot count : ℕ) (j : Joiner) → SameJoiner j (with_count slot count j)
+with_count-same slot count j = choice (j.slot == slot)
+  where
+    choice : (b : Bool) → SameJoiner j (if b then record j { count = Some count } else j)
+    choice true = record { slot = refl; start = refl; nj = refl; position = refl }
+    choice false = record { slot = refl; start = refl; nj = refl; position = refl }
+
+pub counted-same : (S : LogState) (p t : ℕ) (j n : Joiner) → SameJoiner j n → CountedOk S p t j → CountedOk S p t n
+counted-same S p t j n e k = record {
+  been = rw (e.slot, e.start) k.been;
+  part_is = rw e.slot k.part_is;
+  reached = rw (e.slot, e.start) k.reached;
+  position = rw (e.slot, e.start, e.nj, e.position) k.position;
+  later = rw (e.slot, e.start, e.nj, e.position) k.later;
+}
+
+module _ (f : Joiner → Joiner) (same : (j : Joiner) → SameJoiner j (f j)) where
+  pub counted-mapped : (S : LogState) (p t : ℕ) (js : List Joiner) → AllByRecursion (CountedOk S p t) js → AllByRecursion (CountedOk S p t) (map f js)
+  counted-mapped S p t [] h = tt
+  counted-mapped S p t (j ∷ js) h = (counted-same S p t j (f j) (same j) h.0, counted-mapped S p t js h.1)
+
+  pub slots-mapped : (js : List Joiner) → map (λ j. j.slot) (map f js) ≡ map (λ j. j.slot) js
+  slots-mapped [] = refl
+  slots-mapped (j ∷ js) = λ i. (same j).slot i ∷ slots-mapped js i
+
+  pub each-mapped : (js : List Joiner) → (j : Joiner) → In j js → (n : Joiner) × In n (map f js) × (n.slot ≡ j.slot) × (n.start ≡ j.start) × (n.nj ≡ j.nj)
+  each-mapped js j is = (f j, in-map f j js is, (same j).slot, (same j).start, (same j).nj)
+
+  pub back-mapped : (js : List Joiner) → (n : Joiner) → In n (map f js) → (j : Joiner) × In j js × (j.slot ≡ n.slot) × (j.start ≡ n.start)
+  back-mapped js n is = let r = in-map-from f n js is in
+      (r.0, r.1, sym (same r.0).slot ∙ ap (λ x. x.slot) r.2, sym (same r.0).start ∙ ap (λ x. x.start) r.2)
+
+scan_end-joiners : (S : LogState) → Holds S → (i : ℕ) → 0 < start_at S i → (slot count : ℕ)
+    → Goes S i (becomes (record (S.sites i) { scanning = None; joiners = map (with_count slot count) (S.sites i).joiners }))
+scan_end-joiners S H i up slot count = still-goes S H i up s (scans-on (S.sites i) None js) (scans-still (S.sites i) None js) refl each back
+    (λ h. takes-keeps S H i s S.words.channel S.pending S.logs.streamed k h
+    (counted-mapped (with_count slot count) (with_count-same slot count) (with-site S i s S.words.channel S.pending S.logs.streamed) (part S i) (term_at S i) (S.sites i).joiners
+    (takes-joiners S H i s S.words.channel S.pending S.logs.streamed k (S.sites i).joiners h.joiners))
+    (subst Distinct (sym (slots-mapped (with_count slot count) (with_count-same slot count) (S.sites i).joiners)) h.alone)
+    (elim h.leads [ inl none ↦ inl (ap (map (with_count slot count)) none) | inr is ↦ inr is ])
+    (takes-asks S H i s S.words.channel S.pending S.logs.streamed k (S.sites i).asks h.asks) h.pending h.on_disk)
+  where
+    js : List Joiner
+    js = map (with_count slot count) (S.sites i).joiners
+
+    s : SiteState
+    s = scans (S.sites i) None js
+
+    each : (x : Joiner) → In x (S.sites i).joiners → (y : Joiner) × In y s.joiners × (y.slot ≡ x.slot) × (y.start ≡ x.start) × (y.nj ≡ x.nj)
+    each = each-mapped (with_count slot count) (with_count-same slot count) (S.sites i).joiners
+
+    back : (y : Joiner) → In y s.joiners → (x : Joiner) × In x (S.sites i).joiners × (x.slot ≡ y.slot) × (x.start ≡ y.start)
+    back = back-mapped (with_count slot count) (with_count-same slot count) (S.sites i).joiners
+
+    k : Takes S i s S.words.channel S.pending S.logs.streamed
+    k = alone-takes S H i up s (scans-on (S.sites i) None js) refl each back
+
+-- the end of a scan
+pub scan-end-goes : (S : LogState) → Holds S → (i id count : ℕ) → 0 < start_at S i → Goes S i (becomes (on_scan_end (S.sites i) (S.sites i).scanning id count))
+scan-end-goes S H i id count up = go (S.sites i).scanning
+  where
+    go : (o : Option Scanning) → Goes S i (becomes (on_scan_end (S.sites i) o id count))
+    go None = goes-same S i H
+    go (Some (ForJoiner own slot)) = choice (own == id)
+      where
+        choice : (b : Bool) → Goes S i (becomes (if b then record (S.sites i) { scanning = None; joiners = map (with_count slot count) (S.sites i).joiners } else S.sites i))
+        choice true = scan_end-joiners S H i up slot count
+        choice false = goes-same S i H
+    go (Some (ForBase own position blocks written ended)) = choice (own == id)
+      where
+        choice : (b : Bool) → Goes S i (becomes (if b then record (S.sites i) { scanning = Some (ForBase own position blocks written (Some count)) } else S.sites i))
+        choice true = scan-goes S H i up (Some (ForBase own position blocks written (Some count)))
+        choice false = goes-same S i H
+
+-- a block
+pub chunk-goes : (S : LogState) → Holds S → (i id : ℕ) → 0 < start_at S i → Goes S i (becomes (on_chunk (S.sites i) (S.sites i).joining (S.sites i).scanning id))
+chunk-goes S H i id up = go (S.sites i).joining refl (S.sites i).scanning
+  where
+    go : (o : Option Joining) → (S.sites i).joining ≡ o → (scanning : Option Scanning) → Goes S i (becomes (on_chunk (S.sites i) o scanning id))
+    go (Some j) is scanning = finish-goes S H i up j (record j { blocks = j.blocks + 1 }) is refl refl refl refl refl (λ none. refl) (λ w nj view h some. h.ends (inr some))
+    go None none None = goes-same S i H
+    go None none (Some (ForJoiner own slot)) = goes-same S i H
+    go None none (Some (ForBase own position blocks written count)) = choice (own == id)
+      where
+        choice : (b : Bool) → Goes S i (becomes (if b then record (S.sites i) { scanning = Some (ForBase own position (blocks + 1) written count) } else S.sites i))
+        choice true = scan-goes S H i up (Some (ForBase own position (blocks + 1) written count))
+        choice false = goes-same S i H

@@ -1,0 +1,192 @@
+-- A turn in which the log of a member grows: what holds, holds after it, where the messages and the copies of its partition allow it.
+use Rattle.std.proofs.Common.{◌≡◌, ◌<◌, Bool, true, false, List, [], ◌++◌, refl, sym, subst, ap, ◌∙◌, inl, inr, true≢false, arith}
+use Rattle.std.proofs.lemmas.Bool.{cases_eq}
+use Rattle.std.proofs.lemmas.List.{length-append}
+use Rattle.std.specs.Prelude.{ℕ, ◌≤◌, length, Option, Some, None}
+use Rattle.std.specs.List.{AllByRecursion}
+use Rattle.volt_base.specs.declared.entry.Entry.{Entry}
+use Rattle.volt_wire.specs.Word.{Membership}
+use Rattle.volt_wire.specs.declared.actor.Actor.{Actor}
+use Rattle.volt_wire.specs.declared.actor.Actor.TheVariants.{Director, Agent, Site}
+use Rattle.cluster_model.specs.Words.{host_of_slot, term_of, leader}
+use Rattle.cluster_model.specs.Letters.{Letter, Waiting}
+use Rattle.cluster_model.specs.SiteState.{SiteState, Joining, Joiner, Scanning, site_term}
+use Rattle.cluster_model.specs.World.{set_at}
+use Rattle.cluster_model.specs.Laws.{starts_in}
+use Rattle.word_laws.specs.Histories.{In}
+use Rattle.word_laws.proofs.Lists.{all-mono, none-and-some, set-here, set-there, set-both}
+use Rattle.word_laws.proofs.Steps.{channel-holds}
+use Rattle.log_laws.specs.Histories.{LogState, Reign, FollowsIn, LeadsIn, MemberOk, JoinerOk, AckOk, ReportOk, AskOk, CountedOk, WaitingOk, KeepsOk, SiteOk, SiteLetterOk, ForeignOk, ToldOk, BeginsAt, IsSlot, IsCounted, Holds, from_agent, follows, line, flow, between, part, start_at, log_at, term_at}
+use Rattle.log_laws.proofs.Plain.Fronts.{front-grows}
+use Rattle.log_laws.proofs.Kept.Moves.{Stays, Later, SameReigns, JoinsOn}
+use Rattle.log_laws.proofs.Kept.Laters.{letter-later, waiting-later, ack-later, report-later, ask-later, counted-later, entered-later, streamed-later, reigns-later, unleds-later, first-later, loads-later}
+use Rattle.log_laws.proofs.Kept.Plumbing.{words-later}
+use Rattle.log_laws.proofs.Kept.Keeps.{still-same, kept-same, counted-from, keeps-with, site-keeps-with}
+use Rattle.log_laws.proofs.Kept.KeepsViews.{views-keeps-with, leaves-same}
+
+-- What must be so of the messages behind it: those from agents and the director are as they were, others may be new or taken.
+pub record Carries (S : LogState) (ch : Actor → Actor → List Letter) : Type 0 where
+  pub agents : (h : ℕ) (b : Actor) → ch (Agent h) b ≡ S.words.channel (Agent h) b
+  pub director : (h : ℕ) → ch Director (Agent h) ≡ S.words.channel Director (Agent h)
+  pub foreign : (from : Actor) (c : ℕ) → AllByRecursion (ForeignOk S c from) (ch from (Site c))
+  pub told : (c h : ℕ) → AllByRecursion (ToldOk S c) (ch (Site c) (Agent h))
+  pub letters : (j c : ℕ) → IsSlot S c → AllByRecursion (SiteLetterOk S j c) (ch (Site j) (Site c))
+  pub begins : (j c start term nj : ℕ) → AllByRecursion (BeginsAt nj) (flow start term (between S j c)) → AllByRecursion (BeginsAt nj) (flow start term (ch (Site j) (Site c)))
+
+-- the site with more entries, and what may change with them
+abbrev pub grew : SiteState → List Entry → ℕ → Bool → Option ℕ → ℕ → Option Scanning → SiteState
+grew s more floor repaired owes scans scanning =
+    record s { log = s.log ++ more; floor = floor; repaired = repaired; owes = owes; scans = scans; scanning = scanning }
+
+-- the state with that site, these messages, and what terms were led with
+abbrev pub grown_to : LogState → ℕ → SiteState → (Actor → Actor → List Letter) → (ℕ → ℕ → Option Reign) → LogState
+grown_to S i s ch R = record S { words = record S.words { channel = ch }; sites = set_at S.sites i s; logs = record S.logs { reign = R } }
+
+module _ (S : LogState) (H : Holds S) (i : ℕ) (more : List Entry) (floor : ℕ) (repaired : Bool) (owes : Option ℕ) (scans : ℕ) (scanning : Option Scanning)
+    (ch : Actor → Actor → List Letter) (R : ℕ → ℕ → Option Reign) where
+  abbrev s : SiteState
+  s = grew (S.sites i) more floor repaired owes scans scanning
+
+  abbrev T : LogState
+  T = grown_to S i s ch R
+
+  -- ---- what only grows
+
+  stays : (c : ℕ) → Stays S T c
+  stays c = record {
+    start = set-both (λ h x. x.start ≡ start_at S h) S.sites i s refl (λ h n. refl) c;
+    earlier = set-both (λ h x. x.earlier ≡ (S.sites h).earlier) S.sites i s refl (λ h n. refl) c;
+    log = set-both (λ h x. length (log_at S h) ≤ length x.log) S.sites i s (rw length-append (omega arith)) (λ h n. omega arith) c;
+    term = set-both (λ h x. term_at S h ≤ site_term x) S.sites i s (omega arith) (λ h n. omega arith) c;
+    member = set-both (λ h x. (S.sites h).joining ≡ None → x.joining ≡ None) S.sites i s (λ e. e) (λ h n e. e) c;
+    loaded = set-both (λ h x. (m : Joining) → x.joining ≡ Some m → (j : Joining) × ((S.sites h).joining ≡ Some j) × (j.is_based ≡ true → m.is_based ≡ true)) S.sites i s
+        (λ m e. (m, e, λ y. y)) (λ h n m e. (m, e, λ y. y)) c;
+  }
+
+  pub grew-later : Later S T
+  grew-later = record {
+    words = words-later S ch;
+    ran = λ c a k. k;
+    greatest = set-both (λ h x. (S.sites h).greatest ≤ x.greatest) S.sites i s (omega arith) (λ h n. omega arith);
+    sites = λ c. inl (stays c);
+    entered = λ c t e is. is;
+    entered_now = λ c t e is. inl is;
+    streamed = λ c t x is. is;
+    streamed_now = λ c t x is. inl is;
+    reach = λ p t. omega arith;
+  }
+
+  pub grew-other : (c : ℕ) → (c ≡ i → ⊥) → T.sites c ≡ S.sites c
+  grew-other c n = set-there S.sites i s c n
+
+  joins-on : (c : ℕ) → JoinsOn S T c
+  joins-on c w = set-both (λ h x. ((j : Joining) × ((S.sites h).joining ≡ Some j) × ((S.sites h).view ≡ Some w)) → (j : Joining) × (x.joining ≡ Some j) × (x.view ≡ Some w))
+      S.sites i s (λ k. k) (λ h n k. k) c
+
+  waits : (c : ℕ) (ws : List Waiting) → AllByRecursion (WaitingOk S c) ws → AllByRecursion (WaitingOk T c) ws
+  waits c ws k = all-mono (WaitingOk S c) (WaitingOk T c) (waiting-later S T H grew-later c (stays c).start joins-on) ws k
+
+  -- ---- the site itself
+
+  own : T.sites i ≡ s
+  own = set-here S.sites i s
+
+  -- Of its term it is given anew whom it leads and follows.
+  pub grew-member : (w : Membership) → repaired ≡ true → floor ≤ S.logs.reach (part S i) (term_of w)
+      → (leader S.words.deployment w (part S i) ≡ Some i → LeadsIn s (R (part S i) (term_of w)))
+      → ((l : ℕ) → follows S.words.deployment w i l ≡ true → FollowsIn s (line (start_at S i) (term_of w) (ch (Site l) (Site i))) (R (part S i) (term_of w)))
+      → ((l : ℕ) → follows S.words.deployment w i l ≡ false → line (start_at S i) (term_of w) (ch (Site l) (Site i)) ≡ [])
+      → MemberOk S i w → MemberOk T i w
+  grew-member w is below leading following others m = record {
+    decided = m.decided;
+    start_is = rw (own, start_at) m.start_is;
+    entered = m.entered;
+    is_entered = m.is_entered;
+    since = rw (own, start_at) m.since;
+    earlier = rw own m.earlier;
+    grown = rw (own, log_at) (front-grows m.entered.log (log_at S i) more m.grown);
+    still = rw own (λ e. absurd (true≢false (sym is ∙ e)));
+    floor = rw own below;
+    firm = rw own m.firm;
+    leading = rw own leading;
+    following = rw (own, start_at) following;
+    others = rw (own, start_at) others;
+  }
+
+  keeps-own : 0 < start_at S i → KeepsOk S i → KeepsOk T i
+  keeps-own up k = record {
+    acks = rw own (all-mono (λ a. IsSlot S a.0 → AckOk S a.0 (term_at S i) a.1) (λ a. IsSlot T a.0 → AckOk T a.0 (term_at S i) a.1)
+        (λ a h slot. ack-later S T H grew-later a.0 (term_at S i) a.1 (h slot)) (S.sites i).acks k.acks);
+    reports = rw own (all-mono (λ r. ReportOk S (part S i) r.slot (term_at S i) r.position r.floor r.tail)
+        (λ r. ReportOk T (part S i) r.slot (term_at S i) r.position r.floor r.tail)
+        (λ r. report-later S T H grew-later (part S i) r.slot (term_at S i) r.position r.floor r.tail) (S.sites i).reports k.reports);
+    joiners = rw own (all-mono (CountedOk S (part S i) (term_at S i)) (CountedOk T (part S i) (term_at S i)) (counted-later S T H grew-later (part S i) (term_at S i))
+        (S.sites i).joiners k.joiners);
+    alone = rw own k.alone;
+    leads = rw own k.leads;
+    asks = rw own (all-mono (λ a. AskOk S (part S i) a.slot (term_at S i) a.start) (λ a. AskOk T (part S i) a.slot (term_at S i) a.start)
+        (λ a. ask-later S T H grew-later (part S i) a.slot (term_at S i) a.start (joins-on a.slot)) (S.sites i).asks k.asks);
+    waiting = subst (λ x. AllByRecursion (WaitingOk T i) x.waiting) (sym own) (waits i (S.sites i).waiting k.waiting);
+    pending = waits i (S.pending i) k.pending;
+    on_disk = rw (own, log_at) (rw length-append (let a = k.on_disk in omega (arith, a)));
+    held = rw own k.held;
+  }
+
+  site-own : 0 < start_at S i → (S.sites i).joining ≡ None → (w : Membership) → (S.sites i).view ≡ Some w → MemberOk T i w → SiteOk T i
+  site-own up none w view mine = let k = H.sites i in record {
+    outside = rw (own, start_at) k.outside;
+    ran = rw (own, start_at) k.ran;
+    term = rw own k.term;
+    earlier = rw own k.earlier;
+    member = λ _ _. (w, ap (λ x. x.view) own ∙ view, mine);
+    joiner = λ j e. absurd (none-and-some none (sym (ap (λ x. x.joining) own) ∙ e));
+    keeps = λ _. keeps-own up (k.keeps up);
+    stopped = λ e. absurd (omega (arith, up, sym (ap (λ x. x.start) own) ∙ e));
+    blank = λ e. absurd (omega (arith, up, sym (ap (λ x. x.start) own) ∙ e));
+  }
+
+  site-other : (c : ℕ) → (c ≡ i → ⊥) → ((v : Membership) → MemberOk S c v → MemberOk T c v) → ((j : Joining) → JoinerOk S c j → JoinerOk T c j) → SiteOk T c
+  site-other c n member joiner = site-keeps-with S T H grew-later c (still-same (S.sites c) (T.sites c) (grew-other c n)) refl
+      (λ up none v view. member v)
+      (λ j e. joiner j)
+      (λ up k. keeps-with S T H grew-later c (still-same (S.sites c) (T.sites c) (grew-other c n)) (kept-same (S.sites c) (T.sites c) (grew-other c n))
+      (λ a. ask-later S T H grew-later (part S c) a.slot (term_at S c) a.start (joins-on a.slot))
+      (subst (λ x. AllByRecursion (WaitingOk T c) x.waiting) (sym (grew-other c n)) (waits c (S.sites c).waiting k.waiting)) (waits c (S.pending c) k.pending) k)
+      (λ e k. subst (λ x. (x.waiting ≡ []) × (x.asks ≡ []) × (x.joiners ≡ []) × (S.pending c ≡ [])) (sym (grew-other c n)) k)
+      (H.sites c)
+
+  -- ---- all of it
+
+  pub grew-holds : 0 < start_at S i → (S.sites i).joining ≡ None → SameReigns S.logs (record S.logs { reign = R }) → Carries S ch
+      → (w : Membership) → (S.sites i).view ≡ Some w → MemberOk T i w
+      → ((c : ℕ) → (c ≡ i → ⊥) → (v : Membership) → MemberOk S c v → MemberOk T c v)
+      → ((c : ℕ) → (c ≡ i → ⊥) → (j : Joining) → JoinerOk S c j → JoinerOk T c j)
+      → Holds T
+  grew-holds up none same carries w view mine members joiners = record {
+    words = channel-holds S.words ch (λ h g. carries.agents h (Agent g)) (λ h. ap starts_in (carries.director h)) H.words;
+    sites = λ c. elim (cases_eq c i) [
+      | inl q ↦ subst (SiteOk T) (sym q) (site-own up none w view mine)
+      | inr n ↦ site-other c n (members c n) (joiners c n)
+    ];
+    views = λ c. views-keeps-with S T H grew-later c (stays c).start
+        (set-both (λ h x. x.view ≡ (S.sites h).view) S.sites i s refl (λ h n. refl) c) refl refl (λ a m. m)
+        (leaves-same (start_at S c) (from_agent S c) (from_agent T c) (carries.agents (host_of_slot S.words.deployment c) (Site c))) (H.views c);
+    letters = λ j c slot. all-mono (SiteLetterOk S j c) (SiteLetterOk T j c)
+        (λ l. letter-later S T H grew-later j c l (joins-on j) (λ k _ _ _ _. carries.begins j c l.start l.term k.nj) (λ k x is start. inl is))
+        (ch (Site j) (Site c)) (carries.letters j c slot);
+    foreign = carries.foreign;
+    loads = loads-later S T H grew-later refl refl carries.told (λ h g. carries.agents h (Agent g));
+    entered = λ c t e is. entered-later S T H grew-later c t e (H.entered c t e is) is same
+        (λ runs. let a = ((H.entered c t e is).running (sym (stays c).start ∙ runs)).2 in let b = (stays c).log in omega (arith, a, b)) (H.entered c t e is).since;
+    streamed = λ c t x is. let k = H.streamed c t x is in streamed-later S T H grew-later c t x k same k.apart
+        (λ runs. let a = (k.running (sym (stays c).start ∙ runs)).2 in let b = (stays c).log in omega (arith, a, b))
+        (counted c x.start x.nj k.word);
+    reigns = reigns-later S T H grew-later same (λ p t g is. (H.reigns p t g is).within);
+    unled = λ p t. unleds-later S T H grew-later same p t refl;
+    some = H.some;
+    first = first-later S T H grew-later same;
+  }
+    where
+      counted : (c a nj : ℕ) (v : Membership) → IsCounted S c a nj v → IsCounted T c a nj v
+      counted c a nj v = counted-from S T H grew-later i grew-other c a nj v
+          (subst (λ x. 0 < x.start → x.joining ≡ None → x.view ≡ Some v → (j : Joiner) × In j x.joiners × (j.slot ≡ c) × (j.start ≡ a) × (j.nj ≡ nj)) (sym own))

@@ -1,0 +1,85 @@
+-- What turns of sites add to the history of terms that are led: nothing, at one place, and one turn behind another.
+use Rattle.std.proofs.Common.{◌≡◌, sym, subst, ap, ◌∙◌, inl, inr, refl, arith}
+use Rattle.std.proofs.lemmas.Bool.{cases_eq}
+use Rattle.std.specs.Prelude.{ℕ, ◌≤◌, Some}
+use Rattle.cluster_model.specs.Words.{Deployment}
+use Rattle.cluster_model.specs.SiteState.{SiteState}
+use Rattle.log_laws.specs.Histories.{Logs}
+use Rattle.log_laws.proofs.Plain.Fronts.{front-refl, front-trans}
+use Rattle.log_laws.proofs.Kept.Moves.{Onward, Heads, Grown}
+
+-- ---- a later history
+
+-- where the same terms are led, with the same logs
+onward-reach : (F G : Logs) → G.reign ≡ F.reign → ((p t : ℕ) → F.reach p t ≤ G.reach p t) → Onward F G
+onward-reach F G same reach = record { kept = λ p t g is. (g, ap (λ r. r p t) same ∙ is, refl, front-refl g.log); reach = reach }
+
+pub onward-same : (F : Logs) → Onward F F
+onward-same F = onward-reach F F refl (λ p t. omega arith)
+
+pub onward-then : (F G H : Logs) → Onward F G → Onward G H → Onward F H
+onward-then F G H first second = record {
+  kept = λ p t g is.
+      let k = first.kept p t g is in
+      let l = second.kept p t k.0 k.1 in
+      (l.0, l.1, l.2 ∙ k.2, front-trans g.log k.0.log l.0.log k.3 l.3);
+  reach = λ p t. let k = first.reach p t in let l = second.reach p t in omega (arith, k, l);
+}
+
+-- ---- turns of a site
+
+module _ (D : Deployment) (i : ℕ) where
+  -- of another place that is the same one
+  heads-at : (s : SiteState) (p t q u : ℕ) → q ≡ p → u ≡ t → Heads D i s p t → Heads D i s q u
+  heads-at s p t q u e f h = subst (λ z. Heads D i s z u) (sym e) (subst (Heads D i s p) (sym f) h)
+
+  -- where the site goes on with its start in its word
+  heads-on : (a b : SiteState) → b.start ≡ a.start → b.view ≡ a.view → (p t : ℕ) → Heads D i a p t → Heads D i b p t
+  heads-on a b start view p t h = record {
+    word = h.word;
+    view = view ∙ h.view;
+    part_is = h.part_is;
+    term_is = h.term_is;
+    first = h.first;
+    start_is = h.start_is ∙ ap Some (sym start);
+  }
+
+  -- no term is led anew, or with a longer log
+  pub grown-reach : (s : SiteState) (F G : Logs) → G.reign ≡ F.reign → ((p t : ℕ) → F.reach p t ≤ G.reach p t) → Grown D i s F G
+  grown-reach s F G same reach = record { onward = onward-reach F G same reach; led = λ p t h is. inl (ap (λ r. r p t) (sym same) ∙ is) }
+
+  -- nothing is added
+  pub grown-same : (s : SiteState) (F : Logs) → Grown D i s F F
+  grown-same s F = grown-reach s F F refl (λ p t. omega arith)
+
+  -- one is, which the site leads
+  pub grown-at : (s : SiteState) (F G : Logs) (p t : ℕ) → Heads D i s p t → Onward F G → ((q u : ℕ) → (q ≡ p → u ≡ t → ⊥) → G.reign q u ≡ F.reign q u) → Grown D i s F G
+  grown-at s F G p t heads onward apart = record {
+    onward = onward;
+    led = λ q u h is. elim (cases_eq q p) [
+      | inr n ↦ inl (sym (apart q u (λ e _. n e)) ∙ is)
+      | inl e ↦ elim (cases_eq u t) [
+        | inr n ↦ inl (sym (apart q u (λ _ f. n f)) ∙ is)
+        | inl f ↦ inr (heads-at s p t q u e f heads)
+      ]
+    ];
+  }
+
+  -- one turn behind another, in which the site goes on with its start in its word
+  pub grown-on : (a b : SiteState) (F G : Logs) → b.start ≡ a.start → b.view ≡ a.view → Grown D i a F G → Grown D i b F G
+  grown-on a b F G start view k = record {
+    onward = k.onward;
+    led = λ p t h is. elim (k.led p t h is) [
+      | inl old ↦ inl old
+      | inr new ↦ inr (heads-on a b start view p t new)
+    ];
+  }
+
+  pub grown-then : (a b : SiteState) (F G H : Logs) → b.start ≡ a.start → b.view ≡ a.view → Grown D i a F G → Grown D i b G H → Grown D i b F H
+  grown-then a b F G H start view first second = record {
+    onward = onward-then F G H first.onward second.onward;
+    led = λ p t h is. elim (second.led p t h is) [
+      | inl old ↦ (grown-on a b F G start view first).led p t h old
+      | inr new ↦ inr new
+    ];
+  }

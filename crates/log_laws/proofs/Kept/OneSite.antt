@@ -1,0 +1,419 @@
+-- One site changes, with what is under way to it: all that holds of the others holds after it.
+use Rattle.std.proofs.Common.{List, ap, arith, false, inl, inr, refl, subst, sym, true, ◌≡◌, ◌++◌, ◌∙◌, ◌⊎◌, ◌<◌, ◌≤◌, []}
+use Rattle.std.proofs.lemmas.Bool.{cases_eq}
+use Rattle.std.specs.List.{AllByRecursion}
+use Rattle.std.specs.Prelude.{None, Option, Some, is_some, length, map, ℕ}
+use Rattle.volt_base.specs.declared.entry.Entry.{Entry}
+use Rattle.volt_wire.specs.Word.{Membership}
+use Rattle.volt_wire.specs.declared.actor.Actor.{Actor}
+use Rattle.volt_wire.specs.declared.actor.Actor.TheVariants.{Agent, Director, Site}
+use Rattle.cluster_model.specs.Letters.{Letter, Waiting, becomes}
+use Rattle.cluster_model.specs.SiteState.{Ask, Joiner, Joining, SiteState, Streamed, is_leader}
+use Rattle.cluster_model.specs.Words.{term_of}
+use Rattle.cluster_model.specs.World.{set_at}
+use Rattle.word_laws.proofs.Lists.{all-mono, none-and-some, same-some, set-here, set-there}
+use Rattle.word_laws.specs.Histories.{Distinct, In}
+use Rattle.log_laws.specs.Histories.{AskOk, BeginsAt, Coming, CountedOk, Flow, Follows, ForeignOk, Holds, InWord, IsCounted, IsSlot, JoinerOk, KeepsOk, LogState, MemberOk, Quiet, SiteLetterOk, StreamIn, StreamedOk, Streaming, Took, Untaken, ViewIn, WaitingOk, Wordless, asked, between, ends, flow, follows, line, part, start_at, term_at}
+use Rattle.log_laws.proofs.Kept.Asked.{AsksLess, at-most-none, at-most-one, sent-nothing}
+use Rattle.log_laws.proofs.Plain.Copies.{leader-view}
+use Rattle.log_laws.proofs.Kept.Keeps.{CountedBy, SameFrom, Still, Uncounted, counted-from, still-same}
+use Rattle.log_laws.proofs.Kept.Laters.{letter-later, streamed-later}
+use Rattle.log_laws.proofs.Kept.Moves.{Goes, Later, Unentered}
+use Rattle.log_laws.proofs.Kept.Grown.{grown-reach}
+use Rattle.log_laws.proofs.Kept.Steady.{GoesOn, Steady, goes-on-same, shifted, steady-asks, steady-counted, steady-holds, steady-joiner, steady-joins, steady-keeps, steady-later, steady-member, steady-reigns}
+
+-- the state in which the site of slot i is this one, with these channels, with what is pending, and with the streams that were taken
+abbrev pub with-site : LogState → ℕ → SiteState → (Actor → Actor → List Letter) → (ℕ → List Waiting) → (ℕ → ℕ → Option Streaming) → LogState
+with-site S i s ch pend st = shifted S ch (set_at S.sites i s) pend st
+
+-- What changes is the site of slot i, what is under way to it and waits there, and the streams that it took. It counts whom it
+-- counted, and no others, and slots have asked it no more.
+pub record Takes (S : LogState) (i : ℕ) (s : SiteState) (ch : Actor → Actor → List Letter) (pend : ℕ → List Waiting) (st : ℕ → ℕ → Option Streaming) : Type 0 where
+  pub up : 0 < start_at S i
+  pub goes : GoesOn (S.sites i) s
+  pub others : (a : Actor) (c : ℕ) → (c ≡ i → ⊥) → ch a (Site c) ≡ S.words.channel a (Site c)
+  pub agents : (h : ℕ) (b : Actor) → ch (Agent h) b ≡ S.words.channel (Agent h) b
+  pub told : (c h : ℕ) → ch (Site c) (Agent h) ≡ S.words.channel (Site c) (Agent h)
+  pub director : (h : ℕ) → ch Director (Agent h) ≡ S.words.channel Director (Agent h)
+  pub pending : (c : ℕ) → (c ≡ i → ⊥) → pend c ≡ S.pending c
+  pub streamed : (c t : ℕ) → (c ≡ i → ⊥) → st c t ≡ S.logs.streamed c t
+  pub stays : (t : ℕ) (x : Streaming) → S.logs.streamed i t ≡ Some x → st i t ≡ Some x
+  pub fresh : (t : ℕ) (x : Streaming) → st i t ≡ Some x → (S.logs.streamed i t ≡ Some x) ⊎ Unentered S.logs i x.start
+  pub asks : AsksLess S (with-site S i s ch pend st)
+  pub counted : (c a nj : ℕ) (w : Membership) → CountedBy S c a nj w i → CountedBy (with-site S i s ch pend st) c a nj w i
+  pub uncounted : (c a : ℕ) → Uncounted S i c a → Uncounted (with-site S i s ch pend st) i c a
+
+module _ (S : LogState) (H : Holds S) (i : ℕ) (s : SiteState) (ch : Actor → Actor → List Letter) (pend : ℕ → List Waiting) (st : ℕ → ℕ → Option Streaming)
+    (k : Takes S i s ch pend st) where
+  there : (c : ℕ) → (c ≡ i → ⊥) → set_at S.sites i s c ≡ S.sites c
+  there c n = set-there S.sites i s c n
+
+  pub takes-steady : Steady S ch (set_at S.sites i s) st
+  takes-steady = record {
+    sites = λ c. elim (cases_eq c i) [
+      | inl e ↦ subst (λ z. GoesOn (S.sites z) (set_at S.sites i s z)) (sym e) (subst (GoesOn (S.sites i)) (sym (set-here S.sites i s)) k.goes)
+      | inr n ↦ subst (GoesOn (S.sites c)) (sym (there c n)) (goes-on-same (S.sites c))
+    ];
+    agents = k.agents;
+    told = k.told;
+    director = k.director;
+    streamed = λ c t x is. elim (cases_eq c i) [
+      | inl e ↦ subst (λ z. st z t ≡ Some x) (sym e) (k.stays t x (subst (λ z. S.logs.streamed z t ≡ Some x) e is))
+      | inr n ↦ k.streamed c t n ∙ is
+    ];
+    fresh = λ c t x is. elim (cases_eq c i) [
+      | inl e ↦ subst (λ z. (S.logs.streamed z t ≡ Some x) ⊎ Unentered S.logs z x.start) (sym e) (k.fresh t x (subst (λ z. st z t ≡ Some x) e is))
+      | inr n ↦ inl (sym (k.streamed c t n) ∙ is)
+    ];
+  }
+
+  -- who was counted is, by this site and by others
+  pub takes-counted : (c a nj : ℕ) (w : Membership) → IsCounted S c a nj w → IsCounted (with-site S i s ch pend st) c a nj w
+  takes-counted c a nj w h = counted-from S (with-site S i s ch pend st) H (steady-later S ch (set_at S.sites i s) pend st H takes-steady) i there c a nj w (k.counted c a nj w) h
+
+  takes-uncounted : (l c a : ℕ) → Uncounted S l c a → Uncounted (with-site S i s ch pend st) l c a
+  takes-uncounted l c a h = elim (cases_eq l i) [
+    | inl e ↦ subst (λ z. Uncounted (with-site S i s ch pend st) z c a) (sym e) (k.uncounted c a (subst (λ z. Uncounted S z c a) e h))
+    | inr n ↦ λ j is. h j (rw (there l n) at is)
+  ]
+
+  -- All holds after it, where this holds of that slot.
+  pub takes-holds :
+      ((w : Membership) → (S.sites i).joining ≡ None → MemberOk S i w → MemberOk (with-site S i s ch pend st) i w)
+      → ((j : Joining) → s.joining ≡ Some j → JoinerOk (with-site S i s ch pend st) i j)
+      → (KeepsOk S i → KeepsOk (with-site S i s ch pend st) i)
+      → ((l : ℕ) → IsSlot S i → AllByRecursion (SiteLetterOk (with-site S i s ch pend st) l i) (ch (Site l) (Site i)))
+      → ((from : Actor) → AllByRecursion (ForeignOk S i from) (ch from (Site i)))
+      → ((t : ℕ) (x : Streaming) → st i t ≡ Some x → StreamedOk (with-site S i s ch pend st) i t x)
+      → Holds (with-site S i s ch pend st)
+  takes-holds member joiner keeps letters foreign streamed = steady-holds S ch (set_at S.sites i s) pend st H takes-steady
+      (λ c w up none h. elim (cases_eq c i) [
+        | inl e ↦ subst (λ z. MemberOk T z w) (sym e) (member w (subst (λ z. (S.sites z).joining ≡ None) e none) (subst (λ z. MemberOk S z w) e h))
+        | inr n ↦ steady-member S ch (set_at S.sites i s) pend st H takes-steady c (still c n) (λ l a t. ap (line a t) (k.others (Site l) c n)) w h
+      ])
+      (λ c j is. elim (cases_eq c i) [
+        | inl e ↦ subst (λ z. JoinerOk T z j) (sym e) (joiner j (ap (λ x. x.joining) (sym (set-here S.sites i s)) ∙ subst (λ z. (set_at S.sites i s z).joining ≡ Some j) e is))
+        | inr n ↦ steady-joiner S ch (set_at S.sites i s) pend st H takes-steady c (still c n) (λ t x own _. sym (k.streamed c t n) ∙ own)
+            (λ l. from c n l) (λ nj w. takes-counted c (start_at S c) nj w) j is
+      ])
+      (λ c up h. elim (cases_eq c i) [
+        | inl e ↦ subst (KeepsOk T) (sym e) (keeps (subst (KeepsOk S) e h))
+        | inr n ↦ kept c n h
+      ])
+      (λ c none. elim (cases_eq c i) [
+        | inl e ↦ let up = subst (λ z. 0 < start_at S z) (sym e) k.up in absurd (omega (arith, up, none))
+        | inr n ↦ (there c n, k.pending c n)
+      ])
+      (λ l c slot. elim (cases_eq c i) [
+        | inl e ↦ subst (λ z. AllByRecursion (SiteLetterOk T l z) (ch (Site l) (Site z))) (sym e) (letters l (subst (IsSlot S) e slot))
+        | inr n ↦ rw (k.others (Site l) c n) (all-mono (SiteLetterOk S l c) (SiteLetterOk T l c) (λ x. to-other l c n x) (between S l c) (H.letters l c slot))
+      ])
+      (λ from c. elim (cases_eq c i) [
+        | inl e ↦ subst (λ z. AllByRecursion (ForeignOk S z from) (ch from (Site z))) (sym e) (foreign from)
+        | inr n ↦ rw (k.others from c n) (H.foreign from c)
+      ])
+      (λ c t x is. elim (cases_eq c i) [
+        | inl e ↦ subst (λ z. StreamedOk T z t x) (sym e) (streamed t x (subst (λ z. st z t ≡ Some x) e is))
+        | inr n ↦ other-stream c t x n (sym (k.streamed c t n) ∙ is)
+      ])
+    where
+      T : LogState
+      T = with-site S i s ch pend st
+
+      later : Later S T
+      later = steady-later S ch (set_at S.sites i s) pend st H takes-steady
+
+      still : (c : ℕ) → (c ≡ i → ⊥) → Still (S.sites c) (set_at S.sites i s c)
+      still c n = still-same (S.sites c) (set_at S.sites i s c) (there c n)
+
+      from : (c : ℕ) → (c ≡ i → ⊥) → (l : ℕ) → SameFrom S T c l (term_at S c)
+      from c n l = let e = k.others (Site l) c n in record {
+        lines = ap (line (start_at S c) (term_at S c)) e;
+        flows = ap (flow (start_at S c) (term_at S c)) e;
+        ends = λ none. ap (ends (start_at S c) (term_at S c)) e ∙ none;
+        asks = k.asks c l (term_at S c);
+        uncounted = takes-uncounted l c (start_at S c);
+      }
+
+      kept : (c : ℕ) → (c ≡ i → ⊥) → KeepsOk S c → KeepsOk T c
+      kept c n h = steady-keeps S ch (set_at S.sites i s) pend st H takes-steady c h
+          (rw (there c n) (steady-counted S ch (set_at S.sites i s) pend st H takes-steady (part S c) (term_at S c) (S.sites c).joiners h.joiners))
+          (rw (there c n) h.alone) (rw (there c n) h.leads)
+          (rw (there c n) (steady-asks S ch (set_at S.sites i s) pend st H takes-steady (part S c) (term_at S c) (S.sites c).asks h.asks))
+          (rw (k.pending c n) h.pending) (rw (there c n) h.on_disk)
+
+      to-other : (l c : ℕ) → (c ≡ i → ⊥) → (x : Letter) → SiteLetterOk S l c x → SiteLetterOk T l c x
+      to-other l c n x h = letter-later S T H later l c x (steady-joins S ch (set_at S.sites i s) pend st H takes-steady l)
+          (λ b j joins same-start same-term begun. rw (k.others (Site l) c n) begun)
+          (λ b y is start. inl (sym (k.streamed c x.term n) ∙ is)) h
+
+      other-stream : (c t : ℕ) (x : Streaming) → (c ≡ i → ⊥) → S.logs.streamed c t ≡ Some x → StreamedOk T c t x
+      other-stream c t x n is = let h = H.streamed c t x is in
+          streamed-later S T H later c t x h (steady-reigns S ch (set_at S.sites i s) pend st H takes-steady) h.apart
+          (λ at. subst (λ z. S.logs.reach (part S c) t ≤ length z.log) (sym (there c n)) (h.running (ap (λ z. z.start) (sym (there c n)) ∙ at)).2)
+          (takes-counted c x.start x.nj h.word)
+
+-- ---- the slot itself
+
+-- What is under way to slot i: to a member it is the same, and of a stream and its end there is none where there was none.
+pub record LessTo (S : LogState) (i : ℕ) (ch : Actor → Actor → List Letter) : Type 0 where
+  pub lines : (l a t : ℕ) → line a t (ch (Site l) (Site i)) ≡ line a t (between S l i)
+  pub flows : (l a t : ℕ) → flow a t (between S l i) ≡ [] → flow a t (ch (Site l) (Site i)) ≡ []
+  pub ends : (l a t : ℕ) → ends a t (between S l i) ≡ [] → ends a t (ch (Site l) (Site i)) ≡ []
+
+module _ (S : LogState) (H : Holds S) (i : ℕ) (s : SiteState) (ch : Actor → Actor → List Letter) (pend : ℕ → List Waiting) (st : ℕ → ℕ → Option Streaming)
+    (k : Takes S i s ch pend st) where
+  here : set_at S.sites i s i ≡ s
+  here = set-here S.sites i s
+
+  start-here : start_at (with-site S i s ch pend st) i ≡ start_at S i
+  start-here = ap (λ x. x.start) here ∙ k.goes.start
+
+  -- a member of which nothing changes but what it keeps
+  pub takes-member : LessTo S i ch → Still (S.sites i) s → (w : Membership) → MemberOk S i w → MemberOk (with-site S i s ch pend st) i w
+  takes-member less still w h = steady-member S ch (set_at S.sites i s) pend st H (takes-steady S H i s ch pend st k) i
+      (subst (Still (S.sites i)) (sym here) still) (λ l. less.lines l) w h
+
+  -- what it keeps, with what is given of those that it counts, of asks, and of what is pending
+  pub takes-keeps : KeepsOk S i
+      → AllByRecursion (CountedOk (with-site S i s ch pend st) (part S i) (term_at S i)) s.joiners → Distinct (map (λ j. j.slot) s.joiners)
+      → ((s.joiners ≡ []) ⊎ (is_leader S.words.deployment i s ≡ true))
+      → AllByRecursion (λ a. AskOk (with-site S i s ch pend st) (part S i) a.slot (term_at S i) a.start) s.asks
+      → AllByRecursion (WaitingOk S i) (pend i) → s.on_disk ≤ length s.log → KeepsOk (with-site S i s ch pend st) i
+  takes-keeps h counted alone leads asks pending disk = steady-keeps S ch (set_at S.sites i s) pend st H (takes-steady S H i s ch pend st k) i h
+      (subst (λ x. AllByRecursion (CountedOk (with-site S i s ch pend st) (part S i) (term_at S i)) x.joiners) (sym here) counted)
+      (subst (λ x. Distinct (map (λ j. j.slot) x.joiners)) (sym here) alone)
+      (subst (λ x. (x.joiners ≡ []) ⊎ (is_leader S.words.deployment i x ≡ true)) (sym here) leads)
+      (subst (λ x. AllByRecursion (λ a. AskOk (with-site S i s ch pend st) (part S i) a.slot (term_at S i) a.start) x.asks) (sym here) asks)
+      pending (subst (λ x. x.on_disk ≤ length x.log) (sym here) disk)
+
+  -- those that it counted, and asks that it kept
+  pub takes-joiners : (js : List Joiner) → AllByRecursion (CountedOk S (part S i) (term_at S i)) js
+      → AllByRecursion (CountedOk (with-site S i s ch pend st) (part S i) (term_at S i)) js
+  takes-joiners = steady-counted S ch (set_at S.sites i s) pend st H (takes-steady S H i s ch pend st k) (part S i) (term_at S i)
+
+  pub takes-asks : (as_ : List Ask) → AllByRecursion (λ a. AskOk S (part S i) a.slot (term_at S i) a.start) as_
+      → AllByRecursion (λ a. AskOk (with-site S i s ch pend st) (part S i) a.slot (term_at S i) a.start) as_
+  takes-asks = steady-asks S ch (set_at S.sites i s) pend st H (takes-steady S H i s ch pend st k) (part S i) (term_at S i)
+
+  -- where it counts the same joiners and keeps the same asks
+  pub takes-kept : s.joiners ≡ (S.sites i).joiners → s.asks ≡ (S.sites i).asks → (is_leader S.words.deployment i (S.sites i) ≡ true → is_leader S.words.deployment i s ≡ true)
+      → (KeepsOk S i → s.on_disk ≤ length s.log) → (AllByRecursion (WaitingOk S i) (S.pending i) → AllByRecursion (WaitingOk S i) (pend i))
+      → KeepsOk S i → KeepsOk (with-site S i s ch pend st) i
+  takes-kept joiners asks leads disk pending h = takes-keeps h
+      (subst (AllByRecursion (CountedOk (with-site S i s ch pend st) (part S i) (term_at S i))) (sym joiners) (takes-joiners (S.sites i).joiners h.joiners))
+      (subst (λ js. Distinct (map (λ j. j.slot) js)) (sym joiners) h.alone)
+      (elim h.leads [ inl none ↦ inl (joiners ∙ none) | inr is ↦ inr (leads is) ])
+      (subst (AllByRecursion (λ a. AskOk (with-site S i s ch pend st) (part S i) a.slot (term_at S i) a.start)) (sym asks) (takes-asks (S.sites i).asks h.asks))
+      (pending h.pending) (disk h)
+
+  -- a joiner, with what is given of it in its word, and without one
+  pub takes-joiner : (j n : Joining) → s.firm ≡ (S.sites i).firm
+      → (n.has_told ≡ true → n.is_loaded ≡ true) → (n.is_based ≡ true → n.is_loaded ≡ true)
+      → ((w : Membership) → (S.sites i).view ≡ Some w → InWord S i w j → InWord (with-site S i s ch pend st) i w n)
+      → ((S.sites i).view ≡ None → Wordless S i j → Wordless (with-site S i s ch pend st) i n)
+      → JoinerOk S i j → JoinerOk (with-site S i s ch pend st) i n
+  takes-joiner j n firm told based word wordless h = record {
+    runs = rw start-here h.runs;
+    unentered = λ t e is at. h.unentered t e is (at ∙ start-here);
+    told = told;
+    based = based;
+    firm = ap (λ x. x.firm) here ∙ firm ∙ h.firm;
+    view = subst (ViewIn (with-site S i s ch pend st) i n) (sym k.goes.view ∙ ap (λ x. x.view) (sym here)) (go (S.sites i).view refl h.view);
+  }
+    where
+      go : (o : Option Membership) → (S.sites i).view ≡ o → ViewIn S i j o → ViewIn (with-site S i s ch pend st) i n o
+      go None e v = wordless e v
+      go (Some w) e v = word w e v
+
+  -- in its word, with what is given of its stream
+  pub takes-word : LessTo S i ch → (w : Membership) (j n : Joining)
+      → (StreamIn S i w j j.stream → StreamIn (with-site S i s ch pend st) i w n n.stream) → InWord S i w j → InWord (with-site S i s ch pend st) i w n
+  takes-word less w j n stream h = record {
+    took = rw start-here h.took;
+    lines = λ l. rw start-here (less.lines l (start_at S i) (term_of w) ∙ h.lines l);
+    others = λ l other. let o = h.others l other in (
+      rw start-here (less.flows l (start_at S i) (term_of w) o.0),
+      rw start-here (less.ends l (start_at S i) (term_of w) o.1),
+      λ slot low. at-most-none (asked S i l (term_of w)) (asked (with-site S i s ch pend st) i l (term_of w))
+          (o.2 slot (subst (λ x. x < term_of w) (ap (λ x. x.earlier) here ∙ k.goes.earlier) low)) (k.asks i l (term_of w)),
+    );
+    stream = stream h.stream;
+  }
+
+  -- without one
+  pub takes-wordless : (j n : Joining) → n.stream ≡ j.stream → n.is_loaded ≡ j.is_loaded → n.count ≡ j.count → n.tasks ≡ j.tasks
+      → s.log ≡ (S.sites i).log → s.floor ≡ (S.sites i).floor → ((t : ℕ) → st i t ≡ S.logs.streamed i t)
+      → Wordless S i j → Wordless (with-site S i s ch pend st) i n
+  takes-wordless j n stream loads counts tasks log floor streamed h = record {
+    stream = stream ∙ h.stream;
+    loads = loads ∙ h.loads;
+    counts = counts ∙ h.counts;
+    tasks = tasks ∙ h.tasks;
+    empty = ap (λ x. x.log) here ∙ log ∙ h.empty;
+    floor = ap (λ x. x.floor) here ∙ floor ∙ h.floor;
+    never = λ t x is at. h.never t x (sym (streamed t) ∙ is) (at ∙ start-here);
+  }
+
+  -- one that took its stream, and goes on with it
+  pub takes-took : (w : Membership) (j n : Joining) (nj : ℕ) (h : Took S i w j nj) (more : List Entry)
+      → flow (start_at S i) (term_of w) (ch (Site h.from) (Site i)) ≡ map Follows more → s.log ++ n.tasks ++ more ≡ h.reign.log
+      → (n.is_loaded ≡ false → length s.log ≡ nj) → (n.is_loaded ≡ true → n.tasks ≡ [])
+      → ((n.is_loaded ≡ true ⊎ is_some n.count ≡ true) → nj ≤ S.logs.reach (part S i) (term_of w))
+      → s.floor ≡ (S.sites i).floor → Took (with-site S i s ch pend st) i w n nj
+  takes-took w j n nj h more flowing whole loading loaded ends floor = record {
+    from = h.from;
+    following = h.following;
+    more = more;
+    reign = h.reign;
+    led = h.led;
+    flow_is = rw start-here flowing;
+    whole = subst (λ x. x.log ++ n.tasks ++ more ≡ h.reign.log) (sym here) whole;
+    streamed = rw start-here (k.stays (term_of w) (record { start = start_at S i; nj = nj }) h.streamed);
+    loading = λ e. ap (λ x. length x.log) here ∙ loading e;
+    loaded = loaded;
+    ends = ends;
+    floor = ap (λ x. x.floor) here ∙ floor ∙ h.floor;
+    asks = λ l slot. at-most-none (asked S i l (term_of w)) (asked (with-site S i s ch pend st) i l (term_of w)) (h.asks l slot) (k.asks i l (term_of w));
+  }
+
+  -- one that took none, where what is under way to it is the same
+  takes-quiet : LessTo S i ch → (w : Membership) (l : ℕ) → Quiet S i w l → Quiet (with-site S i s ch pend st) i w l
+  takes-quiet less w l h = record {
+    flow_is = rw start-here (less.flows l (start_at S i) (term_of w) h.flow_is);
+    ends_are = rw start-here (less.ends l (start_at S i) (term_of w) h.ends_are);
+    uncounted = λ j is slot at. takes-uncounted S H i s ch pend st k l i (start_at S i) h.uncounted j is slot (at ∙ start-here);
+    asks = λ slot. rw start-here (elim (h.asks slot) [
+      | inl none ↦ inl (at-most-none (asked S i l (term_of w)) (asked (with-site S i s ch pend st) i l (term_of w)) none (k.asks i l (term_of w)))
+      | inr one ↦ at-most-one (asked S i l (term_of w)) (asked (with-site S i s ch pend st) i l (term_of w)) (start_at S i) one (k.asks i l (term_of w))
+    ]);
+  }
+
+  takes-coming : (w : Membership) (fl : List Flow) → Coming S i w fl → Coming (with-site S i s ch pend st) i w fl
+  takes-coming w fl h = record {
+    past = h.past;
+    more = h.more;
+    reign = h.reign;
+    flow_is = h.flow_is;
+    led = h.led;
+    whole = h.whole;
+    behind = h.behind;
+    reach = h.reach;
+    counted = rw start-here (takes-counted S H i s ch pend st k i (start_at S i) (length h.past) w h.counted);
+  }
+
+  pub takes-untaken : LessTo S i ch → ((t : ℕ) → st i t ≡ S.logs.streamed i t) → (w : Membership) (j n : Joining)
+      → n.is_loaded ≡ j.is_loaded → n.count ≡ j.count → n.tasks ≡ j.tasks → s.log ≡ (S.sites i).log → s.floor ≡ (S.sites i).floor
+      → ((l : ℕ) → follows S.words.deployment w i l ≡ true → (S.sites i).earlier < term_of w
+      → flow (start_at S i) (term_of w) (ch (Site l) (Site i)) ≡ flow (start_at S i) (term_of w) (between S l i))
+      → Untaken S i w j → Untaken (with-site S i s ch pend st) i w n
+  takes-untaken less streamed w j n loads counts tasks log floor flows h = record {
+    loads = loads ∙ h.loads;
+    counts = counts ∙ h.counts;
+    tasks = tasks ∙ h.tasks;
+    empty = ap (λ x. x.log) here ∙ log ∙ h.empty;
+    floor = ap (λ x. x.floor) here ∙ floor ∙ h.floor;
+    never = λ t x is at. h.never t x (sym (streamed t) ∙ is) (at ∙ start-here);
+    comes = λ l is low. let below = subst (λ x. x < term_of w) (ap (λ x. x.earlier) here ∙ k.goes.earlier) low in
+        elim (h.comes l is below) [
+          | inl q ↦ inl (takes-quiet less w l q)
+          | inr q ↦ inr (
+            rw (start-here, flows l is below) (takes-coming w (flow (start_at S i) (term_of w) (between S l i)) q.0),
+            at-most-none (asked S i l (term_of w)) (asked (with-site S i s ch pend st) i l (term_of w)) q.1 (k.asks i l (term_of w)),
+          )
+        ];
+  }
+
+  -- one that goes on as it was, where the same is under way to it from its leader
+  pub takes-joiner-same : LessTo S i ch → Still (S.sites i) s → ((t : ℕ) → st i t ≡ S.logs.streamed i t)
+      → ((w : Membership) → (S.sites i).view ≡ Some w → (l : ℕ) → follows S.words.deployment w i l ≡ true → (S.sites i).earlier < term_of w
+      → flow (start_at S i) (term_of w) (ch (Site l) (Site i)) ≡ flow (start_at S i) (term_of w) (between S l i))
+      → (j : Joining) → JoinerOk S i j → JoinerOk (with-site S i s ch pend st) i j
+  takes-joiner-same less still streamed flows j h = takes-joiner j j still.firm h.told h.based
+      (λ w view k'. takes-word less w j j (stream w view j.stream) k')
+      (λ none k'. takes-wordless j j refl refl refl refl still.log still.floor streamed k') h
+    where
+      stream : (w : Membership) → (S.sites i).view ≡ Some w → (o : Option Streamed) → StreamIn S i w j o → StreamIn (with-site S i s ch pend st) i w j o
+      stream w view None u = takes-untaken less streamed w j j refl refl refl still.log still.floor (flows w view) u
+      stream w view (Some x) u = takes-took w j j x.nj u u.more
+          (flows w view u.from u.following ((H.streamed i (term_of w) (record { start = start_at S i; nj = x.nj }) u.streamed).running refl).0 ∙ u.flow_is)
+          (rw still.log u.whole) (λ e. ap length still.log ∙ u.loading e) u.loaded u.ends still.floor
+
+  -- All holds after it, where a joiner has become this one.
+  pub takes-joined : (j n : Joining) → (S.sites i).joining ≡ Some j → s.joining ≡ Some n → s.joiners ≡ (S.sites i).joiners → s.asks ≡ (S.sites i).asks
+      → (KeepsOk S i → s.on_disk ≤ length s.log) → (AllByRecursion (WaitingOk S i) (S.pending i) → AllByRecursion (WaitingOk S i) (pend i))
+      → JoinerOk (with-site S i s ch pend st) i n
+      → ((l : ℕ) → IsSlot S i → AllByRecursion (SiteLetterOk (with-site S i s ch pend st) l i) (ch (Site l) (Site i)))
+      → ((from : Actor) → AllByRecursion (ForeignOk S i from) (ch from (Site i)))
+      → ((t : ℕ) (x : Streaming) → st i t ≡ Some x → StreamedOk (with-site S i s ch pend st) i t x) → Holds (with-site S i s ch pend st)
+  takes-joined j n is next joiners asks disk pending ok letters foreign streamed = takes-holds S H i s ch pend st k
+      (λ w none h. absurd (none-and-some none is))
+      (λ x e. subst (JoinerOk (with-site S i s ch pend st) i) (same-some (sym next ∙ e)) ok)
+      (takes-kept joiners asks (λ leads. absurd (none-and-some (leader-view S.words.deployment i (S.sites i) leads).0 is)) disk pending)
+      letters foreign streamed
+
+  -- messages to it, where no stream is under way that wasn't
+  pub takes-letters : ((t : ℕ) → st i t ≡ S.logs.streamed i t) → (l : ℕ)
+      → ((a t nj : ℕ) → AllByRecursion (BeginsAt nj) (flow a t (between S l i)) → AllByRecursion (BeginsAt nj) (flow a t (ch (Site l) (Site i))))
+      → (ls : List Letter) → AllByRecursion (SiteLetterOk S l i) ls → AllByRecursion (SiteLetterOk (with-site S i s ch pend st) l i) ls
+  takes-letters streamed l begun ls h = all-mono (SiteLetterOk S l i) (SiteLetterOk (with-site S i s ch pend st) l i)
+      (λ x. letter-later S (with-site S i s ch pend st) H (steady-later S ch (set_at S.sites i s) pend st H (takes-steady S H i s ch pend st k)) l i x
+      (steady-joins S ch (set_at S.sites i s) pend st H (takes-steady S H i s ch pend st k) l)
+      (λ b j joins same-start same-term. begun x.start x.term b.nj)
+      (λ b y is start. inl (sym (streamed x.term) ∙ is))) ls h
+
+  -- the streams that it took before
+  pub takes-stream : (t : ℕ) (x : Streaming) → S.logs.streamed i t ≡ Some x → StreamedOk (with-site S i s ch pend st) i t x
+  takes-stream t x is = let h = H.streamed i t x is in
+      streamed-later S (with-site S i s ch pend st) H (steady-later S ch (set_at S.sites i s) pend st H (takes-steady S H i s ch pend st k)) i t x h
+      (steady-reigns S ch (set_at S.sites i s) pend st H (takes-steady S H i s ch pend st k)) h.apart
+      (λ at. subst (λ z. S.logs.reach (part S i) t ≤ length z.log) (sym here)
+      (let r = h.running (sym start-here ∙ at) in let low = r.2 in let up = k.goes.log in omega (arith, low, up)))
+      (takes-counted S H i s ch pend st k i x.start x.nj h.word)
+
+-- ---- whom it counts
+
+module _ (S : LogState) (i : ℕ) (s : SiteState) (ch : Actor → Actor → List Letter) (pend : ℕ → List Waiting) (st : ℕ → ℕ → Option Streaming)
+    (g : GoesOn (S.sites i) s) where
+  -- for each that it counted there is one now, and for each one now there was one
+  pub counts-on : ((j : Joiner) → In j (S.sites i).joiners → (n : Joiner) × In n s.joiners × (n.slot ≡ j.slot) × (n.start ≡ j.start) × (n.nj ≡ j.nj))
+      → (c a nj : ℕ) (w : Membership) → CountedBy S c a nj w i → CountedBy (with-site S i s ch pend st) c a nj w i
+  counts-on each c a nj w h = λ up none view.
+      let e = set-here S.sites i s in
+      let r = h (subst (λ z. 0 < z) (ap (λ x. x.start) e ∙ g.start) up) (none-before (ap (λ x. x.joining) (sym e) ∙ none)) (sym g.view ∙ ap (λ x. x.view) (sym e) ∙ view) in
+      let n = each r.0 r.1 in
+      (n.0, subst (λ x. In n.0 x.joiners) (sym e) n.1, n.2 ∙ r.2, n.3 ∙ r.3, n.4 ∙ r.4)
+    where
+      none-before : s.joining ≡ None → (S.sites i).joining ≡ None
+      none-before none = go (S.sites i).joining refl
+        where
+          go : (o : Option Joining) → (S.sites i).joining ≡ o → (S.sites i).joining ≡ None
+          go None e = e
+          go (Some j) e = absurd (none-and-some none (g.joins j e).1)
+
+  pub uncounts-on : ((n : Joiner) → In n s.joiners → (j : Joiner) × In j (S.sites i).joiners × (j.slot ≡ n.slot) × (j.start ≡ n.start))
+      → (c a : ℕ) → Uncounted S i c a → Uncounted (with-site S i s ch pend st) i c a
+  uncounts-on each c a h = λ n is slot start.
+      let r = each n (subst (λ x. In n x.joiners) (set-here S.sites i s) is) in h r.0 r.1 (r.2 ∙ slot) (r.3 ∙ start)
+
+-- the same ones
+pub same-counts : (js ks : List Joiner) → ks ≡ js → (j : Joiner) → In j js → (n : Joiner) × In n ks × (n.slot ≡ j.slot) × (n.start ≡ j.start) × (n.nj ≡ j.nj)
+same-counts js ks e j is = (j, subst (In j) (sym e) is, refl, refl, refl)
+
+pub same-uncounts : (js ks : List Joiner) → ks ≡ js → (n : Joiner) → In n ks → (j : Joiner) × In j js × (j.slot ≡ n.slot) × (j.start ≡ n.start)
+same-uncounts js ks e n is = (n, subst (In n) e is, refl, refl)
+
+-- ---- the turn
+
+-- what holds of the state that a turn leads to in which nothing is sent
+pub becomes-goes : (S : LogState) (i : ℕ) (s : SiteState) (st : ℕ → ℕ → Option Streaming) → s.start ≡ start_at S i → s.view ≡ (S.sites i).view
+    → Holds (record S { sites = set_at S.sites i s; logs = record S.logs { streamed = st } }) → Goes S i (becomes s)
+becomes-goes S i s st start view h = record {
+  logs = record S.logs { streamed = st };
+  start = start;
+  view = view;
+  plain = λ c. tt;
+  holds = subst (λ c. Holds (record S { words = record S.words { channel = c }; sites = set_at S.sites i s; logs = record S.logs { streamed = st } }))
+      (sym (sent-nothing S.words.channel (Site i))) h;
+  grown = grown-reach S.words.deployment i s S.logs (record S.logs { streamed = st }) refl (λ p t. omega arith);
+}

@@ -1,0 +1,505 @@
+-- Turns of a site in which its log and its term stay: what it counts, acknowledges and has on disk may change.
+use Rattle.std.proofs.Common.{◌≡◌, ◌<◌, ◌≤◌, true, false, List, [], ◌∷◌, ◌++◌, refl, sym, subst, ap, ◌∙◌, ◌⊎◌, inl, inr, append-nil, arith}
+use Rattle.std.proofs.Math.Path.{fun_ext}
+use Rattle.std.specs.Prelude.{ℕ, map, length, Option, Some, None}
+use Rattle.std.specs.List.{AllByRecursion}
+use Rattle.volt_wire.specs.Word.{Membership}
+use Rattle.volt_wire.specs.declared.actor.Actor.{Actor}
+use Rattle.volt_wire.specs.declared.actor.Actor.TheVariants.{Director, Client, Agent, Site, Scanner}
+use Rattle.volt_wire.specs.declared.message.Msg.TheVariants as msg
+use Rattle.cluster_model.specs.Words.{Deployment, term_of}
+use Rattle.cluster_model.specs.Letters.{Letter, Sends, no_sends, Turn, sending, Waiting}
+use Rattle.cluster_model.specs.SiteState.{SiteState, Streamed, Joining, Joiner, is_leader}
+use Rattle.cluster_model.specs.World.{sent, set_at}
+use Rattle.word_laws.specs.Histories.{In, Distinct}
+use Rattle.word_laws.proofs.Lists.{not-both, in-none, in-map, in-map-from, all-append, all-mono, none-and-some, same-some, set-both}
+use Rattle.log_laws.specs.Histories.{LogState, Entered, Streaming, Reign, Flow, Holds, SiteOk, BeginsAt, WaitingOk, ReportOk, AskOk, from_agent, IsSlot, AckOk, CountedOk, IsCounted, HeldOk, MemberOk, JoinerOk, ViewIn, StreamIn, Quiet, Coming, KeepsOk, ViewsOk, ForeignOk, LoadsOk, ToldOk, SiteLetterOk, JoinsIn, line_in, flow_in, ask_in, line_of, flow_of, ask_of, asks_waiting, asks_of_term, line, flow, ends, asks_in, asked, follows, FollowsIn, part, start_at, log_at, term_at, between}
+use Rattle.log_laws.proofs.Kept.Moves.{after, Later, Goes, NoStreamStart, JoinsOn, SameReigns}
+use Rattle.log_laws.proofs.Kept.Grown.{grown-reach}
+use Rattle.log_laws.proofs.Kept.Laters.{ack-later, report-later, ask-later, counted-later, letter-later, waiting-later-with, loads-later, entered-later, streamed-later, reigns-later, unleds-later}
+use Rattle.log_laws.proofs.Plain.Copies.{leader-same, leader-view}
+use Rattle.log_laws.proofs.Plain.Lines.{line-same, flow-same, ends-same, asks-same, line-none, flow-none, asks-none, line-plain, flow-plain, asks-plain}
+use Rattle.log_laws.proofs.Kept.KeepsViews.{views-keeps-with, leaves-same}
+use Rattle.log_laws.proofs.Kept.Plumbing.{GoesFrom, words-later, words-after, sent-either}
+
+-- ---- what such a turn may change
+
+-- a site's state, where its log, its term and what it keeps of messages are those of the first one
+abbrev pub settled : SiteState → SiteState → SiteState
+settled a b = record b {
+  start = a.start;
+  greatest = a.greatest;
+  earlier = a.earlier;
+  view = a.view;
+  log = a.log;
+  repaired = a.repaired;
+  reports = a.reports;
+  asks = a.asks;
+  waiting = a.waiting;
+}
+
+-- a join, where what came is as in the first one
+abbrev pub flagged : Joining → Joining → Joining
+flagged a b = record b { stream = a.stream; count = a.count; is_loaded = a.is_loaded; tasks = a.tasks }
+
+pub record JoiningRests (j k : Joining) : Type 0 where
+  pub same : k ≡ flagged j k
+  pub told : k.has_told ≡ true → j.is_loaded ≡ true
+  pub based : k.is_based ≡ true → j.is_loaded ≡ true
+  pub still : j.is_based ≡ true → k.is_based ≡ true
+
+-- the same starts are counted, from the same positions on
+pub record SameJoiners (js ks : List Joiner) : Type 0 where
+  pub kept : (j : Joiner) → In j js → (k : Joiner) × In k ks × (k.slot ≡ j.slot) × (k.start ≡ j.start) × (k.nj ≡ j.nj)
+  pub back : (k : Joiner) → In k ks → (j : Joiner) × In j js × (j.slot ≡ k.slot) × (j.start ≡ k.start) × (j.nj ≡ k.nj)
+
+-- Of the site of slot c, with what is everywhere in each term.
+pub record SiteRests (S : LogState) (reach : ℕ → ℕ → ℕ) (c : ℕ) (s : SiteState) : Type 0 where
+  pub is : s ≡ settled (S.sites c) s
+  pub member : (S.sites c).joining ≡ None → s.joining ≡ None
+  pub joiner : (j : Joining) → (S.sites c).joining ≡ Some j → (k : Joining) × (s.joining ≡ Some k) × JoiningRests j k
+  -- Only a member that is repaired may take more to be everywhere.
+  pub counts : ((s.floor ≡ (S.sites c).floor) × (s.firm ≡ (S.sites c).firm))
+      ⊎ (((S.sites c).repaired ≡ true) × ((S.sites c).joining ≡ None)
+      × ((w : Membership) → (S.sites c).view ≡ Some w → (s.floor ≤ reach (part S c) (term_of w)) × (s.firm ≤ reach (part S c) (term_of w))))
+  pub acks : 0 < start_at S c → AllByRecursion (λ a. IsSlot S a.0 → AckOk S a.0 (term_at S c) a.1) s.acks
+  pub joiners : 0 < start_at S c → AllByRecursion (CountedOk S (part S c) (term_at S c)) s.joiners
+  pub alone : 0 < start_at S c → Distinct (map (λ j. j.slot) s.joiners)
+  pub leads : 0 < start_at S c → (s.joiners ≡ []) ⊎ (is_leader S.words.deployment c (S.sites c) ≡ true)
+  pub counted : SameJoiners (S.sites c).joiners s.joiners
+  pub on_disk : 0 < start_at S c → s.on_disk ≤ length (log_at S c)
+  pub held : 0 < start_at S c → AllByRecursion HeldOk s.held
+
+-- Of what is everywhere in each term: it only rises, in terms that were led, and not above what is in the logs of that term.
+pub record ReachRests (S : LogState) (reach : ℕ → ℕ → ℕ) : Type 0 where
+  pub rises : (p t : ℕ) → S.logs.reach p t ≤ reach p t
+  pub unled : (p t : ℕ) → S.logs.reign p t ≡ None → reach p t ≡ S.logs.reach p t
+  pub led : (p t : ℕ) (g : Reign) → S.logs.reign p t ≡ Some g → reach p t ≤ length g.log
+  pub entered : (c t : ℕ) (e : Entered) → S.logs.entered c t ≡ Some e → start_at S c ≡ e.start → reach (part S c) t ≤ length (log_at S c)
+  pub streamed : (c t : ℕ) (x : Streaming) → S.logs.streamed c t ≡ Some x → start_at S c ≡ x.start → reach (part S c) t ≤ length (log_at S c)
+  pub since : (c t : ℕ) (e : Entered) → S.logs.entered c t ≡ Some e → (v : ℕ) (g : Reign) → S.logs.reign (part S c) v ≡ Some g → v < t
+      → reach (part S c) v ≤ length e.log
+  pub coming : (c : ℕ) (w : Membership) (fl : List Flow) → In w S.words.history.decided → log_at S c ≡ [] → (S.sites c).earlier < term_of w
+      → (k : Coming S c w fl) → reach (part S c) (term_of w) ≤ length k.past
+
+-- what says nothing that a copy appends or a joiner takes, and asks for nothing
+abbrev pub Plain : Letter → Type 0
+Plain l = (line_in l.body ≡ []) × (flow_in l.past l.body ≡ []) × (ask_in l.body ≡ []) × NoStreamStart l
+
+-- Of what the site of slot i sends.
+pub record SaysRests (S : LogState) (i : ℕ) (out : Sends) : Type 0 where
+  pub sites : (c : ℕ) → AllByRecursion (λ l. Plain l × SiteLetterOk S i c l) (out (Site c))
+  pub ended : (c : ℕ) (w : Membership) → JoinsIn S c w → In w S.words.history.decided
+      → Quiet S c w i ⊎ (follows S.words.deployment w c i ≡ false) → ends (start_at S c) (term_of w) (out (Site c)) ≡ []
+  pub told : (h : ℕ) → AllByRecursion (ToldOk S i) (out (Agent h))
+
+-- ---- the state after it
+
+abbrev pub rested : LogState → (ℕ → SiteState) → ℕ → Sends → (ℕ → ℕ → ℕ) → LogState
+rested S states i out reach = record S {
+  words = record S.words { channel = sent S.words.channel (Site i) out };
+  sites = λ c. settled (S.sites c) (states c);
+  logs = record S.logs { reach = reach };
+}
+
+module _ (S : LogState) (H : Holds S) (states : ℕ → SiteState) (i : ℕ) (out : Sends) (reach : ℕ → ℕ → ℕ)
+    (rests : (c : ℕ) → SiteRests S reach c (states c)) (reaches : ReachRests S reach) (says : SaysRests S i out) where
+  abbrev T : LogState
+  T = rested S states i out reach
+
+  -- joins
+  joins-before : (c : ℕ) (k : Joining) → (states c).joining ≡ Some k → (j : Joining) × ((S.sites c).joining ≡ Some j) × JoiningRests j k
+  joins-before c k e = go (S.sites c).joining refl
+    where
+      go : (o : Option Joining) → (S.sites c).joining ≡ o → (j : Joining) × ((S.sites c).joining ≡ Some j) × JoiningRests j k
+      go None none = absurd (none-and-some ((rests c).member none) e)
+      go (Some j) some = let r = (rests c).joiner j some in (j, some, subst (JoiningRests j) (same-some (sym r.1 ∙ e)) r.2)
+
+  member-before : (c : ℕ) → (states c).joining ≡ None → (S.sites c).joining ≡ None
+  member-before c e = go (S.sites c).joining refl
+    where
+      go : (o : Option Joining) → (S.sites c).joining ≡ o → (S.sites c).joining ≡ None
+      go None none = none
+      go (Some j) some = absurd (none-and-some e ((rests c).joiner j some).1)
+
+  joins-on : (c : ℕ) → JoinsOn S T c
+  joins-on c w k = let r = (rests c).joiner k.0 k.1 in (r.0, r.1, k.2)
+
+  -- what is kept
+  later : Later S T
+  later = record {
+    words = words-later S T.words.channel;
+    ran = λ c a k. k;
+    greatest = λ c. omega arith;
+    sites = λ c. inl (record {
+      start = refl;
+      earlier = refl;
+      log = omega arith;
+      term = omega arith;
+      member = (rests c).member;
+      loaded = λ k e. let b = joins-before c k e in (b.0, b.1, b.2.still);
+    });
+    entered = λ c t e is. is;
+    entered_now = λ c t e is. inl is;
+    streamed = λ c t x is. is;
+    streamed_now = λ c t x is. inl is;
+    reach = reaches.rises;
+  }
+
+  same-reigns : SameReigns S.logs T.logs
+  same-reigns = record { kept = λ p t g is. (g, is, refl, ([], sym (append-nil g.log))); none = λ p t is. is }
+
+  -- ---- what is under way
+
+  -- what the site sent says nothing of these
+  plain-out : (c : ℕ) → AllByRecursion Plain (out (Site c))
+  plain-out c = all-mono (λ l. Plain l × SiteLetterOk S i c l) Plain (λ l k. k.0) (out (Site c)) (says.sites c)
+
+  lines : (start term j c : ℕ) → line start term (between T j c) ≡ line start term (between S j c)
+  lines start term j c = sent-either S i (S.sites i) out S.logs (λ j ls. line start term ls ≡ line start term (between S j c)) (Site c)
+      (line-same start term (between S i c) (out (Site c)) (line-none start term (out (Site c))
+      (all-mono Plain (λ l. line_of start term l ≡ []) (λ l k. line-plain start term l k.0) (out (Site c)) (plain-out c)))) (λ j n. refl) j
+
+  flows : (start term j c : ℕ) → flow start term (between T j c) ≡ flow start term (between S j c)
+  flows start term j c = sent-either S i (S.sites i) out S.logs (λ j ls. flow start term ls ≡ flow start term (between S j c)) (Site c)
+      (flow-same start term (between S i c) (out (Site c)) (flow-none start term (out (Site c))
+      (all-mono Plain (λ l. flow_of start term l ≡ []) (λ l k. flow-plain start term l k.1) (out (Site c)) (plain-out c)))) (λ j n. refl) j
+
+  asks-under : (term j c : ℕ) → asks_in term (between T j c) ≡ asks_in term (between S j c)
+  asks-under term j c = sent-either S i (S.sites i) out S.logs (λ j ls. asks_in term ls ≡ asks_in term (between S j c)) (Site c)
+      (asks-same term (between S i c) (out (Site c)) (asks-none term (out (Site c))
+      (all-mono Plain (λ l. ask_of term l ≡ []) (λ l k. asks-plain term l k.2) (out (Site c)) (plain-out c)))) (λ j n. refl) j
+
+  askeds : (c l term : ℕ) → asked T c l term ≡ asked S c l term
+  askeds c l term = ap (λ xs. xs ++ asks_waiting c term (S.sites l).waiting ++ asks_waiting c term (S.pending l) ++ asks_of_term c term (S.sites l)) (asks-under term c l)
+
+  ends-from : (c l : ℕ) (w : Membership) → JoinsIn S c w → In w S.words.history.decided → Quiet S c w l ⊎ (follows S.words.deployment w c l ≡ false)
+      → ends (start_at S c) (term_of w) (between S l c) ≡ [] → ends (start_at S c) (term_of w) (between T l c) ≡ []
+  ends-from c l w joins decided away none = sent-either S i (S.sites i) out S.logs
+      (λ l ls. Quiet S c w l ⊎ (follows S.words.deployment w c l ≡ false) → ends (start_at S c) (term_of w) (between S l c) ≡ [] → ends (start_at S c) (term_of w) ls ≡ []) (Site c)
+      (λ q e. ends-same (start_at S c) (term_of w) (between S i c) (out (Site c)) (says.ended c w joins decided q) ∙ e) (λ l n q e. e) l away none
+
+  -- ---- who is counted
+
+  counted-rests : (c a nj : ℕ) (w : Membership) → IsCounted S c a nj w → IsCounted T c a nj w
+  counted-rests c a nj w k l lead up none view =
+      let r = k l lead up (member-before l none) view in
+      let m = (rests l).counted.kept r.0 r.1 in
+      (m.0, m.1, m.2 ∙ r.2, m.3 ∙ r.3, m.4 ∙ r.4)
+
+  quiet-rests : (c : ℕ) (w : Membership) (l : ℕ) → JoinsIn S c w → In w S.words.history.decided → Quiet S c w l → Quiet T c w l
+  quiet-rests c w l joins decided q = record {
+    flow_is = flows (start_at S c) (term_of w) l c ∙ q.flow_is;
+    ends_are = ends-from c l w joins decided (inl q) q.ends_are;
+    uncounted = λ k here slot start. let b = (rests l).counted.back k here in q.uncounted b.0 b.1 (b.2 ∙ slot) (b.3 ∙ start);
+    asks = λ slot. elim (q.asks slot) [
+      | inl e ↦ inl (askeds c l (term_of w) ∙ e)
+      | inr e ↦ inr (askeds c l (term_of w) ∙ e)
+    ];
+  }
+
+  coming-rests : (c : ℕ) (w : Membership) (fl : List Flow) → In w S.words.history.decided → log_at S c ≡ [] → (S.sites c).earlier < term_of w → Coming S c w fl → Coming T c w fl
+  coming-rests c w fl decided empty below k = record {
+    past = k.past;
+    more = k.more;
+    reign = k.reign;
+    flow_is = k.flow_is;
+    led = k.led;
+    whole = k.whole;
+    behind = k.behind;
+    reach = reaches.coming c w fl decided empty below k;
+    counted = counted-rests c (start_at S c) (length k.past) w k.counted;
+  }
+
+  -- ---- members
+
+  member-rests : (c : ℕ) (w : Membership) → (S.sites c).view ≡ Some w → MemberOk S c w → MemberOk T c w
+  member-rests c w view m = record {
+    decided = m.decided;
+    start_is = m.start_is;
+    entered = m.entered;
+    is_entered = m.is_entered;
+    since = m.since;
+    earlier = m.earlier;
+    grown = m.grown;
+    still = λ e. let o = m.still e in elim (rests c).counts [
+      | inl k ↦ (o.0, k.0 ∙ o.1, k.1 ∙ o.2)
+      | inr k ↦ absurd (not-both (S.sites c).repaired k.0 e)
+    ];
+    floor = known.0;
+    firm = known.1;
+    leading = m.leading;
+    following = λ l f. subst (λ ln. FollowsIn (T.sites c) ln (S.logs.reign (part S c) (term_of w))) (sym (lines (start_at S c) (term_of w) l c)) (m.following l f);
+    others = λ l f. lines (start_at S c) (term_of w) l c ∙ m.others l f;
+  }
+    where
+      known : ((states c).floor ≤ reach (part S c) (term_of w)) × ((states c).firm ≤ reach (part S c) (term_of w))
+      known = elim (rests c).counts [
+        | inl k ↦ let r = reaches.rises (part S c) (term_of w) in let a = m.floor in let b = m.firm in
+            (let e = k.0 in omega (arith, a, r, e), let e = k.1 in omega (arith, b, r, e))
+        | inr k ↦ k.2 w view
+      ]
+
+  -- ---- joiners
+
+  module _ (c : ℕ) (j k : Joining) (some : (S.sites c).joining ≡ Some j) (r : JoiningRests j k) (here : (states c).joining ≡ Some k) where
+    same-counts : ((states c).floor ≡ (S.sites c).floor) × ((states c).firm ≡ (S.sites c).firm)
+    same-counts = elim (rests c).counts [
+      | inl e ↦ e
+      | inr e ↦ absurd (none-and-some e.1 some)
+    ]
+
+    stream-rests : (w : Membership) → (S.sites c).view ≡ Some w → In w S.words.history.decided → (o : Option Streamed) → StreamIn S c w j o → StreamIn T c w (flagged j k) o
+    stream-rests w view decided None u = record {
+      loads = u.loads;
+      counts = u.counts;
+      tasks = u.tasks;
+      empty = u.empty;
+      floor = same-counts.0 ∙ u.floor;
+      never = u.never;
+      comes = λ l f below. elim (u.comes l f below) [
+        | inl q ↦ inl (quiet-rests c w l (j, some, view) decided q)
+        | inr q ↦ inr (
+          subst (Coming T c w) (sym (flows (start_at S c) (term_of w) l c)) (coming-rests c w (flow (start_at S c) (term_of w) (between S l c)) decided u.empty below q.0),
+          askeds c l (term_of w) ∙ q.1,
+        )
+      ];
+    }
+    stream-rests w view decided (Some st) u = record {
+      from = u.from;
+      following = u.following;
+      more = u.more;
+      reign = u.reign;
+      led = u.led;
+      flow_is = flows (start_at S c) (term_of w) u.from c ∙ u.flow_is;
+      whole = u.whole;
+      streamed = u.streamed;
+      loading = u.loading;
+      loaded = u.loaded;
+      ends = λ e. let b = u.ends e in let m = reaches.rises (part S c) (term_of w) in omega (arith, b, m);
+      floor = same-counts.0 ∙ u.floor;
+      asks = λ l slot. askeds c l (term_of w) ∙ u.asks l slot;
+    }
+
+    view-rests : (o : Option Membership) → (S.sites c).view ≡ o → ViewIn S c j o → ViewIn T c (flagged j k) o
+    view-rests None view v = record {
+      stream = v.stream;
+      loads = v.loads;
+      counts = v.counts;
+      tasks = v.tasks;
+      empty = v.empty;
+      floor = same-counts.0 ∙ v.floor;
+      never = v.never;
+    }
+    view-rests (Some w) view v = let decided = (H.words.history.took_ok (start_at S c) w v.took).0 in record {
+      took = v.took;
+      lines = λ l. lines (start_at S c) (term_of w) l c ∙ v.lines l;
+      others = λ l f. let o = v.others l f in (
+        flows (start_at S c) (term_of w) l c ∙ o.0,
+        ends-from c l w (j, some, view) decided (inr f) o.1,
+        λ slot below. askeds c l (term_of w) ∙ o.2 slot below,
+      );
+      stream = stream-rests w view decided j.stream v.stream;
+    }
+
+    joiner-rests : JoinerOk S c j → JoinerOk T c k
+    joiner-rests o = subst (JoinerOk T c) (sym r.same) (record {
+      runs = o.runs;
+      unentered = o.unentered;
+      told = r.told;
+      based = r.based;
+      firm = same-counts.1 ∙ o.firm;
+      view = view-rests (S.sites c).view refl o.view;
+    })
+
+  -- ---- what a site keeps
+
+  -- what came to slot c from slot j is still so
+  letter-rests : (j c : ℕ) (l : Letter) → SiteLetterOk S j c l → SiteLetterOk T j c l
+  letter-rests j c l k = letter-later S T H later j c l (joins-on j)
+      (λ e n some start term b. subst (AllByRecursion (BeginsAt e.nj)) (sym (flows l.start l.term j c)) b) (λ e x is start. inl is) k
+
+  waiting-rests : (c : ℕ) (x : Waiting) → WaitingOk S c x → WaitingOk T c x
+  waiting-rests c x k = waiting-later-with S T H later c refl x (λ j a from. ask-later S T H later (part S c) j x.letter.term a (joins-on j)) k
+
+  leads-rests : (c : ℕ) → is_leader S.words.deployment c (S.sites c) ≡ true → is_leader S.words.deployment c (T.sites c) ≡ true
+  leads-rests c e = leader-same S.words.deployment c (S.sites c) (T.sites c) refl
+      (let none = (leader-view S.words.deployment c (S.sites c) e).0 in (rests c).member none ∙ sym none) ∙ e
+
+  keeps-rests : (c : ℕ) → 0 < start_at S c → KeepsOk S c → KeepsOk T c
+  keeps-rests c up k = record {
+    acks = all-mono (λ a. IsSlot S a.0 → AckOk S a.0 (term_at S c) a.1) (λ a. IsSlot T a.0 → AckOk T a.0 (term_at T c) a.1)
+        (λ a ok slot. ack-later S T H later a.0 (term_at S c) a.1 (ok slot)) (states c).acks ((rests c).acks up);
+    reports = all-mono (λ r. ReportOk S (part S c) r.slot (term_at S c) r.position r.floor r.tail) (λ r. ReportOk T (part T c) r.slot (term_at T c) r.position r.floor r.tail)
+        (λ r. report-later S T H later (part S c) r.slot (term_at S c) r.position r.floor r.tail) (S.sites c).reports k.reports;
+    joiners = all-mono (CountedOk S (part S c) (term_at S c)) (CountedOk T (part T c) (term_at T c))
+        (counted-later S T H later (part S c) (term_at S c)) (states c).joiners ((rests c).joiners up);
+    alone = (rests c).alone up;
+    leads = elim ((rests c).leads up) [
+      | inl e ↦ inl e
+      | inr e ↦ inr (leads-rests c e)
+    ];
+    asks = all-mono (λ a. AskOk S (part S c) a.slot (term_at S c) a.start) (λ a. AskOk T (part T c) a.slot (term_at T c) a.start)
+        (λ a. ask-later S T H later (part S c) a.slot (term_at S c) a.start (joins-on a.slot)) (S.sites c).asks k.asks;
+    waiting = all-mono (WaitingOk S c) (WaitingOk T c) (waiting-rests c) (S.sites c).waiting k.waiting;
+    pending = all-mono (WaitingOk S c) (WaitingOk T c) (waiting-rests c) (S.pending c) k.pending;
+    on_disk = (rests c).on_disk up;
+    held = (rests c).held up;
+  }
+
+  site_ok-rests : (c : ℕ) → SiteOk S c → SiteOk T c
+  site_ok-rests c o = record {
+    outside = o.outside;
+    ran = o.ran;
+    term = o.term;
+    earlier = o.earlier;
+    member = λ up none. let m = o.member up (member-before c none) in (m.0, m.1, member-rests c m.0 m.1 m.2);
+    joiner = λ k here. let b = joins-before c k here in joiner-rests c b.0 k b.1 b.2 here (o.joiner b.0 b.1);
+    keeps = λ up. keeps-rests c up (o.keeps up);
+    stopped = λ none. let k = o.stopped none in
+        (k.0, k.1, in-none (states c).joiners (λ j here. let b = (rests c).counted.back j here in subst (In b.0) k.2 b.1), k.3);
+    blank = o.blank;
+  }
+
+  -- ---- what comes from agents, and goes to them
+
+  views-rests : (c : ℕ) → ViewsOk S c → ViewsOk T c
+  views-rests c v = views-keeps-with S T H later c refl refl refl refl (λ s k. k) (leaves-same (start_at S c) (from_agent S c) (from_agent S c) refl) v
+
+  foreign-rests : (from : Actor) (c : ℕ) → AllByRecursion (ForeignOk T c from) (T.words.channel from (Site c))
+  foreign-rests (Site j) c = sent-either S i (S.sites i) out S.logs (λ j ls. AllByRecursion (ForeignOk T c (Site j)) ls) (Site c)
+      (all-append (ForeignOk T c (Site i)) (between S i c) (out (Site c)) (H.foreign (Site i) c)
+      (all-mono (λ l. Plain l × SiteLetterOk S i c l) (ForeignOk T c (Site i)) (λ l k. no-start l k.1) (out (Site c)) (says.sites c))) (λ j n. H.foreign (Site j) c) j
+    where
+      no-start : (l : Letter) → SiteLetterOk S i c l → ForeignOk T c (Site i) l
+      no-start l k = elim l.body as (λ m. SiteLetterOk S i c (record l { body = m }) → ForeignOk T c (Site i) (record l { body = m })) [
+        | msg.Start a ↦ λ p. p
+        | m ↦ λ p. tt
+      ] k
+  foreign-rests (Agent h) c = H.foreign (Agent h) c
+  foreign-rests Director c = H.foreign Director c
+  foreign-rests (Client n) c = H.foreign (Client n) c
+  foreign-rests (Scanner j) c = H.foreign (Scanner j) c
+
+  loads-rests : LoadsOk T
+  loads-rests = loads-later S T H later refl refl
+      (λ c h. sent-either S i (S.sites i) out S.logs (λ c ls. AllByRecursion (ToldOk S c) ls) (Agent h)
+      (all-append (ToldOk S i) (S.words.channel (Site i) (Agent h)) (out (Agent h)) (H.loads.told i h) (says.told h)) (λ c n. H.loads.told c h) c)
+      (λ h g. refl)
+
+  -- ---- all of it
+
+  holds-rests : Holds T
+  holds-rests = record {
+    words = words-after S i (S.sites i) out S.logs H.words;
+    sites = λ c. site_ok-rests c (H.sites c);
+    views = λ c. views-rests c (H.views c);
+    letters = λ j c slot. sent-either S i (S.sites i) out S.logs (λ j ls. AllByRecursion (SiteLetterOk T j c) ls) (Site c)
+        (all-append (SiteLetterOk T i c) (between S i c) (out (Site c))
+        (all-mono (SiteLetterOk S i c) (SiteLetterOk T i c) (letter-rests i c) (between S i c) (H.letters i c slot))
+        (all-mono (λ l. Plain l × SiteLetterOk S i c l) (SiteLetterOk T i c) (λ l k. letter-rests i c l k.1) (out (Site c)) (says.sites c)))
+        (λ j n. all-mono (SiteLetterOk S j c) (SiteLetterOk T j c) (letter-rests j c) (between S j c) (H.letters j c slot)) j;
+    foreign = foreign-rests;
+    loads = loads-rests;
+    entered = λ c t e is. entered-later S T H later c t e (H.entered c t e is) is same-reigns (reaches.entered c t e is) (reaches.since c t e is);
+    streamed = λ c t x is. let k = H.streamed c t x is in
+        streamed-later S T H later c t x k same-reigns k.apart (reaches.streamed c t x is) (counted-rests c x.start x.nj k.word);
+    reigns = reigns-later S T H later same-reigns reaches.led;
+    unled = λ p t none. unleds-later S T H later same-reigns p t (reaches.unled p t none) none;
+    some = H.some;
+    first = H.first;
+  }
+
+-- ---- a turn of one site
+
+pub same-joiners : (js : List Joiner) → SameJoiners js js
+same-joiners js = record { kept = λ j k. (j, k, refl, refl, refl); back = λ j k. (j, k, refl, refl, refl) }
+
+-- where each joiner becomes another one with its slot, its start and its first position
+pub map-joiners : (f : Joiner → Joiner) → ((j : Joiner) → (f j).slot ≡ j.slot) → ((j : Joiner) → (f j).start ≡ j.start) → ((j : Joiner) → (f j).nj ≡ j.nj)
+    → (js : List Joiner) → SameJoiners js (map f js)
+map-joiners f slot start nj js = record {
+  kept = λ j k. (f j, in-map f j js k, slot j, start j, nj j);
+  back = λ k here. let r = in-map-from f k js here in
+      (r.0, r.1, sym (slot r.0) ∙ ap (λ x. x.slot) r.2, sym (start r.0) ∙ ap (λ x. x.start) r.2, sym (nj r.0) ∙ ap (λ x. x.nj) r.2);
+}
+
+pub map-slots : (f : Joiner → Joiner) → ((j : Joiner) → (f j).slot ≡ j.slot) → (js : List Joiner) → map (λ j. j.slot) (map f js) ≡ map (λ j. j.slot) js
+map-slots f slot [] = refl
+map-slots f slot (j ∷ js) = rw (slot j) (ap (λ xs. j.slot ∷ xs) (map-slots f slot js))
+
+-- a part of a turn, from whatever state it is in which the site is what the parts before made of it
+pub part-from : (S : LogState) (i : ℕ) (s : SiteState) (part : Deployment → SiteState → Turn SiteState)
+    → ((T : LogState) → Holds T → 0 < start_at T i → Goes T i (part T.words.deployment (T.sites i))) → 0 < s.start → GoesFrom S i s (part S.words.deployment s)
+part-from S i s part goes up T here same pending H =
+    subst (λ D. Goes T i (part D s)) same (subst (λ x. Goes T i (part T.words.deployment x)) here (goes T H (subst (λ x. 0 < x.start) (sym here) up)))
+
+-- what is everywhere stays
+pub reach-same : (S : LogState) → Holds S → ReachRests S S.logs.reach
+reach-same S H = record {
+  rises = λ p t. omega arith;
+  unled = λ p t none. refl;
+  led = λ p t g is. (H.reigns p t g is).within;
+  entered = λ c t e is runs. ((H.entered c t e is).running runs).2;
+  streamed = λ c t x is runs. ((H.streamed c t x is).running runs).2;
+  since = λ c t e is. (H.entered c t e is).since;
+  coming = λ c w fl decided empty below k. k.reach;
+}
+
+module _ (S : LogState) (H : Holds S) (i : ℕ) where
+  -- of a site that stays as it is
+  pub site-same : (reach : ℕ → ℕ → ℕ) (c : ℕ) → SiteRests S reach c (S.sites c)
+  site-same reach c = record {
+    is = refl;
+    member = λ e. e;
+    joiner = λ j e. let o = (H.sites c).joiner j e in (j, e, record { same = refl; told = o.told; based = o.based; still = λ b. b });
+    counts = inl (refl, refl);
+    acks = λ up. ((H.sites c).keeps up).acks;
+    joiners = λ up. ((H.sites c).keeps up).joiners;
+    alone = λ up. ((H.sites c).keeps up).alone;
+    leads = λ up. ((H.sites c).keeps up).leads;
+    counted = same-joiners (S.sites c).joiners;
+    on_disk = λ up. ((H.sites c).keeps up).on_disk;
+    held = λ up. ((H.sites c).keeps up).held;
+  }
+
+  -- of one that counts, and knows of copies, joiners and answers, as before
+  pub site-rests : (reach : ℕ → ℕ → ℕ) (s : SiteState) → s ≡ settled (S.sites i) s → s.floor ≡ (S.sites i).floor → s.firm ≡ (S.sites i).firm
+      → s.acks ≡ (S.sites i).acks → s.joiners ≡ (S.sites i).joiners → s.held ≡ (S.sites i).held
+      → ((S.sites i).joining ≡ None → s.joining ≡ None) → ((j : Joining) → (S.sites i).joining ≡ Some j → (k : Joining) × (s.joining ≡ Some k) × JoiningRests j k)
+      → (0 < start_at S i → s.on_disk ≤ length (log_at S i)) → SiteRests S reach i s
+  site-rests reach s is floor firm acks joiners held member joiner on_disk = let o = site-same reach i in record {
+    is = is;
+    member = member;
+    joiner = joiner;
+    counts = inl (floor, firm);
+    acks = subst (λ x. 0 < start_at S i → AllByRecursion (λ a. IsSlot S a.0 → AckOk S a.0 (term_at S i) a.1) x) (sym acks) o.acks;
+    joiners = subst (λ x. 0 < start_at S i → AllByRecursion (CountedOk S (part S i) (term_at S i)) x) (sym joiners) o.joiners;
+    alone = subst (λ x. 0 < start_at S i → Distinct (map (λ j. j.slot) x)) (sym joiners) o.alone;
+    leads = subst (λ x. 0 < start_at S i → (x ≡ []) ⊎ (is_leader S.words.deployment i (S.sites i) ≡ true)) (sym joiners) o.leads;
+    counted = subst (SameJoiners (S.sites i).joiners) (sym joiners) o.counted;
+    on_disk = on_disk;
+    held = subst (λ x. 0 < start_at S i → AllByRecursion HeldOk x) (sym held) o.held;
+  }
+
+  -- a site that says nothing
+  pub says-nothing : SaysRests S i no_sends
+  says-nothing = record { sites = λ c. tt; ended = λ c w joins decided away. refl; told = λ h. tt }
+
+  module _ (s : SiteState) (out : Sends) (reach : ℕ → ℕ → ℕ) (rests : SiteRests S reach i s) (reaches : ReachRests S reach) (says : SaysRests S i out) where
+    pub rests-holds : Holds (after S i s out (record S.logs { reach = reach }))
+    rests-holds = subst (λ f. Holds (record (rested S (set_at S.sites i s) i out reach) { sites = f })) (sym sites)
+        (holds-rests S H (set_at S.sites i s) i out reach (set-both (SiteRests S reach) S.sites i s rests (λ c n. site-same reach c)) reaches says)
+      where
+        sites : set_at S.sites i s ≡ (λ c. settled (S.sites c) (set_at S.sites i s c))
+        sites = fun_ext (set-both (λ c x. x ≡ settled (S.sites c) x) S.sites i s rests.is (λ c n. refl))
+
+    pub rests-goes : Goes S i (sending s out)
+    rests-goes = record {
+      logs = record S.logs { reach = reach };
+      start = ap (λ x. x.start) rests.is;
+      view = ap (λ x. x.view) rests.is;
+      plain = λ c. all-mono (λ l. Plain l × SiteLetterOk S i c l) NoStreamStart (λ l k. k.0.3) (out (Site c)) (says.sites c);
+      holds = rests-holds;
+      grown = grown-reach S.words.deployment i s S.logs (record S.logs { reach = reach }) refl reaches.rises;
+    }

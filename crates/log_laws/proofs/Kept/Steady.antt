@@ -1,0 +1,242 @@
+-- Moves of sites that leave words, terms and what was entered as they are: what holds, holds after them.
+use Rattle.std.proofs.Common.{List, ap, arith, inl, refl, sym, true, ◌≡◌, ◌∙◌, ◌⊎◌, ◌<◌, ◌≤◌, []}
+use Rattle.std.specs.List.{AllByRecursion}
+use Rattle.std.specs.Prelude.{None, Option, Some, length, map, ℕ}
+use Rattle.volt_wire.specs.Word.{Membership}
+use Rattle.volt_wire.specs.declared.actor.Actor.{Actor}
+use Rattle.volt_wire.specs.declared.actor.Actor.TheVariants.{Agent, Director, Site}
+use Rattle.cluster_model.specs.Laws.{starts_in}
+use Rattle.cluster_model.specs.Letters.{Letter, Waiting}
+use Rattle.cluster_model.specs.SiteState.{Ask, Joiner, Joining, SiteState, is_leader}
+use Rattle.cluster_model.specs.Words.{host_of_slot, term_of}
+use Rattle.word_laws.proofs.Lists.{all-mono, none-and-some}
+use Rattle.word_laws.proofs.Steps.{channel-holds}
+use Rattle.word_laws.specs.Histories.{Distinct}
+use Rattle.log_laws.specs.Histories.{AckOk, AskOk, AskedOk, CountedOk, FirstViews, ForeignOk, Holds, IsCounted, IsSlot, JoinerOk, KeepsOk, LoadsOk, LogState, MemberOk, QueuedOk, ReportOk, RunViews, SiteLetterOk, SiteOk, StreamedOk, Streaming, ToldOk, ViewsOk, WaitingOk, between, from_agent, line, part, start_at, term_at, views}
+use Rattle.log_laws.proofs.Kept.Keeps.{SameFrom, SameRun, Still, joiner-keeps, member-keeps}
+use Rattle.log_laws.proofs.Kept.Laters.{ack-later, all_loaded-later, ask-later, asked-later, counted-later, entered-later, loaded-later, queued-later, reigns-later, report-later, same-reigns, told-later, unleds-later, waiting-later-with}
+use Rattle.log_laws.proofs.Kept.Moves.{JoinsOn, Later, SameReigns, Unentered}
+use Rattle.log_laws.proofs.Kept.Plumbing.{words-later}
+
+-- ---- a move
+
+-- the state with these channels and sites, with what is pending, and with the streams that were taken
+abbrev pub shifted : LogState → (Actor → Actor → List Letter) → (ℕ → SiteState) → (ℕ → List Waiting) → (ℕ → ℕ → Option Streaming) → LogState
+shifted S ch f pend st = record S {
+  words = record S.words { channel = ch };
+  sites = f;
+  pending = pend;
+  logs = record S.logs { streamed = st };
+}
+
+-- A site goes on: a member as one, and a joiner as one, whose base is still on disk if it was.
+pub record GoesOn (s t : SiteState) : Type 0 where
+  pub start : t.start ≡ s.start
+  pub greatest : t.greatest ≡ s.greatest
+  pub earlier : t.earlier ≡ s.earlier
+  pub view : t.view ≡ s.view
+  pub acks : t.acks ≡ s.acks
+  pub reports : t.reports ≡ s.reports
+  pub held : t.held ≡ s.held
+  pub waiting : t.waiting ≡ s.waiting
+  pub log : length s.log ≤ length t.log
+  pub member : s.joining ≡ None → t.joining ≡ None
+  pub joins : (j : Joining) → s.joining ≡ Some j → (k : Joining) × (t.joining ≡ Some k)
+  pub loaded : (k : Joining) → t.joining ≡ Some k → (j : Joining) × (s.joining ≡ Some j) × (j.is_based ≡ true → k.is_based ≡ true)
+
+pub goes-on-same : (s : SiteState) → GoesOn s s
+goes-on-same s = record {
+  start = refl;
+  greatest = refl;
+  earlier = refl;
+  view = refl;
+  acks = refl;
+  reports = refl;
+  held = refl;
+  waiting = refl;
+  log = omega arith;
+  member = λ e. e;
+  joins = λ j e. (j, e);
+  loaded = λ k e. (k, e, λ l. l);
+}
+
+-- All sites go on, agents' channels stay, and so does each stream that was taken.
+pub record Steady (S : LogState) (ch : Actor → Actor → List Letter) (f : ℕ → SiteState) (st : ℕ → ℕ → Option Streaming) : Type 0 where
+  pub sites : (c : ℕ) → GoesOn (S.sites c) (f c)
+  pub agents : (h : ℕ) (b : Actor) → ch (Agent h) b ≡ S.words.channel (Agent h) b
+  pub told : (c h : ℕ) → ch (Site c) (Agent h) ≡ S.words.channel (Site c) (Agent h)
+  pub director : (h : ℕ) → ch Director (Agent h) ≡ S.words.channel Director (Agent h)
+  pub streamed : (c t : ℕ) (x : Streaming) → S.logs.streamed c t ≡ Some x → st c t ≡ Some x
+  pub fresh : (c t : ℕ) (x : Streaming) → st c t ≡ Some x → (S.logs.streamed c t ≡ Some x) ⊎ Unentered S.logs c x.start
+
+-- ---- what is kept in it
+
+module _ (S : LogState) (ch : Actor → Actor → List Letter) (f : ℕ → SiteState) (pend : ℕ → List Waiting) (st : ℕ → ℕ → Option Streaming)
+    (H : Holds S) (m : Steady S ch f st) where
+  pub steady-later : Later S (shifted S ch f pend st)
+  steady-later = record {
+    words = words-later S ch;
+    ran = λ c a i. i;
+    greatest = λ c. let e = (m.sites c).greatest in omega (arith, e);
+    sites = λ c. let g = m.sites c in inl (record {
+      start = g.start;
+      earlier = g.earlier;
+      log = g.log;
+      term = rw g.view (omega arith);
+      member = g.member;
+      loaded = g.loaded;
+    });
+    entered = λ c t e is. is;
+    entered_now = λ c t e is. inl is;
+    streamed = m.streamed;
+    streamed_now = m.fresh;
+    reach = λ p t. omega arith;
+  }
+
+  pub steady-joins : (c : ℕ) → JoinsOn S (shifted S ch f pend st) c
+  steady-joins c w (j, is, view) = let k = (m.sites c).joins j is in (k.0, k.1, (m.sites c).view ∙ view)
+
+  pub steady-reigns : SameReigns S.logs (shifted S ch f pend st).logs
+  steady-reigns = same-reigns S.logs (shifted S ch f pend st).logs refl
+
+  -- what waits, and what was asked and counted
+  pub steady-waiting : (c : ℕ) (ws : List Waiting) → AllByRecursion (WaitingOk S c) ws → AllByRecursion (WaitingOk (shifted S ch f pend st) c) ws
+  steady-waiting c ws h = all-mono (WaitingOk S c) (WaitingOk (shifted S ch f pend st) c)
+      (λ x k. waiting-later-with S (shifted S ch f pend st) H steady-later c (m.sites c).start x
+      (λ i a from asks. ask-later S (shifted S ch f pend st) H steady-later (part S c) i x.letter.term a (steady-joins i) asks) k) ws h
+
+  pub steady-asks : (p t : ℕ) (as_ : List Ask) → AllByRecursion (λ a. AskOk S p a.slot t a.start) as_ → AllByRecursion (λ a. AskOk (shifted S ch f pend st) p a.slot t a.start) as_
+  steady-asks p t as_ h = all-mono (λ a. AskOk S p a.slot t a.start) (λ a. AskOk (shifted S ch f pend st) p a.slot t a.start)
+      (λ a k. ask-later S (shifted S ch f pend st) H steady-later p a.slot t a.start (steady-joins a.slot) k) as_ h
+
+  pub steady-counted : (p t : ℕ) (js : List Joiner) → AllByRecursion (CountedOk S p t) js → AllByRecursion (CountedOk (shifted S ch f pend st) p t) js
+  steady-counted p t js h = all-mono (CountedOk S p t) (CountedOk (shifted S ch f pend st) p t) (λ j k. counted-later S (shifted S ch f pend st) H steady-later p t j k) js h
+
+  -- what a site keeps, but for those that it counts, those that asked, and what is pending
+  pub steady-keeps : (c : ℕ) → KeepsOk S c
+      → AllByRecursion (CountedOk (shifted S ch f pend st) (part S c) (term_at S c)) (f c).joiners
+      → Distinct (map (λ j. j.slot) (f c).joiners)
+      → (((f c).joiners ≡ []) ⊎ (is_leader S.words.deployment c (f c) ≡ true))
+      → AllByRecursion (λ a. AskOk (shifted S ch f pend st) (part S c) a.slot (term_at S c) a.start) (f c).asks
+      → AllByRecursion (WaitingOk S c) (pend c)
+      → (f c).on_disk ≤ length (f c).log
+      → KeepsOk (shifted S ch f pend st) c
+  steady-keeps c k counted alone leads asks pending disk = record {
+    acks = rw ((m.sites c).acks, (m.sites c).view) (all-mono (λ a. IsSlot S a.0 → AckOk S a.0 (term_at S c) a.1)
+        (λ a. IsSlot S a.0 → AckOk (shifted S ch f pend st) a.0 (term_at S c) a.1)
+        (λ a known slot. ack-later S (shifted S ch f pend st) H steady-later a.0 (term_at S c) a.1 (known slot)) (S.sites c).acks k.acks);
+    reports = rw ((m.sites c).reports, (m.sites c).view) (all-mono (λ r. ReportOk S (part S c) r.slot (term_at S c) r.position r.floor r.tail)
+        (λ r. ReportOk (shifted S ch f pend st) (part S c) r.slot (term_at S c) r.position r.floor r.tail)
+        (λ r known. report-later S (shifted S ch f pend st) H steady-later (part S c) r.slot (term_at S c) r.position r.floor r.tail known) (S.sites c).reports k.reports);
+    joiners = rw (m.sites c).view counted;
+    alone = alone;
+    leads = leads;
+    asks = rw (m.sites c).view asks;
+    waiting = rw (m.sites c).waiting (steady-waiting c (S.sites c).waiting k.waiting);
+    pending = steady-waiting c (pend c) pending;
+    on_disk = disk;
+    held = rw (m.sites c).held k.held;
+  }
+
+  -- words that are under way to a site
+  steady-views : (c : ℕ) → ViewsOk S c → ViewsOk (shifted S ch f pend st) c
+  steady-views c h = record {
+    plain = rw same-channel h.plain;
+    began = λ s i. h.began s (rw same-channel at i);
+    running = λ up. rw (g.view, g.start, same-channel) (run (S.sites c).view (views (start_at S c) (from_agent S c)) (h.running (rw g.start at up)));
+    starting = λ s i. let k = h.starting s (rw same-channel at i) in (k.0, rw same-channel k.1, rw same-channel (first s (views s (from_agent S c)) k.2));
+    wordless = λ up taken none. let k = h.wordless up taken none in (rw same-channel k.0, k.1, rw same-channel k.2);
+    below = λ up. let k = h.below up in (rw same-channel k.0, λ is. rw g.view (k.1 (sym g.start ∙ is)));
+  }
+    where
+      g : GoesOn (S.sites c) (f c)
+      g = m.sites c
+
+      same-channel : ch (Agent (host_of_slot S.words.deployment c)) (Site c) ≡ from_agent S c
+      same-channel = m.agents (host_of_slot S.words.deployment c) (Site c)
+
+      first : (s : ℕ) (ws : List Membership) → FirstViews S c s ws → FirstViews (shifted S ch f pend st) c s ws
+      first s ws k = record { first = k.first; later = k.later; views_are = k.views_are; took = k.took; members = k.members }
+
+      run : (o : Option Membership) (ws : List Membership) → RunViews S c o ws → RunViews (shifted S ch f pend st) c o ws
+      run None ws k = rw g.start (first (start_at S c) ws k)
+      run (Some w) ws k = rw g.start k
+
+  steady-loads : LoadsOk S → LoadsOk (shifted S ch f pend st)
+  steady-loads h = record {
+    told = λ c h'. rw (m.told c h') (all-mono (ToldOk S c) (ToldOk (shifted S ch f pend st) c) (told-later S (shifted S ch f pend st) H steady-later c)
+        (S.words.channel (Site c) (Agent h')) (h.told c h'));
+    heard = λ h' c up is. loaded-later S (shifted S ch f pend st) H steady-later c (S.words.agents h').start (h.heard h' c up is);
+    asked = λ h' g. rw (m.agents h' (Agent g)) (all-mono (AskedOk S (Agent h')) (AskedOk (shifted S ch f pend st) (Agent h'))
+        (asked-later S (shifted S ch f pend st) H steady-later (Agent h')) (S.words.channel (Agent h') (Agent g)) (h.asked h' g));
+    waiting = λ h'. all-mono (λ x. AskedOk S x.from x.letter) (λ x. AskedOk (shifted S ch f pend st) x.from x.letter)
+        (λ x. asked-later S (shifted S ch f pend st) H steady-later x.from x.letter) (S.words.agents h').waiting (h.waiting h');
+    queued = λ h'. all-mono (QueuedOk S) (QueuedOk (shifted S ch f pend st)) (queued-later S (shifted S ch f pend st) H steady-later)
+        (S.words.agents h').initiating.queue (h.queued h');
+    admitted = λ x i. all_loaded-later S (shifted S ch f pend st) H steady-later (S.words.owner x.start) x.start (h.admitted x i);
+  }
+
+  -- All holds after it, where this holds of what it changes.
+  pub steady-holds :
+      ((c : ℕ) (w : Membership) → 0 < start_at S c → (S.sites c).joining ≡ None → MemberOk S c w → MemberOk (shifted S ch f pend st) c w)
+      → ((c : ℕ) (k : Joining) → (f c).joining ≡ Some k → JoinerOk (shifted S ch f pend st) c k)
+      → ((c : ℕ) → 0 < start_at S c → KeepsOk S c → KeepsOk (shifted S ch f pend st) c)
+      → ((c : ℕ) → start_at S c ≡ 0 → (f c ≡ S.sites c) × (pend c ≡ S.pending c))
+      → ((i c : ℕ) → IsSlot S c → AllByRecursion (SiteLetterOk (shifted S ch f pend st) i c) (ch (Site i) (Site c)))
+      → ((from : Actor) (c : ℕ) → AllByRecursion (ForeignOk S c from) (ch from (Site c)))
+      → ((c t : ℕ) (x : Streaming) → st c t ≡ Some x → StreamedOk (shifted S ch f pend st) c t x)
+      → Holds (shifted S ch f pend st)
+  steady-holds members joiners keeps stopped letters foreign streamed = record {
+    words = channel-holds S.words ch (λ h g. m.agents h (Agent g)) (λ h. ap starts_in (m.director h)) H.words;
+    sites = site;
+    views = λ c. steady-views c (H.views c);
+    letters = letters;
+    foreign = foreign;
+    loads = steady-loads H.loads;
+    entered = λ c t e is. entered-later S (shifted S ch f pend st) H steady-later c t e (H.entered c t e is) is steady-reigns (λ at_start.
+        let r = (H.entered c t e is).running (sym (m.sites c).start ∙ at_start) in let low = r.2 in let up = (m.sites c).log in omega (arith, low, up)) (H.entered c t e is).since;
+    streamed = streamed;
+    reigns = reigns-later S (shifted S ch f pend st) H steady-later steady-reigns (λ p t g is. (H.reigns p t g is).within);
+    unled = λ p t none. unleds-later S (shifted S ch f pend st) H steady-later steady-reigns p t refl none;
+    some = H.some;
+    first = H.first;
+  }
+    where
+      site : (c : ℕ) → SiteOk (shifted S ch f pend st) c
+      site c = let g = m.sites c in let h = H.sites c in record {
+        outside = λ out. g.start ∙ h.outside out;
+        ran = λ up. let r = h.ran (rw g.start at up) in (r.0, rw g.start r.1);
+        term = rw (g.view, g.greatest) h.term;
+        earlier = rw (g.earlier, g.greatest) h.earlier;
+        member = λ up none. let none-before = before none in
+            let k = h.member (rw g.start at up) none-before in (k.0, g.view ∙ k.1, members c k.0 (rw g.start at up) none-before k.2);
+        joiner = joiners c;
+        keeps = λ up. keeps c (rw g.start at up) (h.keeps (rw g.start at up));
+        stopped = λ none. let e = stopped c (sym g.start ∙ none) in rw (e.0, e.1) (h.stopped (sym g.start ∙ none));
+        blank = λ none. g.view ∙ h.blank (sym g.start ∙ none);
+      }
+        where
+          before : (f c).joining ≡ None → (S.sites c).joining ≡ None
+          before none = go (S.sites c).joining refl
+            where
+              go : (o : Option Joining) → (S.sites c).joining ≡ o → (S.sites c).joining ≡ None
+              go None e = e
+              go (Some j) e = absurd (none-and-some none ((m.sites c).joins j e).1)
+
+-- ---- slots of which nothing changes but what they keep
+
+module _ (S : LogState) (ch : Actor → Actor → List Letter) (f : ℕ → SiteState) (pend : ℕ → List Waiting) (st : ℕ → ℕ → Option Streaming)
+    (H : Holds S) (m : Steady S ch f st) (c : ℕ) (site : Still (S.sites c) (f c)) where
+  pub steady-member : ((l a t : ℕ) → line a t (ch (Site l) (Site c)) ≡ line a t (between S l c))
+      → (w : Membership) → MemberOk S c w → MemberOk (shifted S ch f pend st) c w
+  steady-member lines w k = member-keeps S (shifted S ch f pend st) H (steady-later S ch f pend st H m) c site w k (λ l. lines l (start_at S c) (term_of w)) refl
+
+  pub steady-run : ((t : ℕ) (x : Streaming) → st c t ≡ Some x → x.start ≡ start_at S c → S.logs.streamed c t ≡ Some x) → SameRun S (shifted S ch f pend st) c
+  steady-run streamed = record { entered = λ t e is start. is; streamed = streamed }
+
+  pub steady-joiner : ((t : ℕ) (x : Streaming) → st c t ≡ Some x → x.start ≡ start_at S c → S.logs.streamed c t ≡ Some x)
+      → ((l : ℕ) → SameFrom S (shifted S ch f pend st) c l (term_at S c))
+      → ((nj : ℕ) (w : Membership) → IsCounted S c (start_at S c) nj w → IsCounted (shifted S ch f pend st) c (start_at S c) nj w)
+      → (k : Joining) → (f c).joining ≡ Some k → JoinerOk (shifted S ch f pend st) c k
+  steady-joiner streamed from counted k e = joiner-keeps S (shifted S ch f pend st) H (steady-later S ch f pend st H m) c site k (steady-run streamed)
+      (record { reign = refl; reach = refl }) from counted ((H.sites c).joiner k (sym site.joining ∙ e))

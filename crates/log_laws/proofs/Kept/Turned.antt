@@ -1,0 +1,452 @@
+-- Turns of one site by which the history of logs grows: what holds of the other slots, of messages and of what was loaded stays so.
+use Rattle.std.proofs.Common.{◌≡◌, ◌<◌, true, List, [], ◌++◌, refl, sym, subst, ap, ◌∙◌, ◌⊎◌, inl, inr, ◌==◌, arith}
+use Rattle.std.proofs.lemmas.Bool.{cases_eq}
+use Rattle.std.specs.Prelude.{ℕ, ◌≤◌, length, filter, map, Option, Some, None}
+use Rattle.std.specs.List.{AllByRecursion}
+use Rattle.volt_wire.specs.Word.{Membership}
+use Rattle.volt_wire.specs.declared.actor.Actor.{Actor}
+use Rattle.volt_wire.specs.declared.actor.Actor.TheVariants.{Director, Client, Agent, Site, Scanner}
+use Rattle.volt_wire.specs.declared.message.Msg.TheVariants as msg
+use Rattle.cluster_model.specs.Words.{term_of, host_of_slot}
+use Rattle.cluster_model.specs.Letters.{Letter, Waiting}
+use Rattle.cluster_model.specs.SiteState.{SiteState, Joining, Joiner, Ask, site_term}
+use Rattle.cluster_model.specs.World.{set_at}
+use Rattle.word_laws.specs.Histories as word
+use Rattle.word_laws.specs.Histories.{In, Distinct}
+use Rattle.word_laws.proofs.Lists.{all-from, all-at, all-append, all-mono, in-left, in-right, in-map, filter-in, eqb-same, set-here, set-there, set-both}
+use Rattle.log_laws.specs.Histories.{LogState, Holds, Entered, Streaming, Reign, EnteredOk, StreamedOk, ReignOk, UnledOk, SiteOk, KeepsOk, MemberOk, JoinerOk, InWord, Coming, ViewsOk, LoadsOk, ForeignOk, AckOk, ReportOk, CountedOk, HeldOk, SiteLetterOk, WaitingFrom, WaitingOk, AskOk, EndOk, Reached, IsCounted, IsSlot, ToldOk, AskedOk, QueuedOk, base_of, part, start_at, term_at, between, from_agent, line, flow, ends, ask_of, wait_of, asks_in, asks_waiting, asks_kept, asks_of_term, asked}
+use Rattle.log_laws.proofs.Kept.Moves.{Later, EntersNow}
+use Rattle.log_laws.proofs.Kept.Laters.{been-later, ack-later, report-later, ask-later, counted-later, reached-later, loaded-later, all_loaded-later, end-later, told-later, asked-later, queued-later, stays}
+use Rattle.log_laws.proofs.Plain.Lines.{in-flat, flow-same, ends-same}
+use Rattle.log_laws.proofs.Kept.Asked.{AtMost, at-most-is, at-most-both, at-most-same, at-most-none}
+use Rattle.log_laws.proofs.Kept.Plumbing.{words-later}
+use Rattle.log_laws.proofs.Kept.Terms.{took-decided}
+use Rattle.log_laws.proofs.NewTerms.Entering.{running-slot}
+use Rattle.log_laws.proofs.Kept.Keeps.{Still, SameFrom, SameTerm, SameRun, still-same, site-keeps-with, joiner-keeps-with, in_word-keeps-with, quiet-keeps, coming-keeps, took-keeps}
+use Rattle.log_laws.proofs.Kept.KeepsViews.{views-keeps-with, leaves-same, foreign-later}
+
+-- ---- functions of two numbers that were changed at one place
+
+abbrev pub put_at : {A : Type 0} → (ℕ → ℕ → A) → ℕ → ℕ → A → ℕ → ℕ → A
+put_at f a b v = set_at f a (set_at (f a) b v)
+
+-- of the new value at that place, and of the old ones elsewhere
+pub put-both : {A : Type 0} (P : ℕ → ℕ → A → Type 0) (f : ℕ → ℕ → A) (a b : ℕ) (v : A) → P a b v → ((c d : ℕ) → (c ≡ a → d ≡ b → ⊥) → P c d (f c d))
+    → (c d : ℕ) → P c d (put_at f a b v c d)
+put-both P f a b v p q = set-both (λ c g. (d : ℕ) → P c d (g d)) f a (set_at (f a) b v)
+    (set-both (λ d x. P a d x) (f a) b v p (λ d n. q a d (λ _ e. n e))) (λ c n d. q c d (λ e _. n e))
+
+pub put-here : {A : Type 0} (f : ℕ → ℕ → A) (a b : ℕ) (v : A) → put_at f a b v a b ≡ v
+put-here f a b v = put-both (λ c d x. c ≡ a → d ≡ b → x ≡ v) f a b v (λ _ _. refl) (λ c d n e q. absurd (n e q)) a b refl refl
+
+pub put-there : {A : Type 0} (f : ℕ → ℕ → A) (a b : ℕ) (v : A) (c d : ℕ) → (c ≡ a → d ≡ b → ⊥) → put_at f a b v c d ≡ f c d
+put-there f a b v c d n = put-both (λ c d x. (c ≡ a → d ≡ b → ⊥) → x ≡ f c d) f a b v (λ n. absurd (n refl refl)) (λ c d _ _. refl) c d n
+
+-- ---- a site that goes on
+
+pub record GoesOn (a b : SiteState) : Type 0 where
+  pub start : b.start ≡ a.start
+  pub earlier : b.earlier ≡ a.earlier
+  pub greatest : a.greatest ≤ b.greatest
+  pub log : length a.log ≤ length b.log
+  pub term : site_term a ≤ site_term b
+  pub member : a.joining ≡ None → b.joining ≡ None
+  pub loaded : (k : Joining) → b.joining ≡ Some k → (j : Joining) × (a.joining ≡ Some j) × (j.is_based ≡ true → k.is_based ≡ true)
+
+pub goes-on-same : (a : SiteState) → GoesOn a a
+goes-on-same a = record {
+  start = refl;
+  earlier = refl;
+  greatest = omega arith;
+  log = omega arith;
+  term = omega arith;
+  member = λ e. e;
+  loaded = λ k e. (k, e, λ l. l);
+}
+
+-- the state after a turn of the site of slot i, with these channels and this history of terms
+abbrev pub turned : LogState → ℕ → SiteState → (Actor → Actor → List Letter) → (ℕ → ℕ → Option Entered) → (ℕ → ℕ → Option Reign) → (ℕ → ℕ → ℕ) → LogState
+turned S i s ch en re rc = record S {
+  words = record S.words { channel = ch };
+  sites = set_at S.sites i s;
+  logs = record S.logs { entered = en; reign = re; reach = rc };
+}
+
+-- Such a state is a later one, where the site goes on, and the history grows.
+pub turned-later : (S : LogState) (i : ℕ) (s : SiteState) (ch : Actor → Actor → List Letter) (en : ℕ → ℕ → Option Entered) (re : ℕ → ℕ → Option Reign) (rc : ℕ → ℕ → ℕ)
+    → GoesOn (S.sites i) s
+    → ((c t : ℕ) (e : Entered) → S.logs.entered c t ≡ Some e → en c t ≡ Some e)
+    → ((c t : ℕ) (e : Entered) → en c t ≡ Some e → (S.logs.entered c t ≡ Some e) ⊎ EntersNow S c t e)
+    → ((p t : ℕ) → S.logs.reach p t ≤ rc p t) → Later S (turned S i s ch en re rc)
+turned-later S i s ch en re rc goes entered now reach = record {
+  words = words-later S ch;
+  ran = λ c a is. is;
+  greatest = λ c. (all c).greatest;
+  sites = λ c. let k = all c in inl (record { start = k.start; earlier = k.earlier; log = k.log; term = k.term; member = k.member; loaded = k.loaded });
+  entered = entered;
+  entered_now = now;
+  streamed = λ c t x is. is;
+  streamed_now = λ c t x is. inl is;
+  reach = reach;
+}
+  where
+    all : (c : ℕ) → GoesOn (S.sites c) (set_at S.sites i s c)
+    all = set-both (λ c z. GoesOn (S.sites c) z) S.sites i s goes (λ c _. goes-on-same (S.sites c))
+
+-- What must be so of it. The site sent these to others.
+pub record Turned (S : LogState) (i : ℕ) (s : SiteState) (ch : Actor → Actor → List Letter) (en : ℕ → ℕ → Option Entered) (re : ℕ → ℕ → Option Reign) (rc : ℕ → ℕ → ℕ)
+    (new : ℕ → List Letter) : Type 0 where
+  pub later : Later S (turned S i s ch en re rc)
+  -- its channels: no stream is in them
+  pub mine : (c : ℕ) → ch (Site i) (Site c) ≡ between S i c ++ new c
+  pub theirs : (a c : ℕ) → (a ≡ i → ⊥) → ch (Site a) (Site c) ≡ between S a c
+  pub flows : (c start t : ℕ) → flow start t (new c) ≡ []
+  pub ends : (c start t : ℕ) → ends start t (new c) ≡ []
+  pub agreed : (h g : ℕ) → ch (Agent h) (Agent g) ≡ S.words.channel (Agent h) (Agent g)
+  pub tells : (c h : ℕ) → ch (Site c) (Agent h) ≡ S.words.channel (Site c) (Agent h)
+  pub views : (c : ℕ) → (c ≡ i → ⊥) → ch (Agent (host_of_slot S.words.deployment c)) (Site c) ≡ from_agent S c
+  pub foreign : (from : Actor) (c : ℕ) → AllByRecursion (ForeignOk S c from) (ch from (Site c))
+  -- what the site keeps
+  pub waiting : s.waiting ≡ (S.sites i).waiting
+  pub asks : (c t : ℕ) → AtMost (asks_of_term c t (S.sites i)) (asks_of_term c t s)
+  pub joiners : (j : Joiner) → In j s.joiners → In j (S.sites i).joiners
+  pub joins : (c t a : ℕ) → IsSlot S c → In a (asked S i c t) → AskOk S (part S c) i t a → AskOk (turned S i s ch en re rc) (part S c) i t a
+  -- what others have entered, and terms that were led, are the same
+  pub entered : (c t : ℕ) → (c ≡ i → ⊥) → en c t ≡ S.logs.entered c t
+  pub led : (p t : ℕ) (g : Reign) → S.logs.reign p t ≡ Some g → (re p t ≡ S.logs.reign p t) × (rc p t ≡ S.logs.reach p t)
+  pub counted : (c a nj : ℕ) (w : Membership) (g : Reign) → In w S.words.history.decided → S.logs.reign (part S c) (term_of w) ≡ Some g
+      → IsCounted S c a nj w → IsCounted (turned S i s ch en re rc) c a nj w
+  -- what comes to the others
+  pub members : (c : ℕ) (w : Membership) → (c ≡ i → ⊥) → 0 < start_at S c → (S.sites c).joining ≡ None → (S.sites c).view ≡ Some w
+      → MemberOk S c w → MemberOk (turned S i s ch en re rc) c w
+  pub lines : (c l : ℕ) (w : Membership) (j : Joining) → (c ≡ i → ⊥) → (S.sites c).joining ≡ Some j → JoinerOk S c j
+      → line (start_at S c) (term_of w) (between S l c) ≡ [] → line (start_at S c) (term_of w) (ch (Site l) (Site c)) ≡ []
+
+module _ (S : LogState) (H : Holds S) (i : ℕ) (s : SiteState) (ch : Actor → Actor → List Letter) (en : ℕ → ℕ → Option Entered) (re : ℕ → ℕ → Option Reign) (rc : ℕ → ℕ → ℕ)
+    (new : ℕ → List Letter) (F : Turned S i s ch en re rc new) where
+  abbrev T : LogState
+  T = turned S i s ch en re rc
+
+  there : (c : ℕ) → (c ≡ i → ⊥) → T.sites c ≡ S.sites c
+  there c other = set-there S.sites i s c other
+
+  here : T.sites i ≡ s
+  here = set-here S.sites i s
+
+  -- ---- messages
+
+  flows-same : (a c start t : ℕ) → flow start t (ch (Site a) (Site c)) ≡ flow start t (between S a c)
+  flows-same a c start t = elim (cases_eq a i) [
+    | inl e ↦ subst (λ z. flow start t (ch (Site z) (Site c)) ≡ flow start t (between S z c)) (sym e)
+        (ap (flow start t) (F.mine c) ∙ flow-same start t (between S i c) (new c) (F.flows c start t))
+    | inr n ↦ ap (flow start t) (F.theirs a c n)
+  ]
+
+  ends-are-same : (a c start t : ℕ) → ends start t (ch (Site a) (Site c)) ≡ ends start t (between S a c)
+  ends-are-same a c start t = elim (cases_eq a i) [
+    | inl e ↦ subst (λ z. ends start t (ch (Site z) (Site c)) ≡ ends start t (between S z c)) (sym e)
+        (ap (ends start t) (F.mine c) ∙ ends-same start t (between S i c) (new c) (F.ends c start t))
+    | inr n ↦ ap (ends start t) (F.theirs a c n)
+  ]
+
+  -- an ask that is somewhere
+  ask-kept : (a c t x : ℕ) → IsSlot S c → In x (asked S a c t) → AskOk S (part S c) a t x → AskOk T (part S c) a t x
+  ask-kept a c t x slot is k = elim (cases_eq a i) [
+    | inl e ↦ subst (λ z. AskOk T (part S c) z t x) (sym e)
+        (F.joins c t x slot (subst (λ z. In x (asked S z c t)) e is) (subst (λ z. AskOk S (part S c) z t x) e k))
+    | inr n ↦ ask-later S T H F.later (part S c) a t x (λ w j. (j.0, ap (λ z. z.joining) (there a n) ∙ j.1, ap (λ z. z.view) (there a n) ∙ j.2)) k
+  ]
+
+  end-kept : (a c : ℕ) (l : Letter) → Reached S c l → EndOk S a c l → EndOk T a c l
+  end-kept a c l r k = end-later S T H F.later a c l r k (subst (AllByRecursion _) (sym (flows-same a c l.start l.term))) (λ x e start. inl e)
+
+  letter-kept : (a c : ℕ) (l : Letter) → ((x slot : ℕ) → l.body ≡ msg.JoinAsk x slot → AskOk S (part S c) a l.term x → AskOk T (part S c) a l.term x)
+      → SiteLetterOk S a c l → SiteLetterOk T a c l
+  letter-kept a c l asks k = elim l.body as (λ m. ((x slot : ℕ) → m ≡ msg.JoinAsk x slot → AskOk S (part S c) a l.term x → AskOk T (part S c) a l.term x)
+      → SiteLetterOk S a c (record l { body = m }) → SiteLetterOk T a c (record l { body = m })) [
+        | msg.Put position e floor ↦ λ _ p. (
+          reached-later S T H F.later c (record l { body = msg.Put position e floor }) p.0,
+          (let r = F.later.reach (part S c) l.term in let b = p.1 in omega (arith, r, b)),
+        )
+        | msg.Repair from entries ↦ λ _. reached-later S T H F.later c (record l { body = msg.Repair from entries })
+        | msg.Task position e ↦ λ _. reached-later S T H F.later c (record l { body = msg.Task position e })
+        | msg.StreamStart head ↦ λ _. reached-later S T H F.later c (record l { body = msg.StreamStart head })
+        | msg.StreamEnd count ↦ λ _ p. (
+          reached-later S T H F.later c (record l { body = msg.StreamEnd count }) p.0,
+          end-kept a c (record l { body = msg.StreamEnd count }) p.0 p.1,
+        )
+        | msg.Ack n ↦ λ _ p. (p.0, ack-later S T H F.later a l.term n p.1)
+        | msg.Report position floor tail ↦ λ _ p. (p.0, report-later S T H F.later (part S c) a l.term position floor tail p.1)
+        | msg.JoinAsk x slot ↦ λ f p. (p.0, p.1, f x slot refl p.2)
+        | msg.Start x ↦ λ _ p. p
+        | m ↦ λ _ p. tt
+      ] asks k
+
+  letters-kept : (a c : ℕ) → IsSlot S c → AllByRecursion (SiteLetterOk T a c) (between S a c)
+  letters-kept a c slot = all-from (SiteLetterOk T a c) (between S a c) (λ l is. letter-kept a c l (λ x slot-of e. ask-kept a c l.term x slot (in-asked l is x slot-of e))
+      (all-at (SiteLetterOk S a c) (between S a c) (H.letters a c slot) l is))
+    where
+      in-asked : (l : Letter) → In l (between S a c) → (x slot-of : ℕ) → l.body ≡ msg.JoinAsk x slot-of → In x (asked S a c l.term)
+      in-asked l is x slot-of e =
+          let one : In x (ask_of l.term l) = rw (eqb-same l.term, e) (inl refl) in
+          let all = in-flat (ask_of l.term) x l (between S a c) is one in
+          in-left x (asks_in l.term (between S a c) ++ asks_waiting a l.term (S.sites c).waiting ++ asks_waiting a l.term (S.pending c)) (asks_of_term a l.term (S.sites c))
+          (in-left x (asks_in l.term (between S a c) ++ asks_waiting a l.term (S.sites c).waiting) (asks_waiting a l.term (S.pending c))
+          (in-left x (asks_in l.term (between S a c)) (asks_waiting a l.term (S.sites c).waiting) all))
+
+  pub letters-turned : ((c : ℕ) → IsSlot S c → AllByRecursion (SiteLetterOk T i c) (new c)) → (a c : ℕ) → IsSlot S c → AllByRecursion (SiteLetterOk T a c) (ch (Site a) (Site c))
+  letters-turned more a c slot = elim (cases_eq a i) [
+    | inl e ↦ subst (λ z. AllByRecursion (SiteLetterOk T z c) (ch (Site z) (Site c))) (sym e)
+        (subst (AllByRecursion (SiteLetterOk T i c)) (sym (F.mine c)) (all-append (SiteLetterOk T i c) (between S i c) (new c) (letters-kept i c slot) (more c slot)))
+    | inr n ↦ subst (AllByRecursion (SiteLetterOk T a c)) (sym (F.theirs a c n)) (letters-kept a c slot)
+  ]
+
+  -- what waits
+  waits-kept : (c : ℕ) (x : Waiting) → start_at T c ≡ start_at S c
+      → ((a y slot : ℕ) → x.from ≡ Site a → x.letter.body ≡ msg.JoinAsk y slot → AskOk S (part S c) a x.letter.term y → AskOk T (part S c) a x.letter.term y)
+      → WaitingOk S c x → WaitingOk T c x
+  waits-kept c x start asks k = (rw start k.0, go x.from refl k.1)
+    where
+      site : (a : ℕ) → x.from ≡ Site a → WaitingFrom S c (Site a) x.letter → WaitingFrom T c (Site a) x.letter
+      site a e p = elim x.letter.body as (λ m. (SiteLetterOk S a c (record x.letter { body = m }) → SiteLetterOk T a c (record x.letter { body = m }))
+          → WaitingFrom S c (Site a) (record x.letter { body = m }) → WaitingFrom T c (Site a) (record x.letter { body = m })) [
+            | msg.Put position e floor ↦ λ _ p. p
+            | msg.Repair from entries ↦ λ _ p. p
+            | msg.Task position e ↦ λ _ p. p
+            | msg.StreamStart head ↦ λ _ p. p
+            | msg.StreamEnd count ↦ λ _ p. p
+            | m ↦ λ f. f
+          ] (letter-kept a c x.letter (λ y slot. asks a y slot e)) p
+
+      go : (from : Actor) → x.from ≡ from → WaitingFrom S c from x.letter → WaitingFrom T c from x.letter
+      go (Site a) e p = site a e p
+      go (Agent h) e p = p
+      go Director e p = p
+      go (Client n) e p = p
+      go (Scanner a) e p = p
+
+  pub waiting-turned : (c : ℕ) → IsSlot S c → start_at T c ≡ start_at S c → KeepsOk S c → AllByRecursion (WaitingOk T c) (S.sites c).waiting
+  waiting-turned c slot start k = all-from (WaitingOk T c) (S.sites c).waiting (λ x is. waits-kept c x start
+      (λ a y slot-of e b. ask-kept a c x.letter.term y slot (in-asked x is a y slot-of e b)) (all-at (WaitingOk S c) (S.sites c).waiting k.waiting x is))
+    where
+      in-asked : (x : Waiting) → In x (S.sites c).waiting → (a y slot-of : ℕ) → x.from ≡ Site a → x.letter.body ≡ msg.JoinAsk y slot-of → In y (asked S a c x.letter.term)
+      in-asked x is a y slot-of e b =
+          let t = x.letter.term in
+          let one : In y (wait_of a t x) = rw (e, eqb-same a, eqb-same t, b) (inl refl) in
+          in-left y (asks_in t (between S a c) ++ asks_waiting a t (S.sites c).waiting ++ asks_waiting a t (S.pending c)) (asks_of_term a t (S.sites c))
+          (in-left y (asks_in t (between S a c) ++ asks_waiting a t (S.sites c).waiting) (asks_waiting a t (S.pending c))
+          (in-right y (asks_in t (between S a c)) (asks_waiting a t (S.sites c).waiting) (in-flat (wait_of a t) y x (S.sites c).waiting is one)))
+
+  pub pending-turned : (c : ℕ) → IsSlot S c → start_at T c ≡ start_at S c → KeepsOk S c → AllByRecursion (WaitingOk T c) (S.pending c)
+  pending-turned c slot start k = all-from (WaitingOk T c) (S.pending c) (λ x is. waits-kept c x start
+      (λ a y slot-of e b. ask-kept a c x.letter.term y slot (in-asked x is a y slot-of e b)) (all-at (WaitingOk S c) (S.pending c) k.pending x is))
+    where
+      in-asked : (x : Waiting) → In x (S.pending c) → (a y slot-of : ℕ) → x.from ≡ Site a → x.letter.body ≡ msg.JoinAsk y slot-of → In y (asked S a c x.letter.term)
+      in-asked x is a y slot-of e b =
+          let t = x.letter.term in
+          let one : In y (wait_of a t x) = rw (e, eqb-same a, eqb-same t, b) (inl refl) in
+          in-left y (asks_in t (between S a c) ++ asks_waiting a t (S.sites c).waiting ++ asks_waiting a t (S.pending c)) (asks_of_term a t (S.sites c))
+          (in-right y (asks_in t (between S a c) ++ asks_waiting a t (S.sites c).waiting) (asks_waiting a t (S.pending c))
+          (in-flat (wait_of a t) y x (S.pending c) is one))
+
+  -- ---- other slots
+
+  asked-less : (c l t : ℕ) → (c ≡ i → ⊥) → AtMost (asked S c l t) (asked T c l t)
+  asked-less c l t other = elim (cases_eq l i) [
+    | inl e ↦ subst (λ z. AtMost (asked S c z t) (asked T c z t)) (sym e) mine
+    | inr n ↦ at-most-is (asked S c l t) (asked T c l t)
+        (ap (λ z. asks_in t z ++ asks_waiting c t (T.sites l).waiting ++ asks_waiting c t (S.pending l) ++ asks_of_term c t (T.sites l)) (F.theirs c l other)
+        ∙ ap (λ z. asks_in t (between S c l) ++ asks_waiting c t z.waiting ++ asks_waiting c t (S.pending l) ++ asks_of_term c t z) (there l n))
+  ]
+    where
+      asked-is : asked T c i t ≡ asks_in t (between S c i) ++ asks_waiting c t (S.sites i).waiting ++ asks_waiting c t (S.pending i) ++ asks_of_term c t s
+      asked-is = ap (λ z. asks_in t z ++ asks_waiting c t (T.sites i).waiting ++ asks_waiting c t (S.pending i) ++ asks_of_term c t (T.sites i)) (F.theirs c i other)
+          ∙ ap (λ z. asks_in t (between S c i) ++ asks_waiting c t z.waiting ++ asks_waiting c t (S.pending i) ++ asks_of_term c t z) here
+          ∙ ap (λ z. asks_in t (between S c i) ++ asks_waiting c t z ++ asks_waiting c t (S.pending i) ++ asks_of_term c t s) F.waiting
+
+      mine : AtMost (asked S c i t) (asked T c i t)
+      mine = subst (AtMost (asked S c i t)) (sym asked-is)
+          (at-most-both (asks_in t (between S c i) ++ asks_waiting c t (S.sites i).waiting ++ asks_waiting c t (S.pending i))
+          (asks_in t (between S c i) ++ asks_waiting c t (S.sites i).waiting ++ asks_waiting c t (S.pending i))
+          (asks_of_term c t (S.sites i)) (asks_of_term c t s)
+          (at-most-same (asks_in t (between S c i) ++ asks_waiting c t (S.sites i).waiting ++ asks_waiting c t (S.pending i))) (F.asks c t))
+
+  keeps-other : (c : ℕ) → (c ≡ i → ⊥) → 0 < start_at S c → KeepsOk S c → KeepsOk T c
+  keeps-other c other up k = record {
+    acks = rw (there c other) (all-mono (λ a. IsSlot S a.0 → AckOk S a.0 (term_at S c) a.1) (λ a. IsSlot S a.0 → AckOk T a.0 (term_at S c) a.1)
+        (λ a p slot. ack-later S T H F.later a.0 (term_at S c) a.1 (p slot)) (S.sites c).acks k.acks);
+    reports = rw (there c other) (all-mono (λ r. ReportOk S (part S c) r.slot (term_at S c) r.position r.floor r.tail)
+        (λ r. ReportOk T (part S c) r.slot (term_at S c) r.position r.floor r.tail)
+        (λ r. report-later S T H F.later (part S c) r.slot (term_at S c) r.position r.floor r.tail) (S.sites c).reports k.reports);
+    joiners = rw (there c other) (all-mono (CountedOk S (part S c) (term_at S c)) (CountedOk T (part S c) (term_at S c))
+        (counted-later S T H F.later (part S c) (term_at S c)) (S.sites c).joiners k.joiners);
+    alone = rw (there c other) k.alone;
+    leads = rw (there c other) k.leads;
+    asks = rw (there c other) (all-from (λ a. AskOk T (part S c) a.slot (term_at S c) a.start) (S.sites c).asks (λ a is.
+        ask-kept a.slot c (term_at S c) a.start slot (in-asked a is)
+        (all-at (λ a. AskOk S (part S c) a.slot (term_at S c) a.start) (S.sites c).asks k.asks a is)));
+    waiting = subst (λ z. AllByRecursion (WaitingOk T c) z.waiting) (sym (there c other)) (waiting-turned c slot start k);
+    pending = pending-turned c slot start k;
+    on_disk = subst (λ z. z.on_disk ≤ length z.log) (sym (there c other)) k.on_disk;
+    held = rw (there c other) k.held;
+  }
+    where
+      slot : IsSlot S c
+      slot = running-slot S H c up
+
+      start : start_at T c ≡ start_at S c
+      start = ap (λ z. z.start) (there c other)
+
+      in-asked : (a : Ask) → In a (S.sites c).asks → In a.start (asked S a.slot c (term_at S c))
+      in-asked a is =
+          let t = term_at S c in
+          let one : In a.start (asks_kept a.slot (S.sites c).asks) = in-map (λ z. z.start) a (filter (λ z. z.slot == a.slot) (S.sites c).asks)
+          (filter-in (λ z. z.slot == a.slot) a (S.sites c).asks is (eqb-same a.slot)) in
+          let kept : In a.start (asks_of_term a.slot t (S.sites c)) = rw (eqb-same t) one in
+          in-right a.start (asks_in t (between S a.slot c) ++ asks_waiting a.slot t (S.sites c).waiting ++ asks_waiting a.slot t (S.pending c))
+          (asks_of_term a.slot t (S.sites c)) kept
+
+  same-run : (c : ℕ) → (c ≡ i → ⊥) → SameRun S T c
+  same-run c other = record { entered = λ t e is start. sym (F.entered c t other) ∙ is; streamed = λ t x is start. is }
+
+  joiner-other : (c : ℕ) → (c ≡ i → ⊥) → (j : Joining) → (S.sites c).joining ≡ Some j → JoinerOk S c j → JoinerOk T c j
+  joiner-other c other j joins k = joiner-keeps-with S T H F.later c site j (same-run c other) word k
+    where
+      site : Still (S.sites c) (T.sites c)
+      site = still-same (S.sites c) (T.sites c) (there c other)
+
+      word : (w : Membership) → (S.sites c).view ≡ Some w → InWord S c w j → InWord T c w j
+      word w view n = in_word-keeps-with S T H F.later c site w j (same-run c other)
+          (λ l e. F.lines c l w j other joins k e)
+          (λ l _ e d. (flows-same l c (start_at S c) (term_of w) ∙ e, ends-are-same l c (start_at S c) (term_of w) ∙ d))
+          (λ l. asked-less c l (term_of w) other)
+          (λ l _ _ z. elim z [
+            | inl q ↦ inl (quiet-keeps S T H F.later c site w l (from l) q)
+            | inr q ↦ inr (
+              subst (Coming T c w) (sym (flows-same l c (start_at S c) (term_of w)))
+                  (coming-keeps S T H F.later c site w (flow (start_at S c) (term_of w) (between S l c)) (same-term q.0.reign q.0.led)
+                  (λ nj. F.counted c (start_at S c) nj w q.0.reign decided q.0.led) q.0),
+              at-most-none (asked S c l (term_of w)) (asked T c l (term_of w)) q.1 (asked-less c l (term_of w) other),
+            )
+          ])
+          (λ nj q. took-keeps S T H F.later c site w j nj (same-term q.reign q.led) from q)
+          n
+        where
+          decided : In w S.words.history.decided
+          decided = took-decided S H (start_at S c) w n.took
+
+          same-term : (g : Reign) → S.logs.reign (part S c) (term_of w) ≡ Some g → SameTerm S T (part S c) (term_of w)
+          same-term g is = let p = F.led (part S c) (term_of w) g is in record { reign = p.0; reach = p.1 }
+
+          from : (l : ℕ) → SameFrom S T c l (term_of w)
+          from l = record {
+            lines = F.lines c l w j other joins k (n.lines l) ∙ sym (n.lines l);
+            flows = flows-same l c (start_at S c) (term_of w);
+            ends = λ e. ends-are-same l c (start_at S c) (term_of w) ∙ e;
+            asks = asked-less c l (term_of w) other;
+            uncounted = λ none x is. none x (set-both (λ d z. In x z.joiners → In x (S.sites d).joiners) S.sites i s (F.joiners x) (λ d _ y. y) l is);
+          }
+
+  site-other : (c : ℕ) → (c ≡ i → ⊥) → SiteOk T c
+  site-other c other = site-keeps-with S T H F.later c (still-same (S.sites c) (T.sites c) (there c other)) refl
+      (λ up none w view k. F.members c w other up none view k)
+      (joiner-other c other)
+      (keeps-other c other)
+      (λ _ k. (ap (λ z. z.waiting) (there c other) ∙ k.0, ap (λ z. z.asks) (there c other) ∙ k.1, ap (λ z. z.joiners) (there c other) ∙ k.2, k.3))
+      (H.sites c)
+
+  views-other : (c : ℕ) → (c ≡ i → ⊥) → ViewsOk T c
+  views-other c other = views-keeps-with S T H F.later c (ap (λ z. z.start) (there c other)) (ap (λ z. z.view) (there c other)) refl refl (λ x is. is)
+      (leaves-same (start_at S c) (from_agent S c) (from_agent T c) (F.views c other)) (H.views c)
+
+  -- ---- what was loaded, and streams
+
+  loads-turned : LoadsOk T
+  loads-turned = record {
+    told = λ c h. subst (AllByRecursion (ToldOk T c)) (sym (F.tells c h))
+        (all-mono (ToldOk S c) (ToldOk T c) (told-later S T H F.later c) (S.words.channel (Site c) (Agent h)) (H.loads.told c h));
+    heard = λ h c up is. loaded-later S T H F.later c (S.words.agents h).start (H.loads.heard h c up is);
+    asked = λ h g. subst (AllByRecursion (AskedOk T (Agent h))) (sym (F.agreed h g))
+        (all-mono (AskedOk S (Agent h)) (AskedOk T (Agent h)) (asked-later S T H F.later (Agent h)) (S.words.channel (Agent h) (Agent g)) (H.loads.asked h g));
+    waiting = λ h. all-mono (λ x. AskedOk S x.from x.letter) (λ x. AskedOk T x.from x.letter) (λ x. asked-later S T H F.later x.from x.letter)
+        (S.words.agents h).waiting (H.loads.waiting h);
+    queued = λ h. all-mono (QueuedOk S) (QueuedOk T) (queued-later S T H F.later) (S.words.agents h).initiating.queue (H.loads.queued h);
+    admitted = λ x is. all_loaded-later S T H F.later (S.words.owner x.start) x.start (H.loads.admitted x is);
+  }
+
+  streamed-turned : (c t : ℕ) (x : Streaming) → S.logs.streamed c t ≡ Some x → en c t ≡ None → StreamedOk T c t x
+  streamed-turned c t x is apart =
+      let k = H.streamed c t x is in
+      let r = F.led (part S c) t k.reign k.led in record {
+        word = k.word;
+        took = k.took;
+        term_is = k.term_is;
+        apart = apart;
+        later = λ u e now start. elim (F.later.entered_now c u e now) [
+          | inl old ↦ k.later u e old start
+          | inr fresh ↦ let o = k.running (sym fresh.start ∙ start) in let up = o.1 in let above = fresh.above in let n = o.3 in let m = fresh.log in
+              (omega (arith, up, above), omega (arith, n, m))
+        ];
+        reign = k.reign;
+        led = r.0 ∙ k.led;
+        behind = k.behind;
+        been = been-later S T H F.later c t x.start k.been;
+        running = λ runs.
+            let y = stays S T H F.later c x.start k.been.some k.been.ran runs in
+            let o = k.running (sym y.start ∙ runs) in (
+              rw y.earlier o.0,
+              (let a = o.1 in let b = y.term in omega (arith, a, b)),
+              (let a = o.2 in let b = y.log in let e = r.1 in omega (arith, a, b, e)),
+              (let a = o.3 in let b = y.log in omega (arith, a, b)),
+            );
+        counted = F.counted c x.start x.nj k.word k.reign (took-decided S H x.start k.word k.took) (subst (λ z. S.logs.reign (part S c) z ≡ Some k.reign) (sym k.term_is) k.led) k.counted;
+      }
+
+  -- ---- a site that keeps nothing but what waits
+
+  pub fresh-keeps : 0 < start_at S i → s.start ≡ start_at S i → s.acks ≡ [] → s.reports ≡ [] → s.joiners ≡ [] → s.asks ≡ [] → s.on_disk ≤ length s.log
+      → AllByRecursion HeldOk s.held → KeepsOk S i → KeepsOk T i
+  fresh-keeps up start acks reports joiners asks on_disk held k = record {
+    acks = subst (λ z. AllByRecursion (λ a. IsSlot T a.0 → AckOk T a.0 (term_at T i) a.1) z) (sym (ap (λ z. z.acks) here ∙ acks)) tt;
+    reports = subst (λ z. AllByRecursion (λ r. ReportOk T (part T i) r.slot (term_at T i) r.position r.floor r.tail) z) (sym (ap (λ z. z.reports) here ∙ reports)) tt;
+    joiners = subst (AllByRecursion (CountedOk T (part T i) (term_at T i))) (sym none) tt;
+    alone = subst (λ z. Distinct (map (λ j. j.slot) z)) (sym none) tt;
+    leads = inl none;
+    asks = subst (λ z. AllByRecursion (λ a. AskOk T (part T i) a.slot (term_at T i) a.start) z) (sym (ap (λ z. z.asks) here ∙ asks)) tt;
+    waiting = subst (AllByRecursion (WaitingOk T i)) (sym (ap (λ z. z.waiting) here ∙ F.waiting)) (waiting-turned i slot same-start k);
+    pending = pending-turned i slot same-start k;
+    on_disk = subst (λ z. z.on_disk ≤ length z.log) (sym here) on_disk;
+    held = subst (λ z. AllByRecursion HeldOk z.held) (sym here) held;
+  }
+    where
+      slot : IsSlot S i
+      slot = running-slot S H i up
+
+      same-start : start_at T i ≡ start_at S i
+      same-start = ap (λ z. z.start) here ∙ start
+
+      none : (T.sites i).joiners ≡ []
+      none = ap (λ z. z.joiners) here ∙ joiners
+
+  -- ---- all of it
+
+  pub turned-holds : word.Holds T.words → SiteOk T i → ViewsOk T i → ((c : ℕ) → IsSlot S c → AllByRecursion (SiteLetterOk T i c) (new c))
+      → ((c t : ℕ) (e : Entered) → en c t ≡ Some e → EnteredOk T c t e)
+      → ((c t : ℕ) (x : Streaming) → S.logs.streamed c t ≡ Some x → en c t ≡ None)
+      → ((p t : ℕ) (g : Reign) → re p t ≡ Some g → ReignOk T p t g)
+      → ((p t : ℕ) → re p t ≡ None → UnledOk T p t)
+      → Holds T
+  turned-holds words site views letters entered apart reigns unled = record {
+    words = words;
+    sites = λ c. elim (cases_eq c i) [ inl e ↦ subst (SiteOk T) (sym e) site | inr n ↦ site-other c n ];
+    views = λ c. elim (cases_eq c i) [ inl e ↦ subst (ViewsOk T) (sym e) views | inr n ↦ views-other c n ];
+    letters = letters-turned letters;
+    foreign = λ from c. all-mono (ForeignOk S c from) (ForeignOk T c from) (foreign-later S T H F.later c from) (ch from (Site c)) (F.foreign from c);
+    loads = loads-turned;
+    entered = entered;
+    streamed = λ c t x is. streamed-turned c t x is (apart c t x is);
+    reigns = reigns;
+    unled = unled;
+    some = H.some;
+    first = λ p. let o = H.first p in (o.0, (F.led p (base_of S) o.0 o.1).0 ∙ o.1);
+  }

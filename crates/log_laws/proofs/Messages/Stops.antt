@@ -1,0 +1,504 @@
+-- A slot's site stops, or a start of it begins to run: what holds, holds after it.
+use Rattle.std.proofs.Common.{◌≡◌, ◌<◌, Bool, true, false, List, [], ◌∷◌, ◌++◌, refl, sym, subst, ap, ◌∙◌, inl, inr, ◌==◌, arith}
+use Rattle.std.proofs.lemmas.Bool.{cases_eq, and_parts}
+use Rattle.std.proofs.lemmas.Bool.Decides.{nat_tests}
+use Rattle.std.proofs.Math.Path.{fun_ext}
+use Rattle.std.specs.Prelude.{ℕ, ◌≤◌, ◌&&◌, if◌then◌else◌, max, nat_le, nat_lt, length, Some, None}
+use Rattle.std.specs.List.{AllByRecursion}
+use Rattle.volt_wire.specs.Word.{Membership}
+use Rattle.volt_wire.specs.declared.actor.Actor.{Actor}
+use Rattle.volt_wire.specs.declared.actor.Actor.TheVariants.{Director, Client, Agent, Site, Scanner}
+use Rattle.volt_wire.specs.declared.message.Msg.TheVariants as msg
+use Rattle.cluster_model.specs.Words.{Deployment, host_of_slot, is_slot_of, slots}
+use Rattle.cluster_model.specs.Disk.{Shown}
+use Rattle.cluster_model.specs.Letters.{same, Letter, Sends, Turn, becomes, sending, no_sends, only, open_letter}
+use Rattle.cluster_model.specs.SiteState.{SiteState, site_term, new_joiner, new_joining, stopped_site}
+use Rattle.cluster_model.specs.AgentState.{stops_others}
+use Rattle.cluster_model.specs.Site.{on_start, on_stop}
+use Rattle.cluster_model.specs.Sync.{stops_so}
+use Rattle.cluster_model.specs.World.{sent, rest, set_at}
+use Rattle.cluster_model.specs.Laws.{starts_in}
+use Rattle.word_laws.specs.Histories.{In}
+use Rattle.word_laws.proofs.Lists.{all-if, all-mono, not-both, same-some, set-both, set-here, set-there}
+use Rattle.log_laws.specs.Histories.{LogState, Logs, Entered, Streaming, Holds, IsCounted, SiteLetterOk, ForeignOk, IsSlot, SiteOk, KeepsOk, ViewsOk, JoinerOk, FirstViews, Starting, part, start_at, log_at, term_at, between, from_agent, views, asks_in, asks_waiting, asks_of_term}
+use Rattle.log_laws.proofs.Kept.Moves.{Grown, after, popped, Later, SiteLater, Stays, SameReigns, JoinsOn}
+use Rattle.log_laws.proofs.Kept.Grown.{grown-same, grown-reach}
+use Rattle.log_laws.proofs.Kept.Laters.{stays, same-reigns, ask-later-on, letter-later-with, end-later-if, loads-later, entered-later, streamed-later, reigns-later}
+use Rattle.log_laws.proofs.Plain.Lines.{if-none}
+use Rattle.log_laws.proofs.Kept.Asked.{AtMost, AsksLess, asks-at, at-most-both, at-most-same}
+use Rattle.log_laws.proofs.Kept.Keeps.{Still, still-same, Uncounted, counted-from, site-keeps, keeps-later}
+use Rattle.log_laws.proofs.Kept.KeepsViews.{foreign-later, first_views-later, views-keeps}
+use Rattle.log_laws.proofs.Kept.Plumbing.{words-later, goes-same, here, popped-here, popped-after, first-after}
+use Rattle.log_laws.proofs.Messages.Pops.{pops-kind, pops-stopped, popped-later}
+use Rattle.log_laws.proofs.Kept.QuietTurns.{Silent, Unwatched, unwatched, quiet-after}
+
+-- a site that is as it was goes on
+pub stays-same : (S T : LogState) (c : ℕ) → T.sites c ≡ S.sites c → Stays S T c
+stays-same S T c e = record {
+  start = ap (λ x. x.start) e;
+  earlier = ap (λ x. x.earlier) e;
+  log = rw (ap (λ x. length x.log) e) (omega arith);
+  term = rw (ap site_term e) (omega arith);
+  member = λ z. ap (λ x. x.joining) e ∙ z;
+  loaded = λ k z. (k, ap (λ x. x.joining) (sym e) ∙ z, λ y. y);
+}
+
+-- ---- a site of another start, or none
+
+-- slot i has this site, and its site ran with these starts
+abbrev pub renewed : LogState → ℕ → SiteState → (ℕ → List ℕ) → LogState
+renewed S i s ran = record S { sites = set_at S.sites i s; logs = record S.logs { ran = ran } }
+
+-- Such a site: it keeps nothing, and doesn't go on with what the slot ran with. It is a joiner, or it isn't running.
+pub record Renews (S : LogState) (i : ℕ) (s : SiteState) (ran : ℕ → List ℕ) : Type 0 where
+  pub later : Later S (renewed S i s ran)
+  pub ends : Stays S (renewed S i s ran) i → 0 < s.start → ⊥
+  pub joins : s.joining ≡ None → s.start ≡ 0
+  pub waiting : s.waiting ≡ []
+  pub asks : s.asks ≡ []
+  pub joiners : s.joiners ≡ []
+  pub others : (c : ℕ) → (c ≡ i → ⊥) → ran c ≡ S.logs.ran c
+
+module _ (S : LogState) (H : Holds S) (i : ℕ) (s : SiteState) (ran : ℕ → List ℕ) (new : Renews S i s ran) where
+  abbrev T : LogState
+  T = renewed S i s ran
+
+  mine : T.sites i ≡ s
+  mine = set-here S.sites i s
+
+  other : (c : ℕ) → (c ≡ i → ⊥) → T.sites c ≡ S.sites c
+  other c d = set-there S.sites i s c d
+
+  -- it doesn't run on
+  ended : Stays S T i → 0 < start_at T i → ⊥
+  ended k up = new.ends k (subst (λ z. 0 < z.start) mine up)
+
+  -- starts that run on join on
+  joins-on : (c : ℕ) → Stays S T c → 0 < start_at T c → JoinsOn S T c
+  joins-on c k up = elim (cases_eq c i) [
+    | inl e ↦ absurd (ended (subst (Stays S T) e k) (subst (λ z. 0 < start_at T z) e up))
+    | inr d ↦ λ w j. (j.0, ap (λ z. z.joining) (other c d) ∙ j.1, ap (λ z. z.view) (other c d) ∙ j.2)
+  ]
+
+  -- a start that ran and runs is of another slot
+  ran-on : (c a : ℕ) → 0 < a → In a (S.logs.ran c) → start_at T c ≡ a → T.sites c ≡ S.sites c
+  ran-on c a some was is = elim (cases_eq c i) [
+    | inl e ↦ absurd (ended (subst (Stays S T) e (stays S T H new.later c a some was is)) (subst (λ z. 0 < start_at T z) e (rw is some)))
+    | inr d ↦ other c d
+  ]
+
+  counts : (c a nj : ℕ) (w : Membership) → IsCounted S c a nj w → IsCounted T c a nj w
+  counts c a nj w = counted-from S T H new.later i other c a nj w (λ k up joining view.
+      let z = new.joins (ap (λ x. x.joining) (sym mine) ∙ joining) in let u = subst (λ x. 0 < x.start) mine up in absurd (omega (arith, z, u)))
+
+  asks-less : AsksLess S T
+  asks-less = asks-at S T i (λ l d. (other l d, refl, λ c. refl)) (λ c t.
+      rw (mine, new.waiting, kept-none c t s new.asks)
+      (at-most-both (asks_in t (between S c i) ++ asks_waiting c t (S.sites i).waiting ++ asks_waiting c t (S.pending i))
+      (asks_in t (between S c i) ++ [] ++ asks_waiting c t (S.pending i))
+      (asks_of_term c t (S.sites i)) []
+      (at-most-both (asks_in t (between S c i) ++ asks_waiting c t (S.sites i).waiting) (asks_in t (between S c i) ++ [])
+      (asks_waiting c t (S.pending i)) (asks_waiting c t (S.pending i))
+      (at-most-both (asks_in t (between S c i)) (asks_in t (between S c i)) (asks_waiting c t (S.sites i).waiting) [] (at-most-same (asks_in t (between S c i)))
+      (at-most-nothing (asks_waiting c t (S.sites i).waiting)))
+      (at-most-same (asks_waiting c t (S.pending i))))
+      (at-most-nothing (asks_of_term c t (S.sites i)))))
+    where
+      kept-none : (c t : ℕ) (x : SiteState) → x.asks ≡ [] → asks_of_term c t x ≡ []
+      kept-none c t x e = rw e (if-none (site_term x == t))
+
+      at-most-nothing : (xs : List ℕ) → AtMost xs []
+      at-most-nothing xs = record { shorter = omega arith; within = λ y k. absurd k }
+
+  other-ok : (c : ℕ) → (c ≡ i → ⊥) → SiteOk T c
+  other-ok c d = site-keeps S T H new.later c still (new.others c d) (record { entered = λ t e k _. k; streamed = λ t x k _. k }) (record { reign = refl; reach = refl })
+      (λ up l. record { lines = refl; flows = refl; ends = λ e. e; asks = asks-less c l (term_at S c); uncounted = uncounted l })
+      (λ nj w. counts c (start_at S c) nj w) keeps
+      (λ z k. (ap (λ x. x.waiting) (other c d) ∙ k.0, ap (λ x. x.asks) (other c d) ∙ k.1, ap (λ x. x.joiners) (other c d) ∙ k.2, k.3))
+      (H.sites c)
+    where
+      still : Still (S.sites c) (T.sites c)
+      still = still-same (S.sites c) (T.sites c) (other c d)
+
+      uncounted : (l : ℕ) → Uncounted S l c (start_at S c) → Uncounted T l c (start_at S c)
+      uncounted l k j m = elim (cases_eq l i) [
+        | inl e ↦ absurd (subst (In j) (ap (λ z. (T.sites z).joiners) e ∙ ap (λ x. x.joiners) mine ∙ new.joiners) m)
+        | inr n ↦ k j (subst (λ x. In j x.joiners) (other l n) m)
+      ]
+
+      keeps : 0 < start_at S c → KeepsOk S c → KeepsOk T c
+      keeps up k = keeps-later S T H new.later c still (other c d) refl joins-on k
+
+  -- What must hold of that slot, so that what holds, holds.
+  pub renewed-holds : SiteOk T i → ViewsOk T i → Holds T
+  renewed-holds site views = record {
+    words = H.words;
+    sites = λ c. elim (cases_eq c i) [
+      | inl e ↦ subst (SiteOk T) (sym e) site
+      | inr d ↦ other-ok c d
+    ];
+    views = λ c. elim (cases_eq c i) [
+      | inl e ↦ subst (ViewsOk T) (sym e) views
+      | inr d ↦ views-keeps S T H new.later c (ap (λ x. x.start) (other c d)) (ap (λ x. x.view) (other c d)) (new.others c d) refl (λ s m. m) refl (H.views c)
+    ];
+    letters = λ j c slot. all-mono (SiteLetterOk S j c) (SiteLetterOk T j c) (λ l. letter-later-with S T H new.later j c l
+        (λ a. ask-later-on S T H new.later (part S c) j l.term a (joins-on j))
+        (λ r e. end-later-if S T H new.later j c l r e (λ _ _ _ _ k. k) (λ x q _. inl q)))
+        (between S j c) (H.letters j c slot);
+    foreign = λ a c. all-mono (ForeignOk S c a) (ForeignOk T c a) (foreign-later S T H new.later c a) (S.words.channel a (Site c)) (H.foreign a c);
+    loads = loads-later S T H new.later refl refl H.loads.told (λ h g. refl);
+    entered = λ c t e k. let o = H.entered c t e k in
+        entered-later S T H new.later c t e o k reigns (λ is. within c t e.start o.been.some o.been.ran is (λ r. (o.running r).2)) o.since;
+    streamed = λ c t x k. let o = H.streamed c t x k in
+        streamed-later S T H new.later c t x o reigns o.apart (λ is. within c t x.start o.been.some o.been.ran is (λ r. (o.running r).2)) (counts c x.start x.nj o.word);
+    reigns = reigns-later S T H new.later reigns (λ p t g is. (H.reigns p t g is).within);
+    unled = H.unled;
+    some = H.some;
+    first = H.first;
+  }
+    where
+      reigns : SameReigns S.logs T.logs
+      reigns = same-reigns S.logs T.logs refl
+
+      -- what is everywhere is in the log of a slot that runs on
+      within : (c t a : ℕ) → 0 < a → In a (S.logs.ran c) → start_at T c ≡ a → (start_at S c ≡ a → S.logs.reach (part S c) t ≤ length (log_at S c))
+          → S.logs.reach (part S c) t ≤ length (log_at T c)
+      within c t a some was is k = let e = ran-on c a some was is in rw (ap (λ x. x.log) e) (k (ap (λ x. x.start) (sym e) ∙ is))
+
+-- ---- and what it sends
+
+set-twice : {A : Type 0} (f : ℕ → A) (i : ℕ) (x y : A) → set_at (set_at f i x) i y ≡ set_at f i y
+set-twice {A = A} f i x y = fun_ext (λ c. last (c == i) (f c))
+  where
+    last : (b : Bool) (z : A) → (if b then y else if b then x else z) ≡ (if b then y else z)
+    last true z = refl
+    last false z = refl
+
+-- messages that aren't looked at
+pub renewed-sends : (S : LogState) (i : ℕ) (s : SiteState) (ran : ℕ → List ℕ) (out : Sends) → Holds (renewed S i s ran) → ((b : Actor) → AllByRecursion (Silent b) (out b))
+    → Holds (after S i s out (record S.logs { ran = ran }))
+renewed-sends S i s ran out H silent =
+    subst (λ f. Holds (record S { words = record S.words { channel = sent S.words.channel (Site i) out }; sites = f; logs = record S.logs { ran = ran } }))
+    (set-twice S.sites i s s)
+    (quiet-after (renewed S i s ran) i s out H (subst (λ z. Unwatched z s) (sym (set-here S.sites i s)) (unwatched s s (λ k. k))) silent)
+
+-- ---- a site that stops
+
+-- a site that has stopped, with another greatest Stop, and other contents and cuts of power of its disk
+abbrev pub stopped_so : SiteState → ℕ → List Shown → List (ℕ × ℕ) → SiteState
+stopped_so s stop contents plans = record (stopped_site s) { stop = stop; contents = contents; plans = plans }
+
+module _ (S : LogState) (H : Holds S) (i : ℕ) (none : S.pending i ≡ []) (stop : ℕ) (contents : List Shown) (plans : List (ℕ × ℕ)) where
+  abbrev Q : LogState
+  Q = renewed S i (stopped_so (S.sites i) stop contents plans) S.logs.ran
+
+  gone : Q.sites i ≡ stopped_so (S.sites i) stop contents plans
+  gone = set-here S.sites i (stopped_so (S.sites i) stop contents plans)
+
+  stop-later : Later S Q
+  stop-later = record {
+    words = words-later S S.words.channel;
+    ran = λ c a k. k;
+    greatest = set-both (λ c x. (S.sites c).greatest ≤ x.greatest) S.sites i (stopped_so (S.sites i) stop contents plans) (omega arith) (λ c d. omega arith);
+    sites = λ c. elim (cases_eq c i) [
+      | inl e ↦ inr (inl (ap (λ z. (Q.sites z).start) e ∙ ap (λ x. x.start) gone))
+      | inr d ↦ inl (stays-same S Q c (set-there S.sites i (stopped_so (S.sites i) stop contents plans) c d))
+    ];
+    entered = λ c t e k. k;
+    entered_now = λ c t e k. inl k;
+    streamed = λ c t x k. k;
+    streamed_now = λ c t x k. inl k;
+    reach = λ p t. omega arith;
+  }
+
+  stop-site : SiteOk Q i
+  stop-site = record {
+    outside = λ _. ap (λ x. x.start) gone;
+    ran = λ up. absurd (no-start up);
+    term = rw gone (omega arith);
+    earlier = rw gone (omega arith);
+    member = λ up _. absurd (no-start up);
+    joiner = λ j e. let z = ap (λ x. x.joining) (sym gone) ∙ e in absurd (cc);
+    keeps = λ up. absurd (no-start up);
+    stopped = λ _. (ap (λ x. x.waiting) gone, ap (λ x. x.asks) gone, ap (λ x. x.joiners) gone, none);
+    blank = λ _. ap (λ x. x.view) gone;
+  }
+    where
+      no-start : 0 < start_at Q i → ⊥
+      no-start up = let z = ap (λ x. x.start) gone in omega (arith, z, up)
+
+  stop-views : ViewsOk Q i
+  stop-views = let k = H.views i in record {
+    plain = k.plain;
+    began = k.began;
+    running = λ up. let z = ap (λ x. x.start) gone in absurd (omega (arith, z, up));
+    starting = λ a m. let o = k.starting a m in (o.0, o.1, first_views-later S Q H stop-later i a (views a (from_agent S i)) o.2);
+    wordless = k.wordless;
+    below = λ up. ((k.below up).0, λ e. rw (ap site_term gone) (omega arith));
+  }
+
+  pub stopped-holds : Holds Q
+  stopped-holds = renewed-holds S H i (stopped_so (S.sites i) stop contents plans) S.logs.ran (record {
+    later = stop-later;
+    ends = λ _ up. absurd (omega (arith, up));
+    joins = λ _. refl;
+    waiting = refl;
+    asks = refl;
+    joiners = refl;
+    others = λ c d. refl;
+  }) stop-site stop-views
+
+  -- It sends nothing that is looked at.
+  pub stops-holds : (out : Sends) → ((b : Actor) → AllByRecursion (Silent b) (out b)) → Holds (after S i (stopped_so (S.sites i) stop contents plans) out S.logs)
+  stops-holds out silent = renewed-sends S i (stopped_so (S.sites i) stop contents plans) S.logs.ran out stopped-holds silent
+
+-- It stops as it takes a message, whatever that is.
+pub stops-message : (S : LogState) → Holds S → (from : Actor) (i : ℕ) (l : Letter) (ls : List Letter) → S.words.channel from (Site i) ≡ l ∷ ls → S.pending i ≡ []
+    → (stop : ℕ) (contents : List Shown) (plans : List (ℕ × ℕ)) (out : Sends) → ((b : Actor) → AllByRecursion (Silent b) (out b))
+    → Holds (after (popped S from i) i (stopped_so (S.sites i) stop contents plans) out S.logs)
+stops-message S H from i l ls is none stop contents plans out silent =
+    let s = stopped_so (S.sites i) stop contents plans in
+    let first = first-after S from i s out S.logs l ls is in
+    subst Holds (sym (popped-after S from i s out S.logs l ls is))
+    (pops-stopped (after S i s out S.logs) (stops-holds S H i none stop contents plans out silent) from i l first.0 first.1 (ap (λ x. x.start) (here S i s out S.logs)))
+
+-- ---- a start that begins
+
+module _ (S : LogState) (H : Holds S) (i : ℕ) (l : Letter) (ls : List Letter) (a : ℕ) (is : from_agent S i ≡ record l { body = msg.Start a } ∷ ls)
+    (slot : IsSlot S i) (above : start_at S i < a) (none : S.pending i ≡ []) where
+  -- once the Start is taken
+  abbrev P : LogState
+  P = popped S (Agent (host_of_slot S.words.deployment i)) i
+
+  abbrev ran : ℕ → List ℕ
+  ran = set_at S.logs.ran i (a ∷ S.logs.ran i)
+
+  abbrev N : LogState
+  N = renewed P i (new_joiner (S.sites i) a) ran
+
+  taken : Holds P
+  taken = pops-kind S H (Agent (host_of_slot S.words.deployment i)) i (record l { body = msg.Start a }) ls is tt
+
+  under-way : In a (starts_in (from_agent S i))
+  under-way = subst (λ z. In a (starts_in z)) (sym is) (inl refl)
+
+  starting : (In a (S.logs.ran i) → ⊥) × Starting a (from_agent S i) × FirstViews S i a (views a (from_agent S i))
+  starting = (H.views i).starting a under-way
+
+  left-of : from_agent P i ≡ ls
+  left-of = popped-here S (Agent (host_of_slot S.words.deployment i)) i ∙ ap rest is
+
+  -- the start isn't under way any more
+  no-more : In a (starts_in (from_agent P i)) → ⊥
+  no-more k = elim (subst (Starting a) is starting.1) [
+    | inl e ↦ e.1 (subst (λ z. In a (starts_in z)) left-of k)
+    | inr e ↦ e.1 (inl refl)
+  ]
+
+  ran-here : ran i ≡ a ∷ S.logs.ran i
+  ran-here = set-here S.logs.ran i (a ∷ S.logs.ran i)
+
+  fresh : N.sites i ≡ new_joiner (S.sites i) a
+  fresh = set-here S.sites i (new_joiner (S.sites i) a)
+
+  start-later : Later P N
+  start-later = record {
+    words = words-later P P.words.channel;
+    ran = λ c b k. set-both (λ c x. In b (S.logs.ran c) → In b x) S.logs.ran i (a ∷ S.logs.ran i) (λ k. inr k) (λ c d k. k) c k;
+    greatest = set-both (λ c x. (S.sites c).greatest ≤ x.greatest) S.sites i (new_joiner (S.sites i) a) (omega arith) (λ c d. omega arith);
+    sites = λ c. elim (cases_eq c i) [
+      | inl e ↦ subst (SiteLater P N) (sym e) (inr (inr (record {
+        fresh = λ k. starting.0 (subst (λ z. In z (S.logs.ran i)) (ap (λ x. x.start) fresh) k);
+        earlier = ap (λ x. x.earlier) fresh;
+      })))
+      | inr d ↦ inl (stays-same P N c (set-there S.sites i (new_joiner (S.sites i) a) c d))
+    ];
+    entered = λ c t e k. k;
+    entered_now = λ c t e k. inl k;
+    streamed = λ c t x k. k;
+    streamed_now = λ c t x k. inl k;
+    reach = λ p t. omega arith;
+  }
+
+  -- it was in no term
+  unentered : (t : ℕ) (e : Entered) → S.logs.entered i t ≡ Some e → e.start ≡ a → ⊥
+  unentered t e k start = starting.0 (subst (λ z. In z (S.logs.ran i)) start (H.entered i t e k).been.ran)
+
+  unstreamed : (t : ℕ) (x : Streaming) → S.logs.streamed i t ≡ Some x → x.start ≡ a → ⊥
+  unstreamed t x k start = starting.0 (subst (λ z. In z (S.logs.ran i)) start (H.streamed i t x k).been.ran)
+
+  runs : 0 < start_at N i
+  runs = rw (ap (λ x. x.start) fresh) (omega (arith, above))
+
+  start-joiner : JoinerOk N i new_joining
+  start-joiner = record {
+    runs = runs;
+    unentered = λ t e k start. unentered t e k (start ∙ ap (λ x. x.start) fresh);
+    told = λ e. absurd (cc);
+    based = λ e. absurd (cc);
+    firm = ap (λ x. x.firm) fresh;
+    view = rw (ap (λ x. x.view) fresh) (record {
+      stream = refl;
+      loads = refl;
+      counts = refl;
+      tasks = refl;
+      empty = ap (λ x. x.log) fresh;
+      floor = ap (λ x. x.floor) fresh;
+      never = λ t x k start. unstreamed t x k (start ∙ ap (λ x. x.start) fresh);
+    });
+  }
+
+  start-site : SiteOk N i
+  start-site = record {
+    outside = λ e. absurd (not-both (nat_lt i (slots S.words.deployment)) slot e);
+    ran = λ _. (S.logs.ran i, ran-here ∙ ap (λ z. z ∷ S.logs.ran i) (ap (λ x. x.start) (sym fresh)));
+    term = rw (ap site_term fresh) (omega arith);
+    earlier = rw (ap (λ x. x.earlier) fresh, ap (λ x. x.greatest) fresh) (omega arith);
+    member = λ _ e. let z = ap (λ x. x.joining) (sym fresh) ∙ e in absurd (cc);
+    joiner = λ j e. subst (JoinerOk N i) (same-some (ap (λ x. x.joining) (sym fresh) ∙ e)) start-joiner;
+    keeps = λ _. record {
+      acks = rw (ap (λ x. x.acks) fresh) tt;
+      reports = rw (ap (λ x. x.reports) fresh) tt;
+      joiners = rw (ap (λ x. x.joiners) fresh) tt;
+      alone = rw (ap (λ x. x.joiners) fresh) tt;
+      leads = inl (ap (λ x. x.joiners) fresh);
+      asks = rw (ap (λ x. x.asks) fresh) tt;
+      waiting = rw (ap (λ x. x.waiting) fresh) tt;
+      pending = rw none tt;
+      on_disk = rw (ap (λ x. x.on_disk) fresh) (omega arith);
+      held = rw (ap (λ x. x.held) fresh) tt;
+    };
+    stopped = λ e. absurd (omega (arith, runs, e));
+    blank = λ e. absurd (omega (arith, runs, e));
+  }
+
+  start-views : ViewsOk N i
+  start-views = let k = (taken).views i in record {
+    plain = k.plain;
+    began = λ s m. elim m as (λ _. In s (S.words.history.began (host_of_slot S.words.deployment i))) [
+      | inl u ↦ k.began s (inl u)
+      | inr (inl u) ↦ elim (subst (In s) ran-here u) [
+        | inl e ↦ (H.views i).began s (inl (subst (λ z. In z (starts_in (from_agent S i))) e under-way))
+        | inr v ↦ k.began s (inr (inl v))
+      ]
+      | inr (inr u) ↦ k.began s (inr (inr u))
+    ];
+    running = λ _. rw (ap (λ x. x.view) fresh) (first_run (start_at N i) (ap (λ x. x.start) fresh));
+    starting = λ s m. let o = k.starting s m in (
+      (λ r. elim (subst (In s) ran-here r) [
+        | inl e ↦ no-more (subst (λ z. In z (starts_in (from_agent P i))) (sym e) m)
+        | inr v ↦ o.0 v
+      ]),
+      o.1,
+      first_views-later P N taken start-later i s (views s (from_agent P i)) o.2,
+    );
+    wordless = λ up untaken undecided. let o = k.wordless up untaken undecided in (
+      o.0,
+      (λ r. elim (subst (In (S.words.agents (host_of_slot S.words.deployment i)).start) ran-here r) [
+        | inl e ↦ ((H.views i).wordless up untaken undecided).0 (subst (λ z. In z (starts_in (from_agent S i))) e under-way)
+        | inr v ↦ o.1 v
+      ]),
+      o.2,
+    );
+    below = λ up. ((k.below up).0, λ _. rw (ap site_term fresh) (omega arith));
+  }
+    where
+      first_run : (s : ℕ) → s ≡ a → FirstViews N i s (views s (from_agent P i))
+      first_run s e = rw e (first_views-later P N taken start-later i a (views a (from_agent P i))
+          (first_views-later S P H (popped-later S (Agent (host_of_slot S.words.deployment i)) i) i a (views a (from_agent P i))
+          (rw left-of (subst (λ z. FirstViews S i a z) (ap (views a) is ∙ ap (λ z. z ++ views a ls) (if-none (l.start == a))) starting.2))))
+
+  pub started-holds : Holds N
+  started-holds = renewed-holds P taken i (new_joiner (S.sites i) a) ran (record {
+    later = start-later;
+    ends = λ k _. let z = ap (λ x. x.start) (sym fresh) ∙ k.start in absurd (omega (arith, z, above));
+    joins = λ e. absurd (cc);
+    waiting = refl;
+    asks = refl;
+    joiners = refl;
+    others = λ c d. set-there S.logs.ran i (a ∷ S.logs.ran i) c d;
+  }) start-site start-views
+
+  -- It sends Start to its scanner.
+  pub starts-holds : Holds (after P i (new_joiner (S.sites i) a) (only (Scanner i) (open_letter (msg.Start a))) (record S.logs { ran = ran }))
+  starts-holds = renewed-sends P i (new_joiner (S.sites i) a) ran (only (Scanner i) (open_letter (msg.Start a))) started-holds silent
+    where
+      silent : (b : Actor) → AllByRecursion (Silent b) (only (Scanner i) (open_letter (msg.Start a)) b)
+      silent Director = tt
+      silent (Client n) = tt
+      silent (Agent h) = tt
+      silent (Site c) = tt
+      silent (Scanner x) = all-if (Silent (Scanner x)) (i == x) (open_letter (msg.Start a) ∷ []) [] (tt, tt) tt
+
+-- ---- what a site does with Start and Stop, and when it stops of itself
+
+-- after a turn, with what it adds to the history
+abbrev pub After : LogState → ℕ → Turn SiteState → Type 0
+After S i t = (G : Logs) × Holds (after S i t.state t.sends G) × Grown S.words.deployment i t.state S.logs G
+
+-- Stop to others of its host
+pub stops_others-silent : (D : Deployment) (h start : ℕ) (b : Actor) → AllByRecursion (Silent b) (stops_others D h start b)
+stops_others-silent D h start Director = tt
+stops_others-silent D h start (Client n) = tt
+stops_others-silent D h start (Agent g) = all-if (Silent (Agent g)) (g == h) (open_letter (msg.Stop start) ∷ []) [] (tt, tt) tt
+stops_others-silent D h start (Site c) = all-if (Silent (Site c)) (is_slot_of D h c) (open_letter (msg.Stop start) ∷ []) [] (tt, tt) tt
+stops_others-silent D h start (Scanner x) = all-if (Silent (Scanner x)) (is_slot_of D h x) (open_letter (msg.Stop start) ∷ []) [] (tt, tt) tt
+
+pub stops_so-silent : (D : Deployment) (i : ℕ) (s : SiteState) (start : ℕ) (contents : List Shown) (b : Actor) → AllByRecursion (Silent b) ((stops_so D i s start contents).sends b)
+stops_so-silent D i s start contents b = all-if (Silent b) (same (Site i) b) [] (stops_others D (host_of_slot D i) start b) tt (stops_others-silent D (host_of_slot D i) start b)
+
+-- Its disk fails in a Sync, or it finds no memory.
+pub stops_so-after : (S : LogState) → Holds S → (i : ℕ) → S.pending i ≡ [] → (D : Deployment) (start : ℕ) (contents : List Shown)
+    → After S i (stops_so D i (S.sites i) start contents)
+stops_so-after S H i none D start contents = (
+  S.logs,
+  stops-holds S H i none (S.sites i).stop contents (S.sites i).plans (stops_so D i (S.sites i) start contents).sends (stops_so-silent D i (S.sites i) start contents),
+  grown-same S.words.deployment i (stops_so D i (S.sites i) start contents).state S.logs,
+)
+
+-- or it does so as it takes a message
+pub stops_so-message : (S : LogState) → Holds S → (from : Actor) (i : ℕ) (l : Letter) (ls : List Letter) → S.words.channel from (Site i) ≡ l ∷ ls → S.pending i ≡ []
+    → (D : Deployment) (start : ℕ) (contents : List Shown) → After (popped S from i) i (stops_so D i (S.sites i) start contents)
+stops_so-message S H from i l ls is none D start contents = (
+  S.logs,
+  stops-message S H from i l ls is none (S.sites i).stop contents (S.sites i).plans (stops_so D i (S.sites i) start contents).sends
+      (stops_so-silent D i (S.sites i) start contents),
+  grown-same S.words.deployment i (stops_so D i (S.sites i) start contents).state S.logs,
+)
+
+-- Stop comes to it.
+pub on_stop-after : (S : LogState) → Holds S → (from : Actor) (i : ℕ) (l : Letter) (ls : List Letter) (a : ℕ) → S.words.channel from (Site i) ≡ record l { body = msg.Stop a } ∷ ls
+    → S.pending i ≡ [] → After (popped S from i) i (becomes (on_stop (S.sites i) a))
+on_stop-after S H from i l ls a is none = choice (nat_le (S.sites i).start a)
+  where
+    noted : SiteState
+    noted = record (S.sites i) { stop = max (S.sites i).stop a }
+
+    choice : (b : Bool) → After (popped S from i) i (becomes (if b then stopped_site noted else noted))
+    choice true = (
+      S.logs,
+      stops-message S H from i (record l { body = msg.Stop a }) ls is none (max (S.sites i).stop a) (S.sites i).contents (S.sites i).plans no_sends (λ b. tt),
+      grown-same S.words.deployment i (stopped_site noted) S.logs,
+    )
+    choice false = (
+      S.logs,
+      quiet-after (popped S from i) i noted no_sends (pops-kind S H from i (record l { body = msg.Stop a }) ls is tt) (unwatched (S.sites i) noted (λ k. k)) (λ b. tt),
+      grown-same S.words.deployment i noted S.logs,
+    )
+
+-- Start comes to it, from its own agent.
+pub on_start-after : (S : LogState) → Holds S → (i : ℕ) (l : Letter) (ls : List Letter) (a : ℕ) → from_agent S i ≡ record l { body = msg.Start a } ∷ ls
+    → IsSlot S i → S.pending i ≡ [] → After (popped S (Agent (host_of_slot S.words.deployment i)) i) i (on_start i (S.sites i) a)
+on_start-after S H i l ls a is slot none = choice (nat_lt (S.sites i).start a && nat_lt (S.sites i).stop a) refl
+  where
+    P : LogState
+    P = popped S (Agent (host_of_slot S.words.deployment i)) i
+
+    choice : (b : Bool) → (nat_lt (S.sites i).start a && nat_lt (S.sites i).stop a) ≡ b
+        → After P i (if b then sending (new_joiner (S.sites i) a) (only (Scanner i) (open_letter (msg.Start a))) else becomes (S.sites i))
+    choice true e = let above = (and_parts (nat_lt (S.sites i).start a) (nat_lt (S.sites i).stop a) e).0 in (
+      record S.logs { ran = set_at S.logs.ran i (a ∷ S.logs.ran i) },
+      starts-holds S H i l ls a is slot (grind (arith, nat_tests, above)) none,
+      grown-reach S.words.deployment i (new_joiner (S.sites i) a) S.logs (record S.logs { ran = set_at S.logs.ran i (a ∷ S.logs.ran i) }) refl (λ p t. omega arith),
+    )
+    choice false e = let g = goes-same P i (pops-kind S H (Agent (host_of_slot S.words.deployment i)) i (record l { body = msg.Start a }) ls is tt) in (g.logs, g.holds, g.grown)

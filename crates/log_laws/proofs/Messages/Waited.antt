@@ -1,0 +1,114 @@
+-- A site that has come to a term takes what waited for that, one after another: what holds, holds after it.
+use Rattle.std.proofs.Common.{◌≡◌, ◌<◌, Bool, true, false, List, [], ◌∷◌, refl, sym, subst, ap, ◌∙◌, ◌==◌}
+use Rattle.std.proofs.lemmas.Bool.{eqb-true}
+use Rattle.std.proofs.Math.Path.{fun_ext}
+use Rattle.std.specs.Prelude.{ℕ, if◌then◌else◌}
+use Rattle.std.specs.List.{AllByRecursion}
+use Rattle.volt_wire.specs.declared.actor.Actor.TheVariants.{Site}
+use Rattle.cluster_model.specs.Engine.{Database}
+use Rattle.cluster_model.specs.Words.{Deployment, term_in}
+use Rattle.cluster_model.specs.Letters.{Waiting, Turn, ◌▸◌, no_sends, of_term, above_term}
+use Rattle.cluster_model.specs.SiteState.{SiteState, site_term}
+use Rattle.cluster_model.specs.Site.{site_row, takes_each, takes_waiting}
+use Rattle.word_laws.proofs.Lists.{all-append, all-from, in-filter, set-here}
+use Rattle.log_laws.specs.Histories.{LogState, Holds, WaitingOk, start_at, term_at}
+use Rattle.log_laws.proofs.Kept.Moves.{after, left, Goes, NoStreamStart}
+use Rattle.log_laws.proofs.Kept.Grown.{grown-then}
+use Rattle.log_laws.proofs.Kept.Plumbing.{here, after-after, goes-same}
+use Rattle.log_laws.proofs.Kept.Quiet.{set-same}
+use Rattle.log_laws.proofs.Messages.Pops.{takes-up-after}
+
+-- ---- what is left of what waited
+
+pub left-left : (S : LogState) (i : ℕ) (ws vs : List Waiting) → left (left S i ws) i vs ≡ left S i vs
+left-left S i ws vs = ap (λ p. record S { pending = p }) (fun_ext (λ c. last (c == i) (S.pending c)))
+  where
+    last : (b : Bool) (x : List Waiting) → (if b then vs else if b then ws else x) ≡ (if b then vs else x)
+    last true x = refl
+    last false x = refl
+
+pub left-same : (S : LogState) (i : ℕ) (ws : List Waiting) → S.pending i ≡ ws → left S i ws ≡ S
+left-same S i ws e = subst (λ v. left S i v ≡ S) e (ap (λ p. record S { pending = p }) (set-same S.pending i))
+
+-- a turn with which a message is taken that waited, and then one with which others are
+pub left-then : (S : LogState) (i : ℕ) (ws vs : List Waiting) (t : Turn SiteState) (f : SiteState → Turn SiteState) (g : Goes (left S i ws) i t)
+    → Goes (left (after (left S i ws) i t.state t.sends g.logs) i vs) i (f t.state) → Goes (left S i vs) i (t ▸ f)
+left-then S i ws vs t f g r = record {
+  logs = r.logs;
+  start = r.start ∙ ap (λ x. x.start) (here (left S i ws) i t.state t.sends g.logs) ∙ g.start;
+  view = r.view ∙ ap (λ x. x.view) (here (left S i ws) i t.state t.sends g.logs) ∙ g.view;
+  plain = λ c. all-append NoStreamStart (t.sends (Site c)) ((f t.state).sends (Site c)) (g.plain c) (r.plain c);
+  holds = subst (λ X. Holds (after X i (f t.state).state (t ▸ f).sends r.logs)) (left-left S i ws vs)
+      (subst Holds (after-after (left (left S i ws) i vs) i t.state (f t.state).state t.sends (f t.state).sends g.logs r.logs) r.holds);
+  grown = grown-then S.words.deployment i t.state (f t.state).state S.logs g.logs r.logs
+      (r.start ∙ ap (λ x. x.start) (here (left S i ws) i t.state t.sends g.logs)) (r.view ∙ ap (λ x. x.view) (here (left S i ws) i t.state t.sends g.logs)) g.grown r.grown;
+}
+
+-- ---- one after another
+
+module _ (E : Database) (D : Deployment) (stamp i : ℕ) where
+  -- All holds after the row of each message that waited for the term.
+  abbrev pub RowsGo : Type 0
+  RowsGo = (T : LogState) (x : Waiting) (ws : List Waiting) → Holds T → 0 < start_at T i → T.words.deployment ≡ D → T.pending i ≡ x ∷ ws
+      → x.letter.term ≡ term_at T i → WaitingOk T i x → Goes (left T i ws) i (site_row E D stamp i (T.sites i) x.from x.letter)
+
+  pub each-goes : (ws : List Waiting) (S : LogState) → RowsGo → Holds S → 0 < start_at S i → S.words.deployment ≡ D → S.pending i ≡ ws
+      → AllByRecursion (λ x. x.letter.term ≡ term_at S i) ws → Goes (left S i []) i (takes_each E D stamp i ws (S.sites i))
+  each-goes [] S rows H up d is t = subst (λ T. Goes T i (takes_each E D stamp i [] (S.sites i))) (sym (left-same S i [] is)) (goes-same S i H)
+  each-goes (x ∷ ws) S rows H up d is t =
+      left-then S i ws [] row (takes_each E D stamp i ws) g (subst (λ s. Goes (left T i []) i (takes_each E D stamp i ws s)) there
+      (each-goes ws T rows g.holds (subst (λ s. 0 < s) (sym start) up) d (set-here S.pending i ws)
+      (subst (λ o. AllByRecursion (λ x. x.letter.term ≡ term_in o) ws) (sym view) t.1)))
+    where
+      row : Turn SiteState
+      row = site_row E D stamp i (S.sites i) x.from x.letter
+
+      g : Goes (left S i ws) i row
+      g = rows S x ws H up d is t.0 (subst (AllByRecursion (WaitingOk S i)) is ((H.sites i).keeps up).pending).0
+
+      T : LogState
+      T = after (left S i ws) i row.state row.sends g.logs
+
+      there : T.sites i ≡ row.state
+      there = here (left S i ws) i row.state row.sends g.logs
+
+      start : start_at T i ≡ start_at S i
+      start = ap (λ s. s.start) there ∙ g.start
+
+      view : (T.sites i).view ≡ (S.sites i).view
+      view = ap (λ s. s.view) there ∙ g.view
+
+  -- What waited for the site's term is taken.
+  pub waited-goes : (S : LogState) → RowsGo → Holds S → 0 < start_at S i → S.words.deployment ≡ D → S.pending i ≡ [] → Goes S i (takes_waiting E D stamp i (S.sites i))
+  waited-goes S rows H up d none = record {
+    logs = g.logs;
+    start = g.start ∙ ap (λ x. x.start) there;
+    view = g.view ∙ ap (λ x. x.view) there;
+    plain = g.plain;
+    holds = subst (λ X. Holds (after X i t.state t.sends g.logs)) (left-left S i now [] ∙ left-same S i [] none)
+        (subst Holds (after-after (left (left S i now) i []) i s t.state no_sends t.sends S.logs g.logs) g.holds);
+    grown = g.grown;
+  }
+    where
+      now : List Waiting
+      now = of_term (term_at S i) (S.sites i).waiting
+
+      s : SiteState
+      s = record (S.sites i) { waiting = above_term (term_at S i) (S.sites i).waiting }
+
+      t : Turn SiteState
+      t = takes_each E D stamp i now s
+
+      T : LogState
+      T = after (left S i now) i s no_sends S.logs
+
+      there : T.sites i ≡ s
+      there = here (left S i now) i s no_sends S.logs
+
+      terms : AllByRecursion (λ x. x.letter.term ≡ term_at T i) now
+      terms = all-from (λ x. x.letter.term ≡ term_at T i) now (λ x k.
+          eqb-true x.letter.term (term_at S i) (in-filter (λ w. w.letter.term == term_at S i) x (S.sites i).waiting k).1 ∙ ap site_term (sym there))
+
+      g : Goes (left T i []) i t
+      g = subst (λ z. Goes (left T i []) i (takes_each E D stamp i now z)) there
+          (each-goes now T rows (takes-up-after S H i none (term_at S i)) (subst (λ z. 0 < z.start) (sym there) up) d (set-here S.pending i now) terms)

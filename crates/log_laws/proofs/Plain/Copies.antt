@@ -1,0 +1,239 @@
+-- Copies of a partition by a word, and who leads them.
+use Rattle.std.proofs.Common.{◌≡◌, ◌+◌, ◌<◌, ◌≤◌, zero, suc, true, false, List, [], ◌∷◌, refl, sym, subst, ap, ◌∙◌, ◌⊎◌, inl, inr, ◌==◌, true≢false, arith}
+use Rattle.std.proofs.lemmas.Bool.{cases_eq, and_parts, and_from, not-true, not_from_true, not_from_false, eqb-true, eq-eqb, false_from_ne_true}
+use Rattle.std.proofs.lemmas.Option.{none-some}
+use Rattle.std.specs.Prelude.{ℕ, ◌||◌, not, map, option_map, unwrap_or, is_some, Option, Some, None}
+use Rattle.std.specs.List.{list_any, range_with_len, cons_option}
+use Rattle.volt_wire.specs.Word.{Membership}
+use Rattle.partition_ring.specs.Placement.{slot_of, part_of, host_of, slots_of_part, start_in, standing, ordered_copies}
+use Rattle.partition_ring.proofs.LawLemmas.{same_copies}
+use Rattle.cluster_model.specs.Words.{Deployment, part_of_slot, is_in, members, start_of_slot, copies, leader, first_of, is_some_of}
+use Rattle.cluster_model.specs.SiteState.{SiteState, Joining, is_joiner, leader_in, start_in_view, copies_in, is_leader, leads, other_copies}
+use Rattle.word_laws.specs.Histories.{In}
+use Rattle.word_laws.proofs.Lists.{eqb-same, same-some, in-filter, filter-in, list_any-in, list_any-from}
+use Rattle.log_laws.specs.Histories.{follows}
+
+-- ---- numbers in lists
+
+pub is_in-in : (x : ℕ) (xs : List ℕ) → is_in x xs ≡ true → In x xs
+is_in-in x xs e = let r = list_any-from (λ y. y == x) xs e in subst (λ y. In y xs) (eqb-true r.0 x r.2) r.1
+
+pub in-is_in : (x : ℕ) (xs : List ℕ) → In x xs → is_in x xs ≡ true
+in-is_in x xs i = list_any-in (λ y. y == x) xs x i (eqb-same x)
+
+range-in : (c a n : ℕ) → a ≤ c → c < a + n → In c (range_with_len a n)
+range-in c a zero low high = absurd (omega arith)
+range-in c a (suc n) low high = elim (cases_eq a c) [
+  | inl e ↦ inl e
+  | inr d ↦ inr (range-in c (a + 1) n (omega (arith, d)) (omega arith))
+]
+
+in-range : (c a n : ℕ) → In c (range_with_len a n) → (a ≤ c) × (c < a + n)
+in-range c a zero i = absurd i
+in-range c a (suc n) (inl e) = (omega (arith, e), omega (arith, e))
+in-range c a (suc n) (inr i) = let p = in-range c (a + 1) n i in (omega (arith, p.0), omega (arith, p.1))
+
+-- a slot is one of its own partition's alone
+part-slots : (k c : ℕ) → In c (slots_of_part k (part_of k c))
+part-slots k c = range-in c (slot_of k (part_of k c) 0) (k + 1) (omega arith) (omega arith)
+
+slots-part : (k p c : ℕ) → In c (slots_of_part k p) → part_of k c ≡ p
+slots-part k p c i = let r = in-range c (slot_of k p 0) (k + 1) i in between r.0 r.1
+  where
+    between : slot_of k p 0 ≤ c → c < slot_of k p 0 + (k + 1) → part_of k c ≡ p
+    between l h = grind arith
+
+some_of-is : (o : Option ℕ) (x : ℕ) → is_some_of o x ≡ true → o ≡ Some x
+some_of-is None x e = absurd (true≢false (sym e))
+some_of-is (Some y) x e = ap Some (eqb-true y x e)
+
+-- ---- copies that stand
+
+module _ (hosts : ℕ) (ms : List (ℕ × ℕ)) where
+  abbrev stands : ℕ → Option (ℕ × ℕ)
+  stands slot = option_map (λ start. (start, slot)) (start_in ms (host_of hosts slot))
+
+  standing-in : (c a : ℕ) (slots : List ℕ) → In c slots → start_in ms (host_of hosts c) ≡ Some a → In (a, c) (standing hosts ms slots)
+  standing-in c a [] i e = absurd i
+  standing-in c a (s ∷ slots) (inl q) e =
+      let here : stands s ≡ Some (a, c) = ap stands q ∙ ap (option_map (λ start. (start, c))) e in rw here (inl refl)
+  standing-in c a (s ∷ slots) (inr i) e = behind (stands s) (standing-in c a slots i e)
+    where
+      behind : (o : Option (ℕ × ℕ)) → In (a, c) (standing hosts ms slots) → In (a, c) (cons_option o (standing hosts ms slots))
+      behind None k = k
+      behind (Some m) k = inr k
+
+  in-standing : (c a : ℕ) (slots : List ℕ) → In (a, c) (standing hosts ms slots) → In c slots × (start_in ms (host_of hosts c) ≡ Some a)
+  in-standing c a [] i = absurd i
+  in-standing c a (s ∷ slots) i = choice (start_in ms (host_of hosts s)) refl i (in-standing c a slots)
+    where
+      choice : (o : Option ℕ) → start_in ms (host_of hosts s) ≡ o → In (a, c) (cons_option (option_map (λ start. (start, s)) o) (standing hosts ms slots))
+          → (In (a, c) (standing hosts ms slots) → In c slots × (start_in ms (host_of hosts c) ≡ Some a))
+          → In c (s ∷ slots) × (start_in ms (host_of hosts c) ≡ Some a)
+      choice None e k f = let r = f k in (inr r.0, r.1)
+      choice (Some b) e (inr k) f = let r = f k in (inr r.0, r.1)
+      choice (Some b) e (inl q) f =
+          let p : b ≡ a = ap (λ m. m.0) q in let r : s ≡ c = ap (λ m. m.1) q in
+          (inl r, ap (λ x. start_in ms (host_of hosts x)) (sym r) ∙ e ∙ ap Some p)
+
+module _ (D : Deployment) (w : Membership) where
+  -- the copies that stand, and those of them that are copies in order
+  in-copies : (c p : ℕ) → is_in c (copies D w p) ≡ list_any (λ m. m.1 == c) (standing D.layout.hosts (members w) (slots_of_part D.layout.k p))
+  in-copies c p =
+      any-slots (ordered_copies D.layout.hosts D.layout.k (members w) p)
+      ∙ same_copies (λ m. m.1 == c) (standing D.layout.hosts (members w) (slots_of_part D.layout.k p))
+    where
+      any-slots : (ms : List (ℕ × ℕ)) → is_in c (map (λ m. m.1) ms) ≡ list_any (λ m. m.1 == c) ms
+      any-slots [] = refl
+      any-slots (m ∷ ms) = ap (λ b. m.1 == c || b) (any-slots ms)
+
+  -- Where a slot's host is a member it is a copy of its partition, and no others are.
+  pub member-copy : (c a : ℕ) → start_of_slot D w c ≡ Some a → is_in c (copies D w (part_of_slot D c)) ≡ true
+  member-copy c a e =
+      in-copies c (part_of_slot D c)
+      ∙ list_any-in (λ m. m.1 == c) (standing D.layout.hosts (members w) (slots_of_part D.layout.k (part_of_slot D c))) (a, c)
+      (standing-in D.layout.hosts (members w) c a (slots_of_part D.layout.k (part_of_slot D c)) (part-slots D.layout.k c) e) (eqb-same c)
+
+  pub copy-member : (c p : ℕ) → is_in c (copies D w p) ≡ true → (part_of_slot D c ≡ p) × ((a : ℕ) × (start_of_slot D w c ≡ Some a))
+  copy-member c p e =
+      let r = list_any-from (λ m. m.1 == c) (standing D.layout.hosts (members w) (slots_of_part D.layout.k p)) (sym (in-copies c p) ∙ e) in
+      let k = in-standing D.layout.hosts (members w) r.0.1 r.0.0 (slots_of_part D.layout.k p) r.1 in
+      let q = eqb-true r.0.1 c r.2 in
+      (slots-part D.layout.k p c (subst (λ x. In x (slots_of_part D.layout.k p)) q k.0), (r.0.0, ap (start_of_slot D w) (sym q) ∙ k.1))
+
+  -- ---- who leads
+
+  -- the leader of a partition is one of its copies, and there is one where there is a copy
+  pub leader-copy : (p l : ℕ) → leader D w p ≡ Some l → (part_of_slot D l ≡ p) × ((a : ℕ) × (start_of_slot D w l ≡ Some a))
+  leader-copy p l e = copy-member l p (in-is_in l (copies D w p) (first-in (copies D w p) e))
+    where
+      first-in : (xs : List ℕ) → first_of xs ≡ Some l → In l xs
+      first-in [] e = absurd (none-some l e)
+      first-in (x ∷ xs) e = inl (same-some e)
+
+  pub some-leader : (c a : ℕ) → start_of_slot D w c ≡ Some a → (l : ℕ) × (leader D w (part_of_slot D c) ≡ Some l)
+  some-leader c a e = first (copies D w (part_of_slot D c)) (is_in-in c (copies D w (part_of_slot D c)) (member-copy c a e))
+    where
+      first : (xs : List ℕ) → In c xs → (l : ℕ) × (first_of xs ≡ Some l)
+      first [] i = absurd i
+      first (x ∷ xs) i = (x, refl)
+
+  -- whom a slot follows
+  pub follows-leader : (c l : ℕ) → follows D w c l ≡ true → (leader D w (part_of_slot D c) ≡ Some l) × (l ≡ c → ⊥)
+  follows-leader c l e =
+      let p = and_parts (is_some_of (leader D w (part_of_slot D c)) l) (not (l == c)) e in
+      (some_of-is (leader D w (part_of_slot D c)) l p.0, λ q. true≢false (sym p.1 ∙ not_from_true (l == c) (eq-eqb l c q)))
+
+  pub leader-follows : (c l : ℕ) → leader D w (part_of_slot D c) ≡ Some l → (l ≡ c → ⊥) → follows D w c l ≡ true
+  leader-follows c l e n = and_from (is_some_of (leader D w (part_of_slot D c)) l) (not (l == c))
+      (ap (λ o. is_some_of o l) e ∙ eqb-same l) (not_from_false (l == c) (false_from_ne_true (l == c) (λ q. n (eqb-true l c q))))
+
+  pub follows-one : (c l m : ℕ) → follows D w c l ≡ true → follows D w c m ≡ true → l ≡ m
+  follows-one c l m e f = same-some (sym (follows-leader c l e).0 ∙ (follows-leader c m f).0)
+
+  pub not-follows : (c l : ℕ) → (leader D w (part_of_slot D c) ≡ Some l → l ≡ c) → follows D w c l ≡ false
+  not-follows c l f = false_from_ne_true (follows D w c l) (λ e. let p = follows-leader c l e in p.1 (f p.0))
+
+  -- not itself, and nobody where it leads
+  pub follows-self : (c : ℕ) → follows D w c c ≡ false
+  follows-self c = not-follows c c (λ e. refl)
+
+  pub leader-follows-none : (c l : ℕ) → leader D w (part_of_slot D c) ≡ Some c → follows D w c l ≡ false
+  leader-follows-none c l e = not-follows c l (λ k. same-some (sym k ∙ e))
+
+  -- a slot whose host is a member leads, or follows the leader
+  pub leads-or-follows : (c a : ℕ) → start_of_slot D w c ≡ Some a → (leader D w (part_of_slot D c) ≡ Some c) ⊎ ((l : ℕ) × (follows D w c l ≡ true))
+  leads-or-follows c a e = let r = some-leader c a e in elim (cases_eq r.0 c) [
+    | inl q ↦ inl (r.1 ∙ ap Some q)
+    | inr n ↦ inr (r.0, leader-follows c r.0 r.1 n)
+  ]
+
+  -- other slots of its partition follow a leader
+  pub leader-followed : (i c : ℕ) → leader D w (part_of_slot D i) ≡ Some i → part_of_slot D c ≡ part_of_slot D i → (c ≡ i → ⊥) → follows D w c i ≡ true
+  leader-followed i c e p n = leader-follows c i (ap (leader D w) p ∙ e) (λ q. n (sym q))
+
+  -- and whom a slot follows is of its partition, and a member
+  pub follows-part : (c l : ℕ) → follows D w c l ≡ true → part_of_slot D l ≡ part_of_slot D c
+  follows-part c l e = (leader-copy (part_of_slot D c) l (follows-leader c l e).0).0
+
+  pub follows-start : (c l : ℕ) → follows D w c l ≡ true → (a : ℕ) × (start_of_slot D w l ≡ Some a)
+  follows-start c l e = (leader-copy (part_of_slot D c) l (follows-leader c l e).0).1
+
+  pub follows-leads : (c l : ℕ) → follows D w c l ≡ true → leader D w (part_of_slot D l) ≡ Some l
+  follows-leads c l e = ap (leader D w) (follows-part c l e) ∙ (follows-leader c l e).0
+
+-- ---- at a site
+
+-- whether it is a joiner
+pub not-joiner : (s : SiteState) → is_joiner s ≡ false → s.joining ≡ None
+not-joiner s e = none s.joining e
+  where
+    none : (o : Option Joining) → is_some o ≡ false → o ≡ None
+    none None e = refl
+    none (Some j) e = absurd (true≢false e)
+
+pub a-joiner : (s : SiteState) (j : Joining) → s.joining ≡ Some j → is_joiner s ≡ true
+a-joiner s j e = ap is_some e
+
+-- a leader isn't one, and has a word
+pub leader-view : (D : Deployment) (i : ℕ) (s : SiteState) → is_leader D i s ≡ true → (s.joining ≡ None) × ((w : Membership) × (s.view ≡ Some w))
+leader-view D i s e =
+    let p = and_parts (not (is_joiner s)) (is_some_of (leader_in D s.view (part_of_slot D i)) i) e in
+    (not-joiner s (not-true (is_joiner s) p.0), word s.view refl p.1)
+  where
+    word : (o : Option Membership) → s.view ≡ o → is_some_of (leader_in D o (part_of_slot D i)) i ≡ true → (w : Membership) × (s.view ≡ Some w)
+    word None v k = absurd (true≢false (sym k))
+    word (Some w) v k = (w, v)
+
+-- it leads once it has what its term begins with
+pub leads-parts : (D : Deployment) (i : ℕ) (s : SiteState) → leads D i s ≡ true → (is_leader D i s ≡ true) × (s.repaired ≡ true)
+leads-parts D i s e = and_parts (is_leader D i s) s.repaired e
+
+pub leads-from : (D : Deployment) (i : ℕ) (s : SiteState) → is_leader D i s ≡ true → s.repaired ≡ true → leads D i s ≡ true
+leads-from D i s e r = and_from (is_leader D i s) s.repaired e r
+
+-- as the view and the join stay, so does all that
+pub leader-same : (D : Deployment) (i : ℕ) (s t : SiteState) → t.view ≡ s.view → t.joining ≡ s.joining → is_leader D i t ≡ is_leader D i s
+leader-same D i s t v j = rw (v, j) refl
+
+pub other-copies-same : (D : Deployment) (i : ℕ) (s t : SiteState) → t.view ≡ s.view → other_copies D i t ≡ other_copies D i s
+other-copies-same D i s t v = rw v refl
+
+module _ (D : Deployment) (i : ℕ) (s : SiteState) (w : Membership) (v : s.view ≡ Some w) where
+  -- whether it leads
+  pub is-leader : is_leader D i s ≡ true → (s.joining ≡ None) × (leader D w (part_of_slot D i) ≡ Some i)
+  is-leader e =
+      let p = and_parts (not (is_joiner s)) (is_some_of (leader_in D s.view (part_of_slot D i)) i) e in
+      (not-joiner s (not-true (is_joiner s) p.0), ap (λ o. leader_in D o (part_of_slot D i)) (sym v) ∙ some_of-is (leader_in D s.view (part_of_slot D i)) i p.1)
+
+  pub leader-is : s.joining ≡ None → leader D w (part_of_slot D i) ≡ Some i → is_leader D i s ≡ true
+  leader-is j e = and_from (not (is_joiner s)) (is_some_of (leader_in D s.view (part_of_slot D i)) i)
+      (ap (λ o. not (is_some o)) j) (ap (λ o. is_some_of (leader_in D o (part_of_slot D i)) i) v ∙ ap (λ o. is_some_of o i) e ∙ eqb-same i)
+
+  pub not-leader : (leader D w (part_of_slot D i) ≡ Some i → ⊥) → is_leader D i s ≡ false
+  not-leader n = false_from_ne_true (is_leader D i s) (λ e. n (is-leader e).1)
+
+  -- the leader and the starts that it knows
+  pub leader-in-view : (p : ℕ) → leader_in D s.view p ≡ leader D w p
+  leader-in-view p = ap (λ o. leader_in D o p) v
+
+  pub start-in-view : (c a : ℕ) → start_of_slot D w c ≡ Some a → start_in_view D s.view c ≡ a
+  start-in-view c a e = ap (λ o. start_in_view D o c) v ∙ ap (λ o. unwrap_or o 0) e
+
+  -- the other copies of its partition
+  pub other-copy : (c : ℕ) → is_in c (other_copies D i s) ≡ true → (c ≡ i → ⊥) × (part_of_slot D c ≡ part_of_slot D i) × ((a : ℕ) × (start_of_slot D w c ≡ Some a))
+  other-copy c e =
+      let r = in-filter (λ x. not (x == i)) c (copies_in D s.view (part_of_slot D i)) (is_in-in c (other_copies D i s) e) in
+      let k = in-is_in c (copies D w (part_of_slot D i)) (subst (λ o. In c (copies_in D o (part_of_slot D i))) v r.0) in
+      let m = copy-member D w c (part_of_slot D i) k in
+      (λ q. true≢false (sym r.1 ∙ not_from_true (c == i) (eq-eqb c i q)), m.0, m.1)
+
+  pub copy-other : (c a : ℕ) → (c ≡ i → ⊥) → part_of_slot D c ≡ part_of_slot D i → start_of_slot D w c ≡ Some a → is_in c (other_copies D i s) ≡ true
+  copy-other c a n p e =
+      let k = is_in-in c (copies D w (part_of_slot D i)) (ap (λ x. is_in c (copies D w x)) (sym p) ∙ member-copy D w c a e) in
+      in-is_in c (other_copies D i s) (filter-in (λ x. not (x == i)) c (copies_in D s.view (part_of_slot D i))
+      (subst (λ o. In c (copies_in D o (part_of_slot D i))) (sym v) k) (not_from_false (c == i) (false_from_ne_true (c == i) (λ q. n (eqb-true c i q)))))
+
+  -- a slot isn't one of its own other copies
+  pub other-copy-self : is_in i (other_copies D i s) ≡ false
+  other-copy-self = false_from_ne_true (is_in i (other_copies D i s)) (λ e. (other-copy i e).0 refl)

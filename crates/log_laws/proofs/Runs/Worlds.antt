@@ -1,0 +1,248 @@
+-- Each world of a run has a history of which all holds, and from one recovery that works to the next it only grows.
+use Rattle.std.proofs.Common.{◌≡◌, ◌+◌, ◌<◌, Bool, true, false, List, [], ◌∷◌, ◌++◌, refl, sym, subst, ap, ◌∙◌, ◌==◌, inl, inr, arith, zero, suc}
+use Rattle.std.proofs.lemmas.Bool.{and_parts, eqb-true, false≢true, or_cases}
+use Rattle.std.proofs.lemmas.Bool.Decides.{nat_tests}
+use Rattle.std.proofs.lemmas.List.Folds.{list_any-append}
+use Rattle.std.specs.Prelude.{ℕ, ◌≤◌, ◌&&◌, ◌||◌, not, nat_lt, map, Some, None}
+use Rattle.std.specs.List.{list_any, range_with_len}
+use Rattle.volt_wire.specs.declared.actor.Actor.{Actor}
+use Rattle.volt_wire.specs.declared.actor.Actor.TheVariants.{Director, Client, Agent, Site, Scanner}
+use Rattle.volt_wire.specs.declared.event.Event.{Event}
+use Rattle.volt_wire.specs.declared.event.Event.TheVariants as event
+use Rattle.cluster_model.specs.Engine.{Database}
+use Rattle.cluster_model.specs.Words.{Deployment, slots, part_of_slot, is_host}
+use Rattle.cluster_model.specs.Letters.{same, Letter, Turn}
+use Rattle.cluster_model.specs.SiteState.{SiteState, is_member_site, leads}
+use Rattle.cluster_model.specs.Agent.{agent_turn}
+use Rattle.cluster_model.specs.Sync.{owes_in, may_sync, site_turn, sync_turn}
+use Rattle.cluster_model.specs.Outside.{Outside, Fair, DiskFails, NoMemory, DisksShow}
+use Rattle.cluster_model.specs.World.{World, Lead, Stopped, Input, first_world, stamp_of, took, lead_after, with_site, stops_with}
+use Rattle.cluster_model.specs.Recover.{stays_stopped}
+use Rattle.cluster_model.specs.Events.{is_actor, is_some_letter, can, allows, delivered, recovered_with, may_do, happens, step}
+use Rattle.cluster_model.specs.Runs.{Happening, IsRun, has_failed, may_happen, run}
+use Rattle.word_laws.specs.Chain.{renews_by, renews_at, renews, IsOneEpoch}
+use Rattle.word_laws.proofs.Lists.{if-false, set-here, set-both}
+use Rattle.word_laws.proofs.Worlds.{actor-host, host-apart, memory-runs}
+use Rattle.log_laws.specs.Histories.{Logs, LogState, Holds, start_at}
+use Rattle.log_laws.specs.Copies.{log_state, LeadOk, HasLogs}
+use Rattle.log_laws.proofs.Kept.Moves.{Grown, Onward}
+use Rattle.log_laws.proofs.Kept.Grown.{onward-same, onward-then}
+use Rattle.log_laws.proofs.Runs.Leading.{Rises, rises-same, rises-then, lead-still, lead-turned, lead-rises, lead-counted}
+use Rattle.log_laws.proofs.Runs.Boots.{first-logs, anew-logs}
+use Rattle.log_laws.proofs.Runs.Others.{Keeps, to_client-logs, to_director-logs, to_scanner-logs, scan-logs, submit-logs, next-logs, stopped-logs}
+use Rattle.log_laws.proofs.Agents.AgentEvents.{agent-event}
+use Rattle.log_laws.proofs.Runs.SiteEvents.{turn-after, sync-after}
+
+-- ---- a site that is there is a slot's
+
+none-same : (n : ℕ) (f : ℕ → Actor) → ((g : ℕ) → same (Site n) (f g) ≡ false) → (xs : List ℕ) → list_any (same (Site n)) (map f xs) ≡ false
+none-same n f apart [] = refl
+none-same n f apart (x ∷ xs) = rw (apart x) (none-same n f apart xs)
+
+site-within : (n low len : ℕ) → list_any (same (Site n)) (map Site (range_with_len low len)) ≡ true → n < low + len
+site-within n low zero e = absurd (false≢true e)
+site-within n low (suc len) e = elim (or_cases (n == low) (list_any (same (Site n)) (map Site (range_with_len (low + 1) len))) e) [
+  | inl q ↦ let k = eqb-true n low q in omega (arith, k)
+  | inr q ↦ let k = site-within n (low + 1) len q in omega (arith, k)
+]
+
+pub actor-slot : (D : Deployment) (n : ℕ) → is_actor D (Site n) ≡ true → nat_lt n (slots D) ≡ true
+actor-slot D n e =
+    let Test : Actor → Bool = same (Site n) in
+    let clients = map Client (range_with_len 1 D.clients) in
+    let agents = map Agent (range_with_len 0 D.layout.hosts) in
+    let sites = map Site (range_with_len 0 (slots D)) in
+    let scanners = map Scanner (range_with_len 0 (slots D)) in
+    let parts_are : list_any Test (clients ++ agents ++ sites ++ scanners) ≡ (((list_any Test clients || list_any Test agents) || list_any Test sites) || list_any Test scanners) =
+    list_any-append Test (clients ++ agents ++ sites) scanners
+    ∙ ap (λ x. x || list_any Test scanners) (list_any-append Test (clients ++ agents) sites ∙ ap (λ x. x || list_any Test sites) (list_any-append Test clients agents)) in
+    let no_client = none-same n Client (λ g. refl) (range_with_len 1 D.clients) in
+    let no_agent = none-same n Agent (λ g. refl) (range_with_len 0 D.layout.hosts) in
+    let no_scanner = none-same n Scanner (λ g. refl) (range_with_len 0 (slots D)) in
+    let among : list_any Test sites ≡ true = only-third (list_any Test clients) (list_any Test agents) (list_any Test sites) (list_any Test scanners) no_client no_agent no_scanner (sym parts_are ∙ e) in
+    let below : n < 0 + slots D = site-within n 0 (slots D) among in
+    grind (arith, nat_tests, below)
+  where
+    only-third : (a b c d : Bool) → a ≡ false → b ≡ false → d ≡ false → (((a || b) || c) || d) ≡ true → c ≡ true
+    only-third a b true d p q r e = refl
+    only-third true b false d p q r e = absurd (false≢true (sym p))
+    only-third false true false d p q r e = absurd (false≢true (sym q))
+    only-third false false false d p q r e = sym r ∙ e
+
+-- ---- a later world
+
+-- one with a history, which is the same one and has only grown, unless an epoch begins anew
+pub record Reaches (w : World) (F : Logs) (anew : Bool) (v : World) : Type 0 where
+  pub next : HasLogs v
+  pub onward : anew ≡ false → Onward F next.logs
+  pub rises : anew ≡ false → (p : ℕ) → Rises (w.lead_of p) (v.lead_of p)
+
+same-reaches : (w : World) (c : Bool) (k : HasLogs w) → Reaches w k.logs c w
+same-reaches w c k = record { next = k; onward = λ e. onward-same k.logs; rises = λ e p. rises-same (w.lead_of p) }
+
+-- where the history stays
+keeps-reaches : (w v : World) (c : Bool) (k : HasLogs w) → Keeps w k v → Reaches w k.logs c v
+keeps-reaches w v c k n = record {
+  next = n.next;
+  onward = λ e. subst (Onward k.logs) (sym n.logs) (onward-same k.logs);
+  rises = λ e p. subst (Rises (w.lead_of p)) (ap (λ f. f p) (sym n.lead)) (rises-same (w.lead_of p));
+}
+
+-- the event is noted in the trace
+noted : (w : World) (F : Logs) (c : Bool) (v : World) (trace : List Event) → Reaches w F c v → Reaches w F c (record v { trace = trace })
+noted w F c v trace r = let n = r.next in record {
+  next = record { owner = n.owner; history = n.history; logs = n.logs; holds = n.holds; outsiders = n.outsiders; lead = n.lead; counted = n.counted };
+  onward = r.onward;
+  rises = r.rises;
+}
+
+-- ---- events of sites
+
+-- after the turn of a site
+pub site-reaches : (w : World) (c : Bool) (k : HasLogs w) (channel : Actor → Actor → List Letter) (stops : List Stopped) (i : ℕ) (t : Turn SiteState) (G : Logs)
+    → Holds (log_state (with_site (record w { channel = channel; stops = stops }) i t) k.owner k.history G) → Grown w.deployment i t.state k.logs G
+    → Reaches w k.logs c (with_site (record w { channel = channel; stops = stops }) i t)
+site-reaches w c k channel stops i t G H grown = record {
+  next = record {
+    owner = k.owner;
+    history = k.history;
+    logs = G;
+    holds = H;
+    outsiders = k.outsiders;
+    lead = set-both (λ p l. LeadOk G p l) w.lead_of own after own-lead
+        (λ p n. lead-still w.deployment i t.state k.logs G grown p (w.lead_of p) (k.lead p) (λ u h is new. n (sym new.part_is)));
+    counted = set-both (λ c s. is_member_site s ≡ true → leads w.deployment c s ≡ true → s.firm ≤ (v.lead_of (part_of_slot w.deployment c)).firm) w.sites i t.state
+        (λ runs lead. subst (λ l. t.state.firm ≤ l.firm) (sym (set-here w.lead_of own after)) (lead-counted w.deployment i t.state (w.lead_of own) lead))
+        (λ c n runs lead. let a = k.counted c runs lead in let b = (rises (part_of_slot w.deployment c)).firm in omega (arith, a, b));
+  };
+  onward = λ e. grown.onward;
+  rises = λ e. rises;
+}
+  where
+    v : World
+    v = with_site (record w { channel = channel; stops = stops }) i t
+
+    T : LogState
+    T = log_state v k.owner k.history G
+
+    own : ℕ
+    own = part_of_slot w.deployment i
+
+    after : Lead
+    after = lead_after w.deployment i t.state (w.lead_of own)
+
+    site : T.sites i ≡ t.state
+    site = set-here w.sites i t.state
+
+    own-lead : LeadOk G own after
+    own-lead = subst (λ s. LeadOk G own (lead_after w.deployment i s (w.lead_of own))) site
+        (lead-turned T H k.logs i (subst (λ s. Grown w.deployment i s k.logs G) (sym site) grown) (w.lead_of own) (k.lead own))
+
+    rises : (p : ℕ) → Rises (w.lead_of p) (v.lead_of p)
+    rises = set-both (λ p l. Rises (w.lead_of p) l) w.lead_of own after (lead-rises w.deployment i t.state (w.lead_of own)) (λ p n. rises-same (w.lead_of p))
+
+-- its history is the one that the turn leaves
+pub site-next : (w : World) (c : Bool) (k : HasLogs w) (channel : Actor → Actor → List Letter) (stops : List Stopped) (i : ℕ) (t : Turn SiteState) (G : Logs)
+    → (H : Holds (log_state (with_site (record w { channel = channel; stops = stops }) i t) k.owner k.history G)) (grown : Grown w.deployment i t.state k.logs G)
+    → let n = (site-reaches w c k channel stops i t G H grown).next in (n.owner ≡ k.owner) × (n.history ≡ k.history) × (n.logs ≡ G)
+unfolding site-reaches
+site-next w c k channel stops i t G H grown = (refl, refl, refl)
+
+to_site-reaches : (E : Database) (w : World) (i : ℕ) (from : Actor) (ls : List Letter) (o : Outside) (c : Bool) (k : HasLogs w) → w.channel from (Site i) ≡ ls
+    → nat_lt i (slots w.deployment) ≡ true → Reaches w k.logs c (delivered E w (Site i) from ls o)
+to_site-reaches E w i from [] o c k is slot = same-reaches w c k
+to_site-reaches E w i from (l ∷ ls) o c k is slot =
+    let S = log_state w k.owner k.history k.logs in
+    let r = turn-after E (stamp_of w) S k.holds i slot refl from l ls o is in
+    site-reaches w c k (took w.channel from (Site i)) (stops_with (stamp_of w) w.stops (Site i) o) i (site_turn E w.deployment (stamp_of w) i (w.sites i) from l o) r.0 r.1 r.2
+
+sync-reaches : (E : Database) (w : World) (i : ℕ) (o : Outside) (c : Bool) (k : HasLogs w) → may_sync (w.sites i) ≡ true → Reaches w k.logs c (happens E w (event.Sync i) o)
+sync-reaches E w i o c k may =
+    let S = log_state w k.owner k.history k.logs in
+    let up = (and_parts (nat_lt 0 (w.sites i).start) (owes_in (w.sites i) (w.sites i).joining) may).0 in
+    let runs : 0 < start_at S i = grind (arith, nat_tests, up) in
+    let r = sync-after E S k.holds i refl runs o in
+    site-reaches w c k w.channel (stops_with (stamp_of w) w.stops (Site i) o) i (sync_turn E w.deployment i (w.sites i) o) r.0 r.1 r.2
+
+-- ---- events of agents
+
+to_agent-reaches : (E : Database) (w : World) (n : ℕ) (from : Actor) (ls : List Letter) (o : Outside) (c : Bool) (k : HasLogs w) → w.channel from (Agent n) ≡ ls
+    → is_host w.deployment n ≡ true → allows w (event.Deliver (Agent n) from) o ≡ true → Reaches w k.logs c (delivered E w (Agent n) from ls o)
+to_agent-reaches E w n from [] o c k is host may = same-reaches w c k
+to_agent-reaches E w n from (l ∷ ls) o c k is host may =
+    let S = log_state w k.owner k.history k.logs in
+    let r = agent-event E S n (stamp_of w) from l ls o is host (λ answered e. memory-runs w n answered from l ls o is may e) k.holds in
+    record {
+      next = record {
+        owner = k.owner;
+        history = r.history;
+        logs = k.logs;
+        holds = r.holds;
+        outsiders = λ h e.
+            if-false (h == n) (agent_turn E w.deployment n (stamp_of w) (w.agents n) from l o).state (w.agents h) (host-apart w.deployment n h host e) ∙ k.outsiders h e;
+        lead = k.lead;
+        counted = k.counted;
+      };
+      onward = λ e. onward-same k.logs;
+      rises = λ e p. rises-same (w.lead_of p);
+    }
+
+-- ---- events
+
+delivered-reaches : (E : Database) (w : World) (to from : Actor) (o : Outside) (k : HasLogs w) → is_actor w.deployment to ≡ true → allows w (event.Deliver to from) o ≡ true
+    → Reaches w k.logs false (delivered E w to from (w.channel from to) o)
+delivered-reaches E w Director from o k there may =
+    keeps-reaches w (delivered E w Director from (w.channel from Director) o) false k (to_director-logs E w from (w.channel from Director) o k)
+delivered-reaches E w (Client n) from o k there may =
+    keeps-reaches w (delivered E w (Client n) from (w.channel from (Client n)) o) false k (to_client-logs E w n from (w.channel from (Client n)) o k)
+delivered-reaches E w (Agent n) from o k there may = to_agent-reaches E w n from (w.channel from (Agent n)) o false k refl (actor-host w.deployment n there) may
+delivered-reaches E w (Site i) from o k there may = to_site-reaches E w i from (w.channel from (Site i)) o false k refl (actor-slot w.deployment i there)
+delivered-reaches E w (Scanner i) from o k there may =
+    keeps-reaches w (delivered E w (Scanner i) from (w.channel from (Scanner i)) o) false k (to_scanner-logs E w i from (w.channel from (Scanner i)) o k)
+
+recovery-reaches : (E : Database) (w : World) (o : Outside) (k : HasLogs w) → Reaches w k.logs (renews_by o) (recovered_with E w o)
+recovery-reaches E w Fair k = same-reaches w false k
+recovery-reaches E w (DiskFails answered) k = same-reaches w false k
+recovery-reaches E w (NoMemory answered) k = same-reaches w false k
+recovery-reaches E w (DisksShow shown None) k =
+    record { next = anew-logs E w shown k; onward = λ e. absurd (false≢true (sym e)); rises = λ e p. absurd (false≢true (sym e)) }
+recovery-reaches E w (DisksShow shown (Some failed)) k = keeps-reaches w (stays_stopped E w shown failed) false k (stopped-logs E w shown failed k)
+
+happens-reaches : (E : Database) (w : World) (e : Event) (o : Outside) (k : HasLogs w) → can w e ≡ true → allows w e o ≡ true → Reaches w k.logs (renews_at e o) (happens E w e o)
+happens-reaches E w (event.Deliver to from) o k may outside =
+    delivered-reaches E w to from o k (and_parts (is_some_letter (w.channel from to)) (is_actor w.deployment to) may).1 outside
+happens-reaches E w (event.Sync i) o k may outside = sync-reaches E w i o false k (and_parts (nat_lt i (slots w.deployment)) (may_sync (w.sites i)) may).1
+happens-reaches E w (event.Scan i) o k may outside = keeps-reaches w (happens E w (event.Scan i) o) false k (scan-logs w i o k)
+happens-reaches E w event.Recover o k may outside = recovery-reaches E w o k
+happens-reaches E w event.Item o k may outside = keeps-reaches w (happens E w event.Item o) false k (next-logs w (may_do w w.director.items) w.director.items k)
+happens-reaches E w (event.Submit n) o k may outside = keeps-reaches w (happens E w (event.Submit n) o) false k (submit-logs w n k)
+happens-reaches E w (event.Idle a) o k may outside = same-reaches w false k
+
+step-reaches : (E : Database) (w : World) (e : Happening) → may_happen w e ≡ true → (k : HasLogs w) → Reaches w k.logs (renews e) (step E w e)
+step-reaches E w e may k =
+    let outer = and_parts (not (has_failed w) && can w e.0) (allows w e.0 e.1) may in
+    let inner = and_parts (not (has_failed w)) (can w e.0) outer.0 in
+    let v = happens E w e.0 e.1 in
+    noted w k.logs (renews e) v (v.trace ++ e.0 ∷ []) (happens-reaches E w e.0 e.1 k inner.1 outer.1)
+
+-- ---- runs
+
+-- Each world of a run has a history of its logs, if the first one has.
+pub run-logs : (E : Database) (es : List Happening) (w : World) → IsRun E es w → HasLogs w → HasLogs (run E es w)
+run-logs E [] w r k = k
+run-logs E (e ∷ es) w r k = run-logs E es (step E w e) r.1 (step-reaches E w e r.0 k).next
+
+-- Where no recovery works on the way, it is the same one, and has only grown.
+pub run-reaches : (E : Database) (es : List Happening) (w : World) → IsRun E es w → IsOneEpoch es → (k : HasLogs w) → Reaches w k.logs false (run E es w)
+run-reaches E [] w r same k = same-reaches w false k
+run-reaches E (e ∷ es) w r same k =
+    let s = step-reaches E w e r.0 k in
+    let n = run-reaches E es (step E w e) r.1 same.1 s.next in
+    record {
+      next = n.next;
+      onward = λ f. onward-then k.logs s.next.logs n.next.logs (s.onward same.0) (n.onward f);
+      rises = λ f p. rises-then (w.lead_of p) ((step E w e).lead_of p) ((run E es (step E w e)).lead_of p) (s.rises same.0 p) (n.rises f p);
+    }
+
+pub logs-agree : (E : Database) (input : Input) (es : List Happening) → 0 < input.base → IsRun E es (first_world E input) → HasLogs (run E es (first_world E input))
+logs-agree E input es some r = run-logs E es (first_world E input) r (first-logs E input some)
