@@ -1,0 +1,299 @@
+-- In each world of a run the replies that sites hold, and those under way, are what the replay answers where their calls stand.
+use Rattle.std.proofs.Common.{◌≡◌, ◌<◌, Bool, true, false, List, [], ◌∷◌, ◌++◌, take, length-append, refl, sym, subst, ap, ◌∙◌, ◌==◌, arith}
+use Rattle.std.proofs.lemmas.Bool.{and_parts, and_from, eqb-true}
+use Rattle.std.proofs.lemmas.Bool.Decides.{nat_tests}
+use Rattle.std.proofs.lemmas.List.{length-take, length-take-le}
+use Rattle.std.specs.Prelude.{ℕ, ◌&&◌, not, nat_lt, if◌then◌else◌, Option, Some, None}
+use Rattle.std.specs.List.{AllByRecursion}
+use Rattle.volt_base.specs.declared.entry.Entry.{Entry}
+use Rattle.volt_base.specs.declared.entry.Entry.TheVariants.{Sp}
+use Rattle.volt_wire.specs.Word.{Membership}
+use Rattle.volt_wire.specs.declared.actor.Actor.{Actor}
+use Rattle.volt_wire.specs.declared.actor.Actor.TheVariants.{Director, Client, Agent, Site, Scanner}
+use Rattle.volt_wire.specs.declared.end.End.{End}
+use Rattle.volt_wire.specs.declared.event.Event.{Event}
+use Rattle.volt_wire.specs.declared.event.Event.TheVariants as event
+use Rattle.volt_wire.specs.declared.message.Msg.TheVariants as msg
+use Rattle.cluster_model.specs.Engine.{Database}
+use Rattle.cluster_model.specs.Words.{Deployment, slots, part_of_slot, is_some_of}
+use Rattle.cluster_model.specs.Letters.{same, Letter, Turn}
+use Rattle.cluster_model.specs.SiteState.{SiteState, Streamed, is_joiner, leader_in, leads, no_site, member_site}
+use Rattle.cluster_model.specs.Sync.{may_sync, site_turn, sync_turn}
+use Rattle.cluster_model.specs.Outside.{Outside, Fair, DiskFails, NoMemory, DisksShow}
+use Rattle.cluster_model.specs.World.{World, Input, first_world, stamp_of, set_at, took, sent, rest, new_word, start_from}
+use Rattle.cluster_model.specs.Recover.{new_base, new_log, new_site, starts_anew}
+use Rattle.cluster_model.specs.Events.{can, allows, delivered, recovered_with, happens, step}
+use Rattle.cluster_model.specs.Runs.{Happening, IsRun, has_failed, may_happen, run}
+use Rattle.word_laws.proofs.Lists.{all-append, all-mono, all-if, all-rest, none-and-some, set-here, set-both}
+use Rattle.log_laws.specs.Histories.{LogState, Front, StreamIn, ViewIn, WaitingOk, log_at}
+use Rattle.log_laws.specs.Copies.{HasLogs, log_state}
+use Rattle.log_laws.proofs.Plain.Fronts.{front-trans, front-length, fronts-order}
+use Rattle.log_laws.proofs.Plain.Copies.{leads-parts}
+use Rattle.log_laws.proofs.Runs.Agreeing.{front-take, take-short}
+use Rattle.log_laws.proofs.Runs.Boots.{first-logs}
+use Rattle.log_laws.proofs.Runs.Lasting.{in-lead}
+use Rattle.disk_laws.specs.Survival.{Survives, firm_entries}
+use Rattle.disk_laws.proofs.Boots.{first-disks}
+use Rattle.disk_laws.proofs.Rows.{PlainWaiting, waiting-plain}
+use Rattle.disk_laws.proofs.Syncs.{sync-runs}
+use Rattle.disk_laws.proofs.Worlds.{HasDisks, survives-same, run-goes}
+use Rattle.reply_laws.specs.Replies.{StandsIn, HoldsReplies, Answered, SentReply, TurnReplies}
+use Rattle.reply_laws.proofs.Rows.{stands-on}
+use Rattle.reply_laws.proofs.SiteRows.{NoLog, site_turn-replies, sync_turn-replies}
+
+-- ---- what holds of the replies of a world
+
+-- A reply under way is to a call that stands in this log of partition p.
+abbrev pub ReplyIn : Database → ℕ → List Entry → Letter → Type 0
+ReplyIn E p log l = elim l.body as (λ _. Type 0) [
+  | msg.Reply call start end ↦ StandsIn E p log call end
+  | _ ↦ Unit {0}
+]
+
+-- With these sites and messages, and these firm entries of each partition.
+pub record RepliesOk (E : Database) (D : Deployment) (sites : ℕ → SiteState) (channel : Actor → Actor → List Letter) (firm : ℕ → List Entry) : Type 0 where
+  pub held : (i : ℕ) → HoldsReplies E (part_of_slot D i) (sites i)
+  pub sent : (i h : ℕ) → AllByRecursion (ReplyIn E (part_of_slot D i) (firm (part_of_slot D i))) (channel (Site i) (Agent h))
+
+abbrev pub HasReplies : Database → World → Type 0
+HasReplies E w = RepliesOk E w.deployment w.sites w.channel (firm_entries w)
+
+-- ---- a log that grows
+
+-- What stands in it still does.
+reply-in : (E : Database) (p : ℕ) (xs ys : List Entry) → Front xs ys → (l : Letter) → ReplyIn E p xs l → ReplyIn E p ys l
+reply-in E p xs ys f l k = elim l.body as (λ m. ReplyIn E p xs (record l { body = m }) → ReplyIn E p ys (record l { body = m })) [
+  | msg.Reply call start end ↦ stands-on E p xs ys f call end
+  | m ↦ λ k. tt
+] k
+
+-- ---- an event
+
+-- The firm entries of each partition only grow, and of what was under way to agents some may be taken.
+moves : (E : Database) (D : Deployment) (sites : ℕ → SiteState) (ch next : Actor → Actor → List Letter) (F G : ℕ → List Entry)
+    → ((P : Letter → Type 0) (i h : ℕ) → AllByRecursion P (ch (Site i) (Agent h)) → AllByRecursion P (next (Site i) (Agent h)))
+    → ((p : ℕ) → Front (F p) (G p)) → RepliesOk E D sites ch F → RepliesOk E D sites next G
+moves E D sites ch next F G less grown k = record {
+  held = k.held;
+  sent = λ i h. less (ReplyIn E (part_of_slot D i) (G (part_of_slot D i))) i h
+      (all-mono (ReplyIn E (part_of_slot D i) (F (part_of_slot D i))) (ReplyIn E (part_of_slot D i) (G (part_of_slot D i)))
+      (reply-in E (part_of_slot D i) (F (part_of_slot D i)) (G (part_of_slot D i)) (grown (part_of_slot D i))) (ch (Site i) (Agent h)) (k.sent i h));
+}
+
+-- A site sends what is in the firm entries.
+module _ (E : Database) (D : Deployment) (i : ℕ) (t : Turn SiteState) (G : ℕ → List Entry) (r : TurnReplies E D i t)
+    (firm : leads D i t.state ≡ true → 0 < t.state.start → Front (take t.state.firm t.state.log) (G (part_of_slot D i))) where
+  answered : (call : ℕ) (end : End) → Answered E D i t.state call end → StandsIn E (part_of_slot D i) (G (part_of_slot D i)) call end
+  answered call end k =
+      let here = k.stands.here in
+      let e = Sp call here.point here.body in
+      let xs = here.front ++ e ∷ [] in
+      let u = t.state in
+      let n = front-length xs u.log here.stands in
+      let m = length-take u.firm u.log in
+      let len = length-append here.front (e ∷ []) in
+      let at = k.stands.at in
+      let low = k.firm in
+      let within : Front xs (take u.firm u.log) = fronts-order xs (take u.firm u.log) u.log here.stands (front-take u.firm u.log) (omega (arith, n, m, len, at, low)) in
+      record {
+        front = here.front;
+        point = here.point;
+        body = here.body;
+        stands = front-trans xs (take u.firm u.log) (G (part_of_slot D i)) within (firm k.leads k.runs);
+        answers = here.answers;
+      }
+
+  sent-in : (l : Letter) → SentReply E D i t.state l → ReplyIn E (part_of_slot D i) (G (part_of_slot D i)) l
+  sent-in l k = elim l.body as (λ m. SentReply E D i t.state (record l { body = m }) → ReplyIn E (part_of_slot D i) (G (part_of_slot D i)) (record l { body = m })) [
+    | msg.Reply call start end ↦ answered call end
+    | m ↦ λ k. tt
+  ] k
+
+  -- in its partition's entries, as they are after the event
+  abbrev InFirm : ℕ → Letter → Type 0
+  InFirm j = ReplyIn E (part_of_slot D j) (G (part_of_slot D j))
+
+  turned : (sites : ℕ → SiteState) (ch : Actor → Actor → List Letter) (F : ℕ → List Entry)
+      → ((p : ℕ) → Front (F p) (G p)) → RepliesOk E D sites ch F → RepliesOk E D (set_at sites i t.state) (sent ch (Site i) t.sends) G
+  turned sites ch F grown k = record {
+    held = set-both (λ j s. HoldsReplies E (part_of_slot D j) s) sites i t.state r.held (λ j n. k.held j);
+    sent = λ j h. choice j h (i == j) refl;
+  }
+    where
+      before : (j h : ℕ) → AllByRecursion (InFirm j) (ch (Site j) (Agent h))
+      before j h = all-mono (ReplyIn E (part_of_slot D j) (F (part_of_slot D j))) (InFirm j)
+          (reply-in E (part_of_slot D j) (F (part_of_slot D j)) (G (part_of_slot D j)) (grown (part_of_slot D j))) (ch (Site j) (Agent h)) (k.sent j h)
+
+      new : (j h : ℕ) → i ≡ j → AllByRecursion (InFirm j) (t.sends (Agent h))
+      new j h e = subst (λ x. AllByRecursion (InFirm x) (t.sends (Agent h))) e (all-mono (SentReply E D i t.state) (InFirm i) sent-in (t.sends (Agent h)) (r.sends h))
+
+      choice : (j h : ℕ) (b : Bool) → (i == j) ≡ b → AllByRecursion (InFirm j) (if b then ch (Site j) (Agent h) ++ t.sends (Agent h) else ch (Site j) (Agent h))
+      choice j h true e = all-append (InFirm j) (ch (Site j) (Agent h)) (t.sends (Agent h)) (before j h) (new j h (eqb-true i j e))
+      choice j h false e = before j h
+
+-- ---- what is firm
+
+-- What is firm before an event is at the front of what is so after it.
+firm-grows : (v w : World) → HasDisks v → HasDisks w → (p : ℕ) → Survives v w p → Front (firm_entries v p) (firm_entries w p)
+firm-grows v w d e p f =
+    let a = length-take-le (v.lead_of p).firm (v.lead_of p).log f.within in
+    let b = length-take-le (w.lead_of p).firm (w.lead_of p).log (survives-same w e.logs p).within in
+    let c = f.more in
+    fronts-order (firm_entries v p) (firm_entries w p) (w.lead_of p).log f.kept (front-take (w.lead_of p).firm (w.lead_of p).log) (omega (arith, a, b, c))
+
+-- What a leader counts firm is so in its partition.
+leader-firm : (w : World) → HasDisks w → (i : ℕ) → leads w.deployment i (w.sites i) ≡ true → 0 < (w.sites i).start
+    → Front (take (w.sites i).firm (w.sites i).log) (firm_entries w (part_of_slot w.deployment i))
+leader-firm w d i lead up =
+    let s = w.sites i in
+    let p = part_of_slot w.deployment i in
+    let member = (and_parts (not (is_joiner s)) (is_some_of (leader_in w.deployment s.view p) i) (leads-parts w.deployment i s lead).0).0 in
+    let r = in-lead w d.logs i (record { runs = and_from (nat_lt 0 s.start) (not (is_joiner s)) (grind (arith, nat_tests, up)) member; leads = lead }) in
+    let a = take-short s.firm s.log in
+    let b = length-take-le (w.lead_of p).firm (w.lead_of p).log (survives-same w d.logs p).within in
+    let c = r.counted in
+    fronts-order (take s.firm s.log) (firm_entries w p) (w.lead_of p).log r.front (front-take (w.lead_of p).firm (w.lead_of p).log) (omega (arith, a, b, c))
+
+-- after the turn of a site
+turn-firm : (v w : World) (i : ℕ) (t : Turn SiteState) → HasDisks w → w.sites ≡ set_at v.sites i t.state → leads w.deployment i t.state ≡ true → 0 < t.state.start
+    → Front (take t.state.firm t.state.log) (firm_entries w (part_of_slot w.deployment i))
+turn-firm v w i t d sites =
+    let e : w.sites i ≡ t.state = ap (λ f. f i) sites ∙ set-here v.sites i t.state in
+    subst (λ s. leads w.deployment i s ≡ true → 0 < s.start → Front (take s.firm s.log) (firm_entries w (part_of_slot w.deployment i))) e (leader-firm w d i)
+
+-- ---- what a site has that runs
+
+module _ (w : World) (k : HasLogs w) (i : ℕ) where
+  abbrev S : LogState
+  S = log_state w k.owner k.history k.logs
+
+  -- nothing waits at it that never does
+  waits-plain : 0 < (w.sites i).start → AllByRecursion PlainWaiting (w.sites i).waiting
+  waits-plain up = all-mono (WaitingOk S i) PlainWaiting (waiting-plain S i) (w.sites i).waiting ((k.holds.sites i).keeps up).waiting
+
+  -- a joiner that has no stream has no entries
+  no-log : NoLog (w.sites i)
+  no-log j e none = seen (w.sites i).view ((k.holds.sites i).joiner j e).view
+    where
+      streamed : (m : Membership) (o : Option Streamed) → o ≡ None → StreamIn S i m j o → log_at S i ≡ []
+      streamed m None q u = u.empty
+      streamed m (Some st) q u = absurd (none-and-some q refl)
+
+      seen : (o : Option Membership) → ViewIn S i j o → log_at S i ≡ []
+      seen None u = u.empty
+      seen (Some m) u = streamed m j.stream none u.stream
+
+-- ---- events
+
+module _ (E : Database) (w : World) (k : HasReplies E w) (d : HasDisks w) where
+  -- with the firm entries of a later world
+  abbrev Later : World → Type 0
+  Later v = (p : ℕ) → Front (firm_entries w p) (firm_entries v p)
+
+  to_site : (i : ℕ) (from : Actor) (ls : List Letter) (o : Outside) → let v = delivered E w (Site i) from ls o in HasDisks v → Later v → HasReplies E v
+  to_site i from [] o next grown = k
+  to_site i from (l ∷ ls) o next grown =
+      let v = delivered E w (Site i) from (l ∷ ls) o in
+      let t = site_turn E w.deployment (stamp_of w) i (w.sites i) from l o in
+      turned E w.deployment i t (firm_entries v)
+      (site_turn-replies E w.deployment (stamp_of w) i (w.sites i) from l o (waits-plain w d.logs i) (no-log w d.logs i) (k.held i))
+      (turn-firm w v i t next refl) w.sites (took w.channel from (Site i)) (firm_entries w) grown (record { held = k.held; sent = k.sent })
+
+  to_agent : (n : ℕ) (from : Actor) (ls : List Letter) (o : Outside) → let v = delivered E w (Agent n) from ls o in Later v → HasReplies E v
+  to_agent n from [] o grown = k
+  to_agent n from (l ∷ ls) o grown =
+      let v = delivered E w (Agent n) from (l ∷ ls) o in
+      moves E w.deployment w.sites w.channel v.channel (firm_entries w) (firm_entries v)
+      (λ P i h m. let ms = w.channel (Site i) (Agent h) in all-if P (n == h && same from (Site i)) (rest ms) ms (all-rest P ms m) m) grown k
+
+  -- all that others do leaves what sites have, and what is under way from them to agents
+  others : (channel : Actor → Actor → List Letter) (firm : ℕ → List Entry) → ((i h : ℕ) → channel (Site i) (Agent h) ≡ w.channel (Site i) (Agent h))
+      → ((p : ℕ) → Front (firm_entries w p) (firm p)) → RepliesOk E w.deployment w.sites channel firm
+  others channel firm e grown = moves E w.deployment w.sites w.channel channel (firm_entries w) firm (λ P i h m. subst (AllByRecursion P) (sym (e i h)) m) grown k
+
+  delivers : (to from : Actor) (ls : List Letter) (o : Outside) → let v = delivered E w to from ls o in HasDisks v → Later v → HasReplies E v
+  delivers (Site i) from ls o next grown = to_site i from ls o next grown
+  delivers (Agent n) from ls o next grown = to_agent n from ls o grown
+  delivers to from [] o next grown = k
+  delivers Director from (l ∷ ls) o next grown = others (delivered E w Director from (l ∷ ls) o).channel (firm_entries w) (λ i h. refl) grown
+  delivers (Client n) from (l ∷ ls) o next grown = others (delivered E w (Client n) from (l ∷ ls) o).channel (firm_entries w) (λ i h. refl) grown
+  delivers (Scanner i) from (l ∷ ls) o next grown = others (delivered E w (Scanner i) from (l ∷ ls) o).channel (firm_entries w) (λ i h. refl) grown
+
+  syncs : (i : ℕ) (o : Outside) → 0 < (w.sites i).start → let v = happens E w (event.Sync i) o in HasDisks v → Later v → HasReplies E v
+  syncs i o up next grown =
+      let v = happens E w (event.Sync i) o in
+      let t = sync_turn E w.deployment i (w.sites i) o in
+      turned E w.deployment i t (firm_entries v) (sync_turn-replies E w.deployment i (w.sites i) o up (k.held i))
+      (turn-firm w v i t next refl) w.sites w.channel (firm_entries w) grown k
+
+  -- ---- recoveries
+
+  -- all sites hold nothing, and nothing is under way
+  anew : (shown : List ℕ) → HasReplies E (starts_anew E w shown)
+  anew shown = record { held = λ i. held i (nat_lt i (slots w.deployment)); sent = λ i h. tt }
+    where
+      word : Membership
+      word = new_word w.deployment (new_base w shown) w.director.next_start
+
+      new : ℕ → SiteState
+      new i = new_site w.deployment i (w.sites i) word (start_from w.deployment w.director.next_start i) (new_log E w shown (part_of_slot w.deployment i))
+
+      held : (i : ℕ) (b : Bool) → HoldsReplies E (part_of_slot w.deployment i) (if b then new i else w.sites i)
+      held i true = tt
+      held i false = k.held i
+
+  recovery : (o : Outside) → let v = recovered_with E w o in Later v → HasReplies E v
+  recovery Fair grown = k
+  recovery (DiskFails answered) grown = k
+  recovery (NoMemory answered) grown = k
+  recovery (DisksShow shown None) grown = anew shown
+  recovery (DisksShow shown (Some failed)) grown = record { held = k.held; sent = k.sent }
+
+  -- ---- each event
+
+  event-replies : (e : Event) (o : Outside) → can w e ≡ true → let v = happens E w e o in HasDisks v → Later v → HasReplies E v
+  event-replies (event.Deliver to from) o may next grown = delivers to from (w.channel from to) o next grown
+  event-replies (event.Sync i) o may next grown =
+      syncs i o (sync-runs (w.sites i) (and_parts (nat_lt i (slots w.deployment)) (may_sync (w.sites i)) may).1) next grown
+  event-replies (event.Scan i) o may next grown = others (happens E w (event.Scan i) o).channel (firm_entries w) (λ i h. refl) grown
+  event-replies event.Recover o may next grown = recovery o grown
+  event-replies event.Item o may next grown = others (happens E w event.Item o).channel (firm_entries w) (λ i h. refl) grown
+  event-replies (event.Submit n) o may next grown = others (happens E w (event.Submit n) o).channel (firm_entries w) (λ i h. refl) grown
+  event-replies (event.Idle a) o may next grown = k
+
+-- ---- runs
+
+-- the event is noted in the trace
+unnoted : (w : World) (trace : List Event) → HasDisks (record w { trace = trace }) → HasDisks w
+unnoted w trace d = let n = d.logs in record {
+  logs = record { owner = n.owner; history = n.history; logs = n.logs; holds = n.holds; outsiders = n.outsiders; lead = n.lead; counted = n.counted };
+  halted = d.halted;
+  disks = d.disks;
+}
+
+step-replies : (E : Database) (w : World) (e : Happening) → may_happen w e ≡ true → HasDisks w → HasReplies E w → HasDisks (step E w e) × HasReplies E (step E w e)
+step-replies E w e may d k =
+    let g = run-goes E (e ∷ []) w (may, tt) d in
+    let outer = and_parts (not (has_failed w) && can w e.0) (allows w e.0 e.1) may in
+    let inner = and_parts (not (has_failed w)) (can w e.0) outer.0 in
+    let v = happens E w e.0 e.1 in
+    let r = event-replies E w k d e.0 e.1 inner.1 (unnoted v (v.trace ++ e.0 ∷ []) g.next) (λ p. firm-grows w (step E w e) d g.next p (g.survives p)) in
+    (g.next, record { held = r.held; sent = r.sent })
+
+pub run-replies : (E : Database) (es : List Happening) (w : World) → IsRun E es w → HasDisks w → HasReplies E w → HasReplies E (run E es w)
+run-replies E [] w r d k = k
+run-replies E (e ∷ es) w r d k = let s = step-replies E w e r.0 d k in run-replies E es (step E w e) r.1 s.0 s.1
+
+-- So it is in each world of a run: at first no site holds a reply.
+pub replies-agree : (E : Database) (input : Input) (es : List Happening) → 0 < input.base → IsRun E es (first_world E input) → HasReplies E (run E es (first_world E input))
+replies-agree E input es some r =
+    run-replies E es (first_world E input) r (record { logs = first-logs E input some; halted = false; disks = first-disks E input some })
+    (record { held = λ i. first i (nat_lt i (slots input.deployment)); sent = λ i h. tt })
+  where
+    word : Membership
+    word = new_word input.deployment input.base 1
+
+    first : (i : ℕ) (b : Bool)
+        → HoldsReplies E (part_of_slot input.deployment i) (if b then member_site input.deployment i no_site word (start_from input.deployment 1 i) [] else no_site)
+    first i true = tt
+    first i false = tt

@@ -1,0 +1,26 @@
+//! Laws of what a cluster replies to calls. They hold of every run of the whole world, with any outside,
+//! any database and any input whose base term isn't 0, which would mean no term. Each is a function
+//! without a body; the clause is the law.
+#![tactic(auto)]
+
+ghost use Rattle.std.specs.Prelude.{ℕ, ◌≡◌, ◌<◌, List};
+ghost use Rattle.volt_wire.specs.declared.end.End.{End};
+ghost use Rattle.cluster_model.specs.Letters.{Letter};
+ghost use Rattle.cluster_model.specs.World.{Input, first_world};
+ghost use Rattle.cluster_model.specs.Runs.{Happening, IsRun, run};
+ghost use Rattle.word_laws.specs.Histories.{In};
+ghost use Rattle.reply_laws.specs.UnderWay.{RepliesTo, StandsFirm, under_way};
+
+use cluster_model::laws::AnyDatabase;
+
+/// A reply to a call that is under way from a site to an agent is of an entry that is firm in the site's
+/// partition: the call stands there, and the reply is what the database answers to it behind the entries
+/// before it.
+pub fn replies_are_of_firm_entries<B: AnyDatabase>()
+    ensures { (input : Input) (es : List Happening) (i h call : ℕ) (end : End) (l : Letter)
+        → 0 < input.base
+        → IsRun B.database es (first_world B.database input)
+        → In l (under_way (run B.database es (first_world B.database input)) i h)
+        → RepliesTo l call end
+        → StandsFirm B.database (run B.database es (first_world B.database input)) i call end }
+{}
