@@ -1,19 +1,16 @@
 -- Contents and firm positions from one state to a later one, and where the logs that stand behind them are.
 use Rattle.std.proofs.Common.{◌≡◌, ◌<◌, ◌≤◌, Bool, true, false, List, length, take, refl, sym, subst, ap, ◌∙◌, inl, inr, arith}
-use Rattle.std.proofs.lemmas.Bool.{cases_eq, cases_lt, cases_Bool}
+use Rattle.std.proofs.lemmas.Bool.{cases_eq, cases_lt}
 use Rattle.std.specs.Prelude.{ℕ, Option, Some, None}
 use Rattle.std.specs.List.{AllByRecursion}
-use Rattle.volt_base.specs.declared.entry.Entry.{Entry}
 use Rattle.volt_wire.specs.Word.{Membership}
 use Rattle.cluster_model.specs.Disk.{Content, Shown}
 use Rattle.cluster_model.specs.Words.{term_of, term_in}
-use Rattle.cluster_model.specs.SiteState.{SiteState}
-use Rattle.word_laws.proofs.Lists.{all-mono, same-some, none-and-some, not-both}
-use Rattle.log_laws.specs.Histories.{LogState, Holds, Front, Reign, Line, IsSlot, MemberOk, LeadsIn, FollowsIn, part, start_at, log_at, term_at, base_of, line, between}
-use Rattle.log_laws.proofs.Plain.Fronts.{front-refl, front-same, front-trans}
-use Rattle.log_laws.proofs.Plain.Copies.{leads-or-follows}
-use Rattle.log_laws.proofs.Kept.Terms.{base-least, last-below, reign-entered}
+use Rattle.word_laws.proofs.Lists.{all-mono, same-some, none-and-some}
+use Rattle.log_laws.specs.Histories.{LogState, Holds, Front, Reign, MemberOk, part, start_at, log_at, term_at}
+use Rattle.log_laws.proofs.Plain.Fronts.{front-refl, front-trans}
 use Rattle.log_laws.proofs.Runs.Agreeing.{front-take, agrees-begun}
+use Rattle.log_laws.proofs.Runs.Laws.{copy-behind, copy-entered, last-before}
 use Rattle.disk_laws.specs.Disks.{Written, Firm, Rebuilt, ContentOk, Top, FirmOk}
 use Rattle.disk_laws.proofs.Order.{take-front, take-grown, take-of-front}
 
@@ -75,7 +72,7 @@ module _ (S : LogState) (H : Holds S) (p : ℕ) where
 -- ---- contents
 
 module _ (S T : LogState) (f : Rises S T) where
-  pub written-later : (p : ℕ) (x : Content) → Written S p x → Written T p x
+  written-later : (p : ℕ) (x : Content) → Written S p x → Written T p x
   written-later p x w =
       let g = f.kept p x.mark w.reign w.led in
       let h = f.kept p w.term w.later w.later_led in
@@ -90,9 +87,18 @@ module _ (S T : LogState) (f : Rises S T) where
         front = front-trans x.log w.later.log h.0.log w.front h.3;
       }
 
+  -- also where it is the base of a recovery, if that stays so
+  pub content-later : (F G : Firm) (p : ℕ) (halted : Bool) → (halted ≡ true → (x : Content) → Rebuilt S F p x → Rebuilt T G p x)
+      → (x : Shown) → ContentOk S F halted p x → ContentOk T G halted p x
+  content-later F G p true base None h = tt
+  content-later F G p false base None h = tt
+  content-later F G p false base (Some x) h = written-later p x h
+  content-later F G p true base (Some x) (inl h) = inl (written-later p x h)
+  content-later F G p true base (Some x) (inr h) = inr (base refl x h)
+
   -- where what was counted firm stays so
   module _ (H : Holds S) (K : Holds T) (F G : Firm) (p : ℕ) (firm : FirmOk S F p) where
-    pub rebuilt-later : G p ≡ F p → (x : Content) → Rebuilt S F p x → Rebuilt T G p x
+    rebuilt-later : G p ≡ F p → (x : Content) → Rebuilt S F p x → Rebuilt T G p x
     rebuilt-later same x r v h led reach =
         let k = f.kept p firm.term firm.reign firm.led in
         let up = f.reach p firm.term in
@@ -101,16 +107,9 @@ module _ (S T : LogState) (f : Rises S T) where
         subst (λ l. Front l x.log) (sym (e ∙ take-grown (G p) firm.reign.log k.0.log k.3 within))
         (subst (λ n. Front (take n firm.reign.log) x.log) (sym same) (r firm.term firm.reign firm.led firm.reach))
 
-    pub content-later : (halted : Bool) → (halted ≡ true → G p ≡ F p) → (x : Shown) → ContentOk S F halted p x → ContentOk T G halted p x
-    content-later true same None h = tt
-    content-later false same None h = tt
-    content-later false same (Some x) h = written-later p x h
-    content-later true same (Some x) (inl h) = inl (written-later p x h)
-    content-later true same (Some x) (inr h) = inr (rebuilt-later (same refl) x h)
-
     pub contents-later : (halted : Bool) → (halted ≡ true → G p ≡ F p) → (xs : List Shown)
         → AllByRecursion (ContentOk S F halted p) xs → AllByRecursion (ContentOk T G halted p) xs
-    contents-later halted same xs h = all-mono (ContentOk S F halted p) (ContentOk T G halted p) (content-later halted same) xs h
+    contents-later halted same xs h = all-mono (ContentOk S F halted p) (ContentOk T G halted p) (content-later F G p halted (λ e. rebuilt-later (same e))) xs h
 
   -- What was counted firm stands where it stood.
   pub firm-later : (F G : Firm) (p : ℕ) → G p ≡ F p → ((m n : ℕ) → Top S p m n → Top T p m n) → FirmOk S F p → FirmOk T G p
@@ -135,71 +134,35 @@ pub record Behind (S : LogState) (c mark : ℕ) : Type 0 where
   pub led : S.logs.reign (part S c) term ≡ Some later
   pub front : Front (log_at S c) later.log
 
--- a term that was begun, and a log at the front of what its leader has
-abbrev Ahead : Option Reign → List Entry → Type 0
-Ahead o xs = (g : Reign) × (o ≡ Some g) × Front xs g.log
-
--- where a site is repaired, it has its leader's log, or lacks what is under way
-leads-ahead : (s : SiteState) (o : Option Reign) → s.repaired ≡ true → LeadsIn s o → Ahead o s.log
-leads-ahead s None r k = absurd (not-both s.repaired r k)
-leads-ahead s (Some g) r k = (g, refl, front-same s.log g.log k.1)
-
-follows-ahead : (s : SiteState) (ln : List Line) (o : Option Reign) → s.repaired ≡ true → FollowsIn s ln o → Ahead o s.log
-follows-ahead s ln None r k = absurd (not-both s.repaired r k.0)
-follows-ahead s ln (Some g) r (inl k) = (g, refl, (k.0, sym k.3))
-follows-ahead s ln (Some g) r (inr k) = absurd (not-both s.repaired r k.1)
-
 module _ (S : LogState) (H : Holds S) (c mark : ℕ) (r : Reign) (led : S.logs.reign (part S c) mark ≡ Some r) where
-  module _ (slot : IsSlot S c) (w : Membership) (m : MemberOk S c w) (low : mark ≤ term_of w) where
-    in-term : Ahead (S.logs.reign (part S c) (term_of w)) (log_at S c) → Behind S c mark
-    in-term k = record { term = term_of w; above = low; later = k.0; led = k.1; front = k.2 }
-
-    repaired-behind : (S.sites c).repaired ≡ true → Behind S c mark
-    repaired-behind t = elim (leads-or-follows S.words.deployment w c (start_at S c) m.start_is) [
-      | inl k ↦ in-term (leads-ahead (S.sites c) (S.logs.reign (part S c) (term_of w)) t (m.leading k))
-      | inr (l, f) ↦ in-term (follows-ahead (S.sites c) (line (start_at S c) (term_of w) (between S l c)) (S.logs.reign (part S c) (term_of w)) t (m.following l f))
-    ]
-
-    -- Until then it has the log with which it entered.
-    waiting-behind : (S.sites c).repaired ≡ false → (o : Option Reign) → S.logs.reign (part S c) (term_of w) ≡ o → Behind S c mark
-    waiting-behind t (Some g) is =
-        let n = reign-entered S H (part S c) (term_of w) g is w (record { decided = m.decided; term_is = refl }) c (start_at S c) slot refl m.start_is in
-        let one : n.0 ≡ m.entered = same-some (sym n.1 ∙ m.is_entered) in
-        let entered = subst (λ l. Front l g.begun) (ap (λ y. y.log) one ∙ sym (m.still t).0) n.3 in
-        in-term (g, is, front-trans (log_at S c) g.begun g.log entered (H.reigns (part S c) (term_of w) g is).grown)
-    waiting-behind t None is =
-        let unlike : mark ≡ term_of w → ⊥ = λ e. none-and-some is (ap (S.logs.reign (part S c)) (sym e) ∙ led) in
-        let first = H.first (part S c) in
-        let unbegun : base_of S ≡ term_of w → ⊥ = λ e. none-and-some is (ap (S.logs.reign (part S c)) (sym e) ∙ first.1) in
-        let least = base-least S H w m.decided in
-        let l = last-below S H (part S c) (term_of w) (omega (arith, least, unbegun)) in
-        let above = l.1.greatest mark r led (omega (arith, low, unlike)) in
-        record {
-          term = l.0;
-          above = above;
-          later = l.1.reign;
-          led = l.1.led;
-          front = subst (λ x. Front x l.1.reign.log) (sym (m.still t).0) ((H.entered c (term_of w) m.entered m.is_entered).behind l.0 l.1).0;
-        }
-
-    word-behind : Behind S c mark
-    word-behind = elim (cases_Bool (S.sites c).repaired) [
-      | inl t ↦ repaired-behind t
-      | inr t ↦ waiting-behind t (S.logs.reign (part S c) (term_of w)) refl
-    ]
+  word-behind : 0 < start_at S c → (w : Membership) → MemberOk S c w → mark ≤ term_of w → Behind S c mark
+  word-behind up w m low = choice (S.logs.reign (part S c) (term_of w)) refl
+    where
+      choice : (o : Option Reign) → S.logs.reign (part S c) (term_of w) ≡ o → Behind S c mark
+      choice (Some g) is = record { term = term_of w; above = low; later = g; led = is; front = copy-behind S H c w g up m is }
+      choice None is =
+          let unlike : mark ≡ term_of w → ⊥ = λ e. none-and-some is (ap (S.logs.reign (part S c)) (sym e) ∙ led) in
+          let l = last-before S H c w m is in
+          record {
+            term = l.0;
+            above = l.1.greatest mark r led (omega (arith, low, unlike));
+            later = l.1.reign;
+            led = l.1.led;
+            front = copy-entered S H c w l.0 m is l.1;
+          }
 
   -- A member's log is at the front of that of a term that was led: its own, or the last one before.
-  pub member-behind : IsSlot S c → 0 < start_at S c → (S.sites c).joining ≡ None → mark ≤ term_at S c → Behind S c mark
-  member-behind slot up joins low =
+  pub member-behind : 0 < start_at S c → (S.sites c).joining ≡ None → mark ≤ term_at S c → Behind S c mark
+  member-behind up joins low =
       let k = (H.sites c).member up joins in
       let term : term_at S c ≡ term_of k.0 = ap term_in k.1 in
-      word-behind slot k.0 k.2 (omega (arith, low, term))
+      word-behind up k.0 k.2 (omega (arith, low, term))
 
   -- So a content with a front of its log is written, once that has all that the mark's term began with.
-  pub member-written : IsSlot S c → 0 < start_at S c → (S.sites c).joining ≡ None → mark ≤ term_at S c
+  pub member-written : 0 < start_at S c → (S.sites c).joining ≡ None → mark ≤ term_at S c
       → (x : Content) → x.mark ≡ mark → Front x.log (log_at S c) → Front r.begun x.log → Written S (part S c) x
-  member-written slot up joins low x same front begun =
-      let k = member-behind slot up joins low in
+  member-written up joins low x same front begun =
+      let k = member-behind up joins low in
       record {
         reign = r;
         led = ap (S.logs.reign (part S c)) same ∙ led;

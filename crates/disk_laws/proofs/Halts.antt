@@ -220,9 +220,13 @@ module _ (S : LogState) (H : Holds S) (K : Halted S) (ch : Actor → Actor → L
     -- what was under way
     old-streams : (c m : ℕ) → 0 < start_at later c → AllByRecursion (NoStreamFor (start_at later c)) (ch (Site m) (Site c))
     old-streams c m up = set-both (λ c x. 0 < x.start → AllByRecursion (NoStreamFor x.start) (ch (Site m) (Site c))) S.sites i s own
-        (λ c other up. all-from (NoStreamFor (start_at S c)) (ch (Site m) (Site c)) (λ l k. all-at (NoStreamFor (start_at S c)) (between S m c) (K.streams c m up) l (fewer (Site m) (Site c) l k)))
+        (λ c other up. still c (start_at S c) (K.streams c m up))
         c up
       where
+        -- of fewer messages
+        still : (c start : ℕ) → AllByRecursion (NoStreamFor start) (between S m c) → AllByRecursion (NoStreamFor start) (ch (Site m) (Site c))
+        still c start k = all-from (NoStreamFor start) (ch (Site m) (Site c)) (λ l q. all-at (NoStreamFor start) (between S m c) k l (fewer (Site m) (Site c) l q))
+
         unran : (l : Letter) → (In s.start (S.logs.ran i) → ⊥) → SiteLetterOk S m i l → NoStreamFor s.start l
         unran l fresh k = elim l.body as (λ b. SiteLetterOk S m i (record l { body = b }) → NoStreamFor s.start (record l { body = b })) [
           | msg.StreamStart head ↦ λ k e. fresh (subst (λ n. In n (S.logs.ran i)) e k.1)
@@ -232,8 +236,7 @@ module _ (S : LogState) (H : Holds S) (K : Halted S) (ch : Actor → Actor → L
         own : 0 < s.start → AllByRecursion (NoStreamFor s.start) (ch (Site m) (Site i))
         own up = elim goes [
           | inl z ↦ absurd (omega (arith, up, z))
-          | inr (inl k) ↦ all-from (NoStreamFor s.start) (ch (Site m) (Site i)) (λ l q.
-              all-at (NoStreamFor s.start) (between S m i) (subst (λ n. AllByRecursion (NoStreamFor n) (between S m i)) (sym k.0) (K.streams i m (subst (λ n. 0 < n) k.0 up))) l (fewer (Site m) (Site i) l q))
+          | inr (inl k) ↦ still i s.start (subst (λ n. AllByRecursion (NoStreamFor n) (between S m i)) (sym k.0) (K.streams i m (subst (λ n. 0 < n) k.0 up)))
           | inr (inr k) ↦ all-from (NoStreamFor s.start) (ch (Site m) (Site i)) (λ l q.
               unran l k.1 (all-at (SiteLetterOk S m i) (between S m i) (H.letters m i slot) l (fewer (Site m) (Site i) l q)))
         ]

@@ -7,7 +7,6 @@ pub mod Order
 pub mod Others
 pub mod Own
 pub mod Recoveries
-pub mod RowDisks
 pub mod Rows
 pub mod SiteDisks
 pub mod SiteRows

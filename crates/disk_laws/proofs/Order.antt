@@ -1,15 +1,15 @@
 -- How good contents are, what the parts of an event leave of them, and what a recovery chooses.
-use Rattle.std.proofs.Common.{◌≡◌, ◌+◌, ◌<◌, ◌≤◌, zero, suc, Bool, true, false, List, [], ◌∷◌, ◌++◌, length, take, drop, length-take, take_all, take-append-drop, refl, sym, subst, ap, ◌∙◌, ◌⊎◌, inl, inr, ◌==◌, arith}
+use Rattle.std.proofs.Common.{◌≡◌, ◌<◌, ◌≤◌, Bool, true, false, List, [], ◌∷◌, ◌++◌, length, take, drop, length-take, take_all, take-append-drop, refl, sym, subst, ap, ◌∙◌, ◌⊎◌, inl, inr, ◌==◌, arith}
 use Rattle.std.proofs.lemmas.Bool.{cases_eq, cases_lt, or_cases, and_parts}
 use Rattle.std.proofs.lemmas.Bool.Decides.{nat_tests}
 use Rattle.std.proofs.lemmas.List.{take-append-le}
 use Rattle.std.specs.Prelude.{ℕ, ◌&&◌, ◌||◌, nat_lt, if◌then◌else◌, map, unwrap_or, Option, Some, None}
-use Rattle.std.specs.List.{AllByRecursion, range_with_len}
+use Rattle.std.specs.List.{AllByRecursion}
 use Rattle.volt_base.specs.declared.entry.Entry.{Entry}
 use Rattle.volt_base.specs.declared.entry.Entry.TheVariants.{Done}
 use Rattle.volt_base.specs.declared.entry.Outcome.{Outcome}
 use Rattle.volt_base.specs.declared.entry.Outcome.TheVariants.{Dropped}
-use Rattle.partition_ring.specs.Placement.{slot_of, part_of, slots_of_part}
+use Rattle.partition_ring.specs.Placement.{slots_of_part}
 use Rattle.cluster_model.specs.Engine.{Database}
 use Rattle.cluster_model.specs.Words.{Deployment, part_of_slot, all_parts}
 use Rattle.cluster_model.specs.Log.{open_in}
@@ -17,6 +17,7 @@ use Rattle.cluster_model.specs.Disk.{Content, Shown, after_parts, after_failure,
 use Rattle.word_laws.specs.Histories.{In}
 use Rattle.word_laws.proofs.Lists.{in-left, in-right, in-cases, in-map, in-map-from, all-at, all-from, all-mono}
 use Rattle.log_laws.specs.Histories.{LogState, Front, IsSlot, part}
+use Rattle.log_laws.proofs.Plain.Copies.{part-slots, slots-part}
 use Rattle.log_laws.proofs.Plain.Fronts.{front-refl, fronts-order}
 use Rattle.log_laws.proofs.Runs.Agreeing.{front-take}
 use Rattle.disk_laws.specs.Disks.{AtLeast, Top, shown_at}
@@ -306,28 +307,6 @@ greatest_mark-above (c ∷ cs) x (inl e) = omega (arith, ap mark_of e)
 greatest_mark-above (c ∷ cs) x (inr i) = omega (arith, greatest_mark-above cs x i)
 
 -- ---- the slots of a partition
-
-pub range-in : (c a n : ℕ) → a ≤ c → c < a + n → In c (range_with_len a n)
-range-in c a zero low high = absurd (omega arith)
-range-in c a (suc n) low high = elim (cases_eq a c) [
-  | inl e ↦ inl e
-  | inr d ↦ inr (range-in c (a + 1) n (omega (arith, d)) (omega arith))
-]
-
-pub in-range : (c a n : ℕ) → In c (range_with_len a n) → (a ≤ c) × (c < a + n)
-in-range c a zero i = absurd i
-in-range c a (suc n) (inl e) = (omega (arith, e), omega (arith, e))
-in-range c a (suc n) (inr i) = let p = in-range c (a + 1) n i in (omega (arith, p.0), omega (arith, p.1))
-
--- each of its slots is looked at, and no other one
-pub part-slots : (k c : ℕ) → In c (slots_of_part k (part_of k c))
-part-slots k c = range-in c (slot_of k (part_of k c) 0) (k + 1) (omega arith) (omega arith)
-
-pub slots-part : (k p c : ℕ) → In c (slots_of_part k p) → part_of k c ≡ p
-slots-part k p c i = let r = in-range c (slot_of k p 0) (k + 1) i in between r.0 r.1
-  where
-    between : slot_of k p 0 ≤ c → c < slot_of k p 0 + (k + 1) → part_of k c ≡ p
-    between l h = grind arith
 
 module _ (D : Deployment) (shown : ℕ → Shown) where
   pub shown-in : (c p : ℕ) → part_of_slot D c ≡ p → In (shown c) (shown_of_part D shown p)

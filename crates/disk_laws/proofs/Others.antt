@@ -1,22 +1,22 @@
 -- Events that leave all sites as they are, and what is under way between them: those of agents, the director, clients and scanners.
-use Rattle.std.proofs.Common.{◌≡◌, Bool, true, false, List, refl, sym, subst, inl, inr}
-use Rattle.std.specs.Prelude.{ℕ, Some, None}
+use Rattle.std.proofs.Common.{◌≡◌, Bool, true, List, refl, sym, subst, arith}
+use Rattle.std.specs.Prelude.{ℕ}
 use Rattle.std.specs.List.{AllByRecursion}
 use Rattle.volt_wire.specs.declared.actor.Actor.{Actor}
 use Rattle.volt_wire.specs.declared.actor.Actor.TheVariants.{Site}
 use Rattle.volt_wire.specs.declared.message.Msg.TheVariants as msg
-use Rattle.cluster_model.specs.Disk.{Shown}
 use Rattle.cluster_model.specs.Letters.{Letter, Turn}
 use Rattle.cluster_model.specs.AgentState.{AgentState}
 use Rattle.word_laws.specs.Histories.{History}
 use Rattle.word_laws.proofs.Lists.{all-mono}
 use Rattle.word_laws.proofs.Moves as word_moves
 use Rattle.log_laws.specs.Histories.{LogState, part, start_at, between}
+use Rattle.log_laws.proofs.Plain.Fronts.{front-refl}
 use Rattle.log_laws.proofs.Agents.AgentEvents.{AgentGoes}
-use Rattle.disk_laws.specs.Disks.{Top, Firm, ContentOk, MemberDisk, DiskOk, StreamLetter, Halted, FirmOk, DisksHold}
-use Rattle.disk_laws.proofs.Contents.{rises-same, written-later}
-use Rattle.disk_laws.proofs.SiteDisks.{stream-same}
-use Rattle.disk_laws.proofs.Halts.{halted-agent}
+use Rattle.disk_laws.specs.Disks.{Top, Firm, ContentOk, DiskOk, StreamLetter, Halted, FirmOk, DisksHold}
+use Rattle.disk_laws.proofs.Contents.{rises-same, content-later}
+use Rattle.disk_laws.proofs.Own.{disk-own, own-disk, own-on}
+use Rattle.disk_laws.proofs.Halts.{NoStreamFor, halted-agent}
 
 -- ---- other words, with the same sites
 
@@ -28,33 +28,13 @@ module _ (S : LogState) (F : Firm) (halted : Bool) (K : DisksHold S F halted) (n
   top-worded : (p m n : ℕ) → Top S p m n → Top worded p m n
   top-worded p m n t = record { slot = t.slot; is_slot = t.is_slot; part_is = t.part_is; all = t.all }
 
-  content-worded : (h : Bool) (p : ℕ) (x : Shown) → ContentOk S F h p x → ContentOk worded F h p x
-  content-worded true p None k = tt
-  content-worded false p None k = tt
-  content-worded false p (Some x) k = written-later S worded (rises-same S worded refl refl) p x k
-  content-worded true p (Some x) (inl k) = inl (written-later S worded (rises-same S worded refl refl) p x k)
-  content-worded true p (Some x) (inr k) = inr k
-
-  member-worded : (c : ℕ) → MemberDisk S F c → MemberDisk worded F c
-  member-worded c m = record {
-    shows = m.shows;
-    mark = m.mark;
-    reign = m.reign;
-    led = m.led;
-    begun = m.begun;
-    marked = m.marked;
-    firm = m.firm;
-    owes = m.owes;
-  }
-
   disk-worded : (c : ℕ) → DiskOk S F halted c → DiskOk worded F halted c
-  disk-worded c k = record {
-    some = k.some;
-    contents = all-mono (ContentOk S F halted (part S c)) (ContentOk worded F halted (part S c)) (content-worded halted (part S c)) (S.sites c).contents k.contents;
-    marks = k.marks;
-    member = λ up none. member-worded c (k.member up none);
-    joiner = λ h j e. stream-same S worded c refl j j.stream (k.joiner h j e);
-  }
+  disk-worded c k = own-disk worded F halted c (S.sites c) refl
+      (own-on halted (ContentOk S F halted (part S c)) (ContentOk worded F halted (part S c)) (S.logs.reign (part S c)) (S.logs.reign (part S c))
+      (F (part S c)) (F (part S c)) (S.sites c)
+      (all-mono (ContentOk S F halted (part S c)) (ContentOk worded F halted (part S c))
+      (content-later S worded (rises-same S worded refl refl) F F (part S c) halted (λ _ _ r. r)) (S.sites c).contents)
+      (λ t g is. (g, is, refl, front-refl g.log)) (omega arith) (disk-own S F halted c k))
 
   stream-worded : (c : ℕ) (l : Letter) → StreamLetter S c l → StreamLetter worded c l
   stream-worded c l k = elim l.body as (λ m. StreamLetter S c (record l { body = m }) → StreamLetter worded c (record l { body = m })) [
@@ -87,7 +67,7 @@ disks-plain S F halted K next ch owner same = disks-worded S F halted K next S.w
   decided = k.decided;
   unnamed = k.unnamed;
   joiners = k.joiners;
-  streams = λ c i up. subst (AllByRecursion (λ l. elim l.body as (λ _. Type 0) [ msg.StreamStart head ↦ l.start ≡ start_at S c → ⊥ | _ ↦ Unit {0} ])) (sym (same i c)) (k.streams c i up);
+  streams = λ c i up. subst (AllByRecursion (NoStreamFor (start_at S c))) (sym (same i c)) (k.streams c i up);
 })
 
 -- the turn of an agent that took a message

@@ -1,13 +1,12 @@
 -- What is said of the disk of a running site, of its state alone: a turn that leaves its disk keeps it.
-use Rattle.std.proofs.Common.{◌≡◌, ◌≤◌, Bool, true, false, [], ◌∷◌, length, take, refl, sym, subst, ap, ◌∙◌, ◌⊎◌, inl, inr, arith}
+use Rattle.std.proofs.Common.{◌≡◌, ◌<◌, ◌≤◌, Bool, true, false, [], ◌∷◌, length, take, refl, sym, subst, ap, ◌∙◌, ◌⊎◌, inl, inr, arith}
 use Rattle.std.specs.Prelude.{ℕ, Option, Some, None}
 use Rattle.std.specs.List.{AllByRecursion}
 use Rattle.cluster_model.specs.Disk.{Shown, mark_of}
 use Rattle.cluster_model.specs.Words.{Deployment}
 use Rattle.cluster_model.specs.SiteState.{SiteState, Joining, Streamed, site_term}
-use Rattle.log_laws.specs.Histories.{Front, Reign}
-use Rattle.log_laws.proofs.Plain.Fronts.{front-length}
-use Rattle.disk_laws.specs.Disks.{own_content}
+use Rattle.log_laws.specs.Histories.{LogState, Front, Reign, part}
+use Rattle.disk_laws.specs.Disks.{Firm, ContentOk, StreamDisk, DiskOk, own_content}
 use Rattle.disk_laws.proofs.Order.{take-grown}
 use Rattle.disk_laws.proofs.Rows.{DiskAt, FirmRises, at-term, at-was-member, at-was-joiner}
 
@@ -34,9 +33,84 @@ pub record Own (halted : Bool) (C : Shown → Type 0) (led : ℕ → Option Reig
   pub some : (s.contents ≡ []) → ⊥
   pub contents : AllByRecursion C s.contents
   pub marks : halted ≡ false → AllByRecursion (λ x. mark_of x ≤ s.greatest) s.contents
-  pub whole : s.on_disk ≤ length s.log
-  pub member : s.joining ≡ None → OwnMember led top s
+  pub member : 0 < s.start → s.joining ≡ None → OwnMember led top s
   pub joiner : halted ≡ false → (j : Joining) → s.joining ≡ Some j → OwnStream s j j.stream
+
+-- ---- the disk of a slot
+
+module _ (S : LogState) (F : Firm) (halted : Bool) (c : ℕ) where
+  abbrev pub OwnAt : SiteState → Type 0
+  OwnAt s = Own halted (ContentOk S F halted (part S c)) (S.logs.reign (part S c)) (F (part S c)) s
+
+  stream-own : (j : Joining) (o : Option Streamed) → StreamDisk S c j o → OwnStream (S.sites c) j o
+  stream-own j None k = k
+  stream-own j (Some st) k = k
+
+  own-stream : (j : Joining) (o : Option Streamed) → OwnStream (S.sites c) j o → StreamDisk S c j o
+  own-stream j None k = k
+  own-stream j (Some st) k = k
+
+  -- What is said of it is said of its site, and the other way round.
+  pub disk-own : DiskOk S F halted c → OwnAt (S.sites c)
+  disk-own k = record {
+    some = k.some;
+    contents = k.contents;
+    marks = k.marks;
+    member = λ up none. let m = k.member up none in record {
+      shows = m.shows;
+      mark = m.mark;
+      reign = m.reign;
+      is_led = m.led;
+      begun = m.begun;
+      marked = m.marked;
+      firm = m.firm;
+      owes = m.owes;
+    };
+    joiner = λ e j is. stream-own j j.stream (k.joiner e j is);
+  }
+
+  pub own-disk : (s : SiteState) → S.sites c ≡ s → OwnAt s → DiskOk S F halted c
+  own-disk s e o = record {
+    some = k.some;
+    contents = k.contents;
+    marks = k.marks;
+    member = λ up none. let m = k.member up none in record {
+      shows = m.shows;
+      mark = m.mark;
+      reign = m.reign;
+      led = m.is_led;
+      begun = m.begun;
+      marked = m.marked;
+      firm = m.firm;
+      owes = m.owes;
+    };
+    joiner = λ e j is. own-stream j j.stream (k.joiner e j is);
+  }
+    where
+      k : OwnAt (S.sites c)
+      k = subst OwnAt (sym e) o
+
+-- It stays so with a history that has grown, and with more that was counted firm.
+pub own-on : (halted : Bool) (C B : Shown → Type 0) (led later : ℕ → Option Reign) (top more : ℕ) (s : SiteState)
+    → (AllByRecursion C s.contents → AllByRecursion B s.contents)
+    → ((t : ℕ) (g : Reign) → led t ≡ Some g → (h : Reign) × (later t ≡ Some h) × (h.begun ≡ g.begun) × Front g.log h.log)
+    → top ≤ more → Own halted C led top s → Own halted B later more s
+own-on halted C B led later top more s contents kept up k = record {
+  some = k.some;
+  contents = contents k.contents;
+  marks = k.marks;
+  member = λ run none. let m = k.member run none in let r = kept s.mark m.reign m.is_led in record {
+    shows = m.shows;
+    mark = m.mark;
+    reign = r.0;
+    is_led = r.1;
+    begun = rw (r.2) m.begun;
+    marked = m.marked;
+    firm = let a = m.firm in omega (arith, a, up);
+    owes = m.owes;
+  };
+  joiner = k.joiner;
+}
 
 -- ---- a turn that leaves the disk
 
@@ -78,15 +152,14 @@ module _ (D : Deployment) (i : ℕ) (s u : SiteState) (h : DiskAt D i s u) (whol
         (h.contents ∙ r.0 ∙ ap (λ x. x ∷ []) (sym own-same), h.mark ∙ r.1, h.base ∙ r.2, (let a = r.3 in omega (arith, a, h.on_disk))),
   )
 
--- What is said of the site stays so.
+-- What is said of the site stays so, whose log is as long as it is on disk.
 pub own-row : (D : Deployment) (i : ℕ) (s u : SiteState) → DiskAt D i s u → (halted : Bool) (C : Shown → Type 0) (led : ℕ → Option Reign) (top : ℕ)
-    → (FirmRises D i s u → u.firm ≤ top) → Own halted C led top s → Own halted C led top u
-own-row D i s u h halted C led top rises k = record {
+    → s.on_disk ≤ length s.log → (FirmRises D i s u → u.firm ≤ top) → Own halted C led top s → Own halted C led top u
+own-row D i s u h halted C led top whole rises k = record {
   some = λ e. k.some (sym h.contents ∙ e);
   contents = subst (AllByRecursion C) (sym h.contents) k.contents;
   marks = λ e. subst (AllByRecursion (λ x. mark_of x ≤ u.greatest)) (sym h.contents) (subst (λ n. AllByRecursion (λ x. mark_of x ≤ n) s.contents) (sym h.greatest) (k.marks e));
-  whole = let a = front-length s.log u.log h.log in omega (arith, a, k.whole, h.on_disk);
-  member = λ e. member-row D i s u h k.whole led top rises (k.member (at-was-member D i s u h e));
+  member = λ up e. member-row D i s u h whole led top rises (k.member (subst (λ n. 0 < n) h.start up) (at-was-member D i s u h e));
   joiner = λ e j is. let r = at-was-joiner D i s u h j is in
-      stream-row D i s u h k.whole r.0 j r.3 j.stream (subst (OwnStream s r.0) (sym r.2) (k.joiner e r.0 r.1));
+      stream-row D i s u h whole r.0 j r.3 j.stream (subst (OwnStream s r.0) (sym r.2) (k.joiner e r.0 r.1));
 }

@@ -21,9 +21,10 @@ use Rattle.word_laws.specs.Histories.{In, names}
 use Rattle.word_laws.proofs.Lists.{all-at, all-from, all-mono, in-map, list_all-at, some-here}
 use Rattle.log_laws.specs.Histories.{LogState, IsSlot, part, between}
 use Rattle.log_laws.specs.Copies.{log_state, HasLogs}
+use Rattle.log_laws.proofs.Plain.Copies.{range-in}
 use Rattle.disk_laws.specs.Disks.{AtLeast, Top, Firm, ContentOk, StreamOk, StreamLetter, Halted, DisksHold}
-use Rattle.disk_laws.proofs.Order.{Raise, range-in, greatest_mark-above, at_least-mark, top-later}
-use Rattle.disk_laws.proofs.Contents.{rises-same, written-later, firm-later}
+use Rattle.disk_laws.proofs.Order.{Raise, greatest_mark-above, at_least-mark, top-later}
+use Rattle.disk_laws.proofs.Contents.{rises-same, content-later, firm-later}
 use Rattle.disk_laws.proofs.Choices.{get-none, disk-shows, world-shows, recovered-firm}
 
 module _ (E : Database) (w : World) (k : HasLogs w) (F : Firm) (halted : Bool) (K : DisksHold (log_state w k.owner k.history k.logs) F halted) (shown : List ℕ)
@@ -124,9 +125,7 @@ module _ (E : Database) (w : World) (k : HasLogs w) (F : Firm) (halted : Bool) (
 
   -- what was written in the epoch, and what a recovery wrote
   left-content : (b : Bool) (p : ℕ) (x : Shown) → ContentOk S F true p x → ContentOk (after b) F true p x
-  left-content b p None h = tt
-  left-content b p (Some x) (inl h) = inl (written-later S (after b) (rises-same S (after b) refl refl) p x h)
-  left-content b p (Some x) (inr h) = inr h
+  left-content b p = content-later S (after b) (rises-same S (after b) refl refl) F F p true (λ _ _ r. r)
 
   may-be : (p : ℕ) (t : Bool) (x : Shown) → ContentOk S F t p x → ContentOk S F true p x
   may-be p t None h = tt

@@ -1,26 +1,27 @@
 -- What disks show is kept when one site's state changes: the other sites, the letters, and what is firm.
-use Rattle.std.proofs.Common.{◌≡◌, ◌<◌, ◌≤◌, Bool, true, false, List, [], ◌∷◌, length, take, length-take, refl, sym, subst, ap, ◌∙◌, ◌⊎◌, inl, inr, arith}
+use Rattle.std.proofs.Common.{◌≡◌, ◌<◌, ◌≤◌, Bool, true, false, List, length, take, length-take, refl, sym, subst, ap, ◌∙◌, ◌⊎◌, inl, inr, arith}
 use Rattle.std.proofs.lemmas.Bool.{cases_Bool, cases_eq, cases_lt}
-use Rattle.std.specs.Prelude.{ℕ, nat_le, max, if◌then◌else◌, Option, Some, None}
+use Rattle.std.specs.Prelude.{ℕ, nat_le, max, if◌then◌else◌, None}
 use Rattle.std.specs.List.{AllByRecursion}
-use Rattle.volt_wire.specs.Word.{Membership}
 use Rattle.volt_wire.specs.declared.actor.Actor.{Actor}
 use Rattle.volt_wire.specs.declared.actor.Actor.TheVariants.{Site}
 use Rattle.volt_wire.specs.declared.message.Msg.TheVariants as msg
-use Rattle.cluster_model.specs.Disk.{Shown, mark_of}
+use Rattle.cluster_model.specs.Disk.{Shown}
 use Rattle.cluster_model.specs.Words.{Deployment, part_of_slot, term_of, term_in}
 use Rattle.cluster_model.specs.Letters.{Letter, Sends}
-use Rattle.cluster_model.specs.SiteState.{SiteState, Joining, Streamed, site_term, leads}
+use Rattle.cluster_model.specs.SiteState.{SiteState, site_term, leads}
 use Rattle.cluster_model.specs.World.{Lead, set_at, lead_after}
 use Rattle.word_laws.specs.Histories.{In}
 use Rattle.word_laws.proofs.Lists.{all-at, all-from, all-append, none-and-some, if-false, set-here, set-there}
-use Rattle.log_laws.specs.Histories.{LogState, Logs, Front, Holds, IsSlot, part, start_at, log_at, between}
+use Rattle.log_laws.specs.Histories.{LogState, Logs, Holds, IsSlot, part, start_at, log_at, between}
 use Rattle.log_laws.proofs.Plain.Copies.{leader-view, leads-parts}
 use Rattle.log_laws.proofs.Entries.Leads.{Leading, leading}
 use Rattle.log_laws.proofs.Kept.Moves.{Grown, after}
 use Rattle.log_laws.proofs.Kept.Plumbing.{here, there, sent-either}
+use Rattle.log_laws.proofs.Runs.Leading.{leads-runs}
 use Rattle.disk_laws.proofs.Contents.{Rises, contents-later, firm-later}
-use Rattle.disk_laws.specs.Disks.{AtLeast, Top, Firm, ContentOk, MemberDisk, StreamDisk, DiskOk, StreamLetter, Halted, FirmOk, DisksHold, own_content}
+use Rattle.disk_laws.proofs.Own.{OwnAt, disk-own, own-disk, own-on}
+use Rattle.disk_laws.specs.Disks.{AtLeast, Top, Firm, ContentOk, DiskOk, StreamLetter, Halted, FirmOk, DisksHold}
 
 -- ---- what is firm, after a turn of one site
 
@@ -48,17 +49,6 @@ lead-raised D i s lead = record {
     choice true = refl
     choice false = refl
 
--- ---- a slot whose site stays as it is
-
--- of a joiner
-pub stream-same : (S T : LogState) (c : ℕ) → T.sites c ≡ S.sites c → (j : Joining) (o : Option Streamed) → StreamDisk S c j o → StreamDisk T c j o
-stream-same S T c site j None k = subst (λ x. AllByRecursion (λ y. mark_of y ≤ x.earlier) x.contents) (sym site) k
-stream-same S T c site j (Some st) k = (
-  k.0 ∙ ap site_term (sym site),
-  λ b. ap (λ x. x.contents) site ∙ k.1 b,
-  λ b. subst (λ x. (x.contents ≡ own_content x ∷ []) × (x.mark ≡ st.mark) × (x.base ≡ st.nj) × (st.nj ≤ x.on_disk)) (sym site) (k.2 b),
-)
-
 -- ---- one site changes, and what is under way
 
 module _ (S : LogState) (H : Holds S) (F M : Firm) (halted : Bool) (K : DisksHold S F halted) (ch : Actor → Actor → List Letter)
@@ -77,20 +67,16 @@ module _ (S : LogState) (H : Holds S) (F M : Firm) (halted : Bool) (K : DisksHol
     site : later.sites i ≡ s
     site = here less i s out G
 
-    -- one with a word runs
-    pub runs : (w : Membership) → s.view ≡ Some w → 0 < start_at later i
-    runs w e = elim (cases_eq (start_at later i) 0) [
-      | inl z ↦ absurd (none-and-some ((L.sites i).blank z) (ap (λ x. x.view) site ∙ e))
-      | inr n ↦ omega (arith, n)
-    ]
+    -- one that leads runs
+    leader-up : leads D i s ≡ true → 0 < start_at later i
+    leader-up l = leads-runs later L i (subst (λ x. leads D i x ≡ true) (sym site) l)
 
     -- ---- after a recovery that was stopped nobody leads
 
     none-leads : halted ≡ true → leads D i s ≡ true → ⊥
     none-leads e l =
-        let v = leader-view D i s (leads-parts D i s l).0 in
-        let j = (halts e).joiners i (runs v.1.0 v.1.1) in
-        none-and-some v.0 (ap (λ x. x.joining) (sym site) ∙ j.1)
+        let j = (halts e).joiners i (leader-up l) in
+        none-and-some (leader-view D i s (leads-parts D i s l).0).0 (ap (λ x. x.joining) (sym site) ∙ j.1)
 
     firm-same : leads D i s ≡ false → (p : ℕ) → M p ≡ F p
     firm-same e p = elim (cases_eq p (part S i)) [
@@ -126,27 +112,12 @@ module _ (S : LogState) (H : Holds S) (F M : Firm) (halted : Bool) (K : DisksHol
 
     -- ---- the other slots
 
-    member-other : (c : ℕ) → later.sites c ≡ S.sites c → MemberDisk S F c → MemberDisk later M c
-    member-other c same m = let r = grown.onward.kept (part S c) (S.sites c).mark m.reign m.led in record {
-      shows = subst (λ x. x.contents ≡ own_content x ∷ []) (sym same) m.shows;
-      mark = subst (λ x. x.mark ≤ site_term x) (sym same) m.mark;
-      reign = r.0;
-      led = subst (λ x. G.reign (part S c) x.mark ≡ Some r.0) (sym same) r.1;
-      begun = subst (λ x. Front r.0.begun (take x.on_disk x.log)) (sym same) (subst (λ b. Front b (take (S.sites c).on_disk (log_at S c))) (sym r.2) m.begun);
-      marked = subst (λ x. x.mark ≡ site_term x → x.repaired ≡ true) (sym same) m.marked;
-      firm = let a = m.firm in let b = firm-up (part S c) in subst (λ x. x.firm ≤ M (part S c)) (sym same) (omega (arith, a, b));
-      owes = subst (λ x. (x.owes ≡ None) ⊎ ((x.owes ≡ Some (site_term x)) × (x.repaired ≡ true))) (sym same) m.owes;
-    }
+    pub disk-on : (c : ℕ) (x : SiteState) → OwnAt S F halted c x → OwnAt later M halted c x
+    disk-on c x = own-on halted (ContentOk S F halted (part S c)) (ContentOk later M halted (part S c)) (S.logs.reign (part S c)) (G.reign (part S c))
+        (F (part S c)) (M (part S c)) x (contents-on (part S c) x.contents) (grown.onward.kept (part S c)) (firm-up (part S c))
 
     pub disk-other : (c : ℕ) → later.sites c ≡ S.sites c → DiskOk S F halted c → DiskOk later M halted c
-    disk-other c same k = record {
-      some = λ e. k.some (ap (λ x. x.contents) (sym same) ∙ e);
-      contents = subst (λ x. AllByRecursion (ContentOk later M halted (part S c)) x.contents) (sym same)
-          (contents-on (part S c) (S.sites c).contents k.contents);
-      marks = λ e. subst (λ x. AllByRecursion (λ y. mark_of y ≤ x.greatest) x.contents) (sym same) (k.marks e);
-      member = λ up none. member-other c same (k.member (subst (λ x. 0 < x.start) same up) (ap (λ x. x.joining) (sym same) ∙ none));
-      joiner = λ e j is. stream-same S later c same j j.stream (k.joiner e j (ap (λ x. x.joining) (sym same) ∙ is));
-    }
+    disk-other c same k = own-disk later M halted c (S.sites c) same (disk-on c (S.sites c) (disk-own S F halted c k))
 
     -- ---- what is firm
 
@@ -171,7 +142,7 @@ module _ (S : LogState) (H : Holds S) (F M : Firm) (halted : Bool) (K : DisksHol
       }
         where
           up : 0 < start_at later i
-          up = let v = leader-view D i s (leads-parts D i s l).0 in runs v.1.0 v.1.1
+          up = leader-up l
 
           x : Leading later i
           x = leading later i L up (subst (λ z. leads D i z ≡ true) (sym site) l)

@@ -14,15 +14,13 @@ use Rattle.cluster_model.specs.Engine.{Database}
 use Rattle.cluster_model.specs.Words.{Deployment, host_of_slot, is_slot_of, is_member, term_of, term_in}
 use Rattle.cluster_model.specs.Disk.{Shown, mark_of, after_parts, after_failure}
 use Rattle.cluster_model.specs.Letters.{Blocks, Letter, Turn, becomes, sending, only, open_letter, Arrival, arrival, Taken, Refused, Waits}
-use Rattle.cluster_model.specs.AgentState.{stops_others}
 use Rattle.cluster_model.specs.SiteState.{SiteState, Joining, Streamed, new_joiner, stopped_site, site_term, is_joiner}
 use Rattle.cluster_model.specs.Site.{in_new_term, may_stream, on_stream_start, on_start, on_stop, site_runs, site_takes}
 use Rattle.cluster_model.specs.Sync.{may_stream_in, parts_of_stream, parts_of_message, stops_so, start_after, site_turn}
 use Rattle.cluster_model.specs.Laws.{starts_in}
-use Rattle.cluster_model.specs.World.{took}
 use Rattle.cluster_model.specs.Outside.{Outside, Fair, DiskFails, NoMemory, DisksShow}
 use Rattle.word_laws.specs.Histories.{In}
-use Rattle.word_laws.proofs.Lists.{all-if, all-mono, none-and-some, same-some, not-both}
+use Rattle.word_laws.proofs.Lists.{all-mono, none-and-some, same-some, not-both}
 use Rattle.word_laws.proofs.Agreement.{member-is}
 use Rattle.word_laws.proofs.Members.{is_member-start, start-is_member}
 use Rattle.log_laws.specs.Histories.{LogState, Logs, Reign, Front, Holds, IsSlot, SiteLetterOk, WaitingOk, JoinerOk, ViewIn, StreamIn, InWord, Took, HeldOk, StreamedOk, from_agent, part, start_at, log_at, term_at}
@@ -30,7 +28,7 @@ use Rattle.log_laws.proofs.Runs.Agreeing.{front-take}
 use Rattle.log_laws.proofs.Plain.Copies.{a-joiner}
 use Rattle.log_laws.proofs.NewTerms.Entering.{took-admitted, ran-owner, running-ran}
 use Rattle.log_laws.proofs.Plain.Fronts.{fronts-order, front-trans}
-use Rattle.log_laws.proofs.Kept.Moves.{Grown, NoStreamStart, after, popped}
+use Rattle.log_laws.proofs.Kept.Moves.{Grown, after, popped}
 use Rattle.log_laws.proofs.Kept.Plumbing.{here}
 use Rattle.log_laws.proofs.Messages.Pops.{taken-for, waits-for}
 use Rattle.log_laws.proofs.NewTerms.Taking.{first-word, later-word}
@@ -41,7 +39,7 @@ use Rattle.disk_laws.proofs.Rows.{DiskRow, Plain, PlainWaiting, waiting-plain}
 use Rattle.disk_laws.proofs.SiteRows.{stays_joiner, as_joiner, as_entered, site_runs-row, site_runs-refused, site_runs-stream, site_runs-joins, site_runs-enters, entered-held}
 use Rattle.disk_laws.proofs.Own.{Own, OwnMember, OwnStream}
 use Rattle.disk_laws.proofs.SiteDisks.{Raised, firm-up}
-use Rattle.disk_laws.proofs.Turning.{Kept, Wiped, Leaves, firm-before, own-before, same-tops, wiped-tops, row-disks, row-kept, row-goes, row-begins, halts-after, still-kept, begins-kept, stops-kept, leaves-same, noted-kept, none-ok, fewer}
+use Rattle.disk_laws.proofs.Turning.{Kept, Wiped, Leaves, firm-before, own-before, same-tops, wiped-tops, row-disks, row-kept, row-goes, row-begins, halts-after, still-kept, begins-kept, stops-kept, leaves-same, noted-kept, none-ok, stops-none, taken-from, fewer}
 
 -- ---- messages
 
@@ -181,8 +179,7 @@ module _ (S : LogState) (H : Holds S) (F : Firm) (halted : Bool) (K : DisksHold 
         some = λ e. absurd (cc);
         contents = (c, tt);
         marks = λ e. (omega arith, tt);
-        whole = unwritten;
-        member = λ e. absurd (cc);
+        member = λ _ e. absurd (cc);
         joiner = λ e x q. subst (λ y. OwnStream u y y.stream) (same-some q)
             (letter.mark_is ∙ term-is, λ b. refl, λ b. absurd (not-both j.is_based b blank-based));
       }
@@ -191,10 +188,10 @@ module _ (S : LogState) (H : Holds S) (F : Firm) (halted : Bool) (K : DisksHold 
       stream-kept t row M G L grown raised =
           let halts : halted ≡ true → Halted (after (popped S (Site k) i) i t.state t.sends G) = λ e. absurd (not-both halted e goes-on) in
           let C : Shown → Type 0 = ContentOk (after (popped S (Site k) i) i t.state t.sends G) M halted (part S i) in
-          row-disks S H F halted K (Site k) i slot t M G L grown raised halts u
+          row-disks S H F halted K (taken-from S (Site k) i) (fewer S (Site k) i) i slot t M G L grown raised halts u
           (stream-own C (G.reign (part S i)) (M (part S i)) (none-ok (after (popped S (Site k) i) i t.state t.sends G) M halted (part S i)))
-          row (subst (λ n. 0 < n) (sym row.at.start) up) ((H.sites i).keeps up).held (firm-before S H F halted K (Site k) i slot up)
-          (wiped-tops S H F halted K (Site k) i slot t M G L grown raised halts wiped)
+          unwritten row (subst (λ n. 0 < n) (sym row.at.start) up) ((H.sites i).keeps up).held (firm-before S H F halted K i slot up)
+          (wiped-tops S H F halted K (taken-from S (Site k) i) (fewer S (Site k) i) i slot t M G L grown raised halts wiped)
 
     -- Its turn, whether the site takes the stream or not.
     pub start-kept : (E : Database) (stamp : ℕ) → Kept S F halted (Site k) i (site_runs E D stamp i s (Site k) (record l { body = msg.StreamStart head }))
@@ -257,8 +254,7 @@ module _ (S : LogState) (H : Holds S) (F : Firm) (halted : Bool) (K : DisksHold 
           some = o.some;
           contents = o.contents;
           marks = λ e. all-mono (λ x. mark_of x ≤ s.greatest) (λ x. mark_of x ≤ max s.greatest (term_of w)) (λ x a. omega (arith, a)) (shown_at S i) (o.marks e);
-          whole = o.whole;
-          member = λ none. absurd (not-none s.joining (and_parts (is_joiner s) (not (is_member w (host_of_slot D i) (start_at S i))) stays).0 none);
+          member = λ _ none. absurd (not-none s.joining (and_parts (is_joiner s) (not (is_member w (host_of_slot D i) (start_at S i))) stays).0 none);
           joiner = λ e j q.
               let none : j.stream ≡ None = (subst (ViewIn S i j) view-none ((H.sites i).joiner j q).view).stream in
               subst (OwnStream (as_joiner s w) j) (sym none) (old j none (o.joiner e j q));
@@ -269,13 +265,13 @@ module _ (S : LogState) (H : Holds S) (F : Firm) (halted : Bool) (K : DisksHold 
 
         pub joins-kept : (t : Turn SiteState) → DiskRow D i (as_joiner s w) t → Kept S F halted (Agent h) i t
         joins-kept t row M G L grown raised =
-            let halts = halts-after S H F halted K (Agent h) i slot t G L (row-goes S H F halted K (Agent h) i slot t (as_joiner s w) row refl (λ j e. (j, e, refl)))
-            (row-begins S H F halted K (Agent h) i slot t (as_joiner s w) row held) in
-            row-disks S H F halted K (Agent h) i slot t M G L grown raised halts (as_joiner s w)
+            let halts = halts-after S H F halted K (taken-from S (Agent h) i) (fewer S (Agent h) i) i slot t G L (row-goes S i t (as_joiner s w) row refl (λ j e. (j, e, refl)))
+            (row-begins S i t (as_joiner s w) row held) in
+            row-disks S H F halted K (taken-from S (Agent h) i) (fewer S (Agent h) i) i slot t M G L grown raised halts (as_joiner s w)
             (joins-own (ContentOk (after (popped S (Agent h) i) i t.state t.sends G) M halted (part S i)) (G.reign (part S i)) (M (part S i))
-            (own-before S H F halted K (Agent h) i slot t M G L grown raised halts up))
-            row (subst (λ n. 0 < n) (sym row.at.start) up) held (firm-before S H F halted K (Agent h) i slot up)
-            (same-tops S H F halted K (Agent h) i slot t M G L grown raised halts row.at.contents)
+            (own-before S H F halted K (taken-from S (Agent h) i) (fewer S (Agent h) i) i slot t M G L grown raised halts))
+            ((H.sites i).keeps up).on_disk row (subst (λ n. 0 < n) (sym row.at.start) up) held (firm-before S H F halted K i slot up)
+            (same-tops S H F halted K (taken-from S (Agent h) i) (fewer S (Agent h) i) i slot t M G L grown raised halts row.at.contents)
 
       -- ---- a joiner that the word admits
 
@@ -342,8 +338,8 @@ module _ (S : LogState) (H : Holds S) (F : Firm) (halted : Bool) (K : DisksHold 
         U = after (popped S (Agent h) i) i t.state t.sends G
 
         halts : halted ≡ true → Halted U
-        halts = halts-after S H F halted K (Agent h) i slot t G L (row-goes S H F halted K (Agent h) i slot t (as_entered s w) row refl (λ j e. absurd (cc)))
-            (row-begins S H F halted K (Agent h) i slot t (as_entered s w) row held)
+        halts = halts-after S H F halted K (taken-from S (Agent h) i) (fewer S (Agent h) i) i slot t G L (row-goes S i t (as_entered s w) row refl (λ j e. absurd (cc)))
+            (row-begins S i t (as_entered s w) row held)
 
         -- so it isn't that all stays stopped
         entered-on : halted ≡ false
@@ -356,18 +352,18 @@ module _ (S : LogState) (H : Holds S) (F : Firm) (halted : Bool) (K : DisksHold 
         ]
 
         old-own : Own halted (ContentOk U M halted (part S i)) (G.reign (part S i)) (M (part S i)) s
-        old-own = own-before S H F halted K (Agent h) i slot t M G L grown raised halts up
+        old-own = own-before S H F halted K (taken-from S (Agent h) i) (fewer S (Agent h) i) i slot t M G L grown raised halts
 
         firm-top : s.firm ≤ M (part S i)
         firm-top =
-            let a = firm-before S H F halted K (Agent h) i slot up in
-            let b = firm-up S H F M halted K (took S.words.channel (Agent h) (Site i)) (fewer S H F halted K (Agent h) i slot) i slot
+            let a = firm-before S H F halted K i slot up in
+            let b = firm-up S H F M halted K (taken-from S (Agent h) i) (fewer S (Agent h) i) i slot
             t.state t.sends G L grown raised halts (part S i) in
             omega (arith, a, b)
 
         member-own : (s.joining ≡ None) → OwnMember (G.reign (part S i)) (M (part S i)) (as_entered s w)
         member-own none =
-            let m = old-own.member none in
+            let m = old-own.member up none in
             let v = (H.sites i).member up none in
             let above = higher v.0 v.1 in
             record {
@@ -401,8 +397,7 @@ module _ (S : LogState) (H : Holds S) (F : Firm) (halted : Bool) (K : DisksHold 
           some = old-own.some;
           contents = old-own.contents;
           marks = λ e. all-mono (λ x. mark_of x ≤ s.greatest) (λ x. mark_of x ≤ max s.greatest (term_of w)) (λ x a. omega (arith, a)) (shown_at S i) (old-own.marks e);
-          whole = old-own.whole;
-          member = λ _. choice s.joining refl;
+          member = λ _ _. choice s.joining refl;
           joiner = λ e j q. absurd (cc);
         }
           where
@@ -411,9 +406,9 @@ module _ (S : LogState) (H : Holds S) (F : Firm) (halted : Bool) (K : DisksHold 
             choice (Some j) e = joiner-own j e
 
         pub enters-disks : DisksHold U M halted
-        enters-disks = row-disks S H F halted K (Agent h) i slot t M G L grown raised halts (as_entered s w) entered-own
-            row (subst (λ n. 0 < n) (sym row.at.start) up) held (firm-before S H F halted K (Agent h) i slot up)
-            (same-tops S H F halted K (Agent h) i slot t M G L grown raised halts row.at.contents)
+        enters-disks = row-disks S H F halted K (taken-from S (Agent h) i) (fewer S (Agent h) i) i slot t M G L grown raised halts (as_entered s w) entered-own
+            ((H.sites i).keeps up).on_disk row (subst (λ n. 0 < n) (sym row.at.start) up) held (firm-before S H F halted K i slot up)
+            (same-tops S H F halted K (taken-from S (Agent h) i) (fewer S (Agent h) i) i slot t M G L grown raised halts row.at.contents)
 
     -- Its turn: it is taken, or dropped; it doesn't wait.
     pub view-kept : (E : Database) (stamp : ℕ) → Kept S F halted (Agent h) i (site_runs E D stamp i s (Agent h) (record l { body = msg.View w }))
@@ -499,9 +494,7 @@ module _ (S : LogState) (H : Holds S) (F : Firm) (halted : Bool) (K : DisksHold 
         choice false = noted-kept S H F halted K from i slot (max s.stop a) s.plans
 
     fails-kept : (start : ℕ) (xs : List Shown) → Leaves S i xs → Kept S F halted from i (stops_so D i s start xs)
-    fails-kept start xs k = stops-kept S H F halted K from i slot (stops_so D i s start xs) refl refl k (λ c.
-        all-if NoStreamStart (i == c) [] (stops_others D (host_of_slot D i) start (Site c)) tt
-        (all-if NoStreamStart (is_slot_of D (host_of_slot D i) c) (open_letter (msg.Stop start) ∷ []) [] (tt, tt) tt))
+    fails-kept start xs k = stops-kept S H F halted K from i slot (stops_so D i s start xs) refl refl k (stops-none D i start s xs)
 
     running : (x : Letter) (E : Database) (stamp : ℕ) (b : Bool) → (start_at S i == 0) ≡ b → (0 < start_at S i → Kept S F halted from i (site_runs E D stamp i s from x))
         → Kept S F halted from i (if b then becomes s else site_runs E D stamp i s from x)

@@ -10,7 +10,7 @@ use Rattle.cluster_model.specs.Words.{term_of, term_in}
 use Rattle.cluster_model.specs.SiteState.{SiteState, Streamed, Joining}
 use Rattle.cluster_model.specs.Sync.{joiner_parts, parts_of_sync}
 use Rattle.word_laws.proofs.Lists.{all-mono, none-and-some, same-some, not-both}
-use Rattle.log_laws.specs.Histories.{LogState, Reign, Front, Line, Holds, IsSlot, FollowsIn, LeadsIn, MemberOk, Took, StreamIn, ViewIn, StreamedOk, line, between, part, start_at, log_at, term_at}
+use Rattle.log_laws.specs.Histories.{LogState, Reign, Front, Line, Holds, FollowsIn, LeadsIn, MemberOk, Took, StreamIn, ViewIn, StreamedOk, line, between, part, start_at, log_at, term_at}
 use Rattle.log_laws.proofs.Plain.Copies.{leads-or-follows}
 use Rattle.log_laws.proofs.Plain.Fronts.{front-trans, front-length, fronts-order}
 use Rattle.log_laws.proofs.Runs.Agreeing.{front-take}
@@ -35,7 +35,7 @@ pub record Begun (S : LogState) (i mark end : ℕ) : Type 0 where
   pub led : S.logs.reign (part S i) mark ≡ Some reign
   pub begun : Front reign.begun (take end (log_at S i))
 
-module _ (S : LogState) (H : Holds S) (i : ℕ) (slot : IsSlot S i) (up : 0 < start_at S i) (F : Firm) (K : DiskOk S F false i) where
+module _ (S : LogState) (H : Holds S) (i : ℕ) (up : 0 < start_at S i) (F : Firm) (K : DiskOk S F false i) where
   abbrev s : SiteState
   s = S.sites i
 
@@ -103,7 +103,7 @@ module _ (S : LogState) (H : Holds S) (i : ℕ) (slot : IsSlot S i) (up : 0 < st
     part-content y k =
         let b = mark-begun k.mark k.end k.from k.marked in
         subst (ContentOk S F false (part S i)) (sym k.shows)
-        (member-written S H i k.mark b.reign b.led slot up none (mark-rises k.mark k.end k.marked).1 (record { mark = k.mark; base = k.base; log = take k.end s.log }) refl
+        (member-written S H i k.mark b.reign b.led up none (mark-rises k.mark k.end k.marked).1 (record { mark = k.mark; base = k.base; log = take k.end s.log }) refl
         (front-take k.end s.log) b.begun)
 
     part-mark : (y : Shown) → PartOf s y → mark_of y ≤ s.greatest

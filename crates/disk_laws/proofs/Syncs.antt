@@ -1,35 +1,29 @@
 -- A site writes what it owes its disk: all that disks show is well after it, also where the disk fails or no memory is found.
-use Rattle.std.proofs.Common.{◌≡◌, ◌<◌, ◌≤◌, Bool, true, false, List, [], take, refl, sym, subst, ap, ◌∙◌, ◌⊎◌, true≢false, arith}
+use Rattle.std.proofs.Common.{◌≡◌, ◌<◌, ◌≤◌, Bool, true, false, List, [], take, refl, sym, subst, ap, true≢false, arith}
 use Rattle.std.proofs.lemmas.Bool.{and_parts}
 use Rattle.std.proofs.lemmas.Bool.Decides.{nat_tests}
-use Rattle.std.specs.Prelude.{ℕ, ◌==◌, nat_lt, is_some, max, Some, None}
+use Rattle.std.specs.Prelude.{ℕ, nat_lt, is_some, Some, None}
 use Rattle.std.specs.List.{AllByRecursion}
 use Rattle.volt_wire.specs.declared.actor.Actor.{Actor}
-use Rattle.volt_wire.specs.declared.actor.Actor.TheVariants.{Site}
-use Rattle.volt_wire.specs.declared.message.Msg.TheVariants as msg
-use Rattle.cluster_model.specs.AgentState.{stops_others}
-use Rattle.cluster_model.specs.Words.{host_of_slot, is_slot_of}
 use Rattle.cluster_model.specs.Disk.{Shown, after_parts, after_failure, mark_of}
 use Rattle.cluster_model.specs.Engine.{Database}
-use Rattle.cluster_model.specs.Letters.{Letter, Turn, ◌▸◌, no_sends, open_letter}
+use Rattle.cluster_model.specs.Letters.{Letter, Turn, ◌▸◌}
 use Rattle.cluster_model.specs.Outside.{Outside, Fair, DiskFails, NoMemory, DisksShow}
-use Rattle.cluster_model.specs.SiteState.{SiteState, Joining, site_term, leads}
+use Rattle.cluster_model.specs.SiteState.{SiteState, Joining}
 use Rattle.cluster_model.specs.Site.{settles}
 use Rattle.cluster_model.specs.Sync.{joiner_owes, may_sync, owes_in, parts_of_sync, after_sync, syncs, stops_so, sync_turn}
 use Rattle.word_laws.specs.Histories.{In}
-use Rattle.word_laws.proofs.Lists.{all-mono, all-if, all-one, none-and-some, not-both, if-true}
+use Rattle.word_laws.proofs.Lists.{not-both}
 use Rattle.log_laws.specs.Histories.{LogState, Logs, Holds, IsSlot, part, start_at}
 use Rattle.log_laws.proofs.Kept.Moves.{Grown, after}
-use Rattle.log_laws.proofs.Kept.Plumbing.{here, there}
-use Rattle.disk_laws.specs.Disks.{Firm, ContentOk, DiskOk, StreamLetter, DisksHold, shown_at}
-use Rattle.disk_laws.proofs.Order.{all-take, some-after_parts, some-after_failure, all-after_parts, all-after_failure, Raise, raise-after_parts, raise-after_failure, raise-take, top-raise}
-use Rattle.disk_laws.proofs.Contents.{Rises, written-later}
-use Rattle.disk_laws.proofs.Rows.{DiskAt, DiskRow, Begins, row-then}
+use Rattle.disk_laws.specs.Disks.{Firm, Top, ContentOk, DisksHold}
+use Rattle.disk_laws.proofs.Order.{all-take, some-after_parts, some-after_failure, all-after_parts, all-after_failure, Raise, raise-after_parts, raise-after_failure, raise-take}
+use Rattle.disk_laws.proofs.Rows.{DiskRow, row-then}
 use Rattle.disk_laws.proofs.SiteRows.{after_sync-row, settles-row, ordered-row}
-use Rattle.disk_laws.proofs.SiteDisks.{Raised, firm-up, contents-on, disks-after}
-use Rattle.disk_laws.proofs.RowDisks.{at-disk, at-counted, leader-runs, begins-letter}
+use Rattle.disk_laws.proofs.SiteDisks.{Raised, contents-on, disk-on}
+use Rattle.disk_laws.proofs.Turning.{stops-none, firm-before, raised-tops, row-disks, stopped-disks}
 use Rattle.disk_laws.proofs.SyncContents.{PartsOk, parts-ok}
-use Rattle.disk_laws.proofs.Writing.{wrote, writing, wrote-disk, wrote-held, wrote-low}
+use Rattle.disk_laws.proofs.Writing.{wrote, wrote-start, wrote-firm, wrote-held, wrote-low, wrote-own}
 
 -- ---- a site that may sync
 
@@ -52,7 +46,7 @@ module _ (E : Database) (S : LogState) (H : Holds S) (F : Firm) (K : DisksHold S
   parts = parts_of_sync s s.joining
 
   p : PartsOk S F i parts
-  p = parts-ok S H i slot up F (K.disks i slot)
+  p = parts-ok S H i up F (K.disks i slot)
 
   never : {A : Type 0} → false ≡ true → A
   never e = absurd (true≢false (sym e))
@@ -64,7 +58,7 @@ module _ (E : Database) (S : LogState) (H : Holds S) (F : Firm) (K : DisksHold S
 
   module _ (M : Firm) (G : Logs) where
     abbrev b : SiteState
-    b = wrote S H i slot up F (K.disks i slot)
+    b = wrote S H i up F (K.disks i slot)
 
     abbrev t : Turn SiteState
     t = syncs E S.words.deployment i s
@@ -79,53 +73,20 @@ module _ (E : Database) (S : LogState) (H : Holds S) (F : Firm) (K : DisksHold S
         (row-then S.words.deployment i b says (settles E S.words.deployment i) (after_sync-row S.words.deployment i b) (settles-row E S.words.deployment i says.state))
 
     module _ (L : Holds T) (grown : Grown S.words.deployment i t.state S.logs G) (raised : Raised S.words.deployment i t.state F M) where
-      abbrev W : LogState
-      W = writing S H i slot up F (K.disks i slot)
-
-      site : T.sites i ≡ t.state
-      site = here S i t.state t.sends G
-
-      wrote-site : W.sites i ≡ b
-      wrote-site = here S i b no_sends S.logs
-
-      rises : Rises W T
-      rises = record { deployment = refl; kept = grown.onward.kept; reach = grown.onward.reach }
-
-      at : DiskAt S.words.deployment i (W.sites i) (T.sites i)
-      at = subst (λ x. DiskAt S.words.deployment i x (T.sites i)) (sym wrote-site) (subst (DiskAt S.words.deployment i b) (sym site) row.at)
-
-      up-to : F (part S i) ≤ M (part S i)
-      up-to = firm-up S H F M false K S.words.channel all-same i slot t.state t.sends G L grown raised never (part S i)
-
-      lead : leads S.words.deployment i (T.sites i) ≡ true → (T.sites i).firm ≤ M (part S i)
-      lead = subst (λ x. leads S.words.deployment i x ≡ true → x.firm ≤ M (part S i)) (sym site) (λ l.
-          let e = raised.own ∙ if-true (leads S.words.deployment i t.state) (max (F (part S i)) t.state.firm) (F (part S i)) l in omega (arith, e))
-
-      written-on : (y : Shown) → ContentOk W F false (part S i) y → ContentOk T M false (part S i) y
-      written-on None k = tt
-      written-on (Some x) k = written-later W T rises (part S i) x k
-
-      own : DiskOk T M false i
-      own = at-disk W T.sites T.words.channel G rises F M false i at (wrote-low S H i slot up F (K.disks i slot)) (wrote-disk S H i slot up F (K.disks i slot)) up-to lead
-          (all-mono (ContentOk W F false (part S i)) (ContentOk T M false (part S i)) written-on (W.sites i).contents)
-
-      raise : Raise (shown_at S i) (shown_at T i)
-      raise = subst (Raise s.contents) (sym (ap (λ x. x.contents) site ∙ row.at.contents)) (raise-after_parts s.contents parts p.raise)
-
-      counted : leads S.words.deployment i t.state ≡ true → (t.state.firm ≤ F (part S i)) ⊎ ((t.state.mark ≡ site_term t.state) × (t.state.firm ≤ t.state.on_disk))
-      counted = subst (λ x. leads S.words.deployment i x ≡ true → (x.firm ≤ F (part S i)) ⊎ ((x.mark ≡ site_term x) × (x.firm ≤ x.on_disk))) site (λ l.
-          at-counted W T.sites T.words.channel G rises F M false i at (wrote-low S H i slot up F (K.disks i slot)) (wrote-disk S H i slot up F (K.disks i slot)) up-to lead
-          l (leader-runs T L M false i slot own l))
-
-      letters : (c : ℕ) → IsSlot S c → AllByRecursion (StreamLetter T c) (t.sends (Site c))
-      letters c _ = all-mono (Begins S.words.deployment i c b t.state) (StreamLetter T c) (λ l k.
-          begins-letter T L M false i slot own b (subst (DiskAt S.words.deployment i b) (sym site) row.at) c l
-          (subst (λ x. Begins S.words.deployment i c b x l) (sym site) k)) (t.sends (Site c))
-          (row.sends (wrote-held S H i slot up F (K.disks i slot)) c)
-
       pub syncs-disks : DisksHold T M false
-      syncs-disks = disks-after S H F M false K S.words.channel all-same i slot t.state t.sends G L grown raised never own
-          (top-raise S T refl i raise (λ c n. ap (λ x. x.contents) (there S i t.state t.sends G c n))) counted letters
+      syncs-disks = row-disks S H F false K S.words.channel all-same i slot t M G L grown raised never b
+          (disk-on S H F M false K S.words.channel all-same i slot t.state t.sends G L grown raised never i b (wrote-own S H i up F (K.disks i slot)))
+          (wrote-low S H i up F (K.disks i slot)) row start (wrote-held S H i up F (K.disks i slot)) firm tops
+        where
+          start : 0 < t.state.start
+          start = let e = wrote-start S H i up F (K.disks i slot) in omega (arith, up, row.at.start, e)
+
+          firm : b.firm ≤ F (part S i)
+          firm = let e = wrote-firm S H i up F (K.disks i slot) in let l = firm-before S H F false K i slot up in omega (arith, e, l)
+
+          tops : (p m n : ℕ) → Top S p m n → Top T p m n
+          tops = raised-tops S H F false K S.words.channel all-same i slot t M G L grown raised never
+              (subst (Raise s.contents) (sym row.at.contents) (raise-after_parts s.contents parts p.raise))
 
   -- ---- it stops, after parts of which some were written
 
@@ -134,31 +95,11 @@ module _ (E : Database) (S : LogState) (H : Holds S) (F : Firm) (K : DisksHold S
     abbrev stop : Turn SiteState
     stop = stops_so S.words.deployment i s start xs
 
-    abbrev U : LogState
-    U = after S i stop.state stop.sends G
-
-    module _ (L : Holds U) (grown : Grown S.words.deployment i stop.state S.logs G) (raised : Raised S.words.deployment i stop.state F M) where
-      stopped : U.sites i ≡ stop.state
-      stopped = here S i stop.state stop.sends G
-
-      stop-own : DiskOk U M false i
-      stop-own = record {
-        some = λ e. some (sym (ap (λ x. x.contents) stopped) ∙ e);
-        contents = subst (λ x. AllByRecursion (ContentOk U M false (part S i)) x.contents) (sym stopped)
-            (contents-on S H F M false K S.words.channel all-same i slot stop.state stop.sends G L grown raised never (part S i) xs contents);
-        marks = λ _. subst (λ x. AllByRecursion (λ y. mark_of y ≤ x.greatest) x.contents) (sym stopped) marks;
-        member = λ on _. absurd (let e = ap (λ x. x.start) stopped in omega (arith, on, e));
-        joiner = λ _ j is. absurd (none-and-some (ap (λ x. x.joining) stopped) is);
-      }
-
-      stop-letters : (c : ℕ) → IsSlot S c → AllByRecursion (StreamLetter U c) (stop.sends (Site c))
-      stop-letters c _ = all-if (StreamLetter U c) (i == c) [] (stops_others S.words.deployment (host_of_slot S.words.deployment i) start (Site c)) tt
-          (all-one (StreamLetter U c) (is_slot_of S.words.deployment (host_of_slot S.words.deployment i) c) (open_letter (msg.Stop start)) (λ _. tt))
-
-      pub stop-disks : DisksHold U M false
-      stop-disks = disks-after S H F M false K S.words.channel all-same i slot stop.state stop.sends G L grown raised never stop-own
-          (top-raise S U refl i (subst (λ x. Raise s.contents x.contents) (sym stopped) raise) (λ c n. ap (λ x. x.contents) (there S i stop.state stop.sends G c n)))
-          (λ l. absurd (cc)) stop-letters
+    pub stop-disks : Holds (after S i stop.state stop.sends G) → Grown S.words.deployment i stop.state S.logs G → Raised S.words.deployment i stop.state F M
+        → DisksHold (after S i stop.state stop.sends G) M false
+    stop-disks L grown raised = stopped-disks S H F false K S.words.channel all-same i slot stop M G L grown raised never refl some
+        (contents-on S H F M false K S.words.channel all-same i slot stop.state stop.sends G L grown raised never (part S i) xs contents) (λ _. marks)
+        (raised-tops S H F false K S.words.channel all-same i slot stop M G L grown raised never raise) (stops-none S.words.deployment i start s xs)
 
   -- ---- either
 

@@ -1,5 +1,5 @@
 -- Disks hold after a turn with which a site takes a message, by what the turn makes of the site.
-use Rattle.std.proofs.Common.{◌≡◌, ◌<◌, ◌≤◌, Bool, true, false, true≢false, List, [], ◌∷◌, take, refl, sym, subst, ap, ◌∙◌, ◌⊎◌, inl, inr, arith}
+use Rattle.std.proofs.Common.{◌≡◌, ◌<◌, ◌≤◌, Bool, true, false, true≢false, List, [], ◌∷◌, length, refl, sym, subst, ap, ◌∙◌, ◌⊎◌, inl, inr, ◌==◌, arith}
 use Rattle.std.proofs.lemmas.Bool.{cases_eq}
 use Rattle.std.specs.Prelude.{ℕ, max, Option, Some, None}
 use Rattle.std.specs.List.{AllByRecursion}
@@ -7,24 +7,27 @@ use Rattle.volt_wire.specs.declared.actor.Actor.{Actor}
 use Rattle.volt_wire.specs.declared.actor.Actor.TheVariants.{Site, Scanner}
 use Rattle.volt_wire.specs.declared.message.Msg.TheVariants as msg
 use Rattle.cluster_model.specs.Disk.{Shown, mark_of}
-use Rattle.cluster_model.specs.Words.{Deployment}
+use Rattle.cluster_model.specs.AgentState.{stops_others}
+use Rattle.cluster_model.specs.Words.{Deployment, host_of_slot, is_slot_of}
 use Rattle.cluster_model.specs.Letters.{Letter, Turn, becomes, sending, only, open_letter}
-use Rattle.cluster_model.specs.SiteState.{SiteState, Joining, Streamed, new_joiner, new_joining, site_term, leads}
+use Rattle.cluster_model.specs.SiteState.{SiteState, Joining, new_joiner, new_joining, site_term, leads}
+use Rattle.cluster_model.specs.Sync.{stops_so}
 use Rattle.cluster_model.specs.World.{took}
 use Rattle.word_laws.specs.Histories.{In}
 use Rattle.word_laws.proofs.Channels.{took-all}
-use Rattle.word_laws.proofs.Lists.{all-at, all-from, all-mono, in-map-from, if-true, same-some}
-use Rattle.log_laws.specs.Histories.{LogState, Logs, Front, Holds, IsSlot, HeldOk, CountedOk, part, start_at, term_at}
+use Rattle.word_laws.proofs.Lists.{all-if, all-at, all-from, all-mono, if-true, same-some}
+use Rattle.log_laws.specs.Histories.{LogState, Logs, Holds, IsSlot, HeldOk, CountedOk, part, start_at, term_at}
 use Rattle.log_laws.proofs.Plain.Copies.{leader-view, leads-parts}
 use Rattle.log_laws.proofs.Plain.Fronts.{front-refl}
 use Rattle.log_laws.proofs.Kept.Moves.{Grown, NoStreamStart, after, popped}
 use Rattle.log_laws.proofs.Kept.Plumbing.{here, there}
-use Rattle.disk_laws.specs.Disks.{AtLeast, Top, Firm, ContentOk, StreamDisk, DiskOk, StreamLetter, Halted, DisksHold, shown_at, own_content}
+use Rattle.log_laws.proofs.Runs.Leading.{leads-runs}
+use Rattle.disk_laws.specs.Disks.{AtLeast, Top, Firm, ContentOk, DiskOk, StreamLetter, Halted, DisksHold, shown_at}
 use Rattle.disk_laws.proofs.Order.{Raise, raise-refl, raise-same, top-raise, top-wipe}
-use Rattle.disk_laws.proofs.Rows.{DiskAt, DiskRow, Counts, Begins, at-term, at-was-joiner, row-becomes}
-use Rattle.disk_laws.proofs.Own.{Own, OwnStream, own-row}
+use Rattle.disk_laws.proofs.Rows.{DiskAt, DiskRow, Counts, counts-joiner, Begins, at-term, at-was-joiner, row-becomes}
+use Rattle.disk_laws.proofs.Own.{OwnAt, OwnStream, disk-own, own-disk, own-row}
 use Rattle.disk_laws.proofs.Halts.{SiteGoes, LeadersBegin, halted-site}
-use Rattle.disk_laws.proofs.SiteDisks.{Raised, contents-on, disk-other, disks-after, firm-up, runs}
+use Rattle.disk_laws.proofs.SiteDisks.{Raised, contents-on, disk-on, disk-other, disks-after}
 
 -- Disks hold after this turn of the site of slot i, with which it takes the first message from this actor: with what the leader of its
 -- partition, where it leads, has counted firm by then.
@@ -61,107 +64,61 @@ begins-leader D i c m s l k = elim l.body as (λ b. Begins D i c m s (record l {
   | b ↦ λ k. tt
 ] k
 
+-- what a site sends when it stops
+pub stops-none : (D : Deployment) (i start : ℕ) (s : SiteState) (xs : List Shown) (c : ℕ) → AllByRecursion NoStreamStart ((stops_so D i s start xs).sends (Site c))
+stops-none D i start s xs c = all-if NoStreamStart (i == c) [] (stops_others D (host_of_slot D i) start (Site c)) tt
+    (all-if NoStreamStart (is_slot_of D (host_of_slot D i) c) (open_letter (msg.Stop start) ∷ []) [] (tt, tt) tt)
+
 no-letter : (S : LogState) (c : ℕ) (l : Letter) → NoStreamStart l → StreamLetter S c l
 no-letter S c l k = elim l.body as (λ m. NoStreamStart (record l { body = m }) → StreamLetter S c (record l { body = m })) [
   | msg.StreamStart head ↦ λ k. absurd k
   | m ↦ λ k. tt
 ] k
 
-module _ (S : LogState) (H : Holds S) (F : Firm) (halted : Bool) (K : DisksHold S F halted) (from : Actor) (i : ℕ) (slot : IsSlot S i) where
-  pub fewer : (a b : Actor) (l : Letter) → In l (took S.words.channel from (Site i) a b) → In l (S.words.channel a b)
-  fewer a b l m = all-at (λ x. In x (S.words.channel a b)) (took S.words.channel from (Site i) a b)
-      (took-all (λ x. In x (S.words.channel a b)) S.words.channel from (Site i) a b (all-from (λ x. In x (S.words.channel a b)) (S.words.channel a b) (λ x k. k))) l m
+-- what the site counted firm is no more than what was
+pub firm-before : (S : LogState) → Holds S → (F : Firm) (halted : Bool) → DisksHold S F halted → (i : ℕ) → IsSlot S i → 0 < start_at S i → (S.sites i).firm ≤ F (part S i)
+firm-before S H F halted K i slot up = choice (S.sites i).joining refl
+  where
+    choice : (o : Option Joining) → (S.sites i).joining ≡ o → (S.sites i).firm ≤ F (part S i)
+    choice None e = ((K.disks i slot).member up e).firm
+    choice (Some j) e = let z = ((H.sites i).joiner j e).firm in omega (arith, z)
 
-  -- what the site counted firm is no more than what was
-  pub firm-before : 0 < start_at S i → (S.sites i).firm ≤ F (part S i)
-  firm-before up = choice (S.sites i).joining refl
-    where
-      choice : (o : Option Joining) → (S.sites i).joining ≡ o → (S.sites i).firm ≤ F (part S i)
-      choice None e = ((K.disks i slot).member up e).firm
-      choice (Some j) e = let z = ((H.sites i).joiner j e).firm in omega (arith, z)
+-- ---- a turn, with fewer messages under way
 
-  module _ (t : Turn SiteState) (M : Firm) (G : Logs) (L : Holds (after (popped S from i) i t.state t.sends G)) (grown : Grown S.words.deployment i t.state S.logs G)
-      (raised : Raised S.words.deployment i t.state F M) (halts : halted ≡ true → Halted (after (popped S from i) i t.state t.sends G)) where
+module _ (S : LogState) (H : Holds S) (F : Firm) (halted : Bool) (K : DisksHold S F halted) (ch : Actor → Actor → List Letter)
+    (fewer : (a b : Actor) (l : Letter) → In l (ch a b) → In l (S.words.channel a b)) (i : ℕ) (slot : IsSlot S i) where
+  abbrev less : LogState
+  less = record S { words = record S.words { channel = ch } }
+
+  module _ (t : Turn SiteState) (M : Firm) (G : Logs) (L : Holds (after less i t.state t.sends G)) (grown : Grown S.words.deployment i t.state S.logs G)
+      (raised : Raised S.words.deployment i t.state F M) (halts : halted ≡ true → Halted (after less i t.state t.sends G)) where
     abbrev T : LogState
-    T = after (popped S from i) i t.state t.sends G
+    T = after less i t.state t.sends G
 
     abbrev C : Shown → Type 0
     C = ContentOk T M halted (part S i)
 
     site : T.sites i ≡ t.state
-    site = here (popped S from i) i t.state t.sends G
+    site = here less i t.state t.sends G
 
     others : (c : ℕ) → (c ≡ i → ⊥) → shown_at T c ≡ shown_at S c
-    others c n = ap (λ x. x.contents) (there (popped S from i) i t.state t.sends G c n)
+    others c n = ap (λ x. x.contents) (there less i t.state t.sends G c n)
 
     old-contents : AllByRecursion C (shown_at S i)
-    old-contents = contents-on S H F M halted K (took S.words.channel from (Site i)) fewer i slot t.state t.sends G L grown raised halts
+    old-contents = contents-on S H F M halted K ch fewer i slot t.state t.sends G L grown raised halts
         (part S i) (shown_at S i) (K.disks i slot).contents
 
-    leads-runs : leads S.words.deployment i t.state ≡ true → 0 < t.state.start
-    leads-runs l =
-        let v = leader-view S.words.deployment i t.state (leads-parts S.words.deployment i t.state l).0 in
-        subst (λ x. 0 < x.start) site (runs S H F M halted K (took S.words.channel from (Site i)) fewer i slot t.state t.sends G L grown raised halts v.1.0 v.1.1)
+    leader-up : leads S.words.deployment i t.state ≡ true → 0 < t.state.start
+    leader-up l = subst (λ x. 0 < x.start) site (leads-runs T L i (subst (λ x. leads S.words.deployment i x ≡ true) (sym site) l))
 
     -- ---- the site's own disk
 
-    stream-before : (j : Joining) (o : Option Streamed) → StreamDisk S i j o → OwnStream (S.sites i) j o
-    stream-before j None k = k
-    stream-before j (Some st) k = k
-
-    pub own-before : 0 < start_at S i → Own halted C (G.reign (part S i)) (M (part S i)) (S.sites i)
-    own-before up = record {
-      some = k.some;
-      contents = old-contents;
-      marks = k.marks;
-      whole = ((H.sites i).keeps up).on_disk;
-      member = λ none. let m = k.member up none in let r = grown.onward.kept (part S i) (S.sites i).mark m.reign m.led in record {
-        shows = m.shows;
-        mark = m.mark;
-        reign = r.0;
-        is_led = r.1;
-        begun = rw (r.2) m.begun;
-        marked = m.marked;
-        firm = let a = m.firm in
-            let b = firm-up S H F M halted K (took S.words.channel from (Site i)) fewer i slot t.state t.sends G L grown raised halts (part S i) in
-            omega (arith, a, b);
-        owes = m.owes;
-      };
-      joiner = λ e j is. stream-before j j.stream (k.joiner e j is);
-    }
-      where
-        k : DiskOk S F halted i
-        k = K.disks i slot
-
-    stream-after : (j : Joining) (o : Option Streamed) → OwnStream t.state j o → StreamDisk T i j o
-    stream-after j None k = subst (λ x. AllByRecursion (λ y. mark_of y ≤ x.earlier) x.contents) (sym site) k
-    stream-after j (Some st) k = (
-      k.0 ∙ ap site_term (sym site),
-      λ b. ap (λ x. x.contents) site ∙ k.1 b,
-      λ b. subst (λ x. (x.contents ≡ own_content x ∷ []) × (x.mark ≡ st.mark) × (x.base ≡ st.nj) × (st.nj ≤ x.on_disk)) (sym site) (k.2 b),
-    )
-
-    own-after : Own halted C (G.reign (part S i)) (M (part S i)) t.state → DiskOk T M halted i
-    own-after o = record {
-      some = λ e. o.some (ap (λ x. x.contents) (sym site) ∙ e);
-      contents = subst (λ x. AllByRecursion C x.contents) (sym site) o.contents;
-      marks = λ e. subst (λ x. AllByRecursion (λ y. mark_of y ≤ x.greatest) x.contents) (sym site) (o.marks e);
-      member = λ up none. let m = o.member (ap (λ x. x.joining) (sym site) ∙ none) in record {
-        shows = subst (λ x. x.contents ≡ own_content x ∷ []) (sym site) m.shows;
-        mark = subst (λ x. x.mark ≤ site_term x) (sym site) m.mark;
-        reign = m.reign;
-        led = subst (λ x. G.reign (part S i) x.mark ≡ Some m.reign) (sym site) m.is_led;
-        begun = subst (λ x. Front m.reign.begun (take x.on_disk x.log)) (sym site) m.begun;
-        marked = subst (λ x. x.mark ≡ site_term x → x.repaired ≡ true) (sym site) m.marked;
-        firm = subst (λ x. x.firm ≤ M (part S i)) (sym site) m.firm;
-        owes = subst (λ x. (x.owes ≡ None) ⊎ ((x.owes ≡ Some (site_term x)) × (x.repaired ≡ true))) (sym site) m.owes;
-      };
-      joiner = λ e j is. stream-after j j.stream (o.joiner e j (ap (λ x. x.joining) (sym site) ∙ is));
-    }
+    pub own-before : OwnAt T M halted i (S.sites i)
+    own-before = disk-on S H F M halted K ch fewer i slot t.state t.sends G L grown raised halts i (S.sites i) (disk-own S F halted i (K.disks i slot))
 
     -- ---- what some slot shows
 
-    raised-tops : Raise (shown_at S i) t.state.contents → (p m n : ℕ) → Top S p m n → Top T p m n
+    pub raised-tops : Raise (shown_at S i) t.state.contents → (p m n : ℕ) → Top S p m n → Top T p m n
     raised-tops f = top-raise S T refl i (subst (λ x. Raise (shown_at S i) x.contents) (sym site) f) others
 
     pub same-tops : t.state.contents ≡ shown_at S i → (p m n : ℕ) → Top S p m n → Top T p m n
@@ -173,13 +130,14 @@ module _ (S : LogState) (H : Holds S) (F : Firm) (halted : Bool) (K : DisksHold 
     assembled : DiskOk T M halted i → ((p m n : ℕ) → Top S p m n → Top T p m n)
         → (leads S.words.deployment i t.state ≡ true → (t.state.firm ≤ F (part S i)) ⊎ ((t.state.mark ≡ site_term t.state) × (t.state.firm ≤ t.state.on_disk)))
         → ((c : ℕ) → IsSlot S c → AllByRecursion (StreamLetter T c) (t.sends (Site c))) → DisksHold T M halted
-    assembled own tops counted new = disks-after S H F M halted K (took S.words.channel from (Site i)) fewer i slot t.state t.sends G L grown raised halts own tops counted new
+    assembled own tops counted new = disks-after S H F M halted K ch fewer i slot t.state t.sends G L grown raised halts own tops counted new
 
     -- ---- a turn that leaves the disk, from a state on
 
-    module _ (m : SiteState) (o : Own halted C (G.reign (part S i)) (M (part S i)) m) (row : DiskRow S.words.deployment i m t) (up : 0 < t.state.start) where
+    module _ (m : SiteState) (o : OwnAt T M halted i m) (whole : m.on_disk ≤ length m.log) (row : DiskRow S.words.deployment i m t)
+        (up : 0 < t.state.start) where
       own : DiskOk T M halted i
-      own = own-after (own-row S.words.deployment i m t.state row.at halted C (G.reign (part S i)) (M (part S i))
+      own = own-disk T M halted i t.state site (own-row S.words.deployment i m t.state row.at halted C (G.reign (part S i)) (M (part S i)) whole
           (λ r. let e = raised.own ∙ if-true (leads S.words.deployment i t.state) (max (F (part S i)) t.state.firm) (F (part S i)) r.leads in omega (arith, e)) o)
 
       letter : (c : ℕ) (l : Letter) → Begins S.words.deployment i c m t.state l → StreamLetter T c l
@@ -202,7 +160,7 @@ module _ (S : LogState) (H : Holds S) (F : Firm) (halted : Bool) (K : DisksHold 
           -- the receiver is of the site's partition, which counts it
           receiver : Counts t.state c → part T i ≡ part T c
           receiver k =
-              let r = in-map-from (λ j. j.slot) c t.state.joiners k in
+              let r = counts-joiner t.state c k in
               let joined = subst (λ x. AllByRecursion (CountedOk T (part T i) (term_at T i)) x.joiners) site ((L.sites i).keeps there-up).joiners in
               sym (ap (part T) (sym r.2) ∙ (all-at (CountedOk T (part T i) (term_at T i)) t.state.joiners joined r.0 r.1).part_is)
 
@@ -222,18 +180,35 @@ module _ (S : LogState) (H : Holds S) (F : Firm) (halted : Bool) (K : DisksHold 
           ]
 
     pub row-same : 0 < start_at S i → DiskRow S.words.deployment i (S.sites i) t → DisksHold T M halted
-    row-same up row = row-disks (S.sites i) (own-before up) row (subst (λ n. 0 < n) (sym row.at.start) up) ((H.sites i).keeps up).held (firm-before up) (same-tops row.at.contents)
+    row-same up row = row-disks (S.sites i) own-before ((H.sites i).keeps up).on_disk row (subst (λ n. 0 < n) (sym row.at.start) up) ((H.sites i).keeps up).held
+        (firm-before S H F halted K i slot up) (same-tops row.at.contents)
 
     -- ---- a site that stops
 
-    pub stops-disks : t.state.start ≡ 0 → t.state.greatest ≡ (S.sites i).greatest → Leaves S i t.state.contents → ((c : ℕ) → AllByRecursion NoStreamStart (t.sends (Site c)))
-        → DisksHold T M halted
-    stops-disks down greatest k none = assembled own tops (λ l. let u = leads-runs l in absurd (omega (arith, u, down)))
+    pub stopped-disks : t.state.start ≡ 0 → (t.state.contents ≡ [] → ⊥) → AllByRecursion C t.state.contents
+        → (halted ≡ false → AllByRecursion (λ y. mark_of y ≤ t.state.greatest) t.state.contents) → ((p m n : ℕ) → Top S p m n → Top T p m n)
+        → ((c : ℕ) → AllByRecursion NoStreamStart (t.sends (Site c))) → DisksHold T M halted
+    stopped-disks down some contents marks tops none = assembled own tops (λ l. let u = leader-up l in absurd (omega (arith, u, down)))
         (λ c _. all-mono NoStreamStart (StreamLetter T c) (no-letter T c) (t.sends (Site c)) (none c))
       where
         down-there : start_at T i ≡ 0
         down-there = ap (λ x. x.start) site ∙ down
 
+        own : DiskOk T M halted i
+        own = record {
+          some = λ e. some (ap (λ x. x.contents) (sym site) ∙ e);
+          contents = subst (λ x. AllByRecursion C x.contents) (sym site) contents;
+          marks = λ e. subst (λ x. AllByRecursion (λ y. mark_of y ≤ x.greatest) x.contents) (sym site) (marks e);
+          member = λ up none. absurd (omega (arith, up, down-there));
+          joiner = λ e j is. let up = ((L.sites i).joiner j is).runs in absurd (omega (arith, up, down-there));
+        }
+
+    -- with what its disk showed, or blank
+    pub stops-disks : t.state.start ≡ 0 → t.state.greatest ≡ (S.sites i).greatest → Leaves S i t.state.contents → ((c : ℕ) → AllByRecursion NoStreamStart (t.sends (Site c)))
+        → DisksHold T M halted
+    stops-disks down greatest k = stopped-disks down k.some (all-from C t.state.contents contents)
+        (λ e. all-from (λ y. mark_of y ≤ t.state.greatest) t.state.contents (mark e)) tops
+      where
         contents : (y : Shown) → In y t.state.contents → C y
         contents y m = elim (k.from y m) [
           | inl old ↦ all-at C (shown_at S i) old-contents y old
@@ -246,16 +221,6 @@ module _ (S : LogState) (H : Holds S) (F : Firm) (halted : Bool) (K : DisksHold 
           | inr none ↦ let a = ap mark_of none in omega (arith, a)
         ]
 
-        own : DiskOk T M halted i
-        own = record {
-          some = λ e. k.some (ap (λ x. x.contents) (sym site) ∙ e);
-          contents = subst (λ x. AllByRecursion C x.contents) (sym site) (all-from C t.state.contents contents);
-          marks = λ e. subst (λ x. AllByRecursion (λ y. mark_of y ≤ x.greatest) x.contents) (sym site)
-              (all-from (λ y. mark_of y ≤ t.state.greatest) t.state.contents (mark e));
-          member = λ up none. absurd (omega (arith, up, down-there));
-          joiner = λ e j is. let up = ((L.sites i).joiner j is).runs in absurd (omega (arith, up, down-there));
-        }
-
         tops : (p m n : ℕ) → Top S p m n → Top T p m n
         tops = elim k.wipes [
           | inl f ↦ raised-tops f
@@ -266,37 +231,38 @@ module _ (S : LogState) (H : Holds S) (F : Firm) (halted : Bool) (K : DisksHold 
 
     pub still-disks : t.state ≡ S.sites i → ((c : ℕ) → t.sends (Site c) ≡ []) → DisksHold T M halted
     still-disks e none = assembled
-        (disk-other S H F M halted K (took S.words.channel from (Site i)) fewer i slot t.state t.sends G L grown raised halts i (site ∙ e) (K.disks i slot))
+        (disk-other S H F M halted K ch fewer i slot t.state t.sends G L grown raised halts i (site ∙ e) (K.disks i slot))
         (same-tops (ap (λ x. x.contents) e))
-        (λ l. inl (subst (λ x. x.firm ≤ F (part S i)) (sym e) (firm-before (subst (λ x. 0 < x.start) e (leads-runs l)))))
+        (λ l. inl (subst (λ x. x.firm ≤ F (part S i)) (sym e) (firm-before S H F halted K i slot (subst (λ x. 0 < x.start) e (leader-up l)))))
         (λ c _. subst (AllByRecursion (StreamLetter T c)) (sym (none c)) tt)
 
     -- ---- a site that begins
 
     pub begins-disks : (a : ℕ) → t.state ≡ new_joiner (S.sites i) a → ((c : ℕ) → t.sends (Site c) ≡ []) → DisksHold T M halted
     begins-disks a e none = assembled
-        (own-after (subst (Own halted C (G.reign (part S i)) (M (part S i))) (sym e) new))
+        (own-disk T M halted i t.state site (subst (OwnAt T M halted i) (sym e) new))
         (same-tops (ap (λ x. x.contents) e))
         (λ l. absurd (true≢false (sym l ∙ ap (leads S.words.deployment i) e)))
         (λ c _. subst (AllByRecursion (StreamLetter T c)) (sym (none c)) tt)
       where
-        new : Own halted C (G.reign (part S i)) (M (part S i)) (new_joiner (S.sites i) a)
+        new : OwnAt T M halted i (new_joiner (S.sites i) a)
         new = record {
           some = (K.disks i slot).some;
           contents = old-contents;
           marks = (K.disks i slot).marks;
-          whole = omega arith;
-          member = λ q. absurd (cc);
+          member = λ _ q. absurd (cc);
           joiner = λ q j is. subst (λ x. OwnStream (new_joiner (S.sites i) a) x x.stream) (same-some is) ((K.disks i slot).marks q);
         }
 
   -- ---- what goes on while all is stopped
 
-  pub halts-after : (t : Turn SiteState) (G : Logs) → Holds (after (popped S from i) i t.state t.sends G) → SiteGoes S i t.state
-      → ((c : ℕ) → AllByRecursion (LeadersBegin S.words.deployment i t.state) (t.sends (Site c))) → halted ≡ true → Halted (after (popped S from i) i t.state t.sends G)
-  halts-after t G L goes begins e = halted-site S H (K.halts e) (took S.words.channel from (Site i)) fewer i slot t.state t.sends G L goes begins
+  pub halts-after : (t : Turn SiteState) (G : Logs) → Holds (after less i t.state t.sends G) → SiteGoes S i t.state
+      → ((c : ℕ) → AllByRecursion (LeadersBegin S.words.deployment i t.state) (t.sends (Site c))) → halted ≡ true → Halted (after less i t.state t.sends G)
+  halts-after t G L goes begins e = halted-site S H (K.halts e) ch fewer i slot t.state t.sends G L goes begins
 
-  -- behind a turn that leaves the disk, from a state on
+-- ---- behind a turn that leaves the disk, from a state on
+
+module _ (S : LogState) (i : ℕ) where
   pub row-goes : (t : Turn SiteState) (m : SiteState) → DiskRow S.words.deployment i m t → m.start ≡ start_at S i
       → ((j : Joining) → m.joining ≡ Some j → (k : Joining) × ((S.sites i).joining ≡ Some k) × (j.stream ≡ k.stream)) → SiteGoes S i t.state
   row-goes t m row start joins = inr (inl (
@@ -312,26 +278,43 @@ module _ (S : LogState) (H : Holds S) (F : Firm) (halted : Bool) (K : DisksHold 
   row-begins t m row held c = all-mono (Begins S.words.deployment i c m t.state) (LeadersBegin S.words.deployment i t.state)
       (begins-leader S.words.deployment i c m t.state) (t.sends (Site c)) (row.sends held c)
 
-  -- ---- the turns
+-- ---- the turns
+
+-- what is under way once the site of slot i has taken the first message from this actor
+abbrev pub taken-from : LogState → Actor → ℕ → Actor → Actor → List Letter
+taken-from S from i = took S.words.channel from (Site i)
+
+pub fewer : (S : LogState) (from : Actor) (i : ℕ) (a b : Actor) (l : Letter) → In l (taken-from S from i a b) → In l (S.words.channel a b)
+fewer S from i a b l m = all-at (λ x. In x (S.words.channel a b)) (taken-from S from i a b)
+    (took-all (λ x. In x (S.words.channel a b)) S.words.channel from (Site i) a b (all-from (λ x. In x (S.words.channel a b)) (S.words.channel a b) (λ x k. k))) l m
+
+module _ (S : LogState) (H : Holds S) (F : Firm) (halted : Bool) (K : DisksHold S F halted) (from : Actor) (i : ℕ) (slot : IsSlot S i) where
+  abbrev ch : Actor → Actor → List Letter
+  ch = taken-from S from i
+
+  abbrev on : (a b : Actor) (l : Letter) → In l (ch a b) → In l (S.words.channel a b)
+  on = fewer S from i
 
   pub row-kept : (t : Turn SiteState) → 0 < start_at S i → DiskRow S.words.deployment i (S.sites i) t → Kept S F halted from i t
-  row-kept t up row M G L grown raised = row-same t M G L grown raised
-      (halts-after t G L (row-goes t (S.sites i) row refl (λ j e. (j, e, refl))) (row-begins t (S.sites i) row ((H.sites i).keeps up).held)) up row
+  row-kept t up row M G L grown raised = row-same S H F halted K ch on i slot t M G L grown raised
+      (halts-after S H F halted K ch on i slot t G L (row-goes S i t (S.sites i) row refl (λ j e. (j, e, refl)))
+      (row-begins S i t (S.sites i) row ((H.sites i).keeps up).held)) up row
 
   pub still-kept : Kept S F halted from i (becomes (S.sites i))
-  still-kept M G L grown raised = still-disks (becomes (S.sites i)) M G L grown raised
-      (halts-after (becomes (S.sites i)) G L (inr (inl (refl, λ k e. (k, e, refl)))) (λ c. tt)) refl (λ c. refl)
+  still-kept M G L grown raised = still-disks S H F halted K ch on i slot (becomes (S.sites i)) M G L grown raised
+      (halts-after S H F halted K ch on i slot (becomes (S.sites i)) G L (inr (inl (refl, λ k e. (k, e, refl)))) (λ c. tt)) refl (λ c. refl)
 
   -- a start that its slot hasn't run with
   pub begins-kept : (a : ℕ) → (In a (S.logs.ran i) → ⊥) → Kept S F halted from i (sending (new_joiner (S.sites i) a) (only (Scanner i) (open_letter (msg.Start a))))
   begins-kept a fresh M G L grown raised =
       let t = sending (new_joiner (S.sites i) a) (only (Scanner i) (open_letter (msg.Start a))) in
-      begins-disks t M G L grown raised (halts-after t G L (inr (inr ((new_joining, refl, refl), fresh))) (λ c. tt)) a refl (λ c. refl)
+      begins-disks S H F halted K ch on i slot t M G L grown raised
+      (halts-after S H F halted K ch on i slot t G L (inr (inr ((new_joining, refl, refl), fresh))) (λ c. tt)) a refl (λ c. refl)
 
   pub stops-kept : (t : Turn SiteState) → t.state.start ≡ 0 → t.state.greatest ≡ (S.sites i).greatest → Leaves S i t.state.contents
       → ((c : ℕ) → AllByRecursion NoStreamStart (t.sends (Site c))) → Kept S F halted from i t
-  stops-kept t down greatest k none M G L grown raised = stops-disks t M G L grown raised
-      (halts-after t G L (inl down) (λ c.
+  stops-kept t down greatest k none M G L grown raised = stops-disks S H F halted K ch on i slot t M G L grown raised
+      (halts-after S H F halted K ch on i slot t G L (inl down) (λ c.
       all-mono NoStreamStart (LeadersBegin S.words.deployment i t.state) (leaders-letter S.words.deployment i t.state) (t.sends (Site c)) (none c)))
       down greatest k none
 

@@ -237,7 +237,8 @@ to_site-goes E w i from (l ∷ ls) o d is slot =
     (site_turn-kept S k.holds (firm_in w) d.halted d.disks i slot E (stamp_of w) from l ls o is (firm_in (after-turn w d channel stops i t)) r.0 r.1 r.2
     (lead-raised w.deployment i t.state w.lead_of))
 
-sync-goes : (E : Database) (w : World) (i : ℕ) (o : Outside) → HasDisks w → nat_lt i (slots w.deployment) ≡ true → may_sync (w.sites i) ≡ true → Goes w (happens E w (event.Sync i) o)
+sync-goes : (E : Database) (w : World) (i : ℕ) (o : Outside) → HasDisks w → nat_lt i (slots w.deployment) ≡ true → may_sync (w.sites i) ≡ true
+    → Goes w (happens E w (event.Sync i) o)
 sync-goes E w i o d slot may =
     let k = d.logs in
     let S = log_state w k.owner k.history k.logs in
@@ -261,7 +262,8 @@ stopped-goes E w shown failed d may outside =
     let n = stopped-logs E w shown failed d.logs in
     record {
       next = record { logs = n.next; halted = true; disks = stopped-hold E w d.logs (firm_in w) d.halted d.disks shown failed may outside n.next n.logs };
-      survives = survives-onward w (stays_stopped E w shown failed) d.logs n.next (subst (Onward d.logs.logs) (sym n.logs) (onward-same d.logs.logs)) (λ p. rises-same (w.lead_of p));
+      survives = survives-onward w (stays_stopped E w shown failed) d.logs n.next
+          (subst (Onward d.logs.logs) (sym n.logs) (onward-same d.logs.logs)) (λ p. rises-same (w.lead_of p));
     }
 
 recovery-goes : (E : Database) (w : World) (o : Outside) → HasDisks w → may_recover w ≡ true → allows w event.Recover o ≡ true → Goes w (recovered_with E w o)

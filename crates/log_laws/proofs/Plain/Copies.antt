@@ -21,23 +21,23 @@ is_in-in x xs e = let r = list_any-from (λ y. y == x) xs e in subst (λ y. In y
 pub in-is_in : (x : ℕ) (xs : List ℕ) → In x xs → is_in x xs ≡ true
 in-is_in x xs i = list_any-in (λ y. y == x) xs x i (eqb-same x)
 
-range-in : (c a n : ℕ) → a ≤ c → c < a + n → In c (range_with_len a n)
+pub range-in : (c a n : ℕ) → a ≤ c → c < a + n → In c (range_with_len a n)
 range-in c a zero low high = absurd (omega arith)
 range-in c a (suc n) low high = elim (cases_eq a c) [
   | inl e ↦ inl e
   | inr d ↦ inr (range-in c (a + 1) n (omega (arith, d)) (omega arith))
 ]
 
-in-range : (c a n : ℕ) → In c (range_with_len a n) → (a ≤ c) × (c < a + n)
+pub in-range : (c a n : ℕ) → In c (range_with_len a n) → (a ≤ c) × (c < a + n)
 in-range c a zero i = absurd i
 in-range c a (suc n) (inl e) = (omega (arith, e), omega (arith, e))
 in-range c a (suc n) (inr i) = let p = in-range c (a + 1) n i in (omega (arith, p.0), omega (arith, p.1))
 
 -- a slot is one of its own partition's alone
-part-slots : (k c : ℕ) → In c (slots_of_part k (part_of k c))
+pub part-slots : (k c : ℕ) → In c (slots_of_part k (part_of k c))
 part-slots k c = range-in c (slot_of k (part_of k c) 0) (k + 1) (omega arith) (omega arith)
 
-slots-part : (k p c : ℕ) → In c (slots_of_part k p) → part_of k c ≡ p
+pub slots-part : (k p c : ℕ) → In c (slots_of_part k p) → part_of k c ≡ p
 slots-part k p c i = let r = in-range c (slot_of k p 0) (k + 1) i in between r.0 r.1
   where
     between : slot_of k p 0 ≤ c → c < slot_of k p 0 + (k + 1) → part_of k c ≡ p

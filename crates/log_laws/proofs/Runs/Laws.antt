@@ -1,17 +1,18 @@
 -- The laws of logs, from what holds of a history.
 use Rattle.std.proofs.Common.{◌≡◌, ◌<◌, ◌≤◌, true, false, List, ◌++◌, append_assoc, refl, sym, subst, ap, ◌∙◌, ◌⊎◌, inl, inr, arith}
-use Rattle.std.proofs.lemmas.Bool.{and_parts, cases_Bool}
+use Rattle.std.proofs.lemmas.Bool.{and_parts}
 use Rattle.std.proofs.lemmas.Bool.Decides.{nat_tests}
 use Rattle.std.specs.Prelude.{ℕ, not, nat_lt, length, Option, Some, None}
 use Rattle.volt_wire.specs.Word.{Membership}
-use Rattle.cluster_model.specs.Words.{slots, term_of, term_in}
+use Rattle.cluster_model.specs.Words.{term_of, term_in}
 use Rattle.cluster_model.specs.SiteState.{SiteState, Joining, Streamed, is_joiner, is_member_site, leads}
 use Rattle.cluster_model.specs.World.{World}
 use Rattle.word_laws.proofs.Lists.{not-both, same-some, none-and-some}
-use Rattle.log_laws.specs.Histories.{Front, Logs, LogState, Line, line, between, Reign, IsSlot, Last, FollowsIn, LeadsIn, MemberOk, StreamIn, ViewIn, Took, Holds, part, start_at, log_at, term_at, base_of}
+use Rattle.log_laws.specs.Histories.{Front, Logs, LogState, Line, line, between, Reign, Last, FollowsIn, LeadsIn, MemberOk, StreamIn, ViewIn, Took, Holds, part, start_at, log_at, term_at, base_of}
 use Rattle.log_laws.proofs.Plain.Copies.{leads-or-follows, leads-parts, is-leader}
 use Rattle.log_laws.proofs.Plain.Fronts.{front-same, front-trans, fronts-compare}
 use Rattle.log_laws.proofs.Kept.Terms.{base-least, reign-entered, last-below}
+use Rattle.log_laws.proofs.NewTerms.Entering.{running-slot}
 use Rattle.log_laws.specs.Copies.{OfOneTerm, AreCopies, Leads, HasLoaded, Follows, HasLogs, log_state}
 
 -- ---- sites
@@ -33,14 +34,8 @@ last-at G p q v t u e f l = record {
 }
 
 module _ (S : LogState) (H : Holds S) where
-  slot-runs : (c : ℕ) → 0 < start_at S c → IsSlot S c
-  slot-runs c up = elim (cases_Bool (nat_lt c (slots S.words.deployment))) [
-    | inl e ↦ e
-    | inr e ↦ absurd (omega (arith, up, (H.sites c).outside e))
-  ]
-
   -- A copy in a term that was begun has a front of its leader's log.
-  copy-behind : (c : ℕ) (w : Membership) (g : Reign) → 0 < start_at S c → MemberOk S c w → S.logs.reign (part S c) (term_of w) ≡ Some g → Front (log_at S c) g.log
+  pub copy-behind : (c : ℕ) (w : Membership) (g : Reign) → 0 < start_at S c → MemberOk S c w → S.logs.reign (part S c) (term_of w) ≡ Some g → Front (log_at S c) g.log
   copy-behind c w g up m e = elim (leads-or-follows S.words.deployment w c (start_at S c) m.start_is) [
     | inl k ↦ front-same (log_at S c) g.log (subst (LeadsIn (S.sites c)) e (m.leading k)).1
     | inr (l, f) ↦ lacks (line (start_at S c) (term_of w) (between S l c)) (subst (FollowsIn (S.sites c) (line (start_at S c) (term_of w) (between S l c))) e (m.following l f))
@@ -49,7 +44,7 @@ module _ (S : LogState) (H : Holds S) where
       lacks : (ln : List Line) → FollowsIn (S.sites c) ln (Some g) → Front (log_at S c) g.log
       lacks ln (inl x) = (x.0, sym x.3)
       lacks ln (inr x) =
-          let n = reign-entered S H (part S c) (term_of w) g e w (record { decided = m.decided; term_is = refl }) c (start_at S c) (slot-runs c up) refl m.start_is in
+          let n = reign-entered S H (part S c) (term_of w) g e w (record { decided = m.decided; term_is = refl }) c (start_at S c) (running-slot S H c up) refl m.start_is in
           let one : n.0 ≡ m.entered = same-some (sym n.1 ∙ m.is_entered) in
           front-trans (log_at S c) g.begun g.log
           (subst (λ l. Front l g.begun) (ap (λ y. y.log) one ∙ sym (m.still x.1).0) n.3)
@@ -63,11 +58,18 @@ module _ (S : LogState) (H : Holds S) where
   ]
 
   -- its log is the one with which it entered, at the front of the log of the last leader before
-  copy-entered : (c : ℕ) (w : Membership) (v : ℕ) → MemberOk S c w → S.logs.reign (part S c) (term_of w) ≡ None
+  pub copy-entered : (c : ℕ) (w : Membership) (v : ℕ) → MemberOk S c w → S.logs.reign (part S c) (term_of w) ≡ None
       → (l : Last S.logs (part S c) v (term_of w)) → Front (log_at S c) l.reign.log
   copy-entered c w v m e l =
       let k = H.entered c (term_of w) m.entered m.is_entered in
       subst (λ x. Front x l.reign.log) (sym (m.still (copy-waits c w m e)).0) (k.behind v l).0
+
+  -- the last term that was led before
+  pub last-before : (c : ℕ) (w : Membership) → MemberOk S c w → S.logs.reign (part S c) (term_of w) ≡ None → (v : ℕ) × Last S.logs (part S c) v (term_of w)
+  last-before c w m e = let low = base-least S H w m.decided in last-below S H (part S c) (term_of w) (omega (arith, low, unbegun))
+    where
+      unbegun : base_of S ≡ term_of w → ⊥
+      unbegun b = none-and-some e (subst (λ x. S.logs.reign (part S c) x ≡ Some (H.first (part S c)).0) b (H.first (part S c)).1)
 
   -- Two copies in one term.
   copies-meet : (c d : ℕ) (w v : Membership) → 0 < start_at S c → 0 < start_at S d → MemberOk S c w → MemberOk S d v → part S c ≡ part S d → term_of w ≡ term_of v
@@ -77,15 +79,10 @@ module _ (S : LogState) (H : Holds S) where
       there : (o : Option Reign) → S.logs.reign (part S c) (term_of w) ≡ o → S.logs.reign (part S d) (term_of v) ≡ o
       there o e = rw (← p, ← t) e
 
-      unbegun : S.logs.reign (part S c) (term_of w) ≡ None → base_of S ≡ term_of w → ⊥
-      unbegun e b = none-and-some e (subst (λ x. S.logs.reign (part S c) x ≡ Some (H.first (part S c)).0) b (H.first (part S c)).1)
-
       choice : (o : Option Reign) → S.logs.reign (part S c) (term_of w) ≡ o → Front (log_at S c) (log_at S d) ⊎ Front (log_at S d) (log_at S c)
       choice (Some g) e = fronts-compare (log_at S c) (log_at S d) g.log (copy-behind c w g up m e) (copy-behind d v g ud n (there (Some g) e))
       choice None e =
-          let low = base-least S H w m.decided in
-          let below : base_of S < term_of w = omega (arith, low, unbegun e) in
-          let l = last-below S H (part S c) (term_of w) below in
+          let l = last-before c w m e in
           fronts-compare (log_at S c) (log_at S d) l.1.reign.log
           (copy-entered c w l.0 m e l.1)
           (copy-entered d v l.0 n (there None e) (last-at S.logs (part S c) (part S d) l.0 (term_of w) (term_of v) p t l.1))

@@ -1,7 +1,6 @@
 -- What a site does with a message that it takes, from its channel and of those that waited: all holds after its row.
 use Rattle.std.proofs.Common.{◌≡◌, ◌<◌, List, [], ◌∷◌, ◌++◌, refl, sym, subst, ap, ◌∙◌, ◌⊎◌, inl, inr, arith}
-use Rattle.std.proofs.lemmas.Bool.{cases_Bool}
-use Rattle.std.specs.Prelude.{ℕ, nat_lt}
+use Rattle.std.specs.Prelude.{ℕ}
 use Rattle.std.specs.List.{AllByRecursion}
 use Rattle.volt_base.specs.declared.entry.Entry.{Entry}
 use Rattle.volt_wire.specs.Word.{Membership}
@@ -10,13 +9,14 @@ use Rattle.volt_wire.specs.declared.actor.Actor.TheVariants.{Director, Client, A
 use Rattle.volt_wire.specs.declared.message.Msg.{Msg}
 use Rattle.volt_wire.specs.declared.message.Msg.TheVariants as msg
 use Rattle.cluster_model.specs.Engine.{Database}
-use Rattle.cluster_model.specs.Words.{slots, host_of_slot}
+use Rattle.cluster_model.specs.Words.{host_of_slot}
 use Rattle.cluster_model.specs.Letters.{Blocks, Letter, becomes, arrival, Taken, Waiting}
 use Rattle.cluster_model.specs.Site.{on_view, from_agent, from_site, from_scanner, from_director, site_row}
 use Rattle.cluster_model.specs.World.{rest}
 use Rattle.word_laws.proofs.Lists.{eqb-same}
 use Rattle.log_laws.specs.Histories as log
-use Rattle.log_laws.specs.Histories.{LogState, Holds, IsSlot, AckOk, ReportOk, EndOk, SiteLetterOk, WaitingFrom, WaitingOk, ForeignOk, part, start_at, term_at, between, flow}
+use Rattle.log_laws.specs.Histories.{LogState, Holds, AckOk, ReportOk, EndOk, SiteLetterOk, WaitingFrom, WaitingOk, ForeignOk, part, start_at, term_at, between, flow}
+use Rattle.log_laws.proofs.NewTerms.Entering.{running-slot}
 use Rattle.log_laws.proofs.Kept.Moves.{popped, left, Turns, Goes}
 use Rattle.log_laws.proofs.Plain.Lines.{flow-plain}
 use Rattle.log_laws.proofs.Messages.Pops.{taken-for, pops-plain, leaves}
@@ -98,12 +98,6 @@ module _ (S : LogState) (i : ℕ) (ws : List Waiting) where
 -- ---- the row of a message that is taken
 
 module _ (E : Database) (stamp : ℕ) (S : LogState) (H : Holds S) (i : ℕ) (up : 0 < start_at S i) where
-  slot-runs : IsSlot S i
-  slot-runs = elim (cases_Bool (nat_lt i (slots S.words.deployment))) [
-    | inl e ↦ e
-    | inr e ↦ absurd (omega (arith, up, (H.sites i).outside e))
-  ]
-
   -- from a site
   module _ (slot : ℕ) (l : Letter) (ls : List Letter) (take : arrival (start_at S i) (term_at S i) l ≡ Taken) where
     abbrev T : LogState
@@ -187,7 +181,7 @@ module _ (E : Database) (stamp : ℕ) (S : LogState) (H : Holds S) (i : ℕ) (up
       → Turns (popped S from i) i (site_row E S.words.deployment stamp i (S.sites i) from l)
   row-turns (Site slot) l ls is take =
       goes-turns (popped S (Site slot) i) i (from_site E S.words.deployment stamp i (S.sites i) slot l)
-      (site-row slot l ls take l.body is (rw is at (H.letters slot i slot-runs)).0)
+      (site-row slot l ls take l.body is (rw is at (H.letters slot i (running-slot S H i up))).0)
   row-turns (Agent h) l ls is take = agent-row h l ls take l.body is (rw is at (H.foreign (Agent h) i)).0
   row-turns (Scanner x) l ls is take =
       goes-turns (popped S (Scanner x) i) i (becomes (from_scanner (S.sites i) l))
