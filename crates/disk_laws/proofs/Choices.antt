@@ -17,10 +17,9 @@ use Rattle.word_laws.proofs.Lists.{none-and-some, not-both, all-at, list_all-at}
 use Rattle.log_laws.specs.Histories.{Logs, LogState, Holds, Front, Reign, IsSlot, part}
 use Rattle.log_laws.specs.Copies.{log_state, HasLogs, LeadOk}
 use Rattle.log_laws.proofs.Plain.Copies.{range-in}
-use Rattle.log_laws.proofs.Plain.Fronts.{front-none, front-trans, fronts-order}
-use Rattle.log_laws.proofs.Runs.Agreeing.{take-short}
+use Rattle.log_laws.proofs.Plain.Fronts.{front-none, front-trans, fronts-order, take-of-front, take-short}
 use Rattle.disk_laws.specs.Disks.{AtLeast, Written, Firm, ContentOk, DisksHold, shown_at}
-use Rattle.disk_laws.proofs.Order.{take-of-front, top-chosen, chosen-recovered}
+use Rattle.disk_laws.proofs.Order.{top-chosen, chosen-recovered}
 use Rattle.disk_laws.proofs.Contents.{firm-within, firm-begun, firm-front, firm-same}
 
 -- ---- what the disks show

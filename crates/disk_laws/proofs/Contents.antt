@@ -8,11 +8,10 @@ use Rattle.cluster_model.specs.Disk.{Content, Shown}
 use Rattle.cluster_model.specs.Words.{term_of, term_in}
 use Rattle.word_laws.proofs.Lists.{all-mono, same-some, none-and-some}
 use Rattle.log_laws.specs.Histories.{LogState, Holds, Front, Reign, MemberOk, part, start_at, log_at, term_at}
-use Rattle.log_laws.proofs.Plain.Fronts.{front-refl, front-trans}
-use Rattle.log_laws.proofs.Runs.Agreeing.{front-take, agrees-begun}
+use Rattle.log_laws.proofs.Plain.Fronts.{front-refl, front-trans, front-take, take-front, take-grown, take-of-front}
+use Rattle.log_laws.proofs.Runs.Agreeing.{agrees-begun}
 use Rattle.log_laws.proofs.Runs.Laws.{copy-behind, copy-entered, last-before}
 use Rattle.disk_laws.specs.Disks.{Written, Firm, Rebuilt, ContentOk, Top, FirmOk}
-use Rattle.disk_laws.proofs.Order.{take-front, take-grown, take-of-front}
 
 -- ---- from a state to a later one
 

@@ -1,11 +1,9 @@
 -- How good contents are, what the parts of an event leave of them, and what a recovery chooses.
-use Rattle.std.proofs.Common.{◌≡◌, ◌<◌, ◌≤◌, Bool, true, false, List, [], ◌∷◌, ◌++◌, length, take, drop, length-take, take_all, take-append-drop, refl, sym, subst, ap, ◌∙◌, ◌⊎◌, inl, inr, ◌==◌, arith}
+use Rattle.std.proofs.Common.{◌≡◌, ◌<◌, ◌≤◌, Bool, true, false, List, [], ◌∷◌, ◌++◌, length, take, drop, take-append-drop, refl, sym, subst, ap, ◌∙◌, ◌⊎◌, inl, inr, ◌==◌, arith}
 use Rattle.std.proofs.lemmas.Bool.{cases_eq, cases_lt, or_cases, and_parts}
 use Rattle.std.proofs.lemmas.Bool.Decides.{nat_tests}
-use Rattle.std.proofs.lemmas.List.{take-append-le}
 use Rattle.std.specs.Prelude.{ℕ, ◌&&◌, ◌||◌, nat_lt, if◌then◌else◌, map, unwrap_or, Option, Some, None}
 use Rattle.std.specs.List.{AllByRecursion}
-use Rattle.volt_base.specs.declared.entry.Entry.{Entry}
 use Rattle.volt_base.specs.declared.entry.Entry.TheVariants.{Done}
 use Rattle.volt_base.specs.declared.entry.Outcome.{Outcome}
 use Rattle.volt_base.specs.declared.entry.Outcome.TheVariants.{Dropped}
@@ -18,25 +16,8 @@ use Rattle.word_laws.specs.Histories.{In}
 use Rattle.word_laws.proofs.Lists.{in-left, in-right, in-cases, in-map, in-map-from, all-at, all-from, all-mono}
 use Rattle.log_laws.specs.Histories.{LogState, Front, IsSlot, part}
 use Rattle.log_laws.proofs.Plain.Copies.{part-slots, slots-part}
-use Rattle.log_laws.proofs.Plain.Fronts.{front-refl, fronts-order}
-use Rattle.log_laws.proofs.Runs.Agreeing.{front-take}
+use Rattle.log_laws.proofs.Plain.Fronts.{front-refl}
 use Rattle.disk_laws.specs.Disks.{AtLeast, Top, shown_at}
-
--- ---- the first entries of a log
-
--- up to a position that isn't later they are at the front
-pub take-front : (n m : ℕ) (xs : List Entry) → n ≤ m → Front (take n xs) (take m xs)
-take-front n m xs l = fronts-order (take n xs) (take m xs) xs (front-take n xs) (front-take m xs) (omega (arith, l, length-take n xs, length-take m xs))
-
--- a log that grows keeps them
-pub take-grown : (n : ℕ) (xs ys : List Entry) → Front xs ys → n ≤ length xs → take n ys ≡ take n xs
-take-grown n xs ys (more, e) l = ap (take n) e ∙ take-append-le n xs more l
-
--- what has them at its front begins with them
-pub take-of-front : (n : ℕ) (xs ys : List Entry) → Front (take n xs) ys → n ≤ length xs → take n ys ≡ take n xs
-take-of-front n xs ys h l =
-    let k : length (take n xs) ≡ n = omega (arith, l, length-take n xs) in
-    take-grown n (take n xs) ys h (omega (arith, k)) ∙ take_all n (take n xs) (omega (arith, k))
 
 -- ---- one content and another
 

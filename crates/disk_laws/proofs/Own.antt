@@ -7,8 +7,8 @@ use Rattle.cluster_model.specs.Words.{Deployment}
 use Rattle.cluster_model.specs.SiteState.{SiteState, Joining, Streamed, site_term}
 use Rattle.log_laws.specs.Histories.{LogState, Front, Reign, part}
 use Rattle.disk_laws.specs.Disks.{Firm, ContentOk, StreamDisk, DiskOk, own_content}
-use Rattle.disk_laws.proofs.Order.{take-grown}
 use Rattle.disk_laws.proofs.Rows.{DiskAt, FirmRises, at-term, at-was-member, at-was-joiner}
+use Rattle.log_laws.proofs.Plain.Fronts.{take-grown}
 
 -- Of a member, in whose partition these terms were led, and this was counted firm.
 pub record OwnMember (led : ℕ → Option Reign) (top : ℕ) (s : SiteState) : Type 0 where

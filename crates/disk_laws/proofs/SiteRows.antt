@@ -24,10 +24,11 @@ use Rattle.word_laws.specs.Histories.{In}
 use Rattle.word_laws.proofs.Lists.{all-append, all-filter, all-if, all-map, in-left, in-right, in-map, none-and-some, same-some}
 use Rattle.log_laws.specs.Histories.{Front, HeldOk, HeldFor}
 use Rattle.log_laws.proofs.Plain.Fronts.{front-refl, front-append}
-use Rattle.log_laws.proofs.Firmness.Firm.{answers-all}
+use Rattle.log_laws.proofs.Firmness.Firm.{answers-all, held-away}
 use Rattle.log_laws.proofs.Plain.Least.{least_of-below}
 use Rattle.log_laws.proofs.Plain.Lines.{all-order}
 use Rattle.log_laws.proofs.Kept.Rests.{map-slots}
+use Rattle.log_laws.proofs.Firmness.Acks.{position-slot}
 use Rattle.disk_laws.proofs.Rows.{DiskAt, DiskRow, Begins, Counts, Plain, PlainWaiting, at-first, at-if, row-then, row-behind, row-becomes, row-nothing, row-if}
 
 -- ---- what a disk doesn't go by
@@ -285,22 +286,12 @@ module _ (D : Deployment) (i : ℕ) where
       t : Turn SiteState
       t = sending (record u { held = left }) (answers_held u.firm s.held)
 
-      away : (c : ℕ) (d : Held) → HeldOk d → d.to ≡ Site c → ⊥
-      away c d ok e = subst (λ a. HeldFor a d.letter) e ok
-
       choice : (b : Bool) → leads D i s ≡ b → DiskRow D i s (if b then t else becomes s)
       choice true e = record {
         at = counts-at s left (all-filter HeldOk (λ d. nat_lt u.firm d.position) s.held) e;
-        sends = λ x c. answers-all (Begins D i c s t.state) (Site c) (λ d ok k. absurd (away c d ok k)) u.firm s.held x;
+        sends = λ x c. answers-all (Begins D i c s t.state) (Site c) (λ d ok k. absurd (held-away c d ok k)) u.firm s.held x;
       }
       choice false e = row-nothing D i s
-
-  position-slot : (slot position : ℕ) (j : Joiner) → (with_position slot position j).slot ≡ j.slot
-  position-slot slot position j = choice (j.slot == slot)
-    where
-      choice : (b : Bool) → (if b then record j { position = position } else j).slot ≡ j.slot
-      choice true = refl
-      choice false = refl
 
   on_ack-row : (s : SiteState) (slot position : ℕ) → DiskRow D i s (on_ack D i s slot position)
   on_ack-row s slot position =

@@ -24,10 +24,9 @@ use Rattle.word_laws.proofs.Lists.{all-mono, none-and-some, same-some, not-both}
 use Rattle.word_laws.proofs.Agreement.{member-is}
 use Rattle.word_laws.proofs.Members.{is_member-start, start-is_member}
 use Rattle.log_laws.specs.Histories.{LogState, Logs, Reign, Front, Holds, IsSlot, SiteLetterOk, WaitingOk, JoinerOk, ViewIn, StreamIn, InWord, Took, HeldOk, StreamedOk, from_agent, part, start_at, log_at, term_at}
-use Rattle.log_laws.proofs.Runs.Agreeing.{front-take}
 use Rattle.log_laws.proofs.Plain.Copies.{a-joiner}
 use Rattle.log_laws.proofs.NewTerms.Entering.{took-admitted, ran-owner, running-ran}
-use Rattle.log_laws.proofs.Plain.Fronts.{fronts-order, front-trans}
+use Rattle.log_laws.proofs.Plain.Fronts.{fronts-order, front-trans, front-take}
 use Rattle.log_laws.proofs.Kept.Moves.{Grown, after, popped}
 use Rattle.log_laws.proofs.Kept.Plumbing.{here}
 use Rattle.log_laws.proofs.Messages.Pops.{taken-for, waits-for}

@@ -12,10 +12,9 @@ use Rattle.cluster_model.specs.Sync.{joiner_parts, parts_of_sync}
 use Rattle.word_laws.proofs.Lists.{all-mono, none-and-some, same-some, not-both}
 use Rattle.log_laws.specs.Histories.{LogState, Reign, Front, Line, Holds, FollowsIn, LeadsIn, MemberOk, Took, StreamIn, ViewIn, StreamedOk, line, between, part, start_at, log_at, term_at}
 use Rattle.log_laws.proofs.Plain.Copies.{leads-or-follows}
-use Rattle.log_laws.proofs.Plain.Fronts.{front-trans, front-length, fronts-order}
-use Rattle.log_laws.proofs.Runs.Agreeing.{front-take}
+use Rattle.log_laws.proofs.Plain.Fronts.{front-trans, front-length, fronts-order, front-take, take-front}
 use Rattle.disk_laws.specs.Disks.{AtLeast, Firm, ContentOk, MemberDisk, StreamDisk, DiskOk, Written}
-use Rattle.disk_laws.proofs.Order.{Raise, take-front, raise-one, raise-blank}
+use Rattle.disk_laws.proofs.Order.{Raise, raise-one, raise-blank}
 use Rattle.disk_laws.proofs.Contents.{member-written}
 use Rattle.disk_laws.proofs.SyncParts.{PartOf, JoinerPart, BaseShown, member-parts, stream-parts}
 

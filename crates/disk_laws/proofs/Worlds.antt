@@ -22,8 +22,7 @@ use Rattle.word_laws.proofs.Lists.{if-false}
 use Rattle.word_laws.proofs.Worlds.{actor-host, host-apart, memory-runs}
 use Rattle.log_laws.specs.Histories.{Logs, LogState, Holds}
 use Rattle.log_laws.specs.Copies.{log_state, HasLogs}
-use Rattle.log_laws.proofs.Plain.Fronts.{front-trans, front-length, fronts-order}
-use Rattle.log_laws.proofs.Runs.Agreeing.{front-take}
+use Rattle.log_laws.proofs.Plain.Fronts.{front-trans, front-length, fronts-order, front-take}
 use Rattle.log_laws.proofs.Kept.Moves.{Grown, Onward}
 use Rattle.log_laws.proofs.Kept.Grown.{onward-same}
 use Rattle.log_laws.proofs.Runs.Leading.{Rises, rises-same}

@@ -27,9 +27,8 @@ use Rattle.cluster_model.specs.Runs.{Happening, IsRun, has_failed, may_happen, r
 use Rattle.word_laws.proofs.Lists.{all-append, all-mono, all-if, all-rest, none-and-some, set-here, set-both}
 use Rattle.log_laws.specs.Histories.{LogState, Front, StreamIn, ViewIn, WaitingOk, log_at}
 use Rattle.log_laws.specs.Copies.{HasLogs, log_state}
-use Rattle.log_laws.proofs.Plain.Fronts.{front-trans, front-length, fronts-order}
+use Rattle.log_laws.proofs.Plain.Fronts.{front-trans, front-length, fronts-order, front-take, take-short}
 use Rattle.log_laws.proofs.Plain.Copies.{leads-parts}
-use Rattle.log_laws.proofs.Runs.Agreeing.{front-take, take-short}
 use Rattle.log_laws.proofs.Runs.Boots.{first-logs}
 use Rattle.log_laws.proofs.Runs.Lasting.{in-lead}
 use Rattle.disk_laws.specs.Survival.{Survives, firm_entries}

@@ -1,14 +1,15 @@
 -- What messages behind others, and messages that are taken, do to what is said of channels.
-use Rattle.std.proofs.Common.{◌≡◌, Bool, true, false, List, [], ◌∷◌, ◌++◌, append_assoc, refl, sym, ap, ◌∙◌, inl, inr, ◌==◌, arith}
+use Rattle.std.proofs.Common.{◌≡◌, Bool, true, false, List, [], ◌∷◌, ◌++◌, append_assoc, refl, sym, ap, ◌∙◌, inl, inr, ◌==◌, arith, append-nil}
 use Rattle.std.proofs.lemmas.Bool.{and_parts, eqb-true}
 use Rattle.std.proofs.lemmas.Bool.Decides.{nat_tests}
+use Rattle.std.proofs.Math.Path.{fun_ext}
 use Rattle.std.specs.Prelude.{ℕ, ◌&&◌, if◌then◌else◌}
 use Rattle.std.specs.List.{AllByRecursion}
 use Rattle.volt_wire.specs.declared.actor.Actor.{Actor}
 use Rattle.volt_wire.specs.declared.actor.Actor.TheVariants.{Director, Agent}
 use Rattle.volt_wire.specs.declared.message.Msg.TheVariants as msg
 use Rattle.cluster_model.specs.Words.{Deployment, is_host}
-use Rattle.cluster_model.specs.Letters.{same, Letter, Sends, open_letter}
+use Rattle.cluster_model.specs.Letters.{same, Letter, Sends, open_letter, no_sends}
 use Rattle.cluster_model.specs.World.{took, sent, rest}
 use Rattle.cluster_model.specs.Director.{stops_host, stops_all}
 use Rattle.cluster_model.specs.Laws.{RiseFrom, starts_in, start_in_letter}
@@ -68,6 +69,21 @@ sent-both P ch n out h b here other = choice (n == h) refl
 -- of each channel, where it is kept by what comes behind
 pub sent-keep : (P : List Letter → Type 0) → ((xs ys : List Letter) → P xs → P (xs ++ ys)) → (ch : Actor → Actor → List Letter) (n : ℕ) (out : Sends) (h : ℕ) (b : Actor) → P (ch (Agent h) b) → P (sent ch (Agent n) out (Agent h) b)
 sent-keep P more ch n out h b k = sent-both P ch n out h b (λ e. more (ch (Agent h) b) (out b) k) (λ d. k)
+
+-- all of them, where nothing is sent, and where more is sent behind it
+pub sent-nothing : (ch : Actor → Actor → List Letter) (from : Actor) → sent ch from no_sends ≡ ch
+sent-nothing ch from = fun_ext (λ a. fun_ext (λ b. choice (same from a) a b))
+  where
+    choice : (c : Bool) (a b : Actor) → (if c then ch a b ++ [] else ch a b) ≡ ch a b
+    choice true a b = append-nil (ch a b)
+    choice false a b = refl
+
+pub sent-twice : (ch : Actor → Actor → List Letter) (from : Actor) (out more : Sends) → sent (sent ch from out) from more ≡ sent ch from (λ x. out x ++ more x)
+sent-twice ch from out more = fun_ext (λ x. fun_ext (λ y. letters (same from x) (ch x y) (out y) (more y)))
+  where
+    letters : (c : Bool) (xs ys zs : List Letter) → (if c then (if c then xs ++ ys else xs) ++ zs else (if c then xs ++ ys else xs)) ≡ (if c then xs ++ (ys ++ zs) else xs)
+    letters true xs ys zs = append_assoc xs ys zs
+    letters false xs ys zs = refl
 
 -- ---- channels from which a message was taken
 

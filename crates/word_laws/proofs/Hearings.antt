@@ -5,7 +5,6 @@ use Rattle.std.proofs.Math.Path.{fun_ext}
 use Rattle.std.specs.Prelude.{ℕ, ◌||◌, if◌then◌else◌, Option, Some, None}
 use Rattle.std.specs.List.{list_all}
 use Rattle.volt_wire.specs.Word.{Membership}
-use Rattle.volt_wire.specs.declared.actor.Actor.{Actor}
 use Rattle.volt_wire.specs.declared.actor.Actor.TheVariants.{Agent}
 use Rattle.cluster_model.specs.Words.{Deployment, start_of, is_member, members, initiator, with_admitted}
 use Rattle.cluster_model.specs.Letters.{same, Letter, Sends, Turn, becomes, ◌▸◌}
@@ -13,7 +12,7 @@ use Rattle.cluster_model.specs.AgentState.{AgentState, Queued, Admission, new_ag
 use Rattle.cluster_model.specs.Agent.{is_other_word, says, is_word, may_decide, decides_word}
 use Rattle.cluster_model.specs.World.{set_at}
 use Rattle.word_laws.specs.Histories.{In, OnSome, State, History, Admitted, names, start_at, GoodWord, SaidBy, ClosesFrom, CameOk, QueuedOk, OwnOk, Holds}
-use Rattle.word_laws.proofs.Lists.{all-mono, all-at, in-cases, some-here, not-both, eqb-same, same-some}
+use Rattle.word_laws.proofs.Lists.{all-mono, all-at, in-cases, some-here, not-both, eqb-same, same-some, set-same}
 use Rattle.word_laws.proofs.Algebra.{same_word-refl, same_word-is, with_admitted-admits, names-admits}
 use Rattle.word_laws.proofs.Members.{members-all, is_member-start, initiates-is}
 use Rattle.word_laws.proofs.Moves.{Nobody, after, Later, Plain, Calm, AdmitsNow, Grows}
@@ -23,6 +22,7 @@ use Rattle.word_laws.proofs.Steps.{later-after, calm-holds, after-after, came-tu
 use Rattle.word_laws.proofs.OwnWords.{said_more, said-both, said_to}
 use Rattle.word_laws.proofs.Decisions.{decides-holds}
 use Rattle.word_laws.proofs.Admissions.{admits-holds, fresh}
+use Rattle.word_laws.proofs.Channels.{sent-nothing}
 
 -- ---- turns, one behind the other
 
@@ -163,7 +163,7 @@ then-row P n t f r g = (after-row P n t f r
 
 -- ---- turns that are one
 
-pub then-assoc : (t : Turn AgentState) (f g : AgentState → Turn AgentState) → (t ▸ f) ▸ g ≡ t ▸ (λ x. f x ▸ g)
+pub then-assoc : {A : Type 0} (t : Turn A) (f g : A → Turn A) → (t ▸ f) ▸ g ≡ t ▸ (λ x. f x ▸ g)
 then-assoc t f g = ap (λ z. record { state = (g (f t.state).state).state; sends = z }) (fun_ext (λ b. append_assoc (t.sends b) ((f t.state).sends b) ((g (f t.state).state).sends b)))
 
 -- a turn that does nothing leaves the one before
@@ -179,16 +179,8 @@ other-self (Some w) = rw (same_word-refl w) refl
 -- ---- nothing changes
 
 pub after-same : (P : State) (n : ℕ) → after P n (P.agents n) (λ b. []) P.history ≡ P
-after-same P n = ap (λ c. record P { agents = set_at P.agents n (P.agents n); channel = c; history = P.history }) (fun_ext (λ x. fun_ext (λ y. one x y (same (Agent n) x))))
-    ∙ ap (λ f. record P { agents = f }) (fun_ext (λ h. place h (h == n) refl))
-  where
-    one : (x y : Actor) (b : Bool) → (if b then P.channel x y ++ [] else P.channel x y) ≡ P.channel x y
-    one x y true = append-nil (P.channel x y)
-    one x y false = refl
-
-    place : (h : ℕ) (b : Bool) → (h == n) ≡ b → (if b then P.agents n else P.agents h) ≡ P.agents h
-    place h true e = ap P.agents (sym (eqb-true h n e))
-    place h false e = refl
+after-same P n = ap (λ c. record P { agents = set_at P.agents n (P.agents n); channel = c }) (sent-nothing P.channel (Agent n))
+    ∙ ap (λ f. record P { agents = f }) (set-same P.agents n)
 
 -- a turn of an agent that stays as it is
 pub stay-row : {M : ℕ → ℕ → Type 0} (P : State) (n : ℕ) → Going P n (P.agents n) → Holds P → Row M P n (becomes (P.agents n))

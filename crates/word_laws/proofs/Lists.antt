@@ -1,8 +1,9 @@
 -- What the proofs need of lists, options, choices and functions that were changed at one place.
 use Rattle.std.proofs.Common.{◌≡◌, ◌+◌, ◌<◌, ◌≤◌, Bool, true, false, List, [], ◌∷◌, ◌++◌, refl, sym, subst, ap, ◌∙◌, ◌⊎◌, inl, inr, ◌==◌, true≢false, arith}
 use Rattle.std.proofs.lemmas.Bool.{cond_both, or_cases, and_parts, and_from, or_left, or_right, eq-eqb, eqb-true}
+use Rattle.std.proofs.Math.Path.{fun_ext}
 use Rattle.std.proofs.lemmas.Bool.Decides.{nat_tests}
-use Rattle.std.specs.Prelude.{ℕ, ◌&&◌, ◌||◌, filter, map, if◌then◌else◌, Option, Some, None}
+use Rattle.std.specs.Prelude.{ℕ, ◌&&◌, ◌||◌, filter, map, if◌then◌else◌, Option, Some, None, is_none}
 use Rattle.std.specs.List.{AllByRecursion, list_any, list_all}
 use Rattle.cluster_model.specs.World.{rest, set_at}
 use Rattle.cluster_model.specs.Laws.{RiseFrom}
@@ -37,6 +38,10 @@ eqb-same n = eq-eqb n n refl
 
 pub same-some : {A : Type 0} {x y : A} → Some x ≡ Some y → x ≡ y
 same-some e = cc
+
+pub is_none-none : {A : Type 0} (o : Option A) → is_none o ≡ true → o ≡ None
+is_none-none None e = refl
+is_none-none (Some x) e = absurd (cc)
 
 pub none-and-some : {A : Type 0} {o : Option A} {x : A} → o ≡ None → o ≡ Some x → ⊥
 none-and-some p q = let r = sym p ∙ q in absurd (cc)
@@ -239,3 +244,10 @@ set-both P f n v p q h = choice (h == n) refl
     choice : (b : Bool) → (h == n) ≡ b → P h (if b then v else f h)
     choice true e = subst (λ z. P z v) (sym (eqb-true h n e)) p
     choice false e = q h (λ d. grind (arith, nat_tests, e, d))
+
+-- changed once more there, and changed to what it is there
+pub set-twice : {A : Type 0} (f : ℕ → A) (n : ℕ) (v w : A) → set_at (set_at f n v) n w ≡ set_at f n w
+set-twice f n v w = fun_ext (set-both (λ k x. x ≡ set_at f n w k) (set_at f n v) n w (sym (set-here f n w)) (λ k d. set-there f n v k d ∙ sym (set-there f n w k d)))
+
+pub set-same : {A : Type 0} (f : ℕ → A) (n : ℕ) → set_at f n (f n) ≡ f
+set-same f n = fun_ext (set-both (λ k x. x ≡ f k) f n (f n) refl (λ k d. refl))

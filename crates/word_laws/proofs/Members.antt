@@ -187,14 +187,14 @@ start_of-greatest owner w s fo ao e n most = member-start w (owner s) s (member-
 pub members-all : (w : Membership) (p : ℕ × ℕ → Bool) (h s : ℕ) → list_all p (members w) ≡ true → start_of w h ≡ Some s → p (h, s) ≡ true
 members-all w p h s a e = list_all-at p (members w) (h, s) a (start-in-members w h s e)
 
-first-in : {A : Type 0} (x : A) (xs : List A) → first_of xs ≡ Some x → In x xs
+pub first-in : {A : Type 0} (x : A) (xs : List A) → first_of xs ≡ Some x → In x xs
 first-in x [] e = absurd (none-some x e)
 first-in x (y ∷ ys) e = inl (same-some e)
 
 pub initiator-member : (w : Membership) (h s : ℕ) → initiator w ≡ Some (h, s) → start_of w h ≡ Some s
 initiator-member w h s e = member-start w h s (first-in (h, s) (members w) e)
 
-is_some_of-is : (o : Option ℕ) (s : ℕ) → is_some_of o s ≡ true → o ≡ Some s
+pub is_some_of-is : (o : Option ℕ) (s : ℕ) → is_some_of o s ≡ true → o ≡ Some s
 is_some_of-is None s e = absurd (true≢false (sym e))
 is_some_of-is (Some x) s e = ap Some (eqb-true x s e)
 

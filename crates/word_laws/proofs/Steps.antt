@@ -1,5 +1,5 @@
 -- What turns and messages that add no word to the history keep of what holds.
-use Rattle.std.proofs.Common.{◌≡◌, ◌<◌, Bool, true, false, List, [], ◌∷◌, ◌++◌, append_assoc, refl, sym, subst, ap, ◌∙◌, ◌⊎◌, inl, inr, ◌==◌, arith}
+use Rattle.std.proofs.Common.{◌≡◌, ◌<◌, Bool, true, false, List, [], ◌∷◌, ◌++◌, refl, sym, subst, ap, ◌∙◌, ◌⊎◌, inl, inr, ◌==◌, arith}
 use Rattle.std.proofs.lemmas.Bool.{false≢true, eqb-true, cases_Bool, and_parts}
 use Rattle.std.proofs.lemmas.Bool.Decides.{nat_tests}
 use Rattle.std.proofs.Math.Path.{fun_ext}
@@ -15,8 +15,8 @@ use Rattle.cluster_model.specs.AgentState.{AgentState, Queued, Job_, Admission, 
 use Rattle.cluster_model.specs.World.{took, sent, rest, set_at}
 use Rattle.cluster_model.specs.Laws.{RiseFrom, starts_in}
 use Rattle.word_laws.specs.Histories.{In, OnSome, State, History, Admitted, Begun, Runs, Gone, Earlier, Distinct, HostOk, GoodWord, SaidBy, Unnamed, LetterOk, ClosesFrom, InOrder, CameOk, QueuedOk, WaitingFrom, WaitingOk, IsOff, OwnOk, AgentOk, HistoryOk, Tells, IsClosed, Telling, Closing, OwnIs, Told, Heard, Holds, names, start_at, starts_to}
-use Rattle.word_laws.proofs.Lists.{all-append, all-mono, all-at, all-from, in-cases, some-here, some-mono, all-filter}
-use Rattle.word_laws.proofs.Channels.{telling-left, closing-left, closing-right, order-append, order-rest, sent-both, sent-keep, taken-both, took-starts, took-all}
+use Rattle.word_laws.proofs.Lists.{all-append, all-mono, all-at, all-from, in-cases, some-here, some-mono, all-filter, set-twice}
+use Rattle.word_laws.proofs.Channels.{telling-left, closing-left, closing-right, order-append, order-rest, sent-both, sent-keep, taken-both, took-starts, took-all, sent-twice}
 use Rattle.word_laws.proofs.Moves.{OwnLost, OwnAdmits, Later, after, popped, Plain, Calm, Heeded}
 use Rattle.word_laws.proofs.Laters.{good-later, letter-later, own-later, said_by-later, admitted_ok-later, unnamed-later, came-later, waiting-later, queued-later}
 
@@ -507,10 +507,10 @@ turn-holds S n a out e own letters order closes h = record {
 
 -- ---- turns put together
 
--- What the agent sends doesn't touch the first message that it takes.
-pub took-sent : (S : State) (from : Actor) (n : ℕ) (a : AgentState) (out : Sends) (H : History) (l : Letter) (ls : List Letter) → S.channel from (Agent n) ≡ l ∷ ls
-    → after (popped S from n) n a out H ≡ popped (after S n a out H) from n
-took-sent S from n a out H l ls is = ap (λ c. record S { agents = set_at S.agents n a; channel = c; history = H }) (fun_ext (λ x. fun_ext (λ y. one x y)))
+-- What is sent doesn't touch the first message that is taken.
+pub sent-took : (ch : Actor → Actor → List Letter) (from to : Actor) (out : Sends) (l : Letter) (ls : List Letter) → ch from to ≡ l ∷ ls
+    → sent (took ch from to) to out ≡ took (sent ch to out) from to
+sent-took ch from to out l ls is = fun_ext (λ x. fun_ext (λ y. one x y))
   where
     swap : (b c : Bool) (xs ys : List Letter) → (c ≡ true → xs ≡ l ∷ ls)
         → (if b then (if c then rest xs else xs) ++ ys else (if c then rest xs else xs)) ≡ (if c then rest (if b then xs ++ ys else xs) else (if b then xs ++ ys else xs))
@@ -519,24 +519,20 @@ took-sent S from n a out H l ls is = ap (λ c. record S { agents = set_at S.agen
     swap false true xs ys k = refl
     swap false false xs ys k = refl
 
-    one : (x y : Actor) → sent (took S.channel from (Agent n)) (Agent n) out x y ≡ took (sent S.channel (Agent n) out) from (Agent n) x y
-    one x y = swap (same (Agent n) x) (same (Agent n) y && same from x) (S.channel x y) (out y) (λ q.
-        let e = and_parts (same (Agent n) y) (same from x) q in
-        ap (λ k. S.channel k y) (sym (same-true from x e.1)) ∙ ap (λ k. S.channel from k) (sym (same-true (Agent n) y e.0)) ∙ is)
+    one : (x y : Actor) → sent (took ch from to) to out x y ≡ took (sent ch to out) from to x y
+    one x y = swap (same to x) (same to y && same from x) (ch x y) (out y) (λ q.
+        let e = and_parts (same to y) (same from x) q in
+        ap (λ k. ch k y) (sym (same-true from x e.1)) ∙ ap (λ k. ch from k) (sym (same-true to y e.0)) ∙ is)
+
+pub took-sent : (S : State) (from : Actor) (n : ℕ) (a : AgentState) (out : Sends) (H : History) (l : Letter) (ls : List Letter) → S.channel from (Agent n) ≡ l ∷ ls
+    → after (popped S from n) n a out H ≡ popped (after S n a out H) from n
+took-sent S from n a out H l ls is = ap (λ c. record S { agents = set_at S.agents n a; channel = c; history = H }) (sent-took S.channel from (Agent n) out l ls is)
 
 -- one turn after another is one turn
 pub after-after : (S : State) (n : ℕ) (a b : AgentState) (out out' : Sends) (H H' : History) → after (after S n a out H) n b out' H' ≡ after S n b (λ x. out x ++ out' x) H'
 after-after S n a b out out' H H' =
-    ap (λ g. record S { agents = g; channel = sent (sent S.channel (Agent n) out) (Agent n) out'; history = H' }) (fun_ext (λ k. agent (k == n) (S.agents k)))
-    ∙ ap (λ c. record S { agents = set_at S.agents n b; channel = c; history = H' }) (fun_ext (λ x. fun_ext (λ y. letters (same (Agent n) x) (S.channel x y) (out y) (out' y))))
-  where
-    agent : (c : Bool) (x : AgentState) → (if c then b else if c then a else x) ≡ (if c then b else x)
-    agent true x = refl
-    agent false x = refl
-
-    letters : (c : Bool) (xs ys zs : List Letter) → (if c then (if c then xs ++ ys else xs) ++ zs else (if c then xs ++ ys else xs)) ≡ (if c then xs ++ (ys ++ zs) else xs)
-    letters true xs ys zs = append_assoc xs ys zs
-    letters false xs ys zs = refl
+    ap (λ g. record S { agents = g; channel = sent (sent S.channel (Agent n) out) (Agent n) out'; history = H' }) (set-twice S.agents n a b)
+    ∙ ap (λ c. record S { agents = set_at S.agents n b; channel = c; history = H' }) (sent-twice S.channel (Agent n) out out')
 
 -- ---- a turn that brings no word
 

@@ -1,6 +1,6 @@
 -- Who asks to be admitted has loaded all, and has it on disk: what holds of that, holds after an agent's turns.
-use Rattle.std.proofs.Common.{◌≡◌, ◌+◌, ◌<◌, ◌≤◌, Bool, true, false, List, [], ◌∷◌, zero, suc, refl, sym, subst, ◌⊎◌, inl, inr, ◌==◌, arith}
-use Rattle.std.proofs.lemmas.Bool.{and_parts, cases_eq, eqb-true}
+use Rattle.std.proofs.Common.{◌≡◌, ◌+◌, ◌<◌, Bool, true, false, List, [], ◌∷◌, refl, sym, subst, ◌⊎◌, inl, inr, ◌==◌, arith}
+use Rattle.std.proofs.lemmas.Bool.{and_parts, eqb-true}
 use Rattle.std.proofs.lemmas.Bool.Decides.{nat_tests}
 use Rattle.std.specs.Prelude.{ℕ, if◌then◌else◌, nat_lt, Option, Some, None}
 use Rattle.std.specs.List.{AllByRecursion, list_all, range_with_len}
@@ -22,6 +22,7 @@ use Rattle.word_laws.proofs.Moves.{asked_by}
 use Rattle.log_laws.specs.Histories.{LogState, LoadedOk, AllLoaded, ToldOk, AskedOk, QueuedOk, LoadsOk}
 use Rattle.log_laws.proofs.Agents.AgentSends.{NoView, NoAdmit}
 use Rattle.log_laws.proofs.Agents.Views.{worded, turned}
+use Rattle.log_laws.proofs.Plain.Copies.{range-in}
 
 -- ---- what is asked, in another state of words
 
@@ -61,16 +62,9 @@ asked-admission S (Scanner x) l p j h term i = absurd i
 
 -- ---- a host's slots
 
-in-range : (low len c : ℕ) → low ≤ c → c < low + len → In c (range_with_len low len)
-in-range low zero c l u = absurd (omega (arith, l, u))
-in-range low (suc len) c l u = elim (cases_eq low c) [
-  | inl e ↦ inl e
-  | inr d ↦ inr (in-range (low + 1) len c (omega (arith, l, d)) (omega (arith, u)))
-]
-
 -- of which all pass a test
 all-slots : (D : Deployment) (n c : ℕ) (test : ℕ → Bool) → list_all test (slots_of_host D n) ≡ true → is_slot_of D n c ≡ true → test c ≡ true
-all-slots D n c test all s = list_all-at test (slots_of_host D n) c all (filter-in (is_slot_of D n) c (range_with_len 0 (slots D)) (in-range 0 (slots D) c (omega arith) below) s)
+all-slots D n c test all s = list_all-at test (slots_of_host D n) c all (filter-in (is_slot_of D n) c (range_with_len 0 (slots D)) (range-in c 0 (slots D) (omega arith) below) s)
   where
     below : c < 0 + slots D
     below = grind (arith, nat_tests, (and_parts (nat_lt c (slots D)) (host_of_slot D c == n) s).0)

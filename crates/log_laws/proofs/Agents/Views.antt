@@ -20,6 +20,7 @@ use Rattle.word_laws.proofs.Moves.{Grows}
 use Rattle.log_laws.specs.Histories.{LogState, view_in, view_of, views, MemberViews, FirstViews, RunViews, Starting, ViewsOk, sent_term, start_at, term_at, from_agent}
 use Rattle.log_laws.proofs.Plain.Lines.{flat-none, views-append, views-same, views-none, views-plain, views-here, views-other}
 use Rattle.log_laws.proofs.Agents.AgentSends.{NoView}
+use Rattle.log_laws.proofs.Kept.KeepsViews.{first_views-later, run_views-later}
 
 -- the state with these agents, messages and history
 abbrev pub worded : LogState → (ℕ → AgentState) → (Actor → Actor → List Letter) → History → LogState
@@ -306,30 +307,14 @@ module _ (S : LogState) (agents : ℕ → AgentState) (channel : Actor → Actor
   abbrev T : LogState
   T = worded S agents channel G
 
-  members-later : (c s low : ℕ) (ws : List Membership) → MemberViews S c s low ws → MemberViews T c s low ws
-  members-later c s low ws m = (all-mono _ _ (λ w k. (g.decided w k.0, k.1)) ws m.0, m.1)
-
-  first-later : (c s : ℕ) (ws : List Membership) → FirstViews S c s ws → FirstViews T c s ws
-  first-later c s ws f = record {
-    first = f.first;
-    later = f.later;
-    views_are = f.views_are;
-    took = g.took_word s f.first f.took;
-    members = members-later c s (term_of f.first + 1) f.later f.members;
-  }
-
-  run-later : (c : ℕ) (o : Option Membership) (ws : List Membership) → RunViews S c o ws → RunViews T c o ws
-  run-later c None ws f = first-later c (start_at S c) ws f
-  run-later c (Some w) ws m = members-later c (start_at S c) (term_of w + 1) ws m
-
   -- with what its agent, or the one that comes after it, has sent
   pub views-later : (c h : ℕ) (x y : AgentState) (ls : List Letter) → ViewsIn S c h x ls → (0 < y.start → y.taken ≡ None → y.decided ≡ None → Unsent S c y.start ls)
       → (0 < y.start → SentUpTo S c y.start (sent_term y) ls) → ViewsIn T c h y ls
   views-later c h x y ls k unsent sent = record {
     plain = k.plain;
     began = λ s i. g.began h s (k.began s i);
-    running = λ u. run-later c (S.sites c).view (views (start_at S c) ls) (k.running u);
-    starting = λ s i. let r = k.starting s i in (r.0, r.1, first-later c s (views s ls) r.2);
+    running = λ u. run_views-later S T refl g.decided g.took_word c (S.sites c).view (views (start_at S c) ls) refl (k.running u);
+    starting = λ s i. let r = k.starting s i in (r.0, r.1, first_views-later S T refl g.decided g.took_word c s (views s ls) r.2);
     wordless = unsent;
     below = sent;
   }

@@ -1,7 +1,7 @@
 -- The leader of a term that has begun appends an entry, and sends it to the copies and the joiners.
-use Rattle.std.proofs.Common.{◌≡◌, ◌<◌, Bool, true, false, List, [], ◌∷◌, ◌++◌, append_assoc, append-nil, refl, sym, subst, ap, ◌∙◌, ◌⊎◌, inl, inr, ◌==◌, true≢false, arith}
-use Rattle.std.proofs.lemmas.Bool.{and_parts, cases_eq, eqb-true, false_from_ne_true}
-use Rattle.std.specs.Prelude.{ℕ, ◌≤◌, ◌&&◌, if◌then◌else◌, map, drop, length, Option, Some, None}
+use Rattle.std.proofs.Common.{◌≡◌, ◌<◌, true, false, List, [], ◌∷◌, ◌++◌, append_assoc, append-nil, refl, sym, subst, ap, ◌∙◌, ◌⊎◌, inl, inr, true≢false, arith}
+use Rattle.std.proofs.lemmas.Bool.{cases_eq}
+use Rattle.std.specs.Prelude.{ℕ, ◌≤◌, map, drop, length, Option, Some, None}
 use Rattle.std.specs.List.{AllByRecursion}
 use Rattle.volt_base.specs.declared.entry.Entry.{Entry}
 use Rattle.volt_wire.specs.Word.{Membership}
@@ -13,7 +13,7 @@ use Rattle.cluster_model.specs.SiteState.{SiteState, Joining, Joiner, Scanning, 
 use Rattle.cluster_model.specs.Letters.{Sends}
 use Rattle.cluster_model.specs.Site.{leads_with}
 use Rattle.word_laws.specs.Histories.{In}
-use Rattle.word_laws.proofs.Lists.{all-append, not-both, if-false, same-some, none-and-some, eqb-same, all-at, set-both}
+use Rattle.word_laws.proofs.Lists.{all-append, not-both, same-some, none-and-some, all-at, set-both}
 use Rattle.log_laws.specs.Histories.{LogState, Logs, Reign, Front, Line, Repairs, Puts, Flow, Begins, Follows, FollowsIn, LeadsIn, Coming, Took, Quiet, InWord, JoinerOk, MemberOk, CountedOk, IsCounted, IsSlot, SiteLetterOk, ForeignOk, ToldOk, BeginsAt, Holds, follows, line, flow, ends, asked, asks_in, asks_waiting, asks_of_term, between, part, start_at, log_at, term_at}
 use Rattle.log_laws.proofs.Plain.Lines.{line-append, line-same, flow-append, flow-same, ends-same, puts-append, follows-append, put_letter, task_letter}
 use Rattle.log_laws.proofs.Plain.Copies.{leader-follows-none, leads-parts, leader-view, is-leader, start-in-view, other-copy, copy-other, follows-part, follows-one, leader-followed}
@@ -23,6 +23,7 @@ use Rattle.log_laws.proofs.Kept.Plumbing.{sent-either, here, there, between-here
 use Rattle.log_laws.proofs.Kept.Terms.{same-word, some-term, reign-entered, took-decided, took-unnamed}
 use Rattle.log_laws.proofs.Kept.Asked.{at-most-is}
 use Rattle.log_laws.proofs.Kept.Keeps.{Still, SameFrom, SameTerm, SameRun, Uncounted, still-same, member-keeps-from, counted-from, quiet-keeps, coming-keeps, took-keeps, in_word-keeps-with, joiner-keeps-with}
+use Rattle.log_laws.proofs.Kept.Turned.{put_at, put-both, put-here, put-there}
 use Rattle.log_laws.proofs.Kept.Growing.{Carries, grew-later, grew-member, grew-holds}
 use Rattle.log_laws.proofs.Plain.Appends.{grown, Passed, leads-with, passed-line, passed-line-other, passed-flow, passed-flow-other, passed-ends, passed-all, passed-follows}
 
@@ -32,33 +33,15 @@ use Rattle.log_laws.proofs.Plain.Appends.{grown, Passed, leads-with, passed-line
 abbrev pub longer : Reign → Entry → Reign
 longer g e = record g { log = g.log ++ e ∷ [] }
 
--- what a term is led with, put at its place
-abbrev pub with_reign : (ℕ → ℕ → Option Reign) → ℕ → ℕ → Reign → ℕ → ℕ → Option Reign
-with_reign f p t g q u = if q == p && u == t then Some g else f q u
-
-pub reign-here : (f : ℕ → ℕ → Option Reign) (p t : ℕ) (g : Reign) → with_reign f p t g p t ≡ Some g
-reign-here f p t g = rw (eqb-same p, eqb-same t) refl
-
-pub reign-there : (f : ℕ → ℕ → Option Reign) (p t : ℕ) (g : Reign) (q u : ℕ) → (q ≡ p → u ≡ t → ⊥) → with_reign f p t g q u ≡ f q u
-reign-there f p t g q u n = if-false (q == p && u == t) (Some g) (f q u)
-    (false_from_ne_true (q == p && u == t) (λ e. let r = and_parts (q == p) (u == t) e in n (eqb-true q p r.0) (eqb-true u t r.1)))
-
--- where its log has grown
-pub with_reign-same : (G : Logs) (p t : ℕ) (g h : Reign) → G.reign p t ≡ Some g → h.begun ≡ g.begun → Front g.log h.log
-    → SameReigns G (record G { reign = with_reign G.reign p t h })
-with_reign-same G p t g h led begun more = record { kept = λ q u. kept q u (q == p && u == t) refl; none = λ q u. none q u (q == p && u == t) refl }
-  where
-    place : (q u : ℕ) → (q == p && u == t) ≡ true → G.reign q u ≡ Some g
-    place q u e = let r = and_parts (q == p) (u == t) e in ap (λ x. G.reign x u) (eqb-true q p r.0) ∙ ap (G.reign p) (eqb-true u t r.1) ∙ led
-
-    kept : (q u : ℕ) (b : Bool) → (q == p && u == t) ≡ b → (f : Reign) → G.reign q u ≡ Some f
-        → (n : Reign) × ((if b then Some h else G.reign q u) ≡ Some n) × (n.begun ≡ f.begun) × Front f.log n.log
-    kept q u true e f is = let o = same-some (sym (place q u e) ∙ is) in (h, refl, begun ∙ ap (λ x. x.begun) o, subst (λ x. Front x.log h.log) o more)
-    kept q u false e f is = (f, is, refl, ([], sym (append-nil f.log)))
-
-    none : (q u : ℕ) (b : Bool) → (q == p && u == t) ≡ b → G.reign q u ≡ None → (if b then Some h else G.reign q u) ≡ None
-    none q u true e is = absurd (none-and-some is (place q u e))
-    none q u false e is = is
+-- where the log of what a term is led with has grown
+pub longer-same : (G : Logs) (p t : ℕ) (g h : Reign) → G.reign p t ≡ Some g → h.begun ≡ g.begun → Front g.log h.log
+    → SameReigns G (record G { reign = put_at G.reign p t (Some h) })
+longer-same G p t g h led begun more = record {
+  kept = put-both (λ q u o. (f : Reign) → G.reign q u ≡ Some f → (n : Reign) × (o ≡ Some n) × (n.begun ≡ f.begun) × Front f.log n.log) G.reign p t (Some h)
+      (λ f is. let o = same-some (sym led ∙ is) in (h, refl, begun ∙ ap (λ x. x.begun) o, subst (λ x. Front x.log h.log) o more))
+      (λ q u _ f is. (f, is, refl, ([], sym (append-nil f.log))));
+  none = put-both (λ q u o. G.reign q u ≡ None → o ≡ None) G.reign p t (Some h) (λ is. absurd (none-and-some is led)) (λ q u _ is. is);
+}
 
 -- ---- who leads
 
@@ -136,7 +119,7 @@ module _ (T : LogState) (i : ℕ) (e : Entry) (H : Holds T) (up : 0 < start_at T
   state = grown (T.sites i) (e ∷ []) scans scanning
 
   abbrev logs : Logs
-  logs = record T.logs { reign = with_reign T.logs.reign (part T i) (term_of k.word) (longer k.reign e) }
+  logs = record T.logs { reign = put_at T.logs.reign (part T i) (term_of k.word) (Some (longer k.reign e)) }
 
   abbrev next : LogState
   next = after T i state out logs
@@ -156,7 +139,7 @@ module _ (T : LogState) (i : ℕ) (e : Entry) (H : Holds T) (up : 0 < start_at T
   later = grew-later T H i (e ∷ []) (T.sites i).floor (T.sites i).repaired (T.sites i).owes scans scanning next.words.channel logs.reign
 
   same-reigns : SameReigns T.logs logs
-  same-reigns = with_reign-same T.logs (part T i) (term_of k.word) k.reign (longer k.reign e) k.led refl (e ∷ [], refl)
+  same-reigns = longer-same T.logs (part T i) (term_of k.word) k.reign (longer k.reign e) k.led refl (e ∷ [], refl)
 
   -- ---- what is under way
 
@@ -170,10 +153,10 @@ module _ (T : LogState) (i : ℕ) (e : Entry) (H : Holds T) (up : 0 < start_at T
   -- ---- its term
 
   reign-apart : (c t : ℕ) → (part T c ≡ part T i → t ≡ term_of k.word → ⊥) → logs.reign (part T c) t ≡ T.logs.reign (part T c) t
-  reign-apart c t n = reign-there T.logs.reign (part T i) (term_of k.word) (longer k.reign e) (part T c) t n
+  reign-apart c t n = put-there T.logs.reign (part T i) (term_of k.word) (Some (longer k.reign e)) (part T c) t n
 
   reign-own : (c : ℕ) → part T c ≡ part T i → logs.reign (part T c) (term_of k.word) ≡ Some (longer k.reign e)
-  reign-own c p = ap (λ q. logs.reign q (term_of k.word)) p ∙ reign-here T.logs.reign (part T i) (term_of k.word) (longer k.reign e)
+  reign-own c p = ap (λ q. logs.reign q (term_of k.word)) p ∙ put-here T.logs.reign (part T i) (term_of k.word) (Some (longer k.reign e))
 
   reign-before : (c : ℕ) → part T c ≡ part T i → T.logs.reign (part T c) (term_of k.word) ≡ Some k.reign
   reign-before c p = ap (λ q. T.logs.reign q (term_of k.word)) p ∙ k.led
@@ -487,7 +470,7 @@ module _ (T : LogState) (i : ℕ) (e : Entry) (H : Holds T) (up : 0 < start_at T
   led-grown : Grown T.words.deployment i state T.logs logs
   led-grown = grown-at T.words.deployment i state T.logs logs (part T i) (term_of k.word)
       (record { word = k.word; view = k.view; part_is = refl; term_is = refl; first = k.first; start_is = k.member.start_is })
-      (record { kept = same-reigns.kept; reach = λ q u. omega arith }) (reign-there T.logs.reign (part T i) (term_of k.word) (longer k.reign e))
+      (record { kept = same-reigns.kept; reach = λ q u. omega arith }) (put-there T.logs.reign (part T i) (term_of k.word) (Some (longer k.reign e)))
 
 -- ---- the turn
 
@@ -497,7 +480,7 @@ leads-goes E T i e H up lead =
     let k = leading T i H up lead in
     let r = leads-with E T.words.deployment i e (T.sites i) in
     let out = (leads_with E T.words.deployment i e (T.sites i)).sends in
-    let G : Logs = record T.logs { reign = with_reign T.logs.reign (part T i) (term_of k.word) (longer k.reign e) } in
+    let G : Logs = record T.logs { reign = put_at T.logs.reign (part T i) (term_of k.word) (Some (longer k.reign e)) } in
     record {
       logs = G;
       start = ap (λ s. s.start) r.state;

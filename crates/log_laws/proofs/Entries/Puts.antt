@@ -1,7 +1,7 @@
 -- A copy takes what its leader sent it to append: one entry more, or what it lacks of what its term begins with.
 use Rattle.std.proofs.Common.{◌≡◌, ◌<◌, Bool, true, false, List, [], ◌∷◌, ◌++◌, append_assoc, append-nil, refl, sym, subst, ap, ◌∙◌, inl, inr, ◌==◌, arith}
 use Rattle.std.proofs.lemmas.Bool.{cases_Bool, ne_eqb}
-use Rattle.std.specs.Prelude.{ℕ, ◌≤◌, ◌-◌, ◌&&◌, if◌then◌else◌, nat_lt, max, map, drop, length, Option, Some, None}
+use Rattle.std.specs.Prelude.{ℕ, ◌≤◌, ◌-◌, ◌&&◌, if◌then◌else◌, max, map, drop, length, Option, Some, None}
 use Rattle.std.specs.List.{AllByRecursion}
 use Rattle.volt_base.specs.declared.entry.Entry.{Entry}
 use Rattle.volt_wire.specs.Word.{Membership}
@@ -9,7 +9,7 @@ use Rattle.volt_wire.specs.declared.actor.Actor.{Actor}
 use Rattle.volt_wire.specs.declared.actor.Actor.TheVariants.{Director, Client, Agent, Site, Scanner}
 use Rattle.volt_wire.specs.declared.message.Msg.TheVariants as msg
 use Rattle.cluster_model.specs.Engine.{Database}
-use Rattle.cluster_model.specs.Words.{slots, term_of, term_in}
+use Rattle.cluster_model.specs.Words.{term_of, term_in}
 use Rattle.cluster_model.specs.Letters.{same, Letter, Sends}
 use Rattle.cluster_model.specs.SiteState.{SiteState, Joining, Joiner, Scanning, site_term}
 use Rattle.cluster_model.specs.Site.{on_put, on_repair}
@@ -17,9 +17,9 @@ use Rattle.cluster_model.specs.World.{took, sent, rest}
 use Rattle.word_laws.specs.Histories.{In}
 use Rattle.word_laws.proofs.Lists.{and-false, eqb-same, if-false, not-both, same-some, set-here, set-there, set-both}
 use Rattle.word_laws.proofs.Channels.{took-all}
-use Rattle.log_laws.specs.Histories.{LogState, Reign, Front, Line, Puts, Repairs, FollowsIn, JoinerOk, ViewIn, MemberOk, Reached, ForeignOk, ToldOk, SiteLetterOk, BeginsAt, IsSlot, Holds, line_in, flow_in, ask_in, follows, line, flow, ends, asks_in, asks_waiting, asks_of_term, asked, between, part, start_at, term_at}
+use Rattle.log_laws.specs.Histories.{LogState, Reign, Front, Line, Puts, Repairs, FollowsIn, JoinerOk, ViewIn, MemberOk, Reached, ForeignOk, ToldOk, SiteLetterOk, BeginsAt, Holds, line_in, flow_in, ask_in, follows, line, flow, ends, asks_in, asks_waiting, asks_of_term, asked, between, part, start_at, term_at}
 use Rattle.log_laws.proofs.Plain.Lines.{puts-cons, puts-not-repairs, repairs-not-put, repairs-same, line-here, flow-plain, asks-plain}
-use Rattle.log_laws.proofs.Kept.Terms.{reign-entered}
+use Rattle.log_laws.proofs.Kept.Terms.{running-slot, reign-entered}
 use Rattle.log_laws.proofs.Plain.Copies.{leader-follows-none, follows-one}
 use Rattle.log_laws.proofs.Kept.Moves.{Later, after, popped, NoStreamStart, Goes}
 use Rattle.log_laws.proofs.Kept.Grown.{grown-same}
@@ -207,16 +207,9 @@ module _ (S : LogState) (H : Holds S) (k i : ℕ) (l : Letter) (ls : List Letter
 
 -- ---- the rows
 
--- a slot whose site runs is one
-runs-slot : (S : LogState) → Holds S → (i : ℕ) → 0 < start_at S i → IsSlot S i
-runs-slot S H i up = elim (cases_Bool (nat_lt i (slots S.words.deployment))) [
-  | inl is ↦ is
-  | inr out ↦ absurd (omega (arith, up, (H.sites i).outside out))
-]
-
 -- what is so of the first message
 first-ok : (S : LogState) → Holds S → (k i : ℕ) (l : Letter) (ls : List Letter) → between S k i ≡ l ∷ ls → 0 < start_at S i → SiteLetterOk S k i l
-first-ok S H k i l ls is up = (subst (AllByRecursion (SiteLetterOk S k i)) is (H.letters k i (runs-slot S H i up))).0
+first-ok S H k i l ls is up = (subst (AllByRecursion (SiteLetterOk S k i)) is (H.letters k i (running-slot S H i up))).0
 
 pub on_put-goes : (E : Database) (S : LogState) → Holds S → (i k : ℕ) (l : Letter) (ls : List Letter) (position : ℕ) (e : Entry) (floor : ℕ)
     → S.words.channel (Site k) (Site i) ≡ record l { body = msg.Put position e floor } ∷ ls → 0 < start_at S i → l.start ≡ start_at S i → l.term ≡ term_at S i
@@ -278,7 +271,7 @@ on_repair-goes E S H i k l ls from entries is up own now = goes r.lacks
     behind : (S.sites i).repaired ≡ false → Front (S.sites i).log r.reign.begun
     behind unrepaired =
         let o = reign-entered S H (part S i) (term_of r.word) r.reign r.led r.word (record { decided = r.member.decided; term_is = refl }) i (start_at S i)
-        (runs-slot S H i up) refl r.member.start_is in
+        (running-slot S H i up) refl r.member.start_is in
         subst (λ x. Front x r.reign.begun) (sym ((r.member.still unrepaired).0 ∙ ap (λ e. e.log) (same-some (sym r.member.is_entered ∙ o.1)))) o.3
 
     all : Appended i (record (S.sites i) { owes = Some (site_term (S.sites i)); repaired = true }) (drop (length (S.sites i).log - from) entries)

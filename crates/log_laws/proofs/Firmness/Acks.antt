@@ -24,7 +24,7 @@ runs-in S H c t a was up low = elim (cases_eq (start_at S c) a) [
 
 -- ---- the position of a joiner
 
-position-slot : (slot position : ℕ) (j : Joiner) → (with_position slot position j).slot ≡ j.slot
+pub position-slot : (slot position : ℕ) (j : Joiner) → (with_position slot position j).slot ≡ j.slot
 position-slot slot position j = choice (j.slot == slot)
   where
     choice : (b : Bool) → (if b then record j { position = position } else j).slot ≡ j.slot

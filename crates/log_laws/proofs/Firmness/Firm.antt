@@ -1,6 +1,6 @@
 -- What a leader counts as firm, and as its floor, is in each log.
-use Rattle.std.proofs.Common.{◌≡◌, ◌<◌, ◌≤◌, Bool, true, false, List, [], refl, sym, subst, ap, ◌∙◌, inl, inr, ◌==◌, true≢false, arith}
-use Rattle.std.proofs.lemmas.Bool.{cases_eq, eqb-true, and_parts, and_from}
+use Rattle.std.proofs.Common.{◌≡◌, ◌<◌, ◌≤◌, Bool, true, false, List, [], refl, sym, subst, ap, ◌∙◌, inl, inr, ◌==◌, arith}
+use Rattle.std.proofs.lemmas.Bool.{cases_eq, and_parts}
 use Rattle.std.specs.Prelude.{ℕ, ◌&&◌, nat_lt, nat_le, if◌then◌else◌, filter, max, length, Option, Some, None}
 use Rattle.std.specs.List.{AllByRecursion}
 use Rattle.volt_wire.specs.Word.{Membership}
@@ -12,7 +12,7 @@ use Rattle.cluster_model.specs.Letters.{same, Letter, no_sends, becomes}
 use Rattle.cluster_model.specs.SiteState.{SiteState, Held, Joiner, is_leader, leads, other_copies}
 use Rattle.cluster_model.specs.Site.{own_ack, acked_in, firm_now, floor_now, answers_held, sends_firm, counts}
 use Rattle.word_laws.specs.Histories.{In}
-use Rattle.word_laws.proofs.Lists.{all-at, all-from, all-filter, in-filter, in-map-from, same-some, none-and-some, not-both, eqb-same}
+use Rattle.word_laws.proofs.Lists.{all-at, all-from, all-filter, in-filter, in-map-from, same-some, none-and-some, not-both}
 use Rattle.word_laws.proofs.Steps.{same-true}
 use Rattle.log_laws.specs.Histories.{LogState, Entered, Streaming, Reign, Flow, Holds, IsSlot, WordOf, AckOk, CountedOk, IsCounted, HeldFor, HeldOk, LeadsIn, MemberOk, KeepsOk, Coming, ToldOk, SiteLetterOk, end_of, part, start_at, log_at, term_at}
 use Rattle.log_laws.proofs.Kept.Moves.{Goes}
@@ -23,6 +23,7 @@ use Rattle.log_laws.proofs.Kept.Plumbing.{after-same, goes-same}
 use Rattle.log_laws.proofs.Plain.Least.{acked_in-from, reach_now, reach_now-own, reach_now-copy, reach_now-joiner}
 use Rattle.log_laws.proofs.NewTerms.Since.{since-raised}
 use Rattle.log_laws.proofs.Kept.Rests.{SiteRests, ReachRests, SaysRests, Plain, same-joiners, reach-same, site-same, says-nothing, rests-holds, rests-goes}
+use Rattle.log_laws.proofs.Kept.Turned.{put_at, put-both, put-here}
 
 -- ---- who leads
 
@@ -193,21 +194,14 @@ module _ (T : LogState) (H : Holds T) (i : ℕ) (up : 0 < start_at T i) (o : Lea
 
 -- a function of two numbers, where it is at least n at one place
 abbrev pub raised : (ℕ → ℕ → ℕ) → ℕ → ℕ → ℕ → ℕ → ℕ → ℕ
-raised f p t n q u = if q == p && u == t then max (f q u) n else f q u
+raised f p t n = put_at f p t (max (f p t) n)
 
 pub raised-both : (P : ℕ → Type 0) (f : ℕ → ℕ → ℕ) (p t n q u : ℕ) → (q ≡ p → u ≡ t → P (max (f q u) n)) → P (f q u) → P (raised f p t n q u)
-raised-both P f p t n q u here there = choice (q == p && u == t) refl
-  where
-    choice : (b : Bool) → (q == p && u == t) ≡ b → P (if b then max (f q u) n else f q u)
-    choice true e = let k = and_parts (q == p) (u == t) e in here (eqb-true q p k.0) (eqb-true u t k.1)
-    choice false e = there
+raised-both P f p t n q u = put-both (λ q u m. (q ≡ p → u ≡ t → P (max (f q u) n)) → P (f q u) → P m) f p t (max (f p t) n)
+    (λ here _. here refl refl) (λ q u _ _ there. there) q u
 
 pub raised-here : (f : ℕ → ℕ → ℕ) (p t n : ℕ) → n ≤ raised f p t n p t
-raised-here f p t n = choice (p == p && t == t) (and_from (p == p) (t == t) (eqb-same p) (eqb-same t))
-  where
-    choice : (b : Bool) → b ≡ true → n ≤ (if b then max (f p t) n else f p t)
-    choice true e = omega arith
-    choice false e = absurd (true≢false (sym e))
+raised-here f p t n = subst (λ m. n ≤ m) (sym (put-here f p t (max (f p t) n))) (omega arith)
 
 -- In a term that was led it may rise to what is in each log that was in that term, in those with which slots entered later terms, and in the past of each stream under way.
 pub reach-raised : (S : LogState) → Holds S → (p t n : ℕ) (g : Reign) → S.logs.reign p t ≡ Some g → n ≤ length g.log
@@ -252,7 +246,7 @@ answers-all P b f firm ds h = all-from P (answers_held firm ds b) (λ l i.
     subst P r.2 (f r.0 (all-at HeldOk ds h r.0 k.0) (same-true r.0.to b (and_parts (nat_le r.0.position firm) (same r.0.to b) k.1).1)))
 
 -- none goes to a site
-held-away : (c : ℕ) (d : Held) → HeldOk d → d.to ≡ Site c → ⊥
+pub held-away : (c : ℕ) (d : Held) → HeldOk d → d.to ≡ Site c → ⊥
 held-away c d ok e = subst (λ a. HeldFor a d.letter) e ok
 
 held-told : (T : LogState) (i h : ℕ) (d : Held) → HeldOk d → d.to ≡ Agent h → ToldOk T i d.letter

@@ -11,14 +11,16 @@ use Rattle.cluster_model.specs.SiteState.{SiteState}
 use Rattle.cluster_model.specs.Words.{term_of}
 use Rattle.cluster_model.specs.World.{set_at}
 use Rattle.word_laws.proofs.Lists.{all-append, set-here, set-there}
+use Rattle.word_laws.proofs.Channels.{sent-nothing}
 use Rattle.log_laws.specs.Histories.{AskOk, ForeignOk, Holds, IsSlot, KeepsOk, LogState, SiteLetterOk, WaitingFrom, WaitingOk, between, flow, part, start_at, term_at}
-use Rattle.log_laws.proofs.Kept.Asked.{AsksLess, left-kept, popped-kept, sent-nothing}
+use Rattle.log_laws.proofs.Kept.Terms.{running-slot}
+use Rattle.log_laws.proofs.Kept.Asked.{AsksLess, left-kept, popped-kept}
 use Rattle.log_laws.proofs.Kept.Keeps.{Still}
 use Rattle.log_laws.proofs.Plain.Lines.{flow-plain}
 use Rattle.log_laws.proofs.Kept.Moves.{Goes, left, popped}
 use Rattle.log_laws.proofs.Kept.OneSite.{LessTo, Takes, becomes-goes, counts-on, same-counts, same-uncounts, takes-asks, takes-holds, takes-joiner-same, takes-joiners, takes-keeps, takes-letters, takes-member, takes-stream, uncounts-on, with-site}
 use Rattle.log_laws.proofs.Kept.Steady.{GoesOn}
-use Rattle.log_laws.proofs.Messages.Taken.{first-foreign, first-less, first-letters, first-takes, runs-slot, without, without-each}
+use Rattle.log_laws.proofs.Messages.Taken.{first-foreign, first-less, first-letters, first-takes, without, without-each}
 
 -- ---- an ask
 
@@ -87,7 +89,7 @@ join-ask-goes S H i c l ls a slot e up start term = becomes-goes (popped S (Site
     x = record l { body = msg.JoinAsk a slot }
 
     known : (slot ≡ c) × AskOk S (part S i) c x.term a
-    known = ask-known S c i x a slot refl (subst (AllByRecursion (SiteLetterOk S c i)) e (H.letters c i (runs-slot S H i up))).0
+    known = ask-known S c i x a slot refl (subst (AllByRecursion (SiteLetterOk S c i)) e (H.letters c i (running-slot S H i up))).0
 
     ok : AskOk S (part S i) slot (term_at S i) a
     ok = rw (known.0, ← term) known.1

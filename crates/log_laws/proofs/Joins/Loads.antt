@@ -10,7 +10,7 @@ use Rattle.cluster_model.specs.Letters.{Letter, becomes}
 use Rattle.cluster_model.specs.Site.{finishes_load, may_finish, on_chunk, on_scan_end, on_stream_end, with_count, with_joining}
 use Rattle.cluster_model.specs.SiteState.{ForBase, ForJoiner, Joiner, Joining, Scanning, SiteState, Streamed}
 use Rattle.cluster_model.specs.Words.{is_some_of, term_in, term_of}
-use Rattle.word_laws.proofs.Lists.{in-map, in-map-from, none-and-some, same-some, set-here, set-there}
+use Rattle.word_laws.proofs.Lists.{none-and-some, same-some, set-here, set-there}
 use Rattle.word_laws.specs.Histories.{Distinct, In}
 use Rattle.log_laws.specs.Histories.{CountedOk, EndOk, Holds, JoinerOk, KeepsOk, LogState, MemberOk, StreamIn, Took, asked, asks_in, asks_of_term, asks_waiting, between, log_at, part, start_at, term_at}
 use Rattle.log_laws.proofs.Kept.Asked.{AtMost, asks-at, asks-of-same, at-most-same}
@@ -19,6 +19,7 @@ use Rattle.log_laws.proofs.Kept.Moves.{Goes}
 use Rattle.log_laws.proofs.Kept.OneSite.{LessTo, Takes, becomes-goes, counts-on, same-counts, same-uncounts, takes-asks, takes-holds, takes-joined, takes-joiner, takes-joiner-same, takes-joiners, takes-keeps, takes-kept, takes-letters, takes-member, takes-stream, takes-took, takes-untaken, takes-word, takes-wordless, uncounts-on, with-site}
 use Rattle.log_laws.proofs.Kept.Plumbing.{goes-same}
 use Rattle.log_laws.proofs.Kept.Steady.{GoesOn}
+use Rattle.log_laws.proofs.Kept.Rests.{SameJoiners, map-joiners, map-slots}
 
 -- ---- a site changes with nothing under way
 
@@ -283,24 +284,13 @@ module _ (f : Joiner → Joiner) (same : (j : Joiner) → SameJoiner j (f j)) wh
   counted-mapped S p t [] h = tt
   counted-mapped S p t (j ∷ js) h = (counted-same S p t j (f j) (same j) h.0, counted-mapped S p t js h.1)
 
-  pub slots-mapped : (js : List Joiner) → map (λ j. j.slot) (map f js) ≡ map (λ j. j.slot) js
-  slots-mapped [] = refl
-  slots-mapped (j ∷ js) = λ i. (same j).slot i ∷ slots-mapped js i
-
-  pub each-mapped : (js : List Joiner) → (j : Joiner) → In j js → (n : Joiner) × In n (map f js) × (n.slot ≡ j.slot) × (n.start ≡ j.start) × (n.nj ≡ j.nj)
-  each-mapped js j is = (f j, in-map f j js is, (same j).slot, (same j).start, (same j).nj)
-
-  pub back-mapped : (js : List Joiner) → (n : Joiner) → In n (map f js) → (j : Joiner) × In j js × (j.slot ≡ n.slot) × (j.start ≡ n.start)
-  back-mapped js n is = let r = in-map-from f n js is in
-      (r.0, r.1, sym (same r.0).slot ∙ ap (λ x. x.slot) r.2, sym (same r.0).start ∙ ap (λ x. x.start) r.2)
-
 scan_end-joiners : (S : LogState) → Holds S → (i : ℕ) → 0 < start_at S i → (slot count : ℕ)
     → Goes S i (becomes (record (S.sites i) { scanning = None; joiners = map (with_count slot count) (S.sites i).joiners }))
 scan_end-joiners S H i up slot count = still-goes S H i up s (scans-on (S.sites i) None js) (scans-still (S.sites i) None js) refl each back
     (λ h. takes-keeps S H i s S.words.channel S.pending S.logs.streamed k h
     (counted-mapped (with_count slot count) (with_count-same slot count) (with-site S i s S.words.channel S.pending S.logs.streamed) (part S i) (term_at S i) (S.sites i).joiners
     (takes-joiners S H i s S.words.channel S.pending S.logs.streamed k (S.sites i).joiners h.joiners))
-    (subst Distinct (sym (slots-mapped (with_count slot count) (with_count-same slot count) (S.sites i).joiners)) h.alone)
+    (subst Distinct (sym (map-slots (with_count slot count) (λ j. (with_count-same slot count j).slot) (S.sites i).joiners)) h.alone)
     (elim h.leads [ inl none ↦ inl (ap (map (with_count slot count)) none) | inr is ↦ inr is ])
     (takes-asks S H i s S.words.channel S.pending S.logs.streamed k (S.sites i).asks h.asks) h.pending h.on_disk)
   where
@@ -310,11 +300,15 @@ scan_end-joiners S H i up slot count = still-goes S H i up s (scans-on (S.sites 
     s : SiteState
     s = scans (S.sites i) None js
 
+    mapped : SameJoiners (S.sites i).joiners js
+    mapped = map-joiners (with_count slot count) (λ j. (with_count-same slot count j).slot) (λ j. (with_count-same slot count j).start) (λ j. (with_count-same slot count j).nj)
+        (S.sites i).joiners
+
     each : (x : Joiner) → In x (S.sites i).joiners → (y : Joiner) × In y s.joiners × (y.slot ≡ x.slot) × (y.start ≡ x.start) × (y.nj ≡ x.nj)
-    each = each-mapped (with_count slot count) (with_count-same slot count) (S.sites i).joiners
+    each = mapped.kept
 
     back : (y : Joiner) → In y s.joiners → (x : Joiner) × In x (S.sites i).joiners × (x.slot ≡ y.slot) × (x.start ≡ y.start)
-    back = back-mapped (with_count slot count) (with_count-same slot count) (S.sites i).joiners
+    back y is = let r = mapped.back y is in (r.0, r.1, r.2, r.3)
 
     k : Takes S i s S.words.channel S.pending S.logs.streamed
     k = alone-takes S H i up s (scans-on (S.sites i) None js) refl each back

@@ -13,9 +13,10 @@ use Rattle.cluster_model.specs.Site.{may_stream, on_stream_start}
 use Rattle.cluster_model.specs.SiteState.{Joining, SiteState, Streamed, site_term}
 use Rattle.cluster_model.specs.Words.{term_in, term_of}
 use Rattle.cluster_model.specs.World.{set_at}
-use Rattle.word_laws.proofs.Lists.{all-at, all-from, none-and-some, same-some, set-here, set-there}
+use Rattle.word_laws.proofs.Lists.{all-at, all-from, none-and-some, same-some, set-here, set-there, is_none-none}
 use Rattle.word_laws.specs.Histories.{In}
 use Rattle.log_laws.specs.Histories.{Begins, BeginsAt, Coming, EndOk, Entered, Follows, HasBeen, Holds, InWord, IsCounted, IsSlot, JoinerOk, LogState, Reached, SiteLetterOk, StreamIn, StreamedOk, Streaming, Took, Untaken, ViewIn, asked, asks_of_term, between, end_in, ends, flow, follows, known, part, start_at, term_at}
+use Rattle.log_laws.proofs.Kept.Terms.{running-slot}
 use Rattle.log_laws.proofs.Kept.Asked.{at-most-none, at-most-same, popped-less}
 use Rattle.log_laws.proofs.Plain.Copies.{follows-one}
 use Rattle.log_laws.proofs.Kept.Laters.{ack-later, ask-later, been-later, end-later-if, part-later, reached-later, report-later}
@@ -23,7 +24,7 @@ use Rattle.log_laws.proofs.Plain.Lines.{begins-same, ends-empty, ends-here, flow
 use Rattle.log_laws.proofs.Kept.Moves.{Goes, JoinsOn, Later, popped}
 use Rattle.log_laws.proofs.Kept.OneSite.{LessTo, Takes, becomes-goes, takes-counted, takes-joined, takes-joiner, takes-steady, takes-stream, takes-word, with-site}
 use Rattle.log_laws.proofs.Kept.Steady.{GoesOn, steady-joins, steady-later}
-use Rattle.log_laws.proofs.Messages.Taken.{first-begun, first-foreign, first-less, first-takes, runs-slot, without, without-each, without-here}
+use Rattle.log_laws.proofs.Messages.Taken.{first-begun, first-foreign, first-less, first-takes, without, without-each, without-here}
 use Rattle.log_laws.proofs.Joins.Tasks.{drops-goes}
 
 -- ---- at two places
@@ -329,11 +330,7 @@ module _ (S : LogState) (H : Holds S) (m i : ℕ) (l : Letter) (ls : List Letter
   stream-taken = go (S.sites i).joining refl
     where
       some-term : 0 < l.term
-      some-term = (subst (AllByRecursion (SiteLetterOk S m i)) e (H.letters m i (runs-slot S H i up))).0.0.1
-
-      is-none : (o : Option Streamed) → is_none o ≡ true → o ≡ None
-      is-none None r = refl
-      is-none (Some y) r = absurd (true≢false (sym r))
+      some-term = (subst (AllByRecursion (SiteLetterOk S m i)) e (H.letters m i (running-slot S H i up))).0.0.1
 
       go : (o : Option Joining) → (S.sites i).joining ≡ o → Goes (popped S (Site m) i) i (becomes (on_stream_start (S.sites i) o (record l { body = msg.StreamStart head }) head))
       go None none = stream-drops (λ j is. absurd (none-and-some none is))
@@ -352,7 +349,7 @@ module _ (S : LogState) (H : Holds S) (m i : ℕ) (l : Letter) (ls : List Letter
           takes-stream-in (Some w) view may =
               let p = and_parts (is_none j.stream) (nat_lt (S.sites i).earlier l.term) may in
               let same-term : l.term ≡ term_of w = term ∙ ap term_in view in
-              taken-goes w view j is (is-none j.stream p.0) (below p.1 same-term)
+              taken-goes w view j is (is_none-none j.stream p.0) (below p.1 same-term)
             where
               below : nat_lt (S.sites i).earlier l.term ≡ true → l.term ≡ term_of w → (S.sites i).earlier < term_of w
               below r same-term = grind (arith, nat_tests, r, same-term)

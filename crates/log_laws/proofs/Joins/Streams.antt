@@ -1,8 +1,7 @@
 -- A leader takes a joiner: it counts it, and its stream begins.
 use Rattle.std.proofs.Common.{Bool, List, ap, append-nil, arith, false, inl, inr, refl, subst, sym, true, true≢false, ◌≡◌, ◌++◌, ◌∷◌, ◌∙◌, ◌⊎◌, ◌<◌, ◌≤◌, ◌==◌, [], ◌+◌}
 use Rattle.std.proofs.lemmas.Bool.{and_parts, cases_eq, eq-eqb, eqb-true, not-true}
-use Rattle.std.proofs.lemmas.List.{length-append, map-append}
-use Rattle.std.proofs.lemmas.List.Elements.{filter-append}
+use Rattle.std.proofs.lemmas.List.{length-append, map-append, nil_from_length}
 use Rattle.std.specs.List.{AllByRecursion, list_any}
 use Rattle.std.specs.Prelude.{None, Option, Some, filter, find, is_none, length, map, not, ◌&&◌, if◌then◌else◌, ℕ}
 use Rattle.volt_wire.specs.Word.{Membership}
@@ -24,15 +23,14 @@ use Rattle.log_laws.proofs.Plain.Copies.{follows-one, is-leader, leader-followed
 use Rattle.log_laws.proofs.Plain.Fronts.{front-length}
 use Rattle.log_laws.proofs.Kept.Keeps.{CountedBy, Still, Uncounted, counted-from, in_word-keeps-with, joiner-keeps-with}
 use Rattle.log_laws.proofs.Kept.Laters.{streamed-later}
-use Rattle.log_laws.proofs.Plain.Lines.{asks-plain, asks-same, ends-empty, ends-here, ends-plain, ends-same, flow-here, flow-other, flow-push, flow-same, line-plain, line-same}
+use Rattle.log_laws.proofs.Plain.Lines.{asks-plain, asks-same, ends-empty, ends-here, ends-plain, ends-same, flow-here, flow-other, flow-push, flow-same, line-plain, line-same, kept-append}
 use Rattle.log_laws.proofs.Kept.Moves.{Later, after}
 use Rattle.log_laws.proofs.Kept.OneSite.{counts-on, with-site}
 use Rattle.log_laws.proofs.Kept.Plumbing.{after-same}
 use Rattle.log_laws.proofs.Kept.Quiet.{still-at}
 use Rattle.log_laws.proofs.Kept.Steady.{GoesOn, Steady, goes-on-same, steady-asks, steady-counted, steady-holds, steady-joiner, steady-joins, steady-keeps, steady-later, steady-member, steady-reigns}
 use Rattle.log_laws.proofs.Joins.StreamStarts.{letter-later-ends}
-use Rattle.log_laws.proofs.Messages.Taken.{runs-slot}
-use Rattle.log_laws.proofs.Kept.Terms.{same-word, some-term, took-decided}
+use Rattle.log_laws.proofs.Kept.Terms.{running-slot, same-word, some-term, took-decided}
 
 -- ---- lists
 
@@ -68,16 +66,12 @@ in-middle x xs ys = in-right x xs (x ∷ ys) (inl refl)
 
 -- those of a slot, without one
 kept-fewer : (c : ℕ) (pre post : List Ask) (a : Ask) → AtMost (asks_kept c (pre ++ a ∷ post)) (asks_kept c (pre ++ post))
-kept-fewer c pre post a = subst (λ z. AtMost (asks_kept c (pre ++ a ∷ post)) z) (sym (parts pre post)) (subst (λ z. AtMost z (asks_kept c pre ++ asks_kept c post)) (sym whole)
+kept-fewer c pre post a = subst (λ z. AtMost (asks_kept c (pre ++ a ∷ post)) z) (sym (kept-append c pre post)) (subst (λ z. AtMost z (asks_kept c pre ++ asks_kept c post)) (sym whole)
     (at-most-both (asks_kept c pre) (asks_kept c pre) (asks_kept c (a ∷ []) ++ asks_kept c post) (asks_kept c post) (at-most-same (asks_kept c pre))
     (at-most-behind (asks_kept c (a ∷ [])) (asks_kept c post))))
   where
-    parts : (xs ys : List Ask) → asks_kept c (xs ++ ys) ≡ asks_kept c xs ++ asks_kept c ys
-    parts xs ys = ap (map (λ k. k.start)) (filter-append (λ k. k.slot == c) xs ys)
-        ∙ map-append (λ k. k.start) (filter (λ k. k.slot == c) xs) (filter (λ k. k.slot == c) ys)
-
     whole : asks_kept c (pre ++ a ∷ post) ≡ asks_kept c pre ++ (asks_kept c (a ∷ []) ++ asks_kept c post)
-    whole = parts pre (a ∷ post) ∙ ap (λ z. asks_kept c pre ++ z) (parts (a ∷ []) post)
+    whole = kept-append c pre (a ∷ post) ∙ ap (λ z. asks_kept c pre ++ z) (kept-append c (a ∷ []) post)
 
 kept-length : (pre post : List Ask) (a : Ask) → length (asks_kept a.slot (pre ++ a ∷ post)) ≡ length (asks_kept a.slot (pre ++ post)) + 1
 kept-length [] post a = rw (eqb-same a.slot) (omega arith)
@@ -91,10 +85,6 @@ kept-length (x ∷ pre) post a = choice (x.slot == a.slot) (kept-length pre post
 
 four-length : (as_ bs cs ds : List ℕ) → length (as_ ++ bs ++ cs ++ ds) ≡ length as_ + length bs + length cs + length ds
 four-length as_ bs cs ds = length-append (as_ ++ bs ++ cs) ds ∙ ap (λ n. n + length ds) (length-append (as_ ++ bs) cs ∙ ap (λ n. n + length cs) (length-append as_ bs))
-
-none-long : (xs : List ℕ) → length xs ≡ 0 → xs ≡ []
-none-long [] e = refl
-none-long (x ∷ xs) e = absurd (omega (arith, e))
 
 kept-in : (xs : List Ask) (a : Ask) → In a xs → In a.start (asks_kept a.slot xs)
 kept-in xs a i = in-map (λ k. k.start) a (filter (λ k. k.slot == a.slot) xs) (filter-in (λ k. k.slot == a.slot) a xs i (eqb-same a.slot))
@@ -150,7 +140,7 @@ module _ (E : Database) (S : LogState) (H : Holds S) (i : ℕ) (up : 0 < start_a
   lead = (is-leader S.words.deployment i (S.sites i) w found.1 leading.0).1
 
   slot : IsSlot S i
-  slot = runs-slot S H i up
+  slot = running-slot S H i up
 
   reign : (g : Reign) × (S.logs.reign (part S i) (term_of w) ≡ Some g) × (log_at S i ≡ g.log)
   reign = go (S.logs.reign (part S i) (term_of w)) refl (found.2.leading lead)
@@ -357,7 +347,7 @@ module _ (E : Database) (S : LogState) (H : Holds S) (i : ℕ) (up : 0 < start_a
     new-asked : Quiet S a.slot w i → asked T a.slot i (term_of w) ≡ []
     new-asked q = elim (q.asks slot) [
       | inl none ↦ absurd (unasked none)
-      | inr one ↦ none-long (asked T a.slot i (term_of w)) (fewer (ap length one))
+      | inr one ↦ nil_from_length (asked T a.slot i (term_of w)) (fewer (ap length one))
     ]
       where
         kept-here : asks_of_term a.slot (term_of w) (S.sites i) ≡ asks_kept a.slot (pre ++ a ∷ post)

@@ -1,8 +1,7 @@
 -- By which starts a slot asked to join: what a message that waits, is kept or is forgotten makes of that.
-use Rattle.std.proofs.Common.{◌≡◌, Bool, true, false, List, [], ◌∷◌, ◌++◌, append_assoc, append-nil, refl, sym, subst, ap, ◌∙◌, ◌⊎◌, inl, inr, ◌==◌, true≢false, arith}
+use Rattle.std.proofs.Common.{◌≡◌, Bool, true, false, List, [], ◌∷◌, ◌++◌, append_assoc, refl, sym, subst, ap, ◌∙◌, ◌⊎◌, inl, inr, ◌==◌, true≢false, arith}
 use Rattle.std.proofs.lemmas.Bool.{cases_eq, eqb-true}
 use Rattle.std.proofs.lemmas.Bool.Decides.{nat_tests}
-use Rattle.std.proofs.Math.Path.{fun_ext}
 use Rattle.std.proofs.lemmas.List.{length-append, map-append}
 use Rattle.std.proofs.lemmas.List.Elements.{filter-append}
 use Rattle.std.specs.Prelude.{ℕ, ◌≤◌, ◌&&◌, if◌then◌else◌, flat_map, filter, length, nat_lt}
@@ -13,10 +12,11 @@ use Rattle.cluster_model.specs.Words.{term_in}
 use Rattle.cluster_model.specs.Letters.{same, Letter, Waiting, no_sends, of_term, above_term}
 use Rattle.cluster_model.specs.SiteState.{SiteState, site_term}
 use Rattle.cluster_model.specs.Site.{on_join_ask}
-use Rattle.cluster_model.specs.World.{rest, sent, set_at}
+use Rattle.cluster_model.specs.World.{rest, set_at}
 use Rattle.word_laws.specs.Histories.{In}
 use Rattle.word_laws.proofs.Lists.{eqb-same, in-left, in-right, in-cases, set-here, set-there}
 use Rattle.word_laws.proofs.Steps.{same-true}
+use Rattle.word_laws.proofs.Channels.{sent-nothing}
 use Rattle.log_laws.specs.Histories.{LogState, Logs, between, ask_of, asks_in, wait_of, asks_waiting, asks_kept, asks_of_term, asked}
 use Rattle.log_laws.proofs.Kept.Moves.{after, popped, left}
 use Rattle.log_laws.proofs.Plain.Lines.{waits-push}
@@ -187,14 +187,6 @@ module _ (S : LogState) (from : Actor) (i : ℕ) where
           let here : between S c i ≡ l ∷ ls = ap (λ z. S.words.channel z (Site i)) (sym (same-true from (Site c) d)) ∙ e in rw here refl
       choice true false q d = refl
       choice false b q d = absurd (true≢false (sym q))
-
--- where nothing is sent
-pub sent-nothing : (ch : Actor → Actor → List Letter) (from : Actor) → sent ch from no_sends ≡ ch
-sent-nothing ch from = fun_ext (λ a. fun_ext (λ b. choice (same from a) a b))
-  where
-    choice : (c : Bool) (a b : Actor) → (if c then ch a b ++ [] else ch a b) ≡ ch a b
-    choice true a b = append-nil (ch a b)
-    choice false a b = refl
 
 -- ---- what comes to a site is kept, waits, or is forgotten
 

@@ -176,7 +176,7 @@ module _ (S : LogState) (H : Holds S) (i : ℕ) (more : List Entry) (floor : ℕ
         (ch (Site j) (Site c)) (carries.letters j c slot);
     foreign = carries.foreign;
     loads = loads-later S T H grew-later refl refl carries.told (λ h g. carries.agents h (Agent g));
-    entered = λ c t e is. entered-later S T H grew-later c t e (H.entered c t e is) is same
+    entered = λ c t e is. entered-later S T H grew-later c t e (H.entered c t e is) same
         (λ runs. let a = ((H.entered c t e is).running (sym (stays c).start ∙ runs)).2 in let b = (stays c).log in omega (arith, a, b)) (H.entered c t e is).since;
     streamed = λ c t x is. let k = H.streamed c t x is in streamed-later S T H grew-later c t x k same k.apart
         (λ runs. let a = (k.running (sym (stays c).start ∙ runs)).2 in let b = (stays c).log in omega (arith, a, b))

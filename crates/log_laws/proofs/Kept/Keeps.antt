@@ -1,10 +1,10 @@
 -- What holds of a slot that isn't the one that moves: it stays so.
 use Rattle.std.proofs.Common.{◌≡◌, ◌<◌, Bool, true, false, List, [], ◌∷◌, refl, sym, subst, ap, ◌∙◌, ◌⊎◌, inl, inr, ◌==◌, arith}
-use Rattle.std.proofs.lemmas.Bool.{cases_eq, cases_Bool, and_parts, eqb-true, eq-eqb, eqb-false, ne_eqb}
+use Rattle.std.proofs.lemmas.Bool.{cases_eq, cases_Bool, eqb-true, eq-eqb, ne_eqb}
 use Rattle.std.specs.Prelude.{ℕ, ◌&&◌, not, length, Option, Some, None}
 use Rattle.std.specs.List.{AllByRecursion}
 use Rattle.volt_wire.specs.Word.{Membership}
-use Rattle.cluster_model.specs.Words.{Deployment, term_of, term_in, leader, part_of_slot, is_some_of}
+use Rattle.cluster_model.specs.Words.{Deployment, term_of, term_in, leader}
 use Rattle.cluster_model.specs.SiteState.{SiteState, Streamed, Joining, Joiner, Ask}
 use Rattle.word_laws.specs.Histories.{In}
 use Rattle.word_laws.proofs.Lists.{all-mono}
@@ -12,21 +12,7 @@ use Rattle.log_laws.specs.Histories.{LogState, Holds, Entered, Streaming, Reign,
 use Rattle.log_laws.proofs.Kept.Moves.{Later, Stays, JoinsOn}
 use Rattle.log_laws.proofs.Kept.Asked.{AtMost, at-most-none, at-most-one}
 use Rattle.log_laws.proofs.Kept.Laters.{part-later, slot-before, start-later, ack-later, report-later, counted-later, ask-later-on, waiting-later-on}
-
--- whom a slot follows leads its partition, and is another one
-pub follows-leader : (D : Deployment) (w : Membership) (c l : ℕ) → follows D w c l ≡ true → leader D w (part_of_slot D c) ≡ Some l
-follows-leader D w c l e = go (leader D w (part_of_slot D c)) (and_parts (is_some_of (leader D w (part_of_slot D c)) l) (not (l == c)) e).0
-  where
-    go : (o : Option ℕ) → is_some_of o l ≡ true → o ≡ Some l
-    go None q = absurd (cc)
-    go (Some x) q = ap Some (eqb-true x l q)
-
-pub follows-other : (D : Deployment) (w : Membership) (c l : ℕ) → follows D w c l ≡ true → l ≡ c → ⊥
-follows-other D w c l e = apart (l == c) refl (and_parts (is_some_of (leader D w (part_of_slot D c)) l) (not (l == c)) e).1
-  where
-    apart : (b : Bool) → (l == c) ≡ b → not b ≡ true → l ≡ c → ⊥
-    apart true q n = absurd (cc)
-    apart false q n = eqb-false l c q
+use Rattle.log_laws.proofs.Plain.Copies.{follows-leader}
 
 -- ---- what is the same
 
@@ -228,7 +214,7 @@ module _ (S T : LogState) (H : Holds S) (f : Later S T) (c : ℕ) (site : Still 
         | inl q ↦ subst (λ x. FollowsIn (S.sites c) (line (start_at S c) (term_of w) (between T x c)) (T.logs.reign (part S c) (term_of w))) (sym q)
             (mine (subst (λ x. follows D w c x ≡ true) q e)
             (subst (λ x. FollowsIn (S.sites c) (line (start_at S c) (term_of w) (between S x c)) (S.logs.reign (part S c) (term_of w))) q p))
-        | inr d ↦ rw (lines l d, same-reign l d (follows-leader D w c l e)) p
+        | inr d ↦ rw (lines l d, same-reign l d (follows-leader D w c l e).0) p
       ]
 
       others : (l : ℕ) → follows D w c l ≡ false → line (start_at S c) (term_of w) (between S l c) ≡ [] → line (start_at S c) (term_of w) (between T l c) ≡ []

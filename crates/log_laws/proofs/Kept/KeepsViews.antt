@@ -13,16 +13,17 @@ use Rattle.word_laws.specs.Histories.{In}
 use Rattle.word_laws.proofs.Lists.{all-mono, all-at, all-from, in-right}
 use Rattle.log_laws.specs.Histories.{LogState, Holds, MemberViews, FirstViews, RunViews, Starting, ViewsOk, ForeignOk, start_at, from_agent, views, view_of, sent_term}
 use Rattle.log_laws.proofs.Kept.Moves.{Later}
-use Rattle.log_laws.proofs.Kept.Laters.{start-later}
 
 -- ---- words that are under way
 
-module _ (S T : LogState) (H : Holds S) (f : Later S T) where
+-- where words have only grown
+module _ (S T : LogState) (deployment : T.words.deployment ≡ S.words.deployment) (decided : (w : Membership) → In w S.words.history.decided → In w T.words.history.decided)
+    (took_word : (a : ℕ) (w : Membership) → S.words.history.took a ≡ Some w → T.words.history.took a ≡ Some w) where
   pub member_views-later : (c start low : ℕ) (ws : List Membership) → MemberViews S c start low ws → MemberViews T c start low ws
   member_views-later c start low ws k = (
     all-mono (λ w. In w S.words.history.decided × (start_of_slot S.words.deployment w c ≡ Some start))
         (λ w. In w T.words.history.decided × (start_of_slot T.words.deployment w c ≡ Some start))
-        (λ w p. (f.words.decided w p.0, start-later S T H f w c ∙ p.1)) ws k.0,
+        (λ w p. (decided w p.0, ap (λ D. start_of_slot D w c) deployment ∙ p.1)) ws k.0,
     k.1,
   )
 
@@ -31,7 +32,7 @@ module _ (S T : LogState) (H : Holds S) (f : Later S T) where
     first = k.first;
     later = k.later;
     views_are = k.views_are;
-    took = f.words.took_word start k.first k.took;
+    took = took_word start k.first k.took;
     members = member_views-later c start (term_of k.first + 1) k.later k.members;
   }
 
@@ -39,6 +40,7 @@ module _ (S T : LogState) (H : Holds S) (f : Later S T) where
   run_views-later c None ws e k = rw e (first_views-later c (start_at S c) ws k)
   run_views-later c (Some w) ws e k = rw e (member_views-later c (start_at S c) (term_of w + 1) ws k)
 
+module _ (S T : LogState) (H : Holds S) (f : Later S T) where
   -- Others send it no start, and no agent of another host a word.
   pub foreign-later : (c : ℕ) (from : Actor) (l : Letter) → ForeignOk S c from l → ForeignOk T c from l
   foreign-later c (Agent g) l k = elim l.body as (λ m. ForeignOk S c (Agent g) (record l { body = m }) → ForeignOk T c (Agent g) (record l { body = m })) [
@@ -104,11 +106,11 @@ module _ (S T : LogState) (H : Holds S) (f : Later S T) (c : ℕ) where
         (λ l i. all-at PlainView (from_agent S c) k.plain l (left.within l i)));
     began = λ s i. rw (f.words.deployment) (began s (k.began s (from s (rw (f.words.deployment, ran) at i))));
     running = λ up. let old = rw start at up in
-        rw (channel, start, view, left.running old) (run_views-later S T H f c (S.sites c).view (views (start_at S c) (from_agent S c)) start (k.running old));
+        rw (channel, start, view, left.running old) (run_views-later S T f.words.deployment f.words.decided f.words.took_word c (S.sites c).view (views (start_at S c) (from_agent S c)) start (k.running old));
     starting = λ s i. let there = rw channel at i in
         let o = k.starting s (left.starts s there) in
         let n = left.starting s there o.1 in
-        rw (ran, channel, n.1) (o.0, n.0, first_views-later S T H f c s (views s (from_agent S c)) o.2);
+        rw (ran, channel, n.1) (o.0, n.0, first_views-later S T f.words.deployment f.words.decided f.words.took_word c s (views s (from_agent S c)) o.2);
     wordless = rw (f.words.deployment, agent, ran) (λ up taken none. let o = k.wordless up taken none in (
       (λ i. o.0 (left.starts (S.words.agents (host_of_slot S.words.deployment c)).start i)),
       o.1,

@@ -1,5 +1,5 @@
 -- What is kept from one state to a later one.
-use Rattle.std.proofs.Common.{◌≡◌, ◌<◌, List, [], ◌++◌, append_assoc, append-nil, refl, sym, subst, ap, ◌∙◌, ◌⊎◌, inl, inr, ◌==◌, arith}
+use Rattle.std.proofs.Common.{◌≡◌, ◌<◌, List, refl, sym, subst, ap, ◌∙◌, ◌⊎◌, inl, inr, ◌==◌, arith}
 use Rattle.std.proofs.lemmas.Bool.{cases_eq}
 use Rattle.std.specs.Prelude.{ℕ, ◌≤◌, max, length, Option, Some, None}
 use Rattle.std.specs.List.{AllByRecursion, list_any}
@@ -15,15 +15,8 @@ use Rattle.cluster_model.specs.SiteState.{Joiner, Joining}
 use Rattle.word_laws.specs.Histories.{In}
 use Rattle.word_laws.proofs.Lists.{all-mono, none-and-some, same-some}
 use Rattle.log_laws.specs.Histories.{LogState, Logs, base_of, Holds, HasBeen, WasIn, AckOk, ReportOk, AskOk, CountedOk, EndOk, Reached, LoadedOk, BeginsAt, SiteLetterOk, WaitingFrom, WaitingOk, ToldOk, AskedOk, QueuedOk, LoadsOk, IsSlot, AllLoaded, Entered, Streaming, Reign, EnteredOk, StreamedOk, ReignOk, UnledOk, Last, Unled, Front, Came, IsCounted, WordOf, part, start_at, log_at, term_at, flow, between}
-use Rattle.log_laws.proofs.Plain.Fronts.{front-length}
+use Rattle.log_laws.proofs.Plain.Fronts.{front-length, front-refl, front-trans}
 use Rattle.log_laws.proofs.Kept.Moves.{Later, EntersNow, Stays, JoinsOn, SameReigns}
-
--- a front of a front is one
-pub front-then : (xs ys zs : List Entry) → Front xs ys → Front ys zs → Front xs zs
-front-then xs ys zs (m, e) (n, g) = (m ++ n, g ∙ ap (λ l. l ++ n) e ∙ append_assoc xs m n)
-
-pub front-refl : (xs : List Entry) → Front xs xs
-front-refl xs = ([], sym (append-nil xs))
 
 -- the same terms are led where nothing of them changes
 pub same-reigns : (G H : Logs) → H.reign ≡ G.reign → SameReigns G H
@@ -193,24 +186,25 @@ module _ (S T : LogState) (H : Holds S) (f : Later S T) where
   -- ---- messages, and what waits
 
   -- A message to slot c from slot i, where an ask and the end of a stream stay so.
-  pub letter-later-with : (i c : ℕ) (l : Letter) → ((a : ℕ) → AskOk S (part S c) i l.term a → AskOk T (part S c) i l.term a)
+  pub letter-later-with : (i c : ℕ) (l : Letter) → ((a slot : ℕ) → l.body ≡ msg.JoinAsk a slot → AskOk S (part S c) i l.term a → AskOk T (part S c) i l.term a)
       → (Reached S c l → EndOk S i c l → EndOk T i c l) → SiteLetterOk S i c l → SiteLetterOk T i c l
-  letter-later-with i c l asks ends k = elim l.body as (λ m. (Reached S c (record l { body = m }) → EndOk S i c (record l { body = m }) → EndOk T i c (record l { body = m }))
+  letter-later-with i c l asks ends k = elim l.body as (λ m. ((a slot : ℕ) → m ≡ msg.JoinAsk a slot → AskOk S (part S c) i l.term a → AskOk T (part S c) i l.term a)
+      → (Reached S c (record l { body = m }) → EndOk S i c (record l { body = m }) → EndOk T i c (record l { body = m }))
       → SiteLetterOk S i c (record l { body = m }) → SiteLetterOk T i c (record l { body = m })) [
-        | msg.Put position e floor ↦ λ _ p. (
+        | msg.Put position e floor ↦ λ _ _ p. (
           reached-later c (record l { body = msg.Put position e floor }) p.0,
           rw (part-later c) (let a = f.reach (part S c) l.term in let b = p.1 in omega (arith, a, b)),
         )
-        | msg.Repair from entries ↦ λ _. reached-later c (record l { body = msg.Repair from entries })
-        | msg.Task position e ↦ λ _. reached-later c (record l { body = msg.Task position e })
-        | msg.StreamStart head ↦ λ _. reached-later c (record l { body = msg.StreamStart head })
-        | msg.StreamEnd count ↦ λ e p. (reached-later c (record l { body = msg.StreamEnd count }) p.0, e p.0 p.1)
-        | msg.Ack n ↦ λ _ p. (p.0, ack-later i l.term n p.1)
-        | msg.Report position floor tail ↦ λ _ p. (p.0, rw (part-later c) (report-later (part S c) i l.term position floor tail p.1))
-        | msg.JoinAsk a slot ↦ λ _ p. (p.0, p.1, rw (part-later c) (asks a p.2))
-        | msg.Start a ↦ λ _ p. p
-        | m ↦ λ _ p. tt
-      ] ends k
+        | msg.Repair from entries ↦ λ _ _. reached-later c (record l { body = msg.Repair from entries })
+        | msg.Task position e ↦ λ _ _. reached-later c (record l { body = msg.Task position e })
+        | msg.StreamStart head ↦ λ _ _. reached-later c (record l { body = msg.StreamStart head })
+        | msg.StreamEnd count ↦ λ _ e p. (reached-later c (record l { body = msg.StreamEnd count }) p.0, e p.0 p.1)
+        | msg.Ack n ↦ λ _ _ p. (p.0, ack-later i l.term n p.1)
+        | msg.Report position floor tail ↦ λ _ _ p. (p.0, rw (part-later c) (report-later (part S c) i l.term position floor tail p.1))
+        | msg.JoinAsk a slot ↦ λ asks _ p. (p.0, p.1, rw (part-later c) (asks a slot refl p.2))
+        | msg.Start a ↦ λ _ _ p. p
+        | m ↦ λ _ _ p. tt
+      ] asks ends k
 
   pub letter-later : (i c : ℕ) (l : Letter) → JoinsOn S T i
       → ((k : EndOk S i c l) (j : Joining) → (S.sites c).joining ≡ Some j → start_at S c ≡ l.start → term_at S c ≡ l.term
@@ -218,27 +212,27 @@ module _ (S T : LogState) (H : Holds S) (f : Later S T) where
       → ((k : EndOk S i c l) (x : Streaming) → T.logs.streamed c l.term ≡ Some x → x.start ≡ l.start → (S.logs.streamed c l.term ≡ Some x) ⊎ (x.nj ≡ k.nj))
       → SiteLetterOk S i c l → SiteLetterOk T i c l
   letter-later i c l on keeps taken k =
-      letter-later-with i c l (λ a. ask-later (part S c) i l.term a on) (λ r e. end-later-if i c l r e (keeps e) (taken e)) k
+      letter-later-with i c l (λ a _ _. ask-later (part S c) i l.term a on) (λ r e. end-later-if i c l r e (keeps e) (taken e)) k
 
   -- What waits at slot c, where an ask stays so. Its start is meant, if one is.
   pub waiting-later-with : (c : ℕ) → start_at T c ≡ start_at S c → (x : Waiting)
-      → ((i a : ℕ) → x.from ≡ Site i → AskOk S (part S c) i x.letter.term a → AskOk T (part S c) i x.letter.term a)
+      → ((i a slot : ℕ) → x.from ≡ Site i → x.letter.body ≡ msg.JoinAsk a slot → AskOk S (part S c) i x.letter.term a → AskOk T (part S c) i x.letter.term a)
       → WaitingOk S c x → WaitingOk T c x
   waiting-later-with c start x asks k = (rw start k.0, go x.from refl k.1)
     where
       site : (i : ℕ) → x.from ≡ Site i → WaitingFrom S c (Site i) x.letter → WaitingFrom T c (Site i) x.letter
-      site i e p = elim x.letter.body as (λ m. WaitingFrom S c (Site i) (record x.letter { body = m }) → WaitingFrom T c (Site i) (record x.letter { body = m })) [
-        | msg.Put position e floor ↦ λ p. p
-        | msg.Repair from entries ↦ λ p. p
-        | msg.Task position e ↦ λ p. p
-        | msg.StreamStart head ↦ λ p. p
-        | msg.StreamEnd count ↦ λ p. p
-        | msg.JoinAsk a slot ↦ λ p. (p.0, p.1, rw (part-later c) (asks i a e p.2))
-        | msg.Ack n ↦ λ p. (p.0, ack-later i x.letter.term n p.1)
-        | msg.Report position floor tail ↦ λ p. (p.0, rw (part-later c) (report-later (part S c) i x.letter.term position floor tail p.1))
-        | msg.Start a ↦ λ p. p
-        | m ↦ λ _. tt
-      ] p
+      site i e p = elim x.letter.body as (λ m. x.letter.body ≡ m → WaitingFrom S c (Site i) (record x.letter { body = m }) → WaitingFrom T c (Site i) (record x.letter { body = m })) [
+        | msg.Put position e floor ↦ λ _ p. p
+        | msg.Repair from entries ↦ λ _ p. p
+        | msg.Task position e ↦ λ _ p. p
+        | msg.StreamStart head ↦ λ _ p. p
+        | msg.StreamEnd count ↦ λ _ p. p
+        | msg.JoinAsk a slot ↦ λ b p. (p.0, p.1, rw (part-later c) (asks i a slot e b p.2))
+        | msg.Ack n ↦ λ _ p. (p.0, ack-later i x.letter.term n p.1)
+        | msg.Report position floor tail ↦ λ _ p. (p.0, rw (part-later c) (report-later (part S c) i x.letter.term position floor tail p.1))
+        | msg.Start a ↦ λ _ p. p
+        | m ↦ λ _ _. tt
+      ] refl p
 
       go : (from : Actor) → x.from ≡ from → WaitingFrom S c from x.letter → WaitingFrom T c from x.letter
       go (Site i) e p = site i e p
@@ -249,7 +243,7 @@ module _ (S T : LogState) (H : Holds S) (f : Later S T) where
 
   -- where all starts that ask and run on join on
   pub waiting-later-on : (c : ℕ) → start_at T c ≡ start_at S c → ((i : ℕ) → Stays S T i → 0 < start_at T i → JoinsOn S T i) → (x : Waiting) → WaitingOk S c x → WaitingOk T c x
-  waiting-later-on c start on x = waiting-later-with c start x (λ i a e. ask-later-on (part S c) i x.letter.term a (on i))
+  waiting-later-on c start on x = waiting-later-with c start x (λ i a _ _ _. ask-later-on (part S c) i x.letter.term a (on i))
 
   pub waiting-later : (c : ℕ) → start_at T c ≡ start_at S c → ((i : ℕ) → JoinsOn S T i) → (x : Waiting) → WaitingOk S c x → WaitingOk T c x
   waiting-later c start on = waiting-later-on c start (λ i _ _. on i)
@@ -311,10 +305,10 @@ module _ (S T : LogState) (H : Holds S) (f : Later S T) where
   unled-before p v t same k x g is = let r = same.kept p x g is in k x r.0 r.1
 
   -- Of a slot that entered a term, where what is everywhere is in its log still.
-  pub entered-later : (c t : ℕ) (e : Entered) → EnteredOk S c t e → S.logs.entered c t ≡ Some e → SameReigns S.logs T.logs
+  pub entered-later : (c t : ℕ) (e : Entered) → EnteredOk S c t e → SameReigns S.logs T.logs
       → (start_at T c ≡ e.start → T.logs.reach (part T c) t ≤ length (log_at T c))
       → ((v : ℕ) (g : Reign) → S.logs.reign (part S c) v ≡ Some g → v < t → T.logs.reach (part S c) v ≤ length e.log) → EnteredOk T c t e
-  entered-later c t e k is same reach since = record {
+  entered-later c t e k same reach since = record {
     slot = slot-later c k.slot;
     word = k.word;
     is_word = word_of-later t k.word k.is_word;
@@ -324,7 +318,7 @@ module _ (S T : LogState) (H : Holds S) (f : Later S T) where
     reach = rw (part-later c) (let a = f.reach (part S c) t in let b = k.reach in omega (arith, a, b));
     behind = λ v l. let old = last-before (part S c) (part T c) v t (part-later c) same l in
         let b = k.behind v old.0 in (
-          front-then e.log old.0.reign.log l.reign.log b.0 old.1,
+          front-trans e.log old.0.reign.log l.reign.log b.0 old.1,
           rw (part-later c) (let r = f.reach (part S c) v in let n = b.1 in omega (arith, r, n)),
         );
     still = λ v g below then start none. elim (f.entered_now c v g then) [
@@ -393,7 +387,7 @@ module _ (S T : LogState) (H : Holds S) (f : Later S T) where
   reign-later p t g h begun more within k = record {
     word = k.word;
     is_word = word_of-later t k.word k.is_word;
-    grown = rw begun (front-then g.begun g.log h.log k.grown more);
+    grown = rw begun (front-trans g.begun g.log h.log k.grown more);
     within = let l = front-length g.log h.log more in omega (arith, within, l);
     entered = λ c a slot is start. let r = k.entered c a (slot-before c slot) (sym (part-later c) ∙ is) (sym (start-later k.word c) ∙ start) in
         (r.0, f.entered c t r.0 r.1, r.2, rw begun r.3);

@@ -16,7 +16,7 @@ use Rattle.cluster_model.specs.World.{sent}
 use Rattle.word_laws.proofs.Lists.{all-append, all-behind, all-if, all-mono, filter-all}
 use Rattle.word_laws.proofs.Steps.{channel-holds}
 use Rattle.log_laws.specs.Histories.{LogState, Logs, Holds, SiteLetterOk, ForeignOk, ToldOk, start_at, term_at, between, from_agent, line, flow, ends, asks_in, asks_waiting, asks_of_term, asked}
-use Rattle.log_laws.proofs.Kept.Moves.{after, NoStreamStart, Turns, Goes}
+use Rattle.log_laws.proofs.Kept.Moves.{after, NoStreamStart, Turns}
 use Rattle.log_laws.proofs.Plain.Lines.{in_order, line-append, flow-append, ends-append, asks-append, line-order, flow-order, ends-order, asks-order, all-order}
 use Rattle.log_laws.proofs.Kept.Asked.{at-most-is}
 use Rattle.log_laws.proofs.Kept.KeepsViews.{leaves-same}
@@ -102,16 +102,6 @@ pub ordered-turns : (S : LogState) (i : ℕ) (t : Turn SiteState) → Turns S i 
 ordered-turns S i t g = record {
   logs = g.logs;
   start = g.start;
-  plain = λ c. all-order NoStreamStart (t.sends (Site c)) (g.plain c);
-  holds = order-holds S i t.state t.sends g.logs g.plain g.holds;
-  grown = g.grown;
-}
-
-pub ordered-goes : (S : LogState) (i : ℕ) (t : Turn SiteState) → Goes S i t → Goes S i (ordered t)
-ordered-goes S i t g = record {
-  logs = g.logs;
-  start = g.start;
-  view = g.view;
   plain = λ c. all-order NoStreamStart (t.sends (Site c)) (g.plain c);
   holds = order-holds S i t.state t.sends g.logs g.plain g.holds;
   grown = g.grown;

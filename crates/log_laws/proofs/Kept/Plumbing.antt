@@ -1,20 +1,20 @@
 -- States after turns: their channels, their words, and one turn behind another.
-use Rattle.std.proofs.Common.{◌≡◌, Bool, true, false, List, ◌∷◌, [], ◌++◌, append_assoc, append-nil, refl, sym, subst, ap, ◌∙◌, ◌==◌, arith}
+use Rattle.std.proofs.Common.{◌≡◌, Bool, true, false, List, ◌∷◌, ◌++◌, refl, sym, subst, ap, ◌∙◌, ◌==◌, arith}
 use Rattle.std.proofs.lemmas.Bool.{eqb-true, and_parts}
 use Rattle.std.proofs.lemmas.Bool.Decides.{nat_tests}
-use Rattle.std.proofs.Math.Path.{fun_ext}
 use Rattle.std.specs.Prelude.{ℕ, ◌&&◌, if◌then◌else◌}
 use Rattle.std.specs.List.{AllByRecursion}
 use Rattle.volt_wire.specs.declared.actor.Actor.{Actor}
 use Rattle.volt_wire.specs.declared.actor.Actor.TheVariants.{Director, Client, Agent, Site, Scanner}
 use Rattle.cluster_model.specs.Letters.{same, Letter, Sends, no_sends, Turn, becomes, ◌▸◌}
 use Rattle.cluster_model.specs.SiteState.{SiteState}
-use Rattle.cluster_model.specs.World.{sent, took, rest, set_at}
+use Rattle.cluster_model.specs.World.{sent, rest, set_at}
 use Rattle.word_laws.specs.Histories as word
 use Rattle.word_laws.specs.Histories.{In}
-use Rattle.word_laws.proofs.Lists.{all-append, all-at, all-from, all-mono, eqb-same, set-here, set-there, set-both}
+use Rattle.word_laws.proofs.Lists.{all-append, all-at, all-from, all-mono, eqb-same, set-here, set-there, set-both, set-same, set-twice}
 use Rattle.word_laws.proofs.Moves as word_moves
 use Rattle.word_laws.proofs.Steps as word_steps
+use Rattle.word_laws.proofs.Channels.{sent-nothing, sent-twice}
 use Rattle.log_laws.specs.Histories.{LogState, Logs, Holds, IsSlot, SiteLetterOk, ForeignOk, ToldOk, LoadsOk, ViewsOk, start_at, between}
 use Rattle.log_laws.proofs.Kept.Moves.{after, popped, Later, Grown, Turns, Goes, NoStreamStart}
 use Rattle.log_laws.proofs.Kept.Grown.{grown-same, grown-then}
@@ -134,19 +134,8 @@ popped-here S from i = rw (eqb-same i, same-self from) refl
 -- What a site sends doesn't touch the first message that it takes.
 pub popped-after : (S : LogState) (from : Actor) (i : ℕ) (s : SiteState) (out : Sends) (G : Logs) (l : Letter) (ls : List Letter) → S.words.channel from (Site i) ≡ l ∷ ls
     → after (popped S from i) i s out G ≡ popped (after S i s out G) from i
-popped-after S from i s out G l ls is = ap (λ c. record S { words = record S.words { channel = c }; sites = set_at S.sites i s; logs = G }) (fun_ext (λ x. fun_ext (λ y. one x y)))
-  where
-    swap : (b c : Bool) (xs ys : List Letter) → (c ≡ true → xs ≡ l ∷ ls)
-        → (if b then (if c then rest xs else xs) ++ ys else (if c then rest xs else xs)) ≡ (if c then rest (if b then xs ++ ys else xs) else (if b then xs ++ ys else xs))
-    swap true true xs ys k = rw (k refl) refl
-    swap true false xs ys k = refl
-    swap false true xs ys k = refl
-    swap false false xs ys k = refl
-
-    one : (x y : Actor) → sent (took S.words.channel from (Site i)) (Site i) out x y ≡ took (sent S.words.channel (Site i) out) from (Site i) x y
-    one x y = swap (same (Site i) x) (same (Site i) y && same from x) (S.words.channel x y) (out y) (λ q.
-        let e = and_parts (same (Site i) y) (same from x) q in
-        ap (λ k. S.words.channel k y) (sym (word_steps.same-true from x e.1)) ∙ ap (λ k. S.words.channel from k) (sym (word_steps.same-true (Site i) y e.0)) ∙ is)
+popped-after S from i s out G l ls is =
+    ap (λ c. record S { words = record S.words { channel = c }; sites = set_at S.sites i s; logs = G }) (word_steps.sent-took S.words.channel from (Site i) out l ls is)
 
 pub first-after : (S : LogState) (from : Actor) (i : ℕ) (s : SiteState) (out : Sends) (G : Logs) (l : Letter) (ls : List Letter) → S.words.channel from (Site i) ≡ l ∷ ls
     → (more : List Letter) × ((after S i s out G).words.channel from (Site i) ≡ l ∷ more)
@@ -175,32 +164,14 @@ words-later S ch = word_steps.later-moved S.words S.words.agents ch (λ s b r. r
 -- one turn after another is one turn
 pub after-after : (S : LogState) (i : ℕ) (a b : SiteState) (out more : Sends) (G F : Logs) → after (after S i a out G) i b more F ≡ after S i b (λ x. out x ++ more x) F
 after-after S i a b out more G F =
-    ap (λ g. record S { words = record S.words { channel = sent (sent S.words.channel (Site i) out) (Site i) more }; sites = g; logs = F })
-    (fun_ext (λ k. site (k == i) (S.sites k)))
-    ∙ ap (λ c. record S { words = record S.words { channel = c }; sites = set_at S.sites i b; logs = F })
-    (fun_ext (λ x. fun_ext (λ y. letters (same (Site i) x) (S.words.channel x y) (out y) (more y))))
-  where
-    site : (c : Bool) (x : SiteState) → (if c then b else if c then a else x) ≡ (if c then b else x)
-    site true x = refl
-    site false x = refl
-
-    letters : (c : Bool) (xs ys zs : List Letter) → (if c then (if c then xs ++ ys else xs) ++ zs else (if c then xs ++ ys else xs)) ≡ (if c then xs ++ (ys ++ zs) else xs)
-    letters true xs ys zs = append_assoc xs ys zs
-    letters false xs ys zs = refl
+    ap (λ g. record S { words = record S.words { channel = sent (sent S.words.channel (Site i) out) (Site i) more }; sites = g; logs = F }) (set-twice S.sites i a b)
+    ∙ ap (λ c. record S { words = record S.words { channel = c }; sites = set_at S.sites i b; logs = F }) (sent-twice S.words.channel (Site i) out more)
 
 -- where nothing changes
 pub after-same : (S : LogState) (i : ℕ) → after S i (S.sites i) no_sends S.logs ≡ S
 after-same S i =
-    ap (λ c. record S { words = record S.words { channel = c }; sites = set_at S.sites i (S.sites i) }) (fun_ext (λ x. fun_ext (λ y. one x y (same (Site i) x))))
-    ∙ ap (λ f. record S { sites = f }) (fun_ext (λ c. place c (c == i) refl))
-  where
-    one : (x y : Actor) (b : Bool) → (if b then S.words.channel x y ++ [] else S.words.channel x y) ≡ S.words.channel x y
-    one x y true = append-nil (S.words.channel x y)
-    one x y false = refl
-
-    place : (c : ℕ) (b : Bool) → (c == i) ≡ b → (if b then S.sites i else S.sites c) ≡ S.sites c
-    place c true e = ap S.sites (sym (eqb-true c i e))
-    place c false e = refl
+    ap (λ c. record S { words = record S.words { channel = c }; sites = set_at S.sites i (S.sites i) }) (sent-nothing S.words.channel (Site i))
+    ∙ ap (λ f. record S { sites = f }) (set-same S.sites i)
 
 -- what a further part of a turn adds
 then-grown : (S : LogState) (i : ℕ) (s : SiteState) (t : Turn SiteState) (out : Sends) (G : Logs) (r : Goes (after S i s out G) i t)
@@ -253,16 +224,3 @@ goes-same S i h = record {
   holds = subst Holds (sym (after-same S i)) h;
   grown = grown-same S.words.deployment i (S.sites i) S.logs;
 }
-
--- three turns, one behind another
-pub then-assoc : {A : Type 0} (t : Turn A) (f g : A → Turn A) → (t ▸ f) ▸ g ≡ t ▸ (λ x. f x ▸ g)
-then-assoc t f g = ap (λ z. record { state = (g (f t.state).state).state; sends = z })
-    (fun_ext (λ b. append_assoc (t.sends b) ((f t.state).sends b) ((g (f t.state).state).sends b)))
-
--- a turn in which nothing happens, before another one or behind it
-pub then-first : {A : Type 0} (s : A) (f : A → Turn A) → becomes s ▸ f ≡ f s
-then-first s f = refl
-
-pub then-last : {A : Type 0} (t : Turn A) (f : A → Turn A) → f t.state ≡ becomes t.state → t ▸ f ≡ t
-then-last t f e = ap (λ u. record { state = u.state; sends = λ b. t.sends b ++ u.sends b }) e
-    ∙ ap (λ z. record { state = t.state; sends = z }) (fun_ext (λ b. append-nil (t.sends b)))

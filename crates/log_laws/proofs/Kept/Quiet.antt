@@ -1,6 +1,5 @@
 -- States in which other messages are under way or wait, and sites differ in what isn't looked at: what holds, holds in them.
 use Rattle.std.proofs.Common.{◌≡◌, ◌<◌, List, [], refl, sym, subst, ◌∙◌, inl, arith}
-use Rattle.std.proofs.Math.Path.{fun_ext}
 use Rattle.std.specs.Prelude.{ℕ}
 use Rattle.std.specs.List.{AllByRecursion}
 use Rattle.volt_wire.specs.Word.{Membership}
@@ -11,7 +10,7 @@ use Rattle.cluster_model.specs.Letters.{Letter, Waiting}
 use Rattle.cluster_model.specs.SiteState.{SiteState, Joining}
 use Rattle.cluster_model.specs.World.{set_at}
 use Rattle.word_laws.specs.Histories as word
-use Rattle.word_laws.proofs.Lists.{all-mono, set-both}
+use Rattle.word_laws.proofs.Lists.{all-mono, set-both, set-same}
 use Rattle.log_laws.specs.Histories.{LogState, Holds, IsCounted, SiteLetterOk, ForeignOk, ToldOk, WaitingOk, EndOk, BeginsAt, Reached, IsSlot, KeepsOk, ViewsOk, start_at, term_at, between, from_agent, line, flow, ends, part}
 use Rattle.log_laws.proofs.Kept.Moves.{Later, SameReigns, JoinsOn}
 use Rattle.log_laws.proofs.Kept.Asked.{AsksLess}
@@ -75,7 +74,7 @@ module _ (S : LogState) (ch : Actor → Actor → List Letter) (sites : ℕ → 
     foreign = λ a c. all-mono (ForeignOk S c a) (ForeignOk T c a) (foreign-later S T H f c a) (ch a (Site c)) (foreign a c);
     loads = loads-later S T H f refl refl told asked;
     entered = λ c t e i. let k = H.entered c t e i in
-        entered-later S T H f c t e k i reigns (λ is. rw ((still c).log) (k.running (sym (still c).start ∙ is)).2) k.since;
+        entered-later S T H f c t e k reigns (λ is. rw ((still c).log) (k.running (sym (still c).start ∙ is)).2) k.since;
     streamed = λ c t x i. let k = H.streamed c t x i in
         streamed-later S T H f c t x k reigns k.apart (λ is. rw ((still c).log) (k.running (sym (still c).start ∙ is)).2) (counted c x.start x.nj k.word);
     reigns = reigns-later S T H f reigns (λ p t g is. (H.reigns p t g is).within);
@@ -112,7 +111,7 @@ module _ (S : LogState) (ch : Actor → Actor → List Letter) (sites : ℕ → 
               (from c (subst (λ s. 0 < s) (sym start) r.0.0) i).flows)
 
       letter : (i c : ℕ) (l : Letter) → SiteLetterOk S i c l → SiteLetterOk T i c l
-      letter i c l = letter-later-with S T H f i c l (λ a. ask-later S T H f (part S c) i l.term a (moved-joins i)) (end i c l)
+      letter i c l = letter-later-with S T H f i c l (λ a _ _. ask-later S T H f (part S c) i l.term a (moved-joins i)) (end i c l)
 
 -- ---- the channels
 
@@ -213,9 +212,6 @@ quiet-holds S i s ch ws H site channels pends nothing asks = moved-holds S ch (s
     empty = set-both (λ c x. start_at S c ≡ 0 → x.waiting ≡ []) S.sites i s site.none (λ c d z. ((H.sites c).stopped z).0)
 
 -- a place that gets what it has
-pub set-same : {A : Type 0} (f : ℕ → A) (i : ℕ) → set_at f i (f i) ≡ f
-set-same f i = fun_ext (λ c. set-both (λ c x. x ≡ f c) f i (f i) refl (λ d other. refl) c)
-
 pub still-holds : (S : LogState) (i : ℕ) (s : SiteState) (ch : Actor → Actor → List Letter) → Holds S → SiteStill S i s → ChannelsOk S ch
     → AsksLess S (moved S ch (set_at S.sites i s) S.pending) → Holds (moved S ch (set_at S.sites i s) S.pending)
 still-holds S i s ch H site channels asks = subst (λ p. Holds (moved S ch (set_at S.sites i s) p)) (set-same S.pending i)

@@ -320,7 +320,7 @@ module _ (S : LogState) (H : Holds S) (states : ℕ → SiteState) (i : ℕ) (ou
       (λ e n some start term b. subst (AllByRecursion (BeginsAt e.nj)) (sym (flows l.start l.term j c)) b) (λ e x is start. inl is) k
 
   waiting-rests : (c : ℕ) (x : Waiting) → WaitingOk S c x → WaitingOk T c x
-  waiting-rests c x k = waiting-later-with S T H later c refl x (λ j a from. ask-later S T H later (part S c) j x.letter.term a (joins-on j)) k
+  waiting-rests c x k = waiting-later-with S T H later c refl x (λ j a _ _ _. ask-later S T H later (part S c) j x.letter.term a (joins-on j)) k
 
   leads-rests : (c : ℕ) → is_leader S.words.deployment c (S.sites c) ≡ true → is_leader S.words.deployment c (T.sites c) ≡ true
   leads-rests c e = leader-same S.words.deployment c (S.sites c) (T.sites c) refl
@@ -401,7 +401,7 @@ module _ (S : LogState) (H : Holds S) (states : ℕ → SiteState) (i : ℕ) (ou
         (λ j n. all-mono (SiteLetterOk S j c) (SiteLetterOk T j c) (letter-rests j c) (between S j c) (H.letters j c slot)) j;
     foreign = foreign-rests;
     loads = loads-rests;
-    entered = λ c t e is. entered-later S T H later c t e (H.entered c t e is) is same-reigns (reaches.entered c t e is) (reaches.since c t e is);
+    entered = λ c t e is. entered-later S T H later c t e (H.entered c t e is) same-reigns (reaches.entered c t e is) (reaches.since c t e is);
     streamed = λ c t x is. let k = H.streamed c t x is in
         streamed-later S T H later c t x k same-reigns k.apart (reaches.streamed c t x is) (counted-rests c x.start x.nj k.word);
     reigns = reigns-later S T H later same-reigns reaches.led;

@@ -103,7 +103,7 @@ module _ (S : LogState) (ch : Actor → Actor → List Letter) (f : ℕ → Site
   pub steady-waiting : (c : ℕ) (ws : List Waiting) → AllByRecursion (WaitingOk S c) ws → AllByRecursion (WaitingOk (shifted S ch f pend st) c) ws
   steady-waiting c ws h = all-mono (WaitingOk S c) (WaitingOk (shifted S ch f pend st) c)
       (λ x k. waiting-later-with S (shifted S ch f pend st) H steady-later c (m.sites c).start x
-      (λ i a from asks. ask-later S (shifted S ch f pend st) H steady-later (part S c) i x.letter.term a (steady-joins i) asks) k) ws h
+      (λ i a _ _ _ asks. ask-later S (shifted S ch f pend st) H steady-later (part S c) i x.letter.term a (steady-joins i) asks) k) ws h
 
   pub steady-asks : (p t : ℕ) (as_ : List Ask) → AllByRecursion (λ a. AskOk S p a.slot t a.start) as_ → AllByRecursion (λ a. AskOk (shifted S ch f pend st) p a.slot t a.start) as_
   steady-asks p t as_ h = all-mono (λ a. AskOk S p a.slot t a.start) (λ a. AskOk (shifted S ch f pend st) p a.slot t a.start)
@@ -193,7 +193,7 @@ module _ (S : LogState) (ch : Actor → Actor → List Letter) (f : ℕ → Site
     letters = letters;
     foreign = foreign;
     loads = steady-loads H.loads;
-    entered = λ c t e is. entered-later S (shifted S ch f pend st) H steady-later c t e (H.entered c t e is) is steady-reigns (λ at_start.
+    entered = λ c t e is. entered-later S (shifted S ch f pend st) H steady-later c t e (H.entered c t e is) steady-reigns (λ at_start.
         let r = (H.entered c t e is).running (sym (m.sites c).start ∙ at_start) in let low = r.2 in let up = (m.sites c).log in omega (arith, low, up)) (H.entered c t e is).since;
     streamed = streamed;
     reigns = reigns-later S (shifted S ch f pend st) H steady-later steady-reigns (λ p t g is. (H.reigns p t g is).within);

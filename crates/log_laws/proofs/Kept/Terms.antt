@@ -2,10 +2,10 @@
 use Rattle.std.proofs.Common.{◌≡◌, ◌+◌, ◌-◌, ◌<◌, ◌≤◌, zero, suc, true, false, length, refl, sym, subst, ap, ◌∙◌, ◌⊎◌, inl, inr, ◌==◌, arith}
 use Rattle.std.proofs.lemmas.Bool.{cases_Bool, cases_lt}
 use Rattle.std.proofs.lemmas.List.{length-map}
-use Rattle.std.specs.Prelude.{ℕ, Option, Some, None}
+use Rattle.std.specs.Prelude.{ℕ, nat_lt, Option, Some, None}
 use Rattle.std.specs.List.{list_any}
 use Rattle.volt_wire.specs.Word.{Membership}
-use Rattle.cluster_model.specs.Words.{host_of_slot, is_in, term_of, start_of, start_of_slot, admits}
+use Rattle.cluster_model.specs.Words.{slots, host_of_slot, is_in, term_of, start_of, start_of_slot, admits}
 use Rattle.word_laws.specs.Histories.{In, Within, Comparable, Recorded, GoodWord, names}
 use Rattle.word_laws.proofs.Lists.{same-some, none-and-some, not-both}
 use Rattle.word_laws.proofs.Algebra.{firsts, subset-length, within-refl, within-cases, names-first, names-admits, names-within, admits-fresh, admits-firsts}
@@ -14,6 +14,15 @@ use Rattle.word_laws.proofs.Admissions.{not-earlier-self}
 use Rattle.log_laws.specs.Histories.{LogState, Holds, Entered, Reign, WordOf, Last, WasIn, HasBeen, Came, Front, ReignOk, IsSlot, base_of, part, start_at, log_at, term_at}
 
 module _ (S : LogState) (H : Holds S) where
+  -- ---- sites
+
+  -- a site that runs is a slot's
+  pub running-slot : (c : ℕ) → 0 < start_at S c → IsSlot S c
+  running-slot c up = elim (cases_Bool (nat_lt c (slots S.words.deployment))) [
+    | inl is ↦ is
+    | inr out ↦ absurd (omega (arith, up, (H.sites c).outside out))
+  ]
+
   -- ---- words
 
   good : (w : Membership) → In w S.words.history.decided → GoodWord S.words w

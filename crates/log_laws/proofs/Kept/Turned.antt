@@ -5,7 +5,7 @@ use Rattle.std.specs.Prelude.{ℕ, ◌≤◌, length, filter, map, Option, Some,
 use Rattle.std.specs.List.{AllByRecursion}
 use Rattle.volt_wire.specs.Word.{Membership}
 use Rattle.volt_wire.specs.declared.actor.Actor.{Actor}
-use Rattle.volt_wire.specs.declared.actor.Actor.TheVariants.{Director, Client, Agent, Site, Scanner}
+use Rattle.volt_wire.specs.declared.actor.Actor.TheVariants.{Agent, Site}
 use Rattle.volt_wire.specs.declared.message.Msg.TheVariants as msg
 use Rattle.cluster_model.specs.Words.{term_of, host_of_slot}
 use Rattle.cluster_model.specs.Letters.{Letter, Waiting}
@@ -14,14 +14,13 @@ use Rattle.cluster_model.specs.World.{set_at}
 use Rattle.word_laws.specs.Histories as word
 use Rattle.word_laws.specs.Histories.{In, Distinct}
 use Rattle.word_laws.proofs.Lists.{all-from, all-at, all-append, all-mono, in-left, in-right, in-map, filter-in, eqb-same, set-here, set-there, set-both}
-use Rattle.log_laws.specs.Histories.{LogState, Holds, Entered, Streaming, Reign, EnteredOk, StreamedOk, ReignOk, UnledOk, SiteOk, KeepsOk, MemberOk, JoinerOk, InWord, Coming, ViewsOk, LoadsOk, ForeignOk, AckOk, ReportOk, CountedOk, HeldOk, SiteLetterOk, WaitingFrom, WaitingOk, AskOk, EndOk, Reached, IsCounted, IsSlot, ToldOk, AskedOk, QueuedOk, base_of, part, start_at, term_at, between, from_agent, line, flow, ends, ask_of, wait_of, asks_in, asks_waiting, asks_kept, asks_of_term, asked}
+use Rattle.log_laws.specs.Histories.{LogState, Holds, Entered, Streaming, Reign, EnteredOk, StreamedOk, ReignOk, UnledOk, SiteOk, KeepsOk, MemberOk, JoinerOk, InWord, Coming, ViewsOk, LoadsOk, ForeignOk, AckOk, ReportOk, CountedOk, HeldOk, SiteLetterOk, WaitingOk, AskOk, EndOk, Reached, IsCounted, IsSlot, ToldOk, AskedOk, QueuedOk, base_of, part, start_at, term_at, between, from_agent, line, flow, ends, ask_of, wait_of, asks_in, asks_waiting, asks_kept, asks_of_term, asked}
 use Rattle.log_laws.proofs.Kept.Moves.{Later, EntersNow}
-use Rattle.log_laws.proofs.Kept.Laters.{been-later, ack-later, report-later, ask-later, counted-later, reached-later, loaded-later, all_loaded-later, end-later, told-later, asked-later, queued-later, stays}
+use Rattle.log_laws.proofs.Kept.Laters.{been-later, ack-later, report-later, ask-later, counted-later, loaded-later, all_loaded-later, end-later, told-later, asked-later, queued-later, stays, letter-later-with, waiting-later-with}
 use Rattle.log_laws.proofs.Plain.Lines.{in-flat, flow-same, ends-same}
 use Rattle.log_laws.proofs.Kept.Asked.{AtMost, at-most-is, at-most-both, at-most-same, at-most-none}
 use Rattle.log_laws.proofs.Kept.Plumbing.{words-later}
-use Rattle.log_laws.proofs.Kept.Terms.{took-decided}
-use Rattle.log_laws.proofs.NewTerms.Entering.{running-slot}
+use Rattle.log_laws.proofs.Kept.Terms.{running-slot, took-decided}
 use Rattle.log_laws.proofs.Kept.Keeps.{Still, SameFrom, SameTerm, SameRun, still-same, site-keeps-with, joiner-keeps-with, in_word-keeps-with, quiet-keeps, coming-keeps, took-keeps}
 use Rattle.log_laws.proofs.Kept.KeepsViews.{views-keeps-with, leaves-same, foreign-later}
 
@@ -93,6 +92,15 @@ turned-later S i s ch en re rc goes entered now reach = record {
     all : (c : ℕ) → GoesOn (S.sites c) (set_at S.sites i s c)
     all = set-both (λ c z. GoesOn (S.sites c) z) S.sites i s goes (λ c _. goes-on-same (S.sites c))
 
+-- what is said of a channel, where what a site sent to others is behind what was there
+pub said-same : {A : Type 0} (f : List Letter → A) (S : LogState) (i : ℕ) (ch : Actor → Actor → List Letter) (new : ℕ → List Letter)
+    → ((c : ℕ) → ch (Site i) (Site c) ≡ between S i c ++ new c) → ((a c : ℕ) → (a ≡ i → ⊥) → ch (Site a) (Site c) ≡ between S a c)
+    → (a c : ℕ) → f (between S i c ++ new c) ≡ f (between S i c) → f (ch (Site a) (Site c)) ≡ f (between S a c)
+said-same f S i ch new mine theirs a c same = elim (cases_eq a i) [
+  | inl e ↦ subst (λ z. f (ch (Site z) (Site c)) ≡ f (between S z c)) (sym e) (ap f (mine c) ∙ same)
+  | inr n ↦ ap f (theirs a c n)
+]
+
 -- What must be so of it. The site sent these to others.
 pub record Turned (S : LogState) (i : ℕ) (s : SiteState) (ch : Actor → Actor → List Letter) (en : ℕ → ℕ → Option Entered) (re : ℕ → ℕ → Option Reign) (rc : ℕ → ℕ → ℕ)
     (new : ℕ → List Letter) : Type 0 where
@@ -136,18 +144,10 @@ module _ (S : LogState) (H : Holds S) (i : ℕ) (s : SiteState) (ch : Actor → 
   -- ---- messages
 
   flows-same : (a c start t : ℕ) → flow start t (ch (Site a) (Site c)) ≡ flow start t (between S a c)
-  flows-same a c start t = elim (cases_eq a i) [
-    | inl e ↦ subst (λ z. flow start t (ch (Site z) (Site c)) ≡ flow start t (between S z c)) (sym e)
-        (ap (flow start t) (F.mine c) ∙ flow-same start t (between S i c) (new c) (F.flows c start t))
-    | inr n ↦ ap (flow start t) (F.theirs a c n)
-  ]
+  flows-same a c start t = said-same (flow start t) S i ch new F.mine F.theirs a c (flow-same start t (between S i c) (new c) (F.flows c start t))
 
   ends-are-same : (a c start t : ℕ) → ends start t (ch (Site a) (Site c)) ≡ ends start t (between S a c)
-  ends-are-same a c start t = elim (cases_eq a i) [
-    | inl e ↦ subst (λ z. ends start t (ch (Site z) (Site c)) ≡ ends start t (between S z c)) (sym e)
-        (ap (ends start t) (F.mine c) ∙ ends-same start t (between S i c) (new c) (F.ends c start t))
-    | inr n ↦ ap (ends start t) (F.theirs a c n)
-  ]
+  ends-are-same a c start t = said-same (ends start t) S i ch new F.mine F.theirs a c (ends-same start t (between S i c) (new c) (F.ends c start t))
 
   -- an ask that is somewhere
   ask-kept : (a c t x : ℕ) → IsSlot S c → In x (asked S a c t) → AskOk S (part S c) a t x → AskOk T (part S c) a t x
@@ -160,31 +160,9 @@ module _ (S : LogState) (H : Holds S) (i : ℕ) (s : SiteState) (ch : Actor → 
   end-kept : (a c : ℕ) (l : Letter) → Reached S c l → EndOk S a c l → EndOk T a c l
   end-kept a c l r k = end-later S T H F.later a c l r k (subst (AllByRecursion _) (sym (flows-same a c l.start l.term))) (λ x e start. inl e)
 
-  letter-kept : (a c : ℕ) (l : Letter) → ((x slot : ℕ) → l.body ≡ msg.JoinAsk x slot → AskOk S (part S c) a l.term x → AskOk T (part S c) a l.term x)
-      → SiteLetterOk S a c l → SiteLetterOk T a c l
-  letter-kept a c l asks k = elim l.body as (λ m. ((x slot : ℕ) → m ≡ msg.JoinAsk x slot → AskOk S (part S c) a l.term x → AskOk T (part S c) a l.term x)
-      → SiteLetterOk S a c (record l { body = m }) → SiteLetterOk T a c (record l { body = m })) [
-        | msg.Put position e floor ↦ λ _ p. (
-          reached-later S T H F.later c (record l { body = msg.Put position e floor }) p.0,
-          (let r = F.later.reach (part S c) l.term in let b = p.1 in omega (arith, r, b)),
-        )
-        | msg.Repair from entries ↦ λ _. reached-later S T H F.later c (record l { body = msg.Repair from entries })
-        | msg.Task position e ↦ λ _. reached-later S T H F.later c (record l { body = msg.Task position e })
-        | msg.StreamStart head ↦ λ _. reached-later S T H F.later c (record l { body = msg.StreamStart head })
-        | msg.StreamEnd count ↦ λ _ p. (
-          reached-later S T H F.later c (record l { body = msg.StreamEnd count }) p.0,
-          end-kept a c (record l { body = msg.StreamEnd count }) p.0 p.1,
-        )
-        | msg.Ack n ↦ λ _ p. (p.0, ack-later S T H F.later a l.term n p.1)
-        | msg.Report position floor tail ↦ λ _ p. (p.0, report-later S T H F.later (part S c) a l.term position floor tail p.1)
-        | msg.JoinAsk x slot ↦ λ f p. (p.0, p.1, f x slot refl p.2)
-        | msg.Start x ↦ λ _ p. p
-        | m ↦ λ _ p. tt
-      ] asks k
-
   letters-kept : (a c : ℕ) → IsSlot S c → AllByRecursion (SiteLetterOk T a c) (between S a c)
-  letters-kept a c slot = all-from (SiteLetterOk T a c) (between S a c) (λ l is. letter-kept a c l (λ x slot-of e. ask-kept a c l.term x slot (in-asked l is x slot-of e))
-      (all-at (SiteLetterOk S a c) (between S a c) (H.letters a c slot) l is))
+  letters-kept a c slot = all-from (SiteLetterOk T a c) (between S a c) (λ l is. letter-later-with S T H F.later a c l (λ x slot-of e. ask-kept a c l.term x slot (in-asked l is x slot-of e))
+      (end-kept a c l) (all-at (SiteLetterOk S a c) (between S a c) (H.letters a c slot) l is))
     where
       in-asked : (l : Letter) → In l (between S a c) → (x slot-of : ℕ) → l.body ≡ msg.JoinAsk x slot-of → In x (asked S a c l.term)
       in-asked l is x slot-of e =
@@ -202,31 +180,8 @@ module _ (S : LogState) (H : Holds S) (i : ℕ) (s : SiteState) (ch : Actor → 
   ]
 
   -- what waits
-  waits-kept : (c : ℕ) (x : Waiting) → start_at T c ≡ start_at S c
-      → ((a y slot : ℕ) → x.from ≡ Site a → x.letter.body ≡ msg.JoinAsk y slot → AskOk S (part S c) a x.letter.term y → AskOk T (part S c) a x.letter.term y)
-      → WaitingOk S c x → WaitingOk T c x
-  waits-kept c x start asks k = (rw start k.0, go x.from refl k.1)
-    where
-      site : (a : ℕ) → x.from ≡ Site a → WaitingFrom S c (Site a) x.letter → WaitingFrom T c (Site a) x.letter
-      site a e p = elim x.letter.body as (λ m. (SiteLetterOk S a c (record x.letter { body = m }) → SiteLetterOk T a c (record x.letter { body = m }))
-          → WaitingFrom S c (Site a) (record x.letter { body = m }) → WaitingFrom T c (Site a) (record x.letter { body = m })) [
-            | msg.Put position e floor ↦ λ _ p. p
-            | msg.Repair from entries ↦ λ _ p. p
-            | msg.Task position e ↦ λ _ p. p
-            | msg.StreamStart head ↦ λ _ p. p
-            | msg.StreamEnd count ↦ λ _ p. p
-            | m ↦ λ f. f
-          ] (letter-kept a c x.letter (λ y slot. asks a y slot e)) p
-
-      go : (from : Actor) → x.from ≡ from → WaitingFrom S c from x.letter → WaitingFrom T c from x.letter
-      go (Site a) e p = site a e p
-      go (Agent h) e p = p
-      go Director e p = p
-      go (Client n) e p = p
-      go (Scanner a) e p = p
-
   pub waiting-turned : (c : ℕ) → IsSlot S c → start_at T c ≡ start_at S c → KeepsOk S c → AllByRecursion (WaitingOk T c) (S.sites c).waiting
-  waiting-turned c slot start k = all-from (WaitingOk T c) (S.sites c).waiting (λ x is. waits-kept c x start
+  waiting-turned c slot start k = all-from (WaitingOk T c) (S.sites c).waiting (λ x is. waiting-later-with S T H F.later c start x
       (λ a y slot-of e b. ask-kept a c x.letter.term y slot (in-asked x is a y slot-of e b)) (all-at (WaitingOk S c) (S.sites c).waiting k.waiting x is))
     where
       in-asked : (x : Waiting) → In x (S.sites c).waiting → (a y slot-of : ℕ) → x.from ≡ Site a → x.letter.body ≡ msg.JoinAsk y slot-of → In y (asked S a c x.letter.term)
@@ -238,7 +193,7 @@ module _ (S : LogState) (H : Holds S) (i : ℕ) (s : SiteState) (ch : Actor → 
           (in-right y (asks_in t (between S a c)) (asks_waiting a t (S.sites c).waiting) (in-flat (wait_of a t) y x (S.sites c).waiting is one)))
 
   pub pending-turned : (c : ℕ) → IsSlot S c → start_at T c ≡ start_at S c → KeepsOk S c → AllByRecursion (WaitingOk T c) (S.pending c)
-  pending-turned c slot start k = all-from (WaitingOk T c) (S.pending c) (λ x is. waits-kept c x start
+  pending-turned c slot start k = all-from (WaitingOk T c) (S.pending c) (λ x is. waiting-later-with S T H F.later c start x
       (λ a y slot-of e b. ask-kept a c x.letter.term y slot (in-asked x is a y slot-of e b)) (all-at (WaitingOk S c) (S.pending c) k.pending x is))
     where
       in-asked : (x : Waiting) → In x (S.pending c) → (a y slot-of : ℕ) → x.from ≡ Site a → x.letter.body ≡ msg.JoinAsk y slot-of → In y (asked S a c x.letter.term)

@@ -1,27 +1,28 @@
 -- A message leaves its channel, or what waited is taken up, where what is looked at of it is nothing: what holds, holds then.
 use Rattle.std.proofs.Common.{◌≡◌, ◌<◌, Bool, true, false, List, [], ◌∷◌, ◌++◌, refl, sym, subst, ap, ◌∙◌, ◌⊎◌, inl, inr, ◌==◌, arith}
-use Rattle.std.proofs.lemmas.Bool.{eqb-true, eqb-false, cases_Bool}
+use Rattle.std.proofs.lemmas.Bool.{eqb-true, eqb-false}
 use Rattle.std.proofs.lemmas.Bool.Decides.{nat_tests}
 use Rattle.std.specs.Prelude.{ℕ, ◌||◌, nat_lt, if◌then◌else◌}
 use Rattle.std.specs.List.{AllByRecursion}
 use Rattle.volt_wire.specs.declared.actor.Actor.{Actor}
 use Rattle.volt_wire.specs.declared.actor.Actor.TheVariants.{Director, Client, Agent, Site, Scanner}
 use Rattle.volt_wire.specs.declared.message.Msg.TheVariants as msg
-use Rattle.cluster_model.specs.Words.{host_of_slot, slots}
+use Rattle.cluster_model.specs.Words.{host_of_slot}
 use Rattle.cluster_model.specs.Letters.{Letter, Waiting, of_term, above_term, Taken, Refused, Waits, arrival, in_term, no_sends, becomes}
 use Rattle.cluster_model.specs.SiteState.{SiteState}
 use Rattle.cluster_model.specs.World.{set_at}
-use Rattle.word_laws.proofs.Channels.{took-all}
-use Rattle.word_laws.proofs.Lists.{all-append, all-filter}
+use Rattle.word_laws.proofs.Channels.{took-all, sent-nothing}
+use Rattle.word_laws.proofs.Lists.{all-append, all-filter, set-same}
 use Rattle.log_laws.specs.Histories.{LogState, Holds, SiteLetterOk, ForeignOk, WaitingOk, IsSlot, Reached, start_at, term_at, from_agent, line, line_of, flow, flow_of, ends, end_of, line_in, flow_in, view_in, WaitingFrom, view_of, asks_of_term}
 use Rattle.log_laws.proofs.Kept.Moves.{after, popped, left, Later, Goes}
 use Rattle.log_laws.proofs.Kept.Grown.{grown-same}
-use Rattle.log_laws.proofs.Plain.Lines.{line-other, flow-other, views-other, line-plain, flow-plain, views-plain}
-use Rattle.log_laws.proofs.Kept.Asked.{AsksLess, at-most-same, popped-less, left-less, parted-asks, waits-asks, sent-nothing}
+use Rattle.log_laws.proofs.Plain.Lines.{line-other, flow-other, views-other, line-plain, flow-plain, views-plain, both-empty}
+use Rattle.log_laws.proofs.Kept.Asked.{AsksLess, at-most-same, popped-less, left-less, parted-asks, waits-asks}
 use Rattle.log_laws.proofs.Kept.Keeps.{still-same}
 use Rattle.log_laws.proofs.Kept.KeepsViews.{Leaves, leaves-same, leaves-first}
 use Rattle.log_laws.proofs.Kept.Plumbing.{after-same, taken-either, words-popped}
-use Rattle.log_laws.proofs.Kept.Quiet.{ChannelsOk, channels-same, SiteStill, quiet-holds, set-same, site-same, site-waiting, moved, moved-later, still-holds}
+use Rattle.log_laws.proofs.Kept.Quiet.{ChannelsOk, channels-same, SiteStill, quiet-holds, site-same, site-waiting, moved, moved-later, still-holds}
+use Rattle.log_laws.proofs.Kept.Terms.{running-slot}
 
 -- ---- whether a site takes a message
 
@@ -137,7 +138,7 @@ module _ (S : LogState) (H : Holds S) (from : Actor) (i : ℕ) (l : Letter) (ls 
         (sym (subst (λ z. flow_of (start_at S z) (term_at S z) l ≡ []) (sym e) ((here c e up).flow k own)))))
         (Site k) c (λ _ _. refl) refl up;
     ends = λ k c up. taken-either S from i (λ a c ys. ends (start_at S c) (term_at S c) (S.words.channel a (Site c)) ≡ [] → ends (start_at S c) (term_at S c) ys ≡ [])
-        (λ c e. rw (first c e) (behind (end_of (start_at S c) (term_at S c) l) (ends (start_at S c) (term_at S c) ls)))
+        (λ c e. rw (first c e) (λ none. (both-empty (end_of (start_at S c) (term_at S c) l) (ends (start_at S c) (term_at S c) ls) none).1))
         (Site k) c (λ z. z);
     leaves = λ c. taken-either S from i (λ a c ys. a ≡ Agent (host_of_slot S.words.deployment c) → Leaves (start_at S c) (S.words.channel a (Site c)) ys)
         (λ c e own. rw (first c e) (leaves-first (start_at S c) l ls
@@ -154,10 +155,6 @@ module _ (S : LogState) (H : Holds S) (from : Actor) (i : ℕ) (l : Letter) (ls 
 
       here : (c : ℕ) → c ≡ i → 0 < start_at S c → Unread S i from l
       here c e up = unread (subst (λ z. 0 < start_at S z) e up)
-
-      behind : (xs ys : List ℕ) → xs ++ ys ≡ [] → ys ≡ []
-      behind [] ys e = e
-      behind (x ∷ xs) ys e = absurd (cc)
 
   -- it is taken, and the site stays as it was as far as is looked at
   pub pops-into : (s : SiteState) → SiteStill S i s → (0 < start_at S i → Unread S i from l) → AsksLess S (after (popped S from i) i s no_sends S.logs)
@@ -237,10 +234,7 @@ module _ (S : LogState) (H : Holds S) (from : Actor) (i : ℕ) (l : Letter) (ls 
       high = waits-for (start_at S i) (term_at S i) l e
 
       slot : IsSlot S i
-      slot = elim (cases_Bool (nat_lt i (slots S.words.deployment))) [
-        | inl y ↦ y
-        | inr n ↦ let z = (H.sites i).outside n in absurd (omega (arith, up, z))
-      ]
+      slot = running-slot S H i up
 
       -- it hasn't been in that term
       unreached : Reached S i l → ⊥

@@ -2,7 +2,6 @@
 use Rattle.std.proofs.Common.{◌≡◌, ◌<◌, Bool, true, false, List, [], ◌∷◌, ◌++◌, refl, sym, subst, ap, ◌∙◌, inl, inr, ◌==◌, arith}
 use Rattle.std.proofs.lemmas.Bool.{cases_eq, and_parts}
 use Rattle.std.proofs.lemmas.Bool.Decides.{nat_tests}
-use Rattle.std.proofs.Math.Path.{fun_ext}
 use Rattle.std.specs.Prelude.{ℕ, ◌≤◌, ◌&&◌, if◌then◌else◌, max, nat_le, nat_lt, length, Some, None}
 use Rattle.std.specs.List.{AllByRecursion}
 use Rattle.volt_wire.specs.Word.{Membership}
@@ -19,7 +18,7 @@ use Rattle.cluster_model.specs.Sync.{stops_so}
 use Rattle.cluster_model.specs.World.{sent, rest, set_at}
 use Rattle.cluster_model.specs.Laws.{starts_in}
 use Rattle.word_laws.specs.Histories.{In}
-use Rattle.word_laws.proofs.Lists.{all-if, all-mono, not-both, same-some, set-both, set-here, set-there}
+use Rattle.word_laws.proofs.Lists.{all-if, all-mono, not-both, same-some, set-both, set-here, set-there, set-twice}
 use Rattle.log_laws.specs.Histories.{LogState, Logs, Entered, Streaming, Holds, IsCounted, SiteLetterOk, ForeignOk, IsSlot, SiteOk, KeepsOk, ViewsOk, JoinerOk, FirstViews, Starting, part, start_at, log_at, term_at, between, from_agent, views, asks_in, asks_waiting, asks_of_term}
 use Rattle.log_laws.proofs.Kept.Moves.{Grown, after, popped, Later, SiteLater, Stays, SameReigns, JoinsOn}
 use Rattle.log_laws.proofs.Kept.Grown.{grown-same, grown-reach}
@@ -29,7 +28,7 @@ use Rattle.log_laws.proofs.Kept.Asked.{AtMost, AsksLess, asks-at, at-most-both, 
 use Rattle.log_laws.proofs.Kept.Keeps.{Still, still-same, Uncounted, counted-from, site-keeps, keeps-later}
 use Rattle.log_laws.proofs.Kept.KeepsViews.{foreign-later, first_views-later, views-keeps}
 use Rattle.log_laws.proofs.Kept.Plumbing.{words-later, goes-same, here, popped-here, popped-after, first-after}
-use Rattle.log_laws.proofs.Messages.Pops.{pops-kind, pops-stopped, popped-later}
+use Rattle.log_laws.proofs.Messages.Pops.{pops-kind, pops-stopped}
 use Rattle.log_laws.proofs.Kept.QuietTurns.{Silent, Unwatched, unwatched, quiet-after}
 
 -- a site that is as it was goes on
@@ -142,13 +141,13 @@ module _ (S : LogState) (H : Holds S) (i : ℕ) (s : SiteState) (ran : ℕ → L
       | inr d ↦ views-keeps S T H new.later c (ap (λ x. x.start) (other c d)) (ap (λ x. x.view) (other c d)) (new.others c d) refl (λ s m. m) refl (H.views c)
     ];
     letters = λ j c slot. all-mono (SiteLetterOk S j c) (SiteLetterOk T j c) (λ l. letter-later-with S T H new.later j c l
-        (λ a. ask-later-on S T H new.later (part S c) j l.term a (joins-on j))
+        (λ a _ _. ask-later-on S T H new.later (part S c) j l.term a (joins-on j))
         (λ r e. end-later-if S T H new.later j c l r e (λ _ _ _ _ k. k) (λ x q _. inl q)))
         (between S j c) (H.letters j c slot);
     foreign = λ a c. all-mono (ForeignOk S c a) (ForeignOk T c a) (foreign-later S T H new.later c a) (S.words.channel a (Site c)) (H.foreign a c);
     loads = loads-later S T H new.later refl refl H.loads.told (λ h g. refl);
     entered = λ c t e k. let o = H.entered c t e k in
-        entered-later S T H new.later c t e o k reigns (λ is. within c t e.start o.been.some o.been.ran is (λ r. (o.running r).2)) o.since;
+        entered-later S T H new.later c t e o reigns (λ is. within c t e.start o.been.some o.been.ran is (λ r. (o.running r).2)) o.since;
     streamed = λ c t x k. let o = H.streamed c t x k in
         streamed-later S T H new.later c t x o reigns o.apart (λ is. within c t x.start o.been.some o.been.ran is (λ r. (o.running r).2)) (counts c x.start x.nj o.word);
     reigns = reigns-later S T H new.later reigns (λ p t g is. (H.reigns p t g is).within);
@@ -166,13 +165,6 @@ module _ (S : LogState) (H : Holds S) (i : ℕ) (s : SiteState) (ran : ℕ → L
       within c t a some was is k = let e = ran-on c a some was is in rw (ap (λ x. x.log) e) (k (ap (λ x. x.start) (sym e) ∙ is))
 
 -- ---- and what it sends
-
-set-twice : {A : Type 0} (f : ℕ → A) (i : ℕ) (x y : A) → set_at (set_at f i x) i y ≡ set_at f i y
-set-twice {A = A} f i x y = fun_ext (λ c. last (c == i) (f c))
-  where
-    last : (b : Bool) (z : A) → (if b then y else if b then x else z) ≡ (if b then y else z)
-    last true z = refl
-    last false z = refl
 
 -- messages that aren't looked at
 pub renewed-sends : (S : LogState) (i : ℕ) (s : SiteState) (ran : ℕ → List ℕ) (out : Sends) → Holds (renewed S i s ran) → ((b : Actor) → AllByRecursion (Silent b) (out b))
@@ -232,7 +224,7 @@ module _ (S : LogState) (H : Holds S) (i : ℕ) (none : S.pending i ≡ []) (sto
     plain = k.plain;
     began = k.began;
     running = λ up. let z = ap (λ x. x.start) gone in absurd (omega (arith, z, up));
-    starting = λ a m. let o = k.starting a m in (o.0, o.1, first_views-later S Q H stop-later i a (views a (from_agent S i)) o.2);
+    starting = λ a m. let o = k.starting a m in (o.0, o.1, first_views-later S Q stop-later.words.deployment stop-later.words.decided stop-later.words.took_word i a (views a (from_agent S i)) o.2);
     wordless = k.wordless;
     below = λ up. ((k.below up).0, λ e. rw (ap site_term gone) (omega arith));
   }
@@ -390,7 +382,7 @@ module _ (S : LogState) (H : Holds S) (i : ℕ) (l : Letter) (ls : List Letter) 
         | inr v ↦ o.0 v
       ]),
       o.1,
-      first_views-later P N taken start-later i s (views s (from_agent P i)) o.2,
+      first_views-later P N start-later.words.deployment start-later.words.decided start-later.words.took_word i s (views s (from_agent P i)) o.2,
     );
     wordless = λ up untaken undecided. let o = k.wordless up untaken undecided in (
       o.0,
@@ -404,8 +396,8 @@ module _ (S : LogState) (H : Holds S) (i : ℕ) (l : Letter) (ls : List Letter) 
   }
     where
       first_run : (s : ℕ) → s ≡ a → FirstViews N i s (views s (from_agent P i))
-      first_run s e = rw e (first_views-later P N taken start-later i a (views a (from_agent P i))
-          (first_views-later S P H (popped-later S (Agent (host_of_slot S.words.deployment i)) i) i a (views a (from_agent P i))
+      first_run s e = rw e (first_views-later P N start-later.words.deployment start-later.words.decided start-later.words.took_word i a (views a (from_agent P i))
+          (first_views-later S P refl (λ w d. d) (λ a w e. e) i a (views a (from_agent P i))
           (rw left-of (subst (λ z. FirstViews S i a z) (ap (views a) is ∙ ap (λ z. z ++ views a ls) (if-none (l.start == a))) starting.2))))
 
   pub started-holds : Holds N

@@ -1,19 +1,18 @@
 -- A site takes the first message that another site sent it, or one that waited: what is under way to it then, and what holds.
-use Rattle.std.proofs.Common.{Bool, List, ap, arith, false, inl, inr, refl, subst, sym, true, ◌≡◌, ◌++◌, ◌∷◌, ◌<◌, ◌==◌, [], ◌⊎◌}
-use Rattle.std.proofs.lemmas.Bool.{cases_Bool, cases_eq, eqb-true}
+use Rattle.std.proofs.Common.{Bool, List, ap, false, inl, inr, refl, subst, sym, true, ◌≡◌, ◌++◌, ◌∷◌, ◌<◌, ◌==◌, [], ◌⊎◌}
+use Rattle.std.proofs.lemmas.Bool.{cases_eq, eqb-true}
 use Rattle.std.specs.List.{AllByRecursion}
-use Rattle.std.specs.Prelude.{Option, Some, nat_lt, ◌&&◌, if◌then◌else◌, ℕ}
+use Rattle.std.specs.Prelude.{Option, Some, ◌&&◌, if◌then◌else◌, ℕ}
 use Rattle.volt_wire.specs.declared.actor.Actor.{Actor}
 use Rattle.volt_wire.specs.declared.actor.Actor.TheVariants.{Agent, Site}
 use Rattle.cluster_model.specs.Letters.{Letter, no_sends, same}
 use Rattle.cluster_model.specs.SiteState.{SiteState}
-use Rattle.cluster_model.specs.Words.{slots}
 use Rattle.cluster_model.specs.World.{rest, took}
-use Rattle.word_laws.proofs.Channels.{took-all}
+use Rattle.word_laws.proofs.Channels.{took-all, sent-nothing}
 use Rattle.word_laws.proofs.Lists.{all-behind, and-false, eqb-same}
 use Rattle.log_laws.specs.Histories.{BeginsAt, ForeignOk, Holds, IsSlot, LogState, SiteLetterOk, Streaming, between, end_of, ends, flow, flow_of, line, line_in, start_at}
-use Rattle.log_laws.proofs.Kept.Asked.{AsksLess, sent-nothing}
-use Rattle.log_laws.proofs.Plain.Lines.{line-plain}
+use Rattle.log_laws.proofs.Kept.Asked.{AsksLess}
+use Rattle.log_laws.proofs.Plain.Lines.{line-plain, both-empty}
 use Rattle.log_laws.proofs.Kept.Moves.{after, popped, Unentered}
 use Rattle.log_laws.proofs.Kept.OneSite.{LessTo, Takes, counts-on, same-counts, same-uncounts, takes-letters, uncounts-on, with-site}
 use Rattle.log_laws.proofs.Kept.Steady.{GoesOn}
@@ -64,14 +63,10 @@ module _ (S : LogState) (H : Holds S) (l i : ℕ) (x : Letter) (ls : List Letter
     lines = λ k a t. without-each S l i (λ k ys. line a t ys ≡ line a t (between S k i)) x ls e
         (rw e (ap (λ z. z ++ line a t ls) (sym (line-plain a t x plain)))) (λ k n. refl) k;
     flows = λ k a t. without-each S l i (λ k ys. flow a t (between S k i) ≡ [] → flow a t ys ≡ []) x ls e
-        (rw e (λ none. behind (flow_of a t x) (flow a t ls) none)) (λ k n none. none) k;
+        (rw e (λ none. (both-empty (flow_of a t x) (flow a t ls) none).1)) (λ k n none. none) k;
     ends = λ k a t. without-each S l i (λ k ys. ends a t (between S k i) ≡ [] → ends a t ys ≡ []) x ls e
-        (rw e (λ none. behind (end_of a t x) (ends a t ls) none)) (λ k n none. none) k;
+        (rw e (λ none. (both-empty (end_of a t x) (ends a t ls) none).1)) (λ k n none. none) k;
   }
-    where
-      behind : {A : Type 0} (xs ys : List A) → xs ++ ys ≡ [] → ys ≡ []
-      behind [] ys none = none
-      behind (y ∷ xs) ys none = absurd (cc)
 
   -- streams begin where they did
   pub first-begun : (k a t nj : ℕ) → AllByRecursion (BeginsAt nj) (flow a t (between S k i)) → AllByRecursion (BeginsAt nj) (flow a t (without S l i (Site k) (Site i)))
@@ -108,10 +103,3 @@ module _ (S : LogState) (H : Holds S) (l i : ℕ) (x : Letter) (ls : List Letter
         → (k : ℕ) → IsSlot S i → AllByRecursion (SiteLetterOk (with-site S i s (without S l i) S.pending st) k i) (without S l i (Site k) (Site i))
     first-letters k streamed j slot = takes-letters S H i s (without S l i) S.pending st k streamed j (first-begun j)
         (without S l i (Site j) (Site i)) (took-all (SiteLetterOk S j i) S.words.channel (Site l) (Site i) (Site j) (Site i) (H.letters j i slot))
-
--- a site that runs is a slot's
-pub runs-slot : (S : LogState) → Holds S → (i : ℕ) → 0 < start_at S i → IsSlot S i
-runs-slot S H i up = elim (cases_Bool (nat_lt i (slots S.words.deployment))) [
-  | inl y ↦ y
-  | inr n ↦ let z = (H.sites i).outside n in absurd (omega (arith, up, z))
-]

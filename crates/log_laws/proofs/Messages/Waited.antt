@@ -1,8 +1,7 @@
 -- A site that has come to a term takes what waited for that, one after another: what holds, holds after it.
-use Rattle.std.proofs.Common.{◌≡◌, ◌<◌, Bool, true, false, List, [], ◌∷◌, refl, sym, subst, ap, ◌∙◌, ◌==◌}
+use Rattle.std.proofs.Common.{◌≡◌, ◌<◌, List, [], ◌∷◌, sym, subst, ap, ◌∙◌, ◌==◌}
 use Rattle.std.proofs.lemmas.Bool.{eqb-true}
-use Rattle.std.proofs.Math.Path.{fun_ext}
-use Rattle.std.specs.Prelude.{ℕ, if◌then◌else◌}
+use Rattle.std.specs.Prelude.{ℕ}
 use Rattle.std.specs.List.{AllByRecursion}
 use Rattle.volt_wire.specs.declared.actor.Actor.TheVariants.{Site}
 use Rattle.cluster_model.specs.Engine.{Database}
@@ -10,22 +9,17 @@ use Rattle.cluster_model.specs.Words.{Deployment, term_in}
 use Rattle.cluster_model.specs.Letters.{Waiting, Turn, ◌▸◌, no_sends, of_term, above_term}
 use Rattle.cluster_model.specs.SiteState.{SiteState, site_term}
 use Rattle.cluster_model.specs.Site.{site_row, takes_each, takes_waiting}
-use Rattle.word_laws.proofs.Lists.{all-append, all-from, in-filter, set-here}
+use Rattle.word_laws.proofs.Lists.{all-append, all-from, in-filter, set-here, set-same, set-twice}
 use Rattle.log_laws.specs.Histories.{LogState, Holds, WaitingOk, start_at, term_at}
 use Rattle.log_laws.proofs.Kept.Moves.{after, left, Goes, NoStreamStart}
 use Rattle.log_laws.proofs.Kept.Grown.{grown-then}
 use Rattle.log_laws.proofs.Kept.Plumbing.{here, after-after, goes-same}
-use Rattle.log_laws.proofs.Kept.Quiet.{set-same}
 use Rattle.log_laws.proofs.Messages.Pops.{takes-up-after}
 
 -- ---- what is left of what waited
 
 pub left-left : (S : LogState) (i : ℕ) (ws vs : List Waiting) → left (left S i ws) i vs ≡ left S i vs
-left-left S i ws vs = ap (λ p. record S { pending = p }) (fun_ext (λ c. last (c == i) (S.pending c)))
-  where
-    last : (b : Bool) (x : List Waiting) → (if b then vs else if b then ws else x) ≡ (if b then vs else x)
-    last true x = refl
-    last false x = refl
+left-left S i ws vs = ap (λ p. record S { pending = p }) (set-twice S.pending i ws vs)
 
 pub left-same : (S : LogState) (i : ℕ) (ws : List Waiting) → S.pending i ≡ ws → left S i ws ≡ S
 left-same S i ws e = subst (λ v. left S i v ≡ S) e (ap (λ p. record S { pending = p }) (set-same S.pending i))

@@ -16,16 +16,15 @@ use Rattle.word_laws.proofs.Lists.{none-and-some, same-some, all-mono, not-both,
 use Rattle.log_laws.specs.Histories.{LogState, Logs, Repairs, Entered, Reign, Front, Holds, IsSlot, WordOf, Last, known, EnteredOk, ReportOk, ReignOk, UnledOk, SiteOk, KeepsOk, MemberOk, JoinerOk, LeadsIn, FollowsIn, SiteLetterOk, Reached, IsCounted, AckOk, CountedOk, AskOk, ForeignOk, WaitingOk, JoinsIn, asks_of_term, part, start_at, log_at, term_at, between, follows, line}
 use Rattle.log_laws.proofs.Kept.Moves.{Grown, after, Later, JoinsOn}
 use Rattle.log_laws.proofs.Kept.Grown.{grown-at}
-use Rattle.log_laws.proofs.Kept.Laters.{front-then, front-refl, been-later, word_of-later, ack-later, counted-later, ask-later, reached-later, stays, reign-later, unled-later}
+use Rattle.log_laws.proofs.Kept.Laters.{been-later, word_of-later, ack-later, counted-later, ask-later, reached-later, stays, reign-later, unled-later}
 use Rattle.log_laws.proofs.Plain.Lines.{line-same, line-append, repair-line, repair-line-other, repair-flow, repair-ends, repair-all, repair_letter}
-use Rattle.log_laws.proofs.Plain.Fronts.{front-length}
+use Rattle.log_laws.proofs.Plain.Fronts.{front-length, front-refl, front-trans}
 use Rattle.log_laws.proofs.Plain.Appends.{grown}
 use Rattle.log_laws.proofs.Plain.Copies.{start-in-view, follows-leader, leader-follows-none, leader-followed}
-use Rattle.log_laws.proofs.Kept.Terms.{same-word, some-term, entered-start, running-in}
+use Rattle.log_laws.proofs.Kept.Terms.{running-slot, same-word, some-term, entered-start, running-in}
 use Rattle.log_laws.proofs.Kept.Plumbing.{sent-here, sent-there, words-after, foreign-after, views-after}
 use Rattle.log_laws.proofs.Kept.Keeps.{still-same, member-keeps-with}
 use Rattle.log_laws.proofs.Kept.Asked.{at-most-same}
-use Rattle.log_laws.proofs.NewTerms.Entering.{running-slot}
 use Rattle.log_laws.proofs.NewTerms.Since.{since-unled, unled-above}
 use Rattle.log_laws.proofs.NewTerms.Beginning.{begun-by, begun_log, begun_reign, leading-member, not-begun, reported, own-front, has-report, all-entered, begun-behind}
 use Rattle.log_laws.proofs.Kept.Turned.{put_at, put-both, put-here, put-there, turned, turned-later, Turned, turned-holds, waiting-turned, pending-turned}
@@ -348,7 +347,7 @@ module _ (S : LogState) (H : Holds S) (i : ℕ) (w : Membership) (up : 0 < start
     since = member.since ∙ sym own-start;
     earlier = rw here member.earlier;
     grown = subst (λ z. Front member.entered.log z.log) (sym here)
-        (front-then member.entered.log (log_at S i) (begun_log (S.sites i)) member.grown (own-front S H i w up none view leads unrepaired all));
+        (front-trans member.entered.log (log_at S i) (begun_log (S.sites i)) member.grown (own-front S H i w up none view leads unrepaired all));
     still = λ e. absurd (true≢false (sym (ap (λ z. z.repaired) here) ∙ e));
     floor = rw here member.floor;
     firm = rw here member.firm;

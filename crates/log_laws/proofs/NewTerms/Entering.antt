@@ -1,6 +1,6 @@
 -- A site comes into a term as a member of its word: what was so before.
 use Rattle.std.proofs.Common.{◌≡◌, ◌<◌, true, false, [], ◌++◌, append-nil, append_assoc, refl, sym, subst, ap, ◌∙◌, ◌⊎◌, inl, inr, ◌==◌, arith}
-use Rattle.std.proofs.lemmas.Bool.{cases_Bool, cases_eq, and_from, eq-eqb, false_from_ne_true}
+use Rattle.std.proofs.lemmas.Bool.{cases_eq, and_from, eq-eqb, false_from_ne_true}
 use Rattle.std.specs.Prelude.{ℕ, ◌≤◌, nat_lt, max, length, Option, Some, None}
 use Rattle.volt_wire.specs.Word.{Membership}
 use Rattle.cluster_model.specs.Words.{slots, term_of, term_in, start_of_slot, host_of_slot}
@@ -11,19 +11,13 @@ use Rattle.word_laws.proofs.Algebra.{admits-fresh}
 use Rattle.word_laws.proofs.Agreement.{one-first, at-good, term-same, member-is}
 use Rattle.log_laws.specs.Histories.{LogState, Entered, Streaming, Reign, Front, Holds, IsSlot, WordOf, WasIn, Last, Unled, Came, known, MemberOk, JoinerOk, InWord, Took, ViewIn, StreamIn, LeadsIn, FollowsIn, line, between, part, start_at, log_at, term_at}
 use Rattle.log_laws.proofs.Plain.Fronts.{front-trans}
-use Rattle.log_laws.proofs.Kept.Terms.{took-not-named, base-least, entered-start, reign-entered, running-in, was-in, last-below}
+use Rattle.log_laws.proofs.Kept.Terms.{running-slot, took-not-named, base-least, entered-start, reign-entered, running-in, was-in, last-below}
 use Rattle.log_laws.proofs.NewTerms.Since.{since-running}
 use Rattle.log_laws.proofs.Plain.Copies.{leads-or-follows}
 
 -- ---- starts and words
 
--- a site that runs is a slot's, and its start has run
-pub running-slot : (S : LogState) → Holds S → (c : ℕ) → 0 < start_at S c → IsSlot S c
-running-slot S H c up = elim (cases_Bool (nat_lt c (slots S.words.deployment))) [
-  | inl e ↦ e
-  | inr e ↦ let z = (H.sites c).outside e in absurd (omega (arith, z, up))
-]
-
+-- the start of a site that runs has run
 pub running-ran : (S : LogState) → Holds S → (c : ℕ) → 0 < start_at S c → In (start_at S c) (S.logs.ran c)
 running-ran S H c up = let r = (H.sites c).ran up in subst (λ l. In (start_at S c) l) (sym r.1) (inl refl)
 

@@ -17,16 +17,17 @@ use Rattle.word_laws.proofs.Lists.{none-and-some, same-some, all-filter, set-her
 use Rattle.log_laws.specs.Histories.{LogState, Logs, Holds, Entered, Streaming, IsSlot, Front, known, EnteredOk, UnledOk, MemberOk, SiteOk, LeadsIn, FollowsIn, SiteLetterOk, AskOk, HasBeen, HeldOk, ForeignOk, part, start_at, log_at, term_at, between, line, line_of, flow_of, end_of, asks_of_term, asked}
 use Rattle.log_laws.proofs.Kept.Moves.{after, popped, Later, Stays, EntersNow, Turns, NoStreamStart}
 use Rattle.log_laws.proofs.Kept.Grown.{grown-reach}
-use Rattle.log_laws.proofs.Kept.Laters.{front-refl, been-later, stays, entered-later, same-reigns, reigns-later}
+use Rattle.log_laws.proofs.Kept.Laters.{been-later, stays, entered-later, same-reigns, reigns-later}
 use Rattle.log_laws.proofs.Plain.Lines.{line-none, line-same, line-plain, flow-none, flow-plain, ends-none, ends-plain, if-none}
 use Rattle.log_laws.proofs.Kept.Asked.{AtMost}
 use Rattle.log_laws.proofs.Plain.Copies.{leader-copy, start-in-view}
-use Rattle.log_laws.proofs.Kept.Terms.{some-term, some-start}
+use Rattle.log_laws.proofs.Kept.Terms.{running-slot, some-term, some-start}
 use Rattle.log_laws.proofs.Kept.Plumbing.{words-after, words-popped}
 use Rattle.log_laws.proofs.Kept.Keeps.{still-same, member-keeps}
-use Rattle.log_laws.proofs.NewTerms.Entering.{since-within, running-slot, running-ran, entering, was-member, came, earlier-below, not-entered, not-streamed, not-led, behind, still, known-within, reach-within, others-within}
-use Rattle.log_laws.proofs.Kept.Turned.{put_at, put-both, put-here, put-there, turned, turned-later, Turned, turned-holds, fresh-keeps}
+use Rattle.log_laws.proofs.NewTerms.Entering.{since-within, running-ran, entering, was-member, came, earlier-below, not-entered, not-streamed, not-led, behind, still, known-within, reach-within, others-within}
+use Rattle.log_laws.proofs.Kept.Turned.{put_at, put-both, put-here, put-there, turned, turned-later, Turned, turned-holds, fresh-keeps, said-same}
 use Rattle.log_laws.proofs.NewTerms.Taking.{no-line, later-word, popped-other, mine-taken, theirs-taken, tells-taken, foreign-taken, views-taken}
+use Rattle.log_laws.proofs.Plain.Fronts.{front-refl}
 
 -- the site as it enters
 abbrev pub entered_site : SiteState → Membership → SiteState
@@ -145,12 +146,8 @@ module _ (S : LogState) (H : Holds S) (h i : ℕ) (l : Letter) (w : Membership) 
   -- ---- what it sends is no more than its report
 
   line-there : (a c start t : ℕ) → line start t (ch (Site a) (Site c)) ≡ line start t (between S a c)
-  line-there a c b t = elim (cases_eq a i) [
-    | inl e ↦ subst (λ z. line b t (ch (Site z) (Site c)) ≡ line b t (between S z c)) (sym e)
-        (ap (line b t) (mine-taken S H h i l w ls is start up out c) ∙ line-same b t (between S i c) (new c)
-        (line-none b t (new c) (says-all (λ x. line_of b t x ≡ []) c (λ _ _. line-plain b t (report_letter D (S.sites i) w c) refl))))
-    | inr n ↦ ap (line b t) (theirs-taken S H h i l w ls is start up out a c n)
-  ]
+  line-there a c b t = said-same (line b t) S i ch new (mine-taken S H h i l w ls is start up out) (theirs-taken S H h i l w ls is start up out) a c
+      (line-same b t (between S i c) (new c) (line-none b t (new c) (says-all (λ x. line_of b t x ≡ []) c (λ _ _. line-plain b t (report_letter D (S.sites i) w c) refl))))
 
   -- an ask of it is one of an earlier start
   asks-gone : (c t a : ℕ) → IsSlot S c → In a (asked S i c t) → AskOk S (part S c) i t a → AskOk T (part S c) i t a
@@ -308,7 +305,7 @@ module _ (S : LogState) (H : Holds S) (h i : ℕ) (l : Letter) (w : Membership) 
   entered : (c u : ℕ) (e : Entered) → en c u ≡ Some e → EnteredOk T c u e
   entered = put-both (λ c u x. (e : Entered) → x ≡ Some e → EnteredOk T c u e) S.logs.entered i (term_of w) (Some (entering (S.sites i)))
       (λ e m. subst (EnteredOk T i (term_of w)) (same-some m) own-entered)
-      (λ c u n e m. entered-later S T H later c u e (H.entered c u e m) m (same-reigns S.logs T.logs refl) (reach-kept c u e n m)
+      (λ c u n e m. entered-later S T H later c u e (H.entered c u e m) (same-reigns S.logs T.logs refl) (reach-kept c u e n m)
       (λ x g led below. let r = (H.entered c u e m).since x g led below in let q = (turns.led (part S c) x g led).1 in omega (arith, r, q)))
 
   apart : (c u : ℕ) (x : Streaming) → S.logs.streamed c u ≡ Some x → en c u ≡ None

@@ -22,11 +22,11 @@ use Rattle.log_laws.proofs.Kept.Laters.{ask-later, stays, entered-later, same-re
 use Rattle.log_laws.proofs.Plain.Lines.{flat-in, line-none, line-same, line-plain, flow-none, flow-same, flow-plain, ends-none, ends-same, ends-plain, asks-append, asks-here, if-none}
 use Rattle.log_laws.proofs.Kept.Asked.{AtMost, at-most-both, at-most-same, at-most-none}
 use Rattle.log_laws.proofs.Plain.Copies.{follows-leader, leader-follows, leader-copy, start-in-view, leader-view}
-use Rattle.log_laws.proofs.Kept.Terms.{took-decided, some-term, some-start}
+use Rattle.log_laws.proofs.Kept.Terms.{running-slot, took-decided, some-term, some-start}
 use Rattle.log_laws.proofs.Kept.Keeps.{still-same, member-keeps}
-use Rattle.log_laws.proofs.NewTerms.Entering.{running-slot, running-ran}
+use Rattle.log_laws.proofs.NewTerms.Entering.{running-ran}
 use Rattle.log_laws.proofs.Kept.Plumbing.{words-after, words-popped}
-use Rattle.log_laws.proofs.Kept.Turned.{turned, turned-later, Turned, turned-holds, fresh-keeps}
+use Rattle.log_laws.proofs.Kept.Turned.{turned, turned-later, Turned, turned-holds, fresh-keeps, said-same}
 use Rattle.log_laws.proofs.NewTerms.Taking.{no-line, no-flow, no-end, first-word, popped-other, mine-taken, theirs-taken, tells-taken, foreign-taken, views-taken}
 
 -- ---- who asks, wherever it is known
@@ -225,25 +225,16 @@ module _ (S : LogState) (H : Holds S) (h i : ℕ) (l : Letter) (w : Membership) 
   new-ends c a t = ends-none a t (new c) (asks-all i D s (λ x. end_of a t x ≡ []) (leader D w (part S i)) c (λ _ _. ends-plain a t (ask_letter i D s c) refl))
 
   line-there : (a c start t : ℕ) → line start t (ch (Site a) (Site c)) ≡ line start t (between S a c)
-  line-there a c b t = elim (cases_eq a i) [
-    | inl e ↦ subst (λ z. line b t (ch (Site z) (Site c)) ≡ line b t (between S z c)) (sym e)
-        (ap (line b t) (mine-taken S H h i l w ls is start up out c) ∙ line-same b t (between S i c) (new c) (new-line c b t))
-    | inr n ↦ ap (line b t) (theirs-taken S H h i l w ls is start up out a c n)
-  ]
+  line-there a c b t = said-same (line b t) S i ch new (mine-taken S H h i l w ls is start up out) (theirs-taken S H h i l w ls is start up out) a c
+      (line-same b t (between S i c) (new c) (new-line c b t))
 
   flow-there : (a c start t : ℕ) → flow start t (ch (Site a) (Site c)) ≡ flow start t (between S a c)
-  flow-there a c b t = elim (cases_eq a i) [
-    | inl e ↦ subst (λ z. flow b t (ch (Site z) (Site c)) ≡ flow b t (between S z c)) (sym e)
-        (ap (flow b t) (mine-taken S H h i l w ls is start up out c) ∙ flow-same b t (between S i c) (new c) (new-flow c b t))
-    | inr n ↦ ap (flow b t) (theirs-taken S H h i l w ls is start up out a c n)
-  ]
+  flow-there a c b t = said-same (flow b t) S i ch new (mine-taken S H h i l w ls is start up out) (theirs-taken S H h i l w ls is start up out) a c
+      (flow-same b t (between S i c) (new c) (new-flow c b t))
 
   ends-there : (a c start t : ℕ) → ends start t (ch (Site a) (Site c)) ≡ ends start t (between S a c)
-  ends-there a c b t = elim (cases_eq a i) [
-    | inl e ↦ subst (λ z. ends b t (ch (Site z) (Site c)) ≡ ends b t (between S z c)) (sym e)
-        (ap (ends b t) (mine-taken S H h i l w ls is start up out c) ∙ ends-same b t (between S i c) (new c) (new-ends c b t))
-    | inr n ↦ ap (ends b t) (theirs-taken S H h i l w ls is start up out a c n)
-  ]
+  ends-there a c b t = said-same (ends b t) S i ch new (mine-taken S H h i l w ls is start up out) (theirs-taken S H h i l w ls is start up out) a c
+      (ends-same b t (between S i c) (new c) (new-ends c b t))
 
   no-asks : (c t : ℕ) → asks_of_term c t s ≡ []
   no-asks c t = if-none (site_term s == t)
@@ -430,7 +421,7 @@ module _ (S : LogState) (H : Holds S) (h i : ℕ) (l : Letter) (w : Membership) 
       own-site
       (views-taken S H h i l w ls is start up out s S.logs later refl refl refl)
       (λ c sl. asks-all i D s (SiteLetterOk T i c) (leader D w (part S i)) c (λ lead _. asks-ok c lead))
-      (λ c t e m. entered-later S T H later c t e (H.entered c t e m) m (same-reigns S.logs T.logs refl) (λ runs.
+      (λ c t e m. entered-later S T H later c t e (H.entered c t e m) (same-reigns S.logs T.logs refl) (λ runs.
       let k = H.entered c t e m in let y = stays S T H later c e.start k.been.some k.been.ran runs in
       let r = (k.running (sym y.start ∙ runs)).2 in let b = y.log in omega (arith, r, b)) (H.entered c t e m).since)
       (λ c t x m. (H.streamed c t x m).apart)

@@ -13,19 +13,21 @@ use Rattle.cluster_model.specs.SiteState.{SiteState, Joiner, Joining, Reported, 
 use Rattle.cluster_model.specs.Site.{longest, lacks, appends_all, repair_to, is_repaired, repairs, works_calls, on_report}
 use Rattle.word_laws.specs.Histories.{In}
 use Rattle.word_laws.proofs.Lists.{all-append, all-mono, set-here, set-there, set-both}
+use Rattle.word_laws.proofs.Channels.{sent-nothing}
+use Rattle.word_laws.proofs.Hearings.{then-assoc}
 use Rattle.log_laws.specs.Histories.{LogState, Holds, IsSlot, ReportOk, AckOk, CountedOk, AskOk, KeepsOk, SiteOk, IsCounted, JoinsIn, WaitingOk, from_agent, part, start_at, log_at, term_at, between, asked, asks_in, asks_waiting, asks_of_term}
+use Rattle.log_laws.proofs.Kept.Terms.{running-slot}
 use Rattle.log_laws.proofs.Kept.Moves.{Grown, after, Later, JoinsOn, Goes, NoStreamStart}
 use Rattle.log_laws.proofs.Kept.Grown.{grown-same}
 use Rattle.log_laws.proofs.Kept.Laters.{ack-later, counted-later, report-later, ask-later, stays, entered-later, same-reigns, reigns-later, unleds-later}
 use Rattle.log_laws.proofs.Plain.Lines.{repair-all}
 use Rattle.log_laws.proofs.Plain.Appends.{Appended, appends-all}
 use Rattle.log_laws.proofs.Plain.Copies.{leader-view, leader-same, is-leader}
-use Rattle.log_laws.proofs.Kept.Asked.{AtMost, at-most-same, sent-nothing}
-use Rattle.log_laws.proofs.Kept.Plumbing.{goes-then, goes-same, then-assoc}
+use Rattle.log_laws.proofs.Kept.Asked.{AtMost, at-most-same}
+use Rattle.log_laws.proofs.Kept.Plumbing.{goes-then, goes-same}
 use Rattle.log_laws.proofs.Kept.Keeps.{Still, still-same, member-keeps, site-keeps}
 use Rattle.log_laws.proofs.Kept.KeepsViews.{views-keeps-with, leaves-same}
 use Rattle.log_laws.proofs.Entries.Calls.{works-goes}
-use Rattle.log_laws.proofs.NewTerms.Entering.{running-slot}
 use Rattle.log_laws.proofs.Kept.Turned.{turned, turned-later, Turned, turned-holds, waiting-turned, pending-turned}
 use Rattle.log_laws.proofs.NewTerms.Begun.{longest_site, begun_site, begun_reigns, repairs_of, begun-holds, begun-grown}
 
@@ -205,7 +207,7 @@ module _ (S : LogState) (H : Holds S) (i : ℕ) (up : 0 < start_at S i) (rs : Li
       H.words own-site
       (views-keeps-with S T H later i still.start still.view refl refl (λ x is. is) (leaves-same (start_at S i) (from_agent S i) (from_agent S i) refl) (H.views i))
       (λ c slot. tt)
-      (λ c t e is. entered-later S T H later c t e (H.entered c t e is) is (same-reigns S.logs T.logs refl) (λ runs.
+      (λ c t e is. entered-later S T H later c t e (H.entered c t e is) (same-reigns S.logs T.logs refl) (λ runs.
       let k = H.entered c t e is in let y = stays S T H later c e.start k.been.some k.been.ran runs in
       let r = (k.running (sym y.start ∙ runs)).2 in let b = y.log in omega (arith, r, b)) (H.entered c t e is).since)
       (λ c t x is. (H.streamed c t x is).apart)

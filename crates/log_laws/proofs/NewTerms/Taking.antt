@@ -74,12 +74,12 @@ module _ (S : LogState) (H : Holds S) (h i : ℕ) (l : Letter) (w : Membership) 
   runs : (o : Option Membership) → (S.sites i).view ≡ o → RunViews S i o (w ∷ views (start_at S i) ls)
   runs o e = subst (RunViews S i o) view-first (subst (λ z. RunViews S i z (views (start_at S i) (from_agent S i))) e ((H.views i).running up))
 
+  heads : {xs ys : List Membership} {x y : Membership} → x ∷ xs ≡ y ∷ ys → x ≡ y
+  heads e = cc
+
   -- Without a word it is the one that it took. With one it is a later one that counts it.
   pub first-word : (S.sites i).view ≡ None → S.words.history.took (start_at S i) ≡ Some w
   first-word e = let k = runs None e in let q : w ≡ k.first = heads k.views_are in k.took ∙ ap Some (sym q)
-    where
-      heads : {xs ys : List Membership} {x y : Membership} → x ∷ xs ≡ y ∷ ys → x ≡ y
-      heads e = cc
 
   pub later-word : (v : Membership) → (S.sites i).view ≡ Some v
       → In w S.words.history.decided × (start_of_slot S.words.deployment w i ≡ Some (start_at S i)) × (term_of v < term_of w)
@@ -91,9 +91,6 @@ module _ (S : LogState) (H : Holds S) (h i : ℕ) (l : Letter) (w : Membership) 
       subst (λ z. MemberViews S i (start_at S i) (term_of w + 1) z) (sym (tails k.views_are))
       (subst (λ z. MemberViews S i (start_at S i) (term_of z + 1) k.later) (sym (heads k.views_are)) k.members)
     where
-      heads : {xs ys : List Membership} {x y : Membership} → x ∷ xs ≡ y ∷ ys → x ≡ y
-      heads e = cc
-
       tails : {xs ys : List Membership} {x y : Membership} → x ∷ xs ≡ y ∷ ys → xs ≡ ys
       tails e = cc
   left-words (Some v) e = let k = runs (Some v) e in (k.0.1, k.1.1)
@@ -198,9 +195,9 @@ module _ (S : LogState) (H : Holds S) (h i : ℕ) (l : Letter) (w : Membership) 
         running = λ _. subst (λ z. RunViews T i z (views (start_at T i) (from_agent T i))) (sym view-is)
             (subst (λ z. MemberViews T i z (term_of w + 1) (views z (from_agent T i))) (sym start-is)
             (subst (λ z. MemberViews T i (start_at S i) (term_of w + 1) (views (start_at S i) z)) (sym left)
-            (member_views-later S T H later i (start_at S i) (term_of w + 1) (views (start_at S i) ls) (left-words (S.sites i).view refl))));
+            (member_views-later S T later.words.deployment later.words.decided later.words.took_word i (start_at S i) (term_of w + 1) (views (start_at S i) ls) (left-words (S.sites i).view refl))));
         starting = λ a m. let o = k.starting a (starts a m) in let n = start-left a m in
-            ((λ x. o.0 (subst (λ z. In a (z i)) ran x)), n.0, subst (FirstViews T i a) (sym n.1) (first_views-later S T H later i a (views a (from_agent S i)) o.2));
+            ((λ x. o.0 (subst (λ z. In a (z i)) ran x)), n.0, subst (FirstViews T i a) (sym n.1) (first_views-later S T later.words.deployment later.words.decided later.words.took_word i a (views a (from_agent S i)) o.2));
         wordless = λ some taken none. let o = k.wordless some taken none in (
           (λ x. o.0 (starts own.start x)),
           (λ x. o.1 (subst (λ z. In own.start (z i)) ran x)),

@@ -1,7 +1,6 @@
 -- Copies of a partition by a word, and who leads them.
 use Rattle.std.proofs.Common.{◌≡◌, ◌+◌, ◌<◌, ◌≤◌, zero, suc, true, false, List, [], ◌∷◌, refl, sym, subst, ap, ◌∙◌, ◌⊎◌, inl, inr, ◌==◌, true≢false, arith}
 use Rattle.std.proofs.lemmas.Bool.{cases_eq, and_parts, and_from, not-true, not_from_true, not_from_false, eqb-true, eq-eqb, false_from_ne_true}
-use Rattle.std.proofs.lemmas.Option.{none-some}
 use Rattle.std.specs.Prelude.{ℕ, ◌||◌, not, map, option_map, unwrap_or, is_some, Option, Some, None}
 use Rattle.std.specs.List.{list_any, range_with_len, cons_option}
 use Rattle.volt_wire.specs.Word.{Membership}
@@ -11,6 +10,7 @@ use Rattle.cluster_model.specs.Words.{Deployment, part_of_slot, is_in, members, 
 use Rattle.cluster_model.specs.SiteState.{SiteState, Joining, is_joiner, leader_in, start_in_view, copies_in, is_leader, leads, other_copies}
 use Rattle.word_laws.specs.Histories.{In}
 use Rattle.word_laws.proofs.Lists.{eqb-same, same-some, in-filter, filter-in, list_any-in, list_any-from}
+use Rattle.word_laws.proofs.Members.{is_some_of-is, first-in}
 use Rattle.log_laws.specs.Histories.{follows}
 
 -- ---- numbers in lists
@@ -42,10 +42,6 @@ slots-part k p c i = let r = in-range c (slot_of k p 0) (k + 1) i in between r.0
   where
     between : slot_of k p 0 ≤ c → c < slot_of k p 0 + (k + 1) → part_of k c ≡ p
     between l h = grind arith
-
-some_of-is : (o : Option ℕ) (x : ℕ) → is_some_of o x ≡ true → o ≡ Some x
-some_of-is None x e = absurd (true≢false (sym e))
-some_of-is (Some y) x e = ap Some (eqb-true y x e)
 
 -- ---- copies that stand
 
@@ -105,11 +101,7 @@ module _ (D : Deployment) (w : Membership) where
 
   -- the leader of a partition is one of its copies, and there is one where there is a copy
   pub leader-copy : (p l : ℕ) → leader D w p ≡ Some l → (part_of_slot D l ≡ p) × ((a : ℕ) × (start_of_slot D w l ≡ Some a))
-  leader-copy p l e = copy-member l p (in-is_in l (copies D w p) (first-in (copies D w p) e))
-    where
-      first-in : (xs : List ℕ) → first_of xs ≡ Some l → In l xs
-      first-in [] e = absurd (none-some l e)
-      first-in (x ∷ xs) e = inl (same-some e)
+  leader-copy p l e = copy-member l p (in-is_in l (copies D w p) (first-in l (copies D w p) e))
 
   pub some-leader : (c a : ℕ) → start_of_slot D w c ≡ Some a → (l : ℕ) × (leader D w (part_of_slot D c) ≡ Some l)
   some-leader c a e = first (copies D w (part_of_slot D c)) (is_in-in c (copies D w (part_of_slot D c)) (member-copy c a e))
@@ -122,7 +114,7 @@ module _ (D : Deployment) (w : Membership) where
   pub follows-leader : (c l : ℕ) → follows D w c l ≡ true → (leader D w (part_of_slot D c) ≡ Some l) × (l ≡ c → ⊥)
   follows-leader c l e =
       let p = and_parts (is_some_of (leader D w (part_of_slot D c)) l) (not (l == c)) e in
-      (some_of-is (leader D w (part_of_slot D c)) l p.0, λ q. true≢false (sym p.1 ∙ not_from_true (l == c) (eq-eqb l c q)))
+      (is_some_of-is (leader D w (part_of_slot D c)) l p.0, λ q. true≢false (sym p.1 ∙ not_from_true (l == c) (eq-eqb l c q)))
 
   pub leader-follows : (c l : ℕ) → leader D w (part_of_slot D c) ≡ Some l → (l ≡ c → ⊥) → follows D w c l ≡ true
   leader-follows c l e n = and_from (is_some_of (leader D w (part_of_slot D c)) l) (not (l == c))
@@ -204,7 +196,7 @@ module _ (D : Deployment) (i : ℕ) (s : SiteState) (w : Membership) (v : s.view
   pub is-leader : is_leader D i s ≡ true → (s.joining ≡ None) × (leader D w (part_of_slot D i) ≡ Some i)
   is-leader e =
       let p = and_parts (not (is_joiner s)) (is_some_of (leader_in D s.view (part_of_slot D i)) i) e in
-      (not-joiner s (not-true (is_joiner s) p.0), ap (λ o. leader_in D o (part_of_slot D i)) (sym v) ∙ some_of-is (leader_in D s.view (part_of_slot D i)) i p.1)
+      (not-joiner s (not-true (is_joiner s) p.0), ap (λ o. leader_in D o (part_of_slot D i)) (sym v) ∙ is_some_of-is (leader_in D s.view (part_of_slot D i)) i p.1)
 
   pub leader-is : s.joining ≡ None → leader D w (part_of_slot D i) ≡ Some i → is_leader D i s ≡ true
   leader-is j e = and_from (not (is_joiner s)) (is_some_of (leader_in D s.view (part_of_slot D i)) i)

@@ -1,7 +1,7 @@
 -- Logs that stand at the front of others, and what is behind a position.
-use Rattle.std.proofs.Common.{◌≡◌, ◌+◌, ◌-◌, ◌≤◌, List, [], ◌∷◌, ◌++◌, length, drop, append_assoc, append-nil, length-append, drop-drop, refl, sym, subst, ap, ◌∙◌, ◌⊎◌, inl, inr, arith}
+use Rattle.std.proofs.Common.{◌≡◌, ◌+◌, ◌-◌, ◌≤◌, List, [], ◌∷◌, ◌++◌, length, drop, append_assoc, append-nil, length-append, drop-drop, refl, sym, subst, ap, ◌∙◌, ◌⊎◌, inl, inr, arith, take, length-take, take_all, take-append-drop}
 use Rattle.std.proofs.lemmas.Bool.{cases_lt}
-use Rattle.std.proofs.lemmas.List.{drop-append-le, nil_from_length}
+use Rattle.std.proofs.lemmas.List.{drop-append-le, nil_from_length, take-append-le}
 use Rattle.std.proofs.lemmas.List.Prefix.{front_rest, front_fits}
 use Rattle.std.specs.Prelude.{ℕ}
 use Rattle.volt_base.specs.declared.entry.Entry.{Entry}
@@ -96,3 +96,26 @@ drop-behind n f xs l = let e : f + (n - f) ≡ n = omega (arith, l) in drop-drop
 -- a log with what another one, at the front of which it is, has behind a position up to its end
 pub front-joined : (xs ys : List Entry) (f : ℕ) → Front xs ys → f ≤ length xs → xs ++ drop (length xs - f) (drop f ys) ≡ ys
 front-joined xs ys f h l = ap (λ z. xs ++ z) (drop-behind (length xs) f ys l) ∙ sym (front-rest xs ys h)
+
+-- ---- the first entries of a log
+
+-- they are at its front
+pub front-take : (n : ℕ) (xs : List Entry) → Front (take n xs) xs
+front-take n xs = (drop n xs, sym (take-append-drop n xs))
+
+pub take-short : (n : ℕ) (xs : List Entry) → length (take n xs) ≤ n
+take-short n xs = let e = length-take n xs in omega (arith, e)
+
+-- up to a position that isn't later they are at the front
+pub take-front : (n m : ℕ) (xs : List Entry) → n ≤ m → Front (take n xs) (take m xs)
+take-front n m xs l = fronts-order (take n xs) (take m xs) xs (front-take n xs) (front-take m xs) (omega (arith, l, length-take n xs, length-take m xs))
+
+-- a log that grows keeps them
+pub take-grown : (n : ℕ) (xs ys : List Entry) → Front xs ys → n ≤ length xs → take n ys ≡ take n xs
+take-grown n xs ys (more, e) l = ap (take n) e ∙ take-append-le n xs more l
+
+-- what has them at its front begins with them
+pub take-of-front : (n : ℕ) (xs ys : List Entry) → Front (take n xs) ys → n ≤ length xs → take n ys ≡ take n xs
+take-of-front n xs ys h l =
+    let k : length (take n xs) ≡ n = omega (arith, l, length-take n xs) in
+    take-grown n (take n xs) ys h (omega (arith, k)) ∙ take_all n (take n xs) (omega (arith, k))

@@ -19,6 +19,10 @@ use Rattle.log_laws.proofs.Kept.Moves.{NoStreamStart}
 
 -- ---- lists of lists
 
+pub both-empty : {A : Type 0} (ys zs : List A) → ys ++ zs ≡ [] → (ys ≡ []) × (zs ≡ [])
+both-empty [] zs e = (refl, e)
+both-empty (y ∷ ys) zs e = absurd (cc)
+
 module _ {A B : Type 0} (f : A → List B) where
   -- where each is empty there is nothing, and where there is nothing each is empty
   pub flat-none : (xs : List A) → AllByRecursion (λ x. f x ≡ []) xs → flat_map f xs ≡ []
@@ -28,10 +32,6 @@ module _ {A B : Type 0} (f : A → List B) where
   pub flat-empty : (xs : List A) → flat_map f xs ≡ [] → AllByRecursion (λ x. f x ≡ []) xs
   flat-empty [] e = tt
   flat-empty (x ∷ xs) e = let p = both-empty (f x) (flat_map f xs) e in (p.0, flat-empty xs p.1)
-    where
-      both-empty : (ys zs : List B) → ys ++ zs ≡ [] → (ys ≡ []) × (zs ≡ [])
-      both-empty [] zs e = (refl, e)
-      both-empty (y ∷ ys) zs e = absurd (cc)
 
   -- what is there comes from one of them
   pub flat-in : (y : B) (xs : List A) → In y (flat_map f xs) → (x : A) × In x xs × In y (f x)

@@ -1,19 +1,12 @@
 -- What was everywhere in a term that was led is at the front of the log of each later one.
-use Rattle.std.proofs.Common.{◌≡◌, ◌+◌, ◌<◌, ◌≤◌, zero, suc, List, length, take, drop, length-take, take-append-drop, sym, subst, ap, ◌∙◌, inl, inr, arith}
+use Rattle.std.proofs.Common.{◌≡◌, ◌+◌, ◌<◌, ◌≤◌, zero, suc, List, length, take, sym, subst, ap, ◌∙◌, inl, inr, arith}
 use Rattle.std.proofs.lemmas.Bool.{cases_eq}
 use Rattle.std.specs.Prelude.{ℕ, Some}
 use Rattle.volt_base.specs.declared.entry.Entry.{Entry}
 use Rattle.word_laws.proofs.Lists.{same-some}
 use Rattle.log_laws.specs.Histories.{LogState, Holds, Entered, Reign, Front, EnteredOk, Last, IsSlot, known, base_of, part}
-use Rattle.log_laws.proofs.Plain.Fronts.{front-trans, fronts-order}
+use Rattle.log_laws.proofs.Plain.Fronts.{front-trans, fronts-order, front-take, take-short}
 use Rattle.log_laws.proofs.Kept.Terms.{base-least, last-below}
-
--- the first entries of a log
-pub front-take : (n : ℕ) (xs : List Entry) → Front (take n xs) xs
-front-take n xs = (drop n xs, sym (take-append-drop n xs))
-
-pub take-short : (n : ℕ) (xs : List Entry) → length (take n xs) ≤ n
-take-short n xs = let e = length-take n xs in omega (arith, e)
 
 module _ (S : LogState) (H : Holds S) (p v : ℕ) (g : Reign) (led : S.logs.reign p v ≡ Some g) where
   -- those that are everywhere in the term

@@ -2,9 +2,8 @@
 -- have sent.
 use Rattle.std.proofs.Common.{◌≡◌, false, List, refl, sym, subst, ◌∙◌, true≢false}
 use Rattle.std.proofs.Math.Path.{fun_ext}
-use Rattle.std.specs.Prelude.{ℕ, Option, Some, None}
+use Rattle.std.specs.Prelude.{ℕ}
 use Rattle.std.specs.List.{AllByRecursion}
-use Rattle.volt_wire.specs.Word.{Membership}
 use Rattle.volt_wire.specs.declared.actor.Actor.{Actor}
 use Rattle.volt_wire.specs.declared.actor.Actor.TheVariants.{Director, Client, Agent, Site, Scanner}
 use Rattle.volt_wire.specs.declared.message.Msg.TheVariants as msg
@@ -15,9 +14,10 @@ use Rattle.word_laws.specs.Histories as word
 use Rattle.word_laws.specs.Histories.{In, Admitted}
 use Rattle.word_laws.proofs.Lists.{all-mono, eqb-same}
 use Rattle.word_laws.proofs.Worlds.{grows-same}
-use Rattle.log_laws.specs.Histories.{LogState, views, FirstViews, RunViews, ViewsOk, ForeignOk, AllLoaded, AskedOk, QueuedOk, Holds, start_at, from_agent}
+use Rattle.log_laws.specs.Histories.{LogState, views, ViewsOk, ForeignOk, AllLoaded, AskedOk, QueuedOk, Holds, start_at, from_agent}
 use Rattle.log_laws.proofs.Agents.Words.{sites-hold, sites-kept}
 use Rattle.log_laws.proofs.Runs.Boots.{NoStart}
+use Rattle.log_laws.proofs.Kept.KeepsViews.{first_views-later, run_views-later}
 
 -- the channels between sites and agents, and other ones
 abbrev pub kept : (Actor → Actor → List Letter) → (Actor → Actor → List Letter) → Actor → Actor → List Letter
@@ -37,19 +37,12 @@ module _ (S : LogState) (next : ℕ) (owner : ℕ → ℕ) (channel : Actor → 
   abbrev T : LogState
   T = reframed S next owner channel contents
 
-  first : (c start : ℕ) (ws : List Membership) → FirstViews S c start ws → FirstViews T c start ws
-  first c start ws k = search
-
-  runs : (c : ℕ) (o : Option Membership) (ws : List Membership) → RunViews S c o ws → RunViews T c o ws
-  runs c None ws k = first c (start_at S c) ws k
-  runs c (Some w) ws k = k
-
   views-ok : (c : ℕ) → ViewsOk S c → ViewsOk T c
   views-ok c k = record {
     plain = k.plain;
     began = k.began;
-    running = λ up. runs c (S.sites c).view (views (start_at S c) (from_agent S c)) (k.running up);
-    starting = λ s i. let x = k.starting s i in (x.0, x.1, first c s (views s (from_agent S c)) x.2);
+    running = λ up. run_views-later S T refl (λ w i. i) (λ a w e. e) c (S.sites c).view (views (start_at S c) (from_agent S c)) refl (k.running up);
+    starting = λ s i. let x = k.starting s i in (x.0, x.1, first_views-later S T refl (λ w i. i) (λ a w e. e) c s (views s (from_agent S c)) x.2);
     wordless = k.wordless;
     below = k.below;
   }

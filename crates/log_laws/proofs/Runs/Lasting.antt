@@ -2,10 +2,7 @@
 use Rattle.std.proofs.Common.{◌≡◌, ◌<◌, ◌≤◌, List, length, take, ◌++◌, refl, sym, subst, ap, ◌∙◌, inl, inr, arith}
 use Rattle.std.proofs.lemmas.Bool.{cases_eq, and_parts}
 use Rattle.std.proofs.lemmas.Bool.Decides.{nat_tests}
-use Rattle.std.proofs.lemmas.List.{length-take-le, take-append-le}
-use Rattle.std.proofs.Math.Seq.{take-append_seam}
 use Rattle.std.specs.Prelude.{ℕ, nat_lt, not, Some}
-use Rattle.volt_base.specs.declared.entry.Entry.{Entry}
 use Rattle.cluster_model.specs.Engine.{Database}
 use Rattle.cluster_model.specs.Words.{term_of, term_in}
 use Rattle.cluster_model.specs.SiteState.{is_joiner}
@@ -16,26 +13,12 @@ use Rattle.word_laws.proofs.Lists.{same-some}
 use Rattle.word_laws.proofs.Worlds.{run-append, run-first, run-second}
 use Rattle.log_laws.specs.Histories.{LogState, Reign, Front, Holds, part, term_at}
 use Rattle.log_laws.specs.Copies.{Leads, LeadsNext, LeadOk, KeepsFirm, IsInLead, HasLogs, log_state, log_of, lead_for}
-use Rattle.log_laws.proofs.Plain.Fronts.{front-trans, front-length, fronts-order}
-use Rattle.log_laws.proofs.Runs.Agreeing.{front-take, take-short, agrees-begun}
+use Rattle.log_laws.proofs.Plain.Fronts.{front-trans, front-length, front-take, take-front, take-grown, take-of-front}
+use Rattle.log_laws.proofs.Runs.Agreeing.{agrees-begun}
 use Rattle.log_laws.proofs.Kept.Moves.{Onward}
 use Rattle.log_laws.proofs.Runs.Leading.{Rises}
 use Rattle.log_laws.proofs.Entries.Leads.{Leading, leading}
 use Rattle.log_laws.proofs.Runs.Worlds.{logs-agree, run-reaches}
-
--- ---- the first entries of a log
-
--- of a log that grows
-take-grown : (n : ℕ) (xs ys : List Entry) → Front xs ys → n ≤ length xs → take n ys ≡ take n xs
-take-grown n xs ys (more, e) l = ap (take n) e ∙ take-append-le n xs more l
-
--- so many, at the front of another log, are its first ones
-take-front : (n : ℕ) (xs ys : List Entry) → n ≤ length xs → Front (take n xs) ys → take n ys ≡ take n xs
-take-front n xs ys l (more, e) = ap (take n) e ∙ ap (λ k. take k (take n xs ++ more)) (sym (length-take-le n xs l)) ∙ take-append_seam (take n xs) more
-
-front-less : (n m : ℕ) (xs : List Entry) → n ≤ m → m ≤ length xs → Front (take n xs) (take m xs)
-front-less n m xs l k = fronts-order (take n xs) (take m xs) xs (front-take n xs) (front-take m xs)
-    (let a = take-short n xs in let b = length-take-le m xs k in omega (arith, a, b, l))
 
 -- ---- what is everywhere in a term
 
@@ -49,11 +32,10 @@ module _ (S : LogState) (H : Holds S) (p v n : ℕ) (g : Reign) (led : S.logs.re
         subst (λ x. (n ≤ length x.log) × Front (take n g.log) x.log) same (omega (arith, low, b), front-take n g.log)
     | inr d ↦
         let k = agrees-begun S H p v g led t h is (omega (arith, upto, d)) in
-        let b = (H.reigns p v g led).within in
         let grown = (H.reigns p t h is).grown in
         let m = front-length h.begun h.log grown in (
           omega (arith, low, k.0, m),
-          front-trans (take n g.log) (take (S.logs.reach p v) g.log) h.log (front-less n (S.logs.reach p v) g.log low b)
+          front-trans (take n g.log) (take (S.logs.reach p v) g.log) h.log (take-front n (S.logs.reach p v) g.log low)
               (front-trans (take (S.logs.reach p v) g.log) h.begun h.log k.1 grown),
         )
   ]
@@ -62,7 +44,7 @@ module _ (S : LogState) (H : Holds S) (p v n : ℕ) (g : Reign) (led : S.logs.re
   pub lasting-both : (t u : ℕ) (h k : Reign) → S.logs.reign p t ≡ Some h → S.logs.reign p u ≡ Some k → v ≤ t → v ≤ u → Front (take n h.log) k.log
   lasting-both t u h k led-t led-u low-t low-u =
       let own = (lasting v g led (omega arith)).0 in
-      subst (λ x. Front x k.log) (sym (take-front n g.log h.log own (lasting t h led-t low-t).1)) (lasting u k led-u low-u).1
+      subst (λ x. Front x k.log) (sym (take-of-front n g.log h.log (lasting t h led-t low-t).1 own)) (lasting u k led-u low-u).1
 
 -- ---- the lead of a partition
 

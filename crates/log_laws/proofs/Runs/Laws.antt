@@ -11,8 +11,7 @@ use Rattle.word_laws.proofs.Lists.{not-both, same-some, none-and-some}
 use Rattle.log_laws.specs.Histories.{Front, Logs, LogState, Line, line, between, Reign, Last, FollowsIn, LeadsIn, MemberOk, StreamIn, ViewIn, Took, Holds, part, start_at, log_at, term_at, base_of}
 use Rattle.log_laws.proofs.Plain.Copies.{leads-or-follows, leads-parts, is-leader}
 use Rattle.log_laws.proofs.Plain.Fronts.{front-same, front-trans, fronts-compare}
-use Rattle.log_laws.proofs.Kept.Terms.{base-least, reign-entered, last-below}
-use Rattle.log_laws.proofs.NewTerms.Entering.{running-slot}
+use Rattle.log_laws.proofs.Kept.Terms.{base-least, reign-entered, last-below, running-slot}
 use Rattle.log_laws.specs.Copies.{OfOneTerm, AreCopies, Leads, HasLoaded, Follows, HasLogs, log_state}
 
 -- ---- sites

@@ -56,7 +56,7 @@ module _ (E : Database) (stamp : ℕ) (S : LogState) (H : Holds S) (i : ℕ) (sl
   running-after false e = runs-after e
 
 -- a start comes from the agent of the slot's host
-pub start-from : (S : LogState) → Holds S → (from : Actor) (i : ℕ) (l : Letter) (ls : List Letter) (a : ℕ) → S.words.channel from (Site i) ≡ record l { body = msg.Start a } ∷ ls
+start-from : (S : LogState) → Holds S → (from : Actor) (i : ℕ) (l : Letter) (ls : List Letter) (a : ℕ) → S.words.channel from (Site i) ≡ record l { body = msg.Start a } ∷ ls
     → from ≡ Agent (host_of_slot S.words.deployment i)
 start-from S H from i l ls a is = each from (rw is at (H.foreign from i)).0
   where

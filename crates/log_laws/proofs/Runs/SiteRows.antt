@@ -16,7 +16,6 @@ use Rattle.cluster_model.specs.World.{rest}
 use Rattle.word_laws.proofs.Lists.{eqb-same}
 use Rattle.log_laws.specs.Histories as log
 use Rattle.log_laws.specs.Histories.{LogState, Holds, AckOk, ReportOk, EndOk, SiteLetterOk, WaitingFrom, WaitingOk, ForeignOk, part, start_at, term_at, between, flow}
-use Rattle.log_laws.proofs.NewTerms.Entering.{running-slot}
 use Rattle.log_laws.proofs.Kept.Moves.{popped, left, Turns, Goes}
 use Rattle.log_laws.proofs.Plain.Lines.{flow-plain}
 use Rattle.log_laws.proofs.Messages.Pops.{taken-for, pops-plain, leaves}
@@ -31,6 +30,7 @@ use Rattle.log_laws.proofs.Joins.StreamStarts.{stream-start-goes}
 use Rattle.log_laws.proofs.Joins.Tasks.{task-goes}
 use Rattle.log_laws.proofs.Joins.Loads.{stream-end-goes, chunk-goes, scan-end-goes}
 use Rattle.log_laws.proofs.Kept.Plumbing.{goes-same, goes-turns}
+use Rattle.log_laws.proofs.Kept.Terms.{running-slot}
 
 -- ---- which messages are taken
 

@@ -11,7 +11,7 @@ use Rattle.cluster_model.specs.Site.{site_row, takes_waiting, tells, ends_stream
 use Rattle.log_laws.specs.Histories.{LogState, Holds, start_at, term_at}
 use Rattle.log_laws.proofs.Kept.Moves.{after, popped, left, Turns, Goes}
 use Rattle.log_laws.proofs.Kept.Grown.{grown-on}
-use Rattle.log_laws.proofs.Kept.Plumbing.{here, after-after, then-assoc, goes-then, turns-then-goes}
+use Rattle.log_laws.proofs.Kept.Plumbing.{here, after-after, goes-then, turns-then-goes}
 use Rattle.log_laws.proofs.Kept.Rests.{part-from}
 use Rattle.log_laws.proofs.Messages.Waited.{waited-goes}
 use Rattle.log_laws.proofs.Kept.Order.{ordered-turns, ordered-asks}
@@ -20,6 +20,7 @@ use Rattle.log_laws.proofs.Messages.Stops.{After}
 use Rattle.log_laws.proofs.Joins.Streams.{TakesAsks, takes_asks-holds}
 use Rattle.log_laws.proofs.Firmness.Ends.{ends_streams-goes}
 use Rattle.log_laws.proofs.Runs.SiteRows.{row-turns, left-goes}
+use Rattle.word_laws.proofs.Hearings.{then-assoc}
 
 -- ---- what settles, but for asks that are taken up
 
