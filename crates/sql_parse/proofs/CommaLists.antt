@@ -1,5 +1,5 @@
 -- Lists with commas, turn by turn.
-use Rattle.std.proofs.Common.{arith, ◌≡◌, ◌<◌, ℕ, zero, suc, ◌-◌, Bool, true, false, List, [], ◌∷◌, ◌++◌, length, Result, Ok, Err, refl}
+use Rattle.std.proofs.Common.{arith, ◌≡◌, ◌<◌, ℕ, zero, suc, ◌-◌, true, false, List, [], ◌∷◌, ◌++◌, length, Ok, Err, refl}
 use Rattle.sql_grammar.specs.declared.kind.Kind.TheVariants.{Comma}
 use Rattle.sql_grammar.specs.Kinds.{same_kind}
 use Rattle.sql_parse.specs.Cursor.{Eats}

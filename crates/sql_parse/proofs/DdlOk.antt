@@ -1,12 +1,10 @@
 -- In the grammar of definitions one token ahead decides.
-use Rattle.std.proofs.Common.{◌≡◌, Bool, true, false, List, [], ◌∷◌, ◌++◌, refl}
-use Rattle.sql_grammar.specs.declared.kind.Kind.{Kind}
-use Rattle.sql_grammar.specs.declared.kind.Kind.TheVariants as k
-use Rattle.sql_grammar.specs.Grammar.{G, null, first, cont, ok, within, apart, listed}
+use Rattle.std.proofs.Common.{◌≡◌, Bool, true, refl}
+use Rattle.sql_grammar.specs.Grammar.{cont, ok}
 use Rattle.sql_parse.specs.Statements.{names, after_statement}
 use Rattle.sql_parse.specs.Types.{type_name, length}
 use Rattle.sql_parse.specs.Ddl.{not_null, primary_key, column_text, key_columns, named_key, table_item, table_items, table_text, index_text, partition_text, created, definition, ddl}
-use Rattle.sql_parse.proofs.ProceduresOk.{procedure-ok, procedure-cont, procedure-null}
+use Rattle.sql_parse.proofs.ProceduresOk.{procedure-ok, procedure-cont}
 
 table_text-ok : ok table_text ≡ true
 unfolding table_text table_items table_item named_key key_columns column_text type_name length not_null primary_key names

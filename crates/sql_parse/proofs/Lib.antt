@@ -4,12 +4,11 @@ pub mod DdlOk
 pub mod Deeper
 pub mod ExpressionsOk
 pub mod Halves
+pub mod Loops
 pub mod MoreSteps
 pub mod ProceduresOk
-pub mod Public
 pub mod Returned
 pub mod Standing
 pub mod StatementsOk
 pub mod Steps
-pub mod Turns
 pub mod Whereabouts

@@ -1,11 +1,10 @@
 -- In the grammar of procedures one token ahead decides, however deep steps nest.
-use Rattle.std.proofs.Common.{◌≡◌, ℕ, zero, suc, Bool, true, false, List, [], ◌∷◌, ◌++◌, refl}
-use Rattle.sql_grammar.specs.declared.kind.Kind.{Kind}
+use Rattle.std.proofs.Common.{◌≡◌, ℕ, zero, suc, true, false, List, [], ◌∷◌, ◌++◌, refl}
 use Rattle.sql_grammar.specs.declared.kind.Kind.TheVariants as k
-use Rattle.sql_grammar.specs.Grammar.{G, null, first, cont, ok, within, apart, listed}
+use Rattle.sql_grammar.specs.Grammar.{G, null, first, cont, ok}
 use Rattle.sql_parse.specs.declared.procedure.StepText.{StepText}
-use Rattle.sql_parse.specs.Expressions.{expr, max_nesting, after_whole}
-use Rattle.sql_parse.specs.Statements.{stmt, after_statement}
+use Rattle.sql_parse.specs.Expressions.{max_nesting, after_whole}
+use Rattle.sql_parse.specs.Statements.{after_statement}
 use Rattle.sql_parse.specs.Types.{type_name, length}
 use Rattle.sql_parse.specs.Procedures.{assigned, result_name, executed, otherwise, chosen, repeated, exprs, returned, step, steps, after_steps, parameter_number, partitioned, parameter, listed_parameters, parameters, program, proc_body, procedure}
 use Rattle.sql_parse.proofs.ExpressionsOk.{expr-ok, expr-null, expr-cont, expr-first, operands}

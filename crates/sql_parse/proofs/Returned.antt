@@ -1,10 +1,9 @@
 -- A name alone behind RETURN.
-use Rattle.std.proofs.Common.{◌≡◌, Bool, true, false, List, [], ◌∷◌, ◌++◌, Option, Some, None, ℕ, ◌∙◌, ap, refl}
+use Rattle.std.proofs.Common.{◌≡◌, true, List, [], ◌∷◌, ◌++◌, Option, Some, None, ℕ, refl}
 use Rattle.std.specs.Prelude.{MatchOption, is_none}
 use Rattle.sql_parse.specs.declared.expression.ColumnName.{ColumnName}
 use Rattle.sql_parse.specs.declared.expression.Expr.{Expr}
 use Rattle.sql_parse.specs.declared.expression.Expr.TheVariants as e
-use Rattle.sql_parse.specs.declared.procedure.ReturnText.{ReturnText}
 use Rattle.sql_parse.specs.declared.procedure.ReturnText.TheVariants as r
 use Rattle.sql_parse.specs.Procedures.{is_lone_name, lone_column, returned_of, result_of}
 

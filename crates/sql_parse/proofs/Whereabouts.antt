@@ -1,5 +1,5 @@
 -- From a cursor over the tokens of a text to their places.
-use Rattle.std.proofs.Common.{◌+◌, arith, ◌≡◌, ◌≤◌, ◌<◌, ℕ, zero, suc, ◌-◌, true, List, [], ◌∷◌, length, take, drop, map, All, Ok, Err, refl, ap, sym, ◌∙◌}
+use Rattle.std.proofs.Common.{◌+◌, arith, ◌≡◌, ◌≤◌, ℕ, zero, suc, ◌-◌, true, List, [], ◌∷◌, length, drop, All, Ok, Err, refl, ap, sym, ◌∙◌}
 use Rattle.std.proofs.lemmas.List.{length-map, length-drop, get_or-drop}
 use Rattle.volt_text.specs.declared.token.Token.{Token}
 use Rattle.sql_grammar.specs.Grammar.{Tok, G, Outcome, ok, parse}

@@ -1,7 +1,7 @@
 -- The grammar of statements that define tables, indexes and procedures. Each rule stands below its text.
-use Rattle.std.specs.Prelude.{ℕ, ℤ, Bool, true, false, List, [], ◌∷◌, Option, Some, None}
+use Rattle.std.specs.Prelude.{ℕ, Bool, true, false, List, Some, None}
 use Rattle.sql_grammar.specs.declared.kind.Kind.TheVariants as k
-use Rattle.sql_grammar.specs.Grammar.{G, tok, pure, seq, alt, map, skip, listed, opt, is}
+use Rattle.sql_grammar.specs.Grammar.{G, pure, seq, alt, map, skip, listed, is}
 use Rattle.sql_parse.specs.declared.ddl.ColumnText.{ColumnText}
 use Rattle.sql_parse.specs.declared.ddl.CreateIndex.{CreateIndex}
 use Rattle.sql_parse.specs.declared.ddl.CreateTable.{CreateTable}

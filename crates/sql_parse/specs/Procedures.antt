@@ -1,7 +1,7 @@
 -- The grammar of procedures. Each rule stands below its text.
 --
 -- The number that the rules take is how deep steps, parentheses, NOT and unary minus may still nest.
-use Rattle.std.specs.Prelude.{ℕ, ℤ, pos, zero, suc, Bool, true, false, is_none, List, [], ◌∷◌, Option, Some, None}
+use Rattle.std.specs.Prelude.{ℕ, ℤ, pos, zero, suc, Bool, false, is_none, List, [], ◌∷◌, Option, Some, None}
 use Rattle.sql_grammar.specs.declared.kind.Kind.{Kind}
 use Rattle.sql_grammar.specs.declared.kind.Kind.TheVariants as k
 use Rattle.sql_grammar.specs.Grammar.{G, tok, pure, seq, alt, map, skip, chain, note, joined, listed, opt, is}

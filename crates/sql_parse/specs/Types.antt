@@ -1,5 +1,5 @@
 -- The grammar of types, and parentheses in which nothing nests.
-use Rattle.std.specs.Prelude.{ℕ, ℤ}
+use Rattle.std.specs.Prelude.{ℤ}
 use Rattle.sql_grammar.specs.declared.kind.Kind.TheVariants as k
 use Rattle.sql_grammar.specs.Grammar.{G, alt, map, skip, opt, seq, tok, is}
 use Rattle.sql_parse.specs.declared.ddl.TypeName.{TypeName}

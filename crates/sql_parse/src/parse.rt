@@ -1,10 +1,10 @@
 //! Statements.
 
-ghost use Rattle.std.specs.Prelude.{◌≡◌, ◌<◌, ◌≤◌, ◌^◌, ℕ, All, length, IfOk, Err};
+ghost use Rattle.std.specs.Prelude.{◌≡◌, ◌<◌, ◌≤◌, ◌^◌, ℕ, length, IfOk, Err};
 ghost use Rattle.volt_text.specs.Tokens.{Reads as Lexes, Tokens as Lexed};
 ghost use Rattle.sql_grammar.specs.Grammar.{parse};
 ghost use Rattle.sql_grammar.specs.Reading.{IsRead, IsRefused};
-ghost use Rattle.sql_parse.specs.Cursor.{Stands, toks};
+ghost use Rattle.sql_parse.specs.Cursor.{toks};
 ghost use Rattle.sql_parse.specs.Statements.{statement};
 ghost use Rattle.sql_parse.specs.Reads.{Reads, refused_at};
 ghost use Rattle.sql_parse.specs.Statements as spec;
@@ -52,29 +52,6 @@ pub fn refusal(fault: Fault, place: usize) -> ParseFault
     }
 }
 
-/// A statement at the front of the tokens from one on, where each token stands in the text.
-fn statement_at(
-    alloc: Global,
-    text: &str,
-    tokens: &[Token],
-    from: usize,
-) -> Result<(Stmt, usize), ParseFault>
-    requires standing { All (Stands text.now) tokens.now }
-    requires few { length tokens.now < 2 ^ 32 }
-    requires within { from ≤ length tokens.now }
-    ensures read { IfOk result (λ r. IsRead statement (toks text.now tokens.now) from r.0 r.1) }
-    ensures refused { (place : ℕ) → result ≡ Err (ParseFault.Syntax place) → IsRefused statement (toks text.now tokens.now) from place }
-{
-    let (_, rest) = tokens.split_at(from);
-    let mut cursor = Tokens::new(text, rest);
-    let read = stmt(alloc, &mut cursor, MAX_NESTING);
-    let place = tokens.len().saturating_sub(cursor.left());
-    match read {
-        Ok(tree) => Ok((tree, place)),
-        Err(fault) => Err(refusal(fault, place)),
-    }
-}
-
 /// Reads the statement that stands at the front of a text's tokens from the token of this number
 /// on, and answers it with the number of the token behind it.
 ///
@@ -88,11 +65,18 @@ pub fn parse_statement(
     tokens: &[Token],
     from: usize,
 ) -> Result<(Stmt, usize), ParseFault>
-    requires small { length text.now < 2 ^ 32 }
+    requires short { length text.now < 2 ^ 32 }
     requires lexed { Lexes text.now (Lexed tokens.now) }
     requires within { from ≤ length tokens.now }
     ensures read { IfOk result (λ r. IsRead statement (toks text.now tokens.now) from r.0 r.1) }
     ensures refused { (place : ℕ) → result ≡ Err (ParseFault.Syntax place) → IsRefused statement (toks text.now tokens.now) from place }
 {
-    statement_at(alloc, text, tokens, from)
+    let (_, ahead) = tokens.split_at(from);
+    let mut cursor = Tokens::new(text, ahead);
+    let read = stmt(alloc, &mut cursor, MAX_NESTING);
+    let place = tokens.len().saturating_sub(cursor.left());
+    match read {
+        Ok(found) => Ok((found, place)),
+        Err(fault) => Err(refusal(fault, place)),
+    }
 }

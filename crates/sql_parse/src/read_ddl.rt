@@ -1,12 +1,12 @@
 //! Statements that define something, by their places among the tokens of a text.
 
 ghost use Rattle.std.specs.Prelude.{◌≡◌, ◌<◌, ◌≤◌, ◌^◌, ℕ, length, IfOk, Err};
-ghost use Rattle.volt_text.specs.Tokens.{Reads, Tokens};
+ghost use Rattle.volt_text.specs.Tokens.{Reads as Lexes, Tokens as Lexed};
 ghost use Rattle.sql_grammar.specs.Reading.{IsRead, IsRefused};
 ghost use Rattle.sql_parse.specs.Cursor.{toks};
 ghost use Rattle.sql_parse.specs.Ddl.{ddl};
 
-use crate::cursor;
+use crate::cursor::Tokens;
 use crate::ddl::Ddl;
 use crate::definitions::ddl;
 use crate::fault::ParseFault;
@@ -31,13 +31,13 @@ pub fn parse_ddl(
     from: usize,
 ) -> Result<(Ddl, usize), ParseFault>
     requires short { length text.now < 2 ^ 32 }
-    requires lexed { Reads text.now (Tokens tokens.now) }
+    requires lexed { Lexes text.now (Lexed tokens.now) }
     requires within { from ≤ length tokens.now }
     ensures read { IfOk result (λ r. IsRead ddl (toks text.now tokens.now) from r.0 r.1) }
     ensures refused { (place : ℕ) → result ≡ Err (ParseFault.Syntax place) → IsRefused ddl (toks text.now tokens.now) from place }
 {
     let (_, ahead) = tokens.split_at(from);
-    let mut cursor = cursor::Tokens::new(text, ahead);
+    let mut cursor = Tokens::new(text, ahead);
     let read = ddl(alloc, &mut cursor);
     let place = tokens.len().saturating_sub(cursor.left());
     match read {

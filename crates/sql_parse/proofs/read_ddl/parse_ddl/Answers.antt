@@ -1,7 +1,7 @@
-use Rattle.std.proofs.Common.{arith, ◌≡◌, ◌-◌, List, length, drop, All, Ok, Err, ap, sym, ◌∙◌, subst}
+use Rattle.std.proofs.Common.{arith, ◌≡◌, ◌-◌, List, length, All, ap, sym, ◌∙◌, subst}
 use Rattle.volt_text.specs.declared.token.Token.{Token}
 use Rattle.sql_grammar.specs.Grammar.{parse}
-use Rattle.sql_parse.specs.Cursor.{toks, Stands}
+use Rattle.sql_parse.specs.Cursor.{Stands}
 use Rattle.sql_parse.specs.Ddl.{ddl}
 use Rattle.sql_parse.specs.Reads.{refused_at}
 use Rattle.sql_parse.specs.declared.fault.ParseFault.TheVariants as fault

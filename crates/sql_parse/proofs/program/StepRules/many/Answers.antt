@@ -1,7 +1,7 @@
 use Rattle.std.proofs.Common.{◌≡◌, true, rules}
 use Rattle.sql_grammar.specs.Grammar.{parse, at, joined}
 use Rattle.sql_parse.specs.Procedures.{step, steps}
-use Rattle.sql_parse.proofs.Turns.{turned}
+use Rattle.sql_parse.proofs.Loops.{turned}
 use Rattle.sql_parse.proofs.program.StepRules.many.Goals as goal
 
 pub loop-turn-preserved : goal.loop-turn-preserved

@@ -3,7 +3,7 @@ use Rattle.sql_grammar.specs.declared.kind.Kind.TheVariants as k
 use Rattle.sql_grammar.specs.Grammar.{parse, at, skip}
 use Rattle.sql_parse.specs.Expressions.{negation, deeper}
 use Rattle.sql_parse.specs.declared.expression.Expr.TheVariants.{And}
-use Rattle.sql_parse.proofs.Turns.{turned, eaten_at, eaten_read}
+use Rattle.sql_parse.proofs.Loops.{turned, eaten_at, eaten_read}
 use Rattle.sql_parse.proofs.rules.Rules.conjunction.Goals as goal
 
 pub loop-turn-preserved : goal.loop-turn-preserved

@@ -2,7 +2,7 @@ use Rattle.std.proofs.Common.{false}
 use Rattle.sql_grammar.specs.declared.kind.Kind.TheVariants as k
 use Rattle.sql_grammar.specs.Grammar.{alt, skip}
 use Rattle.sql_parse.specs.Expressions.{contained, between, among, compared, deeper}
-use Rattle.sql_parse.proofs.Turns.{passed}
+use Rattle.sql_parse.proofs.Loops.{passed}
 use Rattle.sql_parse.proofs.rules.Rules.contained.Goals as goal
 
 pub returns : goal.returns

@@ -1,6 +1,6 @@
 use Rattle.sql_grammar.specs.Grammar.{parse, at, seq}
 use Rattle.sql_parse.specs.Expressions.{scaling, signed, calculate, deeper}
-use Rattle.sql_parse.proofs.Turns.{turned, seq_at, seq_read}
+use Rattle.sql_parse.proofs.Loops.{turned, seq_at, seq_read}
 use Rattle.sql_parse.proofs.rules.Rules.product.Goals as goal
 
 pub loop-turn-preserved : goal.loop-turn-preserved

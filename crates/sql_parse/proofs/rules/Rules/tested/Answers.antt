@@ -1,7 +1,7 @@
 use Rattle.sql_grammar.specs.declared.kind.Kind.TheVariants as k
 use Rattle.sql_grammar.specs.Grammar.{alt, skip}
 use Rattle.sql_parse.specs.Expressions.{tested, contained, excluded, null_test, deeper}
-use Rattle.sql_parse.proofs.Turns.{passed}
+use Rattle.sql_parse.proofs.Loops.{passed}
 use Rattle.sql_parse.proofs.rules.Rules.tested.Goals as goal
 
 pub returns : goal.returns
