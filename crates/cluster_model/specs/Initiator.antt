@@ -1,5 +1,5 @@
 -- The initiator runs calls on all partitions, one after another, and admits hosts that have joined.
-use Rattle.std.specs.Prelude.{ℕ, zero, ◌+◌, ◌==◌, ◌&&◌, not, Bool, true, false, if◌then◌else◌, List, [], ◌∷◌, ◌++◌, map, filter, max, Option, Some, None, is_none, option_map}
+use Rattle.std.specs.Prelude.{ℕ, zero, ◌+◌, ◌==◌, ◌&&◌, not, nat_lt, Bool, true, false, if◌then◌else◌, List, [], ◌∷◌, ◌++◌, map, filter, max, Option, Some, None, is_none, option_map}
 use Rattle.std.specs.List.{list_any, list_all}
 use Rattle.volt_base.specs.declared.entry.Outcome.{Outcome}
 use Rattle.volt_base.specs.declared.entry.Outcome.TheVariants as outcome
@@ -70,10 +70,12 @@ begins E D a TakeSnapshot =
 -- ---- its queue
 
 -- Admit, when it is idle: the start is admitted if its own word is then the one that it has decided, and of the term
--- of the word that the joiner took.
+-- of the word that the joiner took. A start below its own isn't admitted: it would be the initiator in its place.
 abbrev pub admitting : AgentState → Option Membership → Option Membership → ℕ → ℕ → ℕ → AgentState
 admitting a (Some own) (Some decided) start host term =
-    if same_word own decided && term_of own == term then record a { own = Some (with_admitted start host own) } else a
+    if same_word own decided && term_of own == term && nat_lt a.start start
+    then record a { own = Some (with_admitted start host own) }
+    else a
 admitting a own decided start host term = a
 
 -- The initiator that is idle works its queue in order of coming, until it has a job at hand.

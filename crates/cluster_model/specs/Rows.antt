@@ -13,6 +13,7 @@ pub mod StreamOfAnOldTerm
 pub mod JoinerHearsOfALoss
 pub mod StopOvertakesStart
 pub mod SecondJoinerOfASlot
+pub mod StartBelowTheInitiators
 use Rattle.std.specs.Prelude.{ℕ, zero, suc, ◌==◌, Bool, true, false, List, [], ◌∷◌, Option, Some, None, map}
 use Rattle.std.specs.List.{list_any}
 use Rattle.volt_base.specs.declared.entry.Applied.{Applied}

@@ -22,6 +22,7 @@ ghost use Rattle.cluster_model.specs.Rows.StreamOfAnOldTerm as stale;
 ghost use Rattle.cluster_model.specs.Rows.JoinerHearsOfALoss as joiner;
 ghost use Rattle.cluster_model.specs.Rows.StopOvertakesStart as overtaken;
 ghost use Rattle.cluster_model.specs.Rows.SecondJoinerOfASlot as second;
+ghost use Rattle.cluster_model.specs.Rows.StartBelowTheInitiators as below;
 
 /// One host: a call puts an account, and the next one reads it.
 pub fn put_and_get()
@@ -136,4 +137,13 @@ pub fn second_joiner_of_a_slot()
     ensures unanswered { can second.last (Deliver (Agent 2) (Site 0)) ≡ false }
     ensures contents { map (λ i. (second.last.sites i).contents) (0 ∷ 1 ∷ []) ≡ second.contents }
     ensures lead { second.last.lead_of 0 ≡ second.lead }
+{}
+
+/// A start that was drawn before that of the initiator asks to be admitted. It would be the initiator
+/// in the place of one that runs, so it isn't admitted.
+pub fn start_below_the_initiators()
+    ensures run { IsRun toy below.events below.start }
+    ensures comes { (below.last.agents 1).start ≡ 4 }
+    ensures initiator { below.initiator_of (below.last.agents 2).decided ≡ Some (2, 5) }
+    ensures unadmitted { (below.last.agents 2).own ≡ (below.last.agents 2).decided }
 {}

@@ -18,18 +18,13 @@ use Rattle.log_laws.specs.Histories.{Logs, LogState, Holds, Front, Reign, IsSlot
 use Rattle.log_laws.specs.Copies.{log_state, HasLogs, LeadOk}
 use Rattle.log_laws.proofs.Plain.Copies.{range-in}
 use Rattle.log_laws.proofs.Plain.Fronts.{front-none, front-trans, fronts-order, take-of-front, take-short}
-use Rattle.disk_laws.specs.Disks.{AtLeast, Written, Firm, ContentOk, DisksHold, shown_at}
+use Rattle.disk_laws.specs.Disks.{AtLeast, Written, Firm, ContentOk, DisksHold, Shows, shown_at}
 use Rattle.disk_laws.proofs.Order.{top-chosen, chosen-recovered}
 use Rattle.disk_laws.proofs.Contents.{firm-within, firm-begun, firm-front, firm-same}
 
 -- ---- what the disks show
 
--- one of its contents for each slot, and nothing where there is no slot
-pub record Shows (S : LogState) (shown : ℕ → Shown) : Type 0 where
-  pub one : (c : ℕ) → IsSlot S c → In (shown c) (shown_at S c)
-  pub none : (c : ℕ) → (IsSlot S c → ⊥) → shown c ≡ None
-
--- so what is there is a slot's
+-- what is there is a slot's
 pub shows-slot : (S : LogState) (shown : ℕ → Shown) → Shows S shown → (c : ℕ) (x : Content) → shown c ≡ Some x → IsSlot S c
 shows-slot S shown k c x e = elim (cases_Bool (nat_lt c (slots S.words.deployment))) [
   | inl q ↦ q

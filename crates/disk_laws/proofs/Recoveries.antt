@@ -99,7 +99,7 @@ module _ (E : Database) (w : World) (k : HasLogs w) (F : Firm) (halted : Bool) (
       (world-shows w k.owner k.history k.logs F halted K shown (Some (f, true)) e refl) (part S c) E v g led low)
 
   -- and their mark is above all that was shown
-  new-above : (c : ℕ) → IsSlot S c → mark_of (shown_of w shown c) < new_base w shown
+  pub new-above : (c : ℕ) → IsSlot S c → mark_of (shown_of w shown c) < new_base w shown
   new-above c q =
       let i : In (shown_of w shown c) (all_shown w shown) =
       in-map (shown_of w shown) c (range_with_len 0 (slots w.deployment)) (range-in c 0 (slots w.deployment) (omega arith) (omega (arith, slot-below c q))) in
@@ -120,7 +120,7 @@ module _ (E : Database) (w : World) (k : HasLogs w) (F : Firm) (halted : Bool) (
         λ m n h. inl (omega (arith, at_least-mark m n (shown_of w shown c) h, new-above c q)),
       )
 
-  left-top : (b : Bool) → is_shown w shown (Some (f, b)) ≡ true → (p m n : ℕ) → Top S p m n → Top (after b) p m n
+  pub left-top : (b : Bool) → is_shown w shown (Some (f, b)) ≡ true → (p m n : ℕ) → Top S p m n → Top (after b) p m n
   left-top b e = top-later S (after b) refl (left-raised b e)
 
   -- what was written in the epoch, and what a recovery wrote
@@ -147,7 +147,7 @@ module _ (E : Database) (w : World) (k : HasLogs w) (F : Firm) (halted : Bool) (
 
   -- ---- all stays stopped
 
-  agent-stopped : is_stopped w ≡ true → (h : ℕ) → (w.agents h).start ≡ 0
+  pub agent-stopped : is_stopped w ≡ true → (h : ℕ) → (w.agents h).start ≡ 0
   agent-stopped s h = elim (cases_Bool (is_host w.deployment h)) [
     | inl q ↦
         let t = list_all-at (λ h. (w.agents h).start == 0) (range_with_len 0 w.deployment.layout.hosts) h
@@ -158,7 +158,7 @@ module _ (E : Database) (w : World) (k : HasLogs w) (F : Firm) (halted : Bool) (
     | inr q ↦ (k.holds.words.hosts h).outside q
   ]
 
-  site-stopped : is_stopped w ≡ true → (c : ℕ) → (w.sites c).start ≡ 0
+  pub site-stopped : is_stopped w ≡ true → (c : ℕ) → (w.sites c).start ≡ 0
   site-stopped s c = elim (cases_Bool (nat_lt c (slots w.deployment))) [
     | inl q ↦
         let t = list_all-at (λ i. (w.sites i).start == 0 && (w.scanners i).start == 0) (range_with_len 0 (slots w.deployment)) c

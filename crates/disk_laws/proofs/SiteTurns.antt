@@ -38,7 +38,7 @@ use Rattle.disk_laws.proofs.Rows.{DiskRow, Plain, PlainWaiting, waiting-plain}
 use Rattle.disk_laws.proofs.SiteRows.{stays_joiner, as_joiner, as_entered, site_runs-row, site_runs-refused, site_runs-stream, site_runs-joins, site_runs-enters, entered-held}
 use Rattle.disk_laws.proofs.Own.{Own, OwnMember, OwnStream}
 use Rattle.disk_laws.proofs.SiteDisks.{Raised, firm-up}
-use Rattle.disk_laws.proofs.Turning.{Kept, Wiped, Leaves, firm-before, own-before, same-tops, wiped-tops, row-disks, row-kept, row-goes, row-begins, halts-after, still-kept, begins-kept, stops-kept, leaves-same, noted-kept, none-ok, stops-none, taken-from, fewer}
+use Rattle.disk_laws.proofs.Turning.{DisksGo, Kept, Wiped, Leaves, firm-before, own-before, same-tops, wiped-tops, same-still, row-disks, row-kept, row-goes, row-begins, halts-after, still-kept, begins-kept, stops-kept, leaves-same, noted-kept, none-ok, stops-none, taken-from, fewer}
 
 -- ---- messages
 
@@ -191,6 +191,7 @@ module _ (S : LogState) (H : Holds S) (F : Firm) (halted : Bool) (K : DisksHold 
           (stream-own C (G.reign (part S i)) (M (part S i)) (none-ok (after (popped S (Site k) i) i t.state t.sends G) M halted (part S i)))
           unwritten row (subst (λ n. 0 < n) (sym row.at.start) up) ((H.sites i).keeps up).held (firm-before S H F halted K i slot up)
           (wiped-tops S H F halted K (taken-from S (Site k) i) (fewer S (Site k) i) i slot t M G L grown raised halts wiped)
+          (λ e. absurd (not-both halted e goes-on))
 
     -- Its turn, whether the site takes the stream or not.
     pub start-kept : (E : Database) (stamp : ℕ) → Kept S F halted (Site k) i (site_runs E D stamp i s (Site k) (record l { body = msg.StreamStart head }))
@@ -271,6 +272,7 @@ module _ (S : LogState) (H : Holds S) (F : Firm) (halted : Bool) (K : DisksHold 
             (own-before S H F halted K (taken-from S (Agent h) i) (fewer S (Agent h) i) i slot t M G L grown raised halts))
             ((H.sites i).keeps up).on_disk row (subst (λ n. 0 < n) (sym row.at.start) up) held (firm-before S H F halted K i slot up)
             (same-tops S H F halted K (taken-from S (Agent h) i) (fewer S (Agent h) i) i slot t M G L grown raised halts row.at.contents)
+            (same-still S H F halted K (taken-from S (Agent h) i) (fewer S (Agent h) i) i slot t M G L grown raised halts row.at.contents)
 
       -- ---- a joiner that the word admits
 
@@ -404,10 +406,11 @@ module _ (S : LogState) (H : Holds S) (F : Firm) (halted : Bool) (K : DisksHold 
             choice None e = member-own e
             choice (Some j) e = joiner-own j e
 
-        pub enters-disks : DisksHold U M halted
+        pub enters-disks : DisksGo S U M halted
         enters-disks = row-disks S H F halted K (taken-from S (Agent h) i) (fewer S (Agent h) i) i slot t M G L grown raised halts (as_entered s w) entered-own
             ((H.sites i).keeps up).on_disk row (subst (λ n. 0 < n) (sym row.at.start) up) held (firm-before S H F halted K i slot up)
             (same-tops S H F halted K (taken-from S (Agent h) i) (fewer S (Agent h) i) i slot t M G L grown raised halts row.at.contents)
+            (same-still S H F halted K (taken-from S (Agent h) i) (fewer S (Agent h) i) i slot t M G L grown raised halts row.at.contents)
 
     -- Its turn: it is taken, or dropped; it doesn't wait.
     pub view-kept : (E : Database) (stamp : ℕ) → Kept S F halted (Agent h) i (site_runs E D stamp i s (Agent h) (record l { body = msg.View w }))
@@ -492,7 +495,7 @@ module _ (S : LogState) (H : Holds S) (F : Firm) (halted : Bool) (K : DisksHold 
         choice true = stops-kept S H F halted K from i slot (becomes (stopped_site (record s { stop = max s.stop a }))) refl refl (leaves-same S H F halted K from i slot) (λ c. tt)
         choice false = noted-kept S H F halted K from i slot (max s.stop a) s.plans
 
-    fails-kept : (start : ℕ) (xs : List Shown) → Leaves S i xs → Kept S F halted from i (stops_so D i s start xs)
+    fails-kept : (start : ℕ) (xs : List Shown) → Leaves S halted i xs → Kept S F halted from i (stops_so D i s start xs)
     fails-kept start xs k = stops-kept S H F halted K from i slot (stops_so D i s start xs) refl refl k (stops-none D i start s xs)
 
     running : (x : Letter) (E : Database) (stamp : ℕ) (b : Bool) → (start_at S i == 0) ≡ b → (0 < start_at S i → Kept S F halted from i (site_runs E D stamp i s from x))
@@ -515,13 +518,14 @@ module _ (S : LogState) (H : Holds S) (F : Firm) (halted : Bool) (K : DisksHold 
 
   -- ---- parts of a message, that may fail
 
-  -- they wipe the disk, or there are none
+  -- They wipe the disk, or there are none; while all is stopped there are none.
   record Parts (parts : List Shown) : Type 0 where
     blank : (y : Shown) → In y parts → y ≡ None
+    still : halted ≡ true → parts ≡ []
     wipes : (parts ≡ []) ⊎ Wiped S i
 
   no-parts : Parts []
-  no-parts = record { blank = λ y m. absurd m; wipes = inl refl }
+  no-parts = record { blank = λ y m. absurd m; still = λ e. refl; wipes = inl refl }
 
   stream-parts : (k : ℕ) (l : Letter) (head : StreamHead) (ls : List Letter) → S.words.channel (Site k) (Site i) ≡ record l { body = msg.StreamStart head } ∷ ls
       → Parts (parts_of_message s (record l { body = msg.StreamStart head }))
@@ -538,6 +542,7 @@ module _ (S : LogState) (H : Holds S) (F : Firm) (halted : Bool) (K : DisksHold 
               | inl z ↦ sym z
               | inr z ↦ absurd z
             ];
+            still = λ t. absurd (not-both halted t (goes-on k l head ls is up e));
             wipes = inr (wiped k l head ls is up e j q m);
           }
           may false m = no-parts
@@ -577,12 +582,20 @@ module _ (S : LogState) (H : Holds S) (F : Firm) (halted : Bool) (K : DisksHold 
     not-raised : parts ≡ [] → Raise (shown_at S i) parts
     not-raised e y m = absurd (subst (In y) e m)
 
-    leaves-failure : Leaves S i (after_failure (shown_at S i) parts n)
+    -- while all is stopped
+    none-added : halted ≡ true → (y : Shown) → In y parts → In y (shown_at S i)
+    none-added e y m = absurd (subst (In y) (k.still e) m)
+
+    leaves-failure : Leaves S halted i (after_failure (shown_at S i) parts n)
     leaves-failure = record {
       some = some-after_failure (shown_at S i) parts n some;
       from = λ y m. elim (in-after_failure (shown_at S i) parts n y m) [
         | inl a ↦ inl a
         | inr b ↦ inr (k.blank y b)
+      ];
+      still = λ e y m. elim (in-after_failure (shown_at S i) parts n y m) [
+        | inl a ↦ a
+        | inr b ↦ none-added e y b
       ];
       wipes = elim k.wipes [
         | inl e ↦ inl (raise-after_failure (shown_at S i) parts (not-raised e) n)
@@ -590,12 +603,16 @@ module _ (S : LogState) (H : Holds S) (F : Firm) (halted : Bool) (K : DisksHold 
       ];
     }
 
-    leaves-parts : Leaves S i (after_parts (shown_at S i) (take n parts))
+    leaves-parts : Leaves S halted i (after_parts (shown_at S i) (take n parts))
     leaves-parts = record {
       some = some-after_parts (shown_at S i) (take n parts) some;
       from = λ y m. elim (in-after_parts (shown_at S i) (take n parts) y m) [
         | inl a ↦ inl a
         | inr b ↦ inr (k.blank y (in-take n y parts b))
+      ];
+      still = λ e y m. elim (in-after_parts (shown_at S i) (take n parts) y m) [
+        | inl a ↦ a
+        | inr b ↦ none-added e y (in-take n y parts b)
       ];
       wipes = elim k.wipes [
         | inl e ↦ inl (raise-after_parts (shown_at S i) (take n parts) (raise-take (shown_at S i) parts (not-raised e) n))

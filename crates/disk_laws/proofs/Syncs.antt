@@ -21,7 +21,7 @@ use Rattle.disk_laws.proofs.Order.{all-take, some-after_parts, some-after_failur
 use Rattle.disk_laws.proofs.Rows.{DiskRow, row-then}
 use Rattle.disk_laws.proofs.SiteRows.{after_sync-row, settles-row, ordered-row}
 use Rattle.disk_laws.proofs.SiteDisks.{Raised, contents-on, disk-on}
-use Rattle.disk_laws.proofs.Turning.{stops-none, firm-before, raised-tops, row-disks, stopped-disks}
+use Rattle.disk_laws.proofs.Turning.{DisksGo, stops-none, firm-before, raised-tops, row-disks, stopped-disks}
 use Rattle.disk_laws.proofs.SyncContents.{PartsOk, parts-ok}
 use Rattle.disk_laws.proofs.Writing.{wrote, wrote-start, wrote-firm, wrote-held, wrote-low, wrote-own}
 
@@ -73,10 +73,10 @@ module _ (E : Database) (S : LogState) (H : Holds S) (F : Firm) (K : DisksHold S
         (row-then S.words.deployment i b says (settles E S.words.deployment i) (after_sync-row S.words.deployment i b) (settles-row E S.words.deployment i says.state))
 
     module _ (L : Holds T) (grown : Grown S.words.deployment i t.state S.logs G) (raised : Raised S.words.deployment i t.state F M) where
-      pub syncs-disks : DisksHold T M false
+      pub syncs-disks : DisksGo S T M false
       syncs-disks = row-disks S H F false K S.words.channel all-same i slot t M G L grown raised never b
           (disk-on S H F M false K S.words.channel all-same i slot t.state t.sends G L grown raised never i b (wrote-own S H i up F (K.disks i slot)))
-          (wrote-low S H i up F (K.disks i slot)) row start (wrote-held S H i up F (K.disks i slot)) firm tops
+          (wrote-low S H i up F (K.disks i slot)) row start (wrote-held S H i up F (K.disks i slot)) firm tops never
         where
           start : 0 < t.state.start
           start = let e = wrote-start S H i up F (K.disks i slot) in omega (arith, up, row.at.start, e)
@@ -96,16 +96,16 @@ module _ (E : Database) (S : LogState) (H : Holds S) (F : Firm) (K : DisksHold S
     stop = stops_so S.words.deployment i s start xs
 
     pub stop-disks : Holds (after S i stop.state stop.sends G) → Grown S.words.deployment i stop.state S.logs G → Raised S.words.deployment i stop.state F M
-        → DisksHold (after S i stop.state stop.sends G) M false
+        → DisksGo S (after S i stop.state stop.sends G) M false
     stop-disks L grown raised = stopped-disks S H F false K S.words.channel all-same i slot stop M G L grown raised never refl some
         (contents-on S H F M false K S.words.channel all-same i slot stop.state stop.sends G L grown raised never (part S i) xs contents) (λ _. marks)
-        (raised-tops S H F false K S.words.channel all-same i slot stop M G L grown raised never raise) (stops-none S.words.deployment i start s xs)
+        (raised-tops S H F false K S.words.channel all-same i slot stop M G L grown raised never raise) never (stops-none S.words.deployment i start s xs)
 
   -- ---- either
 
   pub turn-disks : (o : Outside) (M : Firm) (G : Logs) → let t = sync_turn E S.words.deployment i s o in
       Holds (after S i t.state t.sends G) → Grown S.words.deployment i t.state S.logs G → Raised S.words.deployment i t.state F M
-      → DisksHold (after S i t.state t.sends G) M false
+      → DisksGo S (after S i t.state t.sends G) M false
   turn-disks Fair M G L grown raised = syncs-disks M G L grown raised
   turn-disks (DisksShow shown failed) M G L grown raised = syncs-disks M G L grown raised
   turn-disks (DiskFails answered) M G L grown raised = stop-disks (start_at S i) (after_failure s.contents parts answered)
@@ -125,7 +125,7 @@ module _ (E : Database) (S : LogState) (H : Holds S) (F : Firm) (K : DisksHold S
 pub sync-disks : (E : Database) (S : LogState) → Holds S → (F : Firm) (halted : Bool) → DisksHold S F halted → (i : ℕ) → IsSlot S i → may_sync (S.sites i) ≡ true
     → (o : Outside) (M : Firm) (G : Logs) → let t = sync_turn E S.words.deployment i (S.sites i) o in
     Holds (after S i t.state t.sends G) → Grown S.words.deployment i t.state S.logs G → Raised S.words.deployment i t.state F M
-    → DisksHold (after S i t.state t.sends G) M halted
+    → DisksGo S (after S i t.state t.sends G) M halted
 sync-disks E S H F false K i slot may o M G L grown raised = turn-disks E S H F K i slot (sync-runs (S.sites i) may) o M G L grown raised
 sync-disks E S H F true K i slot may o M G L grown raised =
     let j = (K.halts refl).joiners i (sync-runs (S.sites i) may) in

@@ -29,12 +29,19 @@ use Rattle.disk_laws.proofs.Own.{OwnAt, OwnStream, disk-own, own-disk, own-row}
 use Rattle.disk_laws.proofs.Halts.{SiteGoes, LeadersBegin, halted-site}
 use Rattle.disk_laws.proofs.SiteDisks.{Raised, contents-on, disk-on, disk-other, disks-after}
 
+-- What a turn of a site makes of disks. All holds that did before; each partition shows no less than it did; and while all is stopped
+-- no disk shows what it didn't show before.
+pub record DisksGo (S T : LogState) (M : Firm) (halted : Bool) : Type 0 where
+  pub disks : DisksHold T M halted
+  pub tops : (p m n : ℕ) → Top S p m n → Top T p m n
+  pub still : halted ≡ true → (c : ℕ) (y : Shown) → In y (shown_at T c) → In y (shown_at S c)
+
 -- Disks hold after this turn of the site of slot i, with which it takes the first message from this actor: with what the leader of its
 -- partition, where it leads, has counted firm by then.
 abbrev pub Kept : LogState → Firm → Bool → Actor → ℕ → Turn SiteState → Type 0
 Kept S F halted from i t =
     (M : Firm) (G : Logs) → Holds (after (popped S from i) i t.state t.sends G) → Grown S.words.deployment i t.state S.logs G
-    → Raised S.words.deployment i t.state F M → DisksHold (after (popped S from i) i t.state t.sends G) M halted
+    → Raised S.words.deployment i t.state F M → DisksGo S (after (popped S from i) i t.state t.sends G) M halted
 
 -- The disk of slot i may be wiped: another slot of its partition shows this mark or a later one, and all of its own are lower.
 pub record Wiped (S : LogState) (i : ℕ) : Type 0 where
@@ -42,10 +49,11 @@ pub record Wiped (S : LogState) (i : ℕ) : Type 0 where
   pub marks : AllByRecursion (λ x. mark_of x < mark) (shown_at S i)
   pub top : Top S (part S i) mark 0
 
--- What it shows then, of what it showed, or blank.
-pub record Leaves (S : LogState) (i : ℕ) (xs : List Shown) : Type 0 where
+-- What it shows then, of what it showed, or blank; while all is stopped nothing is wiped.
+pub record Leaves (S : LogState) (halted : Bool) (i : ℕ) (xs : List Shown) : Type 0 where
   pub some : (xs ≡ []) → ⊥
   pub from : (y : Shown) → In y xs → In y (shown_at S i) ⊎ (y ≡ None)
+  pub still : halted ≡ true → (y : Shown) → In y xs → In y (shown_at S i)
   pub wipes : Raise (shown_at S i) xs ⊎ Wiped S i
 
 pub none-ok : (S : LogState) (F : Firm) (halted : Bool) (p : ℕ) → ContentOk S F halted p None
@@ -127,10 +135,28 @@ module _ (S : LogState) (H : Holds S) (F : Firm) (halted : Bool) (K : DisksHold 
     pub wiped-tops : Wiped S i → (p m n : ℕ) → Top S p m n → Top T p m n
     wiped-tops w = top-wipe S T refl i w.mark others (K.disks i slot).some w.marks w.top
 
-    assembled : DiskOk T M halted i → ((p m n : ℕ) → Top S p m n → Top T p m n)
+    -- ---- what disks show while all is stopped
+
+    -- Where it shows nothing but what it showed, so do all.
+    still-shown : ((y : Shown) → In y t.state.contents → In y (shown_at S i)) → (c : ℕ) (y : Shown) → In y (shown_at T c) → In y (shown_at S c)
+    still-shown own c y m = elim (cases_eq c i) [
+      | inl e ↦ subst (λ n. In y (shown_at S n)) (sym e) (own y (subst (λ x. In y x.contents) (ap T.sites e ∙ site) m))
+      | inr n ↦ subst (In y) (others c n) m
+    ]
+
+    pub same-still : t.state.contents ≡ shown_at S i → halted ≡ true → (y : Shown) → In y t.state.contents → In y (shown_at S i)
+    same-still e h y m = subst (In y) e m
+
+    -- ---- all of it
+
+    assembled : DiskOk T M halted i → ((p m n : ℕ) → Top S p m n → Top T p m n) → (halted ≡ true → (y : Shown) → In y t.state.contents → In y (shown_at S i))
         → (leads S.words.deployment i t.state ≡ true → (t.state.firm ≤ F (part S i)) ⊎ ((t.state.mark ≡ site_term t.state) × (t.state.firm ≤ t.state.on_disk)))
-        → ((c : ℕ) → IsSlot S c → AllByRecursion (StreamLetter T c) (t.sends (Site c))) → DisksHold T M halted
-    assembled own tops counted new = disks-after S H F M halted K ch fewer i slot t.state t.sends G L grown raised halts own tops counted new
+        → ((c : ℕ) → IsSlot S c → AllByRecursion (StreamLetter T c) (t.sends (Site c))) → DisksGo S T M halted
+    assembled own tops still counted new = record {
+      disks = disks-after S H F M halted K ch fewer i slot t.state t.sends G L grown raised halts own tops counted new;
+      tops = tops;
+      still = λ e. still-shown (still e);
+    }
 
     -- ---- a turn that leaves the disk, from a state on
 
@@ -169,8 +195,9 @@ module _ (S : LogState) (H : Holds S) (F : Firm) (halted : Bool) (K : DisksHold 
               let k = own.member there-up (ap (λ x. x.joining) site ∙ none) in
               subst (AllByRecursion (AtLeast l.term 0)) (sym k.shows) (inr (ap (λ x. x.mark) site ∙ e, omega arith), tt)
 
-      pub row-disks : AllByRecursion HeldOk m.held → m.firm ≤ F (part S i) → ((p n k : ℕ) → Top S p n k → Top T p n k) → DisksHold T M halted
-      row-disks held firm tops = assembled own tops counted
+      pub row-disks : AllByRecursion HeldOk m.held → m.firm ≤ F (part S i) → ((p n k : ℕ) → Top S p n k → Top T p n k)
+          → (halted ≡ true → (y : Shown) → In y t.state.contents → In y (shown_at S i)) → DisksGo S T M halted
+      row-disks held firm tops still = assembled own tops still counted
           (λ c _. all-mono (Begins S.words.deployment i c m t.state) (StreamLetter T c) (letter c) (t.sends (Site c)) (row.sends held c))
         where
           counted : leads S.words.deployment i t.state ≡ true → (t.state.firm ≤ F (part S i)) ⊎ ((t.state.mark ≡ site_term t.state) × (t.state.firm ≤ t.state.on_disk))
@@ -179,16 +206,16 @@ module _ (S : LogState) (H : Holds S) (F : Firm) (halted : Bool) (K : DisksHold 
             | inr r ↦ inr (row.at.mark ∙ r.mark ∙ sym (at-term S.words.deployment i m t.state row.at), (let a = r.disk in let b = row.at.on_disk in omega (arith, a, b)))
           ]
 
-    pub row-same : 0 < start_at S i → DiskRow S.words.deployment i (S.sites i) t → DisksHold T M halted
+    pub row-same : 0 < start_at S i → DiskRow S.words.deployment i (S.sites i) t → DisksGo S T M halted
     row-same up row = row-disks (S.sites i) own-before ((H.sites i).keeps up).on_disk row (subst (λ n. 0 < n) (sym row.at.start) up) ((H.sites i).keeps up).held
-        (firm-before S H F halted K i slot up) (same-tops row.at.contents)
+        (firm-before S H F halted K i slot up) (same-tops row.at.contents) (same-still row.at.contents)
 
     -- ---- a site that stops
 
     pub stopped-disks : t.state.start ≡ 0 → (t.state.contents ≡ [] → ⊥) → AllByRecursion C t.state.contents
         → (halted ≡ false → AllByRecursion (λ y. mark_of y ≤ t.state.greatest) t.state.contents) → ((p m n : ℕ) → Top S p m n → Top T p m n)
-        → ((c : ℕ) → AllByRecursion NoStreamStart (t.sends (Site c))) → DisksHold T M halted
-    stopped-disks down some contents marks tops none = assembled own tops (λ l. let u = leader-up l in absurd (omega (arith, u, down)))
+        → (halted ≡ true → (y : Shown) → In y t.state.contents → In y (shown_at S i)) → ((c : ℕ) → AllByRecursion NoStreamStart (t.sends (Site c))) → DisksGo S T M halted
+    stopped-disks down some contents marks tops still none = assembled own tops still (λ l. let u = leader-up l in absurd (omega (arith, u, down)))
         (λ c _. all-mono NoStreamStart (StreamLetter T c) (no-letter T c) (t.sends (Site c)) (none c))
       where
         down-there : start_at T i ≡ 0
@@ -204,10 +231,10 @@ module _ (S : LogState) (H : Holds S) (F : Firm) (halted : Bool) (K : DisksHold 
         }
 
     -- with what its disk showed, or blank
-    pub stops-disks : t.state.start ≡ 0 → t.state.greatest ≡ (S.sites i).greatest → Leaves S i t.state.contents → ((c : ℕ) → AllByRecursion NoStreamStart (t.sends (Site c)))
-        → DisksHold T M halted
+    pub stops-disks : t.state.start ≡ 0 → t.state.greatest ≡ (S.sites i).greatest → Leaves S halted i t.state.contents
+        → ((c : ℕ) → AllByRecursion NoStreamStart (t.sends (Site c))) → DisksGo S T M halted
     stops-disks down greatest k = stopped-disks down k.some (all-from C t.state.contents contents)
-        (λ e. all-from (λ y. mark_of y ≤ t.state.greatest) t.state.contents (mark e)) tops
+        (λ e. all-from (λ y. mark_of y ≤ t.state.greatest) t.state.contents (mark e)) tops k.still
       where
         contents : (y : Shown) → In y t.state.contents → C y
         contents y m = elim (k.from y m) [
@@ -229,19 +256,19 @@ module _ (S : LogState) (H : Holds S) (F : Firm) (halted : Bool) (K : DisksHold 
 
     -- ---- a site that stays as it is
 
-    pub still-disks : t.state ≡ S.sites i → ((c : ℕ) → t.sends (Site c) ≡ []) → DisksHold T M halted
+    pub still-disks : t.state ≡ S.sites i → ((c : ℕ) → t.sends (Site c) ≡ []) → DisksGo S T M halted
     still-disks e none = assembled
         (disk-other S H F M halted K ch fewer i slot t.state t.sends G L grown raised halts i (site ∙ e) (K.disks i slot))
-        (same-tops (ap (λ x. x.contents) e))
+        (same-tops (ap (λ x. x.contents) e)) (same-still (ap (λ x. x.contents) e))
         (λ l. inl (subst (λ x. x.firm ≤ F (part S i)) (sym e) (firm-before S H F halted K i slot (subst (λ x. 0 < x.start) e (leader-up l)))))
         (λ c _. subst (AllByRecursion (StreamLetter T c)) (sym (none c)) tt)
 
     -- ---- a site that begins
 
-    pub begins-disks : (a : ℕ) → t.state ≡ new_joiner (S.sites i) a → ((c : ℕ) → t.sends (Site c) ≡ []) → DisksHold T M halted
+    pub begins-disks : (a : ℕ) → t.state ≡ new_joiner (S.sites i) a → ((c : ℕ) → t.sends (Site c) ≡ []) → DisksGo S T M halted
     begins-disks a e none = assembled
         (own-disk T M halted i t.state site (subst (OwnAt T M halted i) (sym e) new))
-        (same-tops (ap (λ x. x.contents) e))
+        (same-tops (ap (λ x. x.contents) e)) (same-still (ap (λ x. x.contents) e))
         (λ l. absurd (true≢false (sym l ∙ ap (leads S.words.deployment i) e)))
         (λ c _. subst (AllByRecursion (StreamLetter T c)) (sym (none c)) tt)
       where
@@ -311,7 +338,7 @@ module _ (S : LogState) (H : Holds S) (F : Firm) (halted : Bool) (K : DisksHold 
       begins-disks S H F halted K ch on i slot t M G L grown raised
       (halts-after S H F halted K ch on i slot t G L (inr (inr ((new_joining, refl, refl), fresh))) (λ c. tt)) a refl (λ c. refl)
 
-  pub stops-kept : (t : Turn SiteState) → t.state.start ≡ 0 → t.state.greatest ≡ (S.sites i).greatest → Leaves S i t.state.contents
+  pub stops-kept : (t : Turn SiteState) → t.state.start ≡ 0 → t.state.greatest ≡ (S.sites i).greatest → Leaves S halted i t.state.contents
       → ((c : ℕ) → AllByRecursion NoStreamStart (t.sends (Site c))) → Kept S F halted from i t
   stops-kept t down greatest k none M G L grown raised = stops-disks S H F halted K ch on i slot t M G L grown raised
       (halts-after S H F halted K ch on i slot t G L (inl down) (λ c.
@@ -319,8 +346,8 @@ module _ (S : LogState) (H : Holds S) (F : Firm) (halted : Bool) (K : DisksHold 
       down greatest k none
 
   -- where the disk stays
-  pub leaves-same : Leaves S i (shown_at S i)
-  leaves-same = record { some = (K.disks i slot).some; from = λ y m. inl m; wipes = inl (raise-refl (shown_at S i)) }
+  pub leaves-same : Leaves S halted i (shown_at S i)
+  leaves-same = record { some = (K.disks i slot).some; from = λ y m. inl m; still = λ e y m. m; wipes = inl (raise-refl (shown_at S i)) }
 
   -- a number is noted
   noted : (stop : ℕ) (plans : List (ℕ × ℕ)) → DiskAt S.words.deployment i (S.sites i) (record (S.sites i) { stop = stop; plans = plans })

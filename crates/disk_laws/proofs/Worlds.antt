@@ -40,6 +40,7 @@ use Rattle.disk_laws.proofs.Choices.{no-choice-lacks}
 use Rattle.disk_laws.proofs.Recoveries.{stopped-hold}
 use Rattle.disk_laws.proofs.Boots.{firm_in, first-disks, anew-disks}
 use Rattle.disk_laws.proofs.Others.{disks-plain, disks-agent}
+use Rattle.disk_laws.proofs.Turning.{DisksGo}
 use Rattle.disk_laws.proofs.SiteTurns.{site_turn-kept}
 
 -- ---- worlds
@@ -206,8 +207,8 @@ module _ (w : World) (d : HasDisks w) (channel : Actor → Actor → List Letter
   after-turn = with_site (record w { channel = channel; stops = stops }) i t
 
   site-goes : (G : Logs) (H : Holds (log_state after-turn d.logs.owner d.logs.history G)) → Grown w.deployment i t.state d.logs.logs G
-      → DisksHold (log_state after-turn d.logs.owner d.logs.history G) (firm_in after-turn) d.halted → Goes w after-turn
-  site-goes G H grown disks =
+      → DisksGo (log_state w d.logs.owner d.logs.history d.logs.logs) (log_state after-turn d.logs.owner d.logs.history G) (firm_in after-turn) d.halted → Goes w after-turn
+  site-goes G H grown go =
       let k = d.logs in
       let r = site-reaches w false k channel stops i t G H grown in
       let e = site-next w false k channel stops i t G H grown in
@@ -217,7 +218,7 @@ module _ (w : World) (d : HasDisks w) (channel : Actor → Actor → List Letter
           halted = d.halted;
           disks = subst (λ x. DisksHold (log_state after-turn x r.next.history r.next.logs) (firm_in after-turn) d.halted) (sym e.0)
               (subst (λ x. DisksHold (log_state after-turn k.owner x r.next.logs) (firm_in after-turn) d.halted) (sym e.1)
-              (subst (λ x. DisksHold (log_state after-turn k.owner k.history x) (firm_in after-turn) d.halted) (sym e.2) disks));
+              (subst (λ x. DisksHold (log_state after-turn k.owner k.history x) (firm_in after-turn) d.halted) (sym e.2) go.disks));
         };
         survives = survives-onward w after-turn k r.next (r.onward refl) (r.rises refl);
       }

@@ -20,6 +20,11 @@ AtLeast mark position (Some x) = (mark < x.mark) ⊎ ((x.mark ≡ mark) × (posi
 abbrev pub shown_at : LogState → ℕ → List Shown
 shown_at S c = (S.sites c).contents
 
+-- What all disks show: one of its contents for each slot, and nothing where there is no slot.
+pub record Shows (S : LogState) (shown : ℕ → Shown) : Type 0 where
+  pub one : (c : ℕ) → IsSlot S c → In (shown c) (shown_at S c)
+  pub none : (c : ℕ) → (IsSlot S c → ⊥) → shown c ≡ None
+
 -- Some slot of the partition shows nothing less than this.
 pub record Top (S : LogState) (p mark position : ℕ) : Type 0 where
   pub slot : ℕ

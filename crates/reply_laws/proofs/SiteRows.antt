@@ -1,4 +1,4 @@
--- What each row of a site makes of the replies that it holds, and a whole turn of it.
+-- What each row of a site makes of the answers that it holds, and a whole turn of it.
 use Rattle.std.proofs.Common.{◌≡◌, ◌<◌, ◌≤◌, Bool, true, false, List, [], ◌∷◌, ◌++◌, refl, sym, subst, ◌==◌, arith}
 use Rattle.std.proofs.lemmas.Bool.{and_parts}
 use Rattle.std.proofs.lemmas.Bool.Decides.{nat_tests}
@@ -29,12 +29,12 @@ use Rattle.log_laws.proofs.Plain.Copies.{leader-view, leads-parts}
 use Rattle.log_laws.proofs.Plain.Fronts.{front-refl, front-append, front-none}
 use Rattle.disk_laws.proofs.Rows.{Plain, PlainWaiting}
 use Rattle.disk_laws.proofs.SiteRows.{plain-row, stays_joiner, as_joiner, as_entered, view-joins, view-enters}
-use Rattle.reply_laws.specs.Replies.{StandsAt, HeldReply, HoldsReplies, SentReply, TurnReplies}
-use Rattle.reply_laws.proofs.Rows.{ReplyAt, ReplyRow, all-held-on, at-first, at-if, row-then, row-behind, row-quiet, row-becomes, row-nothing, row-if, row-ordered, row-replies}
+use Rattle.reply_laws.specs.Answers.{Tells, HeldAnswer, HoldsAnswers, SentAnswer, TurnAnswers}
+use Rattle.reply_laws.proofs.Rows.{AnswerAt, AnswerRow, all-held-on, at-first, at-if, row-then, row-behind, row-quiet, row-becomes, row-nothing, row-if, row-ordered, row-answers}
 
--- ---- what replies don't go by
+-- ---- what answers don't go by
 
--- the first site with what replies don't go by of the second one
+-- the first site with what answers don't go by of the second one
 abbrev with_rest : SiteState → SiteState → SiteState
 with_rest s u = record s {
   stop = u.stop;
@@ -65,19 +65,19 @@ joiner-follows : (D : Deployment) (i : ℕ) (s : SiteState) (j : Joining) → s.
 joiner-follows D i s j is e = none-and-some (leader-view D i s (leads-parts D i s e).0).0 is
 
 module _ (E : Database) (D : Deployment) (i : ℕ) where
-  at-rest : (s u : SiteState) → Front s.log u.log → ReplyAt E D i s (with_rest s u)
+  at-rest : (s u : SiteState) → Front s.log u.log → AnswerAt E D i s (with_rest s u)
   at-rest s u log = record { start = refl; log = log; leads = λ e. e; firm = omega arith; held = all-held-on E (part_of_slot D i) s.log u.log log s.held }
 
   -- with the same log
-  at-same : (s u : SiteState) → u.log ≡ s.log → ReplyAt E D i s (with_rest s u)
+  at-same : (s u : SiteState) → u.log ≡ s.log → AnswerAt E D i s (with_rest s u)
   at-same s u log = at-rest s u (subst (Front s.log) (sym log) (front-refl s.log))
 
   -- with an entry more
-  at-log : (s : SiteState) (more : List Entry) → ReplyAt E D i s (record s { log = s.log ++ more })
+  at-log : (s : SiteState) (more : List Entry) → AnswerAt E D i s (record s { log = s.log ++ more })
   at-log s more = at-rest s (record s { log = s.log ++ more }) (front-append s.log more)
 
   -- as a joiner
-  at-joining : (s : SiteState) (j k : Joining) (more : List Entry) → s.joining ≡ Some j → Front s.log more → ReplyAt E D i s (record s { joining = Some k; log = more })
+  at-joining : (s : SiteState) (j k : Joining) (more : List Entry) → s.joining ≡ Some j → Front s.log more → AnswerAt E D i s (record s { joining = Some k; log = more })
   at-joining s j k more is log = record {
     start = refl;
     log = log;
@@ -87,7 +87,7 @@ module _ (E : Database) (D : Deployment) (i : ℕ) where
   }
 
   -- as one that has what its term begins with
-  at-repaired : (s : SiteState) (reports : List Reported) → ReplyAt E D i s (record s { repaired = true; owes = Some (site_term s); reports = reports })
+  at-repaired : (s : SiteState) (reports : List Reported) → AnswerAt E D i s (record s { repaired = true; owes = Some (site_term s); reports = reports })
   at-repaired s reports = record {
     start = refl;
     log = front-refl s.log;
@@ -96,109 +96,102 @@ module _ (E : Database) (D : Deployment) (i : ℕ) where
     held = λ k. k;
   }
 
-  -- with an answer more that is held, and isn't a reply
-  at-holds : (s : SiteState) (h : ℕ) (l : Letter) → HeldReply E (part_of_slot D i) s.log (record { position = length s.log + 1; to = Agent h; letter = l })
-      → ReplyAt E D i s (holds s (Agent h) l)
-  at-holds s h l k = record {
+  -- An answer to the entry that is appended next is held, and the entry is appended.
+  at-answers : (s : SiteState) (h : ℕ) (l : Letter) (e : Entry) → Tells E (part_of_slot D i) l.body s.log e
+      → AnswerAt E D i s (record (holds s (Agent h) l) { log = s.log ++ e ∷ [] })
+  at-answers s h l e claim = record {
     start = refl;
-    log = front-refl s.log;
-    leads = λ e. e;
+    log = more;
+    leads = λ k. k;
     firm = omega arith;
-    held = λ old. all-append (HeldReply E (part_of_slot D i) s.log) s.held (record { position = length s.log + 1; to = Agent h; letter = l } ∷ []) old (k, tt);
+    held = λ old. all-append (HeldAnswer E (part_of_slot D i) log) s.held (d ∷ []) (all-held-on E (part_of_slot D i) s.log log more s.held old) (new, tt);
   }
+    where
+      log : List Entry
+      log = s.log ++ e ∷ []
+
+      more : Front s.log log
+      more = front-append s.log (e ∷ [])
+
+      d : Held
+      d = record { position = length s.log + 1; to = Agent h; letter = l }
+
+      new : HeldAnswer E (part_of_slot D i) log d
+      new = λ a. record { here = record { front = s.log; entry = e; stands = front-refl log; claim = claim }; at = refl }
 
   -- ---- entries
 
   -- an entry is appended to m, and the site with it came from s
-  appends-from : (s m : SiteState) (e : Entry) → ReplyAt E D i s (record m { log = m.log ++ e ∷ [] }) → ReplyRow E D i s (appends E D i e m)
+  appends-from : (s m : SiteState) (e : Entry) → AnswerAt E D i s (record m { log = m.log ++ e ∷ [] }) → AnswerRow E D i s (appends E D i e m)
   appends-from s m e h =
       let b = record m { log = m.log ++ e ∷ [] } in
       row-if E D i s (is_snapshot e && is_none b.scanning && not (is_joiner b)) (begins_base E D i b) (becomes b)
       (λ _. row-behind E D i s b (begins_base E D i b) h (row-quiet E D i b (begins_base E D i b) (at-same b (begins_base E D i b).state refl) (λ c. tt)))
       (λ _. row-becomes E D i s b h)
 
-  appends-row : (e : Entry) (s : SiteState) → ReplyRow E D i s (appends E D i e s)
+  appends-row : (e : Entry) (s : SiteState) → AnswerRow E D i s (appends E D i e s)
   appends-row e s = appends-from s s e (at-log s (e ∷ []))
 
-  appends_all-row : (es : List Entry) (s : SiteState) → ReplyRow E D i s (appends_all E D i es s)
+  appends_all-row : (es : List Entry) (s : SiteState) → AnswerRow E D i s (appends_all E D i es s)
   appends_all-row [] s = row-nothing E D i s
   appends_all-row (e ∷ es) s = row-then E D i s (appends E D i e s) (appends_all E D i es) (appends-row e s) (appends_all-row es (appends E D i e s).state)
 
-  leads_with-from : (s m : SiteState) (e : Entry) → ReplyAt E D i s (record m { log = m.log ++ e ∷ [] }) → ReplyRow E D i s (leads_with E D i e m)
+  leads_with-from : (s m : SiteState) (e : Entry) → AnswerAt E D i s (record m { log = m.log ++ e ∷ [] }) → AnswerRow E D i s (leads_with E D i e m)
   leads_with-from s m e h =
       let t = appends E D i e m in
       row-then E D i s t (passes_on D i e) (appends-from s m e h) (row-quiet E D i t.state (passes_on D i e t.state) (at-first E D i t.state) (λ c. tt))
 
-  leads_with-row : (e : Entry) (s : SiteState) → ReplyRow E D i s (leads_with E D i e s)
+  leads_with-row : (e : Entry) (s : SiteState) → AnswerRow E D i s (leads_with E D i e s)
   leads_with-row e s = leads_with-from s s e (at-log s (e ∷ []))
 
   -- ---- calls
 
   -- The reply to a call is held for the entry that is appended next.
-  runs_call-row : (stamp : ℕ) (c : AskedCall) (s : SiteState) → ReplyRow E D i s (runs_call E D i stamp c s)
-  runs_call-row stamp c s = leads_with-from s (holds s (Agent c.host) l) e (record {
-    start = refl;
-    log = front-append s.log (e ∷ []);
-    leads = λ k. k;
-    firm = omega arith;
-    held = λ old. all-append (HeldReply E p (s.log ++ e ∷ [])) s.held (record { position = length s.log + 1; to = Agent c.host; letter = l } ∷ [])
-        (all-held-on E p s.log (s.log ++ e ∷ []) (front-append s.log (e ∷ [])) s.held old) (new, tt);
-  })
-    where
-      p : ℕ
-      p = part_of_slot D i
+  runs_call-row : (stamp : ℕ) (c : AskedCall) (s : SiteState) → AnswerRow E D i s (runs_call E D i stamp c s)
+  runs_call-row stamp c s =
+      let e = Sp c.call stamp c.body in
+      let l = letter_to c.start (msg.Reply c.call c.start (end_of_reply (answer_behind E (part_of_slot D i) s.log e))) in
+      leads_with-from s (holds s (Agent c.host) l) e (at-answers s c.host l e (record { point = stamp; body = c.body; is = refl; answers = refl }))
 
-      e : Entry
-      e = Sp c.call stamp c.body
-
-      l : Letter
-      l = letter_to c.start (msg.Reply c.call c.start (end_of_reply (answer_behind E p s.log e)))
-
-      new : StandsAt E p (s.log ++ e ∷ []) (length s.log + 1) c.call (end_of_reply (answer_behind E p s.log e))
-      new = record {
-        here = record { front = s.log; point = stamp; body = c.body; stands = front-refl (s.log ++ e ∷ []); answers = refl };
-        at = refl;
-      }
-
-  runs_calls-row : (stamp : ℕ) (cs : List AskedCall) (s : SiteState) → ReplyRow E D i s (runs_calls E D i stamp cs s)
+  runs_calls-row : (stamp : ℕ) (cs : List AskedCall) (s : SiteState) → AnswerRow E D i s (runs_calls E D i stamp cs s)
   runs_calls-row stamp [] s = row-nothing E D i s
   runs_calls-row stamp (c ∷ cs) s = row-then E D i s (runs_call E D i stamp c s) (runs_calls E D i stamp cs) (runs_call-row stamp c s)
       (runs_calls-row stamp cs (runs_call E D i stamp c s).state)
 
-  works_calls-row : (stamp : ℕ) (s : SiteState) → ReplyRow E D i s (works_calls E D i stamp s)
+  works_calls-row : (stamp : ℕ) (s : SiteState) → AnswerRow E D i s (works_calls E D i stamp s)
   works_calls-row stamp s =
       let b = record s { calls = [] } in
       row-if E D i s (leads D i s && nothing_open s.log) (runs_calls E D i stamp s.calls b) (becomes s)
       (λ _. row-behind E D i s b (runs_calls E D i stamp s.calls b) (at-same s b refl) (runs_calls-row stamp s.calls b)) (λ _. row-nothing E D i s)
 
-  on_sp_call-row : (stamp : ℕ) (s : SiteState) (host call start : ℕ) (body : List ℕ) → ReplyRow E D i s (on_sp_call E D i stamp s host call start body)
+  on_sp_call-row : (stamp : ℕ) (s : SiteState) (host call start : ℕ) (body : List ℕ) → AnswerRow E D i s (on_sp_call E D i stamp s host call start body)
   on_sp_call-row stamp s host call start body =
       let b = record s { calls = s.calls ++ record { call = call; host = host; start = start; body = body } ∷ [] } in
       row-behind E D i s b (works_calls E D i stamp b) (at-same s b refl) (works_calls-row stamp b)
 
-  holds_for-frag : (s : SiteState) (first : Option (ℕ × ℕ)) (m round : ℕ) (partial : List ℕ) → ReplyAt E D i s (holds_for s first (msg.FragDone m round partial))
-  holds_for-frag s None m round partial = at-first E D i s
-  holds_for-frag s (Some first) m round partial = at-holds s first.0 (letter_in (site_term s) first.1 (msg.FragDone m round partial)) tt
+  -- ---- rounds and ends
 
-  holds_for-done : (s : SiteState) (first : Option (ℕ × ℕ)) (m : ℕ) → ReplyAt E D i s (holds_for s first (msg.Finished m))
-  holds_for-done s None m = at-first E D i s
-  holds_for-done s (Some first) m = at-holds s first.0 (letter_in (site_term s) first.1 (msg.Finished m)) tt
+  -- The answer to the initiator is held, if there is one, for the entry that is appended next.
+  answers_for-row : (s : SiteState) (first : Option (ℕ × ℕ)) (m : Msg Blocks) (e : Entry) → Tells E (part_of_slot D i) m s.log e
+      → AnswerRow E D i s (leads_with E D i e (holds_for s first m))
+  answers_for-row s None m e claim = leads_with-row e s
+  answers_for-row s (Some first) m e claim =
+      let l = letter_in (site_term s) first.1 m in
+      leads_with-from s (holds s (Agent first.0) l) e (at-answers s first.0 l e claim)
 
-  on_frag-row : (s : SiteState) (m round : ℕ) (body : List ℕ) → ReplyRow E D i s (on_frag E D i s m round body)
+  on_frag-row : (s : SiteState) (m round : ℕ) (body : List ℕ) → AnswerRow E D i s (on_frag E D i s m round body)
   on_frag-row s m round body =
       let e = Frag m round body in
-      let partial = answer_behind E (part_of_slot D i) s.log e in
-      let b = holds_for s (initiator_in s.view) (msg.FragDone m round partial) in
-      row-if E D i s (leads D i s) (leads_with E D i e b) (becomes s)
-      (λ _. row-behind E D i s b (leads_with E D i e b) (holds_for-frag s (initiator_in s.view) m round partial) (leads_with-row e b)) (λ _. row-nothing E D i s)
+      let told = msg.FragDone m round (answer_behind E (part_of_slot D i) s.log e) in
+      row-if E D i s (leads D i s) (leads_with E D i e (holds_for s (initiator_in s.view) told)) (becomes s)
+      (λ _. answers_for-row s (initiator_in s.view) told e (record { body = body; is = refl; answers = refl })) (λ _. row-nothing E D i s)
 
-  on_done-row : (stamp : ℕ) (s : SiteState) (m : ℕ) (o : Outcome) → ReplyRow E D i s (on_done E D i stamp s m o)
+  on_done-row : (stamp : ℕ) (s : SiteState) (m : ℕ) (o : Outcome) → AnswerRow E D i s (on_done E D i stamp s m o)
   on_done-row stamp s m o =
-      let b = holds_for s (initiator_in s.view) (msg.Finished m) in
-      let t = leads_with E D i (Done m o) b in
+      let t = leads_with E D i (Done m o) (holds_for s (initiator_in s.view) (msg.Finished m)) in
       row-if E D i s (leads D i s) (t ▸ works_calls E D i stamp) (becomes s)
-      (λ _. row-then E D i s t (works_calls E D i stamp) (row-behind E D i s b t (holds_for-done s (initiator_in s.view) m) (leads_with-row (Done m o) b))
-      (works_calls-row stamp t.state))
+      (λ _. row-then E D i s t (works_calls E D i stamp)
+      (answers_for-row s (initiator_in s.view) (msg.Finished m) (Done m o) (record { outcome = o; is = refl })) (works_calls-row stamp t.state))
       (λ _. row-nothing E D i s)
 
   -- ---- what is firm
@@ -210,17 +203,12 @@ module _ (E : Database) (D : Deployment) (i : ℕ) where
       go None = omega arith
       go (Some m) = omega arith
 
-  -- a reply that was held is sent
-  sent-held : (u : SiteState) (d : Held) → HeldReply E (part_of_slot D i) u.log d → d.position ≤ u.firm → leads D i u ≡ true → 0 < u.start → SentReply E D i u d.letter
-  sent-held u d k firm lead up = go d.letter.body k
-    where
-      go : (m : Msg Blocks) → HeldReply E (part_of_slot D i) u.log (record d { letter = record d.letter { body = m } }) → SentReply E D i u (record d.letter { body = m })
-      go m = elim m as (λ m. HeldReply E (part_of_slot D i) u.log (record d { letter = record d.letter { body = m } }) → SentReply E D i u (record d.letter { body = m })) [
-        | msg.Reply call start end ↦ λ x. record { position = d.position; stands = x; firm = firm; leads = lead; runs = up }
-        | b ↦ λ x. tt
-      ]
+  -- an answer that was held is sent
+  sent-held : (u : SiteState) (d : Held) → HeldAnswer E (part_of_slot D i) u.log d
+      → d.position ≤ u.firm → leads D i u ≡ true → 0 < u.start → SentAnswer E D i u d.letter
+  sent-held u d k firm lead up = λ a. record { position = d.position; stands = k a; firm = firm; leads = lead; runs = up }
 
-  counts-row : (s : SiteState) → ReplyRow E D i s (counts D i s)
+  counts-row : (s : SiteState) → AnswerRow E D i s (counts D i s)
   counts-row s = choice (leads D i s) refl
     where
       p : ℕ
@@ -235,7 +223,7 @@ module _ (E : Database) (D : Deployment) (i : ℕ) where
       t : Turn SiteState
       t = sending u (answers_held b.firm s.held)
 
-      choice : (c : Bool) → leads D i s ≡ c → ReplyRow E D i s (if c then t else becomes s)
+      choice : (c : Bool) → leads D i s ≡ c → AnswerRow E D i s (if c then t else becomes s)
       choice false e = row-nothing E D i s
       choice true e = record {
         at = record {
@@ -243,16 +231,16 @@ module _ (E : Database) (D : Deployment) (i : ℕ) where
           log = front-refl s.log;
           leads = λ k. k;
           firm = firm-above s;
-          held = λ x. all-filter (HeldReply E p s.log) (λ d. nat_lt b.firm d.position) s.held x;
+          held = λ x. all-filter (HeldAnswer E p s.log) (λ d. nat_lt b.firm d.position) s.held x;
         };
-        sends = λ up x h. all-from (SentReply E D i u) (answers_held b.firm s.held (Agent h)) (λ l k.
+        sends = λ up x h. all-from (SentAnswer E D i u) (answers_held b.firm s.held (Agent h)) (λ l k.
             let r = in-map-from (λ d. d.letter) l (filter (λ d. nat_le d.position b.firm && same d.to (Agent h)) s.held) k in
             let q = in-filter (λ d. nat_le d.position b.firm && same d.to (Agent h)) r.0 s.held r.1 in
             let low = (and_parts (nat_le r.0.position b.firm) (same r.0.to (Agent h)) q.1).0 in
-            subst (SentReply E D i u) r.2 (sent-held u r.0 (all-at (HeldReply E p s.log) s.held x r.0 q.0) (grind (arith, nat_tests, low)) e up));
+            subst (SentAnswer E D i u) r.2 (sent-held u r.0 (all-at (HeldAnswer E p s.log) s.held x r.0 q.0) (grind (arith, nat_tests, low)) e up));
       }
 
-  on_ack-row : (s : SiteState) (slot position : ℕ) → ReplyRow E D i s (on_ack D i s slot position)
+  on_ack-row : (s : SiteState) (slot position : ℕ) → AnswerRow E D i s (on_ack D i s slot position)
   on_ack-row s slot position =
       let b = noted D i s slot position in
       row-if E D i s (is_leader D i s) (counts D i b) (becomes s)
@@ -260,33 +248,33 @@ module _ (E : Database) (D : Deployment) (i : ℕ) where
 
   -- ---- what a site says behind its Sync
 
-  acknowledges-row : (s : SiteState) (to : Option ℕ) → ReplyRow E D i s (acknowledges D i s to)
+  acknowledges-row : (s : SiteState) (to : Option ℕ) → AnswerRow E D i s (acknowledges D i s to)
   acknowledges-row s None = row-nothing E D i s
   acknowledges-row s (Some slot) = row-quiet E D i s (acknowledges D i s (Some slot)) (at-first E D i s) (λ c. tt)
 
-  says_loaded-row : (s : SiteState) (j : Joining) → s.joining ≡ Some j → ReplyRow E D i s (says_loaded D i s j)
+  says_loaded-row : (s : SiteState) (j : Joining) → s.joining ≡ Some j → AnswerRow E D i s (says_loaded D i s j)
   says_loaded-row s j e = choice j.has_told
     where
       t : Turn SiteState
       t = sending (record s { joining = Some (record j { has_told = true }) }) (only (Agent (host_of_slot D i)) (letter_to s.start (msg.Loaded s.start)))
 
-      choice : (b : Bool) → ReplyRow E D i s (if b then becomes s else t)
+      choice : (b : Bool) → AnswerRow E D i s (if b then becomes s else t)
       choice true = row-nothing E D i s
       choice false = row-quiet E D i s t (at-joining s j (record j { has_told = true }) s.log e (front-refl s.log))
-          (λ c. all-if (SentReply E D i t.state) (same (Agent (host_of_slot D i)) (Agent c)) (letter_to s.start (msg.Loaded s.start) ∷ []) [] (tt, tt) tt)
+          (λ c. all-if (SentAnswer E D i t.state) (same (Agent (host_of_slot D i)) (Agent c)) (letter_to s.start (msg.Loaded s.start) ∷ []) [] ((λ e. absurd (cc)), tt) tt)
 
-  after_sync-row : (s : SiteState) → ReplyRow E D i s (after_sync D i s s.joining)
+  after_sync-row : (s : SiteState) → AnswerRow E D i s (after_sync D i s s.joining)
   after_sync-row s = go s.joining refl
     where
       to : Option ℕ
       to = leader_in D s.view (part_of_slot D i)
 
-      go : (o : Option Joining) → s.joining ≡ o → ReplyRow E D i s (after_sync D i s o)
+      go : (o : Option Joining) → s.joining ≡ o → AnswerRow E D i s (after_sync D i s o)
       go None e = row-if E D i s (is_leader D i s) (counts D i s) _ (λ _. counts-row s)
           (λ _. row-if E D i s (s.mark == site_term s) (acknowledges D i s to) (becomes s) (λ _. acknowledges-row s to) (λ _. row-nothing E D i s))
       go (Some j) e = row-if E D i s j.is_based (acknowledges D i s to ▸ (λ b. says_loaded D i b j)) (becomes s)
           (λ _. row-then E D i s (acknowledges D i s to) (λ b. says_loaded D i b j) (acknowledges-row s to)
-          (subst (λ b. ReplyRow E D i b (says_loaded D i b j)) (sym (state to)) (says_loaded-row s j e)))
+          (subst (λ b. AnswerRow E D i b (says_loaded D i b j)) (sym (state to)) (says_loaded-row s j e)))
           (λ _. row-nothing E D i s)
         where
           state : (o : Option ℕ) → (acknowledges D i s o).state ≡ s
@@ -295,7 +283,7 @@ module _ (E : Database) (D : Deployment) (i : ℕ) where
 
   -- ---- a new term
 
-  is_repaired-row : (stamp : ℕ) (s : SiteState) → ReplyRow E D i s (is_repaired E D i stamp s)
+  is_repaired-row : (stamp : ℕ) (s : SiteState) → AnswerRow E D i s (is_repaired E D i stamp s)
   is_repaired-row stamp s = row-then E D i s t (works_calls E D i stamp) (row-quiet E D i s t (at-repaired s []) (λ c. tt)) (works_calls-row stamp b)
     where
       b : SiteState
@@ -307,72 +295,72 @@ module _ (E : Database) (D : Deployment) (i : ℕ) where
         | _ ↦ []
       ])
 
-  repairs-row : (stamp : ℕ) (s : SiteState) → ReplyRow E D i s (repairs E D i stamp s)
+  repairs-row : (stamp : ℕ) (s : SiteState) → AnswerRow E D i s (repairs E D i stamp s)
   repairs-row stamp s =
       let t = appends_all E D i (lacks (length s.log) (longest (length s.log) None s.reports)) s in
       row-if E D i s (list_all (λ c. list_any (λ r. r.slot == c) s.reports) (other_copies D i s)) (t ▸ is_repaired E D i stamp) (becomes s)
       (λ _. row-then E D i s t (is_repaired E D i stamp) (appends_all-row (lacks (length s.log) (longest (length s.log) None s.reports)) s)
       (is_repaired-row stamp t.state)) (λ _. row-nothing E D i s)
 
-  on_report-row : (stamp : ℕ) (s : SiteState) (slot position floor : ℕ) (tail : List Entry) → ReplyRow E D i s (on_report E D i stamp s slot position floor tail)
+  on_report-row : (stamp : ℕ) (s : SiteState) (slot position floor : ℕ) (tail : List Entry) → AnswerRow E D i s (on_report E D i stamp s slot position floor tail)
   on_report-row stamp s slot position floor tail =
       let b = record s { reports = s.reports ++ record { slot = slot; position = position; floor = floor; tail = tail } ∷ [] } in
       row-if E D i s (is_leader D i s && not s.repaired) (repairs E D i stamp b) (becomes s)
       (λ _. row-behind E D i s b (repairs E D i stamp b) (at-same s b refl) (repairs-row stamp b)) (λ _. row-nothing E D i s)
 
-  reports_to-quiet : (s u : SiteState) (to : Option ℕ) (h : ℕ) → AllByRecursion (SentReply E D i u) (reports_to D s to (Agent h))
+  reports_to-quiet : (s u : SiteState) (to : Option ℕ) (h : ℕ) → AllByRecursion (SentAnswer E D i u) (reports_to D s to (Agent h))
   reports_to-quiet s u None h = tt
   reports_to-quiet s u (Some slot) h = tt
 
-  asks_to_join-quiet : (s u : SiteState) (to : Option ℕ) (h : ℕ) → AllByRecursion (SentReply E D i u) (asks_to_join i D s to (Agent h))
+  asks_to_join-quiet : (s u : SiteState) (to : Option ℕ) (h : ℕ) → AllByRecursion (SentAnswer E D i u) (asks_to_join i D s to (Agent h))
   asks_to_join-quiet s u None h = tt
-  asks_to_join-quiet s u (Some slot) h = all-if (SentReply E D i u) (slot == i) [] _ tt tt
+  asks_to_join-quiet s u (Some slot) h = all-if (SentAnswer E D i u) (slot == i) [] _ tt tt
 
-  as_member-row : (stamp : ℕ) (s : SiteState) → ReplyRow E D i s (as_member E D i stamp s)
+  as_member-row : (stamp : ℕ) (s : SiteState) → AnswerRow E D i s (as_member E D i stamp s)
   as_member-row stamp s =
       let to = leader_in D s.view (part_of_slot D i) in
       row-if E D i s (is_leader D i s) (repairs E D i stamp s) (sending s (reports_to D s to)) (λ _. repairs-row stamp s)
       (λ _. row-quiet E D i s (sending s (reports_to D s to)) (at-first E D i s) (reports_to-quiet s s to))
 
   -- View: a joiner stays one, or the site is a member from then on
-  joins-row : (stamp : ℕ) (s : SiteState) (w : Membership) → stays_joiner D i s w ≡ true → ReplyRow E D i (as_joiner s w) (on_view E D i stamp s w)
+  joins-row : (stamp : ℕ) (s : SiteState) (w : Membership) → stays_joiner D i s w ≡ true → AnswerRow E D i (as_joiner s w) (on_view E D i stamp s w)
   joins-row stamp s w e =
       let b = as_joiner s w in let to = leader_in D b.view (part_of_slot D i) in
       rw e (row-quiet E D i b (sending b (asks_to_join i D b to)) (at-first E D i b) (asks_to_join-quiet b b to))
 
-  enters-row : (stamp : ℕ) (s : SiteState) (w : Membership) → stays_joiner D i s w ≡ false → ReplyRow E D i (as_entered s w) (on_view E D i stamp s w)
+  enters-row : (stamp : ℕ) (s : SiteState) (w : Membership) → stays_joiner D i s w ≡ false → AnswerRow E D i (as_entered s w) (on_view E D i stamp s w)
   enters-row stamp s w e = rw e (as_member-row stamp (as_entered s w))
 
-  -- the replies that it held stay
-  entered-held : (s : SiteState) (w : Membership) → HoldsReplies E (part_of_slot D i) s → HoldsReplies E (part_of_slot D i) (in_new_term s w)
-  entered-held s w h = all-filter (HeldReply E (part_of_slot D i) s.log) _ s.held h
+  -- what it still holds stays well
+  entered-held : (s : SiteState) (w : Membership) → HoldsAnswers E (part_of_slot D i) s → HoldsAnswers E (part_of_slot D i) (in_new_term s w)
+  entered-held s w h = all-filter (HeldAnswer E (part_of_slot D i) s.log) _ s.held h
 
   -- ---- a copy
 
-  on_put-row : (s : SiteState) (position : ℕ) (e : Entry) (floor : ℕ) → ReplyRow E D i s (on_put E D i s position e floor)
+  on_put-row : (s : SiteState) (position : ℕ) (e : Entry) (floor : ℕ) → AnswerRow E D i s (on_put E D i s position e floor)
   on_put-row s position e floor = let b = record s { floor = max s.floor floor } in
       row-behind E D i s b (on_put E D i s position e floor) (at-same s b refl) (appends-row e b)
 
-  on_repair-row : (s : SiteState) (from : ℕ) (entries : List Entry) → ReplyRow E D i s (on_repair E D i s from entries)
+  on_repair-row : (s : SiteState) (from : ℕ) (entries : List Entry) → AnswerRow E D i s (on_repair E D i s from entries)
   on_repair-row s from entries =
       let b = record s { owes = Some (site_term s); repaired = true } in
       row-behind E D i s b (on_repair E D i s from entries) (at-repaired s s.reports) (appends_all-row (drop (length s.log - from) entries) b)
 
   -- ---- joins, at the leader
 
-  takes_asks-row : (s : SiteState) → ReplyRow E D i s (takes_asks E D i s)
+  takes_asks-row : (s : SiteState) → AnswerRow E D i s (takes_asks E D i s)
   takes_asks-row s = go (find (can_take D i s) s.asks)
     where
-      go : (o : Option Ask) → ReplyRow E D i s (takes_first_ask E D i s o)
+      go : (o : Option Ask) → AnswerRow E D i s (takes_first_ask E D i s o)
       go None = row-nothing E D i s
       go (Some a) =
           let t = takes_joiner E D i a (record s { asks = without_first (can_take D i s) s.asks }) in
           row-quiet E D i s t (at-same s t.state refl) (λ c. tt)
 
-  ends_streams-row : (s : SiteState) → ReplyRow E D i s (ends_streams s)
+  ends_streams-row : (s : SiteState) → AnswerRow E D i s (ends_streams s)
   ends_streams-row s = row-quiet E D i s (ends_streams s) (at-same s (ends_streams s).state refl) (λ c. tt)
 
-  on_scan_end-at : (s : SiteState) (sc : Option Scanning) (id count : ℕ) → ReplyAt E D i s (on_scan_end s sc id count)
+  on_scan_end-at : (s : SiteState) (sc : Option Scanning) (id count : ℕ) → AnswerAt E D i s (on_scan_end s sc id count)
   on_scan_end-at s None id count = at-first E D i s
   on_scan_end-at s (Some (ForJoiner own slot)) id count =
       let u = record s { scanning = None; joiners = map (with_count slot count) s.joiners } in
@@ -383,13 +371,13 @@ module _ (E : Database) (D : Deployment) (i : ℕ) where
 
   -- ---- joins, at the joiner
 
-  finishes_load-at : (s : SiteState) (j k : Joining) → s.joining ≡ Some j → ReplyAt E D i s (finishes_load s k)
+  finishes_load-at : (s : SiteState) (j k : Joining) → s.joining ≡ Some j → AnswerAt E D i s (finishes_load s k)
   finishes_load-at s j k is =
       at-if E D i s (may_finish k) (record s { joining = Some (record k { is_loaded = true; tasks = [] }); log = s.log ++ k.tasks }) (record s { joining = Some k })
       (λ _. at-joining s j (record k { is_loaded = true; tasks = [] }) (s.log ++ k.tasks) is (front-append s.log k.tasks))
       (λ _. at-joining s j k s.log is (front-refl s.log))
 
-  on_chunk-at : (s : SiteState) (o : Option Joining) (sc : Option Scanning) (id : ℕ) → s.joining ≡ o → ReplyAt E D i s (on_chunk s o sc id)
+  on_chunk-at : (s : SiteState) (o : Option Joining) (sc : Option Scanning) (id : ℕ) → s.joining ≡ o → AnswerAt E D i s (on_chunk s o sc id)
   on_chunk-at s (Some j) sc id is = finishes_load-at s j (record j { blocks = j.blocks + 1 }) is
   on_chunk-at s None None id is = at-first E D i s
   on_chunk-at s None (Some (ForJoiner own slot)) id is = at-first E D i s
@@ -397,13 +385,13 @@ module _ (E : Database) (D : Deployment) (i : ℕ) where
       let u = record s { scanning = Some (ForBase own position (blocks + 1) written count) } in
       at-if E D i s (own == id) u s (λ _. at-same s u refl) (λ _. at-first E D i s)
 
-  on_stream_end-at : (s : SiteState) (o : Option Joining) (count : ℕ) → s.joining ≡ o → ReplyAt E D i s (on_stream_end s o count)
+  on_stream_end-at : (s : SiteState) (o : Option Joining) (count : ℕ) → s.joining ≡ o → AnswerAt E D i s (on_stream_end s o count)
   on_stream_end-at s None count is = at-first E D i s
   on_stream_end-at s (Some j) count is =
       at-if E D i s (is_some j.stream) (finishes_load s (record j { count = Some count })) s
       (λ _. finishes_load-at s j (record j { count = Some count }) is) (λ _. at-first E D i s)
 
-  on_task-at : (s : SiteState) (o : Option Joining) (e : Entry) → s.joining ≡ o → ReplyAt E D i s (on_task s o e)
+  on_task-at : (s : SiteState) (o : Option Joining) (e : Entry) → s.joining ≡ o → AnswerAt E D i s (on_task s o e)
   on_task-at s None e is = at-first E D i s
   on_task-at s (Some j) e is =
       let u = record s { log = s.log ++ e ∷ [] } in
@@ -414,29 +402,29 @@ module _ (E : Database) (D : Deployment) (i : ℕ) where
 
   -- ---- what follows a row
 
-  standing-quiet : (u : SiteState) (term start : ℕ) (o : Option ℕ) (last : Option (ℕ × Outcome)) → SentReply E D i u (letter_in term start (standing o last))
-  standing-quiet u term start (Some m) last = tt
-  standing-quiet u term start None None = tt
-  standing-quiet u term start None (Some last) = tt
+  standing-quiet : (u : SiteState) (term start : ℕ) (o : Option ℕ) (last : Option (ℕ × Outcome)) → SentAnswer E D i u (letter_in term start (standing o last))
+  standing-quiet u term start (Some m) last = λ e. absurd (cc)
+  standing-quiet u term start None None = λ e. absurd (cc)
+  standing-quiet u term start None (Some last) = λ e. absurd (cc)
 
-  tells_initiator-row : (s : SiteState) (first : Option (ℕ × ℕ)) → ReplyRow E D i s (tells_initiator E D i s first)
+  tells_initiator-row : (s : SiteState) (first : Option (ℕ × ℕ)) → AnswerRow E D i s (tells_initiator E D i s first)
   tells_initiator-row s None = row-nothing E D i s
   tells_initiator-row s (Some first) =
       let u = record s { has_told = true } in
       let l = letter_in (site_term s) first.1 (standing (open_in s.log) (last_done E (part_of_slot D i) s.log)) in
       row-quiet E D i s (tells_initiator E D i s (Some first)) (at-same s u refl)
-      (λ c. all-if (SentReply E D i u) (same (Agent first.0) (Agent c)) (l ∷ []) []
+      (λ c. all-if (SentAnswer E D i u) (same (Agent first.0) (Agent c)) (l ∷ []) []
       (standing-quiet u (site_term s) first.1 (open_in s.log) (last_done E (part_of_slot D i) s.log), tt) tt)
 
-  tells-row : (s : SiteState) → ReplyRow E D i s (tells E D i s)
+  tells-row : (s : SiteState) → AnswerRow E D i s (tells E D i s)
   tells-row s = row-if E D i s (leads D i s && not s.has_told && not (is_first_term s.view) && has_all_on_disk D i s) (tells_initiator E D i s (initiator_in s.view)) (becomes s)
       (λ _. tells_initiator-row s (initiator_in s.view)) (λ _. row-nothing E D i s)
 
-  shows-row : (s : SiteState) → ReplyRow E D i s (shows E D i s)
+  shows-row : (s : SiteState) → AnswerRow E D i s (shows E D i s)
   shows-row s = row-if E D i s (nat_lt 0 s.looks && nothing_open s.log) _ (becomes s)
       (λ _. row-quiet E D i s _ (at-same s (record s { looks = 0 }) refl) (λ c. tt)) (λ _. row-nothing E D i s)
 
-  settles-row : (s : SiteState) → ReplyRow E D i s (settles E D i s)
+  settles-row : (s : SiteState) → AnswerRow E D i s (settles E D i s)
   settles-row s =
       let t = tells E D i s in let u = t ▸ ends_streams in let v = u ▸ shows E D i in
       row-then E D i s v (takes_asks E D i) (row-then E D i s u (shows E D i) (row-then E D i s t ends_streams (tells-row s) (ends_streams-row t.state)) (shows-row u.state))
@@ -445,8 +433,8 @@ module _ (E : Database) (D : Deployment) (i : ℕ) where
 -- ---- the row of a message that neither wipes a disk nor begins a term
 
 module _ (E : Database) (D : Deployment) (stamp i : ℕ) (s : SiteState) where
-  agent-row : (h : ℕ) (l : Letter) → Plain (Agent h) l → ReplyRow E D i s (from_agent E D stamp i s h l)
-  agent-row h l = elim l.body as (λ b. Plain (Agent h) (record l { body = b }) → ReplyRow E D i s (from_agent E D stamp i s h (record l { body = b }))) [
+  agent-row : (h : ℕ) (l : Letter) → Plain (Agent h) l → AnswerRow E D i s (from_agent E D stamp i s h l)
+  agent-row h l = elim l.body as (λ b. Plain (Agent h) (record l { body = b }) → AnswerRow E D i s (from_agent E D stamp i s h (record l { body = b }))) [
     | msg.SpCall call start body ↦ λ p. on_sp_call-row E D i stamp s h call start body
     | msg.View w ↦ λ p. absurd p
     | msg.Frag m round body ↦ λ p. on_frag-row E D i s m round body
@@ -454,8 +442,8 @@ module _ (E : Database) (D : Deployment) (stamp i : ℕ) (s : SiteState) where
     | b ↦ λ p. row-nothing E D i s
   ]
 
-  from_site-row : (slot : ℕ) (l : Letter) → Plain (Site slot) l → ReplyRow E D i s (from_site E D stamp i s slot l)
-  from_site-row slot l = elim l.body as (λ b. Plain (Site slot) (record l { body = b }) → ReplyRow E D i s (from_site E D stamp i s slot (record l { body = b }))) [
+  from_site-row : (slot : ℕ) (l : Letter) → Plain (Site slot) l → AnswerRow E D i s (from_site E D stamp i s slot l)
+  from_site-row slot l = elim l.body as (λ b. Plain (Site slot) (record l { body = b }) → AnswerRow E D i s (from_site E D stamp i s slot (record l { body = b }))) [
     | msg.Put position e floor ↦ λ p. on_put-row E D i s position e floor
     | msg.Ack position ↦ λ p. on_ack-row E D i s slot position
     | msg.Report position floor tail ↦ λ p. on_report-row E D i stamp s slot position floor tail
@@ -467,28 +455,28 @@ module _ (E : Database) (D : Deployment) (stamp i : ℕ) (s : SiteState) where
     | b ↦ λ p. row-nothing E D i s
   ]
 
-  scanner-row : (l : Letter) → ReplyRow E D i s (becomes (from_scanner s l))
-  scanner-row l = elim l.body as (λ b. ReplyRow E D i s (becomes (from_scanner s (record l { body = b })))) [
+  scanner-row : (l : Letter) → AnswerRow E D i s (becomes (from_scanner s l))
+  scanner-row l = elim l.body as (λ b. AnswerRow E D i s (becomes (from_scanner s (record l { body = b })))) [
     | msg.Chunk id bytes ↦ row-becomes E D i s _ (on_chunk-at E D i s s.joining s.scanning id refl)
     | msg.ScanEnd id count ↦ row-becomes E D i s _ (on_scan_end-at E D i s s.scanning id count)
     | b ↦ row-nothing E D i s
   ]
 
-  on_look-at : ReplyAt E D i s (on_look s)
+  on_look-at : AnswerAt E D i s (on_look s)
   on_look-at = let u = record s { looks = s.looks + 1 } in at-if E D i s (is_joiner s) s u (λ _. at-first E D i s) (λ _. at-same E D i s u refl)
 
-  director-row : (l : Letter) → ReplyRow E D i s (becomes (from_director s l))
-  director-row l = elim l.body as (λ b. ReplyRow E D i s (becomes (from_director s (record l { body = b })))) [
+  director-row : (l : Letter) → AnswerRow E D i s (becomes (from_director s l))
+  director-row l = elim l.body as (λ b. AnswerRow E D i s (becomes (from_director s (record l { body = b })))) [
     | msg.Look ↦ row-becomes E D i s (on_look s) on_look-at
     | b ↦ row-nothing E D i s
   ]
 
-  plain-reply : (from : Actor) (l : Letter) → Plain from l → ReplyRow E D i s (site_row E D stamp i s from l)
-  plain-reply (Agent h) l p = agent-row h l p
-  plain-reply (Site slot) l p = from_site-row slot l p
-  plain-reply (Scanner x) l p = scanner-row l
-  plain-reply Director l p = director-row l
-  plain-reply (Client n) l p = row-nothing E D i s
+  plain-answer : (from : Actor) (l : Letter) → Plain from l → AnswerRow E D i s (site_row E D stamp i s from l)
+  plain-answer (Agent h) l p = agent-row h l p
+  plain-answer (Site slot) l p = from_site-row slot l p
+  plain-answer (Scanner x) l p = scanner-row l
+  plain-answer Director l p = director-row l
+  plain-answer (Client n) l p = row-nothing E D i s
 
 -- ---- a whole turn
 
@@ -497,33 +485,33 @@ abbrev pub NoLog : SiteState → Type 0
 NoLog s = (j : Joining) → s.joining ≡ Some j → j.stream ≡ None → s.log ≡ []
 
 module _ (E : Database) (D : Deployment) (stamp i : ℕ) where
-  takes_each-reply : (ws : List Waiting) (s : SiteState) → AllByRecursion PlainWaiting ws → ReplyRow E D i s (takes_each E D stamp i ws s)
-  takes_each-reply [] s p = row-nothing E D i s
-  takes_each-reply (w ∷ ws) s p = row-then E D i s (site_row E D stamp i s w.from w.letter) (takes_each E D stamp i ws) (plain-reply E D stamp i s w.from w.letter p.0)
-      (takes_each-reply ws (site_row E D stamp i s w.from w.letter).state p.1)
+  takes_each-answer : (ws : List Waiting) (s : SiteState) → AllByRecursion PlainWaiting ws → AnswerRow E D i s (takes_each E D stamp i ws s)
+  takes_each-answer [] s p = row-nothing E D i s
+  takes_each-answer (w ∷ ws) s p = row-then E D i s (site_row E D stamp i s w.from w.letter) (takes_each E D stamp i ws) (plain-answer E D stamp i s w.from w.letter p.0)
+      (takes_each-answer ws (site_row E D stamp i s w.from w.letter).state p.1)
 
-  takes_waiting-reply : (s : SiteState) → AllByRecursion PlainWaiting s.waiting → ReplyRow E D i s (takes_waiting E D stamp i s)
-  takes_waiting-reply s p =
+  takes_waiting-answer : (s : SiteState) → AllByRecursion PlainWaiting s.waiting → AnswerRow E D i s (takes_waiting E D stamp i s)
+  takes_waiting-answer s p =
       let u = record s { waiting = above_term (site_term s) s.waiting } in
       row-behind E D i s u (takes_waiting E D stamp i s) (at-same E D i s u refl)
-      (takes_each-reply (of_term (site_term s) s.waiting) u (all-filter PlainWaiting (λ w. w.letter.term == site_term s) s.waiting p))
+      (takes_each-answer (of_term (site_term s) s.waiting) u (all-filter PlainWaiting (λ w. w.letter.term == site_term s) s.waiting p))
 
   -- A turn whose first row is from s on. (Where a stream is taken, s is the site with it.)
-  turn-reply : (s : SiteState) (t : Turn SiteState) → ReplyRow E D i s t → AllByRecursion PlainWaiting t.state.waiting
-      → ReplyRow E D i s (ordered (t ▸ takes_waiting E D stamp i ▸ settles E D i))
-  turn-reply s t h p =
+  turn-answer : (s : SiteState) (t : Turn SiteState) → AnswerRow E D i s t → AllByRecursion PlainWaiting t.state.waiting
+      → AnswerRow E D i s (ordered (t ▸ takes_waiting E D stamp i ▸ settles E D i))
+  turn-answer s t h p =
       let u = t ▸ takes_waiting E D stamp i in
       row-ordered E D i s (u ▸ settles E D i) (row-then E D i s u (settles E D i)
-      (row-then E D i s t (takes_waiting E D stamp i) h (takes_waiting-reply t.state p)) (settles-row E D i u.state))
+      (row-then E D i s t (takes_waiting E D stamp i) h (takes_waiting-answer t.state p)) (settles-row E D i u.state))
 
-  module _ (s : SiteState) (up : 0 < s.start) (waiting : AllByRecursion PlainWaiting s.waiting) (none : NoLog s) (held : HoldsReplies E (part_of_slot D i) s) where
+  module _ (s : SiteState) (up : 0 < s.start) (waiting : AllByRecursion PlainWaiting s.waiting) (none : NoLog s) (held : HoldsAnswers E (part_of_slot D i) s) where
     -- Nothing is held or sent but in a turn that takes the message.
-    runs-replies : (from : Actor) (l : Letter)
-        → TurnReplies E D i (ordered (site_row E D stamp i s from l ▸ takes_waiting E D stamp i ▸ settles E D i))
-        → TurnReplies E D i (site_runs E D stamp i s from l)
-    runs-replies from l k = go (arrival s.start (site_term s) l)
+    runs-answers : (from : Actor) (l : Letter)
+        → TurnAnswers E D i (ordered (site_row E D stamp i s from l ▸ takes_waiting E D stamp i ▸ settles E D i))
+        → TurnAnswers E D i (site_runs E D stamp i s from l)
+    runs-answers from l k = go (arrival s.start (site_term s) l)
       where
-        go : (a : Arrival) → TurnReplies E D i (elim a as (λ _. Turn SiteState) [
+        go : (a : Arrival) → TurnAnswers E D i (elim a as (λ _. Turn SiteState) [
           | Taken ↦ ordered (site_row E D stamp i s from l ▸ takes_waiting E D stamp i ▸ settles E D i)
           | Waits ↦ becomes (record s { waiting = s.waiting ++ record { from = from; letter = l } ∷ [] })
           | Refused ↦ becomes s
@@ -533,23 +521,23 @@ module _ (E : Database) (D : Deployment) (stamp i : ℕ) where
         go Refused = record { held = held; sends = λ h. tt }
 
     -- that of a plain message
-    plain-replies : (from : Actor) (l : Letter) → Plain from l → TurnReplies E D i (site_runs E D stamp i s from l)
-    plain-replies from l p =
+    plain-answers : (from : Actor) (l : Letter) → Plain from l → TurnAnswers E D i (site_runs E D stamp i s from l)
+    plain-answers from l p =
         let t = site_row E D stamp i s from l in
-        runs-replies from l (row-replies E D i s (ordered (t ▸ takes_waiting E D stamp i ▸ settles E D i))
-        (turn-reply s t (plain-reply E D stamp i s from l p) ((plain-row E D stamp i s from l p).at.waiting waiting)) up held)
+        runs-answers from l (row-answers E D i s (ordered (t ▸ takes_waiting E D stamp i ▸ settles E D i))
+        (turn-answer s t (plain-answer E D stamp i s from l p) ((plain-row E D stamp i s from l p).at.waiting waiting)) up held)
 
     -- that of StreamStart
-    stream-replies : (l : Letter) (head : StreamHead)
-        → TurnReplies E D i (ordered (becomes (on_stream_start s s.joining l head) ▸ takes_waiting E D stamp i ▸ settles E D i))
-    stream-replies l head = go s.joining refl
+    stream-answers : (l : Letter) (head : StreamHead)
+        → TurnAnswers E D i (ordered (becomes (on_stream_start s s.joining l head) ▸ takes_waiting E D stamp i ▸ settles E D i))
+    stream-answers l head = go s.joining refl
       where
-        with : (b : SiteState) → b.start ≡ s.start → b.waiting ≡ s.waiting → HoldsReplies E (part_of_slot D i) b
-            → TurnReplies E D i (ordered (becomes b ▸ takes_waiting E D stamp i ▸ settles E D i))
-        with b e f k = row-replies E D i b (ordered (becomes b ▸ takes_waiting E D stamp i ▸ settles E D i))
-            (turn-reply b (becomes b) (row-nothing E D i b) (subst (AllByRecursion PlainWaiting) (sym f) waiting)) (omega (arith, up, e)) k
+        with : (b : SiteState) → b.start ≡ s.start → b.waiting ≡ s.waiting → HoldsAnswers E (part_of_slot D i) b
+            → TurnAnswers E D i (ordered (becomes b ▸ takes_waiting E D stamp i ▸ settles E D i))
+        with b e f k = row-answers E D i b (ordered (becomes b ▸ takes_waiting E D stamp i ▸ settles E D i))
+            (turn-answer b (becomes b) (row-nothing E D i b) (subst (AllByRecursion PlainWaiting) (sym f) waiting)) (omega (arith, up, e)) k
 
-        go : (o : Option Joining) → s.joining ≡ o → TurnReplies E D i (ordered (becomes (on_stream_start s o l head) ▸ takes_waiting E D stamp i ▸ settles E D i))
+        go : (o : Option Joining) → s.joining ≡ o → TurnAnswers E D i (ordered (becomes (on_stream_start s o l head) ▸ takes_waiting E D stamp i ▸ settles E D i))
         go None is = with s refl refl held
         go (Some j) is = choice (may_stream s j l) refl
           where
@@ -568,101 +556,101 @@ module _ (E : Database) (D : Deployment) (stamp i : ℕ) where
             past : may_stream s j l ≡ true → Front s.log l.past
             past e = subst (λ xs. Front xs l.past) (sym (none j is (fresh j.stream (and_parts (is_none j.stream) (nat_lt s.earlier l.term) e).0))) (front-none l.past)
 
-            choice : (x : Bool) → may_stream s j l ≡ x → TurnReplies E D i (ordered (becomes (if x then b else s) ▸ takes_waiting E D stamp i ▸ settles E D i))
+            choice : (x : Bool) → may_stream s j l ≡ x → TurnAnswers E D i (ordered (becomes (if x then b else s) ▸ takes_waiting E D stamp i ▸ settles E D i))
             choice true e = with b refl refl (all-held-on E (part_of_slot D i) s.log l.past (past e) s.held held)
             choice false e = with s refl refl held
 
     -- that of a View
-    view-replies : (w : Membership) → TurnReplies E D i (ordered (on_view E D i stamp s w ▸ takes_waiting E D stamp i ▸ settles E D i))
-    view-replies w = go (stays_joiner D i s w) refl
+    view-answers : (w : Membership) → TurnAnswers E D i (ordered (on_view E D i stamp s w ▸ takes_waiting E D stamp i ▸ settles E D i))
+    view-answers w = go (stays_joiner D i s w) refl
       where
         t : Turn SiteState
         t = on_view E D i stamp s w
 
-        go : (c : Bool) → stays_joiner D i s w ≡ c → TurnReplies E D i (ordered (t ▸ takes_waiting E D stamp i ▸ settles E D i))
-        go true e = row-replies E D i (as_joiner s w) (ordered (t ▸ takes_waiting E D stamp i ▸ settles E D i))
-            (turn-reply (as_joiner s w) t (joins-row E D i stamp s w e) ((view-joins E D stamp i s w e).at.waiting waiting)) up (entered-held E D i s w held)
-        go false e = row-replies E D i (as_entered s w) (ordered (t ▸ takes_waiting E D stamp i ▸ settles E D i))
-            (turn-reply (as_entered s w) t (enters-row E D i stamp s w e) ((view-enters E D stamp i s w e).at.waiting waiting)) up (entered-held E D i s w held)
+        go : (c : Bool) → stays_joiner D i s w ≡ c → TurnAnswers E D i (ordered (t ▸ takes_waiting E D stamp i ▸ settles E D i))
+        go true e = row-answers E D i (as_joiner s w) (ordered (t ▸ takes_waiting E D stamp i ▸ settles E D i))
+            (turn-answer (as_joiner s w) t (joins-row E D i stamp s w e) ((view-joins E D stamp i s w e).at.waiting waiting)) up (entered-held E D i s w held)
+        go false e = row-answers E D i (as_entered s w) (ordered (t ▸ takes_waiting E D stamp i ▸ settles E D i))
+            (turn-answer (as_entered s w) t (enters-row E D i stamp s w e) ((view-enters E D stamp i s w e).at.waiting waiting)) up (entered-held E D i s w held)
 
     -- that of any message
-    agent-replies : (h : ℕ) (l : Letter) → TurnReplies E D i (site_runs E D stamp i s (Agent h) l)
-    agent-replies h l = elim l.body as (λ m. TurnReplies E D i (site_runs E D stamp i s (Agent h) (record l { body = m }))) [
-      | msg.View w ↦ runs-replies (Agent h) (record l { body = msg.View w }) (view-replies w)
-      | m ↦ plain-replies (Agent h) (record l { body = m }) tt
+    agent-answers : (h : ℕ) (l : Letter) → TurnAnswers E D i (site_runs E D stamp i s (Agent h) l)
+    agent-answers h l = elim l.body as (λ m. TurnAnswers E D i (site_runs E D stamp i s (Agent h) (record l { body = m }))) [
+      | msg.View w ↦ runs-answers (Agent h) (record l { body = msg.View w }) (view-answers w)
+      | m ↦ plain-answers (Agent h) (record l { body = m }) tt
     ]
 
-    site-replies : (slot : ℕ) (l : Letter) → TurnReplies E D i (site_runs E D stamp i s (Site slot) l)
-    site-replies slot l = elim l.body as (λ m. TurnReplies E D i (site_runs E D stamp i s (Site slot) (record l { body = m }))) [
-      | msg.StreamStart head ↦ runs-replies (Site slot) (record l { body = msg.StreamStart head }) (stream-replies (record l { body = msg.StreamStart head }) head)
-      | m ↦ plain-replies (Site slot) (record l { body = m }) tt
+    site-answers : (slot : ℕ) (l : Letter) → TurnAnswers E D i (site_runs E D stamp i s (Site slot) l)
+    site-answers slot l = elim l.body as (λ m. TurnAnswers E D i (site_runs E D stamp i s (Site slot) (record l { body = m }))) [
+      | msg.StreamStart head ↦ runs-answers (Site slot) (record l { body = msg.StreamStart head }) (stream-answers (record l { body = msg.StreamStart head }) head)
+      | m ↦ plain-answers (Site slot) (record l { body = m }) tt
     ]
 
-    site_runs-replies : (from : Actor) (l : Letter) → TurnReplies E D i (site_runs E D stamp i s from l)
-    site_runs-replies (Agent h) l = agent-replies h l
-    site_runs-replies (Site slot) l = site-replies slot l
-    site_runs-replies (Scanner x) l = plain-replies (Scanner x) l tt
-    site_runs-replies Director l = plain-replies Director l tt
-    site_runs-replies (Client n) l = plain-replies (Client n) l tt
+    site_runs-answers : (from : Actor) (l : Letter) → TurnAnswers E D i (site_runs E D stamp i s from l)
+    site_runs-answers (Agent h) l = agent-answers h l
+    site_runs-answers (Site slot) l = site-answers slot l
+    site_runs-answers (Scanner x) l = plain-answers (Scanner x) l tt
+    site_runs-answers Director l = plain-answers Director l tt
+    site_runs-answers (Client n) l = plain-answers (Client n) l tt
 
   -- ---- one that starts or stops
 
-  on_start-replies : (s : SiteState) (start : ℕ) → HoldsReplies E (part_of_slot D i) s → TurnReplies E D i (on_start i s start)
-  on_start-replies s start held = go (nat_lt s.start start && nat_lt s.stop start)
+  on_start-answers : (s : SiteState) (start : ℕ) → HoldsAnswers E (part_of_slot D i) s → TurnAnswers E D i (on_start i s start)
+  on_start-answers s start held = go (nat_lt s.start start && nat_lt s.stop start)
     where
-      go : (c : Bool) → TurnReplies E D i (if c then sending (new_joiner s start) (only (Scanner i) (open_letter (msg.Start start))) else becomes s)
+      go : (c : Bool) → TurnAnswers E D i (if c then sending (new_joiner s start) (only (Scanner i) (open_letter (msg.Start start))) else becomes s)
       go true = record { held = tt; sends = λ h. tt }
       go false = record { held = held; sends = λ h. tt }
 
-  on_stop-replies : (s : SiteState) (start : ℕ) → HoldsReplies E (part_of_slot D i) s → TurnReplies E D i (becomes (on_stop s start))
-  on_stop-replies s start held = go (nat_le s.start start)
+  on_stop-answers : (s : SiteState) (start : ℕ) → HoldsAnswers E (part_of_slot D i) s → TurnAnswers E D i (becomes (on_stop s start))
+  on_stop-answers s start held = go (nat_le s.start start)
     where
       b : SiteState
       b = record s { stop = max s.stop start }
 
-      go : (c : Bool) → TurnReplies E D i (becomes (if c then stopped_site b else b))
+      go : (c : Bool) → TurnAnswers E D i (becomes (if c then stopped_site b else b))
       go true = record { held = tt; sends = λ h. tt }
       go false = record { held = held; sends = λ h. tt }
 
   -- it stops of itself
-  stops_so-replies : (s : SiteState) (start : ℕ) (contents : List Shown) → TurnReplies E D i (stops_so D i s start contents)
-  stops_so-replies s start contents = record {
+  stops_so-answers : (s : SiteState) (start : ℕ) (contents : List Shown) → TurnAnswers E D i (stops_so D i s start contents)
+  stops_so-answers s start contents = record {
     held = tt;
-    sends = λ h. all-one (SentReply E D i (stops_so D i s start contents).state) (h == host_of_slot D i) (open_letter (msg.Stop start)) (λ _. tt);
+    sends = λ h. all-one (SentAnswer E D i (stops_so D i s start contents).state) (h == host_of_slot D i) (open_letter (msg.Stop start)) (λ _ e. absurd (cc));
   }
 
   module _ (s : SiteState) (from : Actor) (waiting : 0 < s.start → AllByRecursion PlainWaiting s.waiting) (none : NoLog s)
-      (held : HoldsReplies E (part_of_slot D i) s) where
-    running : (l : Letter) → TurnReplies E D i (if s.start == 0 then becomes s else site_runs E D stamp i s from l)
+      (held : HoldsAnswers E (part_of_slot D i) s) where
+    running : (l : Letter) → TurnAnswers E D i (if s.start == 0 then becomes s else site_runs E D stamp i s from l)
     running l = go (s.start == 0) refl
       where
-        go : (c : Bool) → (s.start == 0) ≡ c → TurnReplies E D i (if c then becomes s else site_runs E D stamp i s from l)
+        go : (c : Bool) → (s.start == 0) ≡ c → TurnAnswers E D i (if c then becomes s else site_runs E D stamp i s from l)
         go true e = record { held = held; sends = λ h. tt }
-        go false e = let up : 0 < s.start = grind (arith, nat_tests, e) in site_runs-replies s up (waiting up) none held from l
+        go false e = let up : 0 < s.start = grind (arith, nat_tests, e) in site_runs-answers s up (waiting up) none held from l
 
-    site_takes-replies : (l : Letter) → TurnReplies E D i (site_takes E D stamp i s from l)
-    site_takes-replies l = elim l.body as (λ m. TurnReplies E D i (site_takes E D stamp i s from (record l { body = m }))) [
-      | msg.Start start ↦ on_start-replies s start held
-      | msg.Stop start ↦ on_stop-replies s start held
+    site_takes-answers : (l : Letter) → TurnAnswers E D i (site_takes E D stamp i s from l)
+    site_takes-answers l = elim l.body as (λ m. TurnAnswers E D i (site_takes E D stamp i s from (record l { body = m }))) [
+      | msg.Start start ↦ on_start-answers s start held
+      | msg.Stop start ↦ on_stop-answers s start held
       | msg.Power call choice ↦ record { held = held; sends = λ h. tt }
       | m ↦ running (record l { body = m })
     ]
 
 -- What a message makes of it.
-pub site_turn-replies : (E : Database) (D : Deployment) (stamp i : ℕ) (s : SiteState) (from : Actor) (l : Letter) (o : Outside)
-    → (0 < s.start → AllByRecursion PlainWaiting s.waiting) → NoLog s → HoldsReplies E (part_of_slot D i) s → TurnReplies E D i (site_turn E D stamp i s from l o)
-site_turn-replies E D stamp i s from l Fair waiting none held = site_takes-replies E D stamp i s from waiting none held l
-site_turn-replies E D stamp i s from l (DisksShow shown failed) waiting none held = site_takes-replies E D stamp i s from waiting none held l
-site_turn-replies E D stamp i s from l (DiskFails answered) waiting none held =
-    stops_so-replies E D stamp i s s.start (after_failure s.contents (parts_of_message s l) answered)
-site_turn-replies E D stamp i s from l (NoMemory answered) waiting none held =
-    stops_so-replies E D stamp i s (start_after s l) (after_parts s.contents (take answered (parts_of_message s l)))
+pub site_turn-answers : (E : Database) (D : Deployment) (stamp i : ℕ) (s : SiteState) (from : Actor) (l : Letter) (o : Outside)
+    → (0 < s.start → AllByRecursion PlainWaiting s.waiting) → NoLog s → HoldsAnswers E (part_of_slot D i) s → TurnAnswers E D i (site_turn E D stamp i s from l o)
+site_turn-answers E D stamp i s from l Fair waiting none held = site_takes-answers E D stamp i s from waiting none held l
+site_turn-answers E D stamp i s from l (DisksShow shown failed) waiting none held = site_takes-answers E D stamp i s from waiting none held l
+site_turn-answers E D stamp i s from l (DiskFails answered) waiting none held =
+    stops_so-answers E D stamp i s s.start (after_failure s.contents (parts_of_message s l) answered)
+site_turn-answers E D stamp i s from l (NoMemory answered) waiting none held =
+    stops_so-answers E D stamp i s (start_after s l) (after_parts s.contents (take answered (parts_of_message s l)))
 
 -- ---- a Sync
 
-module _ (E : Database) (D : Deployment) (i : ℕ) (s : SiteState) (up : 0 < s.start) (held : HoldsReplies E (part_of_slot D i) s) where
-  syncs-replies : TurnReplies E D i (syncs E D i s)
-  syncs-replies = row-replies E D i b (ordered (says ▸ settles E D i)) (row-ordered E D i b (says ▸ settles E D i)
+module _ (E : Database) (D : Deployment) (i : ℕ) (s : SiteState) (up : 0 < s.start) (held : HoldsAnswers E (part_of_slot D i) s) where
+  syncs-answers : TurnAnswers E D i (syncs E D i s)
+  syncs-answers = row-answers E D i b (ordered (says ▸ settles E D i)) (row-ordered E D i b (says ▸ settles E D i)
       (row-then E D i b says (settles E D i) (after_sync-row E D i b) (settles-row E D i says.state))) (wrote s.joining).0 (wrote s.joining).1
     where
       b : SiteState
@@ -671,25 +659,25 @@ module _ (E : Database) (D : Deployment) (i : ℕ) (s : SiteState) (up : 0 < s.s
       says : Turn SiteState
       says = after_sync D i b b.joining
 
-      wrote-stream : (j : Joining) (o : Option Streamed) → (0 < (joiner_written s j o).start) × HoldsReplies E (part_of_slot D i) (joiner_written s j o)
+      wrote-stream : (j : Joining) (o : Option Streamed) → (0 < (joiner_written s j o).start) × HoldsAnswers E (part_of_slot D i) (joiner_written s j o)
       wrote-stream j None = (up, held)
       wrote-stream j (Some st) = go j.is_loaded
         where
           go : (c : Bool) → let u = if c
               then record s { joining = Some (record j { written = j.blocks; is_based = true }); on_disk = length s.log; mark = st.mark; base = st.nj }
-              else record s { joining = Some (record j { written = j.blocks }) } in (0 < u.start) × HoldsReplies E (part_of_slot D i) u
+              else record s { joining = Some (record j { written = j.blocks }) } in (0 < u.start) × HoldsAnswers E (part_of_slot D i) u
           go true = (up, held)
           go false = (up, held)
 
-      wrote : (o : Option Joining) → (0 < (written s o).start) × HoldsReplies E (part_of_slot D i) (written s o)
+      wrote : (o : Option Joining) → (0 < (written s o).start) × HoldsAnswers E (part_of_slot D i) (written s o)
       wrote None = (up, held)
       wrote (Some j) = wrote-stream j j.stream
 
 -- What a Sync makes of it.
-pub sync_turn-replies : (E : Database) (D : Deployment) (i : ℕ) (s : SiteState) (o : Outside) → 0 < s.start → HoldsReplies E (part_of_slot D i) s
-    → TurnReplies E D i (sync_turn E D i s o)
-sync_turn-replies E D i s Fair up held = syncs-replies E D i s up held
-sync_turn-replies E D i s (DisksShow shown failed) up held = syncs-replies E D i s up held
-sync_turn-replies E D i s (DiskFails answered) up held = stops_so-replies E D 0 i s s.start (after_failure s.contents (parts_of_sync s s.joining) answered)
-sync_turn-replies E D i s (NoMemory answered) up held =
-    stops_so-replies E D 0 i s s.start (after_parts s.contents (take answered (parts_of_sync s s.joining)))
+pub sync_turn-answers : (E : Database) (D : Deployment) (i : ℕ) (s : SiteState) (o : Outside) → 0 < s.start → HoldsAnswers E (part_of_slot D i) s
+    → TurnAnswers E D i (sync_turn E D i s o)
+sync_turn-answers E D i s Fair up held = syncs-answers E D i s up held
+sync_turn-answers E D i s (DisksShow shown failed) up held = syncs-answers E D i s up held
+sync_turn-answers E D i s (DiskFails answered) up held = stops_so-answers E D 0 i s s.start (after_failure s.contents (parts_of_sync s s.joining) answered)
+sync_turn-answers E D i s (NoMemory answered) up held =
+    stops_so-answers E D 0 i s s.start (after_parts s.contents (take answered (parts_of_sync s s.joining)))

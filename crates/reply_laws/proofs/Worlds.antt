@@ -1,4 +1,4 @@
--- In each world of a run the replies that sites hold, and those under way, are what the replay answers where their calls stand.
+-- In each world of a run the answers that sites hold, and those under way, are what the replay answers where their entries stand.
 use Rattle.std.proofs.Common.{◌≡◌, ◌<◌, Bool, true, false, List, [], ◌∷◌, ◌++◌, take, length-append, refl, sym, subst, ap, ◌∙◌, ◌==◌, arith}
 use Rattle.std.proofs.lemmas.Bool.{and_parts, and_from, eqb-true}
 use Rattle.std.proofs.lemmas.Bool.Decides.{nat_tests}
@@ -6,14 +6,11 @@ use Rattle.std.proofs.lemmas.List.{length-take, length-take-le}
 use Rattle.std.specs.Prelude.{ℕ, ◌&&◌, not, nat_lt, if◌then◌else◌, Option, Some, None}
 use Rattle.std.specs.List.{AllByRecursion}
 use Rattle.volt_base.specs.declared.entry.Entry.{Entry}
-use Rattle.volt_base.specs.declared.entry.Entry.TheVariants.{Sp}
 use Rattle.volt_wire.specs.Word.{Membership}
 use Rattle.volt_wire.specs.declared.actor.Actor.{Actor}
 use Rattle.volt_wire.specs.declared.actor.Actor.TheVariants.{Director, Client, Agent, Site, Scanner}
-use Rattle.volt_wire.specs.declared.end.End.{End}
 use Rattle.volt_wire.specs.declared.event.Event.{Event}
 use Rattle.volt_wire.specs.declared.event.Event.TheVariants as event
-use Rattle.volt_wire.specs.declared.message.Msg.TheVariants as msg
 use Rattle.cluster_model.specs.Engine.{Database}
 use Rattle.cluster_model.specs.Words.{Deployment, slots, part_of_slot, is_some_of}
 use Rattle.cluster_model.specs.Letters.{same, Letter, Turn}
@@ -36,95 +33,84 @@ use Rattle.disk_laws.proofs.Boots.{first-disks}
 use Rattle.disk_laws.proofs.Rows.{PlainWaiting, waiting-plain}
 use Rattle.disk_laws.proofs.Syncs.{sync-runs}
 use Rattle.disk_laws.proofs.Worlds.{HasDisks, survives-same, run-goes}
-use Rattle.reply_laws.specs.Replies.{StandsIn, HoldsReplies, Answered, SentReply, TurnReplies}
+use Rattle.reply_laws.specs.Answers.{Claim, Stands, Tells, is_answer, HoldsAnswers, Answered, SentAnswer, TurnAnswers}
 use Rattle.reply_laws.proofs.Rows.{stands-on}
-use Rattle.reply_laws.proofs.SiteRows.{NoLog, site_turn-replies, sync_turn-replies}
+use Rattle.reply_laws.proofs.SiteRows.{NoLog, site_turn-answers, sync_turn-answers}
 
--- ---- what holds of the replies of a world
+-- ---- what holds of the answers of a world
 
--- A reply under way is to a call that stands in this log of partition p.
-abbrev pub ReplyIn : Database → ℕ → List Entry → Letter → Type 0
-ReplyIn E p log l = elim l.body as (λ _. Type 0) [
-  | msg.Reply call start end ↦ StandsIn E p log call end
-  | _ ↦ Unit {0}
-]
+-- An answer under way is to an entry that stands in this log of partition p.
+abbrev pub AnswerIn : Database → ℕ → List Entry → Letter → Type 0
+AnswerIn E p log l = is_answer l.body ≡ true → Stands (Tells E p l.body) log
 
 -- With these sites and messages, and these firm entries of each partition.
-pub record RepliesOk (E : Database) (D : Deployment) (sites : ℕ → SiteState) (channel : Actor → Actor → List Letter) (firm : ℕ → List Entry) : Type 0 where
-  pub held : (i : ℕ) → HoldsReplies E (part_of_slot D i) (sites i)
-  pub sent : (i h : ℕ) → AllByRecursion (ReplyIn E (part_of_slot D i) (firm (part_of_slot D i))) (channel (Site i) (Agent h))
+pub record AnswersOk (E : Database) (D : Deployment) (sites : ℕ → SiteState) (channel : Actor → Actor → List Letter) (firm : ℕ → List Entry) : Type 0 where
+  pub held : (i : ℕ) → HoldsAnswers E (part_of_slot D i) (sites i)
+  pub sent : (i h : ℕ) → AllByRecursion (AnswerIn E (part_of_slot D i) (firm (part_of_slot D i))) (channel (Site i) (Agent h))
 
-abbrev pub HasReplies : Database → World → Type 0
-HasReplies E w = RepliesOk E w.deployment w.sites w.channel (firm_entries w)
+abbrev pub HasAnswers : Database → World → Type 0
+HasAnswers E w = AnswersOk E w.deployment w.sites w.channel (firm_entries w)
 
 -- ---- a log that grows
 
 -- What stands in it still does.
-reply-in : (E : Database) (p : ℕ) (xs ys : List Entry) → Front xs ys → (l : Letter) → ReplyIn E p xs l → ReplyIn E p ys l
-reply-in E p xs ys f l k = elim l.body as (λ m. ReplyIn E p xs (record l { body = m }) → ReplyIn E p ys (record l { body = m })) [
-  | msg.Reply call start end ↦ stands-on E p xs ys f call end
-  | m ↦ λ k. tt
-] k
+answer-in : (E : Database) (p : ℕ) (xs ys : List Entry) → Front xs ys → (l : Letter) → AnswerIn E p xs l → AnswerIn E p ys l
+answer-in E p xs ys f l k = λ a. stands-on (Tells E p l.body) xs ys f (k a)
 
 -- ---- an event
 
 -- The firm entries of each partition only grow, and of what was under way to agents some may be taken.
 moves : (E : Database) (D : Deployment) (sites : ℕ → SiteState) (ch next : Actor → Actor → List Letter) (F G : ℕ → List Entry)
     → ((P : Letter → Type 0) (i h : ℕ) → AllByRecursion P (ch (Site i) (Agent h)) → AllByRecursion P (next (Site i) (Agent h)))
-    → ((p : ℕ) → Front (F p) (G p)) → RepliesOk E D sites ch F → RepliesOk E D sites next G
+    → ((p : ℕ) → Front (F p) (G p)) → AnswersOk E D sites ch F → AnswersOk E D sites next G
 moves E D sites ch next F G less grown k = record {
   held = k.held;
-  sent = λ i h. less (ReplyIn E (part_of_slot D i) (G (part_of_slot D i))) i h
-      (all-mono (ReplyIn E (part_of_slot D i) (F (part_of_slot D i))) (ReplyIn E (part_of_slot D i) (G (part_of_slot D i)))
-      (reply-in E (part_of_slot D i) (F (part_of_slot D i)) (G (part_of_slot D i)) (grown (part_of_slot D i))) (ch (Site i) (Agent h)) (k.sent i h));
+  sent = λ i h. less (AnswerIn E (part_of_slot D i) (G (part_of_slot D i))) i h
+      (all-mono (AnswerIn E (part_of_slot D i) (F (part_of_slot D i))) (AnswerIn E (part_of_slot D i) (G (part_of_slot D i)))
+      (answer-in E (part_of_slot D i) (F (part_of_slot D i)) (G (part_of_slot D i)) (grown (part_of_slot D i))) (ch (Site i) (Agent h)) (k.sent i h));
 }
 
 -- A site sends what is in the firm entries.
-module _ (E : Database) (D : Deployment) (i : ℕ) (t : Turn SiteState) (G : ℕ → List Entry) (r : TurnReplies E D i t)
+module _ (E : Database) (D : Deployment) (i : ℕ) (t : Turn SiteState) (G : ℕ → List Entry) (r : TurnAnswers E D i t)
     (firm : leads D i t.state ≡ true → 0 < t.state.start → Front (take t.state.firm t.state.log) (G (part_of_slot D i))) where
-  answered : (call : ℕ) (end : End) → Answered E D i t.state call end → StandsIn E (part_of_slot D i) (G (part_of_slot D i)) call end
-  answered call end k =
+  answered : (P : Claim) → Answered D i t.state P → Stands P (G (part_of_slot D i))
+  answered P k =
       let here = k.stands.here in
-      let e = Sp call here.point here.body in
-      let xs = here.front ++ e ∷ [] in
+      let xs = here.front ++ here.entry ∷ [] in
       let u = t.state in
       let n = front-length xs u.log here.stands in
       let m = length-take u.firm u.log in
-      let len = length-append here.front (e ∷ []) in
+      let len = length-append here.front (here.entry ∷ []) in
       let at = k.stands.at in
       let low = k.firm in
       let within : Front xs (take u.firm u.log) = fronts-order xs (take u.firm u.log) u.log here.stands (front-take u.firm u.log) (omega (arith, n, m, len, at, low)) in
       record {
         front = here.front;
-        point = here.point;
-        body = here.body;
+        entry = here.entry;
         stands = front-trans xs (take u.firm u.log) (G (part_of_slot D i)) within (firm k.leads k.runs);
-        answers = here.answers;
+        claim = here.claim;
       }
 
-  sent-in : (l : Letter) → SentReply E D i t.state l → ReplyIn E (part_of_slot D i) (G (part_of_slot D i)) l
-  sent-in l k = elim l.body as (λ m. SentReply E D i t.state (record l { body = m }) → ReplyIn E (part_of_slot D i) (G (part_of_slot D i)) (record l { body = m })) [
-    | msg.Reply call start end ↦ answered call end
-    | m ↦ λ k. tt
-  ] k
+  sent-in : (l : Letter) → SentAnswer E D i t.state l → AnswerIn E (part_of_slot D i) (G (part_of_slot D i)) l
+  sent-in l k = λ a. answered (Tells E (part_of_slot D i) l.body) (k a)
 
   -- in its partition's entries, as they are after the event
   abbrev InFirm : ℕ → Letter → Type 0
-  InFirm j = ReplyIn E (part_of_slot D j) (G (part_of_slot D j))
+  InFirm j = AnswerIn E (part_of_slot D j) (G (part_of_slot D j))
 
   turned : (sites : ℕ → SiteState) (ch : Actor → Actor → List Letter) (F : ℕ → List Entry)
-      → ((p : ℕ) → Front (F p) (G p)) → RepliesOk E D sites ch F → RepliesOk E D (set_at sites i t.state) (sent ch (Site i) t.sends) G
+      → ((p : ℕ) → Front (F p) (G p)) → AnswersOk E D sites ch F → AnswersOk E D (set_at sites i t.state) (sent ch (Site i) t.sends) G
   turned sites ch F grown k = record {
-    held = set-both (λ j s. HoldsReplies E (part_of_slot D j) s) sites i t.state r.held (λ j n. k.held j);
+    held = set-both (λ j s. HoldsAnswers E (part_of_slot D j) s) sites i t.state r.held (λ j n. k.held j);
     sent = λ j h. choice j h (i == j) refl;
   }
     where
       before : (j h : ℕ) → AllByRecursion (InFirm j) (ch (Site j) (Agent h))
-      before j h = all-mono (ReplyIn E (part_of_slot D j) (F (part_of_slot D j))) (InFirm j)
-          (reply-in E (part_of_slot D j) (F (part_of_slot D j)) (G (part_of_slot D j)) (grown (part_of_slot D j))) (ch (Site j) (Agent h)) (k.sent j h)
+      before j h = all-mono (AnswerIn E (part_of_slot D j) (F (part_of_slot D j))) (InFirm j)
+          (answer-in E (part_of_slot D j) (F (part_of_slot D j)) (G (part_of_slot D j)) (grown (part_of_slot D j))) (ch (Site j) (Agent h)) (k.sent j h)
 
       new : (j h : ℕ) → i ≡ j → AllByRecursion (InFirm j) (t.sends (Agent h))
-      new j h e = subst (λ x. AllByRecursion (InFirm x) (t.sends (Agent h))) e (all-mono (SentReply E D i t.state) (InFirm i) sent-in (t.sends (Agent h)) (r.sends h))
+      new j h e = subst (λ x. AllByRecursion (InFirm x) (t.sends (Agent h))) e (all-mono (SentAnswer E D i t.state) (InFirm i) sent-in (t.sends (Agent h)) (r.sends h))
 
       choice : (j h : ℕ) (b : Bool) → (i == j) ≡ b → AllByRecursion (InFirm j) (if b then ch (Site j) (Agent h) ++ t.sends (Agent h) else ch (Site j) (Agent h))
       choice j h true e = all-append (InFirm j) (ch (Site j) (Agent h)) (t.sends (Agent h)) (before j h) (new j h (eqb-true i j e))
@@ -184,21 +170,21 @@ module _ (w : World) (k : HasLogs w) (i : ℕ) where
 
 -- ---- events
 
-module _ (E : Database) (w : World) (k : HasReplies E w) (d : HasDisks w) where
+module _ (E : Database) (w : World) (k : HasAnswers E w) (d : HasDisks w) where
   -- with the firm entries of a later world
   abbrev Later : World → Type 0
   Later v = (p : ℕ) → Front (firm_entries w p) (firm_entries v p)
 
-  to_site : (i : ℕ) (from : Actor) (ls : List Letter) (o : Outside) → let v = delivered E w (Site i) from ls o in HasDisks v → Later v → HasReplies E v
+  to_site : (i : ℕ) (from : Actor) (ls : List Letter) (o : Outside) → let v = delivered E w (Site i) from ls o in HasDisks v → Later v → HasAnswers E v
   to_site i from [] o next grown = k
   to_site i from (l ∷ ls) o next grown =
       let v = delivered E w (Site i) from (l ∷ ls) o in
       let t = site_turn E w.deployment (stamp_of w) i (w.sites i) from l o in
       turned E w.deployment i t (firm_entries v)
-      (site_turn-replies E w.deployment (stamp_of w) i (w.sites i) from l o (waits-plain w d.logs i) (no-log w d.logs i) (k.held i))
+      (site_turn-answers E w.deployment (stamp_of w) i (w.sites i) from l o (waits-plain w d.logs i) (no-log w d.logs i) (k.held i))
       (turn-firm w v i t next refl) w.sites (took w.channel from (Site i)) (firm_entries w) grown (record { held = k.held; sent = k.sent })
 
-  to_agent : (n : ℕ) (from : Actor) (ls : List Letter) (o : Outside) → let v = delivered E w (Agent n) from ls o in Later v → HasReplies E v
+  to_agent : (n : ℕ) (from : Actor) (ls : List Letter) (o : Outside) → let v = delivered E w (Agent n) from ls o in Later v → HasAnswers E v
   to_agent n from [] o grown = k
   to_agent n from (l ∷ ls) o grown =
       let v = delivered E w (Agent n) from (l ∷ ls) o in
@@ -207,10 +193,10 @@ module _ (E : Database) (w : World) (k : HasReplies E w) (d : HasDisks w) where
 
   -- all that others do leaves what sites have, and what is under way from them to agents
   others : (channel : Actor → Actor → List Letter) (firm : ℕ → List Entry) → ((i h : ℕ) → channel (Site i) (Agent h) ≡ w.channel (Site i) (Agent h))
-      → ((p : ℕ) → Front (firm_entries w p) (firm p)) → RepliesOk E w.deployment w.sites channel firm
+      → ((p : ℕ) → Front (firm_entries w p) (firm p)) → AnswersOk E w.deployment w.sites channel firm
   others channel firm e grown = moves E w.deployment w.sites w.channel channel (firm_entries w) firm (λ P i h m. subst (AllByRecursion P) (sym (e i h)) m) grown k
 
-  delivers : (to from : Actor) (ls : List Letter) (o : Outside) → let v = delivered E w to from ls o in HasDisks v → Later v → HasReplies E v
+  delivers : (to from : Actor) (ls : List Letter) (o : Outside) → let v = delivered E w to from ls o in HasDisks v → Later v → HasAnswers E v
   delivers (Site i) from ls o next grown = to_site i from ls o next grown
   delivers (Agent n) from ls o next grown = to_agent n from ls o grown
   delivers to from [] o next grown = k
@@ -218,17 +204,17 @@ module _ (E : Database) (w : World) (k : HasReplies E w) (d : HasDisks w) where
   delivers (Client n) from (l ∷ ls) o next grown = others (delivered E w (Client n) from (l ∷ ls) o).channel (firm_entries w) (λ i h. refl) grown
   delivers (Scanner i) from (l ∷ ls) o next grown = others (delivered E w (Scanner i) from (l ∷ ls) o).channel (firm_entries w) (λ i h. refl) grown
 
-  syncs : (i : ℕ) (o : Outside) → 0 < (w.sites i).start → let v = happens E w (event.Sync i) o in HasDisks v → Later v → HasReplies E v
+  syncs : (i : ℕ) (o : Outside) → 0 < (w.sites i).start → let v = happens E w (event.Sync i) o in HasDisks v → Later v → HasAnswers E v
   syncs i o up next grown =
       let v = happens E w (event.Sync i) o in
       let t = sync_turn E w.deployment i (w.sites i) o in
-      turned E w.deployment i t (firm_entries v) (sync_turn-replies E w.deployment i (w.sites i) o up (k.held i))
+      turned E w.deployment i t (firm_entries v) (sync_turn-answers E w.deployment i (w.sites i) o up (k.held i))
       (turn-firm w v i t next refl) w.sites w.channel (firm_entries w) grown k
 
   -- ---- recoveries
 
   -- all sites hold nothing, and nothing is under way
-  anew : (shown : List ℕ) → HasReplies E (starts_anew E w shown)
+  anew : (shown : List ℕ) → HasAnswers E (starts_anew E w shown)
   anew shown = record { held = λ i. held i (nat_lt i (slots w.deployment)); sent = λ i h. tt }
     where
       word : Membership
@@ -237,11 +223,11 @@ module _ (E : Database) (w : World) (k : HasReplies E w) (d : HasDisks w) where
       new : ℕ → SiteState
       new i = new_site w.deployment i (w.sites i) word (start_from w.deployment w.director.next_start i) (new_log E w shown (part_of_slot w.deployment i))
 
-      held : (i : ℕ) (b : Bool) → HoldsReplies E (part_of_slot w.deployment i) (if b then new i else w.sites i)
+      held : (i : ℕ) (b : Bool) → HoldsAnswers E (part_of_slot w.deployment i) (if b then new i else w.sites i)
       held i true = tt
       held i false = k.held i
 
-  recovery : (o : Outside) → let v = recovered_with E w o in Later v → HasReplies E v
+  recovery : (o : Outside) → let v = recovered_with E w o in Later v → HasAnswers E v
   recovery Fair grown = k
   recovery (DiskFails answered) grown = k
   recovery (NoMemory answered) grown = k
@@ -250,15 +236,15 @@ module _ (E : Database) (w : World) (k : HasReplies E w) (d : HasDisks w) where
 
   -- ---- each event
 
-  event-replies : (e : Event) (o : Outside) → can w e ≡ true → let v = happens E w e o in HasDisks v → Later v → HasReplies E v
-  event-replies (event.Deliver to from) o may next grown = delivers to from (w.channel from to) o next grown
-  event-replies (event.Sync i) o may next grown =
+  event-answers : (e : Event) (o : Outside) → can w e ≡ true → let v = happens E w e o in HasDisks v → Later v → HasAnswers E v
+  event-answers (event.Deliver to from) o may next grown = delivers to from (w.channel from to) o next grown
+  event-answers (event.Sync i) o may next grown =
       syncs i o (sync-runs (w.sites i) (and_parts (nat_lt i (slots w.deployment)) (may_sync (w.sites i)) may).1) next grown
-  event-replies (event.Scan i) o may next grown = others (happens E w (event.Scan i) o).channel (firm_entries w) (λ i h. refl) grown
-  event-replies event.Recover o may next grown = recovery o grown
-  event-replies event.Item o may next grown = others (happens E w event.Item o).channel (firm_entries w) (λ i h. refl) grown
-  event-replies (event.Submit n) o may next grown = others (happens E w (event.Submit n) o).channel (firm_entries w) (λ i h. refl) grown
-  event-replies (event.Idle a) o may next grown = k
+  event-answers (event.Scan i) o may next grown = others (happens E w (event.Scan i) o).channel (firm_entries w) (λ i h. refl) grown
+  event-answers event.Recover o may next grown = recovery o grown
+  event-answers event.Item o may next grown = others (happens E w event.Item o).channel (firm_entries w) (λ i h. refl) grown
+  event-answers (event.Submit n) o may next grown = others (happens E w (event.Submit n) o).channel (firm_entries w) (λ i h. refl) grown
+  event-answers (event.Idle a) o may next grown = k
 
 -- ---- runs
 
@@ -270,29 +256,29 @@ unnoted w trace d = let n = d.logs in record {
   disks = d.disks;
 }
 
-step-replies : (E : Database) (w : World) (e : Happening) → may_happen w e ≡ true → HasDisks w → HasReplies E w → HasDisks (step E w e) × HasReplies E (step E w e)
-step-replies E w e may d k =
+step-answers : (E : Database) (w : World) (e : Happening) → may_happen w e ≡ true → HasDisks w → HasAnswers E w → HasDisks (step E w e) × HasAnswers E (step E w e)
+step-answers E w e may d k =
     let g = run-goes E (e ∷ []) w (may, tt) d in
     let outer = and_parts (not (has_failed w) && can w e.0) (allows w e.0 e.1) may in
     let inner = and_parts (not (has_failed w)) (can w e.0) outer.0 in
     let v = happens E w e.0 e.1 in
-    let r = event-replies E w k d e.0 e.1 inner.1 (unnoted v (v.trace ++ e.0 ∷ []) g.next) (λ p. firm-grows w (step E w e) d g.next p (g.survives p)) in
+    let r = event-answers E w k d e.0 e.1 inner.1 (unnoted v (v.trace ++ e.0 ∷ []) g.next) (λ p. firm-grows w (step E w e) d g.next p (g.survives p)) in
     (g.next, record { held = r.held; sent = r.sent })
 
-pub run-replies : (E : Database) (es : List Happening) (w : World) → IsRun E es w → HasDisks w → HasReplies E w → HasReplies E (run E es w)
-run-replies E [] w r d k = k
-run-replies E (e ∷ es) w r d k = let s = step-replies E w e r.0 d k in run-replies E es (step E w e) r.1 s.0 s.1
+pub run-answers : (E : Database) (es : List Happening) (w : World) → IsRun E es w → HasDisks w → HasAnswers E w → HasAnswers E (run E es w)
+run-answers E [] w r d k = k
+run-answers E (e ∷ es) w r d k = let s = step-answers E w e r.0 d k in run-answers E es (step E w e) r.1 s.0 s.1
 
--- So it is in each world of a run: at first no site holds a reply.
-pub replies-agree : (E : Database) (input : Input) (es : List Happening) → 0 < input.base → IsRun E es (first_world E input) → HasReplies E (run E es (first_world E input))
-replies-agree E input es some r =
-    run-replies E es (first_world E input) r (record { logs = first-logs E input some; halted = false; disks = first-disks E input some })
+-- So it is in each world of a run: at first no site holds an answer.
+pub answers-agree : (E : Database) (input : Input) (es : List Happening) → 0 < input.base → IsRun E es (first_world E input) → HasAnswers E (run E es (first_world E input))
+answers-agree E input es some r =
+    run-answers E es (first_world E input) r (record { logs = first-logs E input some; halted = false; disks = first-disks E input some })
     (record { held = λ i. first i (nat_lt i (slots input.deployment)); sent = λ i h. tt })
   where
     word : Membership
     word = new_word input.deployment input.base 1
 
     first : (i : ℕ) (b : Bool)
-        → HoldsReplies E (part_of_slot input.deployment i) (if b then member_site input.deployment i no_site word (start_from input.deployment 1 i) [] else no_site)
+        → HoldsAnswers E (part_of_slot input.deployment i) (if b then member_site input.deployment i no_site word (start_from input.deployment 1 i) [] else no_site)
     first i true = tt
     first i false = tt

@@ -1,4 +1,4 @@
--- What the law of answers says of a world: where the call stands to which a reply is under way.
+-- What the laws of answers say of a world: where the entry stands to which an answer is under way.
 use Rattle.std.specs.Prelude.{ℕ, ◌≡◌, List}
 use Rattle.volt_wire.specs.declared.actor.Actor.TheVariants.{Agent, Site}
 use Rattle.volt_wire.specs.declared.end.End.{End}
@@ -8,7 +8,7 @@ use Rattle.cluster_model.specs.Words.{part_of_slot}
 use Rattle.cluster_model.specs.Letters.{Letter}
 use Rattle.cluster_model.specs.World.{World}
 use Rattle.disk_laws.specs.Survival.{firm_entries}
-use Rattle.reply_laws.specs.Replies.{StandsIn}
+use Rattle.reply_laws.specs.Answers.{Claim, IsCall, IsRound, IsEnd, Stands}
 
 -- the messages under way from the site of slot i to the agent of host h
 abbrev pub under_way : World → ℕ → ℕ → List Letter
@@ -18,6 +18,26 @@ under_way w i h = w.channel (Site i) (Agent h)
 abbrev pub RepliesTo : Letter → ℕ → End → Type 0
 RepliesTo l call end = (start : ℕ) × (l.body ≡ msg.Reply call start end)
 
--- The call stands among the entries of the slot's partition that leaders counted firm, and this end is what the replay answers there.
-abbrev pub StandsFirm : Database → World → ℕ → ℕ → End → Type 0
-StandsFirm E w i call end = StandsIn E (part_of_slot w.deployment i) (firm_entries w (part_of_slot w.deployment i)) call end
+-- A message brings this part of the round of a transaction.
+abbrev pub AnswersRound : Letter → ℕ → ℕ → List ℕ → Type 0
+AnswersRound l m round partial = l.body ≡ msg.FragDone m round partial
+
+-- A message tells that the transaction has ended.
+abbrev pub TellsEnd : Letter → ℕ → Type 0
+TellsEnd l m = l.body ≡ msg.Finished m
+
+-- An entry of which this is so stands among the entries of the slot's partition that leaders counted firm.
+abbrev pub StandsFirm : World → ℕ → Claim → Type 0
+StandsFirm w i P = Stands P (firm_entries w (part_of_slot w.deployment i))
+
+-- The call stands among them, and this end is what the replay answers there.
+abbrev pub CallStandsFirm : Database → World → ℕ → ℕ → End → Type 0
+CallStandsFirm E w i call end = StandsFirm w i (IsCall E (part_of_slot w.deployment i) call end)
+
+-- The round stands among them, and this part is what the replay answers there.
+abbrev pub RoundStandsFirm : Database → World → ℕ → ℕ → ℕ → List ℕ → Type 0
+RoundStandsFirm E w i m round partial = StandsFirm w i (IsRound E (part_of_slot w.deployment i) m round partial)
+
+-- An end of the transaction stands among them.
+abbrev pub EndStandsFirm : World → ℕ → ℕ → Type 0
+EndStandsFirm w i m = StandsFirm w i (IsEnd m)

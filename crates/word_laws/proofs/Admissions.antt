@@ -35,7 +35,7 @@ not-closing began j o (l ∷ ls) h e (inl c) = (elim l.body as (λ m. ClosesFrom
 
 module _ (S : State) (H : Holds S) (n : ℕ) (W V : Membership) (j h term : ℕ) (out : Sends)
     (up : 0 < start_at S n) (own : (S.agents n).own ≡ Some W) (decided : (S.agents n).decided ≡ Some V) (same : same_word W V ≡ true)
-    (init : initiator V ≡ Some (n, start_at S n)) (came : CameOk S h n term j) (term_is : term_of W ≡ term)
+    (init : initiator V ≡ Some (n, start_at S n)) (came : CameOk S h n term j) (term_is : term_of W ≡ term) (over : start_at S n < j)
     (sends : (g : ℕ) → out (Agent g) ≡ said_to n (start_at S n) (with_admitted j h W) g) where
   abbrev s : ℕ
   s = start_at S n
@@ -104,7 +104,7 @@ module _ (S : State) (H : Holds S) (n : ℕ) (W V : Membership) (j h term : ℕ)
     | inr m ↦ m
   ]
 
-  not-admitted : (y : Admitted) → In y S.history.admitted → y.start ≡ j → ⊥
+  pub not-admitted : (y : Admitted) → In y S.history.admitted → y.start ≡ j → ⊥
   not-admitted y i e =
       let k = H.history.admitted_ok y i in
       let w : k.word ≡ came.0.word = same-some (sym k.took ∙ ap S.history.took e ∙ came.0.took) in
@@ -176,6 +176,7 @@ module _ (S : State) (H : Holds S) (n : ℕ) (W V : Membership) (j h term : ℕ)
     term_is = ap term_of word-is;
     begun = later.begun j came.0.begun;
     one_host = one-host;
+    above = over;
   }
 
   -- The initiator admits a start, and says so.

@@ -82,7 +82,7 @@ module _ (S : State) (H : Holds S) (n : ℕ) (v : Membership) (a : AgentState) (
         | inr j ↦ H.history.chain u w i j
       ]
     ];
-    took_ok = λ j u e. let k = H.history.took_ok j u e in (inr k.0, later.begun j k.1, k.2);
+    took_ok = λ j u e. let k = H.history.took_ok j u e in (inr k.0, later.begun j k.1, k.2, k.3);
     admitted_ok = λ x i. admitted_ok-later S T later x (H.history.admitted_ok x i);
     once = H.history.once;
     one_each = H.history.one_each;

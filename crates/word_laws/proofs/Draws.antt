@@ -168,6 +168,7 @@ module _ (S : State) (next : ℕ) (owner : ℕ → ℕ) (director : Actor → Li
         term_is = k.term_is;
         begun = begun-to x.start k.begun;
         one_host = λ s m e. k.one_host s m (sym (named-to x.at k.decided s m) ∙ e ∙ b);
+        above = k.above;
       }
 
   first-names : (s : ℕ) → list_any (λ m. m.1 == s) S.history.first.first ≡ true → owner s ≡ S.owner s
@@ -192,7 +193,7 @@ module _ (S : State) (next : ℕ) (owner : ℕ → ℕ) (director : Actor → Li
     took_ok = λ j w e.
         let t = o.took_ok j w e in
         let b = same_owner j t.1.below in
-        (t.0, begun-to j t.1, λ s m q. rw b (t.2 s m (sym (named-to w t.0 s m) ∙ q ∙ b)));
+        (t.0, begun-to j t.1, λ s m q. rw b (t.2 s m (sym (named-to w t.0 s m) ∙ q ∙ b)), t.3);
     admitted_ok = λ x i. admitted-to x (o.admitted_ok x i);
     once = o.once;
     one_each = o.one_each;

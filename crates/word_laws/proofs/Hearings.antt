@@ -281,7 +281,7 @@ module _ {M : ℕ → ℕ → Type 0} (P : State) (H : Holds P) (n : ℕ) (came 
     holds = subst (λ u. Holds (after P n u.state u.sends G)) (sym turn-is)
         (subst Holds (ap (λ z. after S1 n z out G) state-is
         ∙ after-after P n t0 t.state t.sends out P.history G)
-        (admits-holds S1 H1 n m.word m.decided m.start m.host m.term out up1 own1 decided1 m.same init came1 m.term_is sends));
+        (admits-holds S1 H1 n m.word m.decided m.start m.host m.term out up1 own1 decided1 m.same init came1 m.term_is over1 sends));
   }
     where
       -- first the turn without the new word, and then the word
@@ -348,6 +348,9 @@ module _ {M : ℕ → ℕ → Type 0} (P : State) (H : Holds P) (n : ℕ) (came 
           (λ g j. all-mono (Plain n (P.agents n) g) (ClosesFrom (P.history.began n) j) (λ l p. plain-closes n (P.agents n) g (P.history.began n) j l p) (t.sends (Agent g)) (c.sends g))
           n m.host m.term m.start came0
 
+      over1 : start_at S1 n < m.start
+      over1 = subst (λ s. s < m.start) (sym start1) m.above
+
       sends : (g : ℕ) → (says n t.state (Some v)).sends (Agent g)
           ≡ said_to n (start_at S1 n) v g
       sends g = ap {A = ℕ} {B = List Letter} (λ z. said_to n z v g) (c.start ∙ sym start1)
@@ -363,7 +366,7 @@ module _ {M : ℕ → ℕ → Type 0} (P : State) (H : Holds P) (n : ℕ) (came 
             let same = is_other_word-equal m.word v refl (ap (λ z. is_other_word z (Some v)) (sym m.is_own) ∙ o) in
             absurd (not-both (names m.word m.start)
             (subst (λ z. names z m.start ≡ true) (sym same) (names-admits v m.start (with_admitted-admits m.start m.host m.word)))
-            (fresh S1 H1 n m.word m.decided m.start m.host m.term out up1 own1 decided1 m.same init came1 m.term_is sends))
+            (fresh S1 H1 n m.word m.decided m.start m.host m.term out up1 own1 decided1 m.same init came1 m.term_is over1 sends))
       ]
 
       turn-is : t ▸ tells n (P.agents n).own ≡ record { state = t.state; sends = λ b. t.sends b ++ (says n t.state (Some v)).sends b }

@@ -13,6 +13,7 @@ use Rattle.word_laws.proofs.Lists.{all-mono, some-here, some-mono, not-both, set
 use Rattle.word_laws.proofs.Channels.{sent-keep, telling-left}
 use Rattle.word_laws.proofs.Algebra.{names-within}
 use Rattle.word_laws.proofs.Moves.{OwnLost, OwnAdmits, after, Later}
+use Rattle.word_laws.proofs.Agreement.{runs-not-lost}
 use Rattle.word_laws.proofs.Laters.{good-later, said_by-later, waiting-later, queued-later}
 use Rattle.word_laws.proofs.Steps.{history-renewed, came-after, later-after, agent-turn, turn-holds, later-turn, unnamed-not, named-knows, begun-running}
 use Rattle.word_laws.proofs.Continues.{continues-holds}
@@ -38,7 +39,7 @@ came-quiet S n a out K start silent keeps = came-after S n a out (record S.histo
 pub quiet-holds : (S : State) (H : Holds S) (n : ℕ) (a : AgentState) (out : Sends) (K : ℕ → Option Membership) → 0 < start_at S n → a.start ≡ start_at S n → ((g : ℕ) → out (Agent g) ≡ [])
     → ((r : ℕ) (u : Membership) → S.history.took r ≡ Some u → K r ≡ Some u)
     → ((r : ℕ) → (r ≡ start_at S n → ⊥) → K r ≡ S.history.took r)
-    → ((j : ℕ) (u : Membership) → K j ≡ Some u → In u S.history.decided × Begun S j × ((s : ℕ) → names u s ≡ true → S.owner s ≡ S.owner j → Earlier s j (S.history.began (S.owner j))))
+    → ((j : ℕ) (u : Membership) → K j ≡ Some u → In u S.history.decided × Begun S j × ((s : ℕ) → names u s ≡ true → S.owner s ≡ S.owner j → Earlier s j (S.history.began (S.owner j))) × (is_in j u.lost ≡ false))
     → AgentOk (quiet S n a out K) n a
     → ((x : Admitted) → In x S.history.admitted → names x.at (start_at S n) ≡ true → Runs S (start_at S n)
     → (OwnAdmits x.start (S.agents n) → OwnAdmits x.start a)
@@ -57,7 +58,7 @@ quiet-holds S H n a out K up start silent keeps others took_ok this knows loses 
   letters = λ g. nothing (λ x. AllByRecursion (LetterOk T n g) x) g tt;
   order = λ g. nothing (λ x. InOrder (S.history.began n) x) g tt;
   closes = λ g j. nothing (λ x. AllByRecursion (ClosesFrom (S.history.began n) j) x) g tt;
-  history = history-renewed S T.agents T.channel S.history.began K f (λ j u e. let k = took_ok j u e in (k.0, f.begun j k.1, k.2)) H.history;
+  history = history-renewed S T.agents T.channel S.history.began K f (λ j u e. let k = took_ok j u e in (k.0, f.begun j k.1, k.2, k.3)) H.history;
   loses = loses;
 }) (λ x i c m ne r. told x i c m r (cases_eq (S.owner c) n) (H.told x i c m ne r))
   where
@@ -157,9 +158,12 @@ takes_word-holds S H n w out up own taken i silent = quiet-holds S H n a out K u
           | inr z ↦ inl (refl, z)
         ])
 
-    took_ok : (j : ℕ) (u : Membership) → K j ≡ Some u → In u S.history.decided × Begun S j × ((r : ℕ) → names u r ≡ true → S.owner r ≡ S.owner j → Earlier r j (S.history.began (S.owner j)))
-    took_ok j u e = took-both (λ k o. o ≡ Some u → In u S.history.decided × Begun S k × ((r : ℕ) → names u r ≡ true → S.owner r ≡ S.owner k → Earlier r k (S.history.began (S.owner k)))) S.history.took s w
-        (λ e. subst (λ u. In u S.history.decided × Begun S s × ((r : ℕ) → names u r ≡ true → S.owner r ≡ S.owner s → Earlier r s (S.history.began (S.owner s)))) (same-some e) (i, begun-running S n H up, earlier))
+    took_ok : (j : ℕ) (u : Membership) → K j ≡ Some u
+        → In u S.history.decided × Begun S j × ((r : ℕ) → names u r ≡ true → S.owner r ≡ S.owner j → Earlier r j (S.history.began (S.owner j))) × (is_in j u.lost ≡ false)
+    took_ok j u e = took-both (λ k o. o ≡ Some u
+        → In u S.history.decided × Begun S k × ((r : ℕ) → names u r ≡ true → S.owner r ≡ S.owner k → Earlier r k (S.history.began (S.owner k))) × (is_in k u.lost ≡ false)) S.history.took s w
+        (λ e. subst (λ u. In u S.history.decided × Begun S s × ((r : ℕ) → names u r ≡ true → S.owner r ≡ S.owner s → Earlier r s (S.history.began (S.owner s))) × (is_in s u.lost ≡ false)) (same-some e)
+        (i, begun-running S n H up, earlier, runs-not-lost S H.history w s good (ap (start_at S) owned)))
         (λ k d e. H.history.took_ok k u e) j e
 
     this : AgentOk T n a

@@ -89,6 +89,7 @@ admitted_ok-later S T f x k = record {
   term_is = k.term_is;
   begun = f.begun x.start k.begun;
   one_host = λ s n e. k.one_host s n (ap (λ o. o s) (sym f.owner) ∙ e ∙ ap (λ o. o x.start) f.owner);
+  above = k.above;
 }
 
 -- where the later state admits nobody with this start

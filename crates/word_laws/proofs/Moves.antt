@@ -62,6 +62,7 @@ pub record AdmitsNow (a : AgentState) (came : List Queued) (own : Option Members
   pub same : same_word word decided ≡ true
   pub term_is : term_of word ≡ term
   pub becomes : own ≡ Some (with_admitted start host word)
+  pub above : a.start < start
   pub works : IsOff a.initiating.phase → ⊥
 
 -- Of a turn in which the agent hears no word: it goes on, and at most admits a start.

@@ -162,7 +162,7 @@ module _ (S : State) (H : Holds S) (n : ℕ) (w v : Membership) (heard : ℕ →
     members_said = λ u i h r m. later.said r u (H.history.members_said u i h r m);
     has_member = H.history.has_member;
     chain = H.history.chain;
-    took_ok = λ j u e. let k = H.history.took_ok j u e in (k.0, later.begun j k.1, k.2);
+    took_ok = λ j u e. let k = H.history.took_ok j u e in (k.0, later.begun j k.1, k.2, k.3);
     admitted_ok = ok;
     once = once;
     one_each = one_each;

@@ -366,7 +366,7 @@ module _ (S : State) (n s k : ℕ) (out : Sends) (h : Holds S) (c : TakesStart S
 
   history-ok : HistoryOk T
   history-ok = history-renewed S T.agents T.channel T.history.began S.history.took later
-      (λ j w e. let t = h.history.took_ok j w e in (t.0, begun-later j t.1, λ x m q. by-began (λ xs. Earlier x j xs) (S.owner j) (λ r f. inr f) (t.2 x m q))) h.history
+      (λ j w e. let t = h.history.took_ok j w e in (t.0, begun-later j t.1, λ x m q. by-began (λ xs. Earlier x j xs) (S.owner j) (λ r f. inr f) (t.2 x m q), t.3)) h.history
 
   -- ---- what is under way
 

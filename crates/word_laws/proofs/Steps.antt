@@ -141,7 +141,7 @@ renewed S agents channel began took_word = record S { agents = agents; channel =
 
 -- what holds of the history, if it holds of the words that starts took
 pub history-renewed : (S : State) (agents : ℕ → AgentState) (channel : Actor → Actor → List Letter) (began : ℕ → List ℕ) (K : ℕ → Option Membership) → Later S (renewed S agents channel began K)
-    → ((j : ℕ) (w : Membership) → K j ≡ Some w → In w S.history.decided × Begun (renewed S agents channel began K) j × ((s : ℕ) → names w s ≡ true → S.owner s ≡ S.owner j → Earlier s j (began (S.owner j))))
+    → ((j : ℕ) (w : Membership) → K j ≡ Some w → In w S.history.decided × Begun (renewed S agents channel began K) j × ((s : ℕ) → names w s ≡ true → S.owner s ≡ S.owner j → Earlier s j (began (S.owner j))) × (is_in j w.lost ≡ false))
     → HistoryOk S → HistoryOk (renewed S agents channel began K)
 history-renewed S agents channel began K f took_ok h = let T = renewed S agents channel began K in record {
   first_owned = h.first_owned;
@@ -165,7 +165,7 @@ history-renewed S agents channel began K f took_ok h = let T = renewed S agents 
 }
 
 pub history-moved : (S : State) (agents : ℕ → AgentState) (channel : Actor → Actor → List Letter) → Later S (moved S agents channel) → HistoryOk S → HistoryOk (moved S agents channel)
-history-moved S agents channel f h = history-renewed S agents channel S.history.began S.history.took f (λ j w e. let k = h.took_ok j w e in (k.0, f.begun j k.1, k.2)) h
+history-moved S agents channel f h = history-renewed S agents channel S.history.began S.history.took f (λ j w e. let k = h.took_ok j w e in (k.0, f.begun j k.1, k.2, k.3)) h
 
 -- an agent of which nothing changes, and whose start said and took nothing
 pub agent-later : (S T : State) → Later S T → (h : ℕ) (a : AgentState) → T.history.said a.start ≡ S.history.said a.start → T.history.took a.start ≡ S.history.took a.start

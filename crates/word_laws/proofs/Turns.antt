@@ -1,6 +1,6 @@
 -- What the rows of an agent do with words.
-use Rattle.std.proofs.Common.{◌≡◌, Bool, true, false, List, [], ◌∷◌, ◌++◌, refl, sym, ap, ◌∙◌, ◌⊎◌, inl, inr, ◌==◌, arith}
-use Rattle.std.proofs.lemmas.Bool.{and_parts, eqb-true}
+use Rattle.std.proofs.Common.{◌≡◌, ◌<◌, Bool, true, false, List, [], ◌∷◌, ◌++◌, refl, sym, subst, ap, ◌∙◌, ◌⊎◌, inl, inr, ◌==◌, arith}
+use Rattle.std.proofs.lemmas.Bool.{and_parts, eqb-true, ltb-true}
 use Rattle.std.proofs.lemmas.Bool.Decides.{nat_tests}
 use Rattle.std.specs.Prelude.{ℕ, ◌&&◌, ◌||◌, not, filter, if◌then◌else◌, nat_lt, Option, Some, None, is_none}
 use Rattle.std.specs.List.{AllByRecursion, list_all}
@@ -175,11 +175,11 @@ admitting-calm : (a0 : AgentState) (came : List Queued) (a : AgentState) (own de
     → CalmAt a0 came a → CalmAt a0 came (admitting a own decided start host term)
 admitting-calm a0 came a None decided start host term on asked o d h = h
 admitting-calm a0 came a (Some own) None start host term on asked o d h = h
-admitting-calm a0 came a (Some own) (Some decided) start host term on asked o d h = choice (same_word own decided && term_of own == term) refl
+admitting-calm a0 came a (Some own) (Some decided) start host term on asked o d h = choice (same_word own decided && term_of own == term && nat_lt a.start start) refl
   where
-    choice : (c : Bool) → (same_word own decided && term_of own == term) ≡ c → CalmAt a0 came (if c then record a { own = Some (with_admitted start host own) } else a)
+    choice : (c : Bool) → (same_word own decided && term_of own == term && nat_lt a.start start) ≡ c → CalmAt a0 came (if c then record a { own = Some (with_admitted start host own) } else a)
     choice false e = h
-    choice true e = let (like, at) = and_parts (same_word own decided) (term_of own == term) e in record {
+    choice true e = let both = and_parts (same_word own decided && term_of own == term) (nat_lt a.start start) e in let (like, at) = and_parts (same_word own decided) (term_of own == term) both.0 in record {
       start = h.start;
       decided = h.decided;
       taken = h.taken;
@@ -197,6 +197,7 @@ admitting-calm a0 came a (Some own) (Some decided) start host term on asked o d 
         same = like;
         term_is = eqb-true (term_of own) term at;
         becomes = refl;
+        above = subst (λ x. x < start) h.start (ltb-true a.start start both.1);
         works = on;
       });
       queue = h.queue;

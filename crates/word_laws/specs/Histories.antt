@@ -250,7 +250,8 @@ Falls [] = Unit {0}
 Falls (w ∷ ws) = AllByRecursion (λ v. Within v w) ws × Falls ws
 
 -- Of an admission. It was at a decided word that doesn't name the start, by that word's initiator, which said the word with
--- the start in it. It was the word that the start had taken, by its term. Other starts of its host were lost in it.
+-- the start in it. It was the word that the start had taken, by its term. Other starts of its host were lost in it. The
+-- start is above the initiator's.
 pub record AdmittedOk (S : State) (x : Admitted) : Type 0 where
   pub decided : In x.at S.history.decided
   pub by_initiator : initiator x.at ≡ Some (S.owner x.by, x.by)
@@ -261,6 +262,7 @@ pub record AdmittedOk (S : State) (x : Admitted) : Type 0 where
   pub term_is : term_of word ≡ term_of x.at
   pub begun : Begun S x.start
   pub one_host : (s : ℕ) → names x.at s ≡ true → S.owner s ≡ S.owner x.start → is_in s x.at.lost ≡ true
+  pub above : x.by < x.start
 
 pub record HistoryOk (S : State) : Type 0 where
   -- the first word: each host with one start
@@ -285,9 +287,10 @@ pub record HistoryOk (S : State) : Type 0 where
   pub has_member : (w : Membership) → In w S.history.decided → Within w S.history.first ⊎ ((h : ℕ) × (s : ℕ) × (start_of w h ≡ Some s))
   -- Chain.
   pub chain : (v w : Membership) → In v S.history.decided → In w S.history.decided → Comparable v w
-  -- A joiner's word: of its host it names earlier starts alone.
+  -- A joiner's word: of its host it names earlier starts alone, and it hasn't lost the joiner.
   pub took_ok : (j : ℕ) (w : Membership) → S.history.took j ≡ Some w
       → In w S.history.decided × Begun S j × ((s : ℕ) → names w s ≡ true → S.owner s ≡ S.owner j → Earlier s j (S.history.began (S.owner j)))
+      × (is_in j w.lost ≡ false)
   -- Admission.
   pub admitted_ok : (x : Admitted) → In x S.history.admitted → AdmittedOk S x
   pub once : (x y : Admitted) → In x S.history.admitted → In y S.history.admitted → x.start ≡ y.start → x ≡ y

@@ -39,7 +39,7 @@ use Rattle.log_laws.proofs.Agents.AgentRows.{BringsDecided, may-join, first-agen
 -- ---- a message that comes
 
 -- what a first message asks
-first-asks : (S : LogState) (from : Actor) (n : ℕ) (l : Letter) (ls : List Letter) → Rest S → S.words.channel from (Agent n) ≡ l ∷ ls → AskedOk (heard S from n) from l
+pub first-asks : (S : LogState) (from : Actor) (n : ℕ) (l : Letter) (ls : List Letter) → Rest S → S.words.channel from (Agent n) ≡ l ∷ ls → AskedOk (heard S from n) from l
 first-asks S (Agent h) n l ls r is = (subst (AllByRecursion (AskedOk S (Agent h))) is (r.loads.asked h n)).0
 first-asks S (Site c) n l ls r is = (subst (AllByRecursion (AskedOk S (Site c))) is (r.loads.told c n)).0
 first-asks S Director n l ls r is = tt
@@ -47,7 +47,7 @@ first-asks S (Client c) n l ls r is = tt
 first-asks S (Scanner x) n l ls r is = tt
 
 -- a message that brings a word may leave its place at once
-decided-pops : (S : LogState) (from : Actor) (n : ℕ) (l : Letter) (ls : List Letter) → word.Holds S.words → S.words.channel from (Agent n) ≡ l ∷ ls → BringsDecided from l
+pub decided-pops : (S : LogState) (from : Actor) (n : ℕ) (l : Letter) (ls : List Letter) → word.Holds S.words → S.words.channel from (Agent n) ≡ l ∷ ls → BringsDecided from l
     → word.Holds (heard S from n).words
 decided-pops S (Agent k) n l ls h is b = (elim l.body as (λ m. S.words.channel (Agent k) (Agent n) ≡ record l { body = m } ∷ ls → BringsDecided (Agent k) (record l { body = m })
     → word.Holds (heard S (Agent k) n).words) [
@@ -86,13 +86,13 @@ module _ (S : LogState) (n : ℕ) (t : Turn AgentState) (r : AgentRow S n t) whe
   abbrev V : LogState
   V = turned S n t.state t.sends r.row.history
 
-  waits-on : (ws : List Waiting) → AllByRecursion (λ x. WaitingFrom S.words n x.from x.letter) ws → AllByRecursion (λ x. WaitingFrom V.words n x.from x.letter) ws
+  pub waits-on : (ws : List Waiting) → AllByRecursion (λ x. WaitingFrom S.words n x.from x.letter) ws → AllByRecursion (λ x. WaitingFrom V.words n x.from x.letter) ws
   waits-on ws k = all-mono _ _ (λ x p. waiting-later S.words V.words n came x.from x.letter p) ws k
     where
       came : (h term j : ℕ) → CameOk S.words h n term j → CameOk V.words h n term j
       came = came-still S.words V.words n (row-later S.words n t r.row) (others-after S.words n t.state t.sends r.row.history)
 
-  asks-on : (ws : List Waiting) → AllByRecursion (λ x. AskedOk S x.from x.letter) ws → AllByRecursion (λ x. AskedOk V x.from x.letter) ws
+  pub asks-on : (ws : List Waiting) → AllByRecursion (λ x. AskedOk S x.from x.letter) ws → AllByRecursion (λ x. AskedOk V x.from x.letter) ws
   asks-on ws k = all-mono _ _ (λ x p. asked-worded S V.words.agents V.words.channel r.row.history x.from x.letter p) ws k
 
 waited-each : (E : Database) (n stamp : ℕ) (ws : List Waiting) (S : LogState) → word.Holds S.words → Rest S → 0 < word.start_at S.words n

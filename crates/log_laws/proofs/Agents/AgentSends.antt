@@ -1,6 +1,6 @@
 -- What an agent says to sites: in most rows neither a start nor a word.
 use Rattle.std.proofs.Common.{◌≡◌, ◌+◌, Bool, true, false, List, [], ◌∷◌, ◌++◌, refl, subst, ◌∙◌, ◌==◌}
-use Rattle.std.specs.Prelude.{ℕ, ◌&&◌, not, if◌then◌else◌, Option, Some, None}
+use Rattle.std.specs.Prelude.{ℕ, ◌&&◌, not, if◌then◌else◌, Option, Some, None, nat_lt}
 use Rattle.std.specs.List.{AllByRecursion}
 use Rattle.volt_base.specs.declared.entry.Outcome.{Outcome}
 use Rattle.volt_wire.specs.Word.{Membership}
@@ -104,7 +104,7 @@ begins-calls E D a (RunCall call host start body) = record { same = refl; sites 
 begins-calls E D a TakeSnapshot = record { same = refl; sites = to_all_leaders-calls D a.decided _ tt; agents = to_all_leaders-none D a.decided _ }
 
 admitting-loaded : (a : AgentState) (own decided : Option Membership) (start host term : ℕ) → (admitting a own decided start host term).loaded ≡ a.loaded
-admitting-loaded a (Some own) (Some decided) start host term = choice (same_word own decided && term_of own == term)
+admitting-loaded a (Some own) (Some decided) start host term = choice (same_word own decided && term_of own == term && nat_lt a.start start)
   where
     choice : (c : Bool) → (if c then record a { own = Some (with_admitted start host own) } else a).loaded ≡ a.loaded
     choice true = refl

@@ -18,13 +18,14 @@ use Rattle.log_laws.specs.Histories.{LogState, Logs, Reign, Front, Line, Repairs
 use Rattle.log_laws.proofs.Plain.Lines.{line-append, line-same, flow-append, flow-same, ends-same, puts-append, follows-append, put_letter, task_letter}
 use Rattle.log_laws.proofs.Plain.Copies.{leader-follows-none, leads-parts, leader-view, is-leader, start-in-view, other-copy, copy-other, follows-part, follows-one, leader-followed}
 use Rattle.log_laws.proofs.Kept.Moves.{Grown, Later, SameReigns, NoStreamStart, Goes, after}
-use Rattle.log_laws.proofs.Kept.Grown.{grown-at}
+use Rattle.log_laws.proofs.Kept.Grown.{grown-at, enters-same}
 use Rattle.log_laws.proofs.Kept.Plumbing.{sent-either, here, there, between-here, between-there}
 use Rattle.log_laws.proofs.Kept.Terms.{same-word, some-term, reign-entered, took-decided, took-unnamed}
 use Rattle.log_laws.proofs.Kept.Asked.{at-most-is}
 use Rattle.log_laws.proofs.Kept.Keeps.{Still, SameFrom, SameTerm, SameRun, Uncounted, still-same, member-keeps-from, counted-from, quiet-keeps, coming-keeps, took-keeps, in_word-keeps-with, joiner-keeps-with}
 use Rattle.log_laws.proofs.Kept.Turned.{put_at, put-both, put-here, put-there}
 use Rattle.log_laws.proofs.Kept.Growing.{Carries, grew-later, grew-member, grew-holds}
+use Rattle.log_laws.proofs.Plain.Fronts.{front-append, front-length}
 use Rattle.log_laws.proofs.Plain.Appends.{grown, Passed, leads-with, passed-line, passed-line-other, passed-flow, passed-flow-other, passed-ends, passed-all, passed-follows}
 
 -- ---- the history of the leader's term
@@ -488,6 +489,8 @@ leads-goes E T i e H up lead =
       plain = λ c. passed-all T.words.deployment i e (grown (T.sites i) (e ∷ []) r.scans r.scanning) out r.passed c NoStreamStart (λ is. tt) (λ j is q. tt);
       holds = subst (λ s. Holds (after T i s out G)) (sym r.state) (led-holds T i e H up k r.scans r.scanning out r.passed);
       grown = subst (λ s. Grown T.words.deployment i s T.logs G) (sym r.state) (led-grown T i e H up k r.scans r.scanning out r.passed);
+      enters = enters-same i (length (log_at T i)) T.logs G refl;
+      longer = subst (λ s. length (log_at T i) ≤ length s.log) (sym r.state) (front-length (log_at T i) (log_at T i ++ e ∷ []) (front-append (log_at T i) (e ∷ [])));
     }
 
 -- and it leads still

@@ -17,18 +17,18 @@ use Rattle.cluster_model.specs.World.{took, sent, rest}
 use Rattle.word_laws.specs.Histories.{In}
 use Rattle.word_laws.proofs.Lists.{and-false, eqb-same, if-false, not-both, same-some, set-here, set-there, set-both}
 use Rattle.word_laws.proofs.Channels.{took-all}
-use Rattle.log_laws.specs.Histories.{LogState, Reign, Front, Line, Puts, Repairs, FollowsIn, JoinerOk, ViewIn, MemberOk, Reached, ForeignOk, ToldOk, SiteLetterOk, BeginsAt, Holds, line_in, flow_in, ask_in, follows, line, flow, ends, asks_in, asks_waiting, asks_of_term, asked, between, part, start_at, term_at}
+use Rattle.log_laws.specs.Histories.{LogState, Reign, Front, Line, Puts, Repairs, FollowsIn, JoinerOk, ViewIn, MemberOk, Reached, ForeignOk, ToldOk, SiteLetterOk, BeginsAt, Holds, line_in, flow_in, ask_in, follows, line, flow, ends, asks_in, asks_waiting, asks_of_term, asked, between, part, start_at, term_at, log_at}
 use Rattle.log_laws.proofs.Plain.Lines.{puts-cons, puts-not-repairs, repairs-not-put, repairs-same, line-here, flow-plain, asks-plain}
 use Rattle.log_laws.proofs.Kept.Terms.{running-slot, reign-entered}
 use Rattle.log_laws.proofs.Plain.Copies.{leader-follows-none, follows-one}
 use Rattle.log_laws.proofs.Kept.Moves.{Later, after, popped, NoStreamStart, Goes}
-use Rattle.log_laws.proofs.Kept.Grown.{grown-same}
+use Rattle.log_laws.proofs.Kept.Grown.{grown-same, enters-same}
 use Rattle.log_laws.proofs.Kept.Laters.{same-reigns}
 use Rattle.log_laws.proofs.Kept.Plumbing.{taken-either}
 use Rattle.log_laws.proofs.Kept.Asked.{at-most-is}
 use Rattle.log_laws.proofs.Kept.Keeps as keeps
 use Rattle.log_laws.proofs.Kept.Keeps.{Still, SameFrom, Uncounted, still-same, member-keeps, counted-from}
-use Rattle.log_laws.proofs.Plain.Fronts.{front-grows, front-refl, front-rest}
+use Rattle.log_laws.proofs.Plain.Fronts.{front-append, front-grows, front-length, front-refl, front-rest}
 use Rattle.log_laws.proofs.Plain.Appends.{Appended, appends-one, appends-all}
 use Rattle.log_laws.proofs.Kept.Growing.{Carries, grew, grew-later, grew-member, grew-holds}
 
@@ -254,6 +254,8 @@ on_put-goes E S H i k l ls position e floor is up own now = goes r.lacks
                 front-grows r.reign.begun (S.sites i).log (e ∷ []) front,
               )));
           grown = grown-same S.words.deployment i (on_put E S.words.deployment i (S.sites i) position e floor).state S.logs;
+          enters = enters-same i (length (log_at S i)) S.logs S.logs refl;
+          longer = subst (λ x. length (log_at S i) ≤ length x.log) (sym state) (front-length (log_at S i) (log_at S i ++ e ∷ []) (front-append (log_at S i) (e ∷ [])));
         }
 
 pub on_repair-goes : (E : Database) (S : LogState) → Holds S → (i k : ℕ) (l : Letter) (ls : List Letter) (from : ℕ) (entries : List Entry)
@@ -300,4 +302,7 @@ on_repair-goes E S H i k l ls from entries is up own now = goes r.lacks
               (on_repair E S.words.deployment i (S.sites i) from entries).sends all.quiet r.member.floor
               (inl (es, refl, same.2, ap (λ x. x ++ es) begun ∙ whole, subst (Front r.reign.begun) (sym begun) (front-refl r.reign.begun))));
           grown = grown-same S.words.deployment i (on_repair E S.words.deployment i (S.sites i) from entries).state S.logs;
+          enters = enters-same i (length (log_at S i)) S.logs S.logs refl;
+          longer = subst (λ x. length (log_at S i) ≤ length x.log) (sym all.state)
+              (front-length (log_at S i) (log_at S i ++ drop (length (S.sites i).log - from) entries) (front-append (log_at S i) (drop (length (S.sites i).log - from) entries)));
         }

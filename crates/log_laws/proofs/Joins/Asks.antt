@@ -75,7 +75,7 @@ module _ (S : LogState) (H : Holds S) (i a slot : ℕ) (ok : AskOk S (part S i) 
 
 pub join-ask-goes : (S : LogState) → Holds S → (i c : ℕ) (l : Letter) (ls : List Letter) (a slot : ℕ) → between S c i ≡ record l { body = msg.JoinAsk a slot } ∷ ls
     → 0 < start_at S i → l.start ≡ start_at S i → l.term ≡ term_at S i → Goes (popped S (Site c) i) i (becomes (on_join_ask (S.sites i) a slot))
-join-ask-goes S H i c l ls a slot e up start term = becomes-goes (popped S (Site c) i) i s S.logs.streamed refl refl
+join-ask-goes S H i c l ls a slot e up start term = becomes-goes (popped S (Site c) i) i s S.logs.streamed refl refl (omega arith)
     (keeping-holds S H i a slot ok (without S c i) S.pending k less flows (λ h. h.pending)
     (first-letters S H c i x ls e s g S.logs.streamed k (λ t. refl)) (first-foreign S H c i x ls e))
   where
@@ -110,7 +110,7 @@ join-ask-goes S H i c l ls a slot e up start term = becomes-goes (popped S (Site
 pub join-ask-left-goes : (S : LogState) → Holds S → (i c : ℕ) (l : Letter) (ws : List Waiting) (a slot : ℕ)
     → S.pending i ≡ record { from = Site c; letter = record l { body = msg.JoinAsk a slot } } ∷ ws → 0 < start_at S i → l.start ≡ start_at S i → l.term ≡ term_at S i
     → Goes (left S i ws) i (becomes (on_join_ask (S.sites i) a slot))
-join-ask-left-goes S H i c l ws a slot e up start term = becomes-goes (left S i ws) i s S.logs.streamed refl refl
+join-ask-left-goes S H i c l ws a slot e up start term = becomes-goes (left S i ws) i s S.logs.streamed refl refl (omega arith)
     (keeping-holds S H i a slot ok S.words.channel (set_at S.pending i ws) k (record { lines = λ l a t. refl; flows = λ l a t e. e; ends = λ l a t e. e }) (λ l a t. refl)
     (λ h. subst (AllByRecursion (WaitingOk S i)) (sym (set-here S.pending i ws)) (pend.1))
     (λ l is. takes-letters S H i s S.words.channel (set_at S.pending i ws) S.logs.streamed k (λ t. refl) l (λ a t nj b. b) (between S l i) (H.letters l i is))

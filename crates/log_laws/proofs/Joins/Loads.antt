@@ -53,7 +53,7 @@ module _ (S : LogState) (H : Holds S) (i : ℕ) (up : 0 < start_at S i) (s : Sit
       → ((j : Joining) → s.joining ≡ Some j → JoinerOk (with-site S i s S.words.channel S.pending S.logs.streamed) i j)
       → (KeepsOk S i → KeepsOk (with-site S i s S.words.channel S.pending S.logs.streamed) i)
       → Goes S i (becomes s)
-  alone-goes member joiner keeps = becomes-goes S i s S.logs.streamed g.start g.view
+  alone-goes member joiner keeps = becomes-goes S i s S.logs.streamed g.start g.view g.log
       (takes-holds S H i s S.words.channel S.pending S.logs.streamed alone-takes member joiner keeps
       (λ l slot. takes-letters S H i s S.words.channel S.pending S.logs.streamed alone-takes (λ t. refl) l (λ a t nj b. b) (between S l i) (H.letters l i slot))
       (λ from. H.foreign from i)
@@ -95,7 +95,7 @@ module _ (S : LogState) (H : Holds S) (i : ℕ) (up : 0 < start_at S i) (j n : J
       → (j.stream ≡ None → (n.is_loaded ≡ j.is_loaded) × (n.count ≡ j.count) × (n.tasks ≡ j.tasks) × (log ≡ log_at S i))
       → ((w : Membership) (nj : ℕ) → (S.sites i).view ≡ Some w → Took S i w j nj → LoadsOn S i j n log w nj)
       → Goes S i (becomes (with-load (S.sites i) n log))
-  load-goes told based stream untaken took = becomes-goes S i s S.logs.streamed refl refl
+  load-goes told based stream untaken took = becomes-goes S i s S.logs.streamed refl refl longer
       (takes-joined S H i s S.words.channel S.pending S.logs.streamed k j n is refl refl refl (λ h. let d = h.on_disk in omega (arith, d, longer)) (λ h. h)
       (takes-joiner S H i s S.words.channel S.pending S.logs.streamed k j n refl
       (λ e. loaded (old.told (sym told ∙ e))) (λ e. loaded (old.based (sym based ∙ e)))

@@ -317,7 +317,7 @@ module _ (S : LogState) (H : Holds S) (m i : ℕ) (l : Letter) (ls : List Letter
             (λ z took own. end-taken c y there some h z took own))
 
     taken-goes : Goes (popped S (Site m) i) i (becomes s)
-    taken-goes = becomes-goes (popped S (Site m) i) i s st refl refl
+    taken-goes = becomes-goes (popped S (Site m) i) i s st refl refl (let d = ap length untaken.empty in omega (arith, d))
         (takes-joined S H i s (without S m i) S.pending st k j joined is refl refl refl
         (λ h. let d = subst (λ z. (S.sites i).on_disk ≤ length z) untaken.empty h.on_disk in omega (arith, d)) (λ h. h)
         (takes-joiner S H i s (without S m i) S.pending st k j joined refl old.told old.based

@@ -30,7 +30,7 @@ pub drops-goes : (S : LogState) → Holds S → (m i : ℕ) (x : Letter) (ls : L
     → ((j : Joining) (w : Membership) → (S.sites i).joining ≡ Some j → (S.sites i).view ≡ Some w → InWord S i w j → follows S.words.deployment w i m ≡ true
     → (S.sites i).earlier < term_of w → flow (start_at S i) (term_of w) ls ≡ flow (start_at S i) (term_of w) (between S m i))
     → Goes (popped S (Site m) i) i (becomes (S.sites i))
-drops-goes S H m i x ls e up line same-flow = becomes-goes (popped S (Site m) i) i s S.logs.streamed refl refl
+drops-goes S H m i x ls e up line same-flow = becomes-goes (popped S (Site m) i) i s S.logs.streamed refl refl (omega arith)
     (takes-holds S H i s (without S m i) S.pending S.logs.streamed k
     (λ w none h. takes-member S H i s (without S m i) S.pending S.logs.streamed k less still w h)
     (λ j is. takes-joiner-same S H i s (without S m i) S.pending S.logs.streamed k less still (λ t. refl)
@@ -85,7 +85,7 @@ module _ (S : LogState) (H : Holds S) (m i : ℕ) (l : Letter) (ls : List Letter
       → length (log_at S i) ≤ length log → ((j.is_loaded ≡ true → j.tasks ≡ []) → log ++ n.tasks ≡ (log_at S i ++ j.tasks) ++ v ∷ [])
       → (n.is_loaded ≡ false → log ≡ log_at S i) → ((j.is_loaded ≡ true → j.tasks ≡ []) → n.is_loaded ≡ true → n.tasks ≡ [])
       → Goes (popped S (Site m) i) i (becomes (with-load (S.sites i) n log))
-  task-joins j n st log is took stream loads count based told longer whole loading loaded = becomes-goes (popped S (Site m) i) i s S.logs.streamed refl refl
+  task-joins j n st log is took stream loads count based told longer whole loading loaded = becomes-goes (popped S (Site m) i) i s S.logs.streamed refl refl longer
       (takes-joined S H i s (without S m i) S.pending S.logs.streamed k j n is refl refl refl (λ h. let d = h.on_disk in omega (arith, d, longer)) (λ h. h)
       (takes-joiner S H i s (without S m i) S.pending S.logs.streamed k j n refl (λ e. loads ∙ old.told (sym told ∙ e)) (λ e. loads ∙ old.based (sym based ∙ e))
       (λ w view h. takes-word S H i s (without S m i) S.pending S.logs.streamed k less w j n

@@ -1,12 +1,12 @@
 -- What turns of sites add to the history of terms that are led: nothing, at one place, and one turn behind another.
 use Rattle.std.proofs.Common.{◌≡◌, sym, subst, ap, ◌∙◌, inl, inr, refl, arith}
 use Rattle.std.proofs.lemmas.Bool.{cases_eq}
-use Rattle.std.specs.Prelude.{ℕ, ◌≤◌, Some}
+use Rattle.std.specs.Prelude.{ℕ, ◌≤◌, Some, length}
 use Rattle.cluster_model.specs.Words.{Deployment}
 use Rattle.cluster_model.specs.SiteState.{SiteState}
-use Rattle.log_laws.specs.Histories.{Logs}
+use Rattle.log_laws.specs.Histories.{LogState, Logs, log_at}
 use Rattle.log_laws.proofs.Plain.Fronts.{front-refl, front-trans}
-use Rattle.log_laws.proofs.Kept.Moves.{Onward, Heads, Grown}
+use Rattle.log_laws.proofs.Kept.Moves.{Later, Onward, Heads, Grown, Enters}
 
 -- ---- a later history
 
@@ -24,6 +24,32 @@ onward-then F G H first second = record {
       let l = second.kept p t k.0 k.1 in
       (l.0, l.1, l.2 ∙ k.2, front-trans g.log k.0.log l.0.log k.3 l.3);
   reach = λ p t. let k = first.reach p t in let l = second.reach p t in omega (arith, k, l);
+}
+
+-- ---- what is entered
+
+-- where nothing is
+pub enters-same : (i low : ℕ) (F G : Logs) → G.entered ≡ F.entered → Enters i low F G
+enters-same i low F G same = record { kept = λ c t e is. ap (λ f. f c t) same ∙ is; now = λ t e is. inl (ap (λ f. f i t) (sym same) ∙ is) }
+
+-- one turn after another, from a log that has only grown
+pub enters-then : (i low high : ℕ) (F G H : Logs) → low ≤ high → Enters i low F G → Enters i high G H → Enters i low F H
+enters-then i low high F G H longer first second = record {
+  kept = λ c t e is. second.kept c t e (first.kept c t e is);
+  now = λ t e is. elim (second.now t e is) [
+    | inl old ↦ first.now t e old
+    | inr long ↦ inr (omega (arith, longer, long))
+  ];
+}
+
+-- in a later state
+pub enters-later : (S T : LogState) (i : ℕ) → Later S T → Enters i (length (log_at S i)) S.logs T.logs
+enters-later S T i f = record {
+  kept = f.entered;
+  now = λ t e is. elim (f.entered_now i t e is) [
+    | inl old ↦ inl old
+    | inr new ↦ inr new.log
+  ];
 }
 
 -- ---- turns of a site

@@ -107,6 +107,11 @@ pub record Grown (D : Deployment) (i : ℕ) (s : SiteState) (F G : Logs) : Type 
   pub onward : Onward F G
   pub led : (p t : ℕ) (h : Reign) → G.reign p t ≡ Some h → (F.reign p t ≡ Some h) ⊎ Heads D i s p t
 
+-- By a turn of the site of slot i, with so many entries in its log, what was entered stays, and it enters a term with no fewer.
+pub record Enters (i low : ℕ) (F G : Logs) : Type 0 where
+  pub kept : (c t : ℕ) (e : Entered) → F.entered c t ≡ Some e → G.entered c t ≡ Some e
+  pub now : (t : ℕ) (e : Entered) → G.entered i t ≡ Some e → (F.entered i t ≡ Some e) ⊎ (low ≤ length e.log)
+
 -- ---- turns
 
 -- no stream begins with this message
@@ -123,6 +128,8 @@ pub record Turns (S : LogState) (i : ℕ) (t : Turn SiteState) : Type 0 where
   pub plain : (c : ℕ) → AllByRecursion NoStreamStart (t.sends (Site c))
   pub holds : Holds (after S i t.state t.sends logs)
   pub grown : Grown S.words.deployment i t.state S.logs logs
+  pub enters : Enters i (length (log_at S i)) S.logs logs
+  pub longer : length (log_at S i) ≤ length t.state.log
 
 -- one in which it stays in its word
 pub record Goes (S : LogState) (i : ℕ) (t : Turn SiteState) : Type 0 where
@@ -132,3 +139,5 @@ pub record Goes (S : LogState) (i : ℕ) (t : Turn SiteState) : Type 0 where
   pub plain : (c : ℕ) → AllByRecursion NoStreamStart (t.sends (Site c))
   pub holds : Holds (after S i t.state t.sends logs)
   pub grown : Grown S.words.deployment i t.state S.logs logs
+  pub enters : Enters i (length (log_at S i)) S.logs logs
+  pub longer : length (log_at S i) ≤ length t.state.log

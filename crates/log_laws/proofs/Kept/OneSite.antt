@@ -14,13 +14,13 @@ use Rattle.cluster_model.specs.World.{set_at}
 use Rattle.word_laws.proofs.Lists.{all-mono, none-and-some, same-some, set-here, set-there}
 use Rattle.word_laws.proofs.Channels.{sent-nothing}
 use Rattle.word_laws.specs.Histories.{Distinct, In}
-use Rattle.log_laws.specs.Histories.{AskOk, BeginsAt, Coming, CountedOk, Flow, Follows, ForeignOk, Holds, InWord, IsCounted, IsSlot, JoinerOk, KeepsOk, LogState, MemberOk, Quiet, SiteLetterOk, StreamIn, StreamedOk, Streaming, Took, Untaken, ViewIn, WaitingOk, Wordless, asked, between, ends, flow, follows, line, part, start_at, term_at}
+use Rattle.log_laws.specs.Histories.{AskOk, BeginsAt, Coming, CountedOk, Flow, Follows, ForeignOk, Holds, InWord, IsCounted, IsSlot, JoinerOk, KeepsOk, LogState, MemberOk, Quiet, SiteLetterOk, StreamIn, StreamedOk, Streaming, Took, Untaken, ViewIn, WaitingOk, Wordless, asked, between, ends, flow, follows, line, part, start_at, term_at, log_at}
 use Rattle.log_laws.proofs.Kept.Asked.{AsksLess, at-most-none, at-most-one}
 use Rattle.log_laws.proofs.Plain.Copies.{leader-view}
 use Rattle.log_laws.proofs.Kept.Keeps.{CountedBy, SameFrom, Still, Uncounted, counted-from, still-same}
 use Rattle.log_laws.proofs.Kept.Laters.{letter-later, streamed-later}
 use Rattle.log_laws.proofs.Kept.Moves.{Goes, Later, Unentered}
-use Rattle.log_laws.proofs.Kept.Grown.{grown-reach}
+use Rattle.log_laws.proofs.Kept.Grown.{grown-reach, enters-same}
 use Rattle.log_laws.proofs.Kept.Steady.{GoesOn, Steady, goes-on-same, shifted, steady-asks, steady-counted, steady-holds, steady-joiner, steady-joins, steady-keeps, steady-later, steady-member, steady-reigns}
 
 -- the state in which the site of slot i is this one, with these channels, with what is pending, and with the streams that were taken
@@ -408,8 +408,8 @@ same-uncounts js ks e n is = (n, subst (In n) e is, refl, refl)
 
 -- what holds of the state that a turn leads to in which nothing is sent
 pub becomes-goes : (S : LogState) (i : ℕ) (s : SiteState) (st : ℕ → ℕ → Option Streaming) → s.start ≡ start_at S i → s.view ≡ (S.sites i).view
-    → Holds (record S { sites = set_at S.sites i s; logs = record S.logs { streamed = st } }) → Goes S i (becomes s)
-becomes-goes S i s st start view h = record {
+    → length (log_at S i) ≤ length s.log → Holds (record S { sites = set_at S.sites i s; logs = record S.logs { streamed = st } }) → Goes S i (becomes s)
+becomes-goes S i s st start view longer h = record {
   logs = record S.logs { streamed = st };
   start = start;
   view = view;
@@ -417,4 +417,6 @@ becomes-goes S i s st start view h = record {
   holds = subst (λ c. Holds (record S { words = record S.words { channel = c }; sites = set_at S.sites i s; logs = record S.logs { streamed = st } }))
       (sym (sent-nothing S.words.channel (Site i))) h;
   grown = grown-reach S.words.deployment i s S.logs (record S.logs { streamed = st }) refl (λ p t. omega arith);
+  enters = enters-same i (length (log_at S i)) S.logs (record S.logs { streamed = st }) refl;
+  longer = longer;
 }

@@ -105,6 +105,8 @@ ordered-turns S i t g = record {
   plain = λ c. all-order NoStreamStart (t.sends (Site c)) (g.plain c);
   holds = order-holds S i t.state t.sends g.logs g.plain g.holds;
   grown = g.grown;
+  enters = g.enters;
+  longer = g.longer;
 }
 
 -- ---- what is sent last

@@ -2,7 +2,7 @@
 use Rattle.std.proofs.Common.{◌≡◌, Bool, true, false, List, ◌∷◌, ◌++◌, refl, sym, subst, ap, ◌∙◌, ◌==◌, arith}
 use Rattle.std.proofs.lemmas.Bool.{eqb-true, and_parts}
 use Rattle.std.proofs.lemmas.Bool.Decides.{nat_tests}
-use Rattle.std.specs.Prelude.{ℕ, ◌&&◌, if◌then◌else◌}
+use Rattle.std.specs.Prelude.{ℕ, ◌≤◌, ◌&&◌, length, if◌then◌else◌}
 use Rattle.std.specs.List.{AllByRecursion}
 use Rattle.volt_wire.specs.declared.actor.Actor.{Actor}
 use Rattle.volt_wire.specs.declared.actor.Actor.TheVariants.{Director, Client, Agent, Site, Scanner}
@@ -15,9 +15,9 @@ use Rattle.word_laws.proofs.Lists.{all-append, all-at, all-from, all-mono, eqb-s
 use Rattle.word_laws.proofs.Moves as word_moves
 use Rattle.word_laws.proofs.Steps as word_steps
 use Rattle.word_laws.proofs.Channels.{sent-nothing, sent-twice}
-use Rattle.log_laws.specs.Histories.{LogState, Logs, Holds, IsSlot, SiteLetterOk, ForeignOk, ToldOk, LoadsOk, ViewsOk, start_at, between}
-use Rattle.log_laws.proofs.Kept.Moves.{after, popped, Later, Grown, Turns, Goes, NoStreamStart}
-use Rattle.log_laws.proofs.Kept.Grown.{grown-same, grown-then}
+use Rattle.log_laws.specs.Histories.{LogState, Logs, Holds, IsSlot, SiteLetterOk, ForeignOk, ToldOk, LoadsOk, ViewsOk, start_at, log_at, between}
+use Rattle.log_laws.proofs.Kept.Moves.{after, popped, Later, Grown, Enters, Turns, Goes, NoStreamStart}
+use Rattle.log_laws.proofs.Kept.Grown.{grown-same, grown-then, enters-same, enters-then}
 use Rattle.log_laws.proofs.Kept.Laters.{loads-later}
 use Rattle.log_laws.proofs.Kept.KeepsViews.{foreign-later, views-keeps}
 
@@ -179,6 +179,18 @@ then-grown : (S : LogState) (i : ℕ) (s : SiteState) (t : Turn SiteState) (out 
 then-grown S i s t out G r k = grown-then S.words.deployment i s t.state S.logs G r.logs
     (r.start ∙ ap (λ x. x.start) (here S i s out G)) (r.view ∙ ap (λ x. x.view) (here S i s out G)) k r.grown
 
+-- from the log that the first one left
+pub log-here : (S : LogState) (i : ℕ) (s : SiteState) (out : Sends) (G : Logs) → length (log_at (after S i s out G) i) ≡ length s.log
+log-here S i s out G = ap (λ x. length x.log) (here S i s out G)
+
+then-enters : (S : LogState) (i : ℕ) (s : SiteState) (t : Turn SiteState) (out : Sends) (G : Logs) (r : Goes (after S i s out G) i t) → length (log_at S i) ≤ length s.log
+    → Enters i (length (log_at S i)) S.logs G → Enters i (length (log_at S i)) S.logs r.logs
+then-enters S i s t out G r longer k = let e = log-here S i s out G in
+    enters-then i (length (log_at S i)) (length (log_at (after S i s out G) i)) S.logs G r.logs (omega (arith, longer, e)) k r.enters
+
+pub then-longer : (S : LogState) (i : ℕ) (s : SiteState) (out : Sends) (G : Logs) (n : ℕ) → length (log_at S i) ≤ length s.log → length (log_at (after S i s out G) i) ≤ n → length (log_at S i) ≤ n
+then-longer S i s out G n low high = let e = log-here S i s out G in omega (arith, low, high, e)
+
 -- A further part of a turn, from the state after the first one.
 pub goes-then-after : (S : LogState) (i : ℕ) (t : Turn SiteState) (f : SiteState → Turn SiteState) (g : Goes S i t)
     → Goes (after S i t.state t.sends g.logs) i (f t.state) → Goes S i (t ▸ f)
@@ -189,6 +201,8 @@ goes-then-after S i t f g r = record {
   plain = λ c. all-append NoStreamStart (t.sends (Site c)) ((f t.state).sends (Site c)) (g.plain c) (r.plain c);
   holds = subst Holds (after-after S i t.state (f t.state).state t.sends (f t.state).sends g.logs r.logs) r.holds;
   grown = then-grown S i t.state (f t.state) t.sends g.logs r g.grown;
+  enters = then-enters S i t.state (f t.state) t.sends g.logs r g.longer g.enters;
+  longer = then-longer S i t.state t.sends g.logs (length (f t.state).state.log) g.longer r.longer;
 }
 
 pub turns-then-after : (S : LogState) (i : ℕ) (t : Turn SiteState) (f : SiteState → Turn SiteState) (g : Turns S i t)
@@ -199,6 +213,8 @@ turns-then-after S i t f g r = record {
   plain = λ c. all-append NoStreamStart (t.sends (Site c)) ((f t.state).sends (Site c)) (g.plain c) (r.plain c);
   holds = subst Holds (after-after S i t.state (f t.state).state t.sends (f t.state).sends g.logs r.logs) r.holds;
   grown = then-grown S i t.state (f t.state) t.sends g.logs r g.grown;
+  enters = then-enters S i t.state (f t.state) t.sends g.logs r g.longer g.enters;
+  longer = then-longer S i t.state t.sends g.logs (length (f t.state).state.log) g.longer r.longer;
 }
 
 -- from whatever state it is in which the site is what the first one made of it
@@ -212,7 +228,7 @@ pub turns-then-goes : (S : LogState) (i : ℕ) (t : Turn SiteState) (f : SiteSta
 turns-then-goes S i t f g k = turns-then-after S i t f g (k (after S i t.state t.sends g.logs) (here S i t.state t.sends g.logs) refl refl g.holds)
 
 pub goes-turns : (S : LogState) (i : ℕ) (t : Turn SiteState) → Goes S i t → Turns S i t
-goes-turns S i t g = record { logs = g.logs; start = g.start; plain = g.plain; holds = g.holds; grown = g.grown }
+goes-turns S i t g = record { logs = g.logs; start = g.start; plain = g.plain; holds = g.holds; grown = g.grown; enters = g.enters; longer = g.longer }
 
 -- a turn in which nothing happens
 pub goes-same : (S : LogState) (i : ℕ) → Holds S → Goes S i (becomes (S.sites i))
@@ -223,4 +239,6 @@ goes-same S i h = record {
   plain = λ c. tt;
   holds = subst Holds (sym (after-same S i)) h;
   grown = grown-same S.words.deployment i (S.sites i) S.logs;
+  enters = enters-same i (length (log_at S i)) S.logs S.logs refl;
+  longer = omega arith;
 }

@@ -1,6 +1,6 @@
 -- Turns of a site in which nothing changes that is looked at: what holds, holds after them.
-use Rattle.std.proofs.Common.{◌≡◌, Bool, true, false, List, [], ◌∷◌, ◌++◌, refl, ap, ◌∙◌, ◌==◌}
-use Rattle.std.specs.Prelude.{ℕ, ◌&&◌, ◌+◌, not, nat_lt, if◌then◌else◌, replicate, Option, Some, None}
+use Rattle.std.proofs.Common.{◌≡◌, Bool, true, false, List, [], ◌∷◌, ◌++◌, refl, ap, ◌∙◌, ◌==◌, arith}
+use Rattle.std.specs.Prelude.{ℕ, ◌&&◌, ◌+◌, not, nat_lt, if◌then◌else◌, replicate, Option, Some, None, length}
 use Rattle.std.specs.List.{AllByRecursion}
 use Rattle.volt_base.specs.declared.entry.Outcome.{Outcome}
 use Rattle.volt_wire.specs.declared.actor.Actor.{Actor}
@@ -14,9 +14,9 @@ use Rattle.cluster_model.specs.SiteState.{SiteState, AskedCall, Scanning, ForJoi
 use Rattle.cluster_model.specs.Site.{on_chunk, on_scan_end, tells, tells_initiator, standing, is_first_term, has_all_on_disk, initiator_in, shows, looked, on_look, on_power}
 use Rattle.cluster_model.specs.World.{sent}
 use Rattle.word_laws.proofs.Lists.{all-append, all-from, all-if, all-mono, set-both}
-use Rattle.log_laws.specs.Histories.{LogState, Holds, HeldOk, SiteLetterOk, ForeignOk, ToldOk, start_at, term_at, between, from_agent, line, line_of, flow, flow_of, ends, end_of, ask_of, asks_in, asks_waiting, asks_of_term, asked}
+use Rattle.log_laws.specs.Histories.{LogState, Holds, HeldOk, SiteLetterOk, ForeignOk, ToldOk, start_at, term_at, between, from_agent, line, line_of, flow, flow_of, ends, end_of, ask_of, asks_in, asks_waiting, asks_of_term, asked, log_at}
 use Rattle.log_laws.proofs.Kept.Moves.{after, NoStreamStart, Goes}
-use Rattle.log_laws.proofs.Kept.Grown.{grown-same}
+use Rattle.log_laws.proofs.Kept.Grown.{grown-same, enters-same}
 use Rattle.log_laws.proofs.Plain.Lines.{line-none, flow-none, ends-none, asks-none, line-same, flow-same, ends-same, asks-same, line-plain, flow-plain, ends-plain, asks-plain}
 use Rattle.log_laws.proofs.Kept.Asked.{AsksLess, at-most-is}
 use Rattle.log_laws.proofs.Kept.KeepsViews.{leaves-same}
@@ -234,6 +234,8 @@ quiet-goes S i t H u silent = record {
   plain = λ c. items S H i t.sends silent NoStreamStart c (λ l k. k.plain);
   holds = quiet-after S i t.state t.sends H u silent;
   grown = grown-same S.words.deployment i t.state S.logs;
+  enters = enters-same i (length (log_at S i)) S.logs S.logs refl;
+  longer = let e = ap length u.log in omega (arith, e);
 }
 
 -- one in which nothing is sent

@@ -15,7 +15,7 @@ use Rattle.word_laws.specs.Histories.{In, Distinct}
 use Rattle.word_laws.proofs.Lists.{not-both, in-none, in-map, in-map-from, all-append, all-mono, none-and-some, same-some, set-both}
 use Rattle.log_laws.specs.Histories.{LogState, Entered, Streaming, Reign, Flow, Holds, SiteOk, BeginsAt, WaitingOk, ReportOk, AskOk, from_agent, IsSlot, AckOk, CountedOk, IsCounted, HeldOk, MemberOk, JoinerOk, ViewIn, StreamIn, Quiet, Coming, KeepsOk, ViewsOk, ForeignOk, LoadsOk, ToldOk, SiteLetterOk, JoinsIn, line_in, flow_in, ask_in, line_of, flow_of, ask_of, asks_waiting, asks_of_term, line, flow, ends, asks_in, asked, follows, FollowsIn, part, start_at, log_at, term_at, between}
 use Rattle.log_laws.proofs.Kept.Moves.{after, Later, Goes, NoStreamStart, JoinsOn, SameReigns}
-use Rattle.log_laws.proofs.Kept.Grown.{grown-reach}
+use Rattle.log_laws.proofs.Kept.Grown.{grown-reach, enters-same}
 use Rattle.log_laws.proofs.Kept.Laters.{ack-later, report-later, ask-later, counted-later, letter-later, waiting-later-with, loads-later, entered-later, streamed-later, reigns-later, unleds-later}
 use Rattle.log_laws.proofs.Plain.Copies.{leader-same, leader-view}
 use Rattle.log_laws.proofs.Plain.Lines.{line-same, flow-same, ends-same, asks-same, line-none, flow-none, asks-none, line-plain, flow-plain, asks-plain}
@@ -502,4 +502,6 @@ module _ (S : LogState) (H : Holds S) (i : ℕ) where
       plain = λ c. all-mono (λ l. Plain l × SiteLetterOk S i c l) NoStreamStart (λ l k. k.0.3) (out (Site c)) (says.sites c);
       holds = rests-holds;
       grown = grown-reach S.words.deployment i s S.logs (record S.logs { reach = reach }) refl reaches.rises;
+      enters = enters-same i (length (log_at S i)) S.logs (record S.logs { reach = reach }) refl;
+      longer = let e = ap (λ x. length x.log) rests.is in omega (arith, e);
     }

@@ -2,7 +2,7 @@
 use Rattle.std.proofs.Common.{◌≡◌, ◌<◌, Bool, true, false, List, [], ◌∷◌, ◌++◌, refl, sym, subst, ap, ◌∙◌, ◌⊎◌, inl, inr, ◌==◌, arith}
 use Rattle.std.proofs.lemmas.Bool.{eqb-true, eqb-false}
 use Rattle.std.proofs.lemmas.Bool.Decides.{nat_tests}
-use Rattle.std.specs.Prelude.{ℕ, ◌||◌, nat_lt, if◌then◌else◌}
+use Rattle.std.specs.Prelude.{ℕ, ◌||◌, nat_lt, if◌then◌else◌, length}
 use Rattle.std.specs.List.{AllByRecursion}
 use Rattle.volt_wire.specs.declared.actor.Actor.{Actor}
 use Rattle.volt_wire.specs.declared.actor.Actor.TheVariants.{Director, Client, Agent, Site, Scanner}
@@ -13,9 +13,9 @@ use Rattle.cluster_model.specs.SiteState.{SiteState}
 use Rattle.cluster_model.specs.World.{set_at}
 use Rattle.word_laws.proofs.Channels.{took-all, sent-nothing}
 use Rattle.word_laws.proofs.Lists.{all-append, all-filter, set-same}
-use Rattle.log_laws.specs.Histories.{LogState, Holds, SiteLetterOk, ForeignOk, WaitingOk, IsSlot, Reached, start_at, term_at, from_agent, line, line_of, flow, flow_of, ends, end_of, line_in, flow_in, view_in, WaitingFrom, view_of, asks_of_term}
+use Rattle.log_laws.specs.Histories.{LogState, Holds, SiteLetterOk, ForeignOk, WaitingOk, IsSlot, Reached, start_at, term_at, from_agent, line, line_of, flow, flow_of, ends, end_of, line_in, flow_in, view_in, WaitingFrom, view_of, asks_of_term, log_at}
 use Rattle.log_laws.proofs.Kept.Moves.{after, popped, left, Later, Goes}
-use Rattle.log_laws.proofs.Kept.Grown.{grown-same}
+use Rattle.log_laws.proofs.Kept.Grown.{grown-same, enters-same}
 use Rattle.log_laws.proofs.Plain.Lines.{line-other, flow-other, views-other, line-plain, flow-plain, views-plain, both-empty}
 use Rattle.log_laws.proofs.Kept.Asked.{AsksLess, at-most-same, popped-less, left-less, parted-asks, waits-asks}
 use Rattle.log_laws.proofs.Kept.Keeps.{still-same}
@@ -294,6 +294,8 @@ module _ (S : LogState) (H : Holds S) (from : Actor) (i : ℕ) (l : Letter) (ls 
         })
         (waits-asks S from i l ls is S.logs);
     grown = grown-same S.words.deployment i keeping S.logs;
+    enters = enters-same i (length (log_at S i)) S.logs S.logs refl;
+    longer = omega arith;
   }
     where
       high : ((l.start ≡ 0) ⊎ (l.start ≡ start_at S i)) × (term_at S i < l.term)

@@ -1,5 +1,5 @@
 -- A slot's site stops, or a start of it begins to run: what holds, holds after it.
-use Rattle.std.proofs.Common.{◌≡◌, ◌<◌, Bool, true, false, List, [], ◌∷◌, ◌++◌, refl, sym, subst, ap, ◌∙◌, inl, inr, ◌==◌, arith}
+use Rattle.std.proofs.Common.{◌≡◌, ◌<◌, Bool, true, false, List, [], ◌∷◌, ◌++◌, refl, sym, subst, ap, ◌∙◌, inl, inr, ◌==◌, arith, ◌⊎◌}
 use Rattle.std.proofs.lemmas.Bool.{cases_eq, and_parts}
 use Rattle.std.proofs.lemmas.Bool.Decides.{nat_tests}
 use Rattle.std.specs.Prelude.{ℕ, ◌≤◌, ◌&&◌, if◌then◌else◌, max, nat_le, nat_lt, length, Some, None}
@@ -20,8 +20,8 @@ use Rattle.cluster_model.specs.Laws.{starts_in}
 use Rattle.word_laws.specs.Histories.{In}
 use Rattle.word_laws.proofs.Lists.{all-if, all-mono, not-both, same-some, set-both, set-here, set-there, set-twice}
 use Rattle.log_laws.specs.Histories.{LogState, Logs, Entered, Streaming, Holds, IsCounted, SiteLetterOk, ForeignOk, IsSlot, SiteOk, KeepsOk, ViewsOk, JoinerOk, FirstViews, Starting, part, start_at, log_at, term_at, between, from_agent, views, asks_in, asks_waiting, asks_of_term}
-use Rattle.log_laws.proofs.Kept.Moves.{Grown, after, popped, Later, SiteLater, Stays, SameReigns, JoinsOn}
-use Rattle.log_laws.proofs.Kept.Grown.{grown-same, grown-reach}
+use Rattle.log_laws.proofs.Kept.Moves.{Grown, Enters, after, popped, Later, SiteLater, Stays, SameReigns, JoinsOn}
+use Rattle.log_laws.proofs.Kept.Grown.{grown-same, grown-reach, enters-same}
 use Rattle.log_laws.proofs.Kept.Laters.{stays, same-reigns, ask-later-on, letter-later-with, end-later-if, loads-later, entered-later, streamed-later, reigns-later}
 use Rattle.log_laws.proofs.Plain.Lines.{if-none}
 use Rattle.log_laws.proofs.Kept.Asked.{AtMost, AsksLess, asks-at, at-most-both, at-most-same}
@@ -424,9 +424,10 @@ module _ (S : LogState) (H : Holds S) (i : ℕ) (l : Letter) (ls : List Letter) 
 
 -- ---- what a site does with Start and Stop, and when it stops of itself
 
--- after a turn, with what it adds to the history
+-- After a turn, with what it adds to the history. The site goes on with its start, or it has no word.
 abbrev pub After : LogState → ℕ → Turn SiteState → Type 0
-After S i t = (G : Logs) × Holds (after S i t.state t.sends G) × Grown S.words.deployment i t.state S.logs G
+After S i t = (G : Logs) × Holds (after S i t.state t.sends G) × Grown S.words.deployment i t.state S.logs G × Enters i (length (log_at S i)) S.logs G
+    × ((t.state.start ≡ start_at S i) ⊎ (t.state.view ≡ None))
 
 -- Stop to others of its host
 pub stops_others-silent : (D : Deployment) (h start : ℕ) (b : Actor) → AllByRecursion (Silent b) (stops_others D h start b)
@@ -446,6 +447,8 @@ stops_so-after S H i none D start contents = (
   S.logs,
   stops-holds S H i none (S.sites i).stop contents (S.sites i).plans (stops_so D i (S.sites i) start contents).sends (stops_so-silent D i (S.sites i) start contents),
   grown-same S.words.deployment i (stops_so D i (S.sites i) start contents).state S.logs,
+  enters-same i (length (log_at S i)) S.logs S.logs refl,
+  inr refl,
 )
 
 -- or it does so as it takes a message
@@ -456,6 +459,8 @@ stops_so-message S H from i l ls is none D start contents = (
   stops-message S H from i l ls is none (S.sites i).stop contents (S.sites i).plans (stops_so D i (S.sites i) start contents).sends
       (stops_so-silent D i (S.sites i) start contents),
   grown-same S.words.deployment i (stops_so D i (S.sites i) start contents).state S.logs,
+  enters-same i (length (log_at S i)) S.logs S.logs refl,
+  inr refl,
 )
 
 -- Stop comes to it.
@@ -471,11 +476,15 @@ on_stop-after S H from i l ls a is none = choice (nat_le (S.sites i).start a)
       S.logs,
       stops-message S H from i (record l { body = msg.Stop a }) ls is none (max (S.sites i).stop a) (S.sites i).contents (S.sites i).plans no_sends (λ b. tt),
       grown-same S.words.deployment i (stopped_site noted) S.logs,
+      enters-same i (length (log_at S i)) S.logs S.logs refl,
+      inr refl,
     )
     choice false = (
       S.logs,
       quiet-after (popped S from i) i noted no_sends (pops-kind S H from i (record l { body = msg.Stop a }) ls is tt) (unwatched (S.sites i) noted (λ k. k)) (λ b. tt),
       grown-same S.words.deployment i noted S.logs,
+      enters-same i (length (log_at S i)) S.logs S.logs refl,
+      inl refl,
     )
 
 -- Start comes to it, from its own agent.
@@ -492,5 +501,7 @@ on_start-after S H i l ls a is slot none = choice (nat_lt (S.sites i).start a &&
       record S.logs { ran = set_at S.logs.ran i (a ∷ S.logs.ran i) },
       starts-holds S H i l ls a is slot (grind (arith, nat_tests, above)) none,
       grown-reach S.words.deployment i (new_joiner (S.sites i) a) S.logs (record S.logs { ran = set_at S.logs.ran i (a ∷ S.logs.ran i) }) refl (λ p t. omega arith),
+      enters-same i (length (log_at S i)) S.logs (record S.logs { ran = set_at S.logs.ran i (a ∷ S.logs.ran i) }) refl,
+      inr refl,
     )
-    choice false e = let g = goes-same P i (pops-kind S H (Agent (host_of_slot S.words.deployment i)) i (record l { body = msg.Start a }) ls is tt) in (g.logs, g.holds, g.grown)
+    choice false e = let g = goes-same P i (pops-kind S H (Agent (host_of_slot S.words.deployment i)) i (record l { body = msg.Start a }) ls is tt) in (g.logs, g.holds, g.grown, g.enters, inl g.start)

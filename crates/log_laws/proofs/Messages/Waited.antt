@@ -1,7 +1,7 @@
 -- A site that has come to a term takes what waited for that, one after another: what holds, holds after it.
-use Rattle.std.proofs.Common.{◌≡◌, ◌<◌, List, [], ◌∷◌, sym, subst, ap, ◌∙◌, ◌==◌}
+use Rattle.std.proofs.Common.{◌≡◌, ◌<◌, List, [], ◌∷◌, sym, subst, ap, ◌∙◌, ◌==◌, arith}
 use Rattle.std.proofs.lemmas.Bool.{eqb-true}
-use Rattle.std.specs.Prelude.{ℕ}
+use Rattle.std.specs.Prelude.{ℕ, length}
 use Rattle.std.specs.List.{AllByRecursion}
 use Rattle.volt_wire.specs.declared.actor.Actor.TheVariants.{Site}
 use Rattle.cluster_model.specs.Engine.{Database}
@@ -10,10 +10,10 @@ use Rattle.cluster_model.specs.Letters.{Waiting, Turn, ◌▸◌, no_sends, of_t
 use Rattle.cluster_model.specs.SiteState.{SiteState, site_term}
 use Rattle.cluster_model.specs.Site.{site_row, takes_each, takes_waiting}
 use Rattle.word_laws.proofs.Lists.{all-append, all-from, in-filter, set-here, set-same, set-twice}
-use Rattle.log_laws.specs.Histories.{LogState, Holds, WaitingOk, start_at, term_at}
-use Rattle.log_laws.proofs.Kept.Moves.{after, left, Goes, NoStreamStart}
-use Rattle.log_laws.proofs.Kept.Grown.{grown-then}
-use Rattle.log_laws.proofs.Kept.Plumbing.{here, after-after, goes-same}
+use Rattle.log_laws.specs.Histories.{LogState, Holds, WaitingOk, start_at, log_at, term_at}
+use Rattle.log_laws.proofs.Kept.Moves.{after, left, Enters, Goes, NoStreamStart}
+use Rattle.log_laws.proofs.Kept.Grown.{grown-then, enters-then}
+use Rattle.log_laws.proofs.Kept.Plumbing.{here, after-after, log-here, then-longer, goes-same}
 use Rattle.log_laws.proofs.Messages.Pops.{takes-up-after}
 
 -- ---- what is left of what waited
@@ -36,6 +36,9 @@ left-then S i ws vs t f g r = record {
       (subst Holds (after-after (left (left S i ws) i vs) i t.state (f t.state).state t.sends (f t.state).sends g.logs r.logs) r.holds);
   grown = grown-then S.words.deployment i t.state (f t.state).state S.logs g.logs r.logs
       (r.start ∙ ap (λ x. x.start) (here (left S i ws) i t.state t.sends g.logs)) (r.view ∙ ap (λ x. x.view) (here (left S i ws) i t.state t.sends g.logs)) g.grown r.grown;
+  enters = let e = log-here (left S i ws) i t.state t.sends g.logs in let k = g.longer in
+      enters-then i (length (log_at S i)) (length (log_at (after (left S i ws) i t.state t.sends g.logs) i)) S.logs g.logs r.logs (omega (arith, e, k)) g.enters r.enters;
+  longer = then-longer (left S i ws) i t.state t.sends g.logs (length (f t.state).state.log) g.longer r.longer;
 }
 
 -- ---- one after another
@@ -82,6 +85,8 @@ module _ (E : Database) (D : Deployment) (stamp i : ℕ) where
     holds = subst (λ X. Holds (after X i t.state t.sends g.logs)) (left-left S i now [] ∙ left-same S i [] none)
         (subst Holds (after-after (left (left S i now) i []) i s t.state no_sends t.sends S.logs g.logs) g.holds);
     grown = g.grown;
+    enters = subst (λ n. Enters i n S.logs g.logs) (ap (λ x. length x.log) there) g.enters;
+    longer = let e = ap (λ x. length x.log) there in let k = g.longer in omega (arith, e, k);
   }
     where
       now : List Waiting

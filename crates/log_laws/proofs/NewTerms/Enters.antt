@@ -16,7 +16,7 @@ use Rattle.word_laws.specs.Histories.{In}
 use Rattle.word_laws.proofs.Lists.{none-and-some, same-some, all-filter, set-here, set-there, set-both}
 use Rattle.log_laws.specs.Histories.{LogState, Logs, Holds, Entered, Streaming, IsSlot, Front, known, EnteredOk, UnledOk, MemberOk, SiteOk, LeadsIn, FollowsIn, SiteLetterOk, AskOk, HasBeen, HeldOk, ForeignOk, part, start_at, log_at, term_at, between, line, line_of, flow_of, end_of, asks_of_term, asked}
 use Rattle.log_laws.proofs.Kept.Moves.{after, popped, Later, Stays, EntersNow, Turns, NoStreamStart}
-use Rattle.log_laws.proofs.Kept.Grown.{grown-reach}
+use Rattle.log_laws.proofs.Kept.Grown.{grown-reach, enters-later}
 use Rattle.log_laws.proofs.Kept.Laters.{been-later, stays, entered-later, same-reigns, reigns-later}
 use Rattle.log_laws.proofs.Plain.Lines.{line-none, line-same, line-plain, flow-none, flow-plain, ends-none, ends-plain, if-none}
 use Rattle.log_laws.proofs.Kept.Asked.{AtMost}
@@ -366,4 +366,6 @@ module _ (S : LogState) (H : Holds S) (h i : ℕ) (l : Letter) (w : Membership) 
     plain = λ c. says-all NoStreamStart c (λ _ _. tt);
     holds = enters-holds;
     grown = grown-reach D i s S.logs G refl later.reach;
+    enters = enters-later S T i later;
+    longer = omega arith;
   }

@@ -1,7 +1,7 @@
 -- A joiner takes its word, which doesn't count it: it asks its partition's leader to join.
 use Rattle.std.proofs.Common.{◌≡◌, ◌<◌, Bool, true, false, List, [], ◌∷◌, ◌++◌, append-nil, refl, sym, subst, ap, ◌∙◌, ◌⊎◌, inl, inr, ◌==◌, arith}
 use Rattle.std.proofs.lemmas.Bool.{cases_eq, eqb-true, eqb-false}
-use Rattle.std.specs.Prelude.{ℕ, ◌≤◌, filter, if◌then◌else◌, Option, Some, None}
+use Rattle.std.specs.Prelude.{ℕ, ◌≤◌, filter, if◌then◌else◌, Option, Some, None, length}
 use Rattle.std.specs.List.{AllByRecursion}
 use Rattle.volt_wire.specs.Word.{Membership}
 use Rattle.volt_wire.specs.declared.actor.Actor.{Actor}
@@ -15,9 +15,9 @@ use Rattle.cluster_model.specs.World.{sent}
 use Rattle.word_laws.specs.Histories.{In}
 use Rattle.word_laws.proofs.Lists.{none-and-some, same-some, not-both, all-at, all-filter, in-cases, in-none, in-map-from, in-filter, only-one, set-here, set-there, set-both}
 use Rattle.word_laws.proofs.Steps.{same-true}
-use Rattle.log_laws.specs.Histories.{LogState, Holds, IsSlot, Quiet, Untaken, Wordless, InWord, StreamIn, JoinerOk, SiteOk, ViewIn, SiteLetterOk, WaitingFrom, WaitingOk, AskOk, HeldOk, CountedOk, ForeignOk, line_of, flow_of, end_of, part, start_at, term_at, between, line, flow, ends, ask_in, ask_of, asks_in, wait_of, asks_waiting, asks_kept, asks_of_term, asked, follows}
+use Rattle.log_laws.specs.Histories.{LogState, Holds, IsSlot, Quiet, Untaken, Wordless, InWord, StreamIn, JoinerOk, SiteOk, ViewIn, SiteLetterOk, WaitingFrom, WaitingOk, AskOk, HeldOk, CountedOk, ForeignOk, line_of, flow_of, end_of, part, start_at, term_at, between, line, flow, ends, ask_in, ask_of, asks_in, wait_of, asks_waiting, asks_kept, asks_of_term, asked, follows, log_at}
 use Rattle.log_laws.proofs.Kept.Moves.{after, popped, Later, Turns, NoStreamStart}
-use Rattle.log_laws.proofs.Kept.Grown.{grown-same}
+use Rattle.log_laws.proofs.Kept.Grown.{grown-same, enters-same}
 use Rattle.log_laws.proofs.Kept.Laters.{ask-later, stays, entered-later, same-reigns, reigns-later, unleds-later}
 use Rattle.log_laws.proofs.Plain.Lines.{flat-in, line-none, line-same, line-plain, flow-none, flow-same, flow-plain, ends-none, ends-same, ends-plain, asks-append, asks-here, if-none}
 use Rattle.log_laws.proofs.Kept.Asked.{AtMost, at-most-both, at-most-same, at-most-none}
@@ -436,4 +436,6 @@ module _ (S : LogState) (H : Holds S) (h i : ℕ) (l : Letter) (w : Membership) 
     plain = λ c. asks-all i D s NoStreamStart (leader D w (part S i)) c (λ _ _. tt);
     holds = joins-holds;
     grown = grown-same D i s S.logs;
+    enters = enters-same i (length (log_at S i)) S.logs S.logs refl;
+    longer = omega arith;
   }

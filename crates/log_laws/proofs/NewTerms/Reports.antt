@@ -18,8 +18,9 @@ use Rattle.word_laws.proofs.Hearings.{then-assoc}
 use Rattle.log_laws.specs.Histories.{LogState, Holds, IsSlot, ReportOk, AckOk, CountedOk, AskOk, KeepsOk, SiteOk, IsCounted, JoinsIn, WaitingOk, from_agent, part, start_at, log_at, term_at, between, asked, asks_in, asks_waiting, asks_of_term}
 use Rattle.log_laws.proofs.Kept.Terms.{running-slot}
 use Rattle.log_laws.proofs.Kept.Moves.{Grown, after, Later, JoinsOn, Goes, NoStreamStart}
-use Rattle.log_laws.proofs.Kept.Grown.{grown-same}
+use Rattle.log_laws.proofs.Kept.Grown.{grown-same, enters-same}
 use Rattle.log_laws.proofs.Kept.Laters.{ack-later, counted-later, report-later, ask-later, stays, entered-later, same-reigns, reigns-later, unleds-later}
+use Rattle.log_laws.proofs.Plain.Fronts.{front-append, front-length}
 use Rattle.log_laws.proofs.Plain.Lines.{repair-all}
 use Rattle.log_laws.proofs.Plain.Appends.{Appended, appends-all}
 use Rattle.log_laws.proofs.Plain.Copies.{leader-view, leader-same, is-leader}
@@ -62,6 +63,8 @@ module _ (E : Database) (S : LogState) (i stamp : ℕ) (H : Holds S) (up : 0 < s
         (begun-holds S H i has.1.0 up has.0 has.1.1 leading unrepaired all app.scans app.scanning out sends (λ h. ap (λ z. z ++ []) (app.quiet (Agent h) refl)));
     grown = subst (λ z. Grown D i z S.logs (record S.logs { reign = begun_reigns S i (term_of has.1.0) })) (sym state)
         (begun-grown S H i has.1.0 up has.0 has.1.1 leading unrepaired all app.scans app.scanning out sends (λ h. ap (λ z. z ++ []) (app.quiet (Agent h) refl)));
+    enters = enters-same i (length (log_at S i)) S.logs (record S.logs { reign = begun_reigns S i (term_of has.1.0) }) refl;
+    longer = subst (λ z. length (log_at S i) ≤ length z.log) (sym state) (front-length (log_at S i) (log_at S i ++ es) (front-append (log_at S i) es));
   }
     where
       D : Deployment
@@ -234,6 +237,8 @@ on_report-goes E S H i stamp slot position floor tail up ok = choice (is_leader 
       holds = noted-holds S H i up more.reports (all-append (λ r. ReportOk S (part S i) r.slot (term_at S i) r.position r.floor r.tail) (S.sites i).reports
           (record { slot = slot; position = position; floor = floor; tail = tail } ∷ []) ((H.sites i).keeps up).reports (ok, tt));
       grown = grown-same D i more S.logs;
+      enters = enters-same i (length (log_at S i)) S.logs S.logs refl;
+      longer = omega arith;
     }
 
     choice : (b : Bool) → (is_leader D i (S.sites i) && not (S.sites i).repaired) ≡ b → Goes S i (if b then repairs E D i stamp more else becomes (S.sites i))

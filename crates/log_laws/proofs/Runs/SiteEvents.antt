@@ -1,5 +1,5 @@
 -- A site takes a message, or syncs: all holds after it.
-use Rattle.std.proofs.Common.{◌≡◌, ◌<◌, Bool, true, false, List, [], ◌∷◌, ◌++◌, refl, sym, subst, ap, ◌==◌, arith}
+use Rattle.std.proofs.Common.{◌≡◌, ◌<◌, Bool, true, false, List, [], ◌∷◌, ◌++◌, refl, sym, subst, ap, ◌==◌, arith, inl}
 use Rattle.std.proofs.lemmas.Bool.{eqb-true}
 use Rattle.std.proofs.lemmas.Bool.Decides.{nat_tests}
 use Rattle.std.specs.Prelude.{ℕ, take, if◌then◌else◌}
@@ -27,7 +27,7 @@ use Rattle.log_laws.proofs.Runs.SiteTurns.{taken-after, settled-after}
 -- ---- a site takes a message
 
 goes-after : (S : LogState) (i : ℕ) (t : Turn SiteState) → Goes S i t → After S i t
-goes-after S i t g = (g.logs, g.holds, g.grown)
+goes-after S i t g = (g.logs, g.holds, g.grown, g.enters, inl g.start)
 
 module _ (E : Database) (stamp : ℕ) (S : LogState) (H : Holds S) (i : ℕ) (slot : IsSlot S i) (none : S.pending i ≡ []) (from : Actor) (l : Letter) (ls : List Letter)
     (is : S.words.channel from (Site i) ≡ l ∷ ls) where

@@ -1,5 +1,5 @@
 -- The turn of a site that takes a message: its row, then what waited for its term, and then what settles.
-use Rattle.std.proofs.Common.{◌≡◌, ◌<◌, List, [], ◌∷◌, sym, subst, ap, ◌∙◌}
+use Rattle.std.proofs.Common.{◌≡◌, ◌<◌, List, [], ◌∷◌, sym, subst, ap, ◌∙◌, inl}
 use Rattle.std.specs.Prelude.{ℕ}
 use Rattle.volt_wire.specs.declared.actor.Actor.{Actor}
 use Rattle.volt_wire.specs.declared.actor.Actor.TheVariants.{Site}
@@ -50,6 +50,8 @@ asks-after E S i t up k =
       o.logs,
       subst Holds (after-after S i t.state a.state (ordered t).sends a.sends o.logs o.logs) r.holds,
       grown-on D i t.state a.state S.logs o.logs (r.start ∙ ap (λ s. s.start) site) (r.view ∙ ap (λ s. s.view) site) o.grown,
+      o.enters,
+      inl (r.start ∙ ap (λ s. s.start) site ∙ k.start),
     )
 
 -- ---- turns

@@ -1,0 +1,5 @@
+-- The rows of an agent, and its whole turn.
+pub mod AgentRows
+pub mod AgentTurns
+pub mod AgentWaits
+pub mod AgentEvents

@@ -1,0 +1,289 @@
+-- An agent takes a message: what holds of transactions, holds after all that it does then.
+use Rattle.std.proofs.Common.{◌≡◌, ◌+◌, ◌<◌, Bool, true, false, List, [], ◌∷◌, ◌++◌, inl, inr, refl, sym, subst, ap, ◌∙◌, ◌==◌, arith}
+use Rattle.std.proofs.lemmas.Bool.{cases_Bool, cases_eq}
+use Rattle.std.proofs.lemmas.Bool.Decides.{nat_tests}
+use Rattle.std.specs.Prelude.{ℕ, ◌≤◌, nat_lt, Some}
+use Rattle.std.specs.List.{AllByRecursion}
+use Rattle.volt_wire.specs.Word.{Membership}
+use Rattle.volt_wire.specs.declared.actor.Actor.{Actor}
+use Rattle.volt_wire.specs.declared.actor.Actor.TheVariants.{Director, Agent, Site}
+use Rattle.volt_wire.specs.declared.message.Msg.TheVariants as msg
+use Rattle.cluster_model.specs.Engine.{Database}
+use Rattle.cluster_model.specs.Words.{Deployment, slots, is_host, is_slot_of, term_of, term_in, initiator}
+use Rattle.cluster_model.specs.Letters.{Letter, Turn, becomes, open_letter, ◌▸◌, arrival, Arrival, Taken, Refused, Waits}
+use Rattle.cluster_model.specs.AgentState.{AgentState, new_agent, stops, stops_with_host}
+use Rattle.cluster_model.specs.Agent.{may_decide, agent_row, row_and_word, takes_waiting, agent_runs, agent_takes, agent_turn, start_after, on_start}
+use Rattle.cluster_model.specs.Outside.{Outside, Fair, DiskFails, NoMemory, DisksShow}
+use Rattle.word_laws.specs.Histories as word
+use Rattle.word_laws.specs.Histories.{In}
+use Rattle.word_laws.proofs.Lists.{all-append, all-if, not-both}
+use Rattle.word_laws.proofs.Members.{initiator-member}
+use Rattle.word_laws.proofs.Agreement.{member-is}
+use Rattle.word_laws.proofs.Moves as word_moves
+use Rattle.word_laws.proofs.Turns.{tells, concludes}
+use Rattle.word_laws.proofs.Arrivals.{Takes, Stops_, Ignores, Runs_, takes-cases, runs-taken, runs-waits, runs-refused, turn-cases, stopped-cases}
+use Rattle.word_laws.proofs.Hearings.{row-grows, agent-there, then-assoc, concludes-none}
+use Rattle.word_laws.proofs.AgentEvents.{row-event, none-waited, comes-first, start-of-body}
+use Rattle.log_laws.specs.Histories.{LogState, AskedOk, IsSlot, part, Holds}
+use Rattle.log_laws.proofs.Messages.Pops.{taken-for}
+use Rattle.log_laws.proofs.Agents.Views.{turned}
+use Rattle.log_laws.proofs.Agents.AgentTurns.{Rest, rest-of, holds-of, heard, rest-heard}
+use Rattle.log_laws.proofs.Agents.AgentWords.{concludes-agent}
+use Rattle.log_laws.proofs.Agents.AgentRows.{may-join, first-agent}
+use Rattle.log_laws.proofs.Agents.AgentEvents.{AgentGoes, first-asks, decided-pops, agent-event}
+use Rattle.disk_laws.specs.Disks.{Firm}
+use Rattle.transaction_laws.specs.Transactions.{Transactions, PhaseOk, AnswerOk, WaitingAnswer, CallsHold}
+use Rattle.transaction_laws.proofs.Kept.Moves.{NoOrder}
+use Rattle.transaction_laws.proofs.Initiators.Orders.{LaidOut}
+use Rattle.transaction_laws.proofs.Kept.Later.{books-later}
+use Rattle.transaction_laws.proofs.Kept.Worded.{aligned-later}
+use Rattle.transaction_laws.proofs.Agents.AgentTurns.{Mine, CallsRow, quiet-then, told-row, then-calls, concludes-calls, concludes-settled}
+use Rattle.transaction_laws.proofs.Agents.AgentWaits.{phase-same, waited-calls}
+
+-- after more events
+calls-later : (E : Database) (S : LogState) (F : Firm) (halted : Bool) (K : Transactions) (now stamp : ℕ) → now ≤ stamp → CallsHold E S F halted K now → CallsHold E S F halted K stamp
+calls-later E S F halted K now stamp l k = record {
+  books = books-later E S F K now stamp l k.books;
+  to_sites = k.to_sites;
+  to_agents = k.to_agents;
+  outside = k.outside;
+  sites = k.sites;
+  agents = k.agents;
+  halts = λ e shown s. let a = k.halts e shown s in (a.0, aligned-later E S.words.deployment now stamp l a.0 _ a.1);
+}
+
+-- The agent of host n took the first message from this actor, and that is its turn: what holds of words, sites, logs and
+-- transactions, holds after it.
+abbrev AgentCallsGo : Database → LogState → Firm → Bool → ℕ → ℕ → Actor → Turn AgentState → Type 0
+AgentCallsGo E S F halted stamp n from t =
+    (r : AgentGoes S n from t) × (L : Transactions) × CallsHold E (record S { words = word_moves.after (word_moves.popped S.words from n) n t.state t.sends r.history }) F halted L stamp
+
+module _ (E : Database) (S : LogState) (F : Firm) (halted : Bool) (K : Transactions) (stamp n : ℕ) (from : Actor) (lay : LaidOut S) (H : Holds S) (C : CallsHold E S F halted K stamp) where
+  abbrev a : AgentState
+  a = S.words.agents n
+
+  -- ---- turns in which the initiator's part stays, or the agent stops
+
+  -- the agent as it is
+  as-is : (b : AgentState) → b.start ≡ a.start → b.decided ≡ a.decided → b.initiating ≡ a.initiating → AllByRecursion (WaitingAnswer E S F K) b.waiting → Mine E S F K n b
+  as-is b start word part waits = record {
+    initiating = elim (C.agents n).initiating [
+      | inl q ↦ inl (ap (λ x. x.phase) part ∙ q.0, ap (λ x. x.work) part ∙ q.1, ap (λ x. x.next) part ∙ q.2)
+      | inr q ↦ inr (
+        q.0,
+        rw start q.1.runs,
+        word ∙ q.1.has_decided,
+        rw start q.1.initiates,
+        subst (λ i. PhaseOk E S F K (term_of q.0) b i.phase) (sym part) (phase-same E S F K (term_of q.0) a b a.initiating.phase part q.2),
+      )
+    ];
+    waiting = waits;
+  }
+
+  -- it stays, but for what waits
+  stays-go : (b : AgentState) → b.start ≡ a.start → b.decided ≡ a.decided → b.initiating ≡ a.initiating → AllByRecursion (WaitingAnswer E S F K) b.waiting
+      → AgentGoes S n from (becomes b) → AgentCallsGo E S F halted stamp n from (becomes b)
+  stays-go b start word part waits r = (
+    r,
+    K,
+    quiet-then E F halted stamp S H K C (Some from) n (becomes b) r.history r.grows (λ c. tt) (as-is b start word part waits)
+        (λ w x d init some is before. rw word (before (sym start ∙ is))),
+  )
+
+  -- it stops
+  stops-go : (t : Turn AgentState) → t.state ≡ new_agent 0 → ((c : ℕ) → AllByRecursion NoOrder (t.sends (Site c))) → AgentGoes S n from t → AgentCallsGo E S F halted stamp n from t
+  stops-go t z none r = (
+    r,
+    K,
+    quiet-then E F halted stamp S H K C (Some from) n t r.history r.grows none (rw z (record { initiating = inl (refl, refl, refl); waiting = tt }))
+        (λ w x d init some is before. let e : t.state.start ≡ 0 = ap (λ y. y.start) z in absurd (omega (arith, some, is, e))),
+  )
+
+  stops_with_host-plain : (k c : ℕ) → AllByRecursion NoOrder ((stops_with_host S.words.deployment n k).sends (Site c))
+  stops_with_host-plain k c = all-if NoOrder (is_slot_of S.words.deployment n c) (open_letter (msg.Stop k) ∷ []) [] (tt, tt) tt
+
+  -- A fresh start begins, of which no word is the initiator's.
+  starts-go : (s : ℕ) → (In s (S.words.history.began n) → ⊥) → AgentGoes S n from (on_start S.words.deployment n s) → AgentCallsGo E S F halted stamp n from (on_start S.words.deployment n s)
+  starts-go s fresh r = (
+    r,
+    K,
+    quiet-then E F halted stamp S H K C (Some from) n (on_start S.words.deployment n s) r.history r.grows (λ c. tt) (record { initiating = inl (refl, refl, refl); waiting = tt })
+        (λ w x d init some is before. absurd (fresh (named w x d init is))),
+  )
+    where
+      named : (w : Membership) (x : ℕ) → In w S.words.history.decided → initiator w ≡ Some (n, x) → s ≡ x → In s (S.words.history.began n)
+      named w x d init is =
+          let g = H.words.history.decided_good w d in
+          let m = member-is S.words H.words.history w n x g (initiator-member w n x init) in
+          subst (λ z. In z (S.words.history.began n)) (sym is) (subst (λ z. In x (S.words.history.began z)) m.2 (g.named_begun x m.0).began)
+
+-- ---- a message of its term
+
+-- of what comes from a site
+came-answer : (E : Database) (S : LogState) (F : Firm) (halted : Bool) (K : Transactions) (stamp n : ℕ) (from : Actor) (l : Letter) (ls : List Letter) → CallsHold E S F halted K stamp
+    → S.words.channel from (Agent n) ≡ l ∷ ls → (c : ℕ) → from ≡ Site c → IsSlot S c × AnswerOk E S F K (part S c) l
+came-answer E S F halted K stamp n from l ls C is c e = elim (cases_Bool (nat_lt c (slots S.words.deployment))) [
+  | inl slot ↦ (slot, (subst (AllByRecursion (AnswerOk E S F K (part S c))) here (C.to_agents c n slot)).0)
+  | inr out ↦ let none = C.outside c n (λ slot. not-both (nat_lt c (slots S.words.deployment)) slot out) in absurd (some-left (sym none ∙ here))
+]
+  where
+    here : S.words.channel (Site c) (Agent n) ≡ l ∷ ls
+    here = subst (λ f. S.words.channel f (Agent n) ≡ l ∷ ls) e is
+
+    some-left : [] ≡ l ∷ ls → ⊥
+    some-left q = absurd (cc)
+
+module _ (E : Database) (S : LogState) (F : Firm) (halted : Bool) (K : Transactions) (stamp n : ℕ) (from : Actor) (l : Letter) (ls : List Letter) (lay : LaidOut S) (H : Holds S)
+    (C : CallsHold E S F halted K stamp) (up : 0 < word.start_at S.words n) (is : S.words.channel from (Agent n) ≡ l ∷ ls)
+    (take : arrival (S.words.agents n).start (term_in (S.words.agents n).decided) l ≡ Taken) where
+  abbrev D : Deployment
+  D = S.words.deployment
+
+  abbrev agent : AgentState
+  agent = S.words.agents n
+
+  -- the state without the message
+  abbrev P : LogState
+  P = heard S from n
+
+  left : Rest P
+  left = rest-heard S from n (rest-of S H)
+
+  asks : AskedOk P from l
+  asks = first-asks S from n l ls (rest-of S H) is
+
+  -- its row, and what the agent says then
+  abbrev told : Turn AgentState
+  told = agent_row E D n stamp agent from l ▸ tells n agent.own
+
+  told-calls : CallsRow E F halted stamp P K n told
+  told-calls = told-row E F halted stamp S lay H K C (Some from) n from l
+      (first-agent P n left up E stamp from l asks (decided-pops S from n l ls H.words is) (row-event E S.words n stamp from l ls H.words up is take (may-join P n left up from l asks)))
+      (taken-for agent.start (term_in agent.decided) l take).1 (came-answer E S F halted K stamp n from l ls C is)
+
+  -- the word that it may decide
+  concluded-calls : CallsRow E F halted stamp P K n (told ▸ concludes D n)
+  concluded-calls = then-calls E F halted stamp P K n told (concludes D n) told-calls (concludes-none D n)
+      (λ k q c u. let T = turned P n told.state told.sends told-calls.row.row.history in
+      concludes-calls E F halted stamp T (holds-of T k q) told-calls.after c n u (concludes-agent T n k q u))
+
+  -- a row with all that follows, and then those that waited
+  abbrev whole : Turn AgentState
+  whole = row_and_word E D n stamp agent from l
+
+  whole-is : told ▸ concludes D n ≡ whole
+  whole-is = then-assoc (agent_row E D n stamp agent from l) (tells n agent.own) (concludes D n)
+
+  whole-calls : CallsRow E F halted stamp P K n whole
+  whole-calls = subst (CallsRow E F halted stamp P K n) whole-is concluded-calls
+
+  whole-settled : may_decide n whole.state whole.state.own ≡ false
+  whole-settled = subst (λ t. may_decide n t.state t.state.own ≡ false) whole-is (concludes-settled D n told.state)
+
+  taken-calls : CallsRow E F halted stamp P K n (whole ▸ takes_waiting E D n stamp)
+  taken-calls = then-calls E F halted stamp P K n whole (takes_waiting E D n stamp) whole-calls (none-waited E D n stamp)
+      (λ k q c u. waited-calls E F halted stamp n (turned P n whole.state whole.sends whole-calls.row.row.history) lay k q whole-calls.after c u
+      (subst (λ b. may_decide n b b.own ≡ false) (sym (agent-there P.words n whole.state whole.sends whole-calls.row.row.history)) whole-settled))
+
+  taken-go : AgentCallsGo E S F halted stamp n from (whole ▸ takes_waiting E D n stamp)
+  taken-go = (
+    record {
+      history = taken-calls.row.row.history;
+      grows = row-grows taken-calls.row.row;
+      goes = elim taken-calls.row.row.goes [
+        | inl e ↦ inl e.0
+        | inr z ↦ inr (ap (λ b. b.own) z)
+      ];
+      by = taken-calls.row.row.by;
+      holds = holds-of (turned P n (whole ▸ takes_waiting E D n stamp).state (whole ▸ takes_waiting E D n stamp).sends taken-calls.row.row.history) taken-calls.row.row.holds taken-calls.row.rest;
+    },
+    taken-calls.after,
+    taken-calls.calls,
+  )
+
+-- ---- the whole
+
+module _ (E : Database) (S : LogState) (F : Firm) (halted : Bool) (K : Transactions) (stamp n : ℕ) (from : Actor) (l : Letter) (ls : List Letter) (lay : LaidOut S) (H : Holds S)
+    (C : CallsHold E S F halted K stamp) (is : S.words.channel from (Agent n) ≡ l ∷ ls) where
+  abbrev there : AgentState
+  there = S.words.agents n
+
+  abbrev Result : Turn AgentState → Type 0
+  Result t = AgentGoes S n from t → AgentCallsGo E S F halted stamp n from t
+
+  unchanged : Result (becomes there)
+  unchanged = stays-go E S F halted K stamp n from lay H C there refl refl refl (C.agents n).waiting
+
+  -- ---- of an agent that runs
+
+  module _ (up : 0 < word.start_at S.words n) where
+    running : (there.start == 0) ≡ false
+    running = grind (arith, nat_tests, up)
+
+    answers : WaitingAnswer E S F K (record { from = from; letter = l })
+    answers = elim from as (λ f. ((c : ℕ) → f ≡ Site c → IsSlot S c × AnswerOk E S F K (part S c) l) → WaitingAnswer E S F K (record { from = f; letter = l })) [
+      | Site c ↦ λ k. k c refl
+      | f ↦ λ k. tt
+    ] (came-answer E S F halted K stamp n from l ls C is)
+
+    waits : Result (becomes (record there { waiting = there.waiting ++ record { from = from; letter = l } ∷ [] }))
+    waits = stays-go E S F halted K stamp n from lay H C (record there { waiting = there.waiting ++ record { from = from; letter = l } ∷ [] }) refl refl refl
+        (all-append (WaitingAnswer E S F K) there.waiting (record { from = from; letter = l } ∷ []) (C.agents n).waiting (answers, tt))
+
+    runs : (x : Arrival) → arrival there.start (term_in there.decided) l ≡ x → Result (agent_runs E S.words.deployment n stamp there from l)
+    runs Taken e r = subst (AgentCallsGo E S F halted stamp n from) (sym (runs-taken E S.words.deployment n stamp there from l e))
+        (taken-go E S F halted K stamp n from l ls lay H C up is e)
+    runs Waits e r = subst Result (sym (runs-waits E S.words.deployment n stamp there from l e)) waits r
+    runs Refused e r = subst Result (sym (runs-refused E S.words.deployment n stamp there from l e)) unchanged r
+
+    takes : Takes E S.words.deployment n stamp there from l → Result (agent_takes E S.words.deployment n stamp there from l)
+    takes (Stops_ e) r = subst Result (sym e) (stops-go E S F halted K stamp n from lay H C (stops S.words.deployment n there.start) refl (λ c. tt)) r
+    takes (Ignores e c) r = subst Result (sym e) unchanged r
+    takes (Runs_ e c) r = subst Result (sym e) (runs (arrival there.start (term_in there.decided) l) refl) r
+
+    running-go : (o : Outside) → Result (agent_turn E S.words.deployment n stamp there from l o)
+    running-go o r = elim (turn-cases E S.words.deployment n stamp there from l o running) [
+      | inl e ↦ subst Result (sym e)
+          (stops-go E S F halted K stamp n from lay H C (stops_with_host S.words.deployment n there.start) refl (stops_with_host-plain E S F halted K stamp n from lay H C there.start)) r
+      | inr e ↦ subst Result (sym e) (takes (takes-cases E S.words.deployment n stamp there from l running)) r
+    ]
+
+  -- ---- of one that is stopped
+
+  module _ (z : word.start_at S.words n ≡ 0) where
+    -- the start that comes to it hasn't begun
+    fresh : (s : ℕ) → from ≡ Director → l.body ≡ msg.Start s → In s (S.words.history.began n) → ⊥
+    fresh s f b = (subst (AllByRecursion (λ x. In x (S.words.history.began n) → ⊥))
+        (comes-first S.words n s l ls (subst (λ x. S.words.channel x (Agent n) ≡ l ∷ ls) f is) (start-of-body l s b)) (H.words.hosts n).fresh).0
+
+    stopped-takes : Result (agent_takes E S.words.deployment n stamp there from l)
+    stopped-takes r = elim (stopped-cases E S.words.deployment n stamp there from l (subst (λ x. (x == 0) ≡ true) (sym z) refl)) [
+      | inl e ↦ subst Result (sym e) unchanged r
+      | inr c ↦ subst Result (sym c.1.2) (starts-go E S F halted K stamp n from lay H C c.1.0 (fresh c.1.0 c.0 c.1.1)) r
+    ]
+
+    stopped-go : (o : Outside) → Result (agent_turn E S.words.deployment n stamp there from l o)
+    stopped-go Fair = stopped-takes
+    stopped-go (DiskFails answered) = stopped-takes
+    stopped-go (NoMemory answered) =
+        stops-go E S F halted K stamp n from lay H C (stops_with_host S.words.deployment n (start_after there from l)) refl
+        (stops_with_host-plain E S F halted K stamp n from lay H C (start_after there from l))
+    stopped-go (DisksShow shown failed) = stopped-takes
+
+-- A message of an agent that is there, with any share of the outside's: what holds of transactions, holds after its turn.
+pub agent-calls : (E : Database) (S : LogState) (F : Firm) (halted : Bool) (K : Transactions) (now n : ℕ) (from : Actor) (l : Letter) (ls : List Letter) (o : Outside)
+    → LaidOut S → Holds S → CallsHold E S F halted K now → S.words.channel from (Agent n) ≡ l ∷ ls → is_host S.words.deployment n ≡ true
+    → ((answered : ℕ) → o ≡ NoMemory answered → nat_lt 0 (start_after (S.words.agents n) from l) ≡ true)
+    → let t = agent_turn E S.words.deployment n (now + 1) (S.words.agents n) from l o in
+    (r : AgentGoes S n from t) × (L : Transactions)
+    × CallsHold E (record S { words = word_moves.after (word_moves.popped S.words from n) n t.state t.sends r.history }) F halted L (now + 1)
+agent-calls E S F halted K now n from l ls o lay H k is host memory = elim (cases_eq (word.start_at S.words n) 0) [
+  | inl z ↦ stopped-go E S F halted K (now + 1) n from l ls lay H C is z o goes
+  | inr u ↦ running-go E S F halted K (now + 1) n from l ls lay H C is (omega (arith, u)) o goes
+]
+  where
+    C : CallsHold E S F halted K (now + 1)
+    C = calls-later E S F halted K now (now + 1) (omega arith) k
+
+    goes : AgentGoes S n from (agent_turn E S.words.deployment n (now + 1) (S.words.agents n) from l o)
+    goes = agent-event E S n (now + 1) from l ls o is host memory H

@@ -1,0 +1,576 @@
+-- Turns of agents: what holds of transactions, holds after them.
+use Rattle.std.proofs.Common.{◌≡◌, ◌<◌, Bool, true, false, List, [], ◌∷◌, ◌++◌, append-nil, ◌⊎◌, inl, inr, refl, sym, subst, ap, ◌∙◌, ◌==◌, arith}
+use Rattle.std.proofs.lemmas.Bool.{cases_Bool, cases_eq, and_from, and_left, and_right, not_from_true}
+use Rattle.std.proofs.lemmas.Grind.{flat_map-append}
+use Rattle.std.specs.Prelude.{ℕ, ◌≤◌, ◌&&◌, ◌||◌, not, filter, if◌then◌else◌, Option, Some, None}
+use Rattle.std.specs.List.{AllByRecursion, list_all}
+use Rattle.volt_wire.specs.Word.{Membership}
+use Rattle.volt_wire.specs.declared.actor.Actor.{Actor}
+use Rattle.volt_wire.specs.declared.actor.Actor.TheVariants.{Agent, Site}
+use Rattle.volt_wire.specs.declared.message.Msg.TheVariants as msg
+use Rattle.cluster_model.specs.Engine.{Database}
+use Rattle.cluster_model.specs.Words.{Deployment, is_slot_of, is_in, term_of, term_in, same_word, members, is_member, initiator, leader, start_of_slot, is_down}
+use Rattle.cluster_model.specs.Letters.{same, Letter, Turn, becomes, ◌▸◌, letter_to, Waiting}
+use Rattle.cluster_model.specs.AgentState.{AgentState, Phase, Off, Hears, Closes, Idle, Works, new_agent, is_initiator_in, initiates}
+use Rattle.cluster_model.specs.Initiator.{with_phase}
+use Rattle.cluster_model.specs.Agent.{is_other_word, says, is_word, may_decide, decides_word, agent_row}
+use Rattle.cluster_model.specs.World.{took, rest}
+use Rattle.word_laws.specs.Histories as word
+use Rattle.word_laws.specs.Histories.{In, History}
+use Rattle.word_laws.proofs.Lists.{all-mono, all-append, all-if, same-some, not-both, eqb-same, set-there, set-both}
+use Rattle.word_laws.proofs.Algebra.{same_word-refl}
+use Rattle.word_laws.proofs.Members.{initiates-is}
+use Rattle.word_laws.proofs.Channels.{sent-both, took-all}
+use Rattle.word_laws.proofs.Moves.{Grows}
+use Rattle.word_laws.proofs.Turns.{tells, tells-state, concludes, concludes-not, concludes-is, decides-state}
+use Rattle.word_laws.proofs.Steps.{after-after}
+use Rattle.word_laws.proofs.Hearings.{Row, row-grows, agent-there, after-row, then-quiet}
+use Rattle.log_laws.specs.Histories.{LogState, Holds, WordOf, MemberOk, IsSlot, is_for, part, start_at}
+use Rattle.log_laws.proofs.Plain.Lines.{flat-none, if-none, for-false}
+use Rattle.log_laws.proofs.Kept.Terms.{same-word}
+use Rattle.log_laws.proofs.Agents.Views.{turned}
+use Rattle.log_laws.proofs.Agents.AgentTurns.{Rest, MayJoin, AgentRow}
+use Rattle.disk_laws.specs.Disks.{Firm}
+use Rattle.transaction_laws.specs.Transactions.{Transactions, Books, JobOk, PhaseOk, Initiates, AnswerOk, ToSiteOk, WaitingAnswer, SiteCalls, AgentCalls, CallsHold, orders, order_of}
+use Rattle.transaction_laws.proofs.Kept.Moves.{Onto, NoOrder, SentOrder, InitiatorGoes, OffGoes}
+use Rattle.transaction_laws.proofs.Kept.Later.{answer-on, to_site-on, books-worded}
+use Rattle.transaction_laws.proofs.Initiators.Orders.{LaidOut}
+use Rattle.transaction_laws.proofs.Agents.AgentRows.{row-initiates, row-off}
+use Rattle.transaction_laws.proofs.Kept.Worded.{onto-worded, phase-worded, shows-worded}
+use Rattle.transaction_laws.proofs.Initiators.InitiatorWords.{one-initiator, has-decided, before-below, stays-initiator, decides-heard}
+
+-- ---- messages under way to an agent
+
+-- all of them, or without the first one from this actor, which it takes
+abbrev pub left : (Actor → Actor → List Letter) → Option Actor → ℕ → Actor → Actor → List Letter
+left channel None n = channel
+left channel (Some from) n = took channel from (Agent n)
+
+abbrev pub base : LogState → Option Actor → ℕ → LogState
+base S o n = record S { words = record S.words { channel = left S.words.channel o n } }
+
+left-sites : (channel : Actor → Actor → List Letter) (o : Option Actor) (n h c : ℕ) → left channel o n (Agent h) (Site c) ≡ channel (Agent h) (Site c)
+left-sites channel None n h c = refl
+left-sites channel (Some from) n h c = refl
+
+left-all : (P : Letter → Type 0) (channel : Actor → Actor → List Letter) (o : Option Actor) (n : ℕ) (a b : Actor) → AllByRecursion P (channel a b) → AllByRecursion P (left channel o n a b)
+left-all P channel None n a b k = k
+left-all P channel (Some from) n a b k = took-all P channel from (Agent n) a b k
+
+left-none : (channel : Actor → Actor → List Letter) (o : Option Actor) (n : ℕ) (a b : Actor) → channel a b ≡ [] → left channel o n a b ≡ []
+left-none channel None n a b e = e
+left-none channel (Some from) n a b e = choice (same (Agent n) b && same from a)
+  where
+    choice : (c : Bool) → (if c then rest (channel a b) else channel a b) ≡ []
+    choice true = ap rest e
+    choice false = e
+
+-- ---- what an agent is after its turn
+
+-- as an initiator, or none
+pub record Mine (E : Database) (S : LogState) (F : Firm) (L : Transactions) (n : ℕ) (a : AgentState) : Type 0 where
+  pub initiating :
+      ((a.initiating.phase ≡ Off) × (a.initiating.work ≡ None) × (a.initiating.next ≡ 0))
+      ⊎ ((w : Membership) × (0 < a.start) × (a.decided ≡ Some w) × (initiator w ≡ Some (n, a.start)) × PhaseOk E S F L (term_of w) a a.initiating.phase)
+  pub waiting : AllByRecursion (WaitingAnswer E S F L) a.waiting
+
+module _ (E : Database) (F : Firm) (halted : Bool) (stamp : ℕ) (S : LogState) (H : Holds S) (K : Transactions) (C : CallsHold E S F halted K stamp)
+    (o : Option Actor) (n : ℕ) (t : Turn AgentState) (G : History) (grows : Grows S.words.history G) where
+  -- the state after it
+  abbrev T : LogState
+  T = turned (base S o n) n t.state t.sends G
+
+  -- What is due, once the agent has sent this.
+  abbrev DueThen : Transactions → ℕ → Type 0
+  DueThen L c = (v : Membership) → (S.sites c).joining ≡ None → (S.sites c).view ≡ Some v → leader S.words.deployment v (part S c) ≡ Some c
+      → (h a : ℕ) → initiator v ≡ Some (h, a) → orders (start_at S c) (term_of v) (T.words.channel (Agent h) (Site c)) ≡ L.due (part S c) (term_of v)
+
+  onto : Onto S T F F
+  onto = onto-worded S T.words.agents T.words.channel G grows.decided F
+
+  phase-then : (L : Transactions) (u : ℕ) (a : AgentState) (x : Phase) → PhaseOk E S F L u a x → PhaseOk E T F L u a x
+  phase-then L u a x k = phase-worded S T.words.agents T.words.channel G grows.decided E F L u a x k
+
+  -- ---- what others have, and what is under way
+
+  module _ (L : Transactions) (heard : K.heard ≤ L.heard) where
+    answers-then : (from : Transactions) → from.heard ≤ L.heard → (c : ℕ) (l : Letter) → AnswerOk E S F from (part S c) l → AnswerOk E T F L (part S c) l
+    answers-then from low c l k = answer-on E S T F F onto from L low (part S c) l k
+
+    pub waits-then : (from : Transactions) → from.heard ≤ L.heard → (x : Waiting) → WaitingAnswer E S F from x → WaitingAnswer E T F L x
+    waits-then from low x k = elim x.from as (λ a. WaitingAnswer E S F from (record x { from = a }) → WaitingAnswer E T F L (record x { from = a })) [
+      | Site c ↦ λ k. (k.0, answers-then from low c x.letter k.1)
+      | a ↦ λ k. tt
+    ] k
+
+    to_sites-then : ((c : ℕ) → IsSlot S c → AllByRecursion (ToSiteOk S n c) (t.sends (Site c))) → (h c : ℕ) → IsSlot S c → AllByRecursion (ToSiteOk T h c) (T.words.channel (Agent h) (Site c))
+    to_sites-then letters h c slot = sent-both (AllByRecursion (ToSiteOk T h c)) (left S.words.channel o n) n t.sends h (Site c)
+        (λ e. all-append (ToSiteOk T h c) (left S.words.channel o n (Agent h) (Site c)) (t.sends (Site c)) was
+        (subst (λ z. AllByRecursion (ToSiteOk T z c) (t.sends (Site c))) e (all-mono (ToSiteOk S n c) (ToSiteOk T n c) (to_site-on S T F F onto n c) (t.sends (Site c)) (letters c slot))))
+        (λ d. was)
+      where
+        was : AllByRecursion (ToSiteOk T h c) (left S.words.channel o n (Agent h) (Site c))
+        was = left-all (ToSiteOk T h c) S.words.channel o n (Agent h) (Site c)
+            (all-mono (ToSiteOk S h c) (ToSiteOk T h c) (to_site-on S T F F onto h c) (S.words.channel (Agent h) (Site c)) (C.to_sites h c slot))
+
+    to_agents-then : (c h : ℕ) → IsSlot S c → AllByRecursion (AnswerOk E T F L (part S c)) (T.words.channel (Site c) (Agent h))
+    to_agents-then c h slot = left-all (AnswerOk E T F L (part S c)) S.words.channel o n (Site c) (Agent h)
+        (all-mono (AnswerOk E S F K (part S c)) (AnswerOk E T F L (part S c)) (answers-then K heard c) (S.words.channel (Site c) (Agent h)) (C.to_agents c h slot))
+
+    site-then : (c : ℕ) → SiteCalls S K c → DueThen L c → SiteCalls T L c
+    site-then c k due = record {
+      waiting = k.waiting;
+      held = k.held;
+      orders = due;
+      counts = λ l. let r = k.counts l in record { counted = r.counted; joined = r.joined };
+      unrepaired = k.unrepaired;
+    }
+
+    -- the agent itself, and another one
+    mine-then : Mine E S F L n t.state → AgentCalls E T F L n
+    mine-then k = record {
+      initiating = elim k.initiating [
+        | inl q ↦ inl (ap (λ a. a.initiating.phase) here ∙ q.0, ap (λ a. a.initiating.work) here ∙ q.1, ap (λ a. a.initiating.next) here ∙ q.2)
+        | inr q ↦ inr (
+          q.0,
+          record { runs = rw here q.1; has_decided = rw here q.2; initiates = rw here q.3 },
+          subst (λ a. PhaseOk E T F L (term_of q.0) a a.initiating.phase) (sym here) (phase-then L (term_of q.0) t.state t.state.initiating.phase q.4),
+        )
+      ];
+      waiting = subst (λ a. AllByRecursion (WaitingAnswer E T F L) a.waiting) (sym here)
+          (all-mono (WaitingAnswer E S F L) (WaitingAnswer E T F L) (waits-then L (omega arith)) t.state.waiting k.waiting);
+    }
+      where
+        here : T.words.agents n ≡ t.state
+        here = agent-there (base S o n).words n t.state t.sends G
+
+    other-then : (h : ℕ) → (h ≡ n → ⊥)
+        → ((w : Membership) → Initiates S h w → PhaseOk E S F K (term_of w) (S.words.agents h) (S.words.agents h).initiating.phase
+        → PhaseOk E S F L (term_of w) (S.words.agents h) (S.words.agents h).initiating.phase) → AgentCalls E T F L h
+    other-then h d still = let k = C.agents h in record {
+      initiating = elim k.initiating [
+        | inl q ↦ inl (ap (λ a. a.initiating.phase) there ∙ q.0, ap (λ a. a.initiating.work) there ∙ q.1, ap (λ a. a.initiating.next) there ∙ q.2)
+        | inr q ↦ inr (
+          q.0,
+          record { runs = rw there q.1.runs; has_decided = rw there q.1.has_decided; initiates = rw there q.1.initiates },
+          subst (λ a. PhaseOk E T F L (term_of q.0) a a.initiating.phase) (sym there)
+              (phase-then L (term_of q.0) (S.words.agents h) (S.words.agents h).initiating.phase (still q.0 q.1 q.2)),
+        )
+      ];
+      waiting = subst (λ a. AllByRecursion (WaitingAnswer E T F L) a.waiting) (sym there)
+          (all-mono (WaitingAnswer E S F K) (WaitingAnswer E T F L) (waits-then K heard) (S.words.agents h).waiting k.waiting);
+    }
+      where
+        there : T.words.agents h ≡ S.words.agents h
+        there = set-there S.words.agents n t.state h d
+
+  -- ---- the whole
+
+  module _ (L : Transactions) (B : Books E S F L stamp) (heard : K.heard ≤ L.heard)
+      (own : (w : Membership) (a : ℕ) → In w S.words.history.decided → initiator w ≡ Some (n, a) → 0 < a → t.state.start ≡ a
+      → ((S.words.agents n).start ≡ a → L.heard ≤ term_in (S.words.agents n).decided) → L.heard ≤ term_in t.state.decided)
+      (letters : (c : ℕ) → IsSlot S c → AllByRecursion (ToSiteOk S n c) (t.sends (Site c)))
+      (due : (c : ℕ) → IsSlot S c → 0 < start_at S c → SiteCalls S K c → DueThen L c)
+      (mine : Mine E S F L n t.state)
+      (others : (h : ℕ) → (h ≡ n → ⊥) → (w : Membership) → Initiates S h w → PhaseOk E S F K (term_of w) (S.words.agents h) (S.words.agents h).initiating.phase
+      → PhaseOk E S F L (term_of w) (S.words.agents h) (S.words.agents h).initiating.phase) where
+    calls-then : CallsHold E T F halted L stamp
+    calls-then = record {
+      books = books-worded E S T F L stamp H refl refl refl grows.decided by B;
+      to_sites = to_sites-then L heard letters;
+      to_agents = to_agents-then L heard;
+      outside = λ c h out. left-none S.words.channel o n (Site c) (Agent h) (C.outside c h out);
+      sites = λ c slot up. let k = C.sites c slot up in site-then L heard c k (due c slot up k);
+      agents = λ h. elim (cases_eq h n) [
+        | inl e ↦ subst (AgentCalls E T F L) (sym e) (mine-then L heard mine)
+        | inr d ↦ other-then L heard h d (others h d)
+      ];
+      halts = λ e shown k. C.halts e shown (shows-worded S T.words.agents T.words.channel G grows.decided shown k);
+    }
+      where
+        by : (w : Membership) (h a : ℕ) → In w S.words.history.decided → initiator w ≡ Some (h, a) → 0 < a → (T.words.agents h).start ≡ a
+            → ((S.words.agents h).start ≡ a → L.heard ≤ term_in (S.words.agents h).decided) → L.heard ≤ term_in (T.words.agents h).decided
+        by w h a d init some is before = set-both (λ z x. initiator w ≡ Some (z, a) → x.start ≡ a
+            → ((S.words.agents z).start ≡ a → L.heard ≤ term_in (S.words.agents z).decided) → L.heard ≤ term_in x.decided)
+            S.words.agents n t.state (λ init is before. own w a d init some is before) (λ z q init is before. before is) h init is before
+
+-- ---- rounds and ends under way
+
+orders-append : (start term : ℕ) (xs ys : List Letter) → orders start term (xs ++ ys) ≡ orders start term xs ++ orders start term ys
+orders-append start term xs ys = flat_map-append (order_of start term) xs ys
+
+-- other messages are none
+no-order : (start term : ℕ) (l : Letter) → NoOrder l → order_of start term l ≡ []
+no-order start term l k = elim l.body as (λ m. NoOrder (record l { body = m }) → order_of start term (record l { body = m }) ≡ []) [
+  | msg.Frag m round body ↦ λ k. absurd k
+  | msg.Done m o ↦ λ k. absurd k
+  | m ↦ λ k. if-none (is_for start term l)
+] k
+
+no-orders : (start term : ℕ) (ls : List Letter) → AllByRecursion NoOrder ls → orders start term ls ≡ []
+no-orders start term ls k = flat-none (order_of start term) ls (all-mono NoOrder (λ l. order_of start term l ≡ []) (no-order start term) ls k)
+
+no-order-letter : (S : LogState) (n c : ℕ) (l : Letter) → NoOrder l → ToSiteOk S n c l
+no-order-letter S n c l k = elim l.body as (λ m. NoOrder (record l { body = m }) → ToSiteOk S n c (record l { body = m })) [
+  | msg.Frag m round body ↦ λ k. absurd k
+  | msg.Done m o ↦ λ k. absurd k
+  | m ↦ λ k. tt
+] k
+
+-- an initiator's, and that they are of its term
+sent-letter : (S : LogState) (n : ℕ) (w : Membership) (c : ℕ) (l : Letter) → SentOrder S n w c l → ToSiteOk S n c l
+sent-letter S n w c l k = elim l.body as (λ m. SentOrder S n w c (record l { body = m }) → ToSiteOk S n c (record l { body = m })) [
+  | msg.Frag m round body ↦ λ k. k.0
+  | msg.Done m o ↦ λ k. k.0
+  | m ↦ λ k. tt
+] k
+
+sent-elsewhere : (S : LogState) (n : ℕ) (w : Membership) (c start term : ℕ) → (term ≡ term_of w → ⊥) → (l : Letter) → SentOrder S n w c l → order_of start term l ≡ []
+sent-elsewhere S n w c start term d l k = elim l.body as (λ m. SentOrder S n w c (record l { body = m }) → order_of start term (record l { body = m }) ≡ []) [
+  | msg.Frag m round body ↦ λ k. rw (other k.1)
+  | msg.Done m o ↦ λ k. rw (other k.1)
+  | m ↦ λ k. if-none (is_for start term l)
+] k
+  where
+    other : l.term ≡ term_of w → is_for start term l ≡ false
+    other e = for-false start term l (λ a b. d (sym b ∙ e))
+
+-- what waits, with a later history
+waits-heard : (E : Database) (S : LogState) (F : Firm) (K L : Transactions) → K.heard ≤ L.heard → (x : Waiting) → WaitingAnswer E S F K x → WaitingAnswer E S F L x
+waits-heard E S F K L low x k = elim x.from as (λ a. WaitingAnswer E S F K (record x { from = a }) → WaitingAnswer E S F L (record x { from = a })) [
+  | Site c ↦ λ k. (k.0, answer-on E S S F F (onto-worded S S.words.agents S.words.channel S.words.history (λ w i. i) F) K L low (part S c) x.letter k.1)
+  | a ↦ λ k. tt
+] k
+
+-- a site that runs as a member of this word
+member-of : (S : LogState) → Holds S → (c : ℕ) → 0 < start_at S c → (v : Membership) → (S.sites c).joining ≡ None → (S.sites c).view ≡ Some v → MemberOk S c v
+member-of S H c up v joins view = let m = (H.sites c).member up joins in subst (MemberOk S c) (same-some (sym m.1 ∙ view)) m.2
+
+module _ (E : Database) (F : Firm) (halted : Bool) (stamp : ℕ) (S : LogState) (H : Holds S) (K : Transactions) (C : CallsHold E S F halted K stamp)
+    (o : Option Actor) (n : ℕ) (t : Turn AgentState) (G : History) (grows : Grows S.words.history G) where
+  -- ---- the turn of an initiator
+
+  module _ (w : Membership) (i : Initiates S n w) (g : InitiatorGoes E S F K stamp n w (S.words.agents n) t) where
+    abbrev L : Transactions
+    L = g.after
+
+    word-is : WordOf S (term_of w) w
+    word-is = record { decided = has-decided S.words H.words n w i.has_decided; term_is = refl }
+
+    -- What is due to the leader of its word is what it sends; elsewhere it is as it was.
+    due-initiates : (c : ℕ) → IsSlot S c → 0 < start_at S c → SiteCalls S K c → DueThen E F halted stamp S H K C o n t G grows L c
+    due-initiates c slot up k v joins view leads h a init = sent-both (λ ls. orders (start_at S c) (term_of v) ls ≡ L.due (part S c) (term_of v)) (left S.words.channel o n) n t.sends h (Site c)
+        (λ e. subst (λ z. orders (start_at S c) (term_of v) (left S.words.channel o n (Agent z) (Site c) ++ t.sends (Site c)) ≡ L.due (part S c) (term_of v)) e
+        (orders-append (start_at S c) (term_of v) (left S.words.channel o n (Agent n) (Site c)) (t.sends (Site c)) ∙ here e (cases_eq (term_of v) (term_of w))))
+        (λ d. was h refl ∙ there d (cases_eq (term_of v) (term_of w)))
+      where
+        m : MemberOk S c v
+        m = member-of S H c up v joins view
+
+        same : term_of v ≡ term_of w → v ≡ w
+        same e = same-word S H (term_of w) v w (record { decided = m.decided; term_is = e }) word-is
+
+        was : (z : ℕ) → z ≡ h → orders (start_at S c) (term_of v) (left S.words.channel o n (Agent z) (Site c)) ≡ K.due (part S c) (term_of v)
+        was z e = ap (orders (start_at S c) (term_of v)) (left-sites S.words.channel o n z c) ∙ k.orders v joins view leads z a (init ∙ ap (λ y. Some (y, a)) (sym e))
+
+        here : n ≡ h → (term_of v ≡ term_of w) ⊎ (term_of v ≡ term_of w → ⊥)
+            → orders (start_at S c) (term_of v) (left S.words.channel o n (Agent n) (Site c)) ++ orders (start_at S c) (term_of v) (t.sends (Site c)) ≡ L.due (part S c) (term_of v)
+        here e (inl q) = ap (λ xs. xs ++ orders (start_at S c) (term_of v) (t.sends (Site c))) (was n e)
+            ∙ subst (λ z. K.due (part S c) z ++ orders (start_at S c) z (t.sends (Site c)) ≡ L.due (part S c) z) (sym q)
+            (sym (g.sends.due c (start_at S c) slot (subst (λ z. leader S.words.deployment z (part S c) ≡ Some c) (same q) leads)
+            (subst (λ z. start_of_slot S.words.deployment z c ≡ Some (start_at S c)) (same q) m.start_is)))
+        here e (inr d) = ap (λ xs. xs ++ orders (start_at S c) (term_of v) (t.sends (Site c))) (was n e)
+            ∙ ap (λ xs. K.due (part S c) (term_of v) ++ xs) (flat-none (order_of (start_at S c) (term_of v)) (t.sends (Site c))
+            (all-mono _ _ (sent-elsewhere S n w c (start_at S c) (term_of v) d) (t.sends (Site c)) (g.sends.letters c slot)))
+            ∙ append-nil (K.due (part S c) (term_of v)) ∙ sym (g.sends.others (part S c) (term_of v) d)
+
+        there : (n ≡ h → ⊥) → (term_of v ≡ term_of w) ⊎ (term_of v ≡ term_of w → ⊥) → K.due (part S c) (term_of v) ≡ L.due (part S c) (term_of v)
+        there d (inl q) = absurd (d (ap (λ z. z.0) (same-some (sym i.initiates ∙ ap initiator (sym (same q)) ∙ init))))
+        there d (inr q) = sym (g.sends.others (part S c) (term_of v) q)
+
+    initiates-then : CallsHold E (turned (base S o n) n t.state t.sends G) F halted L stamp
+    initiates-then = calls-then E F halted stamp S H K C o n t G grows L g.books g.heard
+        (λ v a d init some is before. subst (λ d. L.heard ≤ term_in d) (sym g.decided) (before (sym g.start ∙ is)))
+        (λ c slot. all-mono _ _ (sent-letter S n w c) (t.sends (Site c)) (g.sends.letters c slot))
+        due-initiates
+        (record {
+          initiating = inr (w, subst (λ s. 0 < s) (sym g.start) i.runs, g.decided ∙ i.has_decided, i.initiates ∙ ap (λ a. Some (n, a)) (sym g.start), g.phase);
+          waiting = subst (AllByRecursion (WaitingAnswer E S F L)) (sym g.waiting)
+              (all-mono (WaitingAnswer E S F K) (WaitingAnswer E S F L) (waits-heard E S F K L g.heard) (S.words.agents n).waiting (C.agents n).waiting);
+        })
+        (λ h d v k. absurd (d (one-initiator S H.words h n v w k i)))
+
+  -- ---- a turn in which no round and no end is sent, and after which all that is due is as it was
+
+  due-quiet : ((c : ℕ) → AllByRecursion NoOrder (t.sends (Site c))) → (c : ℕ) → IsSlot S c → 0 < start_at S c → SiteCalls S K c → DueThen E F halted stamp S H K C o n t G grows K c
+  due-quiet none c slot up k v joins view leads h a init = sent-both (λ ls. orders (start_at S c) (term_of v) ls ≡ K.due (part S c) (term_of v)) (left S.words.channel o n) n t.sends h (Site c)
+      (λ e. orders-append (start_at S c) (term_of v) (left S.words.channel o n (Agent h) (Site c)) (t.sends (Site c))
+      ∙ ap (λ xs. orders (start_at S c) (term_of v) (left S.words.channel o n (Agent h) (Site c)) ++ xs) (no-orders (start_at S c) (term_of v) (t.sends (Site c)) (none c))
+      ∙ append-nil _ ∙ was)
+      (λ d. was)
+    where
+      was : orders (start_at S c) (term_of v) (left S.words.channel o n (Agent h) (Site c)) ≡ K.due (part S c) (term_of v)
+      was = ap (orders (start_at S c) (term_of v)) (left-sites S.words.channel o n h c) ∙ k.orders v joins view leads h a init
+
+  pub quiet-then : ((c : ℕ) → AllByRecursion NoOrder (t.sends (Site c))) → Mine E S F K n t.state
+      → ((w : Membership) (a : ℕ) → In w S.words.history.decided → initiator w ≡ Some (n, a) → 0 < a → t.state.start ≡ a
+      → ((S.words.agents n).start ≡ a → K.heard ≤ term_in (S.words.agents n).decided) → K.heard ≤ term_in t.state.decided)
+      → CallsHold E (turned (base S o n) n t.state t.sends G) F halted K stamp
+  quiet-then none mine own = calls-then E F halted stamp S H K C o n t G grows K C.books (omega arith) own
+      (λ c slot. all-mono _ _ (no-order-letter S n c) (t.sends (Site c)) (none c)) (due-quiet none) mine (λ h d w i k. k)
+
+  -- the row of one that isn't an initiator
+  off-then : OffGoes (S.words.agents n) t → CallsHold E (turned (base S o n) n t.state t.sends G) F halted K stamp
+  off-then g = quiet-then g.sends (record { initiating = inl (g.phase, g.work, g.next); waiting = waits g.kept }) (λ w a d init some is. own g.kept a some is)
+    where
+      waits : ((t.state ≡ new_agent 0) ⊎ ((t.state.start ≡ (S.words.agents n).start) × (t.state.decided ≡ (S.words.agents n).decided) × (t.state.waiting ≡ (S.words.agents n).waiting)))
+          → AllByRecursion (WaitingAnswer E S F K) t.state.waiting
+      waits (inl z) = rw z tt
+      waits (inr k) = rw k.2 (C.agents n).waiting
+
+      own : ((t.state ≡ new_agent 0) ⊎ ((t.state.start ≡ (S.words.agents n).start) × (t.state.decided ≡ (S.words.agents n).decided) × (t.state.waiting ≡ (S.words.agents n).waiting)))
+          → (a : ℕ) → 0 < a → t.state.start ≡ a → ((S.words.agents n).start ≡ a → K.heard ≤ term_in (S.words.agents n).decided) → K.heard ≤ term_in t.state.decided
+      own (inl z) a some is before = let e : t.state.start ≡ 0 = ap (λ x. x.start) z in absurd (omega (arith, some, is, e))
+      own (inr k) a some is before = rw k.1 (before (sym k.0 ∙ is))
+
+-- ---- what an agent says of a new word
+
+tells-sites : (n : ℕ) (before : Option Membership) (a : AgentState) (c : ℕ) → (tells n before a).sends (Site c) ≡ []
+tells-sites n before a c = choice (is_other_word before a.own) a.own
+  where
+    choice : (b : Bool) (own : Option Membership) → (if b then says n a own else becomes a).sends (Site c) ≡ []
+    choice true None = refl
+    choice true (Some w) = refl
+    choice false own = refl
+
+told-sites : (n : ℕ) (before : Option Membership) (t : Turn AgentState) (c : ℕ) → (t ▸ tells n before).sends (Site c) ≡ t.sends (Site c)
+told-sites n before t c = ap (λ xs. t.sends (Site c) ++ xs) (tells-sites n before t.state c) ∙ append-nil (t.sends (Site c))
+
+initiates-tells : (E : Database) (S : LogState) (F : Firm) (K : Transactions) (stamp n : ℕ) (w : Membership) (a : AgentState) (t : Turn AgentState) (before : Option Membership)
+    → InitiatorGoes E S F K stamp n w a t → InitiatorGoes E S F K stamp n w a (t ▸ tells n before)
+initiates-tells E S F K stamp n w a t before g = record {
+  after = g.after;
+  books = g.books;
+  heard = g.heard;
+  start = ap (λ x. x.start) same ∙ g.start;
+  decided = ap (λ x. x.decided) same ∙ g.decided;
+  waiting = ap (λ x. x.waiting) same ∙ g.waiting;
+  phase = subst (λ x. PhaseOk E S F g.after (term_of w) x x.initiating.phase) (sym same) g.phase;
+  sends = record {
+    letters = λ c slot. subst (AllByRecursion (SentOrder S n w c)) (sym (told-sites n before t c)) (g.sends.letters c slot);
+    due = λ c b slot leads start. g.sends.due c b slot leads start ∙ ap (λ xs. K.due (part S c) (term_of w) ++ orders b (term_of w) xs) (sym (told-sites n before t c));
+    others = g.sends.others;
+  };
+}
+  where
+    same : (tells n before t.state).state ≡ t.state
+    same = tells-state n before t.state
+
+off-tells : (a : AgentState) (n : ℕ) (t : Turn AgentState) (before : Option Membership) → OffGoes a t → OffGoes a (t ▸ tells n before)
+off-tells a n t before g = record {
+  phase = ap (λ x. x.initiating.phase) same ∙ g.phase;
+  work = ap (λ x. x.initiating.work) same ∙ g.work;
+  next = ap (λ x. x.initiating.next) same ∙ g.next;
+  sends = λ c. subst (AllByRecursion NoOrder) (sym (told-sites n before t c)) (g.sends c);
+  kept = elim g.kept [
+    | inl z ↦ inl (same ∙ z)
+    | inr k ↦ inr (ap (λ x. x.start) same ∙ k.0, ap (λ x. x.decided) same ∙ k.1, ap (λ x. x.waiting) same ∙ k.2)
+  ];
+}
+  where
+    same : (tells n before t.state).state ≡ t.state
+    same = tells-state n before t.state
+
+-- ---- turns that are one
+
+-- A turn of the agent of host n from a state: what holds of words, sites and logs, and of transactions.
+pub record CallsRow (E : Database) (F : Firm) (halted : Bool) (stamp : ℕ) (P : LogState) (K : Transactions) (n : ℕ) (t : Turn AgentState) : Type 0 where
+  pub row : AgentRow P n t
+  pub after : Transactions
+  pub heard : K.heard ≤ after.heard
+  pub calls : CallsHold E (turned P n t.state t.sends row.row.history) F halted after stamp
+
+-- One turn, and then another one of an agent that goes on. One that has stopped does nothing then.
+pub then-calls : (E : Database) (F : Firm) (halted : Bool) (stamp : ℕ) (P : LogState) (K : Transactions) (n : ℕ) (t : Turn AgentState) (f : AgentState → Turn AgentState)
+    (r : CallsRow E F halted stamp P K n t) → f (new_agent 0) ≡ becomes (new_agent 0)
+    → (let T = turned P n t.state t.sends r.row.row.history in word.Holds T.words → Rest T → CallsHold E T F halted r.after stamp → 0 < word.start_at T.words n
+    → CallsRow E F halted stamp T r.after n (f (T.words.agents n))) → CallsRow E F halted stamp P K n (t ▸ f)
+then-calls E F halted stamp P K n t f r silent g = elim r.row.row.goes [
+  | inl q ↦ both (subst (λ z. CallsRow E F halted stamp T r.after n (f z)) here (g r.row.row.holds r.row.rest r.calls (subst (λ x. 0 < x) (sym (ap (λ x. x.start) here ∙ q.0)) q.1)))
+  | inr z ↦ subst (CallsRow E F halted stamp P K n) (sym (then-quiet t f (ap f z ∙ silent ∙ ap becomes (sym z)))) r
+]
+  where
+    T : LogState
+    T = turned P n t.state t.sends r.row.row.history
+
+    here : T.words.agents n ≡ t.state
+    here = agent-there P.words n t.state t.sends r.row.row.history
+
+    both : CallsRow E F halted stamp T r.after n (f t.state) → CallsRow E F halted stamp P K n (t ▸ f)
+    both q = record {
+      row = record { row = k.0; rest = subst Rest one q.row.rest };
+      after = q.after;
+      heard = omega (arith, r.heard, q.heard);
+      calls = subst (λ x. CallsHold E x F halted q.after stamp) one q.calls;
+    }
+      where
+        k : (both : Row (MayJoin P) P.words n (t ▸ f)) × (both.history ≡ q.row.row.history)
+        k = after-row P.words n t f r.row.row q.row.row
+
+        one : turned T n (f t.state).state (f t.state).sends q.row.row.history ≡ turned P n (f t.state).state (λ b. t.sends b ++ (f t.state).sends b) k.0.history
+        one = ap (λ w. record P { words = w }) (after-after P.words n t.state (f t.state).state t.sends (f t.state).sends r.row.row.history q.row.row.history)
+            ∙ ap (turned P n (f t.state).state (λ b. t.sends b ++ (f t.state).sends b)) (sym k.1)
+
+-- ---- the row of a message, and what the agent says of a new word then
+
+pub told-row : (E : Database) (F : Firm) (halted : Bool) (stamp : ℕ) (S : LogState) → LaidOut S → Holds S → (K : Transactions) → CallsHold E S F halted K stamp
+    → (o : Option Actor) (n : ℕ) (from : Actor) (l : Letter)
+    → AgentRow (base S o n) n (agent_row E S.words.deployment n stamp (S.words.agents n) from l ▸ tells n (S.words.agents n).own)
+    → ((l.term ≡ 0) ⊎ (l.term ≡ term_in (S.words.agents n).decided)) → ((c : ℕ) → from ≡ Site c → IsSlot S c × AnswerOk E S F K (part S c) l)
+    → CallsRow E F halted stamp (base S o n) K n (agent_row E S.words.deployment n stamp (S.words.agents n) from l ▸ tells n (S.words.agents n).own)
+told-row E F halted stamp S lay H K C o n from l r term answer = elim (C.agents n).initiating [
+  | inl q ↦ record {
+    row = r;
+    after = K;
+    heard = omega arith;
+    calls = off-then E F halted stamp S H K C o n (t ▸ tells n a.own) r.row.history grows
+        (off-tells a n t a.own (row-off E S.words.deployment n stamp a from l q.0 q.1 q.2));
+  }
+  | inr q ↦ goes q.0 q.1 (initiates-tells E S F K stamp n q.0 a t a.own
+      (row-initiates E S F K stamp stamp n q.0 lay H C.books (omega arith) q.1 q.2 from l (subst (λ d. (l.term ≡ 0) ⊎ (l.term ≡ term_in d)) q.1.has_decided term) answer))
+]
+  where
+    a : AgentState
+    a = S.words.agents n
+
+    t : Turn AgentState
+    t = agent_row E S.words.deployment n stamp a from l
+
+    grows : Grows S.words.history r.row.history
+    grows = row-grows r.row
+
+    goes : (w : Membership) → Initiates S n w → InitiatorGoes E S F K stamp n w a (t ▸ tells n a.own) → CallsRow E F halted stamp (base S o n) K n (t ▸ tells n a.own)
+    goes w i g = record {
+      row = r;
+      after = g.after;
+      heard = g.heard;
+      calls = initiates-then E F halted stamp S H K C o n (t ▸ tells n a.own) r.row.history grows w i g;
+    }
+
+-- ---- a word is decided
+
+-- an initiator's job and its next number
+phase-job : (E : Database) (S : LogState) (F : Firm) (K : Transactions) (t : ℕ) (a : AgentState) (phase : Phase) → PhaseOk E S F K t a phase
+    → JobOk K a.initiating.work × (((a.initiating.next ≡ 0) × (a.initiating.work ≡ None)) ⊎ (K.number < a.initiating.next))
+phase-job E S F K t a Off k = absurd k
+phase-job E S F K t a (Hears told) k = (k.2, k.3)
+phase-job E S F K t a (Closes m parts finished) k = (k.2, inr k.3)
+phase-job E S F K t a Idle k = (rw k.1 tt, inr k.2)
+phase-job E S F K t a Works k = (rw k.2.1 k.2.2, inr k.1)
+
+module _ (E : Database) (F : Firm) (halted : Bool) (stamp : ℕ) (S : LogState) (H : Holds S) (K : Transactions) (C : CallsHold E S F halted K stamp) (n : ℕ)
+    (up : 0 < word.start_at S.words n) where
+  abbrev a : AgentState
+  a = S.words.agents n
+
+  -- it stays as it is
+  pub stays-then : (G : History) → Grows S.words.history G → CallsHold E (turned S n a (λ b. []) G) F halted K stamp
+  stays-then G grows = quiet-then E F halted stamp S H K C None n (becomes a) G grows (λ c. tt) (record {
+    initiating = elim (C.agents n).initiating [
+      | inl q ↦ inl q
+      | inr q ↦ inr (q.0, q.1.runs, q.1.has_decided, q.1.initiates, q.2)
+    ];
+    waiting = (C.agents n).waiting;
+  }) (λ w b d init some is before. before is)
+
+  -- its job and its next number, which it keeps
+  job : JobOk K a.initiating.work × (((a.initiating.next ≡ 0) × (a.initiating.work ≡ None)) ⊎ (K.number < a.initiating.next))
+  job = elim (C.agents n).initiating [
+    | inl q ↦ (rw q.1 tt, inl (q.2, q.1))
+    | inr q ↦ phase-job E S F K (term_of q.0) a a.initiating.phase q.2
+  ]
+
+  module _ (v : Membership) (own : a.own ≡ Some v) (may : may_decide n a (Some v) ≡ true) (r : AgentRow S n (decides_word S.words.deployment n a (Some v))) where
+    abbrev decides : Turn AgentState
+    decides = decides_word S.words.deployment n a (Some v)
+
+    -- the agent with the word, before it knows whether it is the initiator
+    abbrev with_word : AgentState
+    with_word = record a { decided = Some v; pending = filter (λ p. not (is_in p.target v.lost)) a.pending }
+
+    abbrev U : LogState
+    U = turned S n decides.state decides.sends r.row.history
+
+    is : In v U.words.history.decided
+    is = has-decided U.words r.row.holds n v (ap (λ x. x.decided) (agent-there S.words n decides.state decides.sends r.row.history) ∙ (decides-state S.words.deployment n a v).decided)
+
+    -- nothing that it sends is a round or an end, and its word is above the one before
+    decided-with : (b : AgentState) → b.start ≡ a.start → b.decided ≡ Some v → Mine E S F K n b → CallsHold E (turned S n b decides.sends r.row.history) F halted K stamp
+    decided-with b start word mine = quiet-then E F halted stamp S H K C None n (record { state = b; sends = decides.sends }) r.row.history (row-grows r.row)
+        (λ c. all-if NoOrder (is_slot_of S.words.deployment n c && not (is_down S.words.deployment v)) (letter_to a.start (msg.View v) ∷ []) [] (tt, tt) tt) mine
+        (λ w x d init some e before. rw word (above a.decided refl (before (sym start ∙ e))))
+      where
+        above : (o : Option Membership) → a.decided ≡ o → K.heard ≤ term_in o → K.heard ≤ term_of v
+        above None e l = omega (arith, l)
+        above (Some d) e l = omega (arith, l, before-below S U.words H.words r.row.holds n v up own may is r.row.decided r.row.took_word d e)
+
+    decided-then : CallsHold E U F halted K stamp
+    decided-then = go (initiates n with_word (Some v)) refl
+      where
+        go : (c : Bool) → initiates n with_word (Some v) ≡ c
+            → CallsHold E (turned S n (if c then with_phase with_word (Hears []) else with_phase with_word Off) decides.sends r.row.history) F halted K stamp
+        go true e = let init = initiates-is n with_word v e in decided-with (with_phase with_word (Hears [])) refl refl (record {
+          initiating = inr (
+            v,
+            up,
+            refl,
+            init,
+            (decides-heard S U.words H.words r.row.holds n v up own may is r.row.decided r.row.took_word E F K stamp H.some C.books.heard init, tt, job.0, job.1),
+          );
+          waiting = (C.agents n).waiting;
+        })
+        go false e = decided-with (with_phase with_word Off) refl refl (record {
+          initiating = elim (C.agents n).initiating [
+            | inl q ↦ inl (refl, q.1, q.2)
+            | inr q ↦ absurd (not-both (initiates n with_word (Some v))
+                (ap (is_initiator_in n a.start) (stays-initiator S U.words H.words r.row.holds n v up own may is r.row.decided r.row.took_word q.0 q.1)
+                ∙ and_from (n == n) (a.start == a.start) (eqb-same n) (eqb-same a.start)) e)
+          ];
+          waiting = (C.agents n).waiting;
+        })
+
+  -- It decides its word, or goes on as it was.
+  pub concludes-calls : AgentRow S n (concludes S.words.deployment n a) → CallsRow E F halted stamp S K n (concludes S.words.deployment n a)
+  concludes-calls r = go a.own refl
+    where
+      stays : concludes S.words.deployment n a ≡ becomes a → CallsRow E F halted stamp S K n (concludes S.words.deployment n a)
+      stays q = subst (λ x. AgentRow S n x → CallsRow E F halted stamp S K n x) (sym q)
+          (λ r. record { row = r; after = K; heard = omega arith; calls = stays-then r.row.history (row-grows r.row) }) r
+
+      go : (o : Option Membership) → a.own ≡ o → CallsRow E F halted stamp S K n (concludes S.words.deployment n a)
+      go None e = stays (concludes-not S.words.deployment n a (ap (may_decide n a) e))
+      go (Some v) e = elim (cases_Bool (may_decide n a (Some v))) [
+        | inl m ↦ subst (λ x. AgentRow S n x → CallsRow E F halted stamp S K n x)
+            (sym (concludes-is S.words.deployment n a (ap (may_decide n a) e ∙ m) ∙ ap (decides_word S.words.deployment n a) e))
+            (λ r. record { row = r; after = K; heard = omega arith; calls = decided-then v e m r }) r
+        | inr m ↦ stays (concludes-not S.words.deployment n a (ap (may_decide n a) e ∙ m))
+      ]
+
+-- Behind that it may not decide a word.
+pub concludes-settled : (D : Deployment) (n : ℕ) (a : AgentState) → may_decide n (concludes D n a).state (concludes D n a).state.own ≡ false
+concludes-settled D n a = go a.own refl
+  where
+    decided-again : (v : Membership) (b : AgentState)
+        → (is_member v n b.start && not (is_word v (Some v)) && list_all (λ m. m.0 == n || is_word v (b.said m.0)) (members v)) ≡ false
+    decided-again v b = and_left (is_member v n b.start && not (is_word v (Some v))) _ (and_right (is_member v n b.start) (not (is_word v (Some v))) (not_from_true (same_word v v) (same_word-refl v)))
+
+    stays : may_decide n a a.own ≡ false → may_decide n (concludes D n a).state (concludes D n a).state.own ≡ false
+    stays q = subst (λ x. may_decide n x.state x.state.own ≡ false) (sym (concludes-not D n a q)) q
+
+    go : (o : Option Membership) → a.own ≡ o → may_decide n (concludes D n a).state (concludes D n a).state.own ≡ false
+    go None e = stays (ap (may_decide n a) e)
+    go (Some v) e = elim (cases_Bool (may_decide n a (Some v))) [
+      | inl m ↦ subst (λ x. may_decide n x.state x.state.own ≡ false) (sym (concludes-is D n a (ap (may_decide n a) e ∙ m) ∙ ap (decides_word D n a) e))
+          (let d = decides-state D n a v in rw (d.own ∙ e) (rw d.decided (decided-again v (decides_word D n a (Some v)).state)))
+      | inr m ↦ stays (ap (may_decide n a) e ∙ m)
+    ]

@@ -1,0 +1,288 @@
+-- Messages that waited for an agent's term: it decides no word while it takes them, and what holds of transactions, holds after that.
+use Rattle.std.proofs.Common.{◌≡◌, ◌<◌, Bool, true, false, List, [], ◌∷◌, inl, inr, refl, sym, subst, ap, ◌∙◌, ◌==◌, true≢false, arith}
+use Rattle.std.proofs.lemmas.Bool.{cases_Bool, or_cases, eqb-true}
+use Rattle.std.proofs.lemmas.Bool.Decides.{nat_tests}
+use Rattle.std.specs.Prelude.{ℕ, ◌||◌, nat_lt, Option, Some, None}
+use Rattle.std.specs.List.{AllByRecursion}
+use Rattle.volt_wire.specs.Word.{Membership}
+use Rattle.volt_wire.specs.declared.actor.Actor.{Actor}
+use Rattle.volt_wire.specs.declared.actor.Actor.TheVariants.{Agent}
+use Rattle.cluster_model.specs.Engine.{Database}
+use Rattle.cluster_model.specs.Words.{Deployment, is_in, admits, start_of, initiator, term_of, term_in, same_word, with_admitted}
+use Rattle.cluster_model.specs.Letters.{Letter, Sends, Turn, becomes, ◌▸◌, Waiting, of_term, above_term}
+use Rattle.cluster_model.specs.AgentState.{AgentState, Phase, Off, Hears, Closes, Idle, Works, Queued, Admission, initiates}
+use Rattle.cluster_model.specs.Agent.{is_word, may_decide, agent_row, unless_stopped, takes_each, takes_waiting}
+use Rattle.word_laws.specs.Histories as word
+use Rattle.word_laws.specs.Histories.{In, OnSome, State, GoodWord, SaidBy, OwnOk, CameOk, QueuedOk, WaitingFrom, WaitingOk, names}
+use Rattle.word_laws.proofs.Lists.{all-mono, all-filter, all-from, all-at, in-filter, in-cases, some-here, not-both, set-here}
+use Rattle.word_laws.proofs.Algebra.{same_word-is, names-admits, with_admitted-admits}
+use Rattle.word_laws.proofs.Members.{members-all, initiates-is}
+use Rattle.word_laws.proofs.Moves.{Calm, AdmitsNow, asked_by}
+use Rattle.word_laws.proofs.Agreement.{said-good, member-of, term-same}
+use Rattle.word_laws.proofs.Turns.{tells, tells-state, concludes, concludes-not, row-calm, may_decide-cases}
+use Rattle.word_laws.proofs.Arrivals.{unless-running, waiting-brings}
+use Rattle.word_laws.proofs.Steps.{waiting-shrinks}
+use Rattle.word_laws.proofs.Hearings.{row-grows, row-plain, agent-there, then-assoc, then-quiet}
+use Rattle.word_laws.proofs.AgentEvents.{calm-event, asked-waiting, none-taken}
+use Rattle.word_laws.proofs.OwnWords.{said_to, spoken}
+use Rattle.word_laws.proofs.Admissions.{not-admitted, admits-holds}
+use Rattle.log_laws.specs.Histories.{LogState, AskedOk, Holds}
+use Rattle.log_laws.proofs.Agents.Views.{turned}
+use Rattle.log_laws.proofs.Agents.AgentTurns.{Rest, holds-of, AgentRow, plain-agent, stay-agent}
+use Rattle.log_laws.proofs.Agents.AgentRows.{may-join, first-agent}
+use Rattle.log_laws.proofs.Agents.AgentEvents.{waits-on, asks-on}
+use Rattle.disk_laws.specs.Disks.{Firm}
+use Rattle.transaction_laws.specs.Transactions.{Transactions, PhaseOk, WaitingAnswer, CallsHold}
+use Rattle.transaction_laws.proofs.Initiators.Orders.{LaidOut}
+use Rattle.transaction_laws.proofs.Agents.AgentTurns.{CallsRow, waits-then, quiet-then, stays-then, told-row, then-calls}
+
+-- ---- a word that an initiator has just made isn't decided at once
+
+module _ (S : State) (H : word.Holds S) (n : ℕ) (W V : Membership) (j h term : ℕ) (up : 0 < word.start_at S n) (own : (S.agents n).own ≡ Some W)
+    (decided : (S.agents n).decided ≡ Some V) (same : same_word W V ≡ true) (init : initiator V ≡ Some (n, word.start_at S n)) (came : CameOk S h n term j) (term_is : term_of W ≡ term)
+    (over : word.start_at S n < j) where
+  -- the word with the start in it
+  abbrev X : Membership
+  X = with_admitted j h W
+
+  -- what the agent says of it
+  abbrev out : Sends
+  out b = elim b as (λ _. List Letter) [
+    | Agent g ↦ said_to n (word.start_at S n) X g
+    | _ ↦ []
+  ]
+
+  -- Nobody has said a word like it.
+  unsaid : (s : ℕ) (u : Membership) → In u (S.history.said s) → same_word u X ≡ true → ⊥
+  unsaid s u i e = not-admitted S H n W V j h term out up own decided same init came term_is over (λ g. refl) r.entry r.is_one r.same
+    where
+      good : GoodWord S u
+      good = said-good S H.history s u i
+
+      like : u ≡ X
+      like = same_word-is u X (good.first ∙ sym (some-here (OwnOk S (word.start_at S n)) (S.agents n).own W own (H.agents n).own).good.first) e
+
+      r : word.Recorded S u j
+      r = good.recorded j (subst (λ x. admits x j ≡ true) (sym like) (with_admitted-admits j h W))
+
+  -- The start is one of its members.
+  joins : start_of X h ≡ Some j
+  joins = subst (λ z. start_of X z ≡ Some j) came.0.owned (member-of T K.history X j good (names-admits X j (with_admitted-admits j h W)) unlost)
+    where
+      T : State
+      T = spoken S n X (S.agents n).said out (record { start = j; by = word.start_at S n; at = W } ∷ S.history.admitted)
+
+      K : word.Holds T
+      K = admits-holds S H n W V j h term out up own decided same init came term_is over (λ g. refl)
+
+      good : GoodWord T X
+      good = (some-here (OwnOk T (word.start_at T n)) (T.agents n).own X (ap (λ x. x.own) (set-here S.agents n _)) (K.agents n).own).good
+
+      -- the word that it took is this one without it
+      took : came.0.word ≡ W
+      took =
+          let k = H.history.took_ok j came.0.word came.0.took in
+          let w = some-here (OwnOk S (word.start_at S n)) (S.agents n).own W own (H.agents n).own in
+          term-same S H.history came.0.word W (H.history.decided_good came.0.word k.0) w.good (H.history.chain came.0.word W k.0 in-decided) (came.0.term_is ∙ sym term_is)
+        where
+          in-decided : In W S.history.decided
+          in-decided =
+              let v = some-here (λ x. In x S.history.decided × (names x (S.agents n).start ≡ true)) (S.agents n).decided V decided (H.agents n).decided in
+              let w = some-here (OwnOk S (word.start_at S n)) (S.agents n).own W own (H.agents n).own in
+              subst (λ x. In x S.history.decided) (sym (same_word-is W V (w.good.first ∙ sym (H.history.decided_good V v.0).first) same)) v.0
+
+      unlost : is_in j X.lost ≡ false
+      unlost = subst (λ x. is_in j x.lost ≡ false) took (H.history.took_ok j came.0.word came.0.took).3
+
+  -- So the agent doesn't decide it, since the joiner hasn't said it.
+  pub undecided : (b : AgentState) → b.said ≡ (S.agents n).said → may_decide n b (Some X) ≡ false
+  undecided b said = elim (cases_Bool (may_decide n b (Some X))) [
+    | inr e ↦ e
+    | inl e ↦ elim (or_cases (h == n) (is_word X (b.said h)) (members-all X (λ m. m.0 == n || is_word X (b.said m.0)) h j (may_decide-cases n b X e).1 joins)) [
+      | inl q ↦ absurd (not-both (h == n) q came.0.other)
+      | inr q ↦ absurd (go ((S.agents n).said h) ((H.agents n).heard h) (subst (λ f. is_word X (f h) ≡ true) said q))
+    ]
+  ]
+    where
+      go : (o : Option Membership) → OnSome (SaidBy S h) o → is_word X o ≡ true → ⊥
+      go None k e = true≢false (sym e)
+      go (Some u) k e = unsaid k.0 u k.2 e
+
+-- A row that brings no word leaves nothing to decide, where nothing was.
+calm-settled : (S : State) → word.Holds S → (n : ℕ) (came : List Queued) (t : Turn AgentState) → 0 < word.start_at S n → Calm n (S.agents n) came t
+    → ((j h term : ℕ) → In (Admission j h term) came → QueuedOk S n (Admission j h term)) → may_decide n (S.agents n) (S.agents n).own ≡ false → may_decide n t.state t.state.own ≡ false
+calm-settled S H n came t up c new settled = elim c.own [
+  | inl same ↦ rw same (still (S.agents n).own settled)
+  | inr m ↦ rw m.becomes (undecided S H n m.word m.decided m.start m.host m.term up m.is_own m.is_decided m.same (init m) (asks m) m.term_is m.above t.state c.said)
+]
+  where
+    still : (o : Option Membership) → may_decide n (S.agents n) o ≡ false → may_decide n t.state o ≡ false
+    still None e = e
+    still (Some w) e = rw (c.start, c.decided, c.said) e
+
+    init : (m : AdmitsNow (S.agents n) came t.state.own) → initiator m.decided ≡ Some (n, word.start_at S n)
+    init m = elim (H.agents n).initiates [
+      | inl off ↦ absurd (m.works off)
+      | inr i ↦ initiates-is n (S.agents n) m.decided (ap (λ z. initiates n (S.agents n) z) (sym m.is_decided) ∙ i)
+    ]
+
+    asks : (m : AdmitsNow (S.agents n) came t.state.own) → CameOk S m.host n m.term m.start
+    asks m = elim (in-cases (Admission m.start m.host m.term) (S.agents n).initiating.queue came m.queued) [
+      | inl i ↦ all-at (QueuedOk S n) (S.agents n).initiating.queue (H.agents n).queue (Admission m.start m.host m.term) i
+      | inr i ↦ new m.start m.host m.term i
+    ]
+
+-- ---- a message that waited
+
+-- A turn in which the agent takes such a message: it goes on with its word, and has no other one to decide.
+record OneWaited (E : Database) (F : Firm) (halted : Bool) (stamp : ℕ) (S : LogState) (K : Transactions) (n : ℕ) (t : Turn AgentState) : Type 0 where
+  pub row : CallsRow E F halted stamp S K n t
+  pub decided : t.state.decided ≡ (S.words.agents n).decided
+  pub settled : may_decide n t.state t.state.own ≡ false
+
+module _ (E : Database) (F : Firm) (halted : Bool) (stamp : ℕ) (S : LogState) (lay : LaidOut S) (h : word.Holds S.words) (r : Rest S) (K : Transactions) (C : CallsHold E S F halted K stamp)
+    (n : ℕ) (up : 0 < word.start_at S.words n) (from : Actor) (l : Letter) (w : WaitingFrom S.words n from l) (asked : AskedOk S from l)
+    (answer : WaitingAnswer E S F K (record { from = from; letter = l })) (term : l.term ≡ term_in (S.words.agents n).decided)
+    (settled : may_decide n (S.words.agents n) (S.words.agents n).own ≡ false) where
+  abbrev D : Deployment
+  D = S.words.deployment
+
+  abbrev a : AgentState
+  a = S.words.agents n
+
+  abbrev t : Turn AgentState
+  t = agent_row E D n stamp a from l
+
+  -- its row, and what the agent says then
+  abbrev told : Turn AgentState
+  told = t ▸ tells n a.own
+
+  running : a.start == 0 ≡ false
+  running = grind (arith, nat_tests, up)
+
+  calm : Calm n a (asked_by from l) t
+  calm = row-calm E D n stamp a from l (waiting-brings S.words n from l w)
+
+  settled-then : may_decide n told.state told.state.own ≡ false
+  settled-then = subst (λ x. may_decide n x x.own ≡ false) (sym (tells-state n a.own t.state))
+      (calm-settled S.words h n (asked_by from l) t up calm (asked-waiting S.words n from l w) settled)
+
+  told-turn : AgentRow S n told
+  told-turn = first-agent S n r up E stamp from l asked (λ b. h)
+      (calm-event E S.words n stamp from l h up (waiting-brings S.words n from l w) (asked-waiting S.words n from l w) (may-join S n r up from l asked))
+
+  -- nothing else follows
+  turn-is : told ≡ unless_stopped E D n stamp a from l
+  turn-is = sym (then-quiet told (concludes D n) (concludes-not D n told.state settled-then))
+      ∙ then-assoc t (tells n a.own) (concludes D n) ∙ sym (unless-running E D n stamp a from l running)
+
+  waited-one : OneWaited E F halted stamp S K n (unless_stopped E D n stamp a from l)
+  waited-one = subst (OneWaited E F halted stamp S K n) turn-is (record {
+    row = told-row E F halted stamp S lay (holds-of S h r) K C None n from l told-turn (inr term) (λ c e. subst (λ f. WaitingAnswer E S F K (record { from = f; letter = l })) e answer);
+    decided = ap (λ x. x.decided) (tells-state n a.own t.state) ∙ calm.decided;
+    settled = settled-then;
+  })
+
+-- ---- all of those that waited for its term, one after another
+
+-- such a message
+record IsWaited (E : Database) (F : Firm) (S : LogState) (K : Transactions) (n : ℕ) (x : Waiting) : Type 0 where
+  pub from : WaitingFrom S.words n x.from x.letter
+  pub asked : AskedOk S x.from x.letter
+  pub answer : WaitingAnswer E S F K x
+  pub term : x.letter.term ≡ term_in (S.words.agents n).decided
+
+-- It is one still after a turn in which the agent's word stays.
+waited-still : (E : Database) (F : Firm) (halted : Bool) (stamp n : ℕ) (S : LogState) → Holds S → (K : Transactions) → CallsHold E S F halted K stamp → (t : Turn AgentState)
+    (r : CallsRow E F halted stamp S K n t) → t.state.decided ≡ (S.words.agents n).decided → (y : Waiting) → IsWaited E F S K n y
+    → IsWaited E F (turned S n t.state t.sends r.row.row.history) r.after n y
+waited-still E F halted stamp n S H K C t r same y k = record {
+  from = (waits-on S n t r.row (y ∷ []) (k.from, tt)).0;
+  asked = (asks-on S n t r.row (y ∷ []) (k.asked, tt)).0;
+  answer = waits-then E F halted stamp S H K C None n t r.row.row.history (row-grows r.row.row) r.after r.heard K r.heard y k.answer;
+  term = k.term ∙ sym (ap (λ b. term_in b.decided) (agent-there S.words n t.state t.sends r.row.row.history) ∙ ap term_in same);
+}
+
+waited-each : (E : Database) (F : Firm) (halted : Bool) (stamp n : ℕ) (ws : List Waiting) (S : LogState) → LaidOut S → word.Holds S.words → Rest S → (K : Transactions) → CallsHold E S F halted K stamp
+    → 0 < word.start_at S.words n → AllByRecursion (IsWaited E F S K n) ws → may_decide n (S.words.agents n) (S.words.agents n).own ≡ false
+    → CallsRow E F halted stamp S K n (takes_each E S.words.deployment n stamp ws (S.words.agents n))
+waited-each E F halted stamp n [] S lay h r K C up w settled = let row = stay-agent S n h r up in record {
+  row = row;
+  after = K;
+  heard = omega arith;
+  calls = stays-then E F halted stamp S (holds-of S h r) K C n up row.row.history (row-grows row.row);
+}
+waited-each E F halted stamp n (x ∷ ws) S lay h r K C up w settled =
+    then-calls E F halted stamp S K n t (takes_each E S.words.deployment n stamp ws) one.row (none-taken E S.words.deployment n stamp ws)
+    (λ k q c u. waited-each E F halted stamp n ws (turned S n t.state t.sends one.row.row.row.history) lay k q one.row.after c u
+    (all-mono _ _ (waited-still E F halted stamp n S (holds-of S h r) K C t one.row one.decided) ws w.1)
+    (subst (λ b. may_decide n b b.own ≡ false) (sym (agent-there S.words n t.state t.sends one.row.row.row.history)) one.settled))
+  where
+    t : Turn AgentState
+    t = unless_stopped E S.words.deployment n stamp (S.words.agents n) x.from x.letter
+
+    one : OneWaited E F halted stamp S K n t
+    one = waited-one E F halted stamp S lay h r K C n up x.from x.letter w.0.from w.0.asked w.0.answer w.0.term settled
+
+-- What holds of an initiator's phase goes by its part alone.
+pub phase-same : (E : Database) (S : LogState) (F : Firm) (K : Transactions) (t : ℕ) (a b : AgentState) (phase : Phase) → b.initiating ≡ a.initiating → PhaseOk E S F K t a phase → PhaseOk E S F K t b phase
+phase-same E S F K t a b Off e k = k
+phase-same E S F K t a b (Hears told) e k = rw e k
+phase-same E S F K t a b (Closes m parts finished) e k = rw e k
+phase-same E S F K t a b Idle e k = rw e k
+phase-same E S F K t a b Works e k = rw e k
+
+-- The agent takes those of its term, and keeps those of higher ones.
+module _ (E : Database) (F : Firm) (halted : Bool) (stamp n : ℕ) (S : LogState) (lay : LaidOut S) (h : word.Holds S.words) (r : Rest S) (K : Transactions) (C : CallsHold E S F halted K stamp)
+    (up : 0 < word.start_at S.words n) where
+  abbrev agent : AgentState
+  agent = S.words.agents n
+
+  abbrev here : ℕ
+  here = term_in agent.decided
+
+  abbrev kept : AgentState
+  kept = record agent { waiting = above_term here agent.waiting }
+
+  kept-turn : AgentRow S n (becomes kept)
+  kept-turn = plain-agent S n (becomes kept) r (row-plain S.words n (becomes kept) (inl (refl, up)) (waiting-shrinks S.words n (λ w. nat_lt here w.letter.term) h)) (record {
+    start = refl;
+    decided = refl;
+    taken = refl;
+    sites = λ c. tt;
+    asked = λ g. tt;
+    heard = λ u c i. r.loads.heard n c u i;
+    waiting = all-filter (λ x. AskedOk S x.from x.letter) (λ w. nat_lt here w.letter.term) agent.waiting (r.loads.waiting n);
+    queued = r.loads.queued n;
+  })
+
+  kept-calls : CallsRow E F halted stamp S K n (becomes kept)
+  kept-calls = record {
+    row = kept-turn;
+    after = K;
+    heard = omega arith;
+    calls = quiet-then E F halted stamp S (holds-of S h r) K C None n (becomes kept) kept-turn.row.history (row-grows kept-turn.row) (λ c. tt) (record {
+      initiating = elim (C.agents n).initiating [
+        | inl q ↦ inl q
+        | inr q ↦ inr (q.0, q.1.runs, q.1.has_decided, q.1.initiates, phase-same E S F K (term_of q.0) agent kept agent.initiating.phase refl q.2)
+      ];
+      waiting = all-filter (WaitingAnswer E S F K) (λ w. nat_lt here w.letter.term) agent.waiting (C.agents n).waiting;
+    }) (λ w a d init some is before. before is);
+  }
+
+  taken : AllByRecursion (IsWaited E F S K n) (of_term here agent.waiting)
+  taken = all-from (IsWaited E F S K n) (of_term here agent.waiting) (λ x i. let f = in-filter (λ w. w.letter.term == here) x agent.waiting i in record {
+    from = all-at (WaitingOk S.words n) agent.waiting (h.agents n).waiting x f.0;
+    asked = all-at (λ y. AskedOk S y.from y.letter) agent.waiting (r.loads.waiting n) x f.0;
+    answer = all-at (WaitingAnswer E S F K) agent.waiting (C.agents n).waiting x f.0;
+    term = eqb-true x.letter.term here f.1;
+  })
+
+  pub waited-calls : may_decide n agent agent.own ≡ false → CallsRow E F halted stamp S K n (takes_waiting E S.words.deployment n stamp agent)
+  waited-calls settled = then-calls E F halted stamp S K n (becomes kept) (takes_each E S.words.deployment n stamp ws) kept-calls (none-taken E S.words.deployment n stamp ws)
+      (λ k q c u. waited-each E F halted stamp n ws (turned S n kept (λ b. []) kept-calls.row.row.history) lay k q kept-calls.after c u
+      (all-mono _ _ (waited-still E F halted stamp n S (holds-of S h r) K C (becomes kept) kept-calls refl) ws taken)
+      (subst (λ b. may_decide n b b.own ≡ false) (sym (agent-there S.words n kept (λ b. []) kept-calls.row.row.history)) settled))
+    where
+      ws : List Waiting
+      ws = of_term here agent.waiting

@@ -1,0 +1,17 @@
+-- The points of a log into which each entry fits never fall.
+use Rattle.std.proofs.Common.{◌≤◌, List, [], ◌∷◌}
+use Rattle.std.specs.Prelude.{ℕ}
+use Rattle.volt_base.specs.declared.entry.Entry.{Entry}
+use Rattle.volt_base.specs.declared.entry.Entry.TheVariants.{Sp, Frag, Done}
+use Rattle.volt_base.specs.declared.entry.Outcome.TheVariants.{Dropped, Kept, Aborted, Snapshot}
+use Rattle.transaction_laws.specs.Machine.{Stage, WellFormed, RiseWithin, next_stage, stage_behind, points}
+
+-- from the last point before it on, up to the last one in it
+pub points-rise : (s : Stage) (high : ℕ) (log : List Entry) → WellFormed s log → (stage_behind s log).point ≤ high → RiseWithin s.point high (points log)
+points-rise s high [] h l = l
+points-rise s high (Sp call point body ∷ es) h l = (h.0.1, points-rise (next_stage s (Sp call point body)) high es h.1 l)
+points-rise s high (Frag m round body ∷ es) h l = points-rise (next_stage s (Frag m round body)) high es h.1 l
+points-rise s high (Done m Dropped ∷ es) h l = points-rise (next_stage s (Done m Dropped)) high es h.1 l
+points-rise s high (Done m (Kept call point) ∷ es) h l = (h.0.1, points-rise (next_stage s (Done m (Kept call point))) high es h.1 l)
+points-rise s high (Done m (Aborted call point) ∷ es) h l = (h.0.1, points-rise (next_stage s (Done m (Aborted call point))) high es h.1 l)
+points-rise s high (Done m Snapshot ∷ es) h l = points-rise (next_stage s (Done m Snapshot)) high es h.1 l

@@ -1,0 +1,204 @@
+-- An initiator begins a transaction: it sends the first round of a call, or the end of a snapshot, to all partitions.
+use Rattle.std.proofs.Common.{◌≡◌, ◌<◌, ◌≤◌, Bool, drop, length, true, false, List, [], ◌∷◌, ◌++◌, append_assoc, inl, inr, refl, sym, subst, ap, ◌∙◌, true≢false, arith}
+use Rattle.std.specs.Prelude.{ℕ, Option, Some, None}
+use Rattle.std.specs.List.{AllByRecursion}
+use Rattle.volt_base.specs.declared.entry.Entry.{Entry}
+use Rattle.volt_base.specs.declared.entry.Entry.TheVariants.{Frag, Done}
+use Rattle.volt_base.specs.declared.entry.Outcome.{Outcome}
+use Rattle.volt_base.specs.declared.entry.Outcome.TheVariants.{Snapshot}
+use Rattle.volt_wire.specs.Word.{Membership}
+use Rattle.volt_wire.specs.declared.message.Msg.{Msg}
+use Rattle.volt_wire.specs.declared.message.Msg.TheVariants as msg
+use Rattle.cluster_model.specs.Engine.{Database}
+use Rattle.cluster_model.specs.Words.{term_of}
+use Rattle.cluster_model.specs.Letters.{Blocks}
+use Rattle.cluster_model.specs.AgentState.{AgentState, Job, RunCall, TakeSnapshot}
+use Rattle.cluster_model.specs.Initiator.{to_all_leaders, new_work, begins, body_of_round}
+use Rattle.word_laws.specs.Histories.{In}
+use Rattle.word_laws.proofs.Lists.{in-cases, all-append, same-some, none-and-some}
+use Rattle.log_laws.specs.Histories.{LogState, Holds, Front}
+use Rattle.log_laws.proofs.Plain.Fronts.{front-grows}
+use Rattle.disk_laws.specs.Disks.{Firm}
+use Rattle.transaction_laws.specs.Machine.{Stage, Fits, WellFormed, first_stage, next_stage, stage}
+use Rattle.transaction_laws.specs.Transactions.{Transactions, Books, HeardPart, Aligned, Initiates, IsPart, IsOrder, OnlyCalls, OfNumber, NoRound, point_in, order_in, since, led_log, whole}
+use Rattle.transaction_laws.proofs.Kept.Moves.{InitiatorGoes, SendsDue}
+use Rattle.transaction_laws.proofs.Entries.Machine.{stage-append, formed-append}
+use Rattle.transaction_laws.proofs.Kept.Later.{books-later}
+use Rattle.transaction_laws.proofs.Initiators.Orders.{LaidOut, due_with, due-more, due-kept, orders-sent, orders-books}
+use Rattle.transaction_laws.proofs.Entries.Since.{calls-of, calls-no-round, calls-no-end, since-more, calls-since}
+
+-- ---- what is due from then on
+
+-- behind the log of a partition to which it goes, the entry too
+pub whole-to : (S : LogState) (K : Transactions) (to : ℕ → Bool) (e : Entry) (p : ℕ) → IsPart S p → to p ≡ true
+    → led_log (S.logs.reign p K.heard) ++ due_with S K to e p K.heard ≡ whole S K K.heard p ++ e ∷ []
+whole-to S K to e p part t =
+    ap (λ es. led_log (S.logs.reign p K.heard) ++ es) (due-more S K to e p K.heard part t refl) ∙ sym (append_assoc (led_log (S.logs.reign p K.heard)) (K.due p K.heard) (e ∷ []))
+
+-- behind that of another one, what was
+pub whole-else : (S : LogState) (K : Transactions) (to : ℕ → Bool) (e : Entry) (p : ℕ) → to p ≡ false
+    → led_log (S.logs.reign p K.heard) ++ due_with S K to e p K.heard ≡ whole S K K.heard p
+whole-else S K to e p t = ap (λ es. led_log (S.logs.reign p K.heard) ++ es) (due-kept S K to e p K.heard t)
+
+-- ---- how a transaction begins
+
+-- Its first entry, and the outcome that is sent with it: a round without one, or the end of a snapshot.
+record Opens (m : ℕ) (e : Entry) (o : Option Outcome) : Type 0 where
+  order : IsOrder e
+  of : OfNumber m e
+  fits : (s : Stage) → s.opened ≡ None → s.number < m → Fits s e
+  point : (s : Stage) → (next_stage s e).point ≡ s.point
+  ends : (q : Outcome) → e ≡ Done m q → o ≡ Some q
+  round : o ≡ Some Snapshot → NoRound e
+  none : point_in o ≡ None
+
+round-opens : (m : ℕ) (body : List ℕ) → Opens m (Frag m 1 body) None
+round-opens m body = record {
+  order = tt;
+  of = refl;
+  fits = λ s e l. inl (e, l, refl);
+  point = λ s. refl;
+  ends = λ q e. absurd (cc);
+  round = λ e. absurd (cc);
+  none = refl;
+}
+
+snapshot-opens : (m : ℕ) → Opens m (Done m Snapshot) (Some Snapshot)
+snapshot-opens m = record {
+  order = tt;
+  of = refl;
+  fits = λ s e l. (e, l);
+  point = λ s. refl;
+  ends = λ q e. cc;
+  round = λ e. tt;
+  none = refl;
+}
+
+-- ---- where all is at rest
+
+-- In the term that was heard nothing is due, and behind what is over stand only calls on one partition.
+abbrev pub AtRest : LogState → Transactions → Type 0
+AtRest S K = (p : ℕ) → IsPart S p → (K.due p K.heard ≡ []) × OnlyCalls (since K (whole S K K.heard) p)
+
+-- the history once this entry is sent to all
+abbrev begun_with : LogState → Transactions → ℕ → Entry → Option Outcome → Transactions
+begun_with S K m e o = record K { number = m; agreed = o; due = due_with S K (λ p. true) e }
+
+module _ (E : Database) (S : LogState) (F : Firm) (K : Transactions) (now : ℕ) (B : Books E S F K now) (m : ℕ) (next : K.number < m) (e : Entry) (o : Option Outcome)
+    (k : Opens m e o) (rest : AtRest S K) where
+  abbrev after : Transactions
+  after = begun_with S K m e o
+
+  abbrev log : ℕ → List Entry
+  log = whole S K K.heard
+
+  A : Aligned E S.words.deployment now K log
+  A = B.heard.aligned
+
+  whole-is : (p : ℕ) → IsPart S p → whole S after after.heard p ≡ log p ++ e ∷ []
+  whole-is p part = whole-to S K (λ q. true) e p part refl
+
+  stage-is : (p : ℕ) → IsPart S p → stage E p (whole S after after.heard p) ≡ next_stage (stage E p (log p)) e
+  stage-is p part = ap (stage E p) (whole-is p part) ∙ stage-append (first_stage E p) (log p) (e ∷ [])
+
+  since-is : (p : ℕ) → IsPart S p → since after (whole S after after.heard) p ≡ since K log p ++ e ∷ []
+  since-is p part = ap (drop (length (K.closed p))) (whole-is p part) ∙ since-more E S.words.deployment now K log A p part (e ∷ [])
+
+  quiet : (p : ℕ) → IsPart S p → ((stage E p (log p)).opened ≡ None) × ((stage E p (log p)).number ≡ (stage E p (K.closed p)).number)
+  quiet p part = calls-since E S.words.deployment now K log A p part (rest p part).1
+
+  fits : (p : ℕ) → IsPart S p → Fits (stage E p (log p)) e
+  fits p part = let q = quiet p part in let b = A.below p part in k.fits (stage E p (log p)) q.0 (omega (arith, q.1, b, next))
+
+  formed : (p : ℕ) → IsPart S p → WellFormed (first_stage E p) (whole S after after.heard p)
+  formed p part = subst (WellFormed (first_stage E p)) (sym (whole-is p part))
+      (formed-append (first_stage E p) (log p) (e ∷ []) (A.formed p part) (fits p part, tt))
+
+  ends : (p : ℕ) → IsPart S p → (q : Outcome) → In (Done m q) (since after (whole S after after.heard) p) → o ≡ Some q
+  ends p part q i = elim (in-cases (Done m q) (since K log p) (e ∷ []) (subst (In (Done m q)) (since-is p part) i)) [
+    | inl c ↦ absurd (calls-no-end (since K log p) m q (rest p part).1 c)
+    | inr (inl is) ↦ k.ends q is
+    | inr (inr none) ↦ absurd none
+  ]
+
+  aligned : Aligned E S.words.deployment now after (whole S after after.heard)
+  aligned = record {
+    formed = formed;
+    past = λ p part. let x = A.past p part in let y = ap (λ s. s.point) (stage-is p part) in let z = k.point (stage E p (log p)) in omega (arith, x, y, z);
+    front = λ p part. subst (Front (K.closed p)) (sym (whole-is p part)) (front-grows (K.closed p) (log p) (e ∷ []) (A.front p part));
+    over = A.over;
+    below = λ p part. let x = A.below p part in omega (arith, x, next);
+    only = λ p part. subst (AllByRecursion (OfNumber m)) (sym (since-is p part))
+        (all-append (OfNumber m) (since K log p) (e ∷ []) (calls-of m (since K log p) (rest p part).1) (k.of, tt));
+    fresh = λ p q part _ same. let x = A.below p part in absurd (omega (arith, x, next, same));
+    ends = ends;
+    snapshot = λ p part is. subst (AllByRecursion NoRound) (sym (since-is p part))
+        (all-append NoRound (since K log p) (e ∷ []) (calls-no-round (since K log p) (rest p part).1) (k.round is, tt));
+    decided = λ p x part is. absurd (none-and-some k.none is);
+    agreed = λ x is. absurd (none-and-some k.none is);
+    even = A.even;
+  }
+
+  each : (p : ℕ) → IsPart S p → HeardPart S F after p
+  each p part = let h = B.heard.each p part in record {
+    reign = h.reign;
+    led = h.led;
+    inside = h.inside;
+    closed = h.closed;
+    decided = λ x is. absurd (none-and-some k.none is);
+    top = h.top;
+  }
+
+  books : Books E S F after now
+  books = orders-books E S F K after now now e (λ p. true) B (omega arith) k.order refl refl (λ p part t. (rest p part).0) each aligned
+
+-- ---- the turn
+
+module _ (E : Database) (S : LogState) (F : Firm) (K : Transactions) (now stamp n : ℕ) (w : Membership) (lay : LaidOut S) (H : Holds S) (B : Books E S F K now) (l : now ≤ stamp)
+    (i : Initiates S n w) (a : AgentState) (word : a.decided ≡ Some w) (heard : K.heard ≡ term_of w) (next : K.number < a.initiating.next) (rest : AtRest S K) where
+  abbrev m : ℕ
+  m = a.initiating.next
+
+  sends : (e : Entry) (o : Option Outcome) (x : Msg Blocks) → order_in x ≡ e ∷ [] → SendsDue S n w K (begun_with S K m e o) (to_all_leaders S.words.deployment a.decided x)
+  sends e o x is = subst (λ d. SendsDue S n w K (begun_with S K m e o) (to_all_leaders S.words.deployment d x)) (sym word)
+      (orders-sent E S F K (begun_with S K m e o) now n w lay H B i heard x e is (λ p. true) refl)
+
+  pub begins-goes : (job : Job) → InitiatorGoes E S F K stamp n w a (begins E S.words.deployment a job)
+  begins-goes (RunCall call host from body) = let e = Frag m 1 (body_of_round (E.asks body [])) in let k = round-opens m (body_of_round (E.asks body [])) in record {
+    after = begun_with S K m e None;
+    books = books-later E S F (begun_with S K m e None) now stamp l (books E S F K now B m next e None k rest);
+    heard = omega arith;
+    start = refl;
+    decided = refl;
+    waiting = refl;
+    phase = (
+      heard,
+      omega arith,
+      (
+        new_work (RunCall call host from body) m,
+        refl,
+        (refl, λ d is. absurd (cc)),
+        (refl, λ p part. (ap (λ s. s.opened) (stage-is E S F K now B m next e None k rest p part), λ none. absurd (true≢false (sym none)))),
+      ),
+    );
+    sends = sends e None (msg.Frag m 1 (body_of_round (E.asks body []))) refl;
+  }
+  begins-goes TakeSnapshot = let e = Done m Snapshot in let k = snapshot-opens m in record {
+    after = begun_with S K m e (Some Snapshot);
+    books = books-later E S F (begun_with S K m e (Some Snapshot)) now stamp l (books E S F K now B m next e (Some Snapshot) k rest);
+    heard = omega arith;
+    start = refl;
+    decided = refl;
+    waiting = refl;
+    phase = (
+      heard,
+      omega arith,
+      (
+        record (new_work TakeSnapshot m) { decision = Some (record { outcome = Snapshot; end = None }) },
+        refl,
+        (refl, λ d is. ap (λ x. Some x.outcome) (same-some is)),
+        λ p part. let s = stage-is E S F K now B m next e (Some Snapshot) k rest p part in ((ap (λ s. s.opened) s, ap (λ s. s.number) s), λ none. absurd (true≢false (sym none))),
+      ),
+    );
+    sends = sends e (Some Snapshot) (msg.Done m Snapshot) refl;
+  }

@@ -1,0 +1,282 @@
+-- An initiator hears how the partitions stand in its term.
+use Rattle.std.proofs.Common.{◌≡◌, ◌+◌, ◌<◌, ◌≤◌, Bool, true, false, List, [], ◌∷◌, ◌++◌, length, inl, inr, ◌==◌, refl, sym, subst, ap, ◌∙◌, arith}
+use Rattle.std.proofs.lemmas.Bool.{cases_eq, eqb-true, eqb-false}
+use Rattle.std.specs.Prelude.{ℕ, Option, Some, None, if◌then◌else◌}
+use Rattle.std.specs.List.{AllByRecursion, list_all}
+use Rattle.volt_base.specs.declared.entry.Entry.{Entry}
+use Rattle.volt_base.specs.declared.entry.Outcome.{Outcome}
+use Rattle.volt_wire.specs.Word.{Membership}
+use Rattle.cluster_model.specs.Engine.{Database}
+use Rattle.cluster_model.specs.Words.{all_parts, term_of, term_in, initiator}
+use Rattle.cluster_model.specs.Letters.{becomes}
+use Rattle.cluster_model.specs.AgentState.{AgentState, Phase, Off, Hears, Closes, Idle, Works, Heard}
+use Rattle.cluster_model.specs.Initiator.{with_phase, greatest_told, open_told, has_told, first_number, closes_open, hears, on_mp_state}
+use Rattle.word_laws.specs.Histories.{In}
+use Rattle.word_laws.proofs.Lists.{same-some, all-append, all-at}
+use Rattle.log_laws.specs.Histories.{LogState, Holds, Front}
+use Rattle.log_laws.proofs.Plain.Fronts.{front-trans, front-append}
+use Rattle.disk_laws.specs.Disks.{Firm}
+use Rattle.transaction_laws.specs.Machine.{WellFormed, first_stage, stage}
+use Rattle.transaction_laws.specs.Transactions.{Transactions, Books, HeardPart, DueOk, Aligned, Initiates, IsPart, OnlyCalls, Everywhere, StateOk, JobOk, PhaseOk, point_in, since, led_log, whole}
+use Rattle.transaction_laws.proofs.Kept.Moves.{InitiatorGoes, Under}
+use Rattle.transaction_laws.proofs.Entries.Aligned.{under-front, under-trans, aligned-under}
+use Rattle.transaction_laws.proofs.Kept.Later.{quiet-reign}
+use Rattle.transaction_laws.proofs.Initiators.Orders.{LaidOut, decided-word}
+use Rattle.transaction_laws.proofs.Initiators.Turns.{goes-still, goes-from}
+use Rattle.transaction_laws.proofs.Entries.Since.{whole-led, number-since, number-within, closed-number}
+use Rattle.transaction_laws.proofs.Initiators.Resting.{OverAt, resting-books}
+use Rattle.transaction_laws.proofs.Initiators.Told.{ToldIs, heard_with, told-is, told-none, told-front, told-number, greatest-above, greatest-below, told-by}
+use Rattle.transaction_laws.proofs.Initiators.Closing.{closes_open-goes}
+
+-- ---- the history once all partitions have told
+
+-- Of one that told.
+module _ (E : Database) (S : LogState) (F : Firm) (K : Transactions) (now : ℕ) (H : Holds S) (B : Books E S F K now) (t : ℕ) (up : K.heard < t)
+    (x : Heard) (k : StateOk E S F x.part t x.m x.is_open x.outcome) where
+  abbrev before : HeardPart S F K x.part
+  before = B.heard.each x.part k.part
+
+  whole-is : whole S K t x.part ≡ k.reign.log
+  whole-is = whole-led S K x.part t k.reign k.led (told-none E S F K now H B t up x k)
+
+  grown : Front k.reign.begun k.reign.log
+  grown = (H.reigns x.part t k.reign k.led).grown
+
+  -- What was firm in the term before is in this term's log.
+  kept : (xs : List Entry) → Front xs before.reign.log → Everywhere S F x.part K.heard (length xs) → Front xs k.reign.log × Everywhere S F x.part t (length xs)
+  kept xs f e =
+      let (at, everywhere) = told-front E S F K now H B t up x k before.reign before.led xs f e in
+      (front-trans xs k.reign.begun k.reign.log at grown, everywhere)
+
+  heard-part : HeardPart S F (heard_with K t K.number K.agreed) x.part
+  heard-part = record {
+    reign = k.reign;
+    led = k.led;
+    inside = (kept (K.closed x.part) before.inside before.closed).0;
+    closed = (kept (K.closed x.part) before.inside before.closed).1;
+    decided = λ y is. kept (K.decided x.part) (before.decided y is).0 (before.decided y is).1;
+    top = k.top;
+  }
+
+  -- Its log is under that of the term before, and fits.
+  fits-still : WellFormed (first_stage E x.part) (whole S K t x.part) × ((stage E x.part (whole S K t x.part)).point ≤ now)
+  fits-still = let r = B.reigns x.part t k.reign k.part k.led in
+      subst (λ o. WellFormed (first_stage E x.part) (led_log o ++ K.due x.part t) × ((stage E x.part (led_log o ++ K.due x.part t)).point ≤ now)) (sym k.led) (r.formed, r.past)
+
+  under-before : Under (whole S K t x.part) (whole S K K.heard x.part) × Front (K.closed x.part) (whole S K t x.part)
+  under-before = (
+    subst (λ xs. Under xs (whole S K K.heard x.part)) (sym whole-is)
+        (subst (λ o. Under k.reign.log (led_log o ++ K.due x.part K.heard)) (sym before.led)
+        (under-trans k.reign.log before.reign.log (before.reign.log ++ K.due x.part K.heard)
+        (quiet-reign E S F K now H B x.part t before.reign k.reign k.part before.led k.led (omega (arith, up)))
+        (under-front before.reign.log (before.reign.log ++ K.due x.part K.heard) (front-append before.reign.log (K.due x.part K.heard))))),
+    subst (Front (K.closed x.part)) (sym whole-is) (kept (K.closed x.part) before.inside before.closed).0,
+  )
+
+  decided-still : (y : ℕ) → point_in K.agreed ≡ Some y → Front (K.decided x.part) (whole S K t x.part)
+  decided-still y is = subst (Front (K.decided x.part)) (sym whole-is) (kept (K.decided x.part) (before.decided y is).0 (before.decided y is).1).0
+
+module _ (E : Database) (S : LogState) (F : Firm) (K : Transactions) (now n : ℕ) (w : Membership) (H : Holds S) (B : Books E S F K now) (i : Initiates S n w) (up : K.heard < term_of w)
+    (tells : (p : ℕ) → IsPart S p → (x : Heard) × (x.part ≡ p) × StateOk E S F x.part (term_of w) x.m x.is_open x.outcome) where
+  abbrev t : ℕ
+  t = term_of w
+
+  abbrev after : Transactions
+  after = heard_with K t K.number K.agreed
+
+  -- what holds of each that told, holds of each
+  of-told : (P : ℕ → Type 0) → ((x : Heard) → StateOk E S F x.part t x.m x.is_open x.outcome → P x.part) → (p : ℕ) → IsPart S p → P p
+  of-told P h p part = let (x, at, k) = tells p part in subst P at (h x k)
+
+  still-aligned : Aligned E S.words.deployment now K (whole S K t)
+  still-aligned = aligned-under E S.words.deployment now now K (whole S K K.heard) (whole S K t) (omega arith) B.heard.aligned
+      (of-told (λ p. WellFormed (first_stage E p) (whole S K t p) × ((stage E p (whole S K t p)).point ≤ now)) (fits-still E S F K now H B t up))
+      (of-told (λ p. Under (whole S K t p) (whole S K K.heard p) × Front (K.closed p) (whole S K t p)) (under-before E S F K now H B t up))
+      (λ p y part. of-told (λ p. point_in K.agreed ≡ Some y → Front (K.decided p) (whole S K t p)) (λ x k is. decided-still E S F K now H B t up x k y is) p part)
+
+  heard-aligned : Aligned E S.words.deployment now after (whole S after t)
+  heard-aligned = let A = still-aligned in record {
+    formed = A.formed;
+    past = A.past;
+    front = A.front;
+    over = A.over;
+    below = A.below;
+    only = A.only;
+    fresh = A.fresh;
+    ends = A.ends;
+    snapshot = A.snapshot;
+    decided = A.decided;
+    agreed = A.agreed;
+    even = A.even;
+  }
+
+  -- It is heard by this agent.
+  heard-by : (h a : ℕ) → initiator w ≡ Some (h, a) → (S.words.agents h).start ≡ a → t ≤ term_in (S.words.agents h).decided
+  heard-by h a is runs = let same : n ≡ h = ap (λ m. m.0) (same-some (sym i.initiates ∙ is)) in
+      subst (λ g. t ≤ term_in (S.words.agents g).decided) same (subst (λ o. t ≤ term_in o) (sym i.has_decided) (omega arith))
+
+  heard-due : (p u : ℕ) → DueOk S after p u
+  heard-due p u = elim (B.due p u) [
+    | inl none ↦ inl none
+    | inr d ↦ inr (d.0, d.1, d.2, d.3, d.4, omega (arith, up, d.5))
+  ]
+
+  heard-books : Books E S F after now
+  heard-books = record {
+    due = heard-due;
+    reigns = λ p u g part led. let r = B.reigns p u g part led in record { formed = r.formed; past = r.past; unheard = λ later. r.unheard (omega (arith, up, later)) };
+    heard = record {
+      word = w;
+      is_word = record { decided = decided-word S H n w i.has_decided; term_is = refl };
+      by = heard-by;
+      each = of-told (HeardPart S F after) (heard-part E S F K now H B t up);
+      aligned = heard-aligned;
+    };
+  }
+
+-- ---- the number that a new initiator goes on from
+
+module _ (E : Database) (S : LogState) (F : Firm) (K : Transactions) (now n : ℕ) (w : Membership) (H : Holds S) (B : Books E S F K now) (i : Initiates S n w) (up : K.heard < term_of w)
+    (told : List Heard) (states : AllByRecursion (λ x. StateOk E S F x.part (term_of w) x.m x.is_open x.outcome) told)
+    (tells : (p : ℕ) → IsPart S p → (x : Heard) × In x told × (x.part ≡ p)) where
+  state-of : (x : Heard) → In x told → StateOk E S F x.part (term_of w) x.m x.is_open x.outcome
+  state-of x j = all-at (λ x. StateOk E S F x.part (term_of w) x.m x.is_open x.outcome) told states x j
+
+  stand : (number : ℕ) (agreed : Option Outcome) (x : Heard) → In x told → ToldIs E S F (heard_with K (term_of w) number agreed) x
+  stand number agreed x j = told-is E S F K now H B (term_of w) up x (state-of x j) number agreed
+
+  abbrev heard : Transactions
+  heard = heard_with K (term_of w) K.number K.agreed
+
+  with-heard : Books E S F heard now
+  with-heard = heard-books E S F K now n w H B i up (λ p part. let (x, j, at) = tells p part in (x, at, state-of x j))
+
+  abbrev log : ℕ → List Entry
+  log = whole S heard heard.heard
+
+  A : Aligned E S.words.deployment now heard log
+  A = with-heard.heard.aligned
+
+  number-of-log : (x : Heard) → In x told → (stage E x.part (log x.part)).number ≡ x.m
+  number-of-log x j = told-number E S F heard x (stand K.number K.agreed x j)
+
+  -- where it isn't that of the last transaction, no log has an entry of that
+  module _ (other : greatest_told told ≡ K.number → ⊥) where
+    low : greatest_told told ≤ K.number
+    low = greatest-below told K.number (λ x j.
+        subst (λ m. m ≤ K.number) (number-of-log x j) (number-within E S.words.deployment now heard log A x.part (stand K.number K.agreed x j).part))
+
+    only-calls : (p : ℕ) → IsPart S p → OnlyCalls (since heard log p)
+    only-calls p part = elim (number-since E S.words.deployment now heard log A p part) [
+      | inl calls ↦ calls
+      | inr is ↦
+          let (x, j, at) = tells p part in
+          let number = sym (number-of-log x j) ∙ ap (λ q. (stage E q (log q)).number) at ∙ is in
+          let above = greatest-above told x j in
+          absurd (other (omega (arith, low, number, above)))
+    ]
+
+    over-at : (p : ℕ) → IsPart S p → OverAt E S F heard p (K.closed p)
+    over-at p part = let h = with-heard.heard.each p part in record {
+      stands = A.front p part;
+      led = (h.reign, h.led, h.inside);
+      calls = only-calls p part;
+      everywhere = h.closed;
+      over = A.over p part;
+    }
+
+    closed-low : (p : ℕ) → IsPart S p → (stage E p (K.closed p)).number ≤ greatest_told told
+    closed-low p part =
+        let (x, j, at) = tells p part in
+        let number = ap (λ q. (stage E q (log q)).number) (sym at) ∙ number-of-log x j in
+        let above = greatest-above told x j in
+        let under = closed-number E S.words.deployment now heard log A p part in
+        omega (arith, number, above, under)
+
+    renumbered : Books E S F (heard_with K (term_of w) (greatest_told told) None) now
+    renumbered = resting-books E S F heard now with-heard K.closed (greatest_told told) over-at closed-low A.even
+
+-- ---- the turn
+
+module _ (E : Database) (S : LogState) (F : Firm) (K : Transactions) (now stamp n : ℕ) (w : Membership) (lay : LaidOut S) (H : Holds S) (B : Books E S F K now) (l : now ≤ stamp)
+    (i : Initiates S n w) (a : AgentState) (start : a.start ≡ (S.words.agents n).start) (word : a.decided ≡ Some w) where
+  -- what has been told by then, with the last one that was
+  module _ (told : List Heard) (k : PhaseOk E S F K (term_of w) a (Hears told)) where
+    module _ (tells : (p : ℕ) → IsPart S p → (x : Heard) × In x told × (x.part ≡ p)) where
+      -- All is told, and the history goes on with this number, and this outcome if there is one.
+      goes-on : (number : ℕ) (agreed : Option Outcome) → Books E S F (heard_with K (term_of w) number agreed) now
+          → (b : AgentState) → b.start ≡ a.start → b.decided ≡ a.decided → b.waiting ≡ a.waiting → number < b.initiating.next
+          → JobOk (heard_with K (term_of w) number agreed) b.initiating.work → InitiatorGoes E S F K stamp n w a (closes_open E S.words.deployment n b told (open_told told))
+      goes-on number agreed C b s d x next job =
+          let up = k.0 in
+          goes-from E S F K stamp n w a (heard_with K (term_of w) number agreed) b (closes_open E S.words.deployment n b told (open_told told)) refl (omega (arith, up)) s d x
+          (closes_open-goes E S F (heard_with K (term_of w) number agreed) now stamp n w lay H C l i b (s ∙ start) (d ∙ word) refl next job told
+          (stand E S F K now n w H B i k.0 told k.1 tells number agreed) tells)
+
+      -- a new initiator goes on from the greatest number that was told
+      abbrev first : AgentState
+      first = record a { initiating = record a.initiating { next = greatest_told told + 1 } }
+
+      first-goes : a.initiating.work ≡ None → InitiatorGoes E S F K stamp n w a (closes_open E S.words.deployment n first told (open_told told))
+      first-goes none = elim (cases_eq (greatest_told told) K.number) [
+        | inl same ↦ goes-on K.number K.agreed (with-heard E S F K now n w H B i k.0 told k.1 tells) first refl refl refl (omega (arith, same)) k.2
+        | inr other ↦ goes-on (greatest_told told) None (renumbered E S F K now n w H B i k.0 told k.1 tells other) first refl refl refl (omega arith)
+            (subst (JobOk (heard_with K (term_of w) (greatest_told told) None)) (sym none) tt)
+      ]
+
+      next-or-new : (a.initiating.next ≡ 0 → ⊥) → K.number < a.initiating.next
+      next-or-new some = elim k.3 [
+        | inl new ↦ absurd (some new.0)
+        | inr next ↦ next
+      ]
+
+      work-of-new : a.initiating.next ≡ 0 → a.initiating.work ≡ None
+      work-of-new none = elim k.3 [
+        | inl new ↦ new.1
+        | inr next ↦ absurd (omega (arith, none, next))
+      ]
+
+      all-told : InitiatorGoes E S F K stamp n w a (closes_open E S.words.deployment n (first_number a told) told (open_told told))
+      all-told = choice (a.initiating.next == 0) refl
+        where
+          choice : (b : Bool) → (a.initiating.next == 0) ≡ b → InitiatorGoes E S F K stamp n w a (closes_open E S.words.deployment n (if b then first else a) told (open_told told))
+          choice true is = first-goes (work-of-new (eqb-true a.initiating.next 0 is))
+          choice false is = goes-on K.number K.agreed (with-heard E S F K now n w H B i k.0 told k.1 tells) a refl refl refl (next-or-new (eqb-false a.initiating.next 0 is)) k.2
+
+    hears-all : InitiatorGoes E S F K stamp n w a (hears E S.words.deployment n a told)
+    hears-all = choice (list_all (has_told told) (all_parts S.words.deployment)) refl
+      where
+        choice : (b : Bool) → list_all (has_told told) (all_parts S.words.deployment) ≡ b → InitiatorGoes E S F K stamp n w a
+            (if b then closes_open E S.words.deployment n (first_number a told) told (open_told told) else becomes (with_phase a (Hears told)))
+        choice true all = all-told (told-by S told all)
+        choice false some = goes-still E S F K stamp n w a now (with_phase a (Hears told)) B l refl refl refl k
+
+  -- The leader of partition p tells how it stands.
+  module _ (k : PhaseOk E S F K (term_of w) a a.initiating.phase) (p m : ℕ) (is_open : Bool) (outcome : Option Outcome)
+      (state : K.heard < term_of w → StateOk E S F p (term_of w) m is_open outcome) where
+    still : InitiatorGoes E S F K stamp n w a (becomes a)
+    still = goes-still E S F K stamp n w a now a B l refl refl refl k
+
+    hears-goes : (told : List Heard) → PhaseOk E S F K (term_of w) a (Hears told) → InitiatorGoes E S F K stamp n w a (on_mp_state E S.words.deployment n a (Hears told) p m is_open outcome)
+    hears-goes told h = choice (has_told told p)
+      where
+        choice : (b : Bool) → InitiatorGoes E S F K stamp n w a
+            (if b then becomes a else hears E S.words.deployment n a (told ++ record { part = p; m = m; is_open = is_open; outcome = outcome } ∷ []))
+        choice true = still
+        choice false = hears-all (told ++ record { part = p; m = m; is_open = is_open; outcome = outcome } ∷ []) (
+          h.0,
+          all-append (λ x. StateOk E S F x.part (term_of w) x.m x.is_open x.outcome) told (record { part = p; m = m; is_open = is_open; outcome = outcome } ∷ []) h.1 (state h.0, tt),
+          h.2,
+          h.3,
+        )
+
+    -- In any phase.
+    pub mp_state-goes : InitiatorGoes E S F K stamp n w a (on_mp_state E S.words.deployment n a a.initiating.phase p m is_open outcome)
+    mp_state-goes = choice a.initiating.phase k
+      where
+        choice : (phase : Phase) → PhaseOk E S F K (term_of w) a phase → InitiatorGoes E S F K stamp n w a (on_mp_state E S.words.deployment n a phase p m is_open outcome)
+        choice Off h = absurd h
+        choice (Hears told) h = hears-goes told h
+        choice (Closes closing closed finished) h = still
+        choice Idle h = still
+        choice Works h = still

@@ -1,0 +1,88 @@
+-- Turns of an initiator: in which nothing changes, behind a part that sends no round and no end, and from another history of what is due.
+use Rattle.std.proofs.Common.{◌≡◌, [], ◌++◌, append-nil, refl, sym, subst, ap, ◌∙◌, ◌≤◌, le_trans, arith}
+use Rattle.std.specs.Prelude.{ℕ}
+use Rattle.std.specs.List.{AllByRecursion}
+use Rattle.volt_wire.specs.Word.{Membership}
+use Rattle.volt_wire.specs.declared.actor.Actor.TheVariants.{Site}
+use Rattle.cluster_model.specs.Engine.{Database}
+use Rattle.cluster_model.specs.Words.{term_of}
+use Rattle.cluster_model.specs.Letters.{Sends, no_sends, Turn, becomes, ◌▸◌}
+use Rattle.cluster_model.specs.AgentState.{AgentState}
+use Rattle.log_laws.specs.Histories.{LogState, part}
+use Rattle.disk_laws.specs.Disks.{Firm}
+use Rattle.transaction_laws.specs.Transactions.{Transactions, Books, PhaseOk, orders}
+use Rattle.transaction_laws.proofs.Kept.Moves.{SentOrder, SendsDue, InitiatorGoes}
+use Rattle.transaction_laws.proofs.Kept.Later.{books-later}
+
+-- ---- what is sent
+
+-- nothing, and nothing more is due
+sends-none : (S : LogState) (n : ℕ) (w : Membership) (K : Transactions) → SendsDue S n w K K no_sends
+sends-none S n w K = record {
+  letters = λ c s. tt;
+  due = λ c a s l x. sym (append-nil (K.due (part S c) (term_of w)));
+  others = λ p t d. refl;
+}
+
+-- the same to the sites, from a history in which the same is due
+sends-from : (S : LogState) (n : ℕ) (w : Membership) (K L M : Transactions) (out same : Sends) → L.due ≡ K.due → ((c : ℕ) → same (Site c) ≡ out (Site c))
+    → SendsDue S n w L M out → SendsDue S n w K M same
+sends-from S n w K L M out same due sites h = record {
+  letters = λ c s. subst (AllByRecursion (SentOrder S n w c)) (sym (sites c)) (h.letters c s);
+  due = λ c a s l x. subst (λ ls. M.due (part S c) (term_of w) ≡ K.due (part S c) (term_of w) ++ orders a (term_of w) ls) (sym (sites c))
+      (subst (λ d. M.due (part S c) (term_of w) ≡ d (part S c) (term_of w) ++ orders a (term_of w) (out (Site c))) due (h.due c a s l x));
+  others = λ p t d. h.others p t d ∙ ap (λ f. f p t) due;
+}
+
+-- ---- turns
+
+module _ (E : Database) (S : LogState) (F : Firm) (K : Transactions) (stamp n : ℕ) (w : Membership) (a : AgentState) where
+  -- It goes on as it was, or with another state that is as good.
+  pub goes-still : (now : ℕ) (b : AgentState) → Books E S F K now → now ≤ stamp → b.start ≡ a.start → b.decided ≡ a.decided → b.waiting ≡ a.waiting
+      → PhaseOk E S F K (term_of w) b b.initiating.phase → InitiatorGoes E S F K stamp n w a (becomes b)
+  goes-still now b B l start decided waiting k = record {
+    after = K;
+    books = books-later E S F K now stamp l B;
+    heard = omega arith;
+    start = start;
+    decided = decided;
+    waiting = waiting;
+    phase = k;
+    sends = sends-none S n w K;
+  }
+
+  -- from another state with the same start, word and messages that wait, and a history in which the same is due
+  pub goes-from : (L : Transactions) (b : AgentState) (t : Turn AgentState) → L.due ≡ K.due → K.heard ≤ L.heard → b.start ≡ a.start → b.decided ≡ a.decided → b.waiting ≡ a.waiting
+      → InitiatorGoes E S F L stamp n w b t → InitiatorGoes E S F K stamp n w a t
+  goes-from L b t due up start decided waiting g = record {
+    after = g.after;
+    books = g.books;
+    heard = le_trans up g.heard;
+    start = g.start ∙ start;
+    decided = g.decided ∙ decided;
+    waiting = g.waiting ∙ waiting;
+    phase = g.phase;
+    sends = sends-from S n w K L g.after t.sends t.sends due (λ c. refl) g.sends;
+  }
+
+-- A part of a turn that is none of the initiator's: it leaves its part as it was, and sends nothing to sites.
+pub record Aside (a : AgentState) (t : Turn AgentState) : Type 0 where
+  pub start : t.state.start ≡ a.start
+  pub decided : t.state.decided ≡ a.decided
+  pub waiting : t.state.waiting ≡ a.waiting
+  pub initiating : t.state.initiating ≡ a.initiating
+  pub sends : (c : ℕ) → t.sends (Site c) ≡ []
+
+-- the turn behind it
+pub goes-then : (E : Database) (S : LogState) (F : Firm) (K : Transactions) (stamp n : ℕ) (w : Membership) (a : AgentState) (t : Turn AgentState) (f : AgentState → Turn AgentState)
+    → Aside a t → InitiatorGoes E S F K stamp n w t.state (f t.state) → InitiatorGoes E S F K stamp n w a (t ▸ f)
+goes-then E S F K stamp n w a t f k g = record {
+  after = g.after;
+  books = g.books;
+  heard = g.heard;
+  start = g.start ∙ k.start;
+  decided = g.decided ∙ k.decided;
+  waiting = g.waiting ∙ k.waiting;
+  phase = g.phase;
+  sends = sends-from S n w K K g.after (f t.state).sends (t ▸ f).sends refl (λ c. ap (λ ls. ls ++ (f t.state).sends (Site c)) (k.sends c)) g.sends;
+}

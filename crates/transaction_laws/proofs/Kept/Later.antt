@@ -1,0 +1,672 @@
+-- What holds of transactions, holds after an event that only adds to logs.
+use Rattle.std.proofs.Common.{◌≡◌, ◌<◌, zero, suc, Bool, true, List, [], ◌∷◌, ◌++◌, ◌⊎◌, inl, inr, ◌+◌, length, drop, take, length-take, refl, sym, subst, ap, ◌∙◌, append-nil, append_assoc, arith}
+use Rattle.std.proofs.lemmas.Bool.{cases_Bool, cases_eq}
+use Rattle.std.proofs.lemmas.List.{drop-append-le}
+use Rattle.std.proofs.Math.Seq.{drop-append_seam}
+use Rattle.std.specs.Prelude.{ℕ, ◌≤◌, nat_lt, Option, Some, None}
+use Rattle.std.specs.List.{AllByRecursion}
+use Rattle.volt_base.specs.declared.entry.Entry.{Entry}
+use Rattle.volt_base.specs.declared.entry.Entry.TheVariants.{Frag, Done}
+use Rattle.volt_base.specs.declared.entry.Outcome.{Outcome}
+use Rattle.volt_wire.specs.Word.{Membership}
+use Rattle.volt_wire.specs.declared.message.Msg.TheVariants as msg
+use Rattle.cluster_model.specs.Engine.{Database}
+use Rattle.cluster_model.specs.Log.{open_in, last_done}
+use Rattle.cluster_model.specs.Words.{parts, part_of_slot, slots, term_in, leader, start_of_slot, initiator}
+use Rattle.cluster_model.specs.Letters.{Letter}
+use Rattle.cluster_model.specs.AgentState.{AgentState, Phase, Off, Hears, Closes, Idle, Works, Work, Decision}
+use Rattle.cluster_model.specs.Site.{standing}
+use Rattle.word_laws.specs.Histories.{In}
+use Rattle.word_laws.proofs.Lists.{same-some, none-and-some, not-both, in-left, in-right, in-cases, all-at, all-append, all-mono, all-behind}
+use Rattle.word_laws.proofs.Agreement.{member-is}
+use Rattle.word_laws.proofs.Members.{initiator-member}
+use Rattle.log_laws.specs.Histories.{LogState, Logs, Reign, Front, Last, Holds, known, base_of, part}
+use Rattle.log_laws.proofs.Plain.Fronts.{front-refl, front-append, front-trans, front-grows, front-length, fronts-order, front-take, front-rest}
+use Rattle.log_laws.proofs.Kept.Terms.{base-least, last-below}
+use Rattle.log_laws.proofs.Runs.Agreeing.{agrees-begun}
+use Rattle.disk_laws.specs.Disks.{Firm, Top, AtLeast}
+use Rattle.transaction_laws.specs.Machine.{Stage, WellFormed, first_stage, stage_behind, stage}
+use Rattle.transaction_laws.specs.Transactions.{Transactions, Books, ReignFits, HeardPart, HeardOk, DueOk, Aligned, IsPart, IsCall, OnlyCalls, OfNumber, NoRound, Everywhere, Stood, StateOk, OrderOk, AnswerOk, ToSiteOk, Settled, Fed, Ended, AtHand, PhaseOk, led_log, whole, since}
+use Rattle.transaction_laws.proofs.Kept.Moves.{Onto, Begins, Goes, Moved, with_due, Under, CallsAt}
+use Rattle.transaction_laws.proofs.Entries.Machine.{AtMostOne, formed-append, formed-front, front-point, calls-only, calls-formed, calls-point, due-formed, due-opened, due-number, due-point, stage-append}
+use Rattle.transaction_laws.proofs.Entries.Since.{all-first, call-number, call-round}
+use Rattle.transaction_laws.proofs.Entries.Aligned.{under-refl, under-front, under-trans, under-calls, aligned-under}
+
+-- ---- what only grows
+
+pub everywhere-on : (S T : LogState) (F M : Firm) → Onto S T F M → (p t n : ℕ) → Everywhere S F p t n → Everywhere T M p t n
+everywhere-on S T F M o p t n k = record { reach = omega (arith, k.reach, o.onward.reach p t); firm = omega (arith, k.firm, o.firm p) }
+
+pub stood-on : (S T : LogState) (F M : Firm) → Onto S T F M → (p t : ℕ) (e : Entry) → Stood S F p t e → Stood T M p t e
+stood-on S T F M o p t e k = let h = o.onward.kept p t k.reign k.led in record {
+  reign = h.0;
+  led = h.1;
+  position = k.position;
+  stands = record {
+    front = k.stands.front;
+    stands = front-trans (k.stands.front ++ e ∷ []) k.reign.log h.0.log k.stands.stands h.3;
+    at = k.stands.at;
+  };
+  everywhere = everywhere-on S T F M o p t k.position k.everywhere;
+}
+
+pub state-on : (E : Database) (S T : LogState) (F M : Firm) → Onto S T F M → (p t m : ℕ) (is_open : Bool) (outcome : Option Outcome) → StateOk E S F p t m is_open outcome
+    → StateOk E T M p t m is_open outcome
+state-on E S T F M o p t m is_open outcome k = let h = o.onward.kept p t k.reign k.led in record {
+  part = subst (λ D. nat_lt p (parts D) ≡ true) (sym o.deployment) k.part;
+  reign = h.0;
+  led = h.1;
+  told = ap (λ b. standing (open_in b) (last_done E p b)) h.2 ∙ k.told;
+  everywhere = subst (λ b. Everywhere T M p t (length b)) (sym h.2) (everywhere-on S T F M o p t (length k.reign.begun) k.everywhere);
+  top = o.tops p t 0 k.top;
+}
+
+pub answer-on : (E : Database) (S T : LogState) (F M : Firm) → Onto S T F M → (K L : Transactions) → K.heard ≤ L.heard → (p : ℕ) (l : Letter) → AnswerOk E S F K p l → AnswerOk E T M L p l
+answer-on E S T F M o K L h p l k = elim l.body as (λ m. AnswerOk E S F K p (record l { body = m }) → AnswerOk E T M L p (record l { body = m })) [
+  | msg.FragDone m round partial ↦ λ k. (k.0, (k.1.0, stood-on S T F M o p l.term (Frag m round k.1.0) k.1.1))
+  | msg.Finished m ↦ λ k. (k.0, (k.1.0, stood-on S T F M o p l.term (Done m k.1.0) k.1.1))
+  | msg.MpState m is_open outcome ↦ λ k. (k.0, λ above. state-on E S T F M o p l.term m is_open outcome (k.1 (omega (arith, h, above))))
+  | _ ↦ λ k. tt
+] k
+
+order-on : (S T : LogState) (F M : Firm) → Onto S T F M → (h c : ℕ) (l : Letter) → OrderOk S h c l → OrderOk T h c l
+order-on S T F M o h c l k = let r = o.onward.kept (part S c) l.term k.reign k.led in record {
+  addressed = k.addressed;
+  word = k.word;
+  is_word = record { decided = o.decided k.word k.is_word.decided; term_is = k.is_word.term_is };
+  by = k.by;
+  initiates = k.initiates;
+  leads = subst (λ D. leader D k.word (part_of_slot D c) ≡ Some c) (sym o.deployment) k.leads;
+  start_is = subst (λ D. start_of_slot D k.word c ≡ Some l.start) (sym o.deployment) k.start_is;
+  reign = r.0;
+  led = subst (λ D. T.logs.reign (part_of_slot D c) l.term ≡ Some r.0) (sym o.deployment) r.1;
+}
+
+pub to_site-on : (S T : LogState) (F M : Firm) → Onto S T F M → (h c : ℕ) (l : Letter) → ToSiteOk S h c l → ToSiteOk T h c l
+to_site-on S T F M o h c l k = elim l.body as (λ m. ToSiteOk S h c (record l { body = m }) → ToSiteOk T h c (record l { body = m })) [
+  | msg.Frag m round body ↦ λ k. order-on S T F M o h c (record l { body = msg.Frag m round body }) k
+  | msg.Done m outcome ↦ λ k. order-on S T F M o h c (record l { body = msg.Done m outcome }) k
+  | _ ↦ λ k. tt
+] k
+
+-- what is said of a partition in the term that was heard
+heard-part : (S T : LogState) (F M : Firm) → Onto S T F M → (K : Transactions) (due : ℕ → ℕ → List Entry) (p : ℕ) → HeardPart S F K p → HeardPart T M (with_due K due) p
+heard-part S T F M o K due p k = let h = o.onward.kept p K.heard k.reign k.led in record {
+  reign = h.0;
+  led = h.1;
+  inside = front-trans (K.closed p) k.reign.log h.0.log k.inside h.3;
+  closed = everywhere-on S T F M o p K.heard (length (K.closed p)) k.closed;
+  decided = λ x e. let d = k.decided x e in
+      (front-trans (K.decided p) k.reign.log h.0.log d.0 h.3, everywhere-on S T F M o p K.heard (length (K.decided p)) d.1);
+  top = o.tops p K.heard 0 k.top;
+}
+
+-- ---- terms that were led and whose initiator hasn't heard of all
+
+-- What a term begins with is at the front of the log of the last one before that was led.
+begun-behind : (S : LogState) → Holds S → (p t : ℕ) (g : Reign) → S.logs.reign p t ≡ Some g → base_of S < t → (v : ℕ) × (l : Last S.logs p v t) × Front g.begun l.reign.log
+begun-behind S H p t g is above =
+    let r = (H.reigns p t g is).begun_by above in
+    let entered = H.entered r.0 t r.1 r.4 in
+    let l = last-below S H p t above in
+    let behind = (subst (λ q. (x : Last S.logs q l.0 t) → Front r.1.log x.reign.log × (known r.1 ≤ S.logs.reach q l.0)) r.3 (entered.behind l.0) l.1).0 in
+    (l.0, l.1, subst (λ z. Front z l.1.reign.log) r.5 behind)
+
+-- In such a term the leader's log has no round and no end that isn't in that of the term that was heard, in its place.
+pub quiet-reign : (E : Database) (S : LogState) (F : Firm) (K : Transactions) (now : ℕ) → Holds S → Books E S F K now → (p t : ℕ) (g h : Reign) → IsPart S p
+    → S.logs.reign p K.heard ≡ Some g → S.logs.reign p t ≡ Some h → K.heard ≤ t → Under h.log g.log
+quiet-reign E S F K now H B p t g h part led is up = upwards (t + 1) t h (omega arith) is up
+  where
+    above-base : (t : ℕ) → K.heard < t → base_of S < t
+    above-base t above = let k = H.reigns p K.heard g led in omega (arith, base-least S H k.word k.is_word.decided, k.is_word.term_is, above)
+
+    same : (t : ℕ) (h : Reign) → S.logs.reign p t ≡ Some h → t ≡ K.heard → Under h.log g.log
+    same t h is e = subst (λ x. Under x.log g.log) (same-some (sym led ∙ ap (S.logs.reign p) (sym e) ∙ is)) (under-refl g.log)
+
+    upwards : (m t : ℕ) (h : Reign) → t < m → S.logs.reign p t ≡ Some h → K.heard ≤ t → Under h.log g.log
+    upwards zero t h small is up = absurd (omega (arith, small))
+    upwards (suc m) t h small is up = elim (cases_eq t K.heard) [
+      | inl e ↦ same t h is e
+      | inr d ↦
+          let above : K.heard < t = omega (arith, up, d) in
+          let b = begun-behind S H p t h is (above-base t above) in
+          let low = b.1.greatest K.heard g led above in
+          let begun = under-trans h.begun b.1.reign.log g.log (under-front h.begun b.1.reign.log b.2)
+          (upwards m b.0 b.1.reign (omega (arith, b.1.below, small)) b.1.led low) in
+          subst (λ z. Under z g.log) (sym (front-rest h.begun h.log (H.reigns p t h is).grown))
+          (under-calls h.begun g.log (drop (length h.begun) h.log) begun ((B.reigns p t h part is).unheard above))
+    ]
+
+-- What is everywhere in a term is at the front of the log of a later one, from its beginning on.
+pub everywhere-front : (S : LogState) (F : Firm) → Holds S → (p t u : ℕ) (g h : Reign) (xs : List Entry) → S.logs.reign p t ≡ Some g → S.logs.reign p u ≡ Some h → t < u
+    → Front xs g.log → Everywhere S F p t (length xs) → Front xs h.begun
+everywhere-front S F H p t u g h xs led is l f k =
+    let a = agrees-begun S H p t g led u h is l in
+    let n = S.logs.reach p t in
+    front-trans xs (take n g.log) h.begun
+    (fronts-order xs (take n g.log) g.log f (front-take n g.log) (omega (arith, length-take n g.log, (H.reigns p t g led).within, k.reach))) a.1
+
+-- ---- calls that run between a log and what is due behind it
+
+-- xs is a log with what is due, and ys the same with calls between.
+record Between (E : Database) (p stamp : ℕ) (xs ys : List Entry) : Type 0 where
+  log : List Entry
+  calls : List Entry
+  due : List Entry
+  was : xs ≡ log ++ due
+  is : ys ≡ (log ++ calls) ++ due
+  at : CallsAt stamp calls
+  one : AtMostOne due
+  room : (calls ≡ []) ⊎ ((stage E p log).opened ≡ None)
+
+module _ (E : Database) (p stamp : ℕ) (xs ys : List Entry) (b : Between E p stamp xs ys) where
+  -- the same is open, with the same number
+  between-opened : (stage E p ys).opened ≡ (stage E p xs).opened
+  between-opened = ap (λ z. (stage E p z).opened) b.is ∙ due-opened (first_stage E p) b.log b.calls b.due stamp b.at ∙ ap (λ z. (stage E p z).opened) (sym b.was)
+
+  between-number : (stage E p ys).number ≡ (stage E p xs).number
+  between-number = ap (λ z. (stage E p z).number) b.is ∙ due-number (first_stage E p) b.log b.calls b.due stamp b.at ∙ ap (λ z. (stage E p z).number) (sym b.was)
+
+  between-low : WellFormed (first_stage E p) xs → (stage E p xs).point ≤ stamp → (stage E p b.log).point ≤ stamp
+  between-low h l = omega (arith, front-point (first_stage E p) b.log xs (b.due, b.was) h, l)
+
+  between-formed : WellFormed (first_stage E p) xs → (stage E p xs).point ≤ stamp → WellFormed (first_stage E p) ys
+  between-formed h l = subst (WellFormed (first_stage E p)) (sym b.is)
+      (due-formed (first_stage E p) b.log b.calls b.due stamp b.one (subst (WellFormed (first_stage E p)) b.was h) b.at b.room (between-low h l))
+
+  between-point : WellFormed (first_stage E p) xs → (stage E p xs).point ≤ stamp → (stage E p ys).point ≤ stamp
+  between-point h l = subst (λ z. (stage E p z).point ≤ stamp) (sym b.is)
+      (due-point (first_stage E p) b.log b.calls b.due stamp b.one b.at (between-low h l) (subst (λ z. (stage E p z).point ≤ stamp) b.was l))
+
+  -- what is behind a position in the log, with and without the calls
+  drop-was : (n : ℕ) → n ≤ length b.log → drop n xs ≡ drop n b.log ++ b.due
+  drop-was n l = ap (drop n) b.was ∙ drop-append-le n b.log b.due l
+
+  drop-is : (n : ℕ) → n ≤ length b.log → drop n ys ≡ drop n b.log ++ (b.calls ++ b.due)
+  drop-is n l = ap (drop n) (b.is ∙ append_assoc b.log b.calls b.due) ∙ drop-append-le n b.log (b.calls ++ b.due) l
+
+  between-all : (P : Entry → Type 0) → ((x : Entry) → IsCall x → P x) → (n : ℕ) → n ≤ length b.log → AllByRecursion P (drop n xs) → AllByRecursion P (drop n ys)
+  between-all P calls n l h =
+      let k = subst (AllByRecursion P) (drop-was n l) h in
+      subst (AllByRecursion P) (sym (drop-is n l)) (all-append P (drop n b.log) (b.calls ++ b.due) (all-first P (drop n b.log) b.due k)
+      (all-append P b.calls b.due (all-mono IsCall P calls b.calls (calls-only stamp b.calls b.at)) (all-behind P (drop n b.log) b.due k)))
+
+  between-in : (x : Entry) → (IsCall x → ⊥) → (n : ℕ) → n ≤ length b.log → In x (drop n ys) → In x (drop n xs)
+  between-in x order n l i = subst (In x) (sym (drop-was n l)) (elim (in-cases x (drop n b.log) (b.calls ++ b.due) (subst (In x) (drop-is n l) i)) [
+    | inl k ↦ in-left x (drop n b.log) b.due k
+    | inr k ↦ elim (in-cases x b.calls b.due k) [
+      | inl c ↦ absurd (order (all-at IsCall b.calls (calls-only stamp b.calls b.at) x c))
+      | inr d ↦ in-right x (drop n b.log) b.due d
+    ]
+  ])
+
+  between-front : (zs : List Entry) → Front zs b.log → Front zs ys
+  between-front zs f = subst (Front zs) (sym b.is) (front-grows zs (b.log ++ b.calls) b.due (front-grows zs b.log b.calls f))
+
+-- ---- what was due, and what is left of it
+
+rest-none : (taken next : List Entry) → taken ++ next ≡ [] → (taken ≡ []) × (next ≡ [])
+rest-none [] next e = (refl, e)
+rest-none (x ∷ xs) next e = absurd (cc)
+
+rest-one : (taken next : List Entry) (x : Entry) → taken ++ next ≡ x ∷ [] → (next ≡ []) ⊎ (next ≡ x ∷ [])
+rest-one [] next x e = inr e
+rest-one (y ∷ ys) next x e = let none : ys ++ next ≡ [] = cc in inl (rest-none ys next none).1
+
+-- what is left of one order at most
+one-rest : (due taken next : List Entry) → due ≡ taken ++ next → AtMostOne due → AtMostOne next
+one-rest due taken next e (inl none) = inl (rest-none taken next (sym e ∙ none)).1
+one-rest due taken next e (inr (x, is, order)) = elim (rest-one taken next x (sym e ∙ is)) [
+  | inl none ↦ inl none
+  | inr one ↦ inr (x, one, order)
+]
+
+due-one : (S : LogState) (K : Transactions) (p t : ℕ) → DueOk S K p t → AtMostOne (K.due p t)
+due-one S K p t (inl none) = inl none
+due-one S K p t (inr (x, g, is, order, led, l)) = inr (x, is, order)
+
+-- so it is with the log of a leader that took what was due
+abbrev between-goes : (E : Database) (F G : Logs) (due next : List Entry) (stamp p t : ℕ) (k : Goes E F G due next stamp p t) → AtMostOne due
+    → Between E p stamp (k.old.log ++ due) (k.new.log ++ next)
+between-goes E F G due next stamp p t k one = record {
+  log = k.old.log ++ k.taken;
+  calls = k.runs.calls;
+  due = next;
+  was = ap (λ z. k.old.log ++ z) k.due_is ∙ sym (append_assoc k.old.log k.taken next);
+  is = ap (λ z. z ++ next) k.runs.is;
+  at = k.runs.at;
+  one = one-rest due k.taken next k.due_is one;
+  room = k.runs.room;
+}
+
+-- where nothing was due, only calls were added
+goes-quiet : (E : Database) (F G : Logs) (due next : List Entry) (stamp p t : ℕ) (k : Goes E F G due next stamp p t) → due ≡ []
+    → (next ≡ []) × (k.new.log ≡ k.old.log ++ k.runs.calls) × (k.old.log ++ k.taken ≡ k.old.log)
+goes-quiet E F G due next stamp p t k none =
+    let r = rest-none k.taken next (sym k.due_is ∙ none) in
+    let log = ap (λ z. k.old.log ++ z) r.0 ∙ append-nil k.old.log in
+    (r.1, k.runs.is ∙ ap (λ z. z ++ k.runs.calls) log, log)
+
+-- ---- the turn of a site
+
+module _ (E : Database) (S T : LogState) (F M : Firm) (K : Transactions) (now : ℕ) (due : ℕ → ℕ → List Entry) (H : Holds S) (J : Holds T) (o : Onto S T F M)
+    (moved : (p t : ℕ) → IsPart S p → Moved E S.logs T.logs K.due due (now + 1) p t) (B : Books E S F K now) where
+  abbrev L : Transactions
+  L = with_due K due
+
+  -- what the leader of a term took
+  abbrev Went : ℕ → ℕ → Type 0
+  Went p t = Goes E S.logs T.logs (K.due p t) (due p t) (now + 1) p t
+
+  -- a term that was led goes on
+  goes-at : (p t : ℕ) (g : Reign) → IsPart S p → S.logs.reign p t ≡ Some g → (k : Went p t) × (k.old ≡ g)
+  goes-at p t g part led = from (moved p t part)
+    where
+      from : Moved E S.logs T.logs K.due due (now + 1) p t → (k : Went p t) × (k.old ≡ g)
+      from (inl (same, next)) = (
+        record {
+          old = g;
+          was = led;
+          new = g;
+          is = same ∙ led;
+          begun = refl;
+          taken = [];
+          due_is = sym next;
+          runs = record { calls = []; is = sym (append-nil g.log) ∙ ap (λ z. z ++ []) (sym (append-nil g.log)); at = tt; room = inl refl };
+        },
+        refl,
+      )
+      from (inr (inl k)) = absurd (none-and-some k.none led)
+      from (inr (inr k)) = (k, same-some (sym k.was ∙ led))
+
+  -- of what was due, the leader took the first part, or nothing
+  taken-at : (p t : ℕ) → IsPart S p → (taken : List Entry) × (K.due p t ≡ taken ++ due p t)
+  taken-at p t part = elim (moved p t part) [
+    | inl (same, next) ↦ ([], sym next)
+    | inr (inl k) ↦ ([], k.before ∙ sym k.after)
+    | inr (inr k) ↦ (k.taken, k.due_is)
+  ]
+
+  -- what is left of what was due
+  due-on : (p t : ℕ) (taken : List Entry) → K.due p t ≡ taken ++ due p t → DueOk T L p t
+  due-on p t taken e = from (B.due p t)
+    where
+      from : DueOk S K p t → DueOk T L p t
+      from (inl none) = inl (rest-none taken (due p t) (sym e ∙ none)).1
+      from (inr (x, g, is, order, led, l)) = elim (rest-one taken (due p t) x (sym e ∙ is)) [
+        | inl none ↦ inl none
+        | inr one ↦ let h = o.onward.kept p t g led in inr (x, h.0, one, order, h.1, l)
+      ]
+
+  due-at : ((p t : ℕ) → (IsPart S p → ⊥) → due p t ≡ K.due p t) → (p t : ℕ) → DueOk T L p t
+  due-at others p t = elim (cases_Bool (nat_lt p (parts S.words.deployment))) [
+    | inl is ↦ let r = taken-at p t is in due-on p t r.0 r.1
+    | inr out ↦ due-on p t [] (sym (others p t (λ is. not-both (nat_lt p (parts S.words.deployment)) is out)))
+  ]
+
+  -- ---- the logs of leaders
+
+  -- In a term whose initiator hasn't heard of all nothing is due.
+  unheard-none : (p t : ℕ) → K.heard < t → K.due p t ≡ []
+  unheard-none p t above = elim (B.due p t) [
+    | inl none ↦ none
+    | inr (x, g, is, order, led, l) ↦ absurd (omega (arith, above, l))
+  ]
+
+  -- where the term was led before
+  fits-led : (p t : ℕ) → IsPart S p → (k : Went p t) → ReignFits E T L (now + 1) p t k.new
+  fits-led p t part k = record {
+    formed = between-formed E p (now + 1) (k.old.log ++ K.due p t) (k.new.log ++ due p t) b f.formed (omega (arith, f.past));
+    past = between-point E p (now + 1) (k.old.log ++ K.due p t) (k.new.log ++ due p t) b f.formed (omega (arith, f.past));
+    unheard = λ above.
+        let q = goes-quiet E S.logs T.logs (K.due p t) (due p t) (now + 1) p t k (unheard-none p t above) in
+        let n = length k.old.begun in
+        let e : drop n k.new.log ≡ drop n k.old.log ++ k.runs.calls =
+        ap (drop n) q.1 ∙ drop-append-le n k.old.log k.runs.calls (front-length k.old.begun k.old.log (H.reigns p t k.old k.was).grown) in
+        subst (λ z. OnlyCalls (drop (length z) k.new.log)) (sym k.begun) (subst OnlyCalls (sym e)
+        (all-append IsCall (drop n k.old.log) k.runs.calls (f.unheard above) (calls-only (now + 1) k.runs.calls k.runs.at)));
+  }
+    where
+      f : ReignFits E S K now p t k.old
+      f = B.reigns p t k.old part k.was
+
+      b : Between E p (now + 1) (k.old.log ++ K.due p t) (k.new.log ++ due p t)
+      b = between-goes E S.logs T.logs (K.due p t) (due p t) (now + 1) p t k (due-one S K p t (B.due p t))
+
+  -- the epoch is the same
+  same-base : base_of T ≡ base_of S
+  same-base = sym (J.words.history.decided_good S.words.history.first (o.decided S.words.history.first H.words.history.first_decided)).base
+
+  abbrev Fits : ℕ → ℕ → Reign → Type 0
+  Fits p t g = ReignFits E T L (now + 1) p t g
+
+  abbrev Starts : ℕ → ℕ → Type 0
+  Starts p t = Begins E S.logs T.logs (K.due p t) (due p t) (now + 1) p t
+
+  -- what a new term begins with fits, if the logs of those before do
+  begun-fits : (p t : ℕ) (k : Starts p t) → ((v : ℕ) (g : Reign) → v < t → T.logs.reign p v ≡ Some g → Fits p v g)
+      → WellFormed (first_stage E p) k.reign.begun × ((stage E p k.reign.begun).point ≤ now + 1)
+  begun-fits p t k earlier = (
+    formed-front (first_stage E p) k.reign.begun (b.1.reign.log ++ due p b.0) whole f.formed,
+    omega (arith, front-point (first_stage E p) k.reign.begun (b.1.reign.log ++ due p b.0) whole f.formed, f.past),
+  )
+    where
+      above : base_of T < t
+      above = let r = J.reigns p t k.reign k.led in elim (cases_eq t (base_of T)) [
+        | inl e ↦ let f = H.first p in absurd (none-and-some k.none (ap (S.logs.reign p) (e ∙ same-base) ∙ f.1))
+        | inr d ↦ omega (arith, base-least T J r.word r.is_word.decided, r.is_word.term_is, d)
+      ]
+
+      b : (v : ℕ) × (l : Last T.logs p v t) × Front k.reign.begun l.reign.log
+      b = begun-behind T J p t k.reign k.led above
+
+      f : Fits p b.0 b.1.reign
+      f = earlier b.0 b.1.reign b.1.below b.1.led
+
+      whole : Front k.reign.begun (b.1.reign.log ++ due p b.0)
+      whole = front-grows k.reign.begun b.1.reign.log (due p b.0) b.2
+
+  -- and so does its log
+  fits-begun : (p t : ℕ) (k : Starts p t) → WellFormed (first_stage E p) k.reign.begun → (stage E p k.reign.begun).point ≤ now + 1 → Fits p t k.reign
+  fits-begun p t k formed low = record {
+    formed = subst (WellFormed s) (sym log) (formed-append s k.reign.begun k.runs.calls formed (calls k.runs.room));
+    past = subst (λ z. (stage_behind s z).point ≤ now + 1) (sym log)
+        (subst (λ z. z.point ≤ now + 1) (sym (stage-append s k.reign.begun k.runs.calls))
+        (calls-point (stage E p k.reign.begun) (now + 1) k.runs.calls k.runs.at low));
+    unheard = λ above. subst OnlyCalls (sym (ap (drop (length k.reign.begun)) k.runs.is ∙ drop-append_seam k.reign.begun k.runs.calls))
+        (calls-only (now + 1) k.runs.calls k.runs.at);
+  }
+    where
+      s : Stage
+      s = first_stage E p
+
+      log : k.reign.log ++ due p t ≡ k.reign.begun ++ k.runs.calls
+      log = ap (λ z. k.reign.log ++ z) k.after ∙ append-nil k.reign.log ∙ k.runs.is
+
+      calls : (k.runs.calls ≡ []) ⊎ ((stage E p k.reign.begun).opened ≡ None) → WellFormed (stage E p k.reign.begun) k.runs.calls
+      calls (inl none) = subst (WellFormed (stage E p k.reign.begun)) (sym none) tt
+      calls (inr e) = calls-formed (stage E p k.reign.begun) (now + 1) k.runs.calls k.runs.at e low
+
+  -- all that are led fit
+  fits-up : (m p t : ℕ) (g : Reign) → IsPart S p → t < m → T.logs.reign p t ≡ Some g → ReignFits E T L (now + 1) p t g
+  fits-up zero p t g part small led = absurd (omega (arith, small))
+  fits-up (suc m) p t g part small led = from (λ v h low is. fits-up m p v h part (omega (arith, low, small)) is) (S.logs.reign p t) refl (moved p t part)
+    where
+      from : ((v : ℕ) (h : Reign) → v < t → T.logs.reign p v ≡ Some h → Fits p v h) → (x : Option Reign) → S.logs.reign p t ≡ x
+          → Moved E S.logs T.logs K.due due (now + 1) p t → Fits p t g
+      from earlier (Some h) e x = let k = (goes-at p t h part e).0 in subst (Fits p t) (same-some (sym k.is ∙ led)) (fits-led p t part k)
+      from earlier None e (inl (same, next)) = absurd (none-and-some e (sym same ∙ led))
+      from earlier None e (inr (inr k)) = absurd (none-and-some e k.was)
+      from earlier None e (inr (inl k)) = let f = begun-fits p t k earlier in subst (Fits p t) (same-some (sym k.led ∙ led)) (fits-begun p t k f.0 f.1)
+
+  -- ---- the term that was heard
+
+  -- what its leader has, with what is due, before and after
+  abbrev before : ℕ → List Entry
+  before = whole S K K.heard
+
+  abbrev after : ℕ → List Entry
+  after = whole T L K.heard
+
+  heard-between : (p : ℕ) (part : IsPart S p) → (b : Between E p (now + 1) (before p) (after p)) × Front (B.heard.each p part).reign.log b.log
+  heard-between p part =
+      let h = B.heard.each p part in
+      let r = goes-at p K.heard h.reign part h.led in
+      let k = r.0 in
+      let b = between-goes E S.logs T.logs (K.due p K.heard) (due p K.heard) (now + 1) p K.heard k (due-one S K p K.heard (B.due p K.heard)) in
+      let was : before p ≡ k.old.log ++ K.due p K.heard = ap (λ z. led_log z ++ K.due p K.heard) k.was in
+      let is : after p ≡ k.new.log ++ due p K.heard = ap (λ z. led_log z ++ due p K.heard) k.is in (
+        record { log = b.log; calls = b.calls; due = b.due; was = was ∙ b.was; is = is ∙ b.is; at = b.at; one = b.one; room = b.room },
+        subst (λ z. Front z.log b.log) r.1 (front-append k.old.log k.taken),
+      )
+
+  abbrev between : (p : ℕ) → IsPart S p → Between E p (now + 1) (before p) (after p)
+  between p part = (heard-between p part).0
+
+  -- what its log had when the last transaction was begun
+  closed : (p : ℕ) (part : IsPart S p) → Front (K.closed p) (between p part).log
+  closed p part = front-trans (K.closed p) (B.heard.each p part).reign.log (between p part).log (B.heard.each p part).inside (heard-between p part).1
+
+  short : (p : ℕ) (part : IsPart S p) → length (K.closed p) ≤ length (between p part).log
+  short p part = front-length (K.closed p) (between p part).log (closed p part)
+
+  -- a partition of the later state is one of the earlier
+  on-part : (p : ℕ) → IsPart T p → IsPart S p
+  on-part p part = subst (λ D. nat_lt p (parts D) ≡ true) o.deployment part
+
+  -- The logs stay aligned.
+  heard-aligned : Aligned E S.words.deployment (now + 1) L after
+  heard-aligned = record {
+    formed = λ p part. between-formed E p (now + 1) (before p) (after p) (between p part) (k.formed p part) (late p part);
+    past = λ p part. between-point E p (now + 1) (before p) (after p) (between p part) (k.formed p part) (late p part);
+    front = λ p part. between-front E p (now + 1) (before p) (after p) (between p part) (K.closed p) (closed p part);
+    over = k.over;
+    below = k.below;
+    only = λ p part. between-all E p (now + 1) (before p) (after p) (between p part) (OfNumber K.number) (call-number K.number) (length (K.closed p)) (short p part) (k.only p part);
+    fresh = λ p q part other e. between-all E q (now + 1) (before q) (after q) (between q other) IsCall (λ x c. c) (length (K.closed q)) (short q other) (k.fresh p q part other e);
+    ends = λ p part u i. k.ends p part u (between-in E p (now + 1) (before p) (after p) (between p part) (Done K.number u) (λ c. c) (length (K.closed p)) (short p part) i);
+    snapshot = λ p part e. between-all E p (now + 1) (before p) (after p) (between p part) NoRound call-round (length (K.closed p)) (short p part) (k.snapshot p part e);
+    decided = λ p x part e.
+        let d = k.decided p x part e in
+        let front = front-trans (K.decided p) (B.heard.each p part).reign.log (between p part).log ((B.heard.each p part).decided x e).0 (heard-between p part).1 in
+        (between-front E p (now + 1) (before p) (after p) (between p part) (K.decided p) front, d.1, d.2);
+    agreed = λ x e. omega (arith, k.agreed x e);
+    even = k.even;
+  }
+    where
+      k : Aligned E S.words.deployment now K before
+      k = B.heard.aligned
+
+      late : (p : ℕ) → IsPart S p → (stage E p (before p)).point ≤ now + 1
+      late p part = omega (arith, k.past p part)
+
+  heard-on : T.words.agents ≡ S.words.agents → HeardOk E T M L (now + 1)
+  heard-on agents = record {
+    word = B.heard.word;
+    is_word = record { decided = o.decided B.heard.word B.heard.is_word.decided; term_is = B.heard.is_word.term_is };
+    by = subst (λ x. (h a : ℕ) → initiator B.heard.word ≡ Some (h, a) → (x h).start ≡ a → K.heard ≤ term_in (x h).decided) (sym agents) B.heard.by;
+    each = λ p part. heard-part S T F M o K due p (B.heard.each p (on-part p part));
+    aligned = subst (λ D. Aligned E D (now + 1) L (whole T L K.heard)) (sym o.deployment) heard-aligned;
+  }
+
+  -- ---- initiators
+
+  -- Behind what is settled only calls are added.
+  settled-on : (p : ℕ) → IsPart S p → Settled E S F K p → Settled E T M L p
+  settled-on p part u = record {
+    none = q.0;
+    reign = k.new;
+    led = k.is;
+    front = u.front;
+    stands = front-trans u.front k.old.log k.new.log stands (k.runs.calls, q.1);
+    calls = subst OnlyCalls (sym behind) (all-append IsCall (drop n k.old.log) k.runs.calls
+        (subst (λ z. OnlyCalls (drop n z.log)) (sym r.1) u.calls) (calls-only (now + 1) k.runs.calls k.runs.at));
+    everywhere = everywhere-on S T F M o p K.heard n u.everywhere;
+    over = u.over;
+  }
+    where
+      r : (k : Went p K.heard) × (k.old ≡ u.reign)
+      r = goes-at p K.heard u.reign part u.led
+
+      k : Went p K.heard
+      k = r.0
+
+      n : ℕ
+      n = length u.front
+
+      q : (due p K.heard ≡ []) × (k.new.log ≡ k.old.log ++ k.runs.calls) × (k.old.log ++ k.taken ≡ k.old.log)
+      q = goes-quiet E S.logs T.logs (K.due p K.heard) (due p K.heard) (now + 1) p K.heard k u.none
+
+      stands : Front u.front k.old.log
+      stands = subst (λ z. Front u.front z.log) (sym r.1) u.stands
+
+      behind : drop n k.new.log ≡ drop n k.old.log ++ k.runs.calls
+      behind = ap (drop n) q.1 ∙ drop-append-le n k.old.log k.runs.calls (front-length u.front k.old.log stands)
+
+  -- Where the last transaction ended, it has ended.
+  ended-on : (p : ℕ) → IsPart S p → Ended E S K p → Ended E T L p
+  ended-on p part e = (between-opened E p (now + 1) (before p) (after p) (between p part) ∙ e.0, between-number E p (now + 1) (before p) (after p) (between p part) ∙ e.1)
+
+  -- While a transaction is open and nothing is due, the log stays as it is.
+  fed-on : (p : ℕ) (x : ℕ × ℕ) → IsPart S p → (stage E p (before p)).opened ≡ Some x → Fed S F K p → Fed T M L p
+  fed-on p x part e f = record {
+    none = q.0;
+    everywhere = subst (λ z. Everywhere T M p K.heard (length z)) (sym same) (everywhere-on S T F M o p K.heard (length (led_log (S.logs.reign p K.heard))) f.everywhere);
+  }
+    where
+      k : Went p K.heard
+      k = (goes-at p K.heard (B.heard.each p part).reign part (B.heard.each p part).led).0
+
+      q : (due p K.heard ≡ []) × (k.new.log ≡ k.old.log ++ k.runs.calls) × (k.old.log ++ k.taken ≡ k.old.log)
+      q = goes-quiet E S.logs T.logs (K.due p K.heard) (due p K.heard) (now + 1) p K.heard k f.none
+
+      log : before p ≡ k.old.log
+      log = ap (λ z. led_log (S.logs.reign p K.heard) ++ z) f.none ∙ append-nil (led_log (S.logs.reign p K.heard)) ∙ ap led_log k.was
+
+      no_calls : k.runs.calls ≡ []
+      no_calls = elim k.runs.room [
+        | inl none ↦ none
+        | inr none ↦ absurd (none-and-some none (ap (λ z. (stage E p z).opened) (q.2 ∙ sym log) ∙ e))
+      ]
+
+      same : led_log (T.logs.reign p K.heard) ≡ led_log (S.logs.reign p K.heard)
+      same = ap led_log k.is ∙ q.1 ∙ ap (λ z. k.old.log ++ z) no_calls ∙ append-nil k.old.log ∙ ap led_log (sym k.was)
+
+  -- how far the job at hand is
+  at-hand-on : (w : Work) (d : Option Decision) → AtHand E S F K w d → AtHand E T M L w d
+  at-hand-on w None h = (
+    h.0,
+    λ p part. let is = on-part p part in let r = h.1 p is in
+        (between-opened E p (now + 1) (before p) (after p) (between p is) ∙ r.0, λ has. fed-on p (K.number, w.round) is r.0 (r.1 has)),
+  )
+  at-hand-on w (Some d) h = λ p part. let is = on-part p part in let r = h p is in (ended-on p is r.0, λ done. settled-on p is (r.1 done))
+
+  -- what an idle initiator knows
+  idle-on : (p : ℕ) → IsPart S p → (K.due p K.heard ≡ []) × OnlyCalls (since K before p) → (due p K.heard ≡ []) × OnlyCalls (since L after p)
+  idle-on p part h =
+      let t = taken-at p K.heard part in (
+        (rest-none t.0 (due p K.heard) (sym t.1 ∙ h.0)).1,
+        between-all E p (now + 1) (before p) (after p) (between p part) IsCall (λ x c. c) (length (K.closed p)) (short p part) h.1,
+      )
+
+-- With what it makes of the logs of leaders, all that the history says holds at its stamp, and so does what holds of initiators. Nobody's word
+-- and no start of an agent changes.
+pub books-moved : (E : Database) (S T : LogState) (F M : Firm) (K : Transactions) (now : ℕ) (due : ℕ → ℕ → List Entry) → Holds S → Holds T → Onto S T F M
+    → T.words.agents ≡ S.words.agents → ((p t : ℕ) → IsPart S p → Moved E S.logs T.logs K.due due (now + 1) p t)
+    → ((p t : ℕ) → (IsPart S p → ⊥) → due p t ≡ K.due p t)
+    → Books E S F K now → Books E T M (with_due K due) (now + 1)
+books-moved E S T F M K now due H J o agents moved others B = record {
+  due = due-at E S T F M K now due H J o moved B others;
+  reigns = λ p t g part led. fits-up E S T F M K now due H J o moved B (t + 1) p t g (on-part E S T F M K now due H J o moved B p part) (omega arith) led;
+  heard = heard-on E S T F M K now due H J o moved B agents;
+}
+
+pub phase-moved : (E : Database) (S T : LogState) (F M : Firm) (K : Transactions) (now : ℕ) (due : ℕ → ℕ → List Entry) → Holds S → Holds T → Onto S T F M
+    → ((p t : ℕ) → IsPart S p → Moved E S.logs T.logs K.due due (now + 1) p t)
+    → Books E S F K now → (t : ℕ) (a : AgentState) (phase : Phase) → PhaseOk E S F K t a phase → PhaseOk E T M (with_due K due) t a phase
+phase-moved E S T F M K now due H J o moved B t a Off k = k
+phase-moved E S T F M K now due H J o moved B t a (Hears told) k = (
+  k.0,
+  all-mono (λ x. StateOk E S F x.part t x.m x.is_open x.outcome) (λ x. StateOk E T M x.part t x.m x.is_open x.outcome)
+      (λ x y. state-on E S T F M o x.part t x.m x.is_open x.outcome y) told k.1,
+  k.2,
+  k.3,
+)
+phase-moved E S T F M K now due H J o moved B t a (Closes m parts finished) k = (
+  k.0,
+  k.1,
+  k.2,
+  k.3,
+  λ p part.
+      let is = on-part E S T F M K now due H J o moved B p part in
+      let r = k.4 p is in
+      (λ one. ended-on E S T F M K now due H J o moved B p is (r.0 one), λ over. settled-on E S T F M K now due H J o moved B p is (r.1 over)),
+)
+phase-moved E S T F M K now due H J o moved B t a Idle k = (
+  k.0,
+  k.1,
+  k.2,
+  λ p part.
+      let is = on-part E S T F M K now due H J o moved B p part in
+      idle-on E S T F M K now due H J o moved B p is (k.3 p is),
+)
+phase-moved E S T F M K now due H J o moved B t a Works k =
+    (k.0, k.1, (k.2.0, k.2.1, k.2.2, at-hand-on E S T F M K now due H J o moved B k.2.0 k.2.0.decision k.2.3))
+
+-- ---- later
+
+pub books-later : (E : Database) (S : LogState) (F : Firm) (K : Transactions) (now stamp : ℕ) → now ≤ stamp → Books E S F K now → Books E S F K stamp
+books-later E S F K now stamp l B = record {
+  due = B.due;
+  reigns = λ p t g part led. let f = B.reigns p t g part led in record { formed = f.formed; past = omega (arith, f.past, l); unheard = f.unheard };
+  heard = record {
+    word = B.heard.word;
+    is_word = B.heard.is_word;
+    by = B.heard.by;
+    each = B.heard.each;
+    aligned = aligned-under E S.words.deployment now stamp K logs logs l k (λ p part. (k.formed p part, omega (arith, k.past p part, l)))
+        (λ p part. (under-refl (logs p), k.front p part)) (λ p x part e. (k.decided p x part e).0);
+  };
+}
+  where
+    logs : ℕ → List Entry
+    logs = whole S K K.heard
+
+    k : Aligned E S.words.deployment now K logs
+    k = B.heard.aligned
+
+-- with another state of words, in which an agent's own start and word are not lower
+pub books-worded : (E : Database) (S T : LogState) (F : Firm) (K : Transactions) (now : ℕ) → Holds S → T.words.deployment ≡ S.words.deployment → T.logs ≡ S.logs → T.sites ≡ S.sites
+    → ((w : Membership) → In w S.words.history.decided → In w T.words.history.decided)
+    → ((w : Membership) (h a : ℕ) → In w S.words.history.decided → initiator w ≡ Some (h, a) → 0 < a → (T.words.agents h).start ≡ a
+    → ((S.words.agents h).start ≡ a → K.heard ≤ term_in (S.words.agents h).decided) → K.heard ≤ term_in (T.words.agents h).decided)
+    → Books E S F K now → Books E T F K now
+books-worded E S T F K now H deployment logs sites decided by B = record {
+  due = λ p t. owed p t (B.due p t);
+  reigns = λ p t g part led. let f = B.reigns p t g (here p part) (ap (λ G. G.reign p t) (sym logs) ∙ led) in
+      record { formed = f.formed; past = f.past; unheard = f.unheard };
+  heard = record {
+    word = word;
+    is_word = record { decided = decided word B.heard.is_word.decided; term_is = B.heard.is_word.term_is };
+    by = λ h a first start. by word h a B.heard.is_word.decided first (some h a first) start (B.heard.by h a first);
+    each = λ p part. heard-part S T F F onto K K.due p (B.heard.each p (here p part));
+    aligned = subst (λ D. Aligned E D now K (whole T K K.heard)) (sym deployment)
+        (subst (λ G. Aligned E S.words.deployment now K (λ p. led_log (G.reign p K.heard) ++ K.due p K.heard)) (sym logs) B.heard.aligned);
+  };
+}
+  where
+    word : Membership
+    word = B.heard.word
+
+    here : (p : ℕ) → IsPart T p → IsPart S p
+    here p part = subst (λ D. nat_lt p (parts D) ≡ true) deployment part
+
+    top : (p m n : ℕ) → Top S p m n → Top T p m n
+    top p m n k = record {
+      slot = k.slot;
+      is_slot = subst (λ D. nat_lt k.slot (slots D) ≡ true) (sym deployment) k.is_slot;
+      part_is = subst (λ D. part_of_slot D k.slot ≡ p) (sym deployment) k.part_is;
+      all = subst (λ x. AllByRecursion (AtLeast m n) (x k.slot).contents) (sym sites) k.all;
+    }
+
+    onto : Onto S T F F
+    onto = record {
+      deployment = deployment;
+      decided = decided;
+      onward = record {
+        kept = λ p t g led. (g, ap (λ G. G.reign p t) logs ∙ led, refl, front-refl g.log);
+        reach = λ p t. omega (arith, ap (λ G. G.reach p t) logs);
+      };
+      firm = λ p. omega arith;
+      tops = top;
+    }
+
+    owed : (p t : ℕ) → DueOk S K p t → DueOk T K p t
+    owed p t (inl none) = inl none
+    owed p t (inr (x, g, is, order, led, l)) = inr (x, g, is, order, ap (λ G. G.reign p t) logs ∙ led, l)
+
+    -- an initiator has begun
+    some : (h a : ℕ) → initiator word ≡ Some (h, a) → 0 < a
+    some h a first =
+        let good = H.words.history.decided_good word B.heard.is_word.decided in
+        (good.named_begun a (member-is S.words H.words.history word h a good (initiator-member word h a first)).0).some

@@ -1,0 +1,131 @@
+-- Of what the proofs speak: what an event makes of the history of transactions.
+use Rattle.std.proofs.Common.{◌≡◌, List, [], ◌++◌, ◌⊎◌}
+use Rattle.std.specs.Prelude.{ℕ, ◌≤◌, Some, None}
+use Rattle.std.specs.List.{AllByRecursion}
+use Rattle.volt_base.specs.declared.entry.Entry.{Entry}
+use Rattle.volt_base.specs.declared.entry.Entry.TheVariants.{Sp, Frag, Done}
+use Rattle.volt_wire.specs.Word.{Membership}
+use Rattle.volt_wire.specs.declared.actor.Actor.TheVariants.{Site}
+use Rattle.volt_wire.specs.declared.message.Msg.TheVariants as msg
+use Rattle.cluster_model.specs.Engine.{Database}
+use Rattle.cluster_model.specs.Words.{term_of, leader, start_of_slot}
+use Rattle.cluster_model.specs.Letters.{Letter, Sends, Turn}
+use Rattle.cluster_model.specs.AgentState.{AgentState, Off, new_agent}
+use Rattle.word_laws.specs.Histories.{In}
+use Rattle.log_laws.specs.Histories.{LogState, Logs, Reign, Front, IsSlot, part}
+use Rattle.log_laws.proofs.Kept.Moves.{Onward}
+use Rattle.disk_laws.specs.Disks.{Firm, Top}
+use Rattle.transaction_laws.specs.Machine.{stage}
+use Rattle.transaction_laws.specs.Transactions.{Transactions, Books, OnlyCalls, OrderOk, PhaseOk, orders}
+
+-- ---- entries
+
+-- calls on one partition that run at this stamp
+abbrev pub IsCallAt : ℕ → Entry → Type 0
+IsCallAt stamp (Sp call point body) = point ≡ stamp
+IsCallAt stamp (Frag m round body) = ⊥
+IsCallAt stamp (Done m o) = ⊥
+
+abbrev pub CallsAt : ℕ → List Entry → Type 0
+CallsAt stamp es = AllByRecursion (IsCallAt stamp) es
+
+-- A log is at the front of another one, but for calls on one partition at its end.
+pub record Under (xs ys : List Entry) : Type 0 where
+  pub front : List Entry
+  pub calls : List Entry
+  pub is : xs ≡ front ++ calls
+  pub stands : Front front ys
+  pub only : OnlyCalls calls
+
+-- ---- what only grows
+
+-- T comes after S in one epoch, and what was counted firm after F is M.
+pub record Onto (S T : LogState) (F M : Firm) : Type 0 where
+  pub deployment : T.words.deployment ≡ S.words.deployment
+  pub decided : (w : Membership) → In w S.words.history.decided → In w T.words.history.decided
+  pub onward : Onward S.logs T.logs
+  pub firm : (p : ℕ) → F p ≤ M p
+  pub tops : (p m n : ℕ) → Top S p m n → Top T p m n
+
+-- ---- the turn of a site, in its effect on the log of one partition's leader in one term
+
+-- calls run behind a log, where no transaction is open
+pub record Runs (E : Database) (p stamp : ℕ) (log after : List Entry) : Type 0 where
+  pub calls : List Entry
+  pub is : after ≡ log ++ calls
+  pub at : CallsAt stamp calls
+  pub room : (calls ≡ []) ⊎ ((stage E p log).opened ≡ None)
+
+-- The term stays as it was, or it begins, or its leader takes what was due to it and runs calls.
+pub record Begins (E : Database) (F G : Logs) (due next : List Entry) (stamp p t : ℕ) : Type 0 where
+  pub none : F.reign p t ≡ None
+  pub reign : Reign
+  pub led : G.reign p t ≡ Some reign
+  pub before : due ≡ []
+  pub after : next ≡ []
+  pub runs : Runs E p stamp reign.begun reign.log
+
+pub record Goes (E : Database) (F G : Logs) (due next : List Entry) (stamp p t : ℕ) : Type 0 where
+  pub old : Reign
+  pub was : F.reign p t ≡ Some old
+  pub new : Reign
+  pub is : G.reign p t ≡ Some new
+  pub begun : new.begun ≡ old.begun
+  pub taken : List Entry
+  pub due_is : due ≡ taken ++ next
+  pub runs : Runs E p stamp (old.log ++ taken) new.log
+
+abbrev pub Moved : Database → Logs → Logs → (ℕ → ℕ → List Entry) → (ℕ → ℕ → List Entry) → ℕ → ℕ → ℕ → Type 0
+Moved E F G due next stamp p t =
+    ((G.reign p t ≡ F.reign p t) × (next p t ≡ due p t))
+    ⊎ Begins E F G (due p t) (next p t) stamp p t
+    ⊎ Goes E F G (due p t) (next p t) stamp p t
+
+-- with what is due by then
+abbrev pub with_due : Transactions → (ℕ → ℕ → List Entry) → Transactions
+with_due K due = record K { due = due }
+
+-- ---- the turn of an agent
+
+-- A round or an end that the agent of host n, the initiator of this word, sends to slot c.
+abbrev pub SentOrder : LogState → ℕ → Membership → ℕ → Letter → Type 0
+SentOrder S n w c l = elim l.body as (λ _. Type 0) [
+  | msg.Frag m round body ↦ OrderOk S n c l × (l.term ≡ term_of w)
+  | msg.Done m o ↦ OrderOk S n c l × (l.term ≡ term_of w)
+  | _ ↦ Unit {0}
+]
+
+-- what an agent sends that isn't an initiator
+abbrev pub NoOrder : Letter → Type 0
+NoOrder l = elim l.body as (λ _. Type 0) [
+  | msg.Frag m round body ↦ ⊥
+  | msg.Done m o ↦ ⊥
+  | _ ↦ Unit {0}
+]
+
+-- What it sends is due from then on.
+pub record SendsDue (S : LogState) (n : ℕ) (w : Membership) (K L : Transactions) (out : Sends) : Type 0 where
+  pub letters : (c : ℕ) → IsSlot S c → AllByRecursion (SentOrder S n w c) (out (Site c))
+  pub due : (c a : ℕ) → IsSlot S c → leader S.words.deployment w (part S c) ≡ Some c → start_of_slot S.words.deployment w c ≡ Some a
+      → L.due (part S c) (term_of w) ≡ K.due (part S c) (term_of w) ++ orders a (term_of w) (out (Site c))
+  pub others : (p t : ℕ) → (t ≡ term_of w → ⊥) → L.due p t ≡ K.due p t
+
+-- A turn of an agent that is an initiator, with word w, and stays one with that.
+pub record InitiatorGoes (E : Database) (S : LogState) (F : Firm) (K : Transactions) (stamp n : ℕ) (w : Membership) (a : AgentState) (t : Turn AgentState) : Type 0 where
+  pub after : Transactions
+  pub books : Books E S F after stamp
+  pub heard : K.heard ≤ after.heard
+  pub start : t.state.start ≡ a.start
+  pub decided : t.state.decided ≡ a.decided
+  pub waiting : t.state.waiting ≡ a.waiting
+  pub phase : PhaseOk E S F after (term_of w) t.state t.state.initiating.phase
+  pub sends : SendsDue S n w K after t.sends
+
+-- A turn of one that isn't.
+pub record OffGoes (a : AgentState) (t : Turn AgentState) : Type 0 where
+  pub phase : t.state.initiating.phase ≡ Off
+  pub work : t.state.initiating.work ≡ None
+  pub next : t.state.initiating.next ≡ 0
+  pub sends : (c : ℕ) → AllByRecursion NoOrder (t.sends (Site c))
+  -- it goes on, or it has stopped
+  pub kept : (t.state ≡ new_agent 0) ⊎ ((t.state.start ≡ a.start) × (t.state.decided ≡ a.decided) × (t.state.waiting ≡ a.waiting))

@@ -1,0 +1,6 @@
+pub mod Entries
+pub mod Kept
+pub mod Initiators
+pub mod Agents
+pub mod Sites
+pub mod Runs

@@ -1,0 +1,104 @@
+-- What a recovery chooses, where none was stopped since the last one that worked: logs of which one transaction at most isn't over everywhere.
+use Rattle.std.proofs.Common.{◌≡◌, ◌≤◌, false, List, ◌++◌, length, take, take_all, length-take, sym, subst, ap, ◌∙◌, inl, inr, arith}
+use Rattle.std.proofs.lemmas.Bool.{cases_lt}
+use Rattle.std.specs.Prelude.{ℕ, Some}
+use Rattle.volt_base.specs.declared.entry.Entry.{Entry}
+use Rattle.cluster_model.specs.Engine.{Database}
+use Rattle.cluster_model.specs.Disk.{Shown, chosen}
+use Rattle.word_laws.proofs.Lists.{all-at}
+use Rattle.log_laws.specs.Histories.{LogState, Holds, Front, Reign, part}
+use Rattle.log_laws.proofs.Plain.Fronts.{front-trans, front-append, front-take, fronts-order, take-grown}
+use Rattle.disk_laws.specs.Disks.{Written, Firm, ContentOk, DisksHold, Shows, shown_at}
+use Rattle.disk_laws.proofs.Order.{Chosen, top-chosen, at_least-mark}
+use Rattle.disk_laws.proofs.Contents.{firm-within, firm-front}
+use Rattle.disk_laws.proofs.Choices.{shows-slot, chosen-firm}
+use Rattle.transaction_laws.specs.Machine.{WellFormed, first_stage, stage}
+use Rattle.transaction_laws.specs.Transactions.{Transactions, Books, ReignFits, HeardPart, Aligned, Everywhere, IsPart, led_log, whole}
+use Rattle.transaction_laws.proofs.Kept.Moves.{Under}
+use Rattle.transaction_laws.proofs.Entries.Machine.{formed-front, front-point}
+use Rattle.transaction_laws.proofs.Entries.Aligned.{under-front, under-trans, aligned-under}
+use Rattle.transaction_laws.proofs.Kept.Later.{quiet-reign}
+
+module _ (E : Database) (S : LogState) (F : Firm) (K : Transactions) (now : ℕ) (H : Holds S) (disks : DisksHold S F false) (B : Books E S F K now) (shown : ℕ → Shown)
+    (shows : Shows S shown) (p : ℕ) (is_part : IsPart S p) where
+  abbrev log : List Entry
+  log = chosen S.words.deployment shown p
+
+  abbrev h : HeardPart S F K p
+  h = B.heard.each p is_part
+
+  -- ---- the content that is chosen
+
+  c : Chosen S.words.deployment shown p K.heard 0
+  c = top-chosen S shown shows.one p K.heard 0 h.top
+
+  -- it was written, at the front of the log of a term that isn't before the one that was heard
+  w : Written S p c.content
+  w =
+      let q = shows-slot S shown shows c.slot c.content c.shows in
+      let ok : ContentOk S F false (part S c.slot) (Some c.content) = subst (ContentOk S F false (part S c.slot)) c.shows
+      (all-at (ContentOk S F false (part S c.slot)) (shown_at S c.slot) (disks.disks c.slot q).contents (shown c.slot) (shows.one c.slot q)) in
+      subst (λ x. Written S x c.content) c.part_is ok
+
+  later : K.heard ≤ w.term
+  later = let a = at_least-mark K.heard 0 (Some c.content) c.good in let b = w.above in omega (arith, a, b)
+
+  front : Front log w.later.log
+  front = subst (λ l. Front l w.later.log) (sym c.log_is) w.front
+
+  -- ---- so it fits
+
+  fits : ReignFits E S K now p w.term w.later
+  fits = B.reigns p w.term w.later is_part w.later_led
+
+  with-due : Front log (w.later.log ++ K.due p w.term)
+  with-due = front-trans log w.later.log (w.later.log ++ K.due p w.term) front (front-append w.later.log (K.due p w.term))
+
+  chosen-formed : WellFormed (first_stage E p) log × ((stage E p log).point ≤ now)
+  chosen-formed = (
+    formed-front (first_stage E p) log (w.later.log ++ K.due p w.term) with-due fits.formed,
+    (let a = front-point (first_stage E p) log (w.later.log ++ K.due p w.term) with-due fits.formed in let b = fits.past in omega (arith, a, b)),
+  )
+
+  whole-is : whole S K K.heard p ≡ h.reign.log ++ K.due p K.heard
+  whole-is = ap (λ r. led_log r ++ K.due p K.heard) h.led
+
+  chosen-under : Under log (whole S K K.heard p)
+  chosen-under = subst (Under log) (sym whole-is) (under-trans log h.reign.log (h.reign.log ++ K.due p K.heard)
+      (under-trans log w.later.log h.reign.log (under-front log w.later.log front)
+      (quiet-reign E S F K now H B p w.term h.reign w.later is_part h.led w.later_led later))
+      (under-front h.reign.log (h.reign.log ++ K.due p K.heard) (front-append h.reign.log (K.due p K.heard))))
+
+  -- ---- what is firm in the term that was heard is there
+
+  -- all that was counted firm, in the term of its witness
+  module _ (v : ℕ) (g : Reign) (led : S.logs.reign p v ≡ Some g) (reach : F p ≤ S.logs.reach p v) (xs : List Entry) (inside : Front xs h.reign.log)
+      (firm : Everywhere S F p K.heard (length xs)) where
+    -- It has these entries: both are at the front of the log of the later one of the two terms.
+    counted-has : Front xs (take (F p) g.log)
+    counted-has = elim (cases_lt v K.heard) [
+      | inl l ↦ fronts-order xs (take (F p) g.log) h.reign.log inside (firm-front S H p v K.heard (F p) g h.reign led h.led reach (omega (arith, l))) short
+      | inr l ↦ fronts-order xs (take (F p) g.log) g.log
+          (subst (λ ys. Front ys g.log) own (firm-front S H p K.heard v (length xs) h.reign g h.led led firm.reach l)) (front-take (F p) g.log) short
+    ]
+      where
+        short : length xs ≤ length (take (F p) g.log)
+        short = let a = firm-within S H p v (F p) g led reach in let b = firm.firm in let n = length-take (F p) g.log in omega (arith, a, b, n)
+
+        own : take (length xs) h.reign.log ≡ xs
+        own = take-grown (length xs) xs h.reign.log inside (omega arith) ∙ take_all (length xs) xs (omega arith)
+
+  chosen-has : (xs : List Entry) → Front xs h.reign.log → Everywhere S F p K.heard (length xs) → Front xs log
+  chosen-has xs inside firm =
+      let f = disks.firm p in
+      front-trans xs (take (F p) f.reign.log) log (counted-has f.term f.reign f.led f.reach xs inside firm)
+      (chosen-firm S H F false disks shown shows p f.term f.reign f.led f.reach)
+
+-- Whatever the disks show.
+pub choice-aligned : (E : Database) (S : LogState) (F : Firm) (K : Transactions) (now : ℕ) → Holds S → DisksHold S F false → Books E S F K now → (shown : ℕ → Shown) → Shows S shown
+    → Aligned E S.words.deployment now K (chosen S.words.deployment shown)
+choice-aligned E S F K now H disks B shown shows =
+    aligned-under E S.words.deployment now now K (whole S K K.heard) (chosen S.words.deployment shown) (omega arith) B.heard.aligned
+    (λ p q. chosen-formed E S F K now H disks B shown shows p q)
+    (λ p q. (chosen-under E S F K now H disks B shown shows p q, (let k = B.heard.each p q in chosen-has E S F K now H disks B shown shows p q (K.closed p) k.inside k.closed)))
+    (λ p x q e. let k = (B.heard.each p q).decided x e in chosen-has E S F K now H disks B shown shows p q (K.decided p) k.0 k.1)

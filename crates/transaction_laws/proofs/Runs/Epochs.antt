@@ -1,0 +1,543 @@
+-- How an epoch begins: all holds of transactions in the first world, once a recovery has worked, and after one that was stopped.
+use Rattle.std.proofs.Common.{◌≡◌, ◌<◌, ◌≤◌, Bool, true, false, List, [], ◌∷◌, ◌++◌, ◌+◌, ◌==◌, ◌⊎◌, append-nil, drop, length, refl, sym, subst, ap, ◌∙◌, inl, inr, arith, zero, suc}
+use Rattle.std.proofs.lemmas.Bool.{and_parts, cases_Bool, cases_eq, eq-eqb, eqb-true, false≢true}
+use Rattle.std.proofs.lemmas.Bool.Decides.{nat_tests}
+use Rattle.std.proofs.lemmas.List.{drop_all}
+use Rattle.std.proofs.lemmas.Nat.{div-mul-add}
+use Rattle.std.proofs.Math.Nat.{div-mul-le_self}
+use Rattle.std.specs.Prelude.{ℕ, ◌/◌, nat_lt, if◌then◌else◌, map, unwrap_or, option_map, slice_index, Option, Some, None}
+use Rattle.volt_base.specs.declared.entry.Entry.{Entry}
+use Rattle.volt_base.specs.declared.entry.Entry.TheVariants.{Done}
+use Rattle.volt_wire.specs.Word.{Membership}
+use Rattle.volt_wire.specs.declared.actor.Actor.TheVariants.{Agent, Site}
+use Rattle.volt_wire.specs.declared.event.Event.TheVariants as event
+use Rattle.partition_ring.specs.Placement.{IsLayout, slot_of, slots_of_part}
+use Rattle.cluster_model.specs.Engine.{Database}
+use Rattle.cluster_model.specs.Log.{last_done, number_of}
+use Rattle.cluster_model.specs.Words.{Deployment, slots, parts, part_of_slot, is_host, term_of, term_in, initiator}
+use Rattle.cluster_model.specs.Disk.{Shown, best_of, chosen, mark_of, recovered}
+use Rattle.cluster_model.specs.Letters.{Waiting}
+use Rattle.cluster_model.specs.Outside.{DisksShow}
+use Rattle.cluster_model.specs.AgentState.{AgentState, Off, Idle, new_agent}
+use Rattle.cluster_model.specs.SiteState.{SiteState, no_site, stopped_site, member_site, other_copies}
+use Rattle.cluster_model.specs.Site.{acked_in, own_ack, least, lesser}
+use Rattle.cluster_model.specs.World.{World, Input, first_world, new_word, greatest_done, start_from, member_agent}
+use Rattle.cluster_model.specs.Recover.{shown_of, new_base, new_log, new_content, starts_anew, stays_stopped}
+use Rattle.cluster_model.specs.Events.{is_stopped, may_recover, is_shown, is_slot_or_none, allows}
+use Rattle.word_laws.specs.Histories.{In, names}
+use Rattle.word_laws.proofs.Lists.{all-mono, eqb-same, if-true, if-false, some-here, same-some, none-and-some, not-both}
+use Rattle.word_laws.proofs.Epochs.{initiator-first}
+use Rattle.log_laws.specs.Histories.{LogState, Holds, IsSlot, Reign, part, start_at}
+use Rattle.log_laws.specs.Copies.{log_state, HasLogs}
+use Rattle.log_laws.proofs.Plain.Copies.{slots-part}
+use Rattle.log_laws.proofs.Plain.Fronts.{front-refl}
+use Rattle.log_laws.proofs.Kept.Grown.{onward-same}
+use Rattle.log_laws.proofs.Runs.Boots.{first_reign, new_logs, first-logs, anew-logs, first-logs-are, anew-logs-are}
+use Rattle.disk_laws.specs.Disks.{AtLeast, Top, Firm, DisksHold, Shows}
+use Rattle.disk_laws.proofs.Boots.{firm_in}
+use Rattle.disk_laws.proofs.Choices.{shows-slot, get-none, disk-shows, world-shows}
+use Rattle.disk_laws.proofs.Order.{at_least-mark, best-chosen}
+use Rattle.disk_laws.proofs.Recoveries.{new-above, left-top, agent-stopped, site-stopped}
+use Rattle.transaction_laws.specs.Transactions.{Transactions, Everywhere, Aligned, Books, HeardPart, HeardOk, ReignFits, IsPart, SiteCalls, InitiatingOk, PhaseOk, AnswerOk, ToSiteOk, WaitingAnswer, CallsHold, acknowledged, since, whole, led_log, orders}
+use Rattle.transaction_laws.proofs.Kept.Moves.{Onto}
+use Rattle.transaction_laws.proofs.Entries.Aligned.{Recovered, aligned-recovered, aligned-again, recovered-even}
+use Rattle.transaction_laws.proofs.Entries.Even.{AppliedInAll}
+use Rattle.transaction_laws.proofs.Kept.Worded.{aligned-later}
+use Rattle.transaction_laws.proofs.Kept.Later.{everywhere-on, answer-on, to_site-on, books-later}
+use Rattle.transaction_laws.proofs.Runs.Choices.{choice-aligned}
+
+-- ---- numbers
+
+-- A partition has a slot.
+part-slot : (D : Deployment) (p : ℕ) → nat_lt p (parts D) ≡ true → (c : ℕ) × (nat_lt c (slots D) ≡ true) × (part_of_slot D c ≡ p)
+part-slot D p e =
+    let n : p < slots D / (D.layout.k + 1) = grind (arith, nat_tests, e) in
+    let w = div-mul-le_self (slots D) (D.layout.k + 1) in
+    (slot_of D.layout.k p 0, grind (arith, nat_tests, n, w), div-mul-add p (D.layout.k + 1) 0 (omega arith))
+
+-- There is a host.
+host-there : (D : Deployment) → IsLayout D.layout.hosts D.layout.sites D.layout.k → is_host D 0 ≡ true
+host-there D lay = grind (arith, nat_tests, lay.within.some_host)
+
+-- the least of several positions isn't above the first one
+least-first : (a : ℕ) (bs : List (Option ℕ)) (n : ℕ) → least (Some a) bs ≡ Some n → n ≤ a
+least-first a [] n e = omega (arith, same-some e)
+least-first a (b ∷ bs) n e = go (least b bs) e
+  where
+    go : (o : Option ℕ) → lesser (Some a) o ≡ Some n → n ≤ a
+    go None q = absurd (cc)
+    go (Some m) q = omega (arith, same-some q)
+
+-- the greatest number that was done isn't below any
+greatest-above : (E : Database) (logs : ℕ → List Entry) (n p : ℕ) → p < n → number_of (last_done E p (logs p)) ≤ greatest_done E logs n
+greatest-above E logs zero p l = absurd (omega (arith, l))
+greatest-above E logs (suc n) p l = elim (cases_eq p n) [
+  | inl e ↦ subst (λ x. number_of (last_done E x (logs x)) ≤ greatest_done E logs (suc n)) (sym e) (omega arith)
+  | inr d ↦ let a = greatest-above E logs n p (omega (arith, l, d)) in omega (arith, a)
+]
+
+-- ---- what holds as an epoch begins
+
+-- the history with which it begins: the initiator of the first word has heard of all, and all that is in the logs is over
+abbrev pub new_transactions : Database → Deployment → ℕ → (ℕ → List Entry) → Transactions
+new_transactions E D base log = record {
+  heard = base;
+  number = greatest_done E log (parts D);
+  closed = log;
+  agreed = None;
+  decided = log;
+  due = λ p t. [];
+}
+
+-- Each host's agent and each slot's site runs as a member of the first word, with its partition's log, in which all is over. Nothing is
+-- under way between agents and sites.
+record CallsBegin (E : Database) (S : LogState) (base start now : ℕ) (log : ℕ → List Entry) : Type 0 where
+  positive : 0 < start
+  some_host : is_host S.words.deployment 0 ≡ true
+  logs : S.logs ≡ new_logs S.words.deployment base start log
+  hosts : (h : ℕ) → is_host S.words.deployment h ≡ true
+      → S.words.agents h ≡ member_agent (new_word S.words.deployment base start) (greatest_done E log (parts S.words.deployment) + 1) start h
+  others : (h : ℕ) → is_host S.words.deployment h ≡ false → S.words.agents h ≡ new_agent 0
+  members : (c : ℕ) → IsSlot S c
+      → (x : SiteState) × (S.sites c ≡ member_site S.words.deployment c x (new_word S.words.deployment base start) (start_from S.words.deployment start c) (log (part S c)))
+  orders : (h c : ℕ) → S.words.channel (Agent h) (Site c) ≡ []
+  answers : (c h : ℕ) → S.words.channel (Site c) (Agent h) ≡ []
+  over : (p : ℕ) → IsPart S p → Recovered E S.words.deployment now log p
+  even : AppliedInAll S.words.deployment log
+
+module _ (E : Database) (S : LogState) (H : Holds S) (base start now : ℕ) (log : ℕ → List Entry) (k : CallsBegin E S base start now log) where
+  abbrev D : Deployment
+  D = S.words.deployment
+
+  abbrev W : Membership
+  W = new_word D base start
+
+  abbrev K : Transactions
+  K = new_transactions E D base log
+
+  -- what is counted firm
+  abbrev all_firm : Firm
+  all_firm p = length (log p)
+
+  -- ---- the history
+
+  first-led : (p : ℕ) → S.logs.reign p base ≡ Some (first_reign log p)
+  first-led p = ap (λ G. G.reign p base) k.logs ∙ if-true (base == base) (Some (first_reign log p)) None (eqb-same base)
+
+  first-reach : (p : ℕ) → S.logs.reach p base ≡ length (log p)
+  first-reach p = ap (λ G. G.reach p base) k.logs ∙ if-true (base == base) (length (log p)) 0 (eqb-same base)
+
+  -- no other term was led
+  one-led : (p t : ℕ) (g : Reign) → S.logs.reign p t ≡ Some g → (t ≡ base) × (first_reign log p ≡ g)
+  one-led p t g led = elim (cases_Bool (t == base)) [
+    | inl e ↦ (eqb-true t base e, same-some (sym (if-true (t == base) (Some (first_reign log p)) None e) ∙ there))
+    | inr e ↦ absurd (none-and-some (if-false (t == base) (Some (first_reign log p)) None e) there)
+  ]
+    where
+      there : (if t == base then Some (first_reign log p) else None) ≡ Some g
+      there = ap (λ G. G.reign p t) (sym k.logs) ∙ led
+
+  whole-is : (p : ℕ) → whole S K base p ≡ log p
+  whole-is p = ap (λ r. led_log r ++ []) (first-led p) ∙ append-nil (log p)
+
+  since-none : (p : ℕ) → since K (whole S K base) p ≡ []
+  since-none p = ap (drop (length (log p))) (whole-is p) ∙ drop_all (length (log p)) (log p) (omega arith)
+
+  everywhere : (p : ℕ) → Everywhere S all_firm p base (length (log p))
+  everywhere p = record { reach = omega (arith, first-reach p); firm = omega arith }
+
+  -- the mark is on the disk of one of its slots
+  top-begins : (p : ℕ) → IsPart S p → Top S p base 0
+  top-begins p q =
+      let r = part-slot D p q in
+      record {
+        slot = r.0;
+        is_slot = r.1;
+        part_is = r.2;
+        all = rw (ap (λ s. s.contents) (k.members r.0 r.1).1) (inr (refl, omega arith), tt);
+      }
+
+  aligned-begins : Aligned E D now K (whole S K base)
+  aligned-begins = record {
+    formed = λ p q. rw (whole-is p) (k.over p q).formed;
+    past = λ p q. rw (whole-is p) (k.over p q).past;
+    front = λ p q. rw (whole-is p) (front-refl (log p));
+    over = λ p q. (k.over p q).over;
+    below = λ p q. (k.over p q).number;
+    only = λ p q. rw (since-none p) tt;
+    fresh = λ p q i j e. rw (since-none q) tt;
+    ends = λ p q o i. absurd (subst (In (Done K.number o)) (since-none p) i);
+    snapshot = λ p q e. absurd (none-and-some refl e);
+    decided = λ p x q e. absurd (none-and-some refl e);
+    agreed = λ x e. absurd (none-and-some refl e);
+    even = k.even;
+  }
+
+  heard-part : (p : ℕ) → IsPart S p → HeardPart S all_firm K p
+  heard-part p q = record {
+    reign = first_reign log p;
+    led = first-led p;
+    inside = front-refl (log p);
+    closed = everywhere p;
+    decided = λ x e. absurd (none-and-some refl e);
+    top = top-begins p q;
+  }
+
+  -- ---- agents
+
+  word-term : term_of W ≡ base
+  word-term = omega arith
+
+  host-decided : (h : ℕ) → is_host D h ≡ true → (S.words.agents h).decided ≡ Some W
+  host-decided h q = ap (λ a. a.decided) (k.hosts h q)
+
+  -- host 0 initiates
+  first-host : (h a : ℕ) → initiator W ≡ Some (h, a) → is_host D h ≡ true
+  first-host h a e =
+      let same : (0, start) ≡ (h, a) = same-some (sym (initiator-first D base start k.some_host) ∙ e) in
+      subst (λ x. is_host D x.0 ≡ true) same k.some_host
+
+  heard-begins : HeardOk E S all_firm K now
+  heard-begins = record {
+    word = W;
+    is_word = record {
+      decided = (some-here (λ w. In w S.words.history.decided × (names w (S.words.agents 0).start ≡ true)) (S.words.agents 0).decided W (host-decided 0 k.some_host)
+          (H.words.agents 0).decided).0;
+      term_is = word-term;
+    };
+    by = λ h a e _. omega (arith, word-term, ap term_in (host-decided h (first-host h a e)));
+    each = heard-part;
+    aligned = aligned-begins;
+  }
+
+  books-begin : Books E S all_firm K now
+  books-begin = record {
+    due = λ p t. inl refl;
+    reigns = λ p t g q led. let r = one-led p t g led in subst (ReignFits E S K now p t) r.1 (record {
+      formed = rw (append-nil (log p)) (k.over p q).formed;
+      past = rw (append-nil (log p)) (k.over p q).past;
+      unheard = λ l. absurd (omega (arith, l, r.0));
+    });
+    heard = heard-begins;
+  }
+
+  -- The agent of host 0 is an idle initiator.
+  idle-begins : PhaseOk E S all_firm K (term_of W) (member_agent W (K.number + 1) start 0) Idle
+  idle-begins = (sym word-term, refl, omega arith, λ p q. (refl, rw (since-none p) tt))
+
+  -- one that isn't
+  off-begins : (h : ℕ) (a : AgentState) → S.words.agents h ≡ a → (a.initiating.phase ≡ Off) × (a.initiating.work ≡ None) × (a.initiating.next ≡ 0)
+      → InitiatingOk E S all_firm K h
+  off-begins h a e off = inl (rw e off)
+
+  initiating-begins : (h : ℕ) → InitiatingOk E S all_firm K h
+  initiating-begins h = choice h (is_host D h) refl
+    where
+      choice : (h : ℕ) (b : Bool) → is_host D h ≡ b → InitiatingOk E S all_firm K h
+      choice h false q = off-begins h (new_agent 0) (k.others h q) (refl, refl, refl)
+      choice (suc h) true q = off-begins (suc h) (member_agent W (K.number + 1) start (suc h)) (k.hosts (suc h) q) (refl, refl, refl)
+      choice zero true q =
+          let e = k.hosts 0 q in
+          inr (
+            W,
+            record {
+              runs = let s = ap (λ a. a.start) e in let some = k.positive in omega (arith, s, some);
+              has_decided = host-decided 0 q;
+              initiates = initiator-first D base start q ∙ ap (λ s. Some (0, s)) (let s = ap (λ a. a.start) e in omega (arith, s));
+            },
+            subst (λ a. PhaseOk E S all_firm K (term_of W) a a.initiating.phase) (sym e) idle-begins,
+          )
+
+  waiting-begins : (h : ℕ) → (S.words.agents h).waiting ≡ []
+  waiting-begins h = choice (is_host D h) refl
+    where
+      choice : (b : Bool) → is_host D h ≡ b → (S.words.agents h).waiting ≡ []
+      choice true q = ap (λ a. a.waiting) (k.hosts h q)
+      choice false q = ap (λ a. a.waiting) (k.others h q)
+
+  -- ---- sites
+
+  -- a slot's site
+  abbrev site : (c : ℕ) → IsSlot S c → SiteState
+  site c q = member_site D c (k.members c q).0 W (start_from D start c) (log (part S c))
+
+  -- It has all its log on disk under the term's mark, and has counted it firm.
+  least-begins : (c : ℕ) (q : IsSlot S c) (n : ℕ) → acknowledged D c (site c q) ≡ Some n → n ≤ length (log (part S c))
+  least-begins c q n e =
+      let own : own_ack (site c q) ≡ Some (length (log (part S c))) = if-true (base == term_of W) (Some (length (log (part S c)))) None (eq-eqb base (term_of W) (sym word-term)) in
+      least-first (length (log (part S c))) (map (acked_in (site c q).acks) (other_copies D c (site c q)) ++ []) n
+      (ap (λ a. least a (map (acked_in (site c q).acks) (other_copies D c (site c q)) ++ [])) (sym own) ∙ e)
+
+  site-begins : (c : ℕ) → IsSlot S c → SiteCalls S K c
+  site-begins c q =
+      let e = (k.members c q).1 in
+      record {
+        waiting = rw (ap (λ s. s.waiting) e) tt;
+        held = rw (ap (λ s. s.held) e) tt;
+        orders = λ w j v l h a i. ap (orders (start_at S c) (term_of w)) (k.orders h c);
+        counts = λ l. record {
+          counted = λ n r. subst (λ s. n ≤ s.firm) (sym e) (least-begins c q n (ap (acknowledged D c) (sym e) ∙ r));
+          joined = λ g led. rw (ap (λ s. s.joiners) e) tt;
+        };
+        unrepaired = λ r. ap (λ s. s.joiners) e;
+      }
+
+  -- All of it.
+  calls-begin : CallsHold E S all_firm false K now
+  calls-begin = record {
+    books = books-begin;
+    to_sites = λ h c q. rw (k.orders h c) tt;
+    to_agents = λ c h q. rw (k.answers c h) tt;
+    outside = λ c h out. k.answers c h;
+    sites = λ c q up. site-begins c q;
+    agents = λ h. record { initiating = initiating-begins h; waiting = rw (waiting-begins h) tt };
+    halts = λ e. absurd (false≢true e);
+  }
+
+-- ---- the first epoch
+
+-- a partition whose log is empty
+over-first : (E : Database) (D : Deployment) (now p : ℕ) → nat_lt p (parts D) ≡ true → Recovered E D now (λ p. []) p
+over-first E D now p q = record {
+  formed = tt;
+  past = omega arith;
+  over = refl;
+  number = greatest-above E (λ p. []) (parts D) p (grind (arith, nat_tests, q));
+}
+
+-- In the first world.
+pub first-calls : (E : Database) (I : Input) (positive : 0 < I.base) → IsLayout I.deployment.layout.hosts I.deployment.layout.sites I.deployment.layout.k → (now : ℕ)
+    → let k = first-logs E I positive in
+    CallsHold E (log_state (first_world E I) k.owner k.history k.logs) (firm_in (first_world E I)) false (new_transactions E I.deployment I.base (λ p. [])) now
+first-calls E I positive lay now =
+    let D = I.deployment in
+    let w = first_world E I in
+    let k = first-logs E I positive in
+    let a = member_agent (new_word D I.base 1) (greatest_done E (λ p. []) (parts D) + 1) 1 in
+    calls-begin E (log_state w k.owner k.history k.logs) k.holds I.base 1 now (λ p. []) (record {
+      positive = omega arith;
+      some_host = host-there D lay;
+      logs = first-logs-are E I positive;
+      hosts = λ h e. if-true (is_host D h) (a h) (new_agent 0) e;
+      others = λ h e. if-false (is_host D h) (a h) (new_agent 0) e;
+      members = λ c q. (no_site, if-true (nat_lt c (slots D)) (member_site D c no_site (new_word D I.base 1) (start_from D 1 c) []) no_site q);
+      orders = λ h c. refl;
+      answers = λ c h. refl;
+      over = over-first E D now;
+      even = λ p q m x o part other point i. i;
+    })
+
+-- ---- what disks may show
+
+-- Whatever contents the disks show, the chosen logs are aligned.
+pub any-aligned : (E : Database) (S : LogState) (F : Firm) (halted : Bool) (K : Transactions) (now stamp : ℕ) → Holds S → DisksHold S F halted → CallsHold E S F halted K now
+    → now ≤ stamp → (shown : ℕ → Shown) → Shows S shown → (L : Transactions) × Aligned E S.words.deployment stamp L (chosen S.words.deployment shown)
+any-aligned E S F false K now stamp H disks k l shown shows = (K, choice-aligned E S F K stamp H disks (books-later E S F K now stamp l k.books) shown shows)
+any-aligned E S F true K now stamp H disks k l shown shows =
+    let r = k.halts refl shown shows in
+    (r.0, aligned-later E S.words.deployment now stamp l r.0 (chosen S.words.deployment shown) r.1)
+
+-- ---- a recovery that works
+
+-- It begins an epoch with what was chosen and closed.
+pub anew-calls : (E : Database) (w : World) (shown : List ℕ) (k : HasLogs w) (F : Firm) (halted : Bool) → DisksHold (log_state w k.owner k.history k.logs) F halted
+    → (K : Transactions) (now stamp : ℕ) → CallsHold E (log_state w k.owner k.history k.logs) F halted K now → now ≤ stamp → is_shown w shown None ≡ true
+    → IsLayout w.deployment.layout.hosts w.deployment.layout.sites w.deployment.layout.k
+    → let a = anew-logs E w shown k in
+    CallsHold E (log_state (starts_anew E w shown) a.owner a.history a.logs) (firm_in (starts_anew E w shown)) false
+    (new_transactions E w.deployment (new_base w shown) (new_log E w shown)) stamp
+anew-calls E w shown k F halted disks K now stamp calls l e lay =
+    let D = w.deployment in
+    let S = log_state w k.owner k.history k.logs in
+    let v = starts_anew E w shown in
+    let start = w.director.next_start in
+    let base = new_base w shown in
+    let log = new_log E w shown in
+    let word = new_word D base start in
+    let a = anew-logs E w shown k in
+    let agent = member_agent word (greatest_done E log (parts D) + 1) start in
+    let chose = any-aligned E S F halted K now stamp k.holds disks calls l (shown_of w shown) (world-shows w k.owner k.history k.logs F halted disks shown None e refl) in
+    calls-begin E (log_state v a.owner a.history a.logs) a.holds base start stamp log (record {
+      positive = k.holds.words.some;
+      some_host = host-there D lay;
+      logs = anew-logs-are E w shown k;
+      hosts = λ h q. if-true (is_host D h) (agent h) (w.agents h) q;
+      others = λ h q. if-false (is_host D h) (agent h) (w.agents h) q ∙ k.outsiders h q;
+      members = λ c q. (
+        stopped_site (w.sites c),
+        if-true (nat_lt c (slots D)) (member_site D c (stopped_site (w.sites c)) word (start_from D start c) (log (part_of_slot D c))) (w.sites c) q,
+      );
+      orders = λ h c. refl;
+      answers = λ c h. refl;
+      over = aligned-recovered E D stamp chose.0 (shown_of w shown) chose.1;
+      even = recovered-even E D stamp chose.0 (shown_of w shown) chose.1;
+    })
+
+-- ---- a recovery that is stopped
+
+module _ (E : Database) (w : World) (k : HasLogs w) (F : Firm) (halted : Bool) (disks : DisksHold (log_state w k.owner k.history k.logs) F halted) (K : Transactions) (now stamp : ℕ)
+    (calls : CallsHold E (log_state w k.owner k.history k.logs) F halted K now) (later : now ≤ stamp) (shown : List ℕ) (f : ℕ) (owner : ℕ → ℕ) where
+  -- before it, and once it has stopped at this disk, as that was read or written
+  abbrev old : LogState
+  old = log_state w k.owner k.history k.logs
+
+  abbrev left : Bool → LogState
+  left b = log_state (stays_stopped E w shown (f, b)) owner k.history k.logs
+
+  -- ---- what the disks may show from then on
+
+  -- what may be chosen before it
+  chosen-before : (s : ℕ → Shown) → Shows old s → (L : Transactions) × Aligned E w.deployment stamp L (chosen w.deployment s)
+  chosen-before = any-aligned E old F halted K now stamp k.holds disks calls later
+
+  -- Where it failed as it read, they show nothing that they didn't show before.
+  read-shows : is_shown w shown (Some (f, false)) ≡ true → (s : ℕ → Shown) → Shows (left false) s → Shows old s
+  read-shows e s h = record { one = λ c q. read c (nat_lt c f) refl (h.one c q); none = h.none }
+    where
+      read : (c : ℕ) (x : Bool) → nat_lt c f ≡ x → In (s c) (if x then shown_of w shown c ∷ [] else (w.sites c).contents) → In (s c) (w.sites c).contents
+      read c false t i = i
+      read c true t (inl i) = subst (λ y. In y (w.sites c).contents) i (disk-shows w shown (Some (f, false)) e c (grind (arith, nat_tests, t)))
+      read c true t (inr i) = absurd i
+
+  -- Where it failed as it wrote, each shows what it showed then or its new base.
+  module _ (e : is_shown w shown (Some (f, true)) ≡ true) (s : ℕ → Shown) (h : Shows (left true) s) where
+    either : (c : ℕ) → (s c ≡ shown_of w shown c) ⊎ (IsSlot old c × (s c ≡ new_content E w shown c))
+    either c = slot (nat_lt c (slots w.deployment)) refl
+      where
+        written : (x y : Bool) → In (s c) (if x then new_content E w shown c ∷ [] else if y then shown_of w shown c ∷ new_content E w shown c ∷ [] else shown_of w shown c ∷ [])
+            → (s c ≡ shown_of w shown c) ⊎ (s c ≡ new_content E w shown c)
+        written true y (inl i) = inr (sym i)
+        written true y (inr i) = absurd i
+        written false true (inl i) = inl (sym i)
+        written false true (inr (inl i)) = inr (sym i)
+        written false true (inr (inr i)) = absurd i
+        written false false (inl i) = inl (sym i)
+        written false false (inr i) = absurd i
+
+        slot : (x : Bool) → nat_lt c (slots w.deployment) ≡ x → (s c ≡ shown_of w shown c) ⊎ (IsSlot old c × (s c ≡ new_content E w shown c))
+        slot true q = elim (written (nat_lt c f) (c == f) (h.one c q)) [
+          | inl i ↦ inl i
+          | inr i ↦ inr (q, i)
+        ]
+        slot false q =
+            let out : IsSlot old c → ⊥ = λ y. not-both (nat_lt c (slots w.deployment)) y q in
+            inl (h.none c out ∙ sym (get-none (w.sites c).contents (slice_index shown c) (disks.outside c out)))
+
+    -- of several slots, all or not
+    all-or-one : (cs : List ℕ) → (map s cs ≡ map (shown_of w shown) cs) ⊎ ((c : ℕ) × In c cs × (s c ≡ new_content E w shown c))
+    all-or-one [] = inl refl
+    all-or-one (c ∷ cs) = elim (either c) [
+      | inr n ↦ inr (c, inl refl, n.1)
+      | inl o ↦ elim (all-or-one cs) [
+        | inr n ↦ inr (n.0, inr n.1, n.2)
+        | inl os ↦ inl (rw (o, os) refl)
+      ]
+    ]
+
+    -- A new base is better than all that was shown.
+    new-chosen : (p c : ℕ) → part_of_slot w.deployment c ≡ p → s c ≡ new_content E w shown c → chosen w.deployment s p ≡ new_log E w shown p
+    new-chosen p c e new =
+        let r = best-chosen w.deployment s c p (new_base w shown) 0 e (subst (AtLeast (new_base w shown) 0) (sym new) (inr (refl, omega arith))) in
+        elim (either r.slot) [
+          | inl o ↦
+              let q = shows-slot (left true) s h r.slot r.content r.shows in
+              let a = new-above E w k F halted disks shown f owner k.history r.slot q in
+              let b = at_least-mark (new_base w shown) 0 (Some r.content) r.good in
+              let same = ap mark_of (sym o ∙ r.shows) in
+              absurd (omega (arith, a, b, same))
+          | inr n ↦
+              let same = same-some (sym r.shows ∙ n.1) in
+              r.log_is ∙ ap (λ x. x.log) same ∙ ap (new_log E w shown) r.part_is
+        ]
+
+    -- So each log is that which was chosen, or what the recovery made of it.
+    written-chosen : (p : ℕ) → (chosen w.deployment s p ≡ chosen w.deployment (shown_of w shown) p) ⊎ (chosen w.deployment s p ≡ recovered E w.deployment (shown_of w shown) p)
+    written-chosen p = elim (all-or-one (slots_of_part w.deployment.layout.k p)) [
+      | inl o ↦ inl (ap (λ xs. unwrap_or (option_map (λ c. c.log) (best_of xs)) []) o)
+      | inr n ↦ inr (new-chosen p n.0 (slots-part w.deployment.layout.k p n.0 n.1) n.2)
+    ]
+
+  -- Either way all that may be chosen is aligned.
+  chosen-after : (b : Bool) → is_shown w shown (Some (f, b)) ≡ true → (s : ℕ → Shown) → Shows (left b) s → (L : Transactions) × Aligned E w.deployment stamp L (chosen w.deployment s)
+  chosen-after false e s h = chosen-before s (read-shows e s h)
+  chosen-after true e s h =
+      let r = chosen-before (shown_of w shown) (world-shows w k.owner k.history k.logs F halted disks shown (Some (f, true)) e refl) in
+      aligned-again E w.deployment stamp r.0 (shown_of w shown) r.1 (chosen w.deployment s) (λ p q. written-chosen e s h p)
+
+  -- ---- all else stays
+
+  module _ (b : Bool) (e : is_shown w shown (Some (f, b)) ≡ true) (stopped : is_stopped w ≡ true) where
+    onto : Onto old (left b) F F
+    onto = record {
+      deployment = refl;
+      decided = λ v i. i;
+      onward = onward-same k.logs;
+      firm = λ p. omega arith;
+      tops = left-top E w k F halted disks shown f owner k.history b e;
+    }
+
+    books : Books E old F K stamp
+    books = books-later E old F K now stamp later calls.books
+
+    heard-left : (p : ℕ) → HeardPart old F K p → HeardPart (left b) F K p
+    heard-left p q = record {
+      reign = q.reign;
+      led = q.led;
+      inside = q.inside;
+      closed = everywhere-on old (left b) F F onto p K.heard (length (K.closed p)) q.closed;
+      decided = λ x a. let r = q.decided x a in (r.0, everywhere-on old (left b) F F onto p K.heard (length (K.decided p)) r.1);
+      top = onto.tops p K.heard 0 q.top;
+    }
+
+    books-left : Books E (left b) F K stamp
+    books-left = record {
+      due = books.due;
+      reigns = λ p t g q led. let r = books.reigns p t g q led in record { formed = r.formed; past = r.past; unheard = r.unheard };
+      heard = record {
+        word = books.heard.word;
+        is_word = record { decided = books.heard.is_word.decided; term_is = books.heard.is_word.term_is };
+        by = books.heard.by;
+        each = λ p q. heard-left p (books.heard.each p q);
+        aligned = books.heard.aligned;
+      };
+    }
+
+    -- no agent runs, so none is an initiator
+    initiating-left : (h : ℕ) → InitiatingOk E old F K h → InitiatingOk E (left b) F K h
+    initiating-left h (inl off) = inl off
+    initiating-left h (inr (v, i, phase)) =
+        let down = agent-stopped E w k F halted disks shown f owner k.history stopped h in
+        absurd (omega (arith, i.runs, down))
+
+    waiting-left : (x : Waiting) → WaitingAnswer E old F K x → WaitingAnswer E (left b) F K x
+    waiting-left x q = elim x.from as (λ a. WaitingAnswer E old F K (record x { from = a }) → WaitingAnswer E (left b) F K (record x { from = a })) [
+      | Site c ↦ λ q. (q.0, answer-on E old (left b) F F onto K K (omega arith) (part old c) x.letter q.1)
+      | _ ↦ λ q. q
+    ] q
+
+    calls-left : CallsHold E (left b) F true K stamp
+    calls-left = record {
+      books = books-left;
+      to_sites = λ h c q. all-mono (ToSiteOk old h c) (ToSiteOk (left b) h c) (to_site-on old (left b) F F onto h c) (w.channel (Agent h) (Site c)) (calls.to_sites h c q);
+      to_agents = λ c h q. all-mono (AnswerOk E old F K (part old c)) (AnswerOk E (left b) F K (part old c))
+          (answer-on E old (left b) F F onto K K (omega arith) (part old c)) (w.channel (Site c) (Agent h)) (calls.to_agents c h q);
+      outside = calls.outside;
+      sites = λ c q up. let down = site-stopped E w k F halted disks shown f owner k.history stopped c in absurd (omega (arith, up, down));
+      agents = λ h. record {
+        initiating = initiating-left h (calls.agents h).initiating;
+        waiting = all-mono (WaitingAnswer E old F K) (WaitingAnswer E (left b) F K) waiting-left (w.agents h).waiting (calls.agents h).waiting;
+      };
+      halts = λ _. chosen-after b e;
+    }
+
+-- One that may happen, with what the disks may show.
+pub stopped-calls : (E : Database) (w : World) (k : HasLogs w) (F : Firm) (halted : Bool) → DisksHold (log_state w k.owner k.history k.logs) F halted
+    → (K : Transactions) (now stamp : ℕ) → CallsHold E (log_state w k.owner k.history k.logs) F halted K now → now ≤ stamp
+    → (shown : List ℕ) (failed : ℕ × Bool) → may_recover w ≡ true → allows w event.Recover (DisksShow shown (Some failed)) ≡ true
+    → (v : HasLogs (stays_stopped E w shown failed)) → v.history ≡ k.history → v.logs ≡ k.logs
+    → CallsHold E (log_state (stays_stopped E w shown failed) v.owner v.history v.logs) F true K stamp
+stopped-calls E w k F halted disks K now stamp calls l shown failed may allowed v history logs =
+    let p = and_parts (is_shown w shown (Some failed)) (is_slot_or_none w.deployment (Some failed)) allowed in
+    subst (λ H. CallsHold E (log_state (stays_stopped E w shown failed) v.owner H v.logs) F true K stamp) (sym history)
+    (subst (λ G. CallsHold E (log_state (stays_stopped E w shown failed) v.owner k.history G) F true K stamp) (sym logs)
+    (calls-left E w k F halted disks K now stamp calls l shown failed.0 v.owner failed.1 p.0 (and_parts w.director.recovery_asked (is_stopped w) may).1))

@@ -1,0 +1,377 @@
+-- In each world of a run all that is to hold of transactions holds.
+use Rattle.std.proofs.Common.{◌≡◌, ◌<◌, Bool, true, false, List, [], ◌∷◌, ◌++◌, length, length-append, refl, sym, subst, ap, ◌∙◌, ◌==◌, ◌+◌, arith}
+use Rattle.std.proofs.lemmas.Bool.{and_parts}
+use Rattle.std.specs.Prelude.{ℕ, ◌&&◌, not, nat_lt, if◌then◌else◌, Some, None}
+use Rattle.std.specs.List.{AllByRecursion}
+use Rattle.volt_wire.specs.declared.actor.Actor.{Actor}
+use Rattle.volt_wire.specs.declared.actor.Actor.TheVariants.{Director, Client, Agent, Site, Scanner}
+use Rattle.volt_wire.specs.declared.event.Event.{Event}
+use Rattle.volt_wire.specs.declared.event.Event.TheVariants as event
+use Rattle.cluster_model.specs.Engine.{Database}
+use Rattle.cluster_model.specs.Words.{slots, part_of_slot, is_host}
+use Rattle.cluster_model.specs.Letters.{Letter, Turn}
+use Rattle.cluster_model.specs.SiteState.{SiteState, no_site, member_site}
+use Rattle.cluster_model.specs.Agent.{agent_turn}
+use Rattle.cluster_model.specs.Sync.{may_sync, site_turn, sync_turn}
+use Rattle.cluster_model.specs.Outside.{Outside, Fair, DiskFails, NoMemory, DisksShow}
+use Rattle.cluster_model.specs.World.{World, Stopped, Input, first_world, stamp_of, took, with_site, stops_with, new_word, start_from}
+use Rattle.cluster_model.specs.Recover.{new_base, new_log, new_site, starts_anew, stays_stopped}
+use Rattle.cluster_model.specs.Events.{is_actor, is_some_letter, is_shown, is_slot_or_none, may_recover, can, allows, delivered, recovered_with, may_do, happens, step}
+use Rattle.cluster_model.specs.Runs.{Happening, IsRun, has_failed, may_happen, run}
+use Rattle.word_laws.specs.Histories as word
+use Rattle.word_laws.proofs.Lists.{if-false, set-both, all-mono}
+use Rattle.word_laws.proofs.Worlds.{actor-host, host-apart, memory-runs}
+use Rattle.log_laws.specs.Histories.{Logs, LogState, Holds, WaitingOk}
+use Rattle.log_laws.specs.Copies.{log_state, HasLogs}
+use Rattle.log_laws.proofs.Kept.Moves.{Grown}
+use Rattle.log_laws.proofs.Runs.Boots.{first-logs, anew-logs}
+use Rattle.log_laws.proofs.Runs.Others.{Keeps, to_client-logs, to_director-logs, to_scanner-logs, scan-logs, submit-logs, next-logs, stopped-logs}
+use Rattle.log_laws.proofs.Runs.SiteEvents.{turn-after, sync-after}
+use Rattle.log_laws.proofs.Runs.Worlds.{actor-slot, site-reaches, site-next}
+use Rattle.disk_laws.specs.Disks.{Firm, DisksHold}
+use Rattle.disk_laws.proofs.SiteDisks.{lead-raised}
+use Rattle.disk_laws.proofs.Syncs.{sync-disks, sync-runs}
+use Rattle.disk_laws.proofs.Recoveries.{stopped-hold}
+use Rattle.disk_laws.proofs.Boots.{firm_in, first-disks, anew-disks}
+use Rattle.disk_laws.proofs.Others.{disks-plain, disks-agent}
+use Rattle.disk_laws.proofs.Rows.{PlainWaiting, waiting-plain}
+use Rattle.disk_laws.proofs.SiteTurns.{site_turn-kept}
+use Rattle.transaction_laws.specs.Transactions.{Transactions, CallsHold}
+use Rattle.transaction_laws.specs.Worlds.{IsLaidOut}
+use Rattle.transaction_laws.proofs.Runs.Blank.{Blank, turn-blank, sync-blank}
+use Rattle.transaction_laws.proofs.Kept.Others.{calls-plain}
+use Rattle.transaction_laws.proofs.Agents.AgentEvents.{agent-calls}
+use Rattle.transaction_laws.proofs.Sites.SiteEvents.{site-calls, sync-calls}
+use Rattle.transaction_laws.proofs.Runs.Epochs.{first-calls, anew-calls, stopped-calls}
+
+-- ---- worlds
+
+-- A world with its histories, after so many events.
+pub record HasCalls (E : Database) (now : ℕ) (w : World) : Type 0 where
+  pub laid : IsLaidOut w.deployment
+  pub logs : HasLogs w
+  pub halted : Bool
+  pub disks : DisksHold (log_state w logs.owner logs.history logs.logs) (firm_in w) halted
+  pub transactions : Transactions
+  pub calls : CallsHold E (log_state w logs.owner logs.history logs.logs) (firm_in w) halted transactions now
+  pub blank : (i : ℕ) → Blank (w.sites i)
+
+-- what disks show and what is known of transactions, in a state
+pub record Known (E : Database) (now : ℕ) (T : LogState) (F : Firm) (halted : Bool) : Type 0 where
+  pub disks : DisksHold T F halted
+  pub transactions : Transactions
+  pub calls : CallsHold E T F halted transactions now
+
+known-has : (E : Database) (now : ℕ) (w : World) (halted : Bool) → IsLaidOut w.deployment → (k : HasLogs w)
+    → Known E now (log_state w k.owner k.history k.logs) (firm_in w) halted → ((i : ℕ) → Blank (w.sites i)) → HasCalls E now w
+known-has E now w halted laid k n blank = record { laid = laid; logs = k; halted = halted; disks = n.disks; transactions = n.transactions; calls = n.calls; blank = blank }
+
+-- ---- events of clients, the director and scanners
+
+module _ (E : Database) (now : ℕ) (w : World) (d : HasCalls E now w) where
+  abbrev S : LogState
+  S = log_state w d.logs.owner d.logs.history d.logs.logs
+
+  -- nothing happens
+  same-calls : HasCalls E (now + 1) w
+  same-calls = record {
+    laid = d.laid;
+    logs = d.logs;
+    halted = d.halted;
+    disks = d.disks;
+    transactions = _;
+    calls = calls-plain E S (firm_in w) d.halted d.transactions now d.logs.holds d.calls w.director.next_start w.channel d.logs.owner (λ h c. refl) (λ c h. refl) d.logs.holds;
+    blank = d.blank;
+  }
+
+  -- Numbers and owners of starts are others, and messages but those between agents and sites.
+  plain-known : (next : ℕ) (ch : Actor → Actor → List Letter) (owner : ℕ → ℕ)
+      → ((i c : ℕ) → ch (Site i) (Site c) ≡ w.channel (Site i) (Site c)) → ((h c : ℕ) → ch (Agent h) (Site c) ≡ w.channel (Agent h) (Site c))
+      → ((c h : ℕ) → ch (Site c) (Agent h) ≡ w.channel (Site c) (Agent h))
+      → Holds (record S { words = record S.words { next = next; channel = ch; owner = owner } })
+      → Known E (now + 1) (record S { words = record S.words { next = next; channel = ch; owner = owner } }) (firm_in w) d.halted
+  plain-known next ch owner between down up h = record {
+    disks = disks-plain S (firm_in w) d.halted d.disks next ch owner between;
+    transactions = _;
+    calls = calls-plain E S (firm_in w) d.halted d.transactions now d.logs.holds d.calls next ch owner down up h;
+  }
+
+-- with the same histories of words and logs
+kept-holds : (w v : World) (k : HasLogs w) (n : Keeps w k v) → Holds (log_state v n.next.owner k.history k.logs)
+kept-holds w v k n =
+    subst (λ h. Holds (log_state v n.next.owner h k.logs)) n.history (subst (λ G. Holds (log_state v n.next.owner n.next.history G)) n.logs n.next.holds)
+
+keeps-calls : (E : Database) (now : ℕ) (w v : World) (k : HasLogs w) (n : Keeps w k v) (halted : Bool) → IsLaidOut v.deployment → ((i : ℕ) → Blank (v.sites i))
+    → Known E now (log_state v n.next.owner k.history k.logs) (firm_in v) halted → HasCalls E now v
+keeps-calls E now w v k n halted laid blank known = known-has E now v halted laid n.next
+    (subst (λ h. Known E now (log_state v n.next.owner h n.next.logs) (firm_in v) halted) (sym n.history)
+    (subst (λ G. Known E now (log_state v n.next.owner k.history G) (firm_in v) halted) (sym n.logs) known))
+    blank
+
+module _ (E : Database) (now : ℕ) (w : World) (d : HasCalls E now w) where
+  to_client-calls : (n : ℕ) (from : Actor) (ls : List Letter) (o : Outside) → HasCalls E (now + 1) (delivered E w (Client n) from ls o)
+  to_client-calls n from [] o = same-calls E now w d
+  to_client-calls n from (l ∷ ls) o =
+      let v = delivered E w (Client n) from (l ∷ ls) o in
+      let k = to_client-logs E w n from (l ∷ ls) o d.logs in
+      keeps-calls E (now + 1) w v d.logs k d.halted d.laid d.blank
+      (plain-known E now w d v.director.next_start v.channel k.next.owner (λ i c. refl) (λ h c. refl) (λ c h. refl) (kept-holds w v d.logs k))
+
+  to_director-calls : (from : Actor) (ls : List Letter) (o : Outside) → HasCalls E (now + 1) (delivered E w Director from ls o)
+  to_director-calls from [] o = same-calls E now w d
+  to_director-calls from (l ∷ ls) o =
+      let v = delivered E w Director from (l ∷ ls) o in
+      let k = to_director-logs E w from (l ∷ ls) o d.logs in
+      keeps-calls E (now + 1) w v d.logs k d.halted d.laid d.blank
+      (plain-known E now w d v.director.next_start v.channel k.next.owner (λ i c. refl) (λ h c. refl) (λ c h. refl) (kept-holds w v d.logs k))
+
+  to_scanner-calls : (i : ℕ) (from : Actor) (ls : List Letter) (o : Outside) → HasCalls E (now + 1) (delivered E w (Scanner i) from ls o)
+  to_scanner-calls i from [] o = same-calls E now w d
+  to_scanner-calls i from (l ∷ ls) o =
+      let v = delivered E w (Scanner i) from (l ∷ ls) o in
+      let k = to_scanner-logs E w i from (l ∷ ls) o d.logs in
+      keeps-calls E (now + 1) w v d.logs k d.halted d.laid d.blank
+      (plain-known E now w d v.director.next_start v.channel k.next.owner (λ i c. refl) (λ h c. refl) (λ c h. refl) (kept-holds w v d.logs k))
+
+  -- what they do of themselves
+  scan-calls : (i : ℕ) (o : Outside) → HasCalls E (now + 1) (happens E w (event.Scan i) o)
+  scan-calls i o =
+      let v = happens E w (event.Scan i) o in
+      let k = scan-logs w i o d.logs in
+      keeps-calls E (now + 1) w v d.logs k d.halted d.laid d.blank
+      (plain-known E now w d v.director.next_start v.channel k.next.owner (λ i c. refl) (λ h c. refl) (λ c h. refl) (kept-holds w v d.logs k))
+
+  submit-calls : (n : ℕ) (o : Outside) → HasCalls E (now + 1) (happens E w (event.Submit n) o)
+  submit-calls n o =
+      let v = happens E w (event.Submit n) o in
+      let k = submit-logs w n d.logs in
+      keeps-calls E (now + 1) w v d.logs k d.halted d.laid d.blank
+      (plain-known E now w d v.director.next_start v.channel k.next.owner (λ i c. refl) (λ h c. refl) (λ c h. refl) (kept-holds w v d.logs k))
+
+  item-calls : (o : Outside) → HasCalls E (now + 1) (happens E w event.Item o)
+  item-calls o =
+      let v = happens E w event.Item o in
+      let k = next-logs w (may_do w w.director.items) w.director.items d.logs in
+      keeps-calls E (now + 1) w v d.logs k d.halted d.laid d.blank
+      (plain-known E now w d v.director.next_start v.channel k.next.owner (λ i c. refl) (λ h c. refl) (λ c h. refl) (kept-holds w v d.logs k))
+
+-- ---- events of agents
+
+to_agent-calls : (E : Database) (w : World) (n : ℕ) (from : Actor) (ls : List Letter) (o : Outside) → (d : HasCalls E (length w.trace) w) → w.channel from (Agent n) ≡ ls
+    → is_host w.deployment n ≡ true → allows w (event.Deliver (Agent n) from) o ≡ true → HasCalls E (length w.trace + 1) (delivered E w (Agent n) from ls o)
+to_agent-calls E w n from [] o d is host may = same-calls E (length w.trace) w d
+to_agent-calls E w n from (l ∷ ls) o d is host may =
+    let k = d.logs in
+    let S = log_state w k.owner k.history k.logs in
+    let t = agent_turn E w.deployment n (stamp_of w) (w.agents n) from l o in
+    let r = agent-calls E S (firm_in w) d.halted d.transactions (length w.trace) n from l ls o d.laid k.holds d.calls is host
+    (λ answered e. memory-runs w n answered from l ls o is may e) in
+    record {
+      laid = d.laid;
+      logs = record {
+        owner = k.owner;
+        history = r.0.history;
+        logs = k.logs;
+        holds = r.0.holds;
+        outsiders = λ h e. if-false (h == n) t.state (w.agents h) (host-apart w.deployment n h host e) ∙ k.outsiders h e;
+        lead = k.lead;
+        counted = k.counted;
+      };
+      halted = d.halted;
+      disks = disks-agent S (firm_in w) d.halted d.disks n from t r.0;
+      transactions = r.1;
+      calls = r.2;
+      blank = d.blank;
+    }
+
+-- ---- events of sites
+
+-- after the turn of a site
+module _ (E : Database) (w : World) (d : HasCalls E (length w.trace) w) (channel : Actor → Actor → List Letter) (stops : List Stopped) (i : ℕ) (t : Turn SiteState) where
+  abbrev after-turn : World
+  after-turn = with_site (record w { channel = channel; stops = stops }) i t
+
+  site-known : (G : Logs) (H : Holds (log_state after-turn d.logs.owner d.logs.history G)) → Grown w.deployment i t.state d.logs.logs G
+      → Known E (length w.trace + 1) (log_state after-turn d.logs.owner d.logs.history G) (firm_in after-turn) d.halted → Blank t.state → HasCalls E (length w.trace + 1) after-turn
+  site-known G H grown known blank =
+      let k = d.logs in
+      let r = site-reaches w false k channel stops i t G H grown in
+      let e = site-next w false k channel stops i t G H grown in
+      let Are : (ℕ → ℕ) → word.History → Logs → Type 0 = λ x h y. Known E (length w.trace + 1) (log_state after-turn x h y) (firm_in after-turn) d.halted in
+      known-has E (length w.trace + 1) after-turn d.halted d.laid r.next
+      (subst (λ x. Are x r.next.history r.next.logs) (sym e.0) (subst (λ h. Are k.owner h r.next.logs) (sym e.1) (subst (Are k.owner k.history) (sym e.2) known)))
+      (set-both (λ c s. Blank s) w.sites i t.state blank (λ c n. d.blank c))
+
+-- what waits at a site is plain
+waits-plain : (w : World) (k : HasLogs w) (i : ℕ) → 0 < (w.sites i).start → AllByRecursion PlainWaiting (w.sites i).waiting
+waits-plain w k i up =
+    let S = log_state w k.owner k.history k.logs in
+    all-mono (WaitingOk S i) PlainWaiting (waiting-plain S i) (w.sites i).waiting ((k.holds.sites i).keeps up).waiting
+
+to_site-calls : (E : Database) (w : World) (i : ℕ) (from : Actor) (ls : List Letter) (o : Outside) → HasCalls E (length w.trace) w → w.channel from (Site i) ≡ ls
+    → nat_lt i (slots w.deployment) ≡ true → HasCalls E (length w.trace + 1) (delivered E w (Site i) from ls o)
+to_site-calls E w i from [] o d is slot = same-calls E (length w.trace) w d
+to_site-calls E w i from (l ∷ ls) o d is slot =
+    let k = d.logs in
+    let S = log_state w k.owner k.history k.logs in
+    let r = turn-after E (stamp_of w) S k.holds i slot refl from l ls o is in
+    let t = site_turn E w.deployment (stamp_of w) i (w.sites i) from l o in
+    let channel = took w.channel from (Site i) in
+    let stops = stops_with (stamp_of w) w.stops (Site i) o in
+    let M = firm_in (after-turn E w d channel stops i t) in
+    let raised = lead-raised w.deployment i t.state w.lead_of in
+    let go = site_turn-kept S k.holds (firm_in w) d.halted d.disks i slot E (stamp_of w) from l ls o is M r.0 r.1 r.2 raised in
+    let c = site-calls E S k.holds (firm_in w) d.halted d.transactions (length w.trace) d.calls d.laid i slot d.disks from l ls is o r.0 M r.1 r.2 r.3 r.4 go raised in
+    site-known E w d channel stops i t r.0 r.1 r.2 (record { disks = go.disks; transactions = _; calls = c.1 })
+    (turn-blank E w.deployment (stamp_of w) i (w.sites i) (d.blank i) (waits-plain w k i) from l o)
+
+site-syncs : (E : Database) (w : World) (i : ℕ) (o : Outside) → HasCalls E (length w.trace) w → nat_lt i (slots w.deployment) ≡ true → may_sync (w.sites i) ≡ true
+    → HasCalls E (length w.trace + 1) (happens E w (event.Sync i) o)
+site-syncs E w i o d slot may =
+    let k = d.logs in
+    let S = log_state w k.owner k.history k.logs in
+    let up = sync-runs (w.sites i) may in
+    let r = sync-after E S k.holds i refl up o in
+    let t = sync_turn E w.deployment i (w.sites i) o in
+    let stops = stops_with (stamp_of w) w.stops (Site i) o in
+    let M = firm_in (after-turn E w d w.channel stops i t) in
+    let raised = lead-raised w.deployment i t.state w.lead_of in
+    let go = sync-disks E S k.holds (firm_in w) d.halted d.disks i slot may o M r.0 r.1 r.2 raised in
+    let c = sync-calls E S k.holds (firm_in w) d.halted d.transactions (length w.trace) d.calls d.laid i slot d.disks up o r.0 M r.1 r.2 r.3 r.4 go raised in
+    site-known E w d w.channel stops i t r.0 r.1 r.2 (record { disks = go.disks; transactions = _; calls = c.1 }) (sync-blank E w.deployment i (w.sites i) up o)
+
+-- ---- recoveries
+
+-- no site of a recovery that works is blank, and the logs of others are as they were
+anew-blank : (E : Database) (w : World) (shown : List ℕ) → 0 < w.director.next_start → ((i : ℕ) → Blank (w.sites i)) → (i : ℕ) → Blank ((starts_anew E w shown).sites i)
+anew-blank E w shown some blank i = choice (nat_lt i (slots w.deployment))
+  where
+    new : SiteState
+    new = new_site w.deployment i (w.sites i) (new_word w.deployment (new_base w shown) w.director.next_start) (start_from w.deployment w.director.next_start i)
+        (new_log E w shown (part_of_slot w.deployment i))
+
+    choice : (b : Bool) → Blank (if b then new else w.sites i)
+    choice true z = absurd (omega (arith, some, z))
+    choice false z = blank i z
+
+recovery-calls : (E : Database) (w : World) (o : Outside) → HasCalls E (length w.trace) w → may_recover w ≡ true → allows w event.Recover o ≡ true
+    → HasCalls E (length w.trace + 1) (recovered_with E w o)
+recovery-calls E w Fair d may outside = same-calls E (length w.trace) w d
+recovery-calls E w (DiskFails answered) d may outside = same-calls E (length w.trace) w d
+recovery-calls E w (NoMemory answered) d may outside = same-calls E (length w.trace) w d
+recovery-calls E w (DisksShow shown None) d may outside =
+    let e = (and_parts (is_shown w shown None) (is_slot_or_none w.deployment None) outside).0 in
+    record {
+      laid = d.laid;
+      logs = anew-logs E w shown d.logs;
+      halted = false;
+      disks = anew-disks E w shown d.logs (firm_in w) d.halted d.disks;
+      transactions = _;
+      calls = anew-calls E w shown d.logs (firm_in w) d.halted d.disks d.transactions (length w.trace) (length w.trace + 1) d.calls (omega arith) e d.laid;
+      blank = anew-blank E w shown d.logs.holds.words.some d.blank;
+    }
+recovery-calls E w (DisksShow shown (Some failed)) d may outside =
+    let v = stays_stopped E w shown failed in
+    let n = stopped-logs E w shown failed d.logs in
+    record {
+      laid = d.laid;
+      logs = n.next;
+      halted = true;
+      disks = stopped-hold E w d.logs (firm_in w) d.halted d.disks shown failed may outside n.next n.logs;
+      transactions = d.transactions;
+      calls = stopped-calls E w d.logs (firm_in w) d.halted d.disks d.transactions (length w.trace) (length w.trace + 1) d.calls (omega arith) shown failed may outside n.next n.history n.logs;
+      blank = d.blank;
+    }
+
+-- ---- events
+
+delivered-calls : (E : Database) (w : World) (to from : Actor) (o : Outside) → HasCalls E (length w.trace) w → is_actor w.deployment to ≡ true
+    → allows w (event.Deliver to from) o ≡ true → HasCalls E (length w.trace + 1) (delivered E w to from (w.channel from to) o)
+delivered-calls E w Director from o d there may = to_director-calls E (length w.trace) w d from (w.channel from Director) o
+delivered-calls E w (Client n) from o d there may = to_client-calls E (length w.trace) w d n from (w.channel from (Client n)) o
+delivered-calls E w (Agent n) from o d there may = to_agent-calls E w n from (w.channel from (Agent n)) o d refl (actor-host w.deployment n there) may
+delivered-calls E w (Site i) from o d there may = to_site-calls E w i from (w.channel from (Site i)) o d refl (actor-slot w.deployment i there)
+delivered-calls E w (Scanner i) from o d there may = to_scanner-calls E (length w.trace) w d i from (w.channel from (Scanner i)) o
+
+happens-calls : (E : Database) (w : World) (e : Event) (o : Outside) → HasCalls E (length w.trace) w → can w e ≡ true → allows w e o ≡ true
+    → HasCalls E (length w.trace + 1) (happens E w e o)
+happens-calls E w (event.Deliver to from) o d may outside =
+    delivered-calls E w to from o d (and_parts (is_some_letter (w.channel from to)) (is_actor w.deployment to) may).1 outside
+happens-calls E w (event.Sync i) o d may outside = let p = and_parts (nat_lt i (slots w.deployment)) (may_sync (w.sites i)) may in site-syncs E w i o d p.0 p.1
+happens-calls E w (event.Scan i) o d may outside = scan-calls E (length w.trace) w d i o
+happens-calls E w event.Recover o d may outside = recovery-calls E w o d may outside
+happens-calls E w event.Item o d may outside = item-calls E (length w.trace) w d o
+happens-calls E w (event.Submit n) o d may outside = submit-calls E (length w.trace) w d n o
+happens-calls E w (event.Idle a) o d may outside = same-calls E (length w.trace) w d
+
+-- the event is noted in the trace
+noted : (E : Database) (now : ℕ) (w : World) (trace : List Event) → HasCalls E now w → HasCalls E now (record w { trace = trace })
+noted E now w trace d = let n = d.logs in record {
+  laid = d.laid;
+  logs = record { owner = n.owner; history = n.history; logs = n.logs; holds = n.holds; outsiders = n.outsiders; lead = n.lead; counted = n.counted };
+  halted = d.halted;
+  disks = d.disks;
+  transactions = d.transactions;
+  calls = d.calls;
+  blank = d.blank;
+}
+
+-- it isn't noted before
+delivered-trace : (E : Database) (w : World) (to from : Actor) (ls : List Letter) (o : Outside) → (delivered E w to from ls o).trace ≡ w.trace
+delivered-trace E w to from [] o = refl
+delivered-trace E w Director from (l ∷ ls) o = refl
+delivered-trace E w (Client n) from (l ∷ ls) o = refl
+delivered-trace E w (Agent h) from (l ∷ ls) o = refl
+delivered-trace E w (Site i) from (l ∷ ls) o = refl
+delivered-trace E w (Scanner i) from (l ∷ ls) o = refl
+
+recovered-trace : (E : Database) (w : World) (o : Outside) → (recovered_with E w o).trace ≡ w.trace
+recovered-trace E w Fair = refl
+recovered-trace E w (DiskFails answered) = refl
+recovered-trace E w (NoMemory answered) = refl
+recovered-trace E w (DisksShow shown None) = refl
+recovered-trace E w (DisksShow shown (Some failed)) = refl
+
+happens-trace : (E : Database) (w : World) (e : Event) (o : Outside) → (happens E w e o).trace ≡ w.trace
+happens-trace E w (event.Deliver to from) o = delivered-trace E w to from (w.channel from to) o
+happens-trace E w (event.Sync i) o = refl
+happens-trace E w (event.Scan i) o = refl
+happens-trace E w event.Recover o = recovered-trace E w o
+happens-trace E w event.Item o = refl
+happens-trace E w (event.Submit n) o = refl
+happens-trace E w (event.Idle a) o = refl
+
+step-calls : (E : Database) (w : World) (e : Happening) → may_happen w e ≡ true → HasCalls E (length w.trace) w → HasCalls E (length (step E w e).trace) (step E w e)
+step-calls E w e may d =
+    let outer = and_parts (not (has_failed w) && can w e.0) (allows w e.0 e.1) may in
+    let inner = and_parts (not (has_failed w)) (can w e.0) outer.0 in
+    let v = happens E w e.0 e.1 in
+    let same : length w.trace + 1 ≡ length (v.trace ++ e.0 ∷ []) = sym (length-append v.trace (e.0 ∷ []) ∙ ap (λ t. length t + 1) (happens-trace E w e.0 e.1)) in
+    subst (λ n. HasCalls E n (step E w e)) same (noted E (length w.trace + 1) v (v.trace ++ e.0 ∷ []) (happens-calls E w e.0 e.1 d inner.1 outer.1))
+
+-- ---- runs
+
+run-calls : (E : Database) (es : List Happening) (w : World) → IsRun E es w → HasCalls E (length w.trace) w → HasCalls E (length (run E es w).trace) (run E es w)
+run-calls E [] w r d = d
+run-calls E (e ∷ es) w r d = run-calls E es (step E w e) r.1 (step-calls E w e r.0 d)
+
+-- no site of the first world is blank but where there is no slot
+first-blank : (E : Database) (I : Input) (i : ℕ) → Blank ((first_world E I).sites i)
+first-blank E I i = choice (nat_lt i (slots I.deployment))
+  where
+    choice : (b : Bool) → Blank (if b then member_site I.deployment i no_site (new_word I.deployment I.base 1) (start_from I.deployment 1 i) [] else no_site)
+    choice true z = absurd (omega (arith, z))
+    choice false z = refl
+
+-- All holds in each world of a run.
+pub calls-agree : (E : Database) (I : Input) (es : List Happening) → IsLaidOut I.deployment → 0 < I.base → IsRun E es (first_world E I)
+    → HasCalls E (length (run E es (first_world E I)).trace) (run E es (first_world E I))
+calls-agree E I es laid some r = run-calls E es (first_world E I) r (record {
+  laid = laid;
+  logs = first-logs E I some;
+  halted = false;
+  disks = first-disks E I some;
+  transactions = _;
+  calls = first-calls E I some laid 0;
+  blank = first-blank E I;
+})

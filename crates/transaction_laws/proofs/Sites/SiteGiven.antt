@@ -1,0 +1,305 @@
+-- What the laws of logs and of disks give of a message that a site takes, and of those that wait at it.
+use Rattle.std.proofs.Common.{◌≡◌, ◌<◌, ◌≤◌, Bool, true, false, List, [], ◌∷◌, refl, sym, subst, ap, ◌∙◌, inl, inr, ◌==◌, arith}
+use Rattle.std.proofs.lemmas.Bool.{cases_Bool, and_from, eq-eqb}
+use Rattle.std.specs.Prelude.{ℕ, ◌&&◌, not, nat_lt, length, Option, Some, None}
+use Rattle.std.specs.List.{AllByRecursion}
+use Rattle.volt_wire.specs.Word.{Membership}
+use Rattle.volt_wire.specs.declared.actor.Actor.{Actor}
+use Rattle.volt_wire.specs.declared.actor.Actor.TheVariants.{Director, Client, Agent, Site, Scanner}
+use Rattle.volt_wire.specs.declared.message.Msg.{Msg}
+use Rattle.volt_wire.specs.declared.message.Msg.TheVariants as msg
+use Rattle.cluster_model.specs.Engine.{Database}
+use Rattle.cluster_model.specs.Words.{slots, host_of_slot, is_member, term_of, term_in}
+use Rattle.cluster_model.specs.Letters.{Blocks, Letter, Waiting, arrival, Taken}
+use Rattle.cluster_model.specs.SiteState.{SiteState, Joining, Streamed, Reported, is_joiner, is_leader, leads, site_term}
+use Rattle.cluster_model.specs.Outside.{Outside}
+use Rattle.cluster_model.specs.Sync.{site_turn}
+use Rattle.word_laws.specs.Histories.{In}
+use Rattle.word_laws.proofs.Lists.{not-both, all-both, all-mono, none-and-some, same-some}
+use Rattle.word_laws.proofs.Agreement.{member-is}
+use Rattle.word_laws.proofs.Members.{is_member-start}
+use Rattle.log_laws.specs.Histories.{LogState, Holds, JoinerOk, ViewIn, InWord, StreamIn, ReportOk, SiteLetterOk, WaitingFrom, WaitingOk, IsSlot, line, line_in, between, part, start_at, term_at}
+use Rattle.log_laws.proofs.Plain.Copies.{leader-view, is-leader, leader-follows-none, a-joiner}
+use Rattle.log_laws.proofs.Plain.Lines.{line-empty, for-true}
+use Rattle.log_laws.proofs.Messages.Pops.{taken-for}
+use Rattle.log_laws.proofs.NewTerms.Entering.{took-admitted, ran-owner, running-ran}
+use Rattle.log_laws.proofs.NewTerms.Taking.{first-word, later-word}
+use Rattle.log_laws.proofs.Kept.Terms.{some-term, took-decided, took-unnamed}
+use Rattle.log_laws.proofs.Runs.SiteRows.{taken-here}
+use Rattle.disk_laws.specs.Disks.{Firm, StreamDisk, DisksHold}
+use Rattle.disk_laws.proofs.SiteRows.{stays_joiner}
+use Rattle.transaction_laws.specs.Transactions.{WaitsPlain}
+use Rattle.transaction_laws.proofs.Sites.SiteWalk.{Comes, WaitsQuietly, ReportOf, waits-quietly, taken_by, AnyReport, any-report, any-reports, SameView, view-steps}
+use Rattle.transaction_laws.proofs.Sites.SiteWalked.{asks-view, Walked, Ends, Same, Stays, Views, walked}
+use Rattle.transaction_laws.proofs.Sites.SiteLogs.{Steady, Started, stopped-not-leads, site-steady, site-starts}
+use Rattle.transaction_laws.proofs.Sites.SiteCounts.{Counted, AboveMark, Unrepaired, site-counted, site-joined, site-unrepaired}
+
+-- where it isn't both, it isn't the second
+second-not : (a b : Bool) → a ≡ true → (a && not b) ≡ false → b ≡ true
+second-not true true e q = refl
+second-not true false e q = absurd (cc)
+second-not false b e q = absurd (cc)
+
+-- ---- what waits, and what was reported
+
+pub site-waits : (S : LogState) → Holds S → (i : ℕ) → 0 < start_at S i → AllByRecursion (λ x. WaitsPlain x.from x.letter) (S.sites i).waiting
+    → AllByRecursion WaitsQuietly (S.sites i).waiting
+site-waits S H i up plain =
+    all-both (WaitingOk S i) (λ x. WaitsPlain x.from x.letter) WaitsQuietly (waits-quietly S i) (S.sites i).waiting ((H.sites i).keeps up).waiting plain
+
+-- of partition p, in term t
+abbrev pub ReportsOk : LogState → ℕ → ℕ → Reported → Type 0
+ReportsOk S p t r = ReportOk S p r.slot t r.position r.floor r.tail
+
+waiting-report : (S : LogState) (i t : ℕ) (x : Waiting) → WaitingOk S i x → x.letter.term ≡ t → ReportOf (ReportsOk S (part S i) t) x.from x.letter
+waiting-report S i t x k = go x.from x.letter k.1
+  where
+    go : (from : Actor) (l : Letter) → WaitingFrom S i from l → l.term ≡ t → ReportOf (ReportsOk S (part S i) t) from l
+    go (Site j) l = elim l.body as (λ b. WaitingFrom S i (Site j) (record l { body = b }) → l.term ≡ t → ReportOf (ReportsOk S (part S i) t) (Site j) (record l { body = b })) [
+      | msg.Report position floor tail ↦ λ k e. subst (λ n. ReportOk S (part S i) j n position floor tail) e k.1
+      | b ↦ λ k e. tt
+    ]
+    go (Agent h) l = λ k e. tt
+    go Director l = λ k e. tt
+    go (Client n) l = λ k e. tt
+    go (Scanner n) l = λ k e. tt
+
+pub waiting-reports : (S : LogState) → Holds S → (i : ℕ) → 0 < start_at S i → (t : ℕ)
+    → AllByRecursion (λ x. x.letter.term ≡ t → ReportOf (ReportsOk S (part S i) t) x.from x.letter) (S.sites i).waiting
+waiting-reports S H i up t =
+    all-mono (WaitingOk S i) (λ x. x.letter.term ≡ t → ReportOf (ReportsOk S (part S i) t) x.from x.letter) (waiting-report S i t) (S.sites i).waiting ((H.sites i).keeps up).waiting
+
+-- ---- marks
+
+pub site-marked : (S : LogState) (F : Firm) (halted : Bool) → DisksHold S F halted → (i : ℕ) → IsSlot S i → 0 < start_at S i
+    → (S.sites i).joining ≡ None → (S.sites i).mark ≡ term_at S i → (S.sites i).repaired ≡ true
+site-marked S F halted K i slot up joins = ((K.disks i slot).member up joins).marked
+
+-- ---- a leader gets no entry from another site
+
+module _ (S : LogState) (H : Holds S) (i : ℕ) (slot : IsSlot S i) (up : 0 < start_at S i) where
+  abbrev s : SiteState
+  s = S.sites i
+
+  -- nothing is for it to append
+  no-line : is_leader S.words.deployment i s ≡ true → (c : ℕ) → line (start_at S i) (term_at S i) (between S c i) ≡ []
+  no-line lead c =
+      let m = (H.sites i).member up (leader-view S.words.deployment i s lead).0 in
+      let first = (is-leader S.words.deployment i s m.0 m.1 lead).1 in
+      ap (λ o. line (start_at S i) (term_in o) (between S c i)) m.1 ∙ m.2.others c (leader-follows-none S.words.deployment m.0 i c first)
+
+  -- so no message that it takes is
+  module _ (c : ℕ) (l : Letter) (ls : List Letter) (is : between S c i ≡ l ∷ ls) (take : arrival (start_at S i) (term_at S i) l ≡ Taken) where
+    lines : is_leader S.words.deployment i s ≡ true → (0 < l.start) × (0 < l.term) → line_in l.body ≡ []
+    lines lead some =
+        let a = taken-here (start_at S i) (term_at S i) l take some.0 some.1 in
+        let here = line-empty (start_at S i) (term_at S i) (between S c i) (no-line lead c) l (subst (In l) (sym is) (inl refl)) in
+        rw (for-true (start_at S i) (term_at S i) l a.0 a.1) at here
+
+    letter : SiteLetterOk S c i l
+    letter = (subst (AllByRecursion (SiteLetterOk S c i)) is (H.letters c i slot)).0
+
+    site-from : Comes S.words.deployment i s (Site c) l
+    site-from = (elim l.body as (λ b. SiteLetterOk S c i (record l { body = b }) → (is_leader S.words.deployment i s ≡ true → (0 < l.start) × (0 < l.term) → line_in b ≡ [])
+        → Comes S.words.deployment i s (Site c) (record l { body = b })) [
+          | msg.Put position e floor ↦ λ k none lead. let r = none lead k.0.0 in absurd (cc)
+          | msg.Repair from entries ↦ λ k none lead. let r = none lead k.0 in absurd (cc)
+          | b ↦ λ k none. tt
+        ]) letter lines
+
+    report-from : ReportOf (ReportsOk S (part S i) (term_at S i)) (Site c) l
+    report-from = (elim l.body as (λ b. SiteLetterOk S c i (record l { body = b }) → ReportOf (ReportsOk S (part S i) (term_at S i)) (Site c) (record l { body = b })) [
+      | msg.Report position floor tail ↦ λ k. let a = taken-here (start_at S i) (term_at S i) l take k.0.0 k.0.1 in
+          subst (λ n. ReportOk S (part S i) c n position floor tail) a.1 k.1
+      | b ↦ λ k. tt
+    ]) letter
+
+  -- ---- a word that comes
+
+  module _ (h : ℕ) (l : Letter) (w : Membership) (ls : List Letter) (is : S.words.channel (Agent h) (Site i) ≡ record l { body = msg.View w } ∷ ls)
+      (take : arrival (start_at S i) (term_at S i) (record l { body = msg.View w }) ≡ Taken) where
+    meant : (l.term ≡ 0) × (0 < l.start)
+    meant = (subst (AllByRecursion (λ l. elim l.body as (λ _. Type 0) [ msg.View w ↦ (l.term ≡ 0) × (0 < l.start) | _ ↦ Unit {0} ]))
+        (ap (λ z. S.words.channel (Agent z) (Site i)) (sym (rw is at (H.foreign (Agent h) i)).0) ∙ is) (H.views i).plain).0
+
+    for-it : l.start ≡ start_at S i
+    for-it = elim (taken-for (start_at S i) (term_at S i) (record l { body = msg.View w }) take).0 [
+      | inl z ↦ let a = meant.1 in absurd (omega (arith, a, z))
+      | inr e ↦ e
+    ]
+
+    -- it is of a later term
+    higher : term_at S i < term_of w
+    higher = choice s.view refl
+      where
+        choice : (o : Option Membership) → s.view ≡ o → term_at S i < term_of w
+        choice None e =
+            let a = some-term S H w (took-decided S H (start_at S i) w (first-word S H h i l w ls is for-it up e)) in
+            let b : term_at S i ≡ 0 = ap term_in e in
+            omega (arith, a, b)
+        choice (Some v) e = let a = (later-word S H h i l w ls is for-it up v e).2 in let b : term_at S i ≡ term_of v = ap term_in e in omega (arith, a, b)
+
+    -- ---- a joiner that it makes a member
+
+    module _ (j : Joining) (joins : s.joining ≡ Some j) where
+      ok : JoinerOk S i j
+      ok = (H.sites i).joiner j joins
+
+      -- it was admitted, so its base is on disk
+      based : (v : Membership) → s.view ≡ Some v → j.is_based ≡ true
+      based v e =
+          let in_word : InWord S i v j = subst (ViewIn S i j) e ok.view in
+          let lw = later-word S H h i l w ls is for-it up v e in
+          let good = H.words.history.decided_good w lw.0 in
+          let named = (member-is S.words H.words.history w (host_of_slot S.words.deployment i) (start_at S i) good lw.1).0 in
+          let x = took-admitted S H (start_at S i) v w in_word.took lw.0 named in
+          let owner = ap S.words.owner x.2 ∙ ran-owner S H i (start_at S i) (running-ran S H i up) in
+          (H.loads.admitted x.0 x.1 i (and_from (nat_lt i (slots S.words.deployment)) (host_of_slot S.words.deployment i == S.words.owner x.0.start)
+          slot (eq-eqb (host_of_slot S.words.deployment i) (S.words.owner x.0.start) (sym owner)))).1 up (sym x.2) j joins
+
+      -- without a stream it hasn't loaded
+      unloaded : (v : Membership) → s.view ≡ Some v → j.stream ≡ None → j.is_loaded ≡ false
+      unloaded v e none = streamed j.stream none (subst (ViewIn S i j) e ok.view).stream
+        where
+          streamed : (o : Option Streamed) → o ≡ None → StreamIn S i v j o → j.is_loaded ≡ false
+          streamed None q u = u.loads
+          streamed (Some st) q u = absurd (none-and-some q refl)
+
+      -- without a word it isn't named by this one
+      unworded : s.view ≡ None → is_member w (host_of_slot S.words.deployment i) (start_at S i) ≡ true → ⊥
+      unworded e named = took-unnamed S H (start_at S i) w i (first-word S H h i l w ls is for-it up e) (is_member-start w (host_of_slot S.words.deployment i) (start_at S i) named)
+
+    module _ (F : Firm) (halted : Bool) (K : DisksHold S F halted) where
+      -- its mark is that of the word in which it took its stream
+      stream-mark : (j : Joining) → s.joining ≡ Some j → (v : Membership) → s.view ≡ Some v → s.mark ≡ term_at S i
+      stream-mark j joins v e = go j.stream refl
+        where
+          stopped : halted ≡ true → (st : Streamed) → j.stream ≡ Some st → ⊥
+          stopped x st q = let k = (K.halts x).joiners i up in none-and-some (ap (λ y. y.stream) (same-some (sym joins ∙ k.1)) ∙ k.2) q
+
+          on : halted ≡ false → (st : Streamed) → j.stream ≡ Some st → s.mark ≡ term_at S i
+          on x st q = let k : StreamDisk S i j (Some st) = subst (StreamDisk S i j) q ((K.disks i slot).joiner x j joins) in (k.2 (based j joins v e)).1 ∙ k.0
+
+          go : (o : Option Streamed) → j.stream ≡ o → s.mark ≡ term_at S i
+          go None q = absurd (not-both j.is_loaded ((ok j joins).based (based j joins v e)) (unloaded j joins v e q))
+          go (Some st) q = elim (cases_Bool halted) [
+            | inl x ↦ absurd (stopped x st q)
+            | inr x ↦ on x st q
+          ]
+
+      below : stays_joiner S.words.deployment i s w ≡ false → s.mark < term_of w
+      below enters = choice s.joining refl
+        where
+          joined : (j : Joining) → s.joining ≡ Some j → (o : Option Membership) → s.view ≡ o → s.mark < term_of w
+          joined j joins None e = absurd (unworded j joins e
+              (second-not (is_joiner s) (is_member w (host_of_slot S.words.deployment i) (start_at S i)) (a-joiner s j joins) enters))
+          joined j joins (Some v) e = let a = stream-mark j joins v e in omega (arith, a, higher)
+
+          choice : (o : Option Joining) → s.joining ≡ o → s.mark < term_of w
+          choice None e = let a = ((K.disks i slot).member up e).mark in omega (arith, a, higher)
+          choice (Some j) e = joined j e s.view refl
+
+  -- ---- any message that it takes
+
+  module _ (from : Actor) (l : Letter) (ls : List Letter) (is : S.words.channel from (Site i) ≡ l ∷ ls) (take : arrival (start_at S i) (term_at S i) l ≡ Taken) where
+    pub site-comes : Comes S.words.deployment i s from l
+    site-comes = go from is
+      where
+        agent : (h : ℕ) (m : Msg Blocks) → S.words.channel (Agent h) (Site i) ≡ record l { body = m } ∷ ls → Comes S.words.deployment i s (Agent h) (record l { body = m })
+        agent h m = elim m as (λ m. S.words.channel (Agent h) (Site i) ≡ record l { body = m } ∷ ls → Comes S.words.deployment i s (Agent h) (record l { body = m })) [
+          | msg.View w ↦ λ e. higher h l w ls e take
+          | m ↦ λ e. tt
+        ]
+
+        go : (from : Actor) → S.words.channel from (Site i) ≡ l ∷ ls → Comes S.words.deployment i s from l
+        go (Site c) e = site-from c l ls e take
+        go (Agent h) e = agent h l.body e
+        go Director e = tt
+        go (Client n) e = tt
+        go (Scanner x) e = tt
+
+    pub site-above : (F : Firm) (halted : Bool) → DisksHold S F halted → AboveMark S.words.deployment i s from l
+    site-above F halted K = go from is
+      where
+        agent : (h : ℕ) (m : Msg Blocks) → S.words.channel (Agent h) (Site i) ≡ record l { body = m } ∷ ls → AboveMark S.words.deployment i s (Agent h) (record l { body = m })
+        agent h m = elim m as (λ m. S.words.channel (Agent h) (Site i) ≡ record l { body = m } ∷ ls → AboveMark S.words.deployment i s (Agent h) (record l { body = m })) [
+          | msg.View w ↦ λ e. below h l w ls e take F halted K
+          | m ↦ λ e. tt
+        ]
+
+        go : (from : Actor) → S.words.channel from (Site i) ≡ l ∷ ls → AboveMark S.words.deployment i s from l
+        go (Agent h) e = agent h l.body e
+        go (Site c) e = tt
+        go Director e = tt
+        go (Client n) e = tt
+        go (Scanner x) e = tt
+
+    pub site-report : ReportOf (ReportsOk S (part S i) (term_at S i)) from l
+    site-report = go from is
+      where
+        go : (from : Actor) → S.words.channel from (Site i) ≡ l ∷ ls → ReportOf (ReportsOk S (part S i) (term_at S i)) from l
+        go (Site c) e = report-from c l ls e take
+        go (Agent h) e = tt
+        go Director e = tt
+        go (Client n) e = tt
+        go (Scanner x) e = tt
+
+-- ---- the turn
+
+module _ (E : Database) (stamp : ℕ) (S : LogState) (H : Holds S) (i : ℕ) (slot : IsSlot S i) (up : 0 < start_at S i) (from : Actor) (l : Letter) (ls : List Letter)
+    (is : S.words.channel from (Site i) ≡ l ∷ ls) (plain : AllByRecursion (λ x. WaitsPlain x.from x.letter) (S.sites i).waiting) (o : Outside) where
+  -- the site behind it
+  abbrev u : SiteState
+  u = (site_turn E S.words.deployment stamp i (S.sites i) from l o).state
+
+  waits : AllByRecursion WaitsQuietly (S.sites i).waiting
+  waits = site-waits S H i up plain
+
+  comes : arrival (start_at S i) (term_at S i) l ≡ Taken → Comes S.words.deployment i (S.sites i) from l
+  comes = site-comes S H i slot up from l ls is
+
+  pub given-steady : leads S.words.deployment i (S.sites i) ≡ true → leads S.words.deployment i u ≡ true → u.view ≡ (S.sites i).view
+      → Steady stamp (S.sites i) u (taken_by (S.sites i) from l)
+  given-steady = site-steady E S.words.deployment stamp i (S.sites i) from l o up comes waits
+
+  -- a message from a site leaves it in its word, or stops it
+  same-word : leads S.words.deployment i u ≡ true → (c : ℕ) → from ≡ Site c → u.view ≡ (S.sites i).view
+  same-word led c sender =
+      go (walked E S.words.deployment stamp i AnyReport SameView (view-steps S.words.deployment stamp i) (λ s ws. refl) (S.sites i) waits from l o comes (λ _. any-report from l)
+      (any-reports (site_term u) (S.sites i).waiting))
+    where
+      go : Walked E S.words.deployment i SameView (S.sites i) from l u → u.view ≡ (S.sites i).view
+      go (Ends view joiners) = absurd (stopped-not-leads S.words.deployment i u view led)
+      go (Same none e) = ap (λ x. x.view) e
+      go (Stays a log leading other v view k e) = ap (λ x. x.view) e ∙ asks-view E S.words.deployment i v ∙ view
+      go (Views a h w agent body joining enters v view k e) = absurd (let x = sym sender ∙ agent in cc)
+
+  -- a report that it takes is of its term
+  own-report : leads S.words.deployment i u ≡ true → arrival (start_at S i) (term_at S i) l ≡ Taken → ReportOf (ReportsOk S (part S i) (site_term u)) from l
+  own-report led take = go from (same-word led) (site-report S H i slot up from l ls is take)
+    where
+      go : (from : Actor) → ((c : ℕ) → from ≡ Site c → u.view ≡ (S.sites i).view) → ReportOf (ReportsOk S (part S i) (term_at S i)) from l
+          → ReportOf (ReportsOk S (part S i) (site_term u)) from l
+      go (Site c) same k = subst (λ n. ReportOf (ReportsOk S (part S i) n) (Site c) l) (sym (ap term_in (same c refl))) k
+      go (Agent h) same k = tt
+      go Director same k = tt
+      go (Client n) same k = tt
+      go (Scanner x) same k = tt
+
+  pub given-starts : leads S.words.deployment i u ≡ true → (leads S.words.deployment i (S.sites i) ≡ true → u.view ≡ (S.sites i).view → ⊥)
+      → Started S.words.deployment stamp i (S.sites i) u (ReportsOk S (part S i) (site_term u))
+  given-starts led anew = site-starts E S.words.deployment stamp i (S.sites i) from l o (ReportsOk S (part S i) (site_term u)) up comes waits led anew
+      (λ same. subst (λ n. AllByRecursion (ReportsOk S (part S i) n) (S.sites i).reports) (sym (ap term_in same)) ((H.sites i).keeps up).reports)
+      (own-report led) (waiting-reports S H i up (site_term u))
+
+  pub given-counted : (F : Firm) (halted : Bool) → DisksHold S F halted → (leads S.words.deployment i (S.sites i) ≡ true → Counted S.words.deployment i (S.sites i))
+      → leads S.words.deployment i u ≡ true → Counted S.words.deployment i u
+  given-counted F halted K counted = site-counted E S.words.deployment stamp i (S.sites i) from l o up comes (λ take. site-above S H i slot up from l ls is take F halted K) waits
+      counted (site-marked S F halted K i slot up)
+
+  pub given-joined : (low : ℕ) → (leads S.words.deployment i (S.sites i) ≡ true → u.view ≡ (S.sites i).view → AllByRecursion (λ j. low ≤ j.nj) (S.sites i).joiners)
+      → Unrepaired (S.sites i) → leads S.words.deployment i u ≡ true → low ≤ length u.log → AllByRecursion (λ j. low ≤ j.nj) u.joiners
+  given-joined low = site-joined E S.words.deployment stamp i (S.sites i) from l o low up comes waits
+
+  pub given-unrepaired : Unrepaired (S.sites i) → Unrepaired u
+  given-unrepaired = site-unrepaired E S.words.deployment stamp i (S.sites i) from l o comes waits

@@ -1,0 +1,186 @@
+-- What a site says to agents, after its turn: its answers are of entries that are firm, and how its partition stands is as its term began.
+use Rattle.std.proofs.Common.{◌≡◌, ◌<◌, Bool, true, false, List, [], ◌∷◌, ◌++◌, max, refl, sym, subst, ap, ◌∙◌, inr, ◌==◌, arith}
+use Rattle.std.proofs.lemmas.Bool.{and_parts, eqb-true}
+use Rattle.std.specs.Prelude.{ℕ, ◌≤◌, length, drop, map, if◌then◌else◌, Option, Some, None, option_map}
+use Rattle.std.specs.List.{AllByRecursion, list_all}
+use Rattle.volt_base.specs.declared.entry.Entry.{Entry}
+use Rattle.volt_base.specs.declared.entry.Entry.TheVariants.{Frag, Done}
+use Rattle.volt_base.specs.declared.entry.Outcome.{Outcome}
+use Rattle.volt_wire.specs.declared.message.Msg.TheVariants as msg
+use Rattle.cluster_model.specs.Engine.{Database}
+use Rattle.cluster_model.specs.Log.{open_in, last_done}
+use Rattle.cluster_model.specs.Words.{Deployment, term_of, term_in, is_some_of}
+use Rattle.cluster_model.specs.Letters.{Letter}
+use Rattle.cluster_model.specs.SiteState.{SiteState, Joiner, site_term, leads, other_copies}
+use Rattle.cluster_model.specs.Site.{acked_in, copy_acks, has_all_on_disk, least, lesser, own_ack, standing}
+use Rattle.word_laws.proofs.Lists.{all-append, none-and-some}
+use Rattle.word_laws.proofs.Members.{is_some_of-is}
+use Rattle.log_laws.specs.Histories.{LogState, Front, Holds, IsSlot, part, start_at}
+use Rattle.log_laws.proofs.Plain.Fronts.{front-length, front-rest}
+use Rattle.log_laws.proofs.Kept.Terms.{some-term}
+use Rattle.log_laws.proofs.Entries.Leads.{Leading, leading}
+use Rattle.log_laws.proofs.Runs.Leading.{leads-runs}
+use Rattle.disk_laws.specs.Disks.{DisksHold, Firm, MemberDisk, Top}
+use Rattle.transaction_laws.specs.Machine.{first_stage, stage}
+use Rattle.transaction_laws.specs.Transactions.{Transactions, AnswerOk, Books, CountsOk, Everywhere, IsPart, OnlyCalls, StandsAt, StateOk, Stood, acknowledged}
+use Rattle.transaction_laws.proofs.Sites.Answers.{AnswersFirm, SentAnswer}
+use Rattle.transaction_laws.proofs.Entries.Machine.{calls-done, calls-opened, done-append, open_in-stage, stage-append}
+
+-- ---- the least of what was acknowledged
+
+abbrev IsLow : ℕ → Option ℕ → Type 0
+IsLow low None = ⊥
+IsLow low (Some n) = low ≤ n
+
+lesser-low : (low : ℕ) (a b : Option ℕ) → IsLow low a → IsLow low b → IsLow low (lesser a b)
+lesser-low low (Some m) (Some n) h k = omega (arith, h, k)
+lesser-low low (Some m) None h k = absurd k
+lesser-low low None b h k = absurd h
+
+-- It isn't below what all are not below.
+least-low : (low : ℕ) (a : Option ℕ) (xs : List (Option ℕ)) → IsLow low a → AllByRecursion (IsLow low) xs → IsLow low (least a xs)
+least-low low a [] h k = h
+least-low low a (b ∷ bs) h k = lesser-low low a (least b bs) h (least-low low b bs k.0 k.1)
+
+some-low : (low : ℕ) (o : Option ℕ) → IsLow low o → (n : ℕ) × (o ≡ Some n) × (low ≤ n)
+some-low low (Some n) h = (n, refl, h)
+some-low low None h = absurd h
+
+-- who acknowledged the whole log did so with all of its first part
+acks-low : (low end : ℕ) (xs : List (Option ℕ)) → low ≤ end → list_all (λ a. is_some_of a end) xs ≡ true → AllByRecursion (IsLow low) xs
+acks-low low end [] l e = tt
+acks-low low end (x ∷ xs) l e =
+    let p = and_parts (is_some_of x end) (list_all (λ a. is_some_of a end) xs) e in
+    (subst (IsLow low) (sym (is_some_of-is x end p.0)) l, acks-low low end xs l p.1)
+
+-- no stream began before that
+joined-low : (low : ℕ) (js : List Joiner) → AllByRecursion (λ j. low ≤ j.nj) js → AllByRecursion (IsLow low) (map (λ j. Some (max j.nj j.position)) js)
+joined-low low [] h = tt
+joined-low low (j ∷ js) h = (omega (arith, h.0), joined-low low js h.1)
+
+-- ---- calls
+
+-- How a log stands doesn't change by calls behind it.
+standing-calls : (E : Database) (p : ℕ) (front log : List Entry) → Front front log → OnlyCalls (drop (length front) log)
+    → standing (open_in front) (last_done E p front) ≡ standing (open_in log) (last_done E p log)
+standing-calls E p front log f calls = ap (λ o. standing o (last_done E p front)) opened ∙ ap (standing (open_in log)) done
+  where
+    rest : List Entry
+    rest = drop (length front) log
+
+    is : log ≡ front ++ rest
+    is = front-rest front log f
+
+    opened : open_in front ≡ open_in log
+    opened = open_in-stage E p front
+        ∙ ap (option_map (λ x. x.0)) (sym (calls-opened (stage E p front) rest calls) ∙ ap (λ x. x.opened) (sym (stage-append (first_stage E p) front rest)) ∙ ap (λ xs. (stage E p xs).opened) (sym is))
+        ∙ sym (open_in-stage E p log)
+
+    done : last_done E p front ≡ last_done E p log
+    done = sym (calls-done (last_done E p front) rest calls) ∙ sym (done-append (E.opening_done p) front rest) ∙ ap (last_done E p) (sym is)
+
+-- ---- a site that leads
+
+module _ (E : Database) (T : LogState) (J : Holds T) (M : Firm) (halted : Bool) (disks : DisksHold T M halted) (L : Transactions) (now : ℕ) (books : Books E T M L now) (i : ℕ)
+    (slot : IsSlot T i) (inside : IsPart T (part T i)) (counts : leads T.words.deployment i (T.sites i) ≡ true → CountsOk T i) where
+  abbrev D : Deployment
+  D = T.words.deployment
+
+  abbrev s : SiteState
+  s = T.sites i
+
+  module _ (lead : leads D i s ≡ true) where
+    up : 0 < start_at T i
+    up = leads-runs T J i lead
+
+    abbrev k : Leading T i
+    k = leading T i J up lead
+
+    disk : MemberDisk T M i
+    disk = (disks.disks i slot).member up k.joins
+
+    term-is : site_term s ≡ term_of k.word
+    term-is = ap term_in k.view
+
+    some : (term : ℕ) → term ≡ site_term s → 0 < term
+    some term e = subst (λ t. 0 < t) (sym (e ∙ term-is)) (some-term T J k.word k.member.decided)
+
+    -- what it counts firm is everywhere
+    everywhere : (n : ℕ) → n ≤ s.firm → Everywhere T M (part T i) (term_of k.word) n
+    everywhere n l = record {
+      reach = let a = k.member.firm in omega (arith, l, a);
+      firm = let a = disk.firm in omega (arith, l, a);
+    }
+
+    -- An answer is of an entry that is firm.
+    answer-stood : (term : ℕ) (e : Entry) → AnswersFirm D i s term e → (0 < term) × Stood T M (part T i) term e
+    answer-stood term e a = (
+      some term a.term_is,
+      subst (λ t. Stood T M (part T i) t e) (sym (a.term_is ∙ term-is)) (record {
+        reign = k.reign;
+        led = k.led;
+        position = a.position;
+        stands = subst (λ xs. StandsAt xs a.position e) k.log a.stands;
+        everywhere = everywhere a.position a.firm;
+      }),
+    )
+
+    -- ---- how its partition stands
+
+    module _ (all : has_all_on_disk D i s ≡ true) where
+      begun-short : length k.reign.begun ≤ length s.log
+      begun-short = let a = front-length k.reign.begun k.reign.log (J.reigns (part T i) (term_of k.word) k.reign k.led).grown in let b = ap length k.log in omega (arith, a, b)
+
+      -- what its term began with is acknowledged by all, and no joiner's stream began before
+      begun-firm : length k.reign.begun ≤ s.firm
+      begun-firm =
+          let low = length k.reign.begun in
+          let acks = acks-low low (length s.log) (copy_acks D i s) begun-short all in
+          let led = ap (T.logs.reign (part T i)) term-is ∙ k.led in
+          let joiners : AllByRecursion (IsLow low) (map (λ j. Some (max j.nj j.position)) s.joiners) =
+          joined-low low s.joiners ((counts lead).joined k.reign led) in
+          let n = some-low low (acknowledged D i s) (least-low low (own_ack s) (map (acked_in s.acks) (other_copies D i s) ++ map (λ j. Some (max j.nj j.position)) s.joiners) acks.0
+          (all-append (IsLow low) (map (acked_in s.acks) (other_copies D i s)) (map (λ j. Some (max j.nj j.position)) s.joiners) acks.1 joiners)) in
+          let l = (counts lead).counted n.0 n.1 in omega (arith, l, n.2)
+
+      -- its own disk has the mark of the term
+      own-mark : s.mark ≡ site_term s
+      own-mark = go (s.mark == site_term s) refl (is_some_of-is (own_ack s) (length s.log) (and_parts (is_some_of (own_ack s) (length s.log)) _ all).0)
+        where
+          go : (b : Bool) → (s.mark == site_term s) ≡ b → (if b then Some s.on_disk else None) ≡ Some (length s.log) → s.mark ≡ site_term s
+          go true e _ = eqb-true s.mark (site_term s) e
+          go false e q = absurd (none-and-some refl q)
+
+      own-top : Top T (part T i) (term_of k.word) 0
+      own-top = record {
+        slot = i;
+        is_slot = slot;
+        part_is = refl;
+        all = rw disk.shows (inr (own-mark ∙ term-is, omega arith), tt);
+      }
+
+      told-state : (m : ℕ) (is_open : Bool) (outcome : Option Outcome) → standing (open_in s.log) (last_done E (part T i) s.log) ≡ msg.MpState m is_open outcome
+          → L.heard < term_of k.word → StateOk E T M (part T i) (term_of k.word) m is_open outcome
+      told-state m is_open outcome told above = record {
+        part = inside;
+        reign = k.reign;
+        led = k.led;
+        told = standing-calls E (part T i) k.reign.begun k.reign.log (J.reigns (part T i) (term_of k.word) k.reign k.led).grown
+            ((books.reigns (part T i) (term_of k.word) k.reign inside k.led).unheard above)
+            ∙ ap (λ xs. standing (open_in xs) (last_done E (part T i) xs)) (sym k.log) ∙ told;
+        everywhere = everywhere (length k.reign.begun) begun-firm;
+        top = own-top;
+      }
+
+  -- What it says is so.
+  pub answers-ok : (l : Letter) → SentAnswer E D i s l → AnswerOk E T M L (part T i) l
+  answers-ok l = elim l.body as (λ b. SentAnswer E D i s (record l { body = b }) → AnswerOk E T M L (part T i) (record l { body = b })) [
+    | msg.FragDone m round partial ↦ λ a. let r = answer-stood a.1.leads l.term (Frag m round a.0) a.1 in (r.0, (a.0, r.1))
+    | msg.Finished m ↦ λ a. let r = answer-stood a.1.leads l.term (Done m a.0) a.1 in (r.0, (a.0, r.1))
+    | msg.MpState m is_open outcome ↦ λ a. (
+      some a.leads l.term a.term_is,
+      λ above. let e = a.term_is ∙ term-is a.leads in
+          subst (λ t. StateOk E T M (part T i) t m is_open outcome) (sym e) (told-state a.leads a.on_disk m is_open outcome a.told (omega (arith, above, e))),
+    )
+    | b ↦ λ a. tt
+  ]

@@ -1,0 +1,354 @@
+-- The history of transactions, calls on all partitions and snapshots, and what holds of a cluster and this history in every run.
+use Rattle.std.proofs.Common.{◌≡◌, ◌<◌, Bool, true, false, List, [], ◌∷◌, ◌++◌, ◌⊎◌, ◌+◌}
+use Rattle.std.specs.Prelude.{ℕ, ◌≤◌, nat_lt, if◌then◌else◌, max, map, flat_map, drop, length, Option, Some, None}
+use Rattle.std.specs.List.{AllByRecursion}
+use Rattle.volt_base.specs.declared.entry.Entry.{Entry}
+use Rattle.volt_base.specs.declared.entry.Entry.TheVariants.{Sp, Frag, Done}
+use Rattle.volt_base.specs.declared.entry.Outcome.{Outcome}
+use Rattle.volt_base.specs.declared.entry.Outcome.TheVariants.{Dropped, Kept, Aborted, Snapshot}
+use Rattle.volt_wire.specs.Word.{Membership}
+use Rattle.volt_wire.specs.declared.actor.Actor.{Actor}
+use Rattle.volt_wire.specs.declared.actor.Actor.TheVariants.{Agent, Site}
+use Rattle.volt_wire.specs.declared.message.Msg.{Msg}
+use Rattle.volt_wire.specs.declared.message.Msg.TheVariants as msg
+use Rattle.cluster_model.specs.Engine.{Database}
+use Rattle.cluster_model.specs.Log.{open_in, last_done}
+use Rattle.cluster_model.specs.Words.{Deployment, parts, is_in, term_of, term_in, initiator, leader, start_of_slot}
+use Rattle.cluster_model.specs.Letters.{Blocks, Letter, Waiting}
+use Rattle.cluster_model.specs.AgentState.{AgentState, Phase, Off, Hears, Closes, Idle, Works, Work, Decision}
+use Rattle.cluster_model.specs.Initiator.{has_part}
+use Rattle.cluster_model.specs.SiteState.{SiteState, Held, leads}
+use Rattle.cluster_model.specs.Site.{standing, copy_acks, least_of}
+use Rattle.cluster_model.specs.Disk.{Shown, chosen}
+use Rattle.word_laws.specs.Histories.{In}
+use Rattle.log_laws.specs.Histories.{LogState, Front, Reign, WordOf, Addressed, IsSlot, is_for, part, start_at, term_at}
+use Rattle.disk_laws.specs.Disks.{Firm, Top, Shows}
+use Rattle.transaction_laws.specs.Machine.{IsOpen, WellFormed, first_stage, stage}
+
+-- ---- the history of an epoch, from the boot, or a recovery that worked, to the next one
+
+pub record Transactions : Type 0 where
+  -- the greatest term whose initiator has heard how all partitions stand
+  pub heard : ℕ
+  -- the number of the transaction that was begun last
+  pub number : ℕ
+  -- by partition: what its log had when that was begun
+  pub closed : ℕ → List Entry
+  -- the outcome with which it ends, once one was sent
+  pub agreed : Option Outcome
+  -- by partition: what its log had when that outcome was decided
+  pub decided : ℕ → List Entry
+  -- by partition and term: what the initiator of the term sent to the leader, which hasn't taken it yet
+  pub due : ℕ → ℕ → List Entry
+
+abbrev pub IsPart : LogState → ℕ → Type 0
+IsPart S p = nat_lt p (parts S.words.deployment) ≡ true
+
+-- ---- entries
+
+-- calls on one partition
+abbrev pub IsCall : Entry → Type 0
+IsCall (Sp call point body) = Unit {0}
+IsCall (Frag m round body) = ⊥
+IsCall (Done m o) = ⊥
+
+abbrev pub OnlyCalls : List Entry → Type 0
+OnlyCalls es = AllByRecursion IsCall es
+
+-- a round or an end; of no other transaction than this one
+abbrev pub IsOrder : Entry → Type 0
+IsOrder (Sp call point body) = ⊥
+IsOrder (Frag m round body) = Unit {0}
+IsOrder (Done m o) = Unit {0}
+
+abbrev pub OfNumber : ℕ → Entry → Type 0
+OfNumber number (Sp call point body) = Unit {0}
+OfNumber number (Frag m round body) = m ≡ number
+OfNumber number (Done m o) = m ≡ number
+
+abbrev pub NoRound : Entry → Type 0
+NoRound (Sp call point body) = Unit {0}
+NoRound (Frag m round body) = ⊥
+NoRound (Done m o) = Unit {0}
+
+-- the point that an outcome gives to its call
+abbrev pub point_in : Option Outcome → Option ℕ
+point_in None = None
+point_in (Some (Kept call point)) = Some point
+point_in (Some (Aborted call point)) = Some point
+point_in (Some Dropped) = None
+point_in (Some Snapshot) = None
+
+-- ---- logs of all partitions in which one transaction at most isn't over everywhere
+
+-- what stands in it behind what it had when that began
+abbrev pub since : Transactions → (ℕ → List Entry) → ℕ → List Entry
+since K logs p = drop (length (K.closed p)) (logs p)
+
+pub record Aligned (E : Database) (D : Deployment) (now : ℕ) (K : Transactions) (logs : ℕ → List Entry) : Type 0 where
+  pub formed : (p : ℕ) → nat_lt p (parts D) ≡ true → WellFormed (first_stage E p) (logs p)
+  pub past : (p : ℕ) → nat_lt p (parts D) ≡ true → (stage E p (logs p)).point ≤ now
+  -- all transactions before it are over
+  pub front : (p : ℕ) → nat_lt p (parts D) ≡ true → Front (K.closed p) (logs p)
+  pub over : (p : ℕ) → nat_lt p (parts D) ≡ true → (stage E p (K.closed p)).opened ≡ None
+  pub below : (p : ℕ) → nat_lt p (parts D) ≡ true → (stage E p (K.closed p)).number ≤ K.number
+  -- nothing else stands behind them but calls on one partition
+  pub only : (p : ℕ) → nat_lt p (parts D) ≡ true → AllByRecursion (OfNumber K.number) (since K logs p)
+  -- its number isn't used again
+  pub fresh : (p q : ℕ) → nat_lt p (parts D) ≡ true → nat_lt q (parts D) ≡ true → (stage E p (K.closed p)).number ≡ K.number → OnlyCalls (since K logs q)
+  -- it ends in one way
+  pub ends : (p : ℕ) → nat_lt p (parts D) ≡ true → (o : Outcome) → In (Done K.number o) (since K logs p) → K.agreed ≡ Some o
+  -- a snapshot has no rounds
+  pub snapshot : (p : ℕ) → nat_lt p (parts D) ≡ true → K.agreed ≡ Some Snapshot → AllByRecursion NoRound (since K logs p)
+  -- Where it ends with a point, all its rounds stood everywhere by then, and no later point.
+  pub decided : (p x : ℕ) → nat_lt p (parts D) ≡ true → point_in K.agreed ≡ Some x
+      → Front (K.decided p) (logs p) × IsOpen (stage E p (K.decided p)) K.number × ((stage E p (K.decided p)).point ≤ x)
+  -- That point isn't later than now.
+  pub agreed : (x : ℕ) → point_in K.agreed ≡ Some x → x ≤ now
+  -- A call that is applied in one partition by what is over is so in all.
+  pub even : (p q m x : ℕ) (o : Outcome) → nat_lt p (parts D) ≡ true → nat_lt q (parts D) ≡ true → point_in (Some o) ≡ Some x
+      → In (Done m o) (K.closed p) → In (Done m o) (K.closed q)
+
+-- ---- what is firm
+
+-- So many entries of a partition's log are everywhere in a term, and counted firm.
+pub record Everywhere (S : LogState) (F : Firm) (p t n : ℕ) : Type 0 where
+  pub reach : n ≤ S.logs.reach p t
+  pub firm : n ≤ F p
+
+-- this entry stands at this position of a log
+pub record StandsAt (log : List Entry) (position : ℕ) (e : Entry) : Type 0 where
+  pub front : List Entry
+  pub stands : Front (front ++ e ∷ []) log
+  pub at : length front + 1 ≡ position
+
+-- It stands in that of a term's leader, and is firm.
+pub record Stood (S : LogState) (F : Firm) (p t : ℕ) (e : Entry) : Type 0 where
+  pub reign : Reign
+  pub led : S.logs.reign p t ≡ Some reign
+  pub position : ℕ
+  pub stands : StandsAt reign.log position e
+  pub everywhere : Everywhere S F p t position
+
+-- ---- the logs of leaders
+
+-- the log of the leader of a term, if there is one, with what is due to it
+abbrev pub led_log : Option Reign → List Entry
+led_log None = []
+led_log (Some g) = g.log
+
+abbrev pub whole : LogState → Transactions → ℕ → ℕ → List Entry
+whole S K t p = led_log (S.logs.reign p t) ++ K.due p t
+
+-- At most one entry is due, and only in a term that was led and whose initiator has heard of all.
+abbrev pub DueOk : LogState → Transactions → ℕ → ℕ → Type 0
+DueOk S K p t =
+    (K.due p t ≡ [])
+    ⊎ ((e : Entry) × (g : Reign) × (K.due p t ≡ e ∷ []) × IsOrder e × (S.logs.reign p t ≡ Some g) × (t ≤ K.heard))
+
+-- In a term whose initiator hasn't heard of all only calls on one partition stand behind what the term began with.
+pub record ReignFits (E : Database) (S : LogState) (K : Transactions) (now p t : ℕ) (g : Reign) : Type 0 where
+  pub formed : WellFormed (first_stage E p) (g.log ++ K.due p t)
+  pub past : (stage E p (g.log ++ K.due p t)).point ≤ now
+  pub unheard : K.heard < t → OnlyCalls (drop (length g.begun) g.log)
+
+-- Of a partition in the term that was heard: it is led, what stood in its log before the last transaction is firm, and so is what stood
+-- there when that was decided. The term's mark is on a disk.
+pub record HeardPart (S : LogState) (F : Firm) (K : Transactions) (p : ℕ) : Type 0 where
+  pub reign : Reign
+  pub led : S.logs.reign p K.heard ≡ Some reign
+  pub inside : Front (K.closed p) reign.log
+  pub closed : Everywhere S F p K.heard (length (K.closed p))
+  pub decided : (x : ℕ) → point_in K.agreed ≡ Some x → Front (K.decided p) reign.log × Everywhere S F p K.heard (length (K.decided p))
+  pub top : Top S p K.heard 0
+
+pub record HeardOk (E : Database) (S : LogState) (F : Firm) (K : Transactions) (now : ℕ) : Type 0 where
+  pub word : Membership
+  pub is_word : WordOf S K.heard word
+  -- its initiator has that word or a later one, if it still runs
+  pub by : (h a : ℕ) → initiator word ≡ Some (h, a) → (S.words.agents h).start ≡ a → K.heard ≤ term_in (S.words.agents h).decided
+  pub each : (p : ℕ) → IsPart S p → HeardPart S F K p
+  pub aligned : Aligned E S.words.deployment now K (whole S K K.heard)
+
+-- What the history says of the logs of leaders, after so many events.
+pub record Books (E : Database) (S : LogState) (F : Firm) (K : Transactions) (now : ℕ) : Type 0 where
+  pub due : (p t : ℕ) → DueOk S K p t
+  pub reigns : (p t : ℕ) (g : Reign) → IsPart S p → S.logs.reign p t ≡ Some g → ReignFits E S K now p t g
+  pub heard : HeardOk E S F K now
+
+-- ---- what is under way
+
+abbrev pub order_in : Msg Blocks → List Entry
+order_in m = elim m as (λ _. List Entry) [
+  | msg.Frag m round body ↦ Frag m round body ∷ []
+  | msg.Done m o ↦ Done m o ∷ []
+  | _ ↦ []
+]
+
+abbrev pub order_of : ℕ → ℕ → Letter → List Entry
+order_of start term l = if is_for start term l then order_in l.body else []
+
+-- the rounds and ends under way to a start, of a term
+abbrev pub orders : ℕ → ℕ → List Letter → List Entry
+orders start term ls = flat_map (order_of start term) ls
+
+-- From the agent of host h to the site of slot c: from the initiator of the letter's term to the leader of its partition there.
+pub record OrderOk (S : LogState) (h c : ℕ) (l : Letter) : Type 0 where
+  pub addressed : Addressed l
+  pub word : Membership
+  pub is_word : WordOf S l.term word
+  pub by : ℕ
+  pub initiates : initiator word ≡ Some (h, by)
+  pub leads : leader S.words.deployment word (part S c) ≡ Some c
+  pub start_is : start_of_slot S.words.deployment word c ≡ Some l.start
+  pub reign : Reign
+  pub led : S.logs.reign (part S c) l.term ≡ Some reign
+
+abbrev pub ToSiteOk : LogState → ℕ → ℕ → Letter → Type 0
+ToSiteOk S h c l = elim l.body as (λ _. Type 0) [
+  | msg.Frag m round body ↦ OrderOk S h c l
+  | msg.Done m o ↦ OrderOk S h c l
+  | _ ↦ Unit {0}
+]
+
+-- How a partition stood when its leader told that, in a term whose initiator hasn't heard of all: as the term began.
+pub record StateOk (E : Database) (S : LogState) (F : Firm) (p t m : ℕ) (is_open : Bool) (outcome : Option Outcome) : Type 0 where
+  pub part : IsPart S p
+  pub reign : Reign
+  pub led : S.logs.reign p t ≡ Some reign
+  pub told : standing (open_in reign.begun) (last_done E p reign.begun) ≡ msg.MpState m is_open outcome
+  pub everywhere : Everywhere S F p t (length reign.begun)
+  pub top : Top S p t 0
+
+-- From a site of partition p to an agent.
+abbrev pub AnswerOk : Database → LogState → Firm → Transactions → ℕ → Letter → Type 0
+AnswerOk E S F K p l = elim l.body as (λ _. Type 0) [
+  | msg.FragDone m round partial ↦ (0 < l.term) × ((body : List ℕ) × Stood S F p l.term (Frag m round body))
+  | msg.Finished m ↦ (0 < l.term) × ((o : Outcome) × Stood S F p l.term (Done m o))
+  | msg.MpState m is_open outcome ↦ (0 < l.term) × (K.heard < l.term → StateOk E S F p l.term m is_open outcome)
+  | _ ↦ Unit {0}
+]
+
+-- ---- sites
+
+-- An answer to the initiator that is held waits for the position at which its entry stands, in the site's term.
+abbrev pub HeldAnswer : SiteState → ℕ → Held → Type 0
+HeldAnswer s term d = elim d.letter.body as (λ _. Type 0) [
+  | msg.FragDone m round partial ↦ (d.letter.term ≡ term) × ((body : List ℕ) × StandsAt s.log d.position (Frag m round body))
+  | msg.Finished m ↦ (d.letter.term ≡ term) × ((o : Outcome) × StandsAt s.log d.position (Done m o))
+  | msg.MpState m is_open outcome ↦ ⊥
+  | _ ↦ Unit {0}
+]
+
+-- No round and no end waits for a term.
+abbrev pub WaitsPlain : Actor → Letter → Type 0
+WaitsPlain (Agent h) l = elim l.body as (λ _. Type 0) [
+  | msg.Frag m round body ↦ ⊥
+  | msg.Done m o ↦ ⊥
+  | _ ↦ Unit {0}
+]
+WaitsPlain from l = Unit {0}
+
+-- what the copies acknowledged, and the joiners from the position on at which their streams began
+abbrev pub acknowledged : Deployment → ℕ → SiteState → Option ℕ
+acknowledged D c s = least_of (copy_acks D c s ++ map (λ j. Some (max j.nj j.position)) s.joiners)
+
+-- A leader has counted all that it may. No stream began before what its term began with.
+pub record CountsOk (S : LogState) (c : ℕ) : Type 0 where
+  pub counted : (n : ℕ) → acknowledged S.words.deployment c (S.sites c) ≡ Some n → n ≤ (S.sites c).firm
+  pub joined : (g : Reign) → S.logs.reign (part S c) (term_at S c) ≡ Some g → AllByRecursion (λ j. length g.begun ≤ j.nj) (S.sites c).joiners
+
+-- Of a site that runs. What is due to it as the leader of its term is under way from the initiator of that.
+pub record SiteCalls (S : LogState) (K : Transactions) (c : ℕ) : Type 0 where
+  pub waiting : AllByRecursion (λ x. WaitsPlain x.from x.letter) (S.sites c).waiting
+  pub held : AllByRecursion (HeldAnswer (S.sites c) (term_at S c)) (S.sites c).held
+  pub orders : (w : Membership) → (S.sites c).joining ≡ None → (S.sites c).view ≡ Some w → leader S.words.deployment w (part S c) ≡ Some c
+      → (h a : ℕ) → initiator w ≡ Some (h, a)
+      → orders (start_at S c) (term_of w) (S.words.channel (Agent h) (Site c)) ≡ K.due (part S c) (term_of w)
+  pub counts : leads S.words.deployment c (S.sites c) ≡ true → CountsOk S c
+  -- it counts no joiner before it has what its term begins with
+  pub unrepaired : (S.sites c).repaired ≡ false → (S.sites c).joiners ≡ []
+
+-- ---- initiators
+
+-- In the term that was heard, nothing is due to the partition; all rounds and ends in its log are firm, and no transaction is open.
+pub record Settled (E : Database) (S : LogState) (F : Firm) (K : Transactions) (p : ℕ) : Type 0 where
+  pub none : K.due p K.heard ≡ []
+  pub reign : Reign
+  pub led : S.logs.reign p K.heard ≡ Some reign
+  pub front : List Entry
+  pub stands : Front front reign.log
+  pub calls : OnlyCalls (drop (length front) reign.log)
+  pub everywhere : Everywhere S F p K.heard (length front)
+  pub over : (stage E p front).opened ≡ None
+
+-- The last transaction ends there, once what is due is taken.
+abbrev pub Ended : Database → LogState → Transactions → ℕ → Type 0
+Ended E S K p = ((stage E p (whole S K K.heard p)).opened ≡ None) × ((stage E p (whole S K K.heard p)).number ≡ K.number)
+
+-- its last round is firm there
+pub record Fed (S : LogState) (F : Firm) (K : Transactions) (p : ℕ) : Type 0 where
+  pub none : K.due p K.heard ≡ []
+  pub everywhere : Everywhere S F p K.heard (length (led_log (S.logs.reign p K.heard)))
+
+-- Its job, if it has one, is the last transaction. If it decided that, so it ends.
+abbrev pub JobOk : Transactions → Option Work → Type 0
+JobOk K None = Unit {0}
+JobOk K (Some w) = (w.m ≡ K.number) × ((d : Decision) → w.decision ≡ Some d → K.agreed ≡ Some d.outcome)
+
+-- how far the job at hand is in each partition
+abbrev pub AtHand : Database → LogState → Firm → Transactions → Work → Option Decision → Type 0
+AtHand E S F K w None = (w.finished ≡ [])
+    × ((p : ℕ) → IsPart S p → ((stage E p (whole S K K.heard p)).opened ≡ Some (K.number, w.round)) × (has_part w.gathered p ≡ true → Fed S F K p))
+AtHand E S F K w (Some d) = (p : ℕ) → IsPart S p → Ended E S K p × (is_in p w.finished ≡ true → Settled E S F K p)
+
+-- Of an initiator in term t.
+abbrev pub PhaseOk : Database → LogState → Firm → Transactions → ℕ → AgentState → Phase → Type 0
+PhaseOk E S F K t a Off = ⊥
+PhaseOk E S F K t a (Hears told) =
+    (K.heard < t) × AllByRecursion (λ x. StateOk E S F x.part t x.m x.is_open x.outcome) told × JobOk K a.initiating.work
+    × (((a.initiating.next ≡ 0) × (a.initiating.work ≡ None)) ⊎ (K.number < a.initiating.next))
+PhaseOk E S F K t a (Closes m parts finished) =
+    (K.heard ≡ t) × (m ≡ K.number) × JobOk K a.initiating.work × (K.number < a.initiating.next)
+    × ((p : ℕ) → IsPart S p → (is_in p parts ≡ true → Ended E S K p) × ((is_in p parts ≡ false) ⊎ (is_in p finished ≡ true) → Settled E S F K p))
+PhaseOk E S F K t a Idle =
+    (K.heard ≡ t) × (a.initiating.work ≡ None) × (K.number < a.initiating.next)
+    × ((p : ℕ) → IsPart S p → (K.due p K.heard ≡ []) × OnlyCalls (since K (whole S K K.heard) p))
+PhaseOk E S F K t a Works =
+    (K.heard ≡ t) × (K.number < a.initiating.next)
+    × ((w : Work) × (a.initiating.work ≡ Some w) × JobOk K (Some w) × AtHand E S F K w w.decision)
+
+-- it runs, and is the initiator of the word that it has decided
+pub record Initiates (S : LogState) (h : ℕ) (w : Membership) : Type 0 where
+  pub runs : 0 < (S.words.agents h).start
+  pub has_decided : (S.words.agents h).decided ≡ Some w
+  pub initiates : initiator w ≡ Some (h, (S.words.agents h).start)
+
+-- Either it isn't an initiator, and never was; or it is one.
+abbrev pub InitiatingOk : Database → LogState → Firm → Transactions → ℕ → Type 0
+InitiatingOk E S F K h =
+    let a = S.words.agents h in
+    ((a.initiating.phase ≡ Off) × (a.initiating.work ≡ None) × (a.initiating.next ≡ 0))
+    ⊎ ((w : Membership) × Initiates S h w × PhaseOk E S F K (term_of w) a a.initiating.phase)
+
+abbrev pub WaitingAnswer : Database → LogState → Firm → Transactions → Waiting → Type 0
+WaitingAnswer E S F K x = elim x.from as (λ _. Type 0) [
+  | Site c ↦ IsSlot S c × AnswerOk E S F K (part S c) x.letter
+  | _ ↦ Unit {0}
+]
+
+pub record AgentCalls (E : Database) (S : LogState) (F : Firm) (K : Transactions) (h : ℕ) : Type 0 where
+  pub initiating : InitiatingOk E S F K h
+  pub waiting : AllByRecursion (WaitingAnswer E S F K) (S.words.agents h).waiting
+
+-- ---- what holds in every run
+
+-- After so many events. After a recovery that was stopped each choice of contents is aligned.
+pub record CallsHold (E : Database) (S : LogState) (F : Firm) (halted : Bool) (K : Transactions) (now : ℕ) : Type 0 where
+  pub books : Books E S F K now
+  pub to_sites : (h c : ℕ) → IsSlot S c → AllByRecursion (ToSiteOk S h c) (S.words.channel (Agent h) (Site c))
+  pub to_agents : (c h : ℕ) → IsSlot S c → AllByRecursion (AnswerOk E S F K (part S c)) (S.words.channel (Site c) (Agent h))
+  pub outside : (c h : ℕ) → (IsSlot S c → ⊥) → S.words.channel (Site c) (Agent h) ≡ []
+  pub sites : (c : ℕ) → IsSlot S c → 0 < start_at S c → SiteCalls S K c
+  pub agents : (h : ℕ) → AgentCalls E S F K h
+  pub halts : halted ≡ true → (shown : ℕ → Shown) → Shows S shown → (L : Transactions) × Aligned E S.words.deployment now L (chosen S.words.deployment shown)
