@@ -1,5 +1,5 @@
 -- What the laws of transactions say of a world: which logs its sites have, how calls on all partitions end, and who its initiator is.
-use Rattle.std.specs.Prelude.{ℕ, ◌≡◌, ◌<◌, true, nat_lt, length, List, Some}
+use Rattle.std.specs.Prelude.{ℕ, ◌≡◌, ◌<◌, ◌⊎◌, true, nat_lt, length, List, Some}
 use Rattle.volt_base.specs.declared.entry.Entry.TheVariants.{Done}
 use Rattle.volt_base.specs.declared.entry.Outcome.{Outcome}
 use Rattle.volt_base.specs.declared.entry.Outcome.TheVariants.{Dropped, Kept, Aborted, Snapshot}
@@ -7,7 +7,7 @@ use Rattle.partition_ring.specs.Placement.{IsLayout}
 use Rattle.volt_wire.specs.Word.{Membership}
 use Rattle.cluster_model.specs.Disk.{recovered}
 use Rattle.cluster_model.specs.Engine.{Database}
-use Rattle.cluster_model.specs.Log.{nothing_open}
+use Rattle.cluster_model.specs.Log.{nothing_open, open_in}
 use Rattle.cluster_model.specs.Recover.{shown_of}
 use Rattle.cluster_model.specs.Words.{Deployment, slots, parts, initiator}
 use Rattle.cluster_model.specs.World.{World}
@@ -53,6 +53,13 @@ abbrev pub GoesOnAlike : Database → World → List ℕ → ℕ → ℕ → Typ
 GoesOnAlike E w shown p q = (m : ℕ) (o : Outcome) → IsApplied o
     → In (Done m o) (recovered E w.deployment (shown_of w shown) p)
     → In (Done m o) (recovered E w.deployment (shown_of w shown) q)
+
+-- Where an end that applies a call on all partitions stands in the log of the leader of partition p of the greatest term, it stands in that
+-- of partition q too, or its transaction is open there.
+abbrev pub StandsOrIsOpen : World → ℕ → ℕ → Type 0
+StandsOrIsOpen w p q = (m : ℕ) (o : Outcome) → IsApplied o
+    → In (Done m o) (w.lead_of p).log
+    → In (Done m o) (w.lead_of q).log ⊎ (open_in (w.lead_of q).log ≡ Some m)
 
 -- Where an end that applies a call on all partitions stands in the log of the leader of partition p of the greatest term, no other end of
 -- its number stands in that of partition q.

@@ -11,7 +11,7 @@ ghost use Rattle.cluster_model.specs.Runs.{Happening, IsRun, run};
 ghost use Rattle.log_laws.specs.Copies.{log_of};
 ghost use Rattle.disk_laws.specs.Survival.{MayShow};
 ghost use Rattle.transaction_laws.specs.Machine.{WellFormed, RiseWithin, first_stage, points};
-ghost use Rattle.transaction_laws.specs.Worlds.{IsLaidOut, IsSlotOf, IsPartOf, IsInitiator, GoesOnClosed, GoesOnAlike, EndsAlike};
+ghost use Rattle.transaction_laws.specs.Worlds.{IsLaidOut, IsSlotOf, IsPartOf, IsInitiator, GoesOnClosed, GoesOnAlike, StandsOrIsOpen, EndsAlike};
 
 use cluster_model::laws::AnyDatabase;
 
@@ -66,6 +66,19 @@ pub fn recoveries_apply_a_call_in_all_partitions<B: AnyDatabase>()
         → IsPartOf (run B.database es (first_world B.database input)) p
         → IsPartOf (run B.database es (first_world B.database input)) q
         → GoesOnAlike B.database (run B.database es (first_world B.database input)) shown p q }
+{}
+
+/// Where an end that keeps or aborts a call on all partitions stands in the log of a partition's leader of
+/// the greatest term, the same end stands in that of each other partition, or its transaction is still
+/// open there.
+pub fn an_applied_call_stands_or_is_open<B: AnyDatabase>()
+    ensures { (input : Input) (es : List Happening) (p q : ℕ)
+        → IsLaidOut input.deployment
+        → 0 < input.base
+        → IsRun B.database es (first_world B.database input)
+        → IsPartOf (run B.database es (first_world B.database input)) p
+        → IsPartOf (run B.database es (first_world B.database input)) q
+        → StandsOrIsOpen (run B.database es (first_world B.database input)) p q }
 {}
 
 /// A call on all partitions that is kept or aborted ends in one way. Where such an end stands in the log

@@ -1,7 +1,7 @@
 -- The ends that apply calls on all partitions in aligned logs.
-use Rattle.std.proofs.Common.{◌≡◌, ◌<◌, true, List, ◌⊎◌, inl, inr, sym, subst, ap, ◌∙◌, arith}
+use Rattle.std.proofs.Common.{◌≡◌, ◌<◌, true, List, ◌⊎◌, inl, inr, refl, sym, subst, ap, ◌∙◌, arith}
 use Rattle.std.proofs.lemmas.Bool.{cases_lt}
-use Rattle.std.specs.Prelude.{ℕ, nat_lt, Some, None}
+use Rattle.std.specs.Prelude.{ℕ, nat_lt, Option, Some, None}
 use Rattle.volt_base.specs.declared.entry.Entry.{Entry}
 use Rattle.volt_base.specs.declared.entry.Entry.TheVariants.{Done}
 use Rattle.volt_base.specs.declared.entry.Outcome.{Outcome}
@@ -12,7 +12,7 @@ use Rattle.word_laws.proofs.Lists.{same-some, in-left, in-right, in-cases, all-a
 use Rattle.transaction_laws.specs.Machine.{WellFormed, first_stage, stage}
 use Rattle.transaction_laws.specs.Transactions.{Transactions, Aligned, OfNumber, point_in, since}
 use Rattle.transaction_laws.proofs.Entries.Machine.{first-sound, stage-append, formed-front, formed-rest, open-ends, end-number, one-end}
-use Rattle.transaction_laws.proofs.Entries.Since.{calls-no-end, log-since}
+use Rattle.transaction_laws.proofs.Entries.Since.{calls-no-end, log-since, open-number}
 
 -- An end that applies a call in one of these logs stands in all.
 abbrev pub AppliedInAll : Deployment → (ℕ → List Entry) → Type 0
@@ -62,6 +62,19 @@ module _ (E : Database) (D : Deployment) (now : ℕ) (K : Transactions) (logs : 
         let there = subst (In (Done K.number a)) (sym is) (in-right (Done K.number a) (K.decided q) more j) in
         let here = subst (λ n. In (Done n a) (logs q)) (sym end-last-number) there in
         subst (λ b. In (Done m b) (logs q)) (end-alike q a other here) here
+
+  -- An end that applies a call in one of them stands in each other one, or its transaction is open there.
+  pub stands-or-open : (p q m x : ℕ) (o : Outcome) → nat_lt p (parts D) ≡ true → nat_lt q (parts D) ≡ true → point_in (Some o) ≡ Some x → In (Done m o) (logs p)
+      → In (Done m o) (logs q) ⊎ ((r : ℕ) × ((stage E q (logs q)).opened ≡ Some (m, r)))
+  stands-or-open p q m x o part other point i = elim (end-stands p m o part i) [
+    | inl c ↦ inl (closed-stands q m o other (A.even p q m x o part other point c))
+    | inr b ↦ choice b (stage E q (logs q)).opened refl
+  ]
+    where
+      choice : In (Done m o) (since K logs p) → (now_open : Option (ℕ × ℕ)) → (stage E q (logs q)).opened ≡ now_open
+          → In (Done m o) (logs q) ⊎ ((r : ℕ) × ((stage E q (logs q)).opened ≡ Some (m, r)))
+      choice b None e = inl (last-even p m o part b q x other e point)
+      choice b (Some (n, r)) e = inr (r, e ∙ ap (λ k. Some (k, r)) (open-number E D now K logs A q other n r e ∙ sym (end-last-number p m o part b)))
 
   -- Where nothing is open in any of them, an end that applies a call in one stands in all.
   pub even-logs : ((p : ℕ) → nat_lt p (parts D) ≡ true → (stage E p (logs p)).opened ≡ None) → AppliedInAll D logs

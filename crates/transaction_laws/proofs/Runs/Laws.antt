@@ -1,5 +1,5 @@
 -- The laws of transactions, from what holds in each world of a run.
-use Rattle.std.proofs.Common.{◌≡◌, ◌<◌, true, List, ◌++◌, length, refl, ap, ◌∙◌, arith}
+use Rattle.std.proofs.Common.{◌≡◌, ◌<◌, true, List, ◌++◌, length, refl, ap, ◌∙◌, arith, inl, inr}
 use Rattle.std.specs.Prelude.{ℕ, Some, None, option_map, is_none}
 use Rattle.volt_base.specs.declared.entry.Entry.{Entry}
 use Rattle.volt_base.specs.declared.entry.Outcome.{Outcome}
@@ -19,10 +19,10 @@ use Rattle.disk_laws.proofs.Boots.{firm_in}
 use Rattle.disk_laws.proofs.Choices.{world-shows}
 use Rattle.transaction_laws.specs.Machine.{WellFormed, RiseWithin, first_stage, stage, points}
 use Rattle.transaction_laws.specs.Transactions.{Transactions, Aligned, point_in}
-use Rattle.transaction_laws.specs.Worlds.{IsLaidOut, IsSlotOf, IsPartOf, IsInitiator, GoesOnClosed, IsApplied, GoesOnAlike, EndsAlike}
+use Rattle.transaction_laws.specs.Worlds.{IsLaidOut, IsSlotOf, IsPartOf, IsInitiator, GoesOnClosed, IsApplied, GoesOnAlike, EndsAlike, StandsOrIsOpen}
 use Rattle.transaction_laws.proofs.Entries.Machine.{formed-front, front-point, open_in-stage}
 use Rattle.transaction_laws.proofs.Entries.Aligned.{Recovered, aligned-recovered, recovered-even}
-use Rattle.transaction_laws.proofs.Entries.Even.{one-way}
+use Rattle.transaction_laws.proofs.Entries.Even.{one-way, stands-or-open}
 use Rattle.transaction_laws.proofs.Runs.Leads.{leads-aligned}
 use Rattle.transaction_laws.proofs.Initiators.Orders.{slot-part}
 use Rattle.transaction_laws.proofs.Entries.Points.{points-rise}
@@ -98,6 +98,16 @@ ends-alike E w now d p q part other m o a applied =
     let at = applied-point o applied in
     one-way E w.deployment now d.transactions (λ x. (w.lead_of x).log) A p q m at.0 o a part other at.1
 
+stands-or-is-open : (E : Database) (w : World) (now : ℕ) → HasCalls E now w → (p q : ℕ) → IsPartOf w p → IsPartOf w q → StandsOrIsOpen w p q
+stands-or-is-open E w now d p q part other m o applied i =
+    let k = d.logs in
+    let A = leads-aligned E (log_state w k.owner k.history k.logs) (firm_in w) d.transactions now k.holds d.calls.books w.lead_of k.lead in
+    let at = applied-point o applied in
+    elim (stands-or-open E w.deployment now d.transactions (λ x. (w.lead_of x).log) A p q m at.0 o part other at.1 i) [
+      | inl there ↦ inl there
+      | inr is ↦ inr (open_in-stage E q (w.lead_of q).log ∙ ap (option_map (λ x. x.0)) is.1)
+    ]
+
 -- ---- the laws
 
 module _ (E : Database) (input : Input) (es : List Happening) (laid : IsLaidOut input.deployment) (some : 0 < input.base) (r : IsRun E es (first_world E input)) where
@@ -128,6 +138,9 @@ module _ (E : Database) (input : Input) (es : List Happening) (laid : IsLaidOut 
 
   pub calls-end-alike : (p q : ℕ) → IsPartOf w p → IsPartOf w q → EndsAlike w p q
   calls-end-alike p q part other = ends-alike E w (length w.trace) d p q part other
+
+  pub calls-stand : (p q : ℕ) → IsPartOf w p → IsPartOf w q → StandsOrIsOpen w p q
+  calls-stand p q part other = stands-or-is-open E w (length w.trace) d p q part other
 
   pub one-runs : (h g : ℕ) → IsInitiator w h → IsInitiator w g → h ≡ g
   one-runs h g i j = one-initiator (log_state w d.logs.owner d.logs.history d.logs.logs) d.logs.holds.words h g i.word j.word
