@@ -26,4 +26,4 @@ pub use program::{Program, ProgramStep, ProgramValue, Returned};
 pub use reply::{Cause, ProcReply};
 pub use row::{Row, Rows};
 pub use row_key::{Directed, RowKey};
-pub use select::{Aggregated, GroupOutput, JoinPlan, Limit, Order, OrderBy, SelectPlan, Shape};
+pub use select::{Aggregated, GroupOutput, JoinPlan, Order, OrderBy, RowLimit, SelectPlan, Shape};

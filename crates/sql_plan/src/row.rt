@@ -1,12 +1,13 @@
 //! Rows.
 
-ghost use Rattle.std.specs.Prelude.{◌≡◌, Some, refl};
+ghost use Rattle.std.specs.Prelude.{◌≡◌, Some, refl, IfOk};
 ghost use Rattle.std.specs.Cmp.{IsTotalOrder, partial_order_from_total, partial_equiv_from_equiv};
 ghost use Rattle.std.specs.Ordering.{eq_by_cmp};
 ghost use Rattle.std.proofs.lemmas.Cmp.{eq_by_cmp_equiv};
 ghost use Rattle.sql_plan.specs.Rows.{row_cmp, row_total};
 
 use sqlite_items::Items;
+use std::alloc::{AllocError, Global};
 use std::cmp::Ordering;
 use std::marker::Model;
 use volt_value::Value;
@@ -27,7 +28,27 @@ impl Model for Row {
     ghost view = { λ r. r.held.items };
 }
 
+/// Copies of values.
+fn copies(alloc: Global, values: &[Value]) -> Result<Vec<Value>, AllocError>
+    ensures { IfOk result (λ copies. copies.items ≡ values.now) }
+{
+    let mut copies = Vec::with_capacity(alloc, values.len())?;
+    for value in values {
+        copies.push(value.copy(alloc)?)?;
+    }
+    Ok(copies)
+}
+
 impl Row {
+    /// A row of copies of these values.
+    pub fn of(alloc: Global, values: &[Value]) -> Result<Row, AllocError>
+        ensures { IfOk result (λ row. row ≡ values.now) }
+    {
+        Ok(Row {
+            held: copies(alloc, values)?,
+        })
+    }
+
     /// The row of a vector, which is not copied.
     pub fn from_vec(held: Vec<Value>) -> Row
         ensures { result ≡ held.items }

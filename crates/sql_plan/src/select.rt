@@ -18,7 +18,7 @@ pub struct SelectPlan {
     /// What is made of the rows that are kept.
     pub shape: Shape,
     /// LIMIT, where it is written.
-    pub limit: Option<Limit>,
+    pub limit: Option<RowLimit>,
 }
 
 /// The second table of a FROM.
@@ -101,7 +101,7 @@ pub enum OrderBy {
 
 /// How many rows a SELECT gives at most. NULL and a number below 0 are out of range.
 #[derive(Clone, Copy, Debug, PartialEq, Eq)]
-pub enum Limit {
+pub enum RowLimit {
     Number(i64),
     /// An argument, by its number from 0.
     Param(usize),
