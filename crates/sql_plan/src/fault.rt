@@ -64,7 +64,7 @@ impl Fault {
 #[derive(Clone, Copy, Debug, PartialEq, Eq)]
 pub enum RunFault {
     Fault(Fault),
-    /// Memory was wanting.
+    /// Out of memory.
     NoMemory,
 }
 
