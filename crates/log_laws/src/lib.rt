@@ -80,7 +80,7 @@ pub fn later_leaders_have_what_was_firm<B: AnyDatabase>()
         (log_of (run B.database (es ++ fs) (first_world B.database input)) m) }
 {}
 
-/// A leader in the term of its partition's lead has the authoritative log's log. Whatever the term in which a site
+/// A leader in the term of its partition's authoritative log has that log. Whatever the term in which a site
 /// leads, be it a stale one: that of the authoritative log is no lower, and the entries that the site counts firm are
 /// firm in the authoritative log, and a prefix of its log.
 pub fn leaders_agree_with_the_authoritative_log<B: AnyDatabase>()
