@@ -12,12 +12,12 @@ use Rattle.cluster_model.specs.World.{World, AuthoritativeLog}
 use Rattle.cluster_model.specs.Recover.{shown_of, count_shown, new_log}
 use Rattle.cluster_model.specs.Events.{is_shown}
 use Rattle.word_laws.specs.Histories as word
-use Rattle.word_laws.specs.Histories.{In}
-use Rattle.word_laws.proofs.Lists.{none-and-some, not-both, all-at, list_all-at}
-use Rattle.log_laws.specs.Histories.{Logs, LogState, Holds, Prefix, Leadership, IsSlot, part}
+use Rattle.cluster_steps.specs.Lists.{In, Prefix}
+use Rattle.cluster_steps.proofs.Lists.{none-and-some, not-both, all-at, list_all-at}
+use Rattle.log_laws.specs.Histories.{Logs, LogState, Holds, Leadership, IsSlot, part}
 use Rattle.log_laws.specs.Copies.{log_state, HasLogs, AuthoritativeOk}
 use Rattle.log_laws.proofs.Plain.Copies.{range-in}
-use Rattle.log_laws.proofs.Plain.Prefixes.{prefix-none, prefix-trans, prefixes-order, take-of-prefix, take-short}
+use Rattle.cluster_steps.proofs.Prefixes.{prefix-none, prefix-trans, prefixes-order, take-of-prefix, take-short}
 use Rattle.disk_laws.specs.Disks.{AtLeast, Written, Firm, ContentOk, DisksHold, Shows, shown_at}
 use Rattle.disk_laws.proofs.Order.{top-chosen, chosen-recovered}
 use Rattle.disk_laws.proofs.Contents.{firm-within, firm-begun, firm-prefix, firm-same}

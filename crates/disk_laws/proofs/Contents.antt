@@ -6,9 +6,10 @@ use Rattle.std.specs.List.{AllByRecursion}
 use Rattle.volt_wire.specs.Word.{Membership}
 use Rattle.cluster_model.specs.Disk.{Content, Shown}
 use Rattle.cluster_model.specs.Words.{term_of, term_in}
-use Rattle.word_laws.proofs.Lists.{all-mono, same-some, none-and-some}
-use Rattle.log_laws.specs.Histories.{LogState, Holds, Prefix, Leadership, MemberOk, part, start_at, log_at, term_at}
-use Rattle.log_laws.proofs.Plain.Prefixes.{prefix-refl, prefix-trans, prefix-take, take-prefix, take-grown, take-of-prefix}
+use Rattle.cluster_steps.proofs.Lists.{all-mono, same-some, none-and-some}
+use Rattle.log_laws.specs.Histories.{LogState, Holds, Leadership, MemberOk, part, start_at, log_at, term_at}
+use Rattle.cluster_steps.specs.Lists.{Prefix}
+use Rattle.cluster_steps.proofs.Prefixes.{prefix-refl, prefix-trans, prefix-take, take-prefix, take-grown, take-of-prefix}
 use Rattle.log_laws.proofs.Runs.Agreeing.{agrees-begun}
 use Rattle.log_laws.proofs.Runs.Laws.{copy-behind, copy-entered, last-before}
 use Rattle.disk_laws.specs.Disks.{Written, Firm, Rebuilt, ContentOk, Top, FirmOk}

@@ -12,8 +12,9 @@ use Rattle.cluster_model.specs.Letters.{Letter, Sends, Turn}
 use Rattle.cluster_model.specs.AgentState.{AgentState}
 use Rattle.cluster_model.specs.SiteState.{SiteState, Joining, Streamed, leads}
 use Rattle.word_laws.specs.Histories as word
-use Rattle.word_laws.specs.Histories.{In, Admitted, Unnamed, names}
-use Rattle.word_laws.proofs.Lists.{all-at, all-from, all-append, some-here, same-some, none-and-some, not-both, set-here, set-both}
+use Rattle.cluster_steps.specs.Lists.{In}
+use Rattle.word_laws.specs.Histories.{Admitted, Unnamed, names}
+use Rattle.cluster_steps.proofs.Lists.{all-at, all-from, all-append, some-here, same-some, none-and-some, not-both, set-here, set-both}
 use Rattle.word_laws.proofs.Moves as word_moves
 use Rattle.word_laws.proofs.Steps.{unnamed-not}
 use Rattle.word_laws.proofs.Hearings.{agent-there}
@@ -22,7 +23,7 @@ use Rattle.log_laws.specs.Histories.{LogState, Logs, Holds, JoinerOk, StreamIn, 
 use Rattle.log_laws.proofs.Kept.Moves.{after}
 use Rattle.log_laws.proofs.Kept.Plumbing.{sent-either}
 use Rattle.log_laws.proofs.Agents.AgentEvents.{AgentGoes}
-use Rattle.log_laws.proofs.Plain.Copies.{leader-view, leads-parts}
+use Rattle.cluster_steps.proofs.Leaders.{leader-view, leads-parts}
 use Rattle.log_laws.proofs.Kept.Terms.{took-not-named}
 use Rattle.log_laws.proofs.Runs.Leading.{leads-runs}
 use Rattle.disk_laws.specs.Disks.{Halted}

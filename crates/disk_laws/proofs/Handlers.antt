@@ -9,11 +9,11 @@ use Rattle.volt_wire.specs.declared.message.Msg.TheVariants as msg
 use Rattle.cluster_model.specs.Words.{Deployment, part_of_slot, is_some_of, term_in}
 use Rattle.cluster_model.specs.Letters.{Letter, Waiting, Turn, becomes, ◌▸◌}
 use Rattle.cluster_model.specs.SiteState.{SiteState, Joining, Joiner, site_term, leader_in, is_joiner, leads}
-use Rattle.word_laws.specs.Histories.{In}
-use Rattle.word_laws.proofs.Lists.{all-append, all-mono, in-map-from, none-and-some, same-some}
-use Rattle.log_laws.specs.Histories.{LogState, Prefix, HeldOk, WaitingFrom, WaitingOk}
-use Rattle.log_laws.proofs.Plain.Copies.{leader-view, leads-parts}
-use Rattle.log_laws.proofs.Plain.Prefixes.{prefix-refl, prefix-trans}
+use Rattle.cluster_steps.specs.Lists.{In, Prefix}
+use Rattle.cluster_steps.proofs.Lists.{all-append, all-mono, in-map-from, none-and-some, same-some}
+use Rattle.log_laws.specs.Histories.{LogState, HeldOk, WaitingFrom, WaitingOk}
+use Rattle.cluster_steps.proofs.Leaders.{leader-view, leads-parts}
+use Rattle.cluster_steps.proofs.Prefixes.{prefix-refl, prefix-trans}
 
 -- ---- messages that neither wipe a disk nor begin a term
 

@@ -12,11 +12,11 @@ use Rattle.cluster_model.specs.Engine.{Database}
 use Rattle.cluster_model.specs.Words.{Deployment, part_of_slot, all_parts}
 use Rattle.cluster_model.specs.Log.{open_in}
 use Rattle.cluster_model.specs.Disk.{Content, Shown, after_parts, after_failure, is_better, better, best_of, shown_of_part, chosen, mark_of, greatest_mark, greatest_open, resolved, closed, recovered}
-use Rattle.word_laws.specs.Histories.{In}
-use Rattle.word_laws.proofs.Lists.{in-left, in-right, in-cases, in-map, in-map-from, all-at, all-from, all-mono}
-use Rattle.log_laws.specs.Histories.{LogState, Prefix, IsSlot, part}
+use Rattle.cluster_steps.specs.Lists.{In, Prefix}
+use Rattle.cluster_steps.proofs.Lists.{in-left, in-right, in-cases, in-map, in-map-from, all-at, all-from, all-mono}
+use Rattle.log_laws.specs.Histories.{LogState, IsSlot, part}
 use Rattle.log_laws.proofs.Plain.Copies.{part-slots, slots-part}
-use Rattle.log_laws.proofs.Plain.Prefixes.{prefix-refl}
+use Rattle.cluster_steps.proofs.Prefixes.{prefix-refl}
 use Rattle.disk_laws.specs.Disks.{AtLeast, Top, shown_at}
 
 -- ---- one content and another

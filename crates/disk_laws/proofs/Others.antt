@@ -8,10 +8,10 @@ use Rattle.volt_wire.specs.declared.message.Msg.TheVariants as msg
 use Rattle.cluster_model.specs.Letters.{Letter, Turn}
 use Rattle.cluster_model.specs.AgentState.{AgentState}
 use Rattle.word_laws.specs.Histories.{History}
-use Rattle.word_laws.proofs.Lists.{all-mono}
+use Rattle.cluster_steps.proofs.Lists.{all-mono}
 use Rattle.word_laws.proofs.Moves as word_moves
 use Rattle.log_laws.specs.Histories.{LogState, part, start_at, between}
-use Rattle.log_laws.proofs.Plain.Prefixes.{prefix-refl}
+use Rattle.cluster_steps.proofs.Prefixes.{prefix-refl}
 use Rattle.log_laws.proofs.Agents.AgentEvents.{AgentGoes}
 use Rattle.disk_laws.specs.Disks.{Top, Firm, ContentOk, DiskOk, StreamLetter, Halted, FirmOk, DisksHold}
 use Rattle.disk_laws.proofs.Contents.{rises-same, content-later}

@@ -17,8 +17,9 @@ use Rattle.cluster_model.specs.World.{World}
 use Rattle.cluster_model.specs.Recover.{shown_of, all_shown, new_base, new_content, left_contents, stays_stopped}
 use Rattle.cluster_model.specs.Events.{is_stopped, may_recover, is_shown, is_slot_or_none, allows}
 use Rattle.word_laws.specs.Histories as word
-use Rattle.word_laws.specs.Histories.{In, names}
-use Rattle.word_laws.proofs.Lists.{all-at, all-from, all-mono, in-map, list_all-at, some-here}
+use Rattle.cluster_steps.specs.Lists.{In}
+use Rattle.word_laws.specs.Histories.{names}
+use Rattle.cluster_steps.proofs.Lists.{all-at, all-from, all-mono, in-map, list_all-at, some-here}
 use Rattle.log_laws.specs.Histories.{LogState, IsSlot, part, between}
 use Rattle.log_laws.specs.Copies.{log_state, HasLogs}
 use Rattle.log_laws.proofs.Plain.Copies.{range-in}

@@ -11,10 +11,10 @@ use Rattle.cluster_model.specs.Words.{Deployment, part_of_slot, term_of, term_in
 use Rattle.cluster_model.specs.Letters.{Letter, Sends}
 use Rattle.cluster_model.specs.SiteState.{SiteState, site_term, leads}
 use Rattle.cluster_model.specs.World.{AuthoritativeLog, set_at, authoritative_after}
-use Rattle.word_laws.specs.Histories.{In}
-use Rattle.word_laws.proofs.Lists.{all-at, all-from, all-append, none-and-some, if-false, set-here, set-there}
+use Rattle.cluster_steps.specs.Lists.{In}
+use Rattle.cluster_steps.proofs.Lists.{all-at, all-from, all-append, none-and-some, if-false, set-here, set-there}
 use Rattle.log_laws.specs.Histories.{LogState, Logs, Holds, IsSlot, part, start_at, log_at, between}
-use Rattle.log_laws.proofs.Plain.Copies.{leader-view, leads-parts}
+use Rattle.cluster_steps.proofs.Leaders.{leader-view, leads-parts}
 use Rattle.log_laws.proofs.Entries.Leads.{Leading, leading}
 use Rattle.log_laws.proofs.Kept.Moves.{Grown, after}
 use Rattle.log_laws.proofs.Kept.Plumbing.{here, there, sent-either}

@@ -20,13 +20,13 @@ use Rattle.cluster_model.specs.SiteState.{SiteState, Joining, Reported, Joiner, 
 use Rattle.cluster_model.specs.Site.{begins_base, appends, appends_all, put_to, tasks_to, passes_on, leads_with, holds, runs_call, runs_calls, works_calls, on_sp_call, holds_for, initiator_in, on_frag, on_done, own_ack, copy_acks, least_of, at_least, firm_now, floor_now, answers_held, counts, with_position, noted, on_ack, repair_to, is_repaired, longest, lacks, repairs, on_report, reports_to, asks_to_join, in_new_term, as_member, on_view, on_put, on_repair, is_lost_in, can_take, stream_head, takes_joiner, without_first, takes_first_ask, takes_asks, on_join_ask, is_sent, without_count, ends_streams, with_count, on_scan_end, may_finish, may_stream, on_stream_start, finishes_load, on_chunk, on_stream_end, on_task, tells, tells_initiator, has_all_on_disk, is_first_term, shows, on_look, settles, ordered, from_agent, from_site, from_scanner, from_director, site_handler, takes_each, takes_waiting, site_runs}
 use Rattle.cluster_model.specs.Initiator.{end_of_reply}
 use Rattle.cluster_model.specs.Sync.{acknowledges, says_loaded, after_sync}
-use Rattle.word_laws.specs.Histories.{In}
-use Rattle.word_laws.proofs.Lists.{all-append, all-filter, all-if, all-map, in-left, in-right, in-map, none-and-some, same-some}
-use Rattle.log_laws.specs.Histories.{Prefix, HeldOk, HeldFor}
-use Rattle.log_laws.proofs.Plain.Prefixes.{prefix-refl, prefix-append}
+use Rattle.cluster_steps.specs.Lists.{In, Prefix}
+use Rattle.cluster_steps.proofs.Lists.{all-append, all-filter, all-if, all-map, in-left, in-right, in-map, none-and-some, same-some}
+use Rattle.log_laws.specs.Histories.{HeldOk, HeldFor}
+use Rattle.cluster_steps.proofs.Prefixes.{prefix-refl, prefix-append}
 use Rattle.log_laws.proofs.Firmness.Firm.{answers-all, held-away}
-use Rattle.log_laws.proofs.Plain.Least.{least_of-below}
-use Rattle.log_laws.proofs.Plain.Lines.{all-order}
+use Rattle.cluster_steps.proofs.Least.{least_of-below}
+use Rattle.cluster_steps.proofs.Sends.{all-order}
 use Rattle.log_laws.proofs.Kept.Rests.{map-slots}
 use Rattle.log_laws.proofs.Firmness.Acks.{position-slot}
 use Rattle.disk_laws.proofs.Handlers.{DiskAt, DiskHandler, Begins, Counts, Plain, PlainWaiting, at-first, at-if, handler-then, handler-behind, handler-becomes, handler-nothing, handler-if}

@@ -19,14 +19,14 @@ use Rattle.cluster_model.specs.Site.{in_new_term, may_stream, on_stream_start, o
 use Rattle.cluster_model.specs.Sync.{may_stream_in, parts_of_stream, parts_of_message, stops_so, start_after, site_turn}
 use Rattle.cluster_model.specs.Laws.{starts_in}
 use Rattle.cluster_model.specs.Environment.{Environment, NoFault, DiskFails, NoMemory, DisksShow}
-use Rattle.word_laws.specs.Histories.{In}
-use Rattle.word_laws.proofs.Lists.{all-mono, none-and-some, same-some, not-both}
+use Rattle.cluster_steps.specs.Lists.{In, Prefix}
+use Rattle.cluster_steps.proofs.Lists.{all-mono, none-and-some, same-some, not-both}
 use Rattle.word_laws.proofs.Agreement.{member-is}
 use Rattle.word_laws.proofs.Members.{is_member-start, start-is_member}
-use Rattle.log_laws.specs.Histories.{LogState, Logs, Leadership, Prefix, Holds, IsSlot, SiteLetterOk, WaitingOk, JoinerOk, ViewIn, StreamIn, InWord, Took, HeldOk, StreamedOk, from_agent, part, start_at, log_at, term_at}
-use Rattle.log_laws.proofs.Plain.Copies.{a-joiner}
+use Rattle.log_laws.specs.Histories.{LogState, Logs, Leadership, Holds, IsSlot, SiteLetterOk, WaitingOk, JoinerOk, ViewIn, StreamIn, InWord, Took, HeldOk, StreamedOk, from_agent, part, start_at, log_at, term_at}
+use Rattle.cluster_steps.proofs.Leaders.{a-joiner}
 use Rattle.log_laws.proofs.NewTerms.Entering.{took-admitted, ran-owner, running-ran}
-use Rattle.log_laws.proofs.Plain.Prefixes.{prefixes-order, prefix-trans, prefix-take}
+use Rattle.cluster_steps.proofs.Prefixes.{prefixes-order, prefix-trans, prefix-take}
 use Rattle.log_laws.proofs.Kept.Moves.{Grown, after, popped}
 use Rattle.log_laws.proofs.Kept.Plumbing.{here}
 use Rattle.log_laws.proofs.Messages.Pops.{taken-for, waits-for}

@@ -9,10 +9,11 @@ use Rattle.cluster_model.specs.Disk.{Shown, mark_of}
 use Rattle.cluster_model.specs.Words.{term_of, term_in}
 use Rattle.cluster_model.specs.SiteState.{SiteState, Streamed, Joining}
 use Rattle.cluster_model.specs.Sync.{joiner_parts, parts_of_sync}
-use Rattle.word_laws.proofs.Lists.{all-mono, none-and-some, same-some, not-both}
-use Rattle.log_laws.specs.Histories.{LogState, Leadership, Prefix, Line, Holds, FollowsIn, LeadsIn, MemberOk, Took, StreamIn, ViewIn, StreamedOk, line, between, part, start_at, log_at, term_at}
+use Rattle.cluster_steps.proofs.Lists.{all-mono, none-and-some, same-some, not-both}
+use Rattle.log_laws.specs.Histories.{LogState, Leadership, Line, Holds, FollowsIn, LeadsIn, MemberOk, Took, StreamIn, ViewIn, StreamedOk, line, between, part, start_at, log_at, term_at}
+use Rattle.cluster_steps.specs.Lists.{Prefix}
 use Rattle.log_laws.proofs.Plain.Copies.{leads-or-follows}
-use Rattle.log_laws.proofs.Plain.Prefixes.{prefix-trans, prefix-length, prefixes-order, prefix-take, take-prefix}
+use Rattle.cluster_steps.proofs.Prefixes.{prefix-trans, prefix-length, prefixes-order, prefix-take, take-prefix}
 use Rattle.disk_laws.specs.Disks.{AtLeast, Firm, ContentOk, MemberDisk, StreamDisk, DiskOk, Written}
 use Rattle.disk_laws.proofs.Order.{Raise, raise-one, raise-blank}
 use Rattle.disk_laws.proofs.Contents.{member-written}

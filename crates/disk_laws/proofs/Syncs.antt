@@ -12,8 +12,8 @@ use Rattle.cluster_model.specs.Environment.{Environment, NoFault, DiskFails, NoM
 use Rattle.cluster_model.specs.SiteState.{SiteState, Joining}
 use Rattle.cluster_model.specs.Site.{settles}
 use Rattle.cluster_model.specs.Sync.{joiner_owes, may_sync, owes_in, parts_of_sync, after_sync, syncs, stops_so, sync_turn}
-use Rattle.word_laws.specs.Histories.{In}
-use Rattle.word_laws.proofs.Lists.{not-both}
+use Rattle.cluster_steps.specs.Lists.{In}
+use Rattle.cluster_steps.proofs.Lists.{not-both}
 use Rattle.log_laws.specs.Histories.{LogState, Logs, Holds, IsSlot, part, start_at}
 use Rattle.log_laws.proofs.Kept.Moves.{Grown, after}
 use Rattle.disk_laws.specs.Disks.{Firm, Top, ContentOk, DisksHold}

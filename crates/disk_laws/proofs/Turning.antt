@@ -13,12 +13,12 @@ use Rattle.cluster_model.specs.Letters.{Letter, Turn, becomes, sending, only, op
 use Rattle.cluster_model.specs.SiteState.{SiteState, Joining, new_joiner, new_joining, site_term, leads}
 use Rattle.cluster_model.specs.Sync.{stops_so}
 use Rattle.cluster_model.specs.World.{took}
-use Rattle.word_laws.specs.Histories.{In}
-use Rattle.word_laws.proofs.Channels.{took-all}
-use Rattle.word_laws.proofs.Lists.{all-if, all-at, all-from, all-mono, if-true, same-some}
+use Rattle.cluster_steps.specs.Lists.{In}
+use Rattle.cluster_steps.proofs.Channels.{took-all}
+use Rattle.cluster_steps.proofs.Lists.{all-if, all-at, all-from, all-mono, if-true, same-some}
 use Rattle.log_laws.specs.Histories.{LogState, Logs, Holds, IsSlot, HeldOk, CountedOk, part, start_at, term_at}
-use Rattle.log_laws.proofs.Plain.Copies.{leader-view, leads-parts}
-use Rattle.log_laws.proofs.Plain.Prefixes.{prefix-refl}
+use Rattle.cluster_steps.proofs.Leaders.{leader-view, leads-parts}
+use Rattle.cluster_steps.proofs.Prefixes.{prefix-refl}
 use Rattle.log_laws.proofs.Kept.Moves.{Grown, NoStreamStart, after, popped}
 use Rattle.log_laws.proofs.Kept.Plumbing.{here, there}
 use Rattle.log_laws.proofs.Runs.Leading.{leads-runs}

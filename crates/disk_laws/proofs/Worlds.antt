@@ -18,11 +18,11 @@ use Rattle.cluster_model.specs.World.{World, Stopped, Input, first_world, stamp_
 use Rattle.cluster_model.specs.Recover.{starts_anew, stays_stopped}
 use Rattle.cluster_model.specs.Events.{is_actor, is_some_letter, is_shown, is_slot_or_none, may_recover, can, allows, delivered, recovered_with, may_do, happens, step}
 use Rattle.cluster_model.specs.Runs.{Happening, IsRun, has_failed, may_happen, run}
-use Rattle.word_laws.proofs.Lists.{if-false}
+use Rattle.cluster_steps.proofs.Lists.{if-false}
 use Rattle.word_laws.proofs.Worlds.{actor-host, host-apart, memory-runs}
 use Rattle.log_laws.specs.Histories.{Logs, LogState, Holds}
 use Rattle.log_laws.specs.Copies.{log_state, HasLogs}
-use Rattle.log_laws.proofs.Plain.Prefixes.{prefix-trans, prefix-length, prefixes-order, prefix-take}
+use Rattle.cluster_steps.proofs.Prefixes.{prefix-trans, prefix-length, prefixes-order, prefix-take}
 use Rattle.log_laws.proofs.Kept.Moves.{Grown, Onward}
 use Rattle.log_laws.proofs.Kept.Grown.{onward-same}
 use Rattle.log_laws.proofs.Runs.Leading.{Rises, rises-same}

@@ -6,7 +6,7 @@ use Rattle.std.specs.List.{AllByRecursion}
 use Rattle.cluster_model.specs.Disk.{Shown, after_parts, mark_of}
 use Rattle.cluster_model.specs.SiteState.{SiteState, Streamed, Joining, site_term}
 use Rattle.cluster_model.specs.Sync.{content, mark_owed, joiner_parts, joiner_written, member_written, written, parts_of_sync}
-use Rattle.word_laws.proofs.Lists.{none-and-some, same-some, not-both}
+use Rattle.cluster_steps.proofs.Lists.{none-and-some, same-some, not-both}
 use Rattle.log_laws.specs.Histories.{LogState, Holds, HeldOk, part, start_at, term_at}
 use Rattle.disk_laws.specs.Disks.{Firm, ContentOk, MemberDisk, StreamDisk, DiskOk, own_content}
 use Rattle.disk_laws.proofs.Order.{some-after_parts, all-after_parts}

@@ -6,8 +6,9 @@ use Rattle.volt_wire.specs.declared.message.Msg.TheVariants as msg
 use Rattle.cluster_model.specs.Disk.{Content, Shown, mark_of}
 use Rattle.cluster_model.specs.Letters.{Letter}
 use Rattle.cluster_model.specs.SiteState.{SiteState, Streamed, Joining}
-use Rattle.word_laws.specs.Histories.{In, Admitted}
-use Rattle.log_laws.specs.Histories.{LogState, Prefix, Leadership, IsSlot, part, start_at, log_at, term_at, between}
+use Rattle.cluster_steps.specs.Lists.{In, Prefix}
+use Rattle.word_laws.specs.Histories.{Admitted}
+use Rattle.log_laws.specs.Histories.{LogState, Leadership, IsSlot, part, start_at, log_at, term_at, between}
 
 -- ---- how good a content is
 

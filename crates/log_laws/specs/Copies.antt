@@ -7,7 +7,8 @@ use Rattle.cluster_model.specs.SiteState.{Joining, site_term, is_member_site, le
 use Rattle.cluster_model.specs.World.{World, AuthoritativeLog}
 use Rattle.word_laws.specs.Histories as word
 use Rattle.word_laws.specs.Chain.{state_of}
-use Rattle.log_laws.specs.Histories.{Prefix, Leadership, Logs, LogState, Holds}
+use Rattle.cluster_steps.specs.Lists.{Prefix}
+use Rattle.log_laws.specs.Histories.{Leadership, Logs, LogState, Holds}
 
 -- ---- copies of a partition
 

@@ -14,13 +14,8 @@ use Rattle.cluster_model.specs.AgentState.{AgentState, Queued, Job_, Admission}
 use Rattle.cluster_model.specs.SiteState.{SiteState, Streamed, Joining, Held, Joiner, Ask, is_leader, site_term}
 use Rattle.cluster_model.specs.Laws.{RiseFrom, start_in_letter, starts_in}
 use Rattle.word_laws.specs.Histories as word
-use Rattle.word_laws.specs.Histories.{In, State, Admitted, Distinct}
-
--- ---- logs
-
--- a log is a prefix of another one
-abbrev pub Prefix : List Entry → List Entry → Type 0
-Prefix xs ys = (more : List Entry) × (ys ≡ xs ++ more)
+use Rattle.cluster_steps.specs.Lists.{In, Prefix}
+use Rattle.word_laws.specs.Histories.{State, Admitted, Distinct}
 
 -- ---- the history of an epoch, from the boot, or a recovery that worked, to the next one
 

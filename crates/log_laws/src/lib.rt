@@ -7,7 +7,7 @@ ghost use Rattle.std.specs.Prelude.{ℕ, ◌≡◌, ◌<◌, ◌≤◌, ◌⊎�
 ghost use Rattle.cluster_model.specs.World.{Input, first_world};
 ghost use Rattle.cluster_model.specs.Runs.{Happening, IsRun, run};
 ghost use Rattle.word_laws.specs.Chain.{IsOneEpoch};
-ghost use Rattle.log_laws.specs.Histories.{Prefix};
+ghost use Rattle.cluster_steps.specs.Lists.{Prefix};
 ghost use Rattle.log_laws.specs.Copies.{OfOneTerm, AreCopies, Leads, HasLoaded, Follows, LeadsNext, KeepsFirm, IsInAuthoritative, HasLogs, log_of};
 
 use cluster_model::laws::AnyDatabase;

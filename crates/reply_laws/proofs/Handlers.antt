@@ -9,10 +9,10 @@ use Rattle.cluster_model.specs.Words.{Deployment, part_of_slot}
 use Rattle.cluster_model.specs.Letters.{Letter, Turn, becomes, ◌▸◌}
 use Rattle.cluster_model.specs.SiteState.{SiteState, Held, leads}
 use Rattle.cluster_model.specs.Site.{ordered}
-use Rattle.word_laws.proofs.Lists.{all-append, all-mono}
-use Rattle.log_laws.specs.Histories.{Prefix}
-use Rattle.log_laws.proofs.Plain.Prefixes.{prefix-refl, prefix-trans}
-use Rattle.log_laws.proofs.Plain.Lines.{all-order}
+use Rattle.cluster_steps.proofs.Lists.{all-append, all-mono}
+use Rattle.cluster_steps.specs.Lists.{Prefix}
+use Rattle.cluster_steps.proofs.Prefixes.{prefix-refl, prefix-trans}
+use Rattle.cluster_steps.proofs.Sends.{all-order}
 use Rattle.reply_laws.specs.Answers.{Claim, Stands, StandsAt, Tells, HeldAnswer, HoldsAnswers, SentAnswer, TurnAnswers}
 
 -- ---- a log that grows

@@ -9,8 +9,8 @@ use Rattle.cluster_model.specs.Letters.{Blocks, Letter}
 use Rattle.cluster_model.specs.Words.{part_of_slot}
 use Rattle.cluster_model.specs.World.{Input, first_world}
 use Rattle.cluster_model.specs.Runs.{Happening, IsRun, run}
-use Rattle.word_laws.specs.Histories.{In}
-use Rattle.word_laws.proofs.Lists.{all-at}
+use Rattle.cluster_steps.specs.Lists.{In}
+use Rattle.cluster_steps.proofs.Lists.{all-at}
 use Rattle.disk_laws.specs.Survival.{firm_entries}
 use Rattle.reply_laws.specs.Answers.{Tells, is_answer}
 use Rattle.reply_laws.specs.UnderWay.{RepliesTo, AnswersRound, TellsEnd, StandsFirm, CallStandsFirm, RoundStandsFirm, EndStandsFirm, under_way}

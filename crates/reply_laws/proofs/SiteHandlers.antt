@@ -23,10 +23,10 @@ use Rattle.cluster_model.specs.Site.{begins_base, appends, appends_all, passes_o
 use Rattle.cluster_model.specs.Initiator.{end_of_reply}
 use Rattle.cluster_model.specs.Environment.{Environment, NoFault, DiskFails, NoMemory, DisksShow}
 use Rattle.cluster_model.specs.Sync.{written, joiner_written, acknowledges, says_loaded, after_sync, syncs, parts_of_sync, parts_of_message, start_after, stops_so, site_turn, sync_turn}
-use Rattle.word_laws.proofs.Lists.{all-append, all-filter, all-if, all-one, all-at, all-from, in-filter, in-map-from, none-and-some}
-use Rattle.log_laws.specs.Histories.{Prefix}
-use Rattle.log_laws.proofs.Plain.Copies.{leader-view, leads-parts}
-use Rattle.log_laws.proofs.Plain.Prefixes.{prefix-refl, prefix-append, prefix-none}
+use Rattle.cluster_steps.proofs.Lists.{all-append, all-filter, all-if, all-one, all-at, all-from, in-filter, in-map-from, none-and-some}
+use Rattle.cluster_steps.specs.Lists.{Prefix}
+use Rattle.cluster_steps.proofs.Leaders.{leader-view, leads-parts}
+use Rattle.cluster_steps.proofs.Prefixes.{prefix-refl, prefix-append, prefix-none}
 use Rattle.disk_laws.proofs.Handlers.{Plain, PlainWaiting}
 use Rattle.disk_laws.proofs.SiteHandlers.{plain-handler, stays_joiner, as_joiner, as_entered, view-joins, view-enters}
 use Rattle.reply_laws.specs.Answers.{Tells, HeldAnswer, HoldsAnswers, SentAnswer, TurnAnswers}

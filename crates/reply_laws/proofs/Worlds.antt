@@ -21,11 +21,12 @@ use Rattle.cluster_model.specs.World.{World, Input, first_world, stamp_of, set_a
 use Rattle.cluster_model.specs.Recover.{new_base, new_log, new_site, starts_anew}
 use Rattle.cluster_model.specs.Events.{can, allows, delivered, recovered_with, happens, step}
 use Rattle.cluster_model.specs.Runs.{Happening, IsRun, has_failed, may_happen, run}
-use Rattle.word_laws.proofs.Lists.{all-append, all-mono, all-if, all-rest, none-and-some, set-here, set-both}
-use Rattle.log_laws.specs.Histories.{LogState, Prefix, StreamIn, ViewIn, WaitingOk, log_at}
+use Rattle.cluster_steps.proofs.Lists.{all-append, all-mono, all-if, all-rest, none-and-some, set-here, set-both}
+use Rattle.log_laws.specs.Histories.{LogState, StreamIn, ViewIn, WaitingOk, log_at}
+use Rattle.cluster_steps.specs.Lists.{Prefix}
 use Rattle.log_laws.specs.Copies.{HasLogs, log_state}
-use Rattle.log_laws.proofs.Plain.Prefixes.{prefix-trans, prefix-length, prefixes-order, prefix-take, take-short}
-use Rattle.log_laws.proofs.Plain.Copies.{leads-parts}
+use Rattle.cluster_steps.proofs.Prefixes.{prefix-trans, prefix-length, prefixes-order, prefix-take, take-short}
+use Rattle.cluster_steps.proofs.Leaders.{leads-parts}
 use Rattle.log_laws.proofs.Runs.Boots.{first-logs}
 use Rattle.log_laws.proofs.Runs.Lasting.{in-authoritative}
 use Rattle.disk_laws.specs.Survival.{Survives, firm_entries}

@@ -15,7 +15,7 @@ use Rattle.cluster_model.specs.Words.{Deployment, part_of_slot}
 use Rattle.cluster_model.specs.Letters.{Blocks, Letter, Turn}
 use Rattle.cluster_model.specs.SiteState.{SiteState, Held, leads}
 use Rattle.cluster_model.specs.Initiator.{end_of_reply}
-use Rattle.log_laws.specs.Histories.{Prefix}
+use Rattle.cluster_steps.specs.Lists.{Prefix}
 
 -- ---- what is said of an entry
 

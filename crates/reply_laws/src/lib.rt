@@ -9,7 +9,7 @@ ghost use Rattle.volt_wire.specs.declared.end.End.{End};
 ghost use Rattle.cluster_model.specs.Letters.{Letter};
 ghost use Rattle.cluster_model.specs.World.{Input, first_world};
 ghost use Rattle.cluster_model.specs.Runs.{Happening, IsRun, run};
-ghost use Rattle.word_laws.specs.Histories.{In};
+ghost use Rattle.cluster_steps.specs.Lists.{In};
 ghost use Rattle.reply_laws.specs.UnderWay.{RepliesTo, AnswersRound, TellsEnd, CallStandsFirm, RoundStandsFirm, EndStandsFirm, under_way};
 
 use cluster_model::laws::AnyDatabase;

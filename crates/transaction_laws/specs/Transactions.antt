@@ -20,8 +20,8 @@ use Rattle.cluster_model.specs.Initiator.{has_part}
 use Rattle.cluster_model.specs.SiteState.{SiteState, Held, leads}
 use Rattle.cluster_model.specs.Site.{standing, copy_acks, least_of}
 use Rattle.cluster_model.specs.Disk.{Shown, chosen}
-use Rattle.word_laws.specs.Histories.{In}
-use Rattle.log_laws.specs.Histories.{LogState, Prefix, Leadership, WordOf, Addressed, IsSlot, is_for, part, start_at, term_at}
+use Rattle.cluster_steps.specs.Lists.{In, Prefix}
+use Rattle.log_laws.specs.Histories.{LogState, Leadership, WordOf, Addressed, IsSlot, is_for, part, start_at, term_at}
 use Rattle.disk_laws.specs.Disks.{Firm, Top, Shows}
 use Rattle.transaction_laws.specs.Machine.{IsOpen, WellFormed, first_stage, stage}
 

@@ -11,7 +11,7 @@ use Rattle.cluster_model.specs.Log.{nothing_open, open_in}
 use Rattle.cluster_model.specs.Recover.{shown_of}
 use Rattle.cluster_model.specs.Words.{Deployment, slots, parts, initiator}
 use Rattle.cluster_model.specs.World.{World}
-use Rattle.word_laws.specs.Histories.{In}
+use Rattle.cluster_steps.specs.Lists.{In}
 use Rattle.transaction_laws.specs.Machine.{WellFormed, RiseWithin, first_stage, points}
 
 -- a layout that isn't refused

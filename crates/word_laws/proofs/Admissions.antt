@@ -8,8 +8,9 @@ use Rattle.volt_wire.specs.declared.actor.Actor.TheVariants.{Agent}
 use Rattle.volt_wire.specs.declared.message.Msg.TheVariants as msg
 use Rattle.cluster_model.specs.Words.{is_in, initiator, term_of, same_word, with_admitted}
 use Rattle.cluster_model.specs.Letters.{Letter, Sends}
-use Rattle.word_laws.specs.Histories.{In, State, Admitted, Within, Alike, names, start_at, Begun, Runs, Gone, Distinct, Earlier, Falls, GoodWord, ClosesFrom, CameOk, OwnOk, AdmittedOk, IsClosed, Closing, Holds}
-use Rattle.word_laws.proofs.Lists.{some-here, not-both, eqb-same, same-some, all-at}
+use Rattle.cluster_steps.specs.Lists.{In}
+use Rattle.word_laws.specs.Histories.{State, Admitted, Within, Alike, names, start_at, Begun, Runs, Gone, Distinct, Earlier, Falls, GoodWord, ClosesFrom, CameOk, OwnOk, AdmittedOk, IsClosed, Closing, Holds}
+use Rattle.cluster_steps.proofs.Lists.{some-here, not-both, eqb-same, same-some, all-at}
 use Rattle.word_laws.proofs.Algebra.{within-refl, within-with_admitted, with_admitted-admits, names-within, names-admits, same_word-is}
 use Rattle.word_laws.proofs.Moves.{Later}
 use Rattle.word_laws.proofs.Agreement.{term-same, at-good, alike-same, member-of, running-member, runs-not-lost}

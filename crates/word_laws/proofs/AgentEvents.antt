@@ -15,8 +15,9 @@ use Rattle.cluster_model.specs.Agent.{agent_handler, handler_and_word, unless_st
 use Rattle.cluster_model.specs.Environment.{Environment, NoFault, DiskFails, NoMemory, DisksShow}
 use Rattle.cluster_model.specs.World.{took, rest}
 use Rattle.cluster_model.specs.Laws.{start_in_letter, starts_in}
-use Rattle.word_laws.specs.Histories.{In, State, start_at, starts_to, Holds, LetterOk, AskOk, CameOk, QueuedOk, WaitingFrom, WaitingOk, ClosesFrom, InOrder}
-use Rattle.word_laws.proofs.Lists.{all-mono, all-filter, eqb-same, not-both}
+use Rattle.cluster_steps.specs.Lists.{In}
+use Rattle.word_laws.specs.Histories.{State, start_at, starts_to, Holds, LetterOk, AskOk, CameOk, QueuedOk, WaitingFrom, WaitingOk, ClosesFrom, InOrder}
+use Rattle.cluster_steps.proofs.Lists.{all-mono, all-filter, eqb-same, not-both}
 use Rattle.word_laws.proofs.Moves.{Nobody, Anyone, after, popped, Later, BringsWord, asked_by, Heeded, Goes}
 use Rattle.word_laws.proofs.Laters.{ask-later, came-later, closes-later, ask-began, waiting-later}
 use Rattle.word_laws.proofs.Turns.{handler-calm, tells, concludes, stops_with_host-closed}

@@ -5,8 +5,9 @@ use Rattle.std.specs.Prelude.{ℕ, Some}
 use Rattle.std.specs.List.{list_any}
 use Rattle.volt_wire.specs.Word.{Membership}
 use Rattle.cluster_model.specs.Words.{is_in, term_of, start_of, admits, with_admitted}
-use Rattle.word_laws.specs.Histories.{In, State, Within, Alike, Comparable, Admitted, Runs, names, Recorded, GoodWord, Falls, HistoryOk}
-use Rattle.word_laws.proofs.Lists.{not-both, all-at}
+use Rattle.cluster_steps.specs.Lists.{In}
+use Rattle.word_laws.specs.Histories.{State, Within, Alike, Comparable, Admitted, Runs, names, Recorded, GoodWord, Falls, HistoryOk}
+use Rattle.cluster_steps.proofs.Lists.{not-both, all-at}
 use Rattle.word_laws.proofs.Algebra.{HostsOwned, within-cases, within-refl, within-trans, names-first, names-admits, names-cases, names-within, admits-fresh, within-with_admitted-back, with_admitted-admits, alike-is, within-of-term}
 use Rattle.word_laws.proofs.Members.{start_of-named, start_of-greatest, initiator-member, best-within, least-elsewhere}
 

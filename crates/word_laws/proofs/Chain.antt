@@ -6,9 +6,10 @@ use Rattle.cluster_model.specs.Engine.{Database}
 use Rattle.cluster_model.specs.Words.{is_in, term_of, not_lost}
 use Rattle.cluster_model.specs.World.{World, Input, first_world}
 use Rattle.cluster_model.specs.Runs.{Happening, IsRun, run}
-use Rattle.word_laws.specs.Histories.{In, State, Comparable, GoodWord, OwnOk, SaidBy, HistoryOk, names}
+use Rattle.cluster_steps.specs.Lists.{In}
+use Rattle.word_laws.specs.Histories.{State, Comparable, GoodWord, OwnOk, SaidBy, HistoryOk, names}
 use Rattle.word_laws.specs.Chain.{state_of, InEpoch, IsOneEpoch, HasDecided, HasWord, OneStartPerHost}
-use Rattle.word_laws.proofs.Lists.{some-here}
+use Rattle.cluster_steps.proofs.Lists.{some-here}
 use Rattle.word_laws.proofs.Members.{in-not_lost}
 use Rattle.word_laws.proofs.Moves.{Grows}
 use Rattle.word_laws.proofs.Agreement.{said-good, term-same, one-start, hosts-of}

@@ -6,9 +6,11 @@ use Rattle.volt_wire.specs.declared.actor.Actor.TheVariants.{Agent}
 use Rattle.cluster_model.specs.Letters.{Sends}
 use Rattle.cluster_model.specs.AgentState.{AgentState}
 use Rattle.cluster_model.specs.World.{sent}
-use Rattle.word_laws.specs.Histories.{In, State, History, Admitted, names, start_at, Runs, Gone, LetterOk, ClosesFrom, InOrder, ChannelOk, AgentOk, HistoryOk, Closing, Told, Heard, Holds}
-use Rattle.word_laws.proofs.Lists.{all-append, all-mono, set-both}
-use Rattle.word_laws.proofs.Channels.{sent-both, sent-keep, order-append, closing-left}
+use Rattle.cluster_steps.specs.Lists.{In}
+use Rattle.word_laws.specs.Histories.{State, History, Admitted, names, start_at, Runs, Gone, LetterOk, ClosesFrom, InOrder, ChannelOk, AgentOk, HistoryOk, Closing, Told, Heard, Holds}
+use Rattle.cluster_steps.proofs.Lists.{all-append, all-mono, set-both}
+use Rattle.cluster_steps.proofs.Channels.{sent-both, sent-keep}
+use Rattle.word_laws.proofs.Channels.{order-append, closing-left}
 use Rattle.word_laws.proofs.Moves.{OwnLost, after, Later}
 use Rattle.word_laws.proofs.Laters.{letter-later}
 use Rattle.word_laws.proofs.Steps.{host-after, agent-later, came-after}

@@ -8,9 +8,11 @@ use Rattle.volt_wire.specs.declared.message.Msg.TheVariants as msg
 use Rattle.cluster_model.specs.Words.{start_of, admits}
 use Rattle.cluster_model.specs.Letters.{Letter, Sends, open_letter}
 use Rattle.cluster_model.specs.AgentState.{AgentState, initiates}
-use Rattle.word_laws.specs.Histories.{In, OnSome, State, History, Within, Comparable, names, start_at, GoodWord, SaidBy, LetterOk, ClosesFrom, InOrder, QueuedOk, WaitingOk, OwnOk, AgentOk, HistoryOk, Telling, OwnIs, Holds}
-use Rattle.word_laws.proofs.Lists.{all-mono, some-here, set-both, none-and-some}
-use Rattle.word_laws.proofs.Channels.{telling-left, sent-keep}
+use Rattle.cluster_steps.specs.Lists.{In, OnSome}
+use Rattle.word_laws.specs.Histories.{State, History, Within, Comparable, names, start_at, GoodWord, SaidBy, LetterOk, ClosesFrom, InOrder, QueuedOk, WaitingOk, OwnOk, AgentOk, HistoryOk, Telling, OwnIs, Holds}
+use Rattle.cluster_steps.proofs.Lists.{all-mono, some-here, set-both, none-and-some}
+use Rattle.word_laws.proofs.Channels.{telling-left}
+use Rattle.cluster_steps.proofs.Channels.{sent-keep}
 use Rattle.word_laws.proofs.Algebra.{within-refl}
 use Rattle.word_laws.proofs.Moves.{after, Later}
 use Rattle.word_laws.proofs.Agreement.{agrees-with, between-said, running-member}

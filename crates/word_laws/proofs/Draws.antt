@@ -13,9 +13,10 @@ use Rattle.cluster_model.specs.Letters.{same, Letter, Sends, open_letter, only}
 use Rattle.cluster_model.specs.AgentState.{AgentState}
 use Rattle.cluster_model.specs.World.{set_at, took, sent}
 use Rattle.cluster_model.specs.Laws.{RiseFrom, starts_in}
-use Rattle.word_laws.specs.Histories.{In, names, Admitted, State, start_at, Begun, Runs, Gone, HostOk, GoodWord, Unnamed, AskOk, LetterOk, CameOk, QueuedOk, WaitingOk, OwnOk, AgentOk, AdmittedOk, HistoryOk, Told, Heard, Holds}
-use Rattle.word_laws.proofs.Lists.{all-mono, all-append, set-here, set-there, and-false, all-at, some-mono, rise-append, eqb-same, all-from, all-both, list_any-in}
-use Rattle.word_laws.proofs.Channels.{starts-append, starts-all, starts-rise}
+use Rattle.cluster_steps.specs.Lists.{In}
+use Rattle.word_laws.specs.Histories.{names, Admitted, State, start_at, Begun, Runs, Gone, HostOk, GoodWord, Unnamed, AskOk, LetterOk, CameOk, QueuedOk, WaitingOk, OwnOk, AgentOk, AdmittedOk, HistoryOk, Told, Heard, Holds}
+use Rattle.cluster_steps.proofs.Lists.{all-mono, all-append, set-here, set-there, and-false, all-at, some-mono, rise-append, eqb-same, all-from, all-both, list_any-in}
+use Rattle.cluster_steps.proofs.Channels.{starts-append, starts-all, starts-rise}
 use Rattle.word_laws.proofs.Moves.{popped}
 use Rattle.word_laws.proofs.Laters.{waiting-later, queued-later}
 

@@ -14,8 +14,9 @@ use Rattle.cluster_model.specs.Laws.{RiseFrom, starts_in}
 use Rattle.cluster_model.specs.Words.{Deployment, is_host, is_in, not_lost, members, start_of, first_of, initiator}
 use Rattle.cluster_model.specs.World.{hosts_from, new_word, first_initiating, member_agent}
 use Rattle.cluster_model.specs.Recover.{new_channels}
-use Rattle.word_laws.specs.Histories.{In, names, Within, Comparable, History, State, start_at, starts_to, Begun, Gone, HostOk, GoodWord, LetterOk, InOrder, ChannelOk, QueuedOk, IsOff, AgentOk, Falls, HistoryOk, Holds}
-use Rattle.word_laws.proofs.Lists.{all-mono, if-true, if-false, or-false, in-one, only-one, all-one, of-only, all-from, list_all-all, filter-all}
+use Rattle.cluster_steps.specs.Lists.{In}
+use Rattle.word_laws.specs.Histories.{names, Within, Comparable, History, State, start_at, starts_to, Begun, Gone, HostOk, GoodWord, LetterOk, InOrder, ChannelOk, QueuedOk, IsOff, AgentOk, Falls, HistoryOk, Holds}
+use Rattle.cluster_steps.proofs.Lists.{all-mono, if-true, if-false, or-false, in-one, only-one, all-one, of-only, all-from, list_all-all, filter-all}
 use Rattle.word_laws.proofs.Steps.{new_agent-known}
 
 -- ---- the first word

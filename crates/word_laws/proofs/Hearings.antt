@@ -11,8 +11,9 @@ use Rattle.cluster_model.specs.Letters.{same, Letter, Sends, Turn, becomes, â—Œâ
 use Rattle.cluster_model.specs.AgentState.{AgentState, Queued, Admission, new_agent, initiates}
 use Rattle.cluster_model.specs.Agent.{is_other_word, says, is_word, may_decide, decides_word}
 use Rattle.cluster_model.specs.World.{set_at}
-use Rattle.word_laws.specs.Histories.{In, OnSome, State, History, Admitted, names, start_at, GoodWord, SaidBy, ClosesFrom, CameOk, QueuedOk, OwnOk, Holds}
-use Rattle.word_laws.proofs.Lists.{all-mono, all-at, in-cases, some-here, not-both, eqb-same, same-some, set-same}
+use Rattle.cluster_steps.specs.Lists.{In, OnSome}
+use Rattle.word_laws.specs.Histories.{State, History, Admitted, names, start_at, GoodWord, SaidBy, ClosesFrom, CameOk, QueuedOk, OwnOk, Holds}
+use Rattle.cluster_steps.proofs.Lists.{all-mono, all-at, in-cases, some-here, not-both, eqb-same, same-some, set-same}
 use Rattle.word_laws.proofs.Algebra.{same_word-refl, same_word-is, with_admitted-admits, names-admits}
 use Rattle.word_laws.proofs.Members.{members-all, is_member-start, initiates-is}
 use Rattle.word_laws.proofs.Moves.{Nobody, after, Later, Plain, Calm, AdmitsNow, Grows}
@@ -22,7 +23,7 @@ use Rattle.word_laws.proofs.Steps.{later-after, calm-holds, after-after, came-tu
 use Rattle.word_laws.proofs.OwnWords.{said_more, said-both, said_to}
 use Rattle.word_laws.proofs.Decisions.{decides-holds}
 use Rattle.word_laws.proofs.Admissions.{admits-holds, fresh}
-use Rattle.word_laws.proofs.Channels.{sent-nothing}
+use Rattle.cluster_steps.proofs.Channels.{sent-nothing}
 
 -- ---- turns, one behind the other
 

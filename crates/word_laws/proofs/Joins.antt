@@ -8,9 +8,11 @@ use Rattle.volt_wire.specs.declared.actor.Actor.TheVariants.{Agent}
 use Rattle.cluster_model.specs.Words.{is_in, admits}
 use Rattle.cluster_model.specs.Letters.{Letter, Sends}
 use Rattle.cluster_model.specs.AgentState.{AgentState}
-use Rattle.word_laws.specs.Histories.{In, OnSome, State, Admitted, Within, names, start_at, Begun, Runs, GoodWord, SaidBy, LetterOk, ClosesFrom, InOrder, Earlier, CameOk, QueuedOk, WaitingOk, OwnOk, AgentOk, Telling, OwnIs, Told, Holds}
-use Rattle.word_laws.proofs.Lists.{all-mono, some-here, some-mono, not-both, set-both, same-some, none-and-some}
-use Rattle.word_laws.proofs.Channels.{sent-keep, telling-left}
+use Rattle.cluster_steps.specs.Lists.{In, OnSome}
+use Rattle.word_laws.specs.Histories.{State, Admitted, Within, names, start_at, Begun, Runs, GoodWord, SaidBy, LetterOk, ClosesFrom, InOrder, Earlier, CameOk, QueuedOk, WaitingOk, OwnOk, AgentOk, Telling, OwnIs, Told, Holds}
+use Rattle.cluster_steps.proofs.Lists.{all-mono, some-here, some-mono, not-both, set-both, same-some, none-and-some}
+use Rattle.cluster_steps.proofs.Channels.{sent-keep}
+use Rattle.word_laws.proofs.Channels.{telling-left}
 use Rattle.word_laws.proofs.Algebra.{names-within}
 use Rattle.word_laws.proofs.Moves.{OwnLost, OwnAdmits, after, Later}
 use Rattle.word_laws.proofs.Agreement.{runs-not-lost}

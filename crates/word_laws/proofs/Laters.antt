@@ -9,8 +9,9 @@ use Rattle.volt_wire.specs.declared.message.Msg.TheVariants as msg
 use Rattle.cluster_model.specs.Words.{start_of, with_admitted}
 use Rattle.cluster_model.specs.Letters.{Letter}
 use Rattle.cluster_model.specs.AgentState.{Queued, Job_, Admission}
-use Rattle.word_laws.specs.Histories.{In, State, Admitted, Recorded, GoodWord, SaidBy, Unnamed, AskOk, LetterOk, ClosesFrom, InOrder, CameOk, QueuedOk, WaitingFrom, OwnOk, AdmittedOk}
-use Rattle.word_laws.proofs.Lists.{all-mono}
+use Rattle.cluster_steps.specs.Lists.{In}
+use Rattle.word_laws.specs.Histories.{State, Admitted, Recorded, GoodWord, SaidBy, Unnamed, AskOk, LetterOk, ClosesFrom, InOrder, CameOk, QueuedOk, WaitingFrom, OwnOk, AdmittedOk}
+use Rattle.cluster_steps.proofs.Lists.{all-mono}
 use Rattle.word_laws.proofs.Moves.{Later}
 
 -- ---- what is so in S is so in a later T

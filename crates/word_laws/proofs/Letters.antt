@@ -11,8 +11,9 @@ use Rattle.cluster_model.specs.Words.{is_in, is_member, admits, union, with_lost
 use Rattle.cluster_model.specs.Letters.{same, Letter, Turn, becomes, ◌▸◌}
 use Rattle.cluster_model.specs.AgentState.{AgentState, new_agent, stops, stops_with_host}
 use Rattle.cluster_model.specs.Agent.{is_other_word, says, on_closed, on_word, on_decided, takes_word}
-use Rattle.word_laws.specs.Histories.{In, OnSome, State, Admitted, Within, names, start_at, Gone, GoodWord, SaidBy, LetterOk, OwnOk, Telling, Holds}
-use Rattle.word_laws.proofs.Lists.{some-here, not-both, eqb-same, same-some}
+use Rattle.cluster_steps.specs.Lists.{In, OnSome}
+use Rattle.word_laws.specs.Histories.{State, Admitted, Within, names, start_at, Gone, GoodWord, SaidBy, LetterOk, OwnOk, Telling, Holds}
+use Rattle.cluster_steps.proofs.Lists.{some-here, not-both, eqb-same, same-some}
 use Rattle.word_laws.proofs.Algebra.{within-with_lost, within-union-left, within-union-right, in-with_lost, with_lost-in, lost-union, names-within}
 use Rattle.word_laws.proofs.Members.{is_member-start}
 use Rattle.word_laws.proofs.Moves.{Nobody, OwnLost, after, popped, Later, Heeded}

@@ -1,4 +1,3 @@
-pub mod Lists
 pub mod Channels
 pub mod Algebra
 pub mod Members

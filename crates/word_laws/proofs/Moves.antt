@@ -10,7 +10,8 @@ use Rattle.cluster_model.specs.Words.{is_in, term_of, same_word, admits, with_ad
 use Rattle.cluster_model.specs.Letters.{Letter, Sends, Turn}
 use Rattle.cluster_model.specs.AgentState.{AgentState, Queued, Admission}
 use Rattle.cluster_model.specs.World.{took, sent, set_at}
-use Rattle.word_laws.specs.Histories.{In, State, History, Admitted, Begun, Gone, IsOff, OwnIs, Earlier, Holds, start_at, names}
+use Rattle.cluster_steps.specs.Lists.{In}
+use Rattle.word_laws.specs.Histories.{State, History, Admitted, Begun, Gone, IsOff, OwnIs, Earlier, Holds, start_at, names}
 
 -- ---- states
 

@@ -10,9 +10,11 @@ use Rattle.cluster_model.specs.Words.{is_in, start_of, is_member, admits}
 use Rattle.cluster_model.specs.Letters.{Letter, Sends, letter_to}
 use Rattle.cluster_model.specs.AgentState.{AgentState}
 use Rattle.cluster_model.specs.Agent.{word_to}
-use Rattle.word_laws.specs.Histories.{In, OnSome, State, History, Admitted, Within, Alike, names, start_at, Runs, GoodWord, SaidBy, LetterOk, ClosesFrom, InOrder, CameOk, QueuedOk, WaitingOk, OwnOk, AgentOk, Falls, AdmittedOk, HistoryOk, IsClosed, Telling, OwnIs, Told, Holds}
-use Rattle.word_laws.proofs.Lists.{all-mono, some-here, some-mono, not-both, eqb-same, same-some, none-and-some, set-both}
-use Rattle.word_laws.proofs.Channels.{telling-left, telling-end, sent-keep}
+use Rattle.cluster_steps.specs.Lists.{In, OnSome}
+use Rattle.word_laws.specs.Histories.{State, History, Admitted, Within, Alike, names, start_at, Runs, GoodWord, SaidBy, LetterOk, ClosesFrom, InOrder, CameOk, QueuedOk, WaitingOk, OwnOk, AgentOk, Falls, AdmittedOk, HistoryOk, IsClosed, Telling, OwnIs, Told, Holds}
+use Rattle.cluster_steps.proofs.Lists.{all-mono, some-here, some-mono, not-both, eqb-same, same-some, none-and-some, set-both}
+use Rattle.word_laws.proofs.Channels.{telling-left, telling-end}
+use Rattle.cluster_steps.proofs.Channels.{sent-keep}
 use Rattle.word_laws.proofs.Algebra.{within-trans, names-within}
 use Rattle.word_laws.proofs.Members.{start-is_member}
 use Rattle.word_laws.proofs.Moves.{after, Later}

@@ -13,8 +13,9 @@ use Rattle.cluster_model.specs.AgentState.{AgentState, new_agent, stops_with_hos
 use Rattle.cluster_model.specs.Agent.{on_start}
 use Rattle.cluster_model.specs.World.{set_at, took, rest}
 use Rattle.cluster_model.specs.Laws.{RiseFrom, starts_in}
-use Rattle.word_laws.specs.Histories.{In, names, Admitted, History, State, start_at, starts_to, Begun, Runs, Gone, Earlier, HostOk, GoodWord, Unnamed, LetterOk, ClosesFrom, InOrder, ChannelOk, CameOk, AgentOk, HistoryOk, Telling, Closing, Told, Heard, Holds}
-use Rattle.word_laws.proofs.Lists.{all-mono, all-append, all-if, all-at, and-false, set-here, set-there, set-both, rise-lower, in-none, all-both, rise-above}
+use Rattle.cluster_steps.specs.Lists.{In}
+use Rattle.word_laws.specs.Histories.{names, Admitted, History, State, start_at, starts_to, Begun, Runs, Gone, Earlier, HostOk, GoodWord, Unnamed, LetterOk, ClosesFrom, InOrder, ChannelOk, CameOk, AgentOk, HistoryOk, Telling, Closing, Told, Heard, Holds}
+use Rattle.cluster_steps.proofs.Lists.{all-mono, all-append, all-if, all-at, and-false, set-here, set-there, set-both, rise-lower, in-none, all-both, rise-above}
 use Rattle.word_laws.proofs.Channels.{telling-left, closing-left}
 use Rattle.word_laws.proofs.Moves.{OwnLost, OwnAdmits, Later, Grows, Goes, after, popped}
 use Rattle.word_laws.proofs.Laters.{letter-later, came-later, closes-later, ask-began, order-later}

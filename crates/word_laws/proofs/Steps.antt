@@ -14,9 +14,11 @@ use Rattle.cluster_model.specs.Letters.{same, Letter, Sends, Turn, Waiting, open
 use Rattle.cluster_model.specs.AgentState.{AgentState, Queued, Job_, Admission, initiates, is_initiator_in, new_agent}
 use Rattle.cluster_model.specs.World.{took, sent, rest, set_at}
 use Rattle.cluster_model.specs.Laws.{RiseFrom, starts_in}
-use Rattle.word_laws.specs.Histories.{In, OnSome, State, History, Admitted, Begun, Runs, Gone, Earlier, Distinct, HostOk, GoodWord, SaidBy, Unnamed, LetterOk, ClosesFrom, InOrder, CameOk, QueuedOk, WaitingFrom, WaitingOk, IsOff, OwnOk, AgentOk, HistoryOk, Tells, IsClosed, Telling, Closing, OwnIs, Told, Heard, Holds, names, start_at, starts_to}
-use Rattle.word_laws.proofs.Lists.{all-append, all-mono, all-at, all-from, in-cases, some-here, some-mono, all-filter, set-twice}
-use Rattle.word_laws.proofs.Channels.{telling-left, closing-left, closing-right, order-append, order-rest, sent-both, sent-keep, taken-both, took-starts, took-all, sent-twice}
+use Rattle.cluster_steps.specs.Lists.{In, OnSome}
+use Rattle.word_laws.specs.Histories.{State, History, Admitted, Begun, Runs, Gone, Earlier, Distinct, HostOk, GoodWord, SaidBy, Unnamed, LetterOk, ClosesFrom, InOrder, CameOk, QueuedOk, WaitingFrom, WaitingOk, IsOff, OwnOk, AgentOk, HistoryOk, Tells, IsClosed, Telling, Closing, OwnIs, Told, Heard, Holds, names, start_at, starts_to}
+use Rattle.cluster_steps.proofs.Lists.{all-append, all-mono, all-at, all-from, in-cases, some-here, some-mono, all-filter, set-twice}
+use Rattle.word_laws.proofs.Channels.{telling-left, closing-left, closing-right, order-append, order-rest}
+use Rattle.cluster_steps.proofs.Channels.{sent-both, sent-keep, taken-both, took-starts, took-all, sent-twice}
 use Rattle.word_laws.proofs.Moves.{OwnLost, OwnAdmits, Later, after, popped, Plain, Calm, Heeded}
 use Rattle.word_laws.proofs.Laters.{good-later, letter-later, own-later, said_by-later, admitted_ok-later, unnamed-later, came-later, waiting-later, queued-later}
 

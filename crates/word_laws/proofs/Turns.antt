@@ -17,8 +17,9 @@ use Rattle.cluster_model.specs.Letters.{Blocks, same, Letter, Turn, becomes, sen
 use Rattle.cluster_model.specs.AgentState.{AgentState, Phase, Off, Hears, Closes, Idle, Works, Work, Job, RunCall, TakeSnapshot, Queued, Job_, Admission, Heard, Initiating, initiates, answers_client, on_reply, stops, stops_with_host}
 use Rattle.cluster_model.specs.Initiator.{to_all_leaders, begins, admitting, works_queue, if_idle, queues, answers, no_work, with_work, with_phase, all_finished, open_told, rests, ends_job, goes_on, feeds, ends_round, gathers, on_frag_done, settles, on_finished, done_to, closes_open, first_number, hears, on_mp_state}
 use Rattle.cluster_model.specs.Agent.{to_slot, to_partition, to_initiator, hands_on, unless_down, on_call, on_hello, on_decided, asks_initiator, has_loaded, on_loaded, is_other_word, says, decides_word, is_word, may_decide, from_agent, from_site, from_director, from_client, agent_handler}
-use Rattle.word_laws.specs.Histories.{In, IsOff}
-use Rattle.word_laws.proofs.Lists.{all-append, all-if, same-some, in-left, in-right, in-cases}
+use Rattle.cluster_steps.specs.Lists.{In}
+use Rattle.word_laws.specs.Histories.{IsOff}
+use Rattle.cluster_steps.proofs.Lists.{all-append, all-if, same-some, in-left, in-right, in-cases}
 use Rattle.word_laws.proofs.Algebra.{same_word-is}
 use Rattle.word_laws.proofs.Moves.{Plain, AdmitsNow, Calm, asked_by, BringsWord}
 

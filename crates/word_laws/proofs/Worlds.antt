@@ -28,8 +28,8 @@ use Rattle.cluster_model.specs.Laws.{starts_in}
 use Rattle.cluster_model.proofs.Starts.{takes-next}
 use Rattle.word_laws.specs.Histories.{History, Holds}
 use Rattle.word_laws.specs.Chain.{state_of, InEpoch, renews_by, renews_at, renews}
-use Rattle.word_laws.proofs.Lists.{if-false}
-use Rattle.word_laws.proofs.Channels.{starts-if, stops_all-starts}
+use Rattle.cluster_steps.proofs.Lists.{if-false}
+use Rattle.cluster_steps.proofs.Channels.{starts-if, stops_all-starts}
 use Rattle.word_laws.proofs.Moves.{Grows}
 use Rattle.word_laws.proofs.Steps.{channel-holds}
 use Rattle.word_laws.proofs.Epochs.{new_history, new_owner, boot-holds, recovery-holds}

@@ -9,7 +9,8 @@ use Rattle.cluster_model.specs.AgentState.{new_agent}
 use Rattle.cluster_model.specs.Environment.{Environment, DisksShow}
 use Rattle.cluster_model.specs.World.{World}
 use Rattle.cluster_model.specs.Runs.{Happening}
-use Rattle.word_laws.specs.Histories.{In, State, History, Holds}
+use Rattle.cluster_steps.specs.Lists.{In}
+use Rattle.word_laws.specs.Histories.{State, History, Holds}
 
 -- ---- epochs
 

@@ -10,18 +10,7 @@ use Rattle.cluster_model.specs.Words.{Deployment, is_host, is_in, term_of, start
 use Rattle.cluster_model.specs.Letters.{Letter, Waiting}
 use Rattle.cluster_model.specs.AgentState.{AgentState, Phase, Off, Hears, Closes, Idle, Works, Queued, Job_, Admission, initiates}
 use Rattle.cluster_model.specs.Laws.{RiseFrom, starts_in}
-
--- ---- lists and choices
-
--- x is one of these
-abbrev pub In : {A : Type 0} → A → List A → Type 0
-In x [] = ⊥
-In x (y ∷ ys) = (y ≡ x) ⊎ In x ys
-
--- this holds of the value, if there is one
-abbrev pub OnSome : {A : Type 0} → (A → Type 0) → Option A → Type 0
-OnSome P None = Unit {0}
-OnSome P (Some x) = P x
+use Rattle.cluster_steps.specs.Lists.{In, OnSome}
 
 -- ---- words
 

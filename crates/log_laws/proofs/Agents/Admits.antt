@@ -13,10 +13,11 @@ use Rattle.cluster_model.specs.Letters.{same, Letter, Sends, Turn, becomes, send
 use Rattle.cluster_model.specs.AgentState.{AgentState, Queued, Job_, Admission}
 use Rattle.cluster_model.specs.Agent.{asks_initiator, has_loaded, on_loaded}
 use Rattle.cluster_model.specs.World.{took}
-use Rattle.word_laws.specs.Histories.{In, History, Admitted}
-use Rattle.word_laws.proofs.Lists.{all-mono, all-append, all-if, list_all-at, filter-in, set-both}
+use Rattle.cluster_steps.specs.Lists.{In}
+use Rattle.word_laws.specs.Histories.{History, Admitted}
+use Rattle.cluster_steps.proofs.Lists.{all-mono, all-append, all-if, list_all-at, filter-in, set-both}
 use Rattle.word_laws.proofs.Algebra.{in-with_number}
-use Rattle.word_laws.proofs.Channels.{sent-both, took-all}
+use Rattle.cluster_steps.proofs.Channels.{sent-both, took-all}
 use Rattle.word_laws.proofs.Moves as word
 use Rattle.word_laws.proofs.Moves.{asked_by}
 use Rattle.log_laws.specs.Histories.{LogState, LoadedOk, AllLoaded, ToldOk, AskedOk, QueuedOk, LoadsOk}

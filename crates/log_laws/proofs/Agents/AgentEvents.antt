@@ -16,8 +16,9 @@ use Rattle.cluster_model.specs.World.{rest}
 use Rattle.cluster_model.specs.Laws.{start_in_letter, starts_in}
 use Rattle.cluster_model.specs.Environment.{Environment, NoFault, DiskFails, NoMemory, DisksShow}
 use Rattle.word_laws.specs.Histories as word
-use Rattle.word_laws.specs.Histories.{In, History, Admitted, CameOk, WaitingFrom, WaitingOk}
-use Rattle.word_laws.proofs.Lists.{all-mono, all-append, all-filter, all-if}
+use Rattle.cluster_steps.specs.Lists.{In}
+use Rattle.word_laws.specs.Histories.{History, Admitted, CameOk, WaitingFrom, WaitingOk}
+use Rattle.cluster_steps.proofs.Lists.{all-mono, all-append, all-filter, all-if}
 use Rattle.word_laws.proofs.Moves as word_moves
 use Rattle.word_laws.proofs.Moves.{Grows}
 use Rattle.word_laws.proofs.Laters.{waiting-later}

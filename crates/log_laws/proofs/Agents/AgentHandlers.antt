@@ -12,8 +12,8 @@ use Rattle.cluster_model.specs.Letters.{Letter, Turn, becomes, ◌▸◌}
 use Rattle.cluster_model.specs.AgentState.{AgentState, Queued, Job_, Admission, new_agent, stops_with_host}
 use Rattle.cluster_model.specs.Agent.{agent_handler, on_closed, on_word, on_loaded, on_decided}
 use Rattle.word_laws.specs.Histories as word
-use Rattle.word_laws.specs.Histories.{In}
-use Rattle.word_laws.proofs.Lists.{all-mono, all-append, all-at, all-from, in-left, in-cases}
+use Rattle.cluster_steps.specs.Lists.{In}
+use Rattle.cluster_steps.proofs.Lists.{all-mono, all-append, all-at, all-from, in-left, in-cases}
 use Rattle.word_laws.proofs.Moves.{Calm, asked_by}
 use Rattle.word_laws.proofs.Turns.{handler-calm, tells, tells-state, on_decided-joiner}
 use Rattle.word_laws.proofs.Hearings.{Handler}

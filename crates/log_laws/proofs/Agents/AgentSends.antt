@@ -15,7 +15,7 @@ use Rattle.cluster_model.specs.Letters.{Blocks, same, Letter, Turn, becomes, sen
 use Rattle.cluster_model.specs.AgentState.{AgentState, Phase, Off, Hears, Closes, Idle, Works, Work, Job, RunCall, TakeSnapshot, Queued, Job_, Admission, Heard, answers_client, on_reply, stops, stops_with_host}
 use Rattle.cluster_model.specs.Initiator.{to_leader, to_leaders, to_all_leaders, begins, admitting, works_queue, if_idle, queues, answers, no_work, with_work, with_phase, all_finished, open_told, rests, ends_job, goes_on, feeds, ends_round, gathers, on_frag_done, settles, on_finished, done_to, closes_open, greatest_told, first_number, hears, on_mp_state}
 use Rattle.cluster_model.specs.Agent.{to_slot, to_partition, to_initiator, hands_on, unless_down, on_call, on_closed, on_word, on_hello, says, word_to, from_agent, from_site, from_director, from_client, agent_handler}
-use Rattle.word_laws.proofs.Lists.{all-append, all-if}
+use Rattle.cluster_steps.proofs.Lists.{all-append, all-if}
 use Rattle.word_laws.proofs.Turns.{tells}
 
 -- to a site: neither its start nor a word, nor a stream

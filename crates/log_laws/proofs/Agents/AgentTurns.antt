@@ -10,9 +10,10 @@ use Rattle.cluster_model.specs.Words.{host_of_slot, is_in, term_of, term_in}
 use Rattle.cluster_model.specs.Letters.{Letter, Sends, Turn, becomes, ◌▸◌}
 use Rattle.cluster_model.specs.AgentState.{AgentState, new_agent}
 use Rattle.word_laws.specs.Histories as word
-use Rattle.word_laws.specs.Histories.{In, History, Admitted}
-use Rattle.word_laws.proofs.Lists.{all-mono, all-append}
-use Rattle.word_laws.proofs.Channels.{sent-both}
+use Rattle.cluster_steps.specs.Lists.{In}
+use Rattle.word_laws.specs.Histories.{History, Admitted}
+use Rattle.cluster_steps.proofs.Lists.{all-mono, all-append}
+use Rattle.cluster_steps.proofs.Channels.{sent-both}
 use Rattle.word_laws.proofs.Moves as word_moves
 use Rattle.word_laws.proofs.Moves.{Grows}
 use Rattle.word_laws.proofs.Worlds.{grows-same}

@@ -12,8 +12,9 @@ use Rattle.cluster_model.specs.AgentState.{AgentState, Hears, Off, new_agent, in
 use Rattle.cluster_model.specs.Initiator.{with_phase}
 use Rattle.cluster_model.specs.Agent.{takes_word, decides_word, may_decide}
 use Rattle.word_laws.specs.Histories as word
-use Rattle.word_laws.specs.Histories.{In, names}
-use Rattle.word_laws.proofs.Lists.{all-mono, all-append, some-here, none-and-some, in-none}
+use Rattle.cluster_steps.specs.Lists.{In}
+use Rattle.word_laws.specs.Histories.{names}
+use Rattle.cluster_steps.proofs.Lists.{all-mono, all-append, some-here, none-and-some, in-none}
 use Rattle.word_laws.proofs.Members.{is_member-start}
 use Rattle.word_laws.proofs.Hearings.{Handler, handler-grows, agent-there, decides-handler}
 use Rattle.word_laws.proofs.Rejoins.{with_began, start-grows}

@@ -7,8 +7,9 @@ use Rattle.std.specs.List.{list_all}
 use Rattle.volt_wire.specs.Word.{Membership}
 use Rattle.cluster_model.specs.Words.{term_of, members, is_member}
 use Rattle.cluster_model.specs.Agent.{is_word, may_decide}
-use Rattle.word_laws.specs.Histories.{In, State, Within, Falls, GoodWord, OwnOk, HistoryOk, Holds, start_at, names}
-use Rattle.word_laws.proofs.Lists.{some-here, all-at, not-both, none-and-some}
+use Rattle.cluster_steps.specs.Lists.{In}
+use Rattle.word_laws.specs.Histories.{State, Within, Falls, GoodWord, OwnOk, HistoryOk, Holds, start_at, names}
+use Rattle.cluster_steps.proofs.Lists.{some-here, all-at, not-both, none-and-some}
 use Rattle.word_laws.proofs.Algebra.{firsts, subset-length, within-refl, within-of-term, same_word-refl, names-within, admits-firsts}
 use Rattle.word_laws.proofs.Members.{is_member-start}
 use Rattle.word_laws.proofs.Agreement.{alike-same, one-first, member-is, running-member}

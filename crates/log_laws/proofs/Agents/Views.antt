@@ -12,9 +12,10 @@ use Rattle.cluster_model.specs.Words.{host_of_slot, start_of_slot, term_of, term
 use Rattle.cluster_model.specs.Letters.{Letter, Sends, open_letter, letter_to}
 use Rattle.cluster_model.specs.AgentState.{AgentState}
 use Rattle.cluster_model.specs.Laws.{RiseFrom, start_in_letter, starts_in}
-use Rattle.word_laws.specs.Histories.{In, History}
-use Rattle.word_laws.proofs.Lists.{all-mono, all-append, eqb-same, in-left, in-right, in-cases, none-and-some, set-here, set-there, rise-append}
-use Rattle.word_laws.proofs.Channels.{starts-append, sent-both}
+use Rattle.cluster_steps.specs.Lists.{In}
+use Rattle.word_laws.specs.Histories.{History}
+use Rattle.cluster_steps.proofs.Lists.{all-mono, all-append, eqb-same, in-left, in-right, in-cases, none-and-some, set-here, set-there, rise-append}
+use Rattle.cluster_steps.proofs.Channels.{starts-append, sent-both}
 use Rattle.word_laws.proofs.Moves as word
 use Rattle.word_laws.proofs.Moves.{Grows}
 use Rattle.log_laws.specs.Histories.{LogState, view_in, view_of, views, MemberViews, FirstViews, RunViews, Starting, ViewsOk, sent_term, start_at, term_at, from_agent}

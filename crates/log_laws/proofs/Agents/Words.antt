@@ -14,7 +14,7 @@ use Rattle.cluster_model.specs.Disk.{Shown}
 use Rattle.cluster_model.specs.Letters.{Letter, Waiting}
 use Rattle.cluster_model.specs.SiteState.{Streamed, Joining, Joiner}
 use Rattle.word_laws.specs.Histories.{State}
-use Rattle.word_laws.proofs.Lists.{all-mono}
+use Rattle.cluster_steps.proofs.Lists.{all-mono}
 use Rattle.word_laws.proofs.Moves.{Grows}
 use Rattle.log_laws.specs.Histories.{LogState, Entered, Streaming, Leadership, Flow, IsSlot, HasBeen, AckOk, ReportOk, AskOk, CountedOk, EndOk, SiteLetterOk, MemberOk, Coming, Took, Inert, Untaken, StreamIn, InWord, Wordless, ViewIn, JoinerOk, WaitingFrom, WaitingOk, KeepsOk, SiteOk, Came, EnteredOk, StreamedOk, LeadershipOk, UnledOk, WordOf, Holds, base_of, part, start_at, term_at, between, flow}
 

@@ -15,7 +15,7 @@ use Rattle.cluster_model.specs.Letters.{Blocks, Letter, Turn, becomes, ◌▸◌
 use Rattle.cluster_model.specs.SiteState.{SiteState, AskedCall, site_term, leads}
 use Rattle.cluster_model.specs.Site.{leads_with, holds, holds_for, initiator_in, runs_call, runs_calls, works_calls, on_sp_call, on_frag, on_done}
 use Rattle.cluster_model.specs.Initiator.{end_of_reply}
-use Rattle.word_laws.proofs.Lists.{all-append}
+use Rattle.cluster_steps.proofs.Lists.{all-append}
 use Rattle.log_laws.specs.Histories.{LogState, HeldOk, HeldFor, Holds, start_at}
 use Rattle.log_laws.proofs.Kept.Moves.{Goes}
 use Rattle.log_laws.proofs.Kept.Plumbing.{GoesFrom, goes-then, goes-same}

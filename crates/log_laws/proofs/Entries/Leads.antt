@@ -12,11 +12,13 @@ use Rattle.cluster_model.specs.Words.{Deployment, is_in, leader, start_of_slot, 
 use Rattle.cluster_model.specs.SiteState.{SiteState, Joining, Joiner, Scanning, site_term, start_in_view, is_leader, leads, other_copies}
 use Rattle.cluster_model.specs.Letters.{Sends}
 use Rattle.cluster_model.specs.Site.{leads_with}
-use Rattle.word_laws.specs.Histories.{In}
-use Rattle.word_laws.proofs.Lists.{all-append, not-both, same-some, none-and-some, all-at, set-both}
-use Rattle.log_laws.specs.Histories.{LogState, Logs, Leadership, Prefix, Line, Repairs, Puts, Flow, Begins, Follows, FollowsIn, LeadsIn, Coming, Took, Inert, InWord, JoinerOk, MemberOk, CountedOk, IsCounted, IsSlot, SiteLetterOk, ForeignOk, ToldOk, BeginsAt, Holds, follows, line, flow, ends, asked, asks_in, asks_waiting, asks_of_term, between, part, start_at, log_at, term_at}
-use Rattle.log_laws.proofs.Plain.Lines.{line-append, line-same, flow-append, flow-same, ends-same, puts-append, follows-append, put_letter, task_letter}
-use Rattle.log_laws.proofs.Plain.Copies.{leader-follows-none, leads-parts, leader-view, is-leader, start-in-view, other-copy, copy-other, follows-part, follows-one, leader-followed}
+use Rattle.cluster_steps.specs.Lists.{In, Prefix}
+use Rattle.cluster_steps.proofs.Lists.{all-append, not-both, same-some, none-and-some, all-at, set-both}
+use Rattle.log_laws.specs.Histories.{LogState, Logs, Leadership, Line, Repairs, Puts, Flow, Begins, Follows, FollowsIn, LeadsIn, Coming, Took, Inert, InWord, JoinerOk, MemberOk, CountedOk, IsCounted, IsSlot, SiteLetterOk, ForeignOk, ToldOk, BeginsAt, Holds, follows, line, flow, ends, asked, asks_in, asks_waiting, asks_of_term, between, part, start_at, log_at, term_at}
+use Rattle.log_laws.proofs.Plain.Lines.{line-append, line-same, flow-append, flow-same, ends-same, puts-append, follows-append}
+use Rattle.cluster_steps.proofs.Sends.{put_letter, task_letter}
+use Rattle.log_laws.proofs.Plain.Copies.{leader-follows-none, is-leader, start-in-view, other-copy, copy-other, follows-part, follows-one, leader-followed}
+use Rattle.cluster_steps.proofs.Leaders.{leads-parts, leader-view}
 use Rattle.log_laws.proofs.Kept.Moves.{Grown, Later, SameLeaderships, NoStreamStart, Goes, after}
 use Rattle.log_laws.proofs.Kept.Grown.{grown-at, enters-same}
 use Rattle.log_laws.proofs.Kept.Plumbing.{sent-either, here, there, between-here, between-there}
@@ -25,8 +27,9 @@ use Rattle.log_laws.proofs.Kept.Asked.{at-most-is}
 use Rattle.log_laws.proofs.Kept.Keeps.{Still, SameFrom, SameTerm, SameRun, Uncounted, still-same, member-keeps-from, counted-from, inert-keeps, coming-keeps, took-keeps, in_word-keeps-with, joiner-keeps-with}
 use Rattle.log_laws.proofs.Kept.Turned.{put_at, put-both, put-here, put-there}
 use Rattle.log_laws.proofs.Kept.Growing.{Carries, grew-later, grew-member, grew-holds}
-use Rattle.log_laws.proofs.Plain.Prefixes.{prefix-append, prefix-length}
-use Rattle.log_laws.proofs.Plain.Appends.{grown, Passed, leads-with, passed-line, passed-line-other, passed-flow, passed-flow-other, passed-ends, passed-all, passed-follows}
+use Rattle.cluster_steps.proofs.Prefixes.{prefix-append, prefix-length}
+use Rattle.cluster_steps.proofs.Appends.{grown, Passed, leads-with}
+use Rattle.log_laws.proofs.Plain.Appends.{passed-line, passed-line-other, passed-flow, passed-flow-other, passed-ends, passed-all, passed-follows}
 
 -- ---- the history of the leader's term
 

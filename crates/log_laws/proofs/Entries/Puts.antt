@@ -14,10 +14,10 @@ use Rattle.cluster_model.specs.Letters.{same, Letter, Sends}
 use Rattle.cluster_model.specs.SiteState.{SiteState, Joining, Joiner, Scanning, site_term}
 use Rattle.cluster_model.specs.Site.{on_put, on_repair}
 use Rattle.cluster_model.specs.World.{took, sent, rest}
-use Rattle.word_laws.specs.Histories.{In}
-use Rattle.word_laws.proofs.Lists.{and-false, eqb-same, if-false, not-both, same-some, set-here, set-there, set-both}
-use Rattle.word_laws.proofs.Channels.{took-all}
-use Rattle.log_laws.specs.Histories.{LogState, Leadership, Prefix, Line, Puts, Repairs, FollowsIn, JoinerOk, ViewIn, MemberOk, Reached, ForeignOk, ToldOk, SiteLetterOk, BeginsAt, Holds, line_in, flow_in, ask_in, follows, line, flow, ends, asks_in, asks_waiting, asks_of_term, asked, between, part, start_at, term_at, log_at}
+use Rattle.cluster_steps.specs.Lists.{In, Prefix}
+use Rattle.cluster_steps.proofs.Lists.{and-false, eqb-same, if-false, not-both, same-some, set-here, set-there, set-both}
+use Rattle.cluster_steps.proofs.Channels.{took-all}
+use Rattle.log_laws.specs.Histories.{LogState, Leadership, Line, Puts, Repairs, FollowsIn, JoinerOk, ViewIn, MemberOk, Reached, ForeignOk, ToldOk, SiteLetterOk, BeginsAt, Holds, line_in, flow_in, ask_in, follows, line, flow, ends, asks_in, asks_waiting, asks_of_term, asked, between, part, start_at, term_at, log_at}
 use Rattle.log_laws.proofs.Plain.Lines.{puts-cons, puts-not-repairs, repairs-not-put, repairs-same, line-here, flow-plain, asks-plain}
 use Rattle.log_laws.proofs.Kept.Terms.{running-slot, leadership-entered}
 use Rattle.log_laws.proofs.Plain.Copies.{leader-follows-none, follows-one}
@@ -28,8 +28,8 @@ use Rattle.log_laws.proofs.Kept.Plumbing.{taken-either}
 use Rattle.log_laws.proofs.Kept.Asked.{at-most-is}
 use Rattle.log_laws.proofs.Kept.Keeps as keeps
 use Rattle.log_laws.proofs.Kept.Keeps.{Still, SameFrom, Uncounted, still-same, member-keeps, counted-from}
-use Rattle.log_laws.proofs.Plain.Prefixes.{prefix-append, prefix-grows, prefix-length, prefix-refl, prefix-rest}
-use Rattle.log_laws.proofs.Plain.Appends.{Appended, appends-one, appends-all}
+use Rattle.cluster_steps.proofs.Prefixes.{prefix-append, prefix-grows, prefix-length, prefix-refl, prefix-rest}
+use Rattle.cluster_steps.proofs.Appends.{Appended, appends-one, appends-all}
 use Rattle.log_laws.proofs.Kept.Growing.{Carries, grew, grew-later, grew-member, grew-holds}
 
 -- ---- who takes it

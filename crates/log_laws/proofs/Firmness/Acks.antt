@@ -7,7 +7,7 @@ use Rattle.cluster_model.specs.Letters.{no_sends, becomes}
 use Rattle.cluster_model.specs.SiteState.{Joiner, is_leader, other_copies}
 use Rattle.cluster_model.specs.Site.{with_position, noted, counts, on_ack}
 use Rattle.word_laws.specs.Histories.{Distinct}
-use Rattle.word_laws.proofs.Lists.{all-at, all-from, all-filter, all-if, in-map-from}
+use Rattle.cluster_steps.proofs.Lists.{all-at, all-from, all-filter, all-if, in-map-from}
 use Rattle.log_laws.specs.Histories.{LogState, Holds, IsSlot, WasIn, AckOk, CountedOk, KeepsOk, part, start_at, log_at, term_at}
 use Rattle.log_laws.proofs.Kept.Moves.{Goes}
 use Rattle.log_laws.proofs.Kept.Terms.{one-in, was-been}

@@ -8,11 +8,13 @@ use Rattle.volt_wire.specs.Word.{Membership}
 use Rattle.cluster_model.specs.Words.{term_of, term_in, leader}
 use Rattle.cluster_model.specs.SiteState.{SiteState, Streamed, Joining, Joiner}
 use Rattle.cluster_model.specs.Site.{is_sent, without_count, ends_streams}
-use Rattle.word_laws.specs.Histories.{In, Distinct}
-use Rattle.word_laws.proofs.Lists.{all-at, all-from, in-map, in-map-from, none-and-some}
+use Rattle.cluster_steps.specs.Lists.{In}
+use Rattle.word_laws.specs.Histories.{Distinct}
+use Rattle.cluster_steps.proofs.Lists.{all-at, all-from, in-map, in-map-from, none-and-some}
 use Rattle.log_laws.specs.Histories.{LogState, Holds, Follows, WordOf, CountedOk, IsCounted, BeginsAt, SiteLetterOk, JoinsIn, ViewIn, StreamIn, KeepsOk, flow, follows, part, start_at, term_at, between}
 use Rattle.log_laws.proofs.Kept.Moves.{Goes}
-use Rattle.log_laws.proofs.Plain.Lines.{end_letter, stream_ends-all, stream_ends-other}
+use Rattle.cluster_steps.proofs.Sends.{end_letter, stream_ends-all}
+use Rattle.log_laws.proofs.Plain.Lines.{stream_ends-other}
 use Rattle.log_laws.proofs.Plain.Copies.{follows-one, leader-followed}
 use Rattle.log_laws.proofs.Kept.Terms.{same-word, some-term, took-decided}
 use Rattle.log_laws.proofs.Kept.Rests.{SiteRests, SaysRests, Plain, map-joiners, map-slots, reach-same, site-same, rests-goes}

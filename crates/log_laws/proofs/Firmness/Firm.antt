@@ -11,16 +11,17 @@ use Rattle.cluster_model.specs.Words.{Deployment, term_of, term_in, start_of_slo
 use Rattle.cluster_model.specs.Letters.{same, Letter, no_sends, becomes}
 use Rattle.cluster_model.specs.SiteState.{SiteState, Held, Joiner, is_leader, leads, other_copies}
 use Rattle.cluster_model.specs.Site.{own_ack, acked_in, firm_now, floor_now, answers_held, sends_firm, counts}
-use Rattle.word_laws.specs.Histories.{In}
-use Rattle.word_laws.proofs.Lists.{all-at, all-from, all-filter, in-filter, in-map-from, same-some, none-and-some, not-both}
+use Rattle.cluster_steps.specs.Lists.{In}
+use Rattle.cluster_steps.proofs.Lists.{all-at, all-from, all-filter, in-filter, in-map-from, same-some, none-and-some, not-both}
 use Rattle.word_laws.proofs.Steps.{same-true}
 use Rattle.log_laws.specs.Histories.{LogState, Entered, Streaming, Leadership, Flow, Holds, IsSlot, WordOf, AckOk, CountedOk, IsCounted, HeldFor, HeldOk, LeadsIn, MemberOk, KeepsOk, Coming, ToldOk, SiteLetterOk, end_of, part, start_at, log_at, term_at}
 use Rattle.log_laws.proofs.Kept.Moves.{Goes}
 use Rattle.log_laws.proofs.Plain.Lines.{ends-none}
-use Rattle.log_laws.proofs.Plain.Copies.{is_in-in, copy-other, leads-parts, leader-view, is-leader}
+use Rattle.log_laws.proofs.Plain.Copies.{is_in-in, copy-other, is-leader}
+use Rattle.cluster_steps.proofs.Leaders.{leads-parts, leader-view}
 use Rattle.log_laws.proofs.Kept.Terms.{same-word, entered-start, one-in, took-decided}
 use Rattle.log_laws.proofs.Kept.Plumbing.{after-same, goes-same}
-use Rattle.log_laws.proofs.Plain.Least.{acked_in-from, reach_now, reach_now-own, reach_now-copy, reach_now-joiner}
+use Rattle.cluster_steps.proofs.Least.{acked_in-from, reach_now, reach_now-own, reach_now-copy, reach_now-joiner}
 use Rattle.log_laws.proofs.NewTerms.Since.{since-raised}
 use Rattle.log_laws.proofs.Kept.Rests.{SiteRests, ReachRests, SaysRests, Plain, same-joiners, reach-same, site-same, says-nothing, rests-holds, rests-goes}
 use Rattle.log_laws.proofs.Kept.Turned.{put_at, put-both, put-here}

@@ -10,8 +10,8 @@ use Rattle.cluster_model.specs.Disk.{Shown}
 use Rattle.cluster_model.specs.SiteState.{SiteState, Streamed, Joining, leader_in, start_in_view, is_leader}
 use Rattle.cluster_model.specs.Site.{counts}
 use Rattle.cluster_model.specs.Sync.{member_written, joiner_written, written, acknowledges, says_loaded, after_sync}
-use Rattle.word_laws.specs.Histories.{In}
-use Rattle.word_laws.proofs.Lists.{all-one, same-some, none-and-some, not-both}
+use Rattle.cluster_steps.specs.Lists.{In}
+use Rattle.cluster_steps.proofs.Lists.{all-one, same-some, none-and-some, not-both}
 use Rattle.log_laws.specs.Histories.{LogState, Holds, WasIn, AckOk, LoadedOk, ToldOk, SiteLetterOk, ViewIn, StreamIn, MemberOk, JoinerOk, KeepsOk, end_of, part, start_at, log_at, term_at}
 use Rattle.log_laws.proofs.Kept.Moves.{Goes}
 use Rattle.log_laws.proofs.Plain.Lines.{ends-none, ends-plain}

@@ -10,8 +10,8 @@ use Rattle.cluster_model.specs.Site.{on_join_ask}
 use Rattle.cluster_model.specs.SiteState.{SiteState}
 use Rattle.cluster_model.specs.Words.{term_of}
 use Rattle.cluster_model.specs.World.{set_at}
-use Rattle.word_laws.proofs.Lists.{all-append, set-here, set-there}
-use Rattle.word_laws.proofs.Channels.{sent-nothing}
+use Rattle.cluster_steps.proofs.Lists.{all-append, set-here, set-there}
+use Rattle.cluster_steps.proofs.Channels.{sent-nothing}
 use Rattle.log_laws.specs.Histories.{AskOk, ForeignOk, Holds, IsSlot, KeepsOk, LogState, SiteLetterOk, WaitingFrom, WaitingOk, between, flow, part, start_at, term_at}
 use Rattle.log_laws.proofs.Kept.Terms.{running-slot}
 use Rattle.log_laws.proofs.Kept.Asked.{AsksLess, left-kept, popped-kept}

@@ -10,8 +10,9 @@ use Rattle.cluster_model.specs.Letters.{Letter, becomes}
 use Rattle.cluster_model.specs.Site.{finishes_load, may_finish, on_chunk, on_scan_end, on_stream_end, with_count, with_joining}
 use Rattle.cluster_model.specs.SiteState.{ForBase, ForJoiner, Joiner, Joining, Scanning, SiteState, Streamed}
 use Rattle.cluster_model.specs.Words.{is_some_of, term_in, term_of}
-use Rattle.word_laws.proofs.Lists.{none-and-some, same-some, set-here, set-there}
-use Rattle.word_laws.specs.Histories.{Distinct, In}
+use Rattle.cluster_steps.proofs.Lists.{none-and-some, same-some, set-here, set-there}
+use Rattle.word_laws.specs.Histories.{Distinct}
+use Rattle.cluster_steps.specs.Lists.{In}
 use Rattle.log_laws.specs.Histories.{CountedOk, EndOk, Holds, JoinerOk, KeepsOk, LogState, MemberOk, StreamIn, Took, asked, asks_in, asks_of_term, asks_waiting, between, log_at, part, start_at, term_at}
 use Rattle.log_laws.proofs.Kept.Asked.{AtMost, asks-at, asks-of-same, at-most-same}
 use Rattle.log_laws.proofs.Kept.Keeps.{Still}

@@ -13,8 +13,8 @@ use Rattle.cluster_model.specs.Site.{may_stream, on_stream_start}
 use Rattle.cluster_model.specs.SiteState.{Joining, SiteState, Streamed, site_term}
 use Rattle.cluster_model.specs.Words.{term_in, term_of}
 use Rattle.cluster_model.specs.World.{set_at}
-use Rattle.word_laws.proofs.Lists.{all-at, all-from, none-and-some, same-some, set-here, set-there, is_none-none}
-use Rattle.word_laws.specs.Histories.{In}
+use Rattle.cluster_steps.proofs.Lists.{all-at, all-from, none-and-some, same-some, set-here, set-there, is_none-none}
+use Rattle.cluster_steps.specs.Lists.{In}
 use Rattle.log_laws.specs.Histories.{Begins, BeginsAt, Coming, EndOk, Entered, Follows, HasBeen, Holds, InWord, IsCounted, IsSlot, JoinerOk, LogState, Reached, SiteLetterOk, StreamIn, StreamedOk, Streaming, Took, Untaken, ViewIn, asked, asks_of_term, between, end_in, ends, flow, follows, known, part, start_at, term_at}
 use Rattle.log_laws.proofs.Kept.Terms.{running-slot}
 use Rattle.log_laws.proofs.Kept.Asked.{at-most-none, at-most-same, popped-less}

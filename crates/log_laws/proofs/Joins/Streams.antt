@@ -15,12 +15,14 @@ use Rattle.cluster_model.specs.Site.{can_take, is_lost_in, stream_head, takes_as
 use Rattle.cluster_model.specs.SiteState.{Ask, Joiner, Joining, SiteState, Streamed, is_leader, leads, site_term}
 use Rattle.cluster_model.specs.Words.{leader, term_in, term_of}
 use Rattle.cluster_model.specs.World.{sent, set_at}
-use Rattle.word_laws.proofs.Lists.{all-append, all-at, all-from, eqb-same, filter-in, if-true, in-cases, in-left, in-map, in-map-from, in-right, list_any-in, none-and-some, same-some, set-both, set-here, set-there}
-use Rattle.word_laws.specs.Histories.{Distinct, In}
+use Rattle.cluster_steps.proofs.Lists.{all-append, all-at, all-from, eqb-same, filter-in, if-true, in-cases, in-left, in-map, in-map-from, in-right, list_any-in, none-and-some, same-some, set-both, set-here, set-there}
+use Rattle.word_laws.specs.Histories.{Distinct}
+use Rattle.cluster_steps.specs.Lists.{In}
 use Rattle.log_laws.specs.Histories.{AskOk, BeginsAt, Coming, CountedOk, EndOk, ForeignOk, Holds, InWord, IsCounted, IsSlot, JoinerOk, JoinsIn, KeepsOk, LeadsIn, LogState, MemberOk, Inert, Leadership, SiteLetterOk, StreamIn, Took, ViewIn, asked, asks_in, asks_kept, asks_of_term, asks_waiting, between, end_in, ends, flow, flow_of, follows, line, log_at, part, start_at, term_at}
 use Rattle.log_laws.proofs.Kept.Asked.{AsksLess, AtMost, at-most-behind, at-most-both, at-most-is, at-most-same}
-use Rattle.log_laws.proofs.Plain.Copies.{follows-one, is-leader, leader-followed, leader-view, leads-parts}
-use Rattle.log_laws.proofs.Plain.Prefixes.{prefix-length}
+use Rattle.log_laws.proofs.Plain.Copies.{follows-one, is-leader, leader-followed}
+use Rattle.cluster_steps.proofs.Leaders.{leader-view, leads-parts}
+use Rattle.cluster_steps.proofs.Prefixes.{prefix-length}
 use Rattle.log_laws.proofs.Kept.Keeps.{CountedBy, Still, Uncounted, counted-from, in_word-keeps-with, joiner-keeps-with}
 use Rattle.log_laws.proofs.Kept.Laters.{streamed-later}
 use Rattle.log_laws.proofs.Plain.Lines.{asks-plain, asks-same, ends-empty, ends-here, ends-plain, ends-same, flow-here, flow-other, flow-push, flow-same, line-plain, line-same, kept-append}

@@ -11,7 +11,7 @@ use Rattle.cluster_model.specs.Letters.{Letter, becomes}
 use Rattle.cluster_model.specs.Site.{on_task, with_joining}
 use Rattle.cluster_model.specs.SiteState.{Joining, SiteState, Streamed}
 use Rattle.cluster_model.specs.Words.{term_in, term_of}
-use Rattle.word_laws.proofs.Lists.{none-and-some, same-some}
+use Rattle.cluster_steps.proofs.Lists.{none-and-some, same-some}
 use Rattle.log_laws.specs.Histories.{Follows, Holds, InWord, JoinerOk, LogState, StreamIn, Took, ViewIn, asks_of_term, between, flow, follows, line_in, log_at, part, start_at, term_at}
 use Rattle.log_laws.proofs.Kept.Asked.{at-most-same, popped-less}
 use Rattle.log_laws.proofs.Plain.Copies.{follows-one}

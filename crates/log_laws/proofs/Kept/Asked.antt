@@ -13,10 +13,10 @@ use Rattle.cluster_model.specs.Letters.{same, Letter, Waiting, no_sends, of_term
 use Rattle.cluster_model.specs.SiteState.{SiteState, site_term}
 use Rattle.cluster_model.specs.Site.{on_join_ask}
 use Rattle.cluster_model.specs.World.{rest, set_at}
-use Rattle.word_laws.specs.Histories.{In}
-use Rattle.word_laws.proofs.Lists.{eqb-same, in-left, in-right, in-cases, set-here, set-there}
+use Rattle.cluster_steps.specs.Lists.{In}
+use Rattle.cluster_steps.proofs.Lists.{eqb-same, in-left, in-right, in-cases, set-here, set-there}
 use Rattle.word_laws.proofs.Steps.{same-true}
-use Rattle.word_laws.proofs.Channels.{sent-nothing}
+use Rattle.cluster_steps.proofs.Channels.{sent-nothing}
 use Rattle.log_laws.specs.Histories.{LogState, Logs, between, ask_of, asks_in, wait_of, asks_waiting, asks_kept, asks_of_term, asked}
 use Rattle.log_laws.proofs.Kept.Moves.{after, popped, left}
 use Rattle.log_laws.proofs.Plain.Lines.{waits-push}

@@ -13,11 +13,11 @@ use Rattle.cluster_model.specs.Letters.{Letter, Waiting}
 use Rattle.cluster_model.specs.SiteState.{SiteState, Joining, Joiner, Scanning, site_term}
 use Rattle.cluster_model.specs.World.{set_at}
 use Rattle.cluster_model.specs.Laws.{starts_in}
-use Rattle.word_laws.specs.Histories.{In}
-use Rattle.word_laws.proofs.Lists.{all-mono, none-and-some, set-here, set-there, set-both}
+use Rattle.cluster_steps.specs.Lists.{In}
+use Rattle.cluster_steps.proofs.Lists.{all-mono, none-and-some, set-here, set-there, set-both}
 use Rattle.word_laws.proofs.Steps.{channel-holds}
 use Rattle.log_laws.specs.Histories.{LogState, Leadership, FollowsIn, LeadsIn, MemberOk, JoinerOk, AckOk, ReportOk, AskOk, CountedOk, WaitingOk, KeepsOk, SiteOk, SiteLetterOk, ForeignOk, ToldOk, BeginsAt, IsSlot, IsCounted, Holds, from_agent, follows, line, flow, between, part, start_at, log_at, term_at}
-use Rattle.log_laws.proofs.Plain.Prefixes.{prefix-grows}
+use Rattle.cluster_steps.proofs.Prefixes.{prefix-grows}
 use Rattle.log_laws.proofs.Kept.Moves.{Stays, Later, SameLeaderships, JoinsOn}
 use Rattle.log_laws.proofs.Kept.Laters.{letter-later, waiting-later, ack-later, report-later, ask-later, counted-later, entered-later, streamed-later, leaderships-later, unleds-later, first-later, loads-later}
 use Rattle.log_laws.proofs.Kept.Plumbing.{words-later}

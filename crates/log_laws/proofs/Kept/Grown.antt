@@ -5,7 +5,7 @@ use Rattle.std.specs.Prelude.{ℕ, ◌≤◌, Some, length}
 use Rattle.cluster_model.specs.Words.{Deployment}
 use Rattle.cluster_model.specs.SiteState.{SiteState}
 use Rattle.log_laws.specs.Histories.{LogState, Logs, log_at}
-use Rattle.log_laws.proofs.Plain.Prefixes.{prefix-refl, prefix-trans}
+use Rattle.cluster_steps.proofs.Prefixes.{prefix-refl, prefix-trans}
 use Rattle.log_laws.proofs.Kept.Moves.{Later, Onward, Heads, Grown, Enters}
 
 -- ---- a later history

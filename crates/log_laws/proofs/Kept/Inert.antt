@@ -10,7 +10,7 @@ use Rattle.cluster_model.specs.Letters.{Letter, Waiting}
 use Rattle.cluster_model.specs.SiteState.{SiteState, Joining}
 use Rattle.cluster_model.specs.World.{set_at}
 use Rattle.word_laws.specs.Histories as word
-use Rattle.word_laws.proofs.Lists.{all-mono, set-both, set-same}
+use Rattle.cluster_steps.proofs.Lists.{all-mono, set-both, set-same}
 use Rattle.log_laws.specs.Histories.{LogState, Holds, IsCounted, SiteLetterOk, ForeignOk, ToldOk, WaitingOk, EndOk, BeginsAt, Reached, IsSlot, KeepsOk, ViewsOk, start_at, term_at, between, from_agent, line, flow, ends, part}
 use Rattle.log_laws.proofs.Kept.Moves.{Later, SameLeaderships, JoinsOn}
 use Rattle.log_laws.proofs.Kept.Asked.{AsksLess}

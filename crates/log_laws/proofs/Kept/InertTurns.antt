@@ -13,7 +13,7 @@ use Rattle.cluster_model.specs.Log.{open_in, last_done, nothing_open}
 use Rattle.cluster_model.specs.SiteState.{SiteState, AskedCall, Scanning, ForJoiner, ForBase, site_term, leads, is_joiner}
 use Rattle.cluster_model.specs.Site.{on_chunk, on_scan_end, tells, tells_initiator, standing, is_first_term, has_all_on_disk, initiator_in, shows, looked, on_look, on_power}
 use Rattle.cluster_model.specs.World.{sent}
-use Rattle.word_laws.proofs.Lists.{all-append, all-from, all-if, all-mono, set-both}
+use Rattle.cluster_steps.proofs.Lists.{all-append, all-from, all-if, all-mono, set-both}
 use Rattle.log_laws.specs.Histories.{LogState, Holds, HeldOk, SiteLetterOk, ForeignOk, ToldOk, start_at, term_at, between, from_agent, line, line_of, flow, flow_of, ends, end_of, ask_of, asks_in, asks_waiting, asks_of_term, asked, log_at}
 use Rattle.log_laws.proofs.Kept.Moves.{after, NoStreamStart, Goes}
 use Rattle.log_laws.proofs.Kept.Grown.{grown-same, enters-same}

@@ -6,8 +6,8 @@ use Rattle.std.specs.List.{AllByRecursion}
 use Rattle.volt_wire.specs.Word.{Membership}
 use Rattle.cluster_model.specs.Words.{Deployment, term_of, term_in, leader}
 use Rattle.cluster_model.specs.SiteState.{SiteState, Streamed, Joining, Joiner, Ask}
-use Rattle.word_laws.specs.Histories.{In}
-use Rattle.word_laws.proofs.Lists.{all-mono}
+use Rattle.cluster_steps.specs.Lists.{In}
+use Rattle.cluster_steps.proofs.Lists.{all-mono}
 use Rattle.log_laws.specs.Histories.{LogState, Holds, Entered, Streaming, Leadership, Line, Flow, FollowsIn, LeadsIn, HeldOk, AskOk, CountedOk, WaitingOk, KeepsOk, SiteOk, AckOk, ReportOk, MemberOk, JoinerOk, InWord, Wordless, ViewIn, StreamIn, Untaken, Took, Coming, Inert, NoStream, IsCounted, IsSlot, part, start_at, term_at, between, follows, line, flow, ends, asked}
 use Rattle.log_laws.proofs.Kept.Moves.{Later, Stays, JoinsOn}
 use Rattle.log_laws.proofs.Kept.Asked.{AtMost, at-most-none, at-most-one}

@@ -9,8 +9,8 @@ use Rattle.cluster_model.specs.Words.{term_of, host_of_slot, start_of_slot}
 use Rattle.cluster_model.specs.Letters.{Letter}
 use Rattle.cluster_model.specs.AgentState.{AgentState}
 use Rattle.cluster_model.specs.Laws.{start_in_letter, starts_in}
-use Rattle.word_laws.specs.Histories.{In}
-use Rattle.word_laws.proofs.Lists.{all-mono, all-at, all-from, in-right}
+use Rattle.cluster_steps.specs.Lists.{In}
+use Rattle.cluster_steps.proofs.Lists.{all-mono, all-at, all-from, in-right}
 use Rattle.log_laws.specs.Histories.{LogState, Holds, MemberViews, FirstViews, RunViews, Starting, ViewsOk, ForeignOk, start_at, from_agent, views, view_of, sent_term}
 use Rattle.log_laws.proofs.Kept.Moves.{Later}
 

@@ -12,10 +12,10 @@ use Rattle.cluster_model.specs.Words.{start_of_slot, leader}
 use Rattle.cluster_model.specs.Letters.{Letter, Waiting}
 use Rattle.cluster_model.specs.AgentState.{Queued, Job_, Admission}
 use Rattle.cluster_model.specs.SiteState.{Joiner, Joining}
-use Rattle.word_laws.specs.Histories.{In}
-use Rattle.word_laws.proofs.Lists.{all-mono, none-and-some, same-some}
-use Rattle.log_laws.specs.Histories.{LogState, Logs, base_of, Holds, HasBeen, WasIn, AckOk, ReportOk, AskOk, CountedOk, EndOk, Reached, LoadedOk, BeginsAt, SiteLetterOk, WaitingFrom, WaitingOk, ToldOk, AskedOk, QueuedOk, LoadsOk, IsSlot, AllLoaded, Entered, Streaming, Leadership, EnteredOk, StreamedOk, LeadershipOk, UnledOk, Last, Unled, Prefix, Came, IsCounted, WordOf, part, start_at, log_at, term_at, flow, between}
-use Rattle.log_laws.proofs.Plain.Prefixes.{prefix-length, prefix-refl, prefix-trans}
+use Rattle.cluster_steps.specs.Lists.{In, Prefix}
+use Rattle.cluster_steps.proofs.Lists.{all-mono, none-and-some, same-some}
+use Rattle.log_laws.specs.Histories.{LogState, Logs, base_of, Holds, HasBeen, WasIn, AckOk, ReportOk, AskOk, CountedOk, EndOk, Reached, LoadedOk, BeginsAt, SiteLetterOk, WaitingFrom, WaitingOk, ToldOk, AskedOk, QueuedOk, LoadsOk, IsSlot, AllLoaded, Entered, Streaming, Leadership, EnteredOk, StreamedOk, LeadershipOk, UnledOk, Last, Unled, Came, IsCounted, WordOf, part, start_at, log_at, term_at, flow, between}
+use Rattle.cluster_steps.proofs.Prefixes.{prefix-length, prefix-refl, prefix-trans}
 use Rattle.log_laws.proofs.Kept.Moves.{Later, EntersNow, Stays, JoinsOn, SameLeaderships}
 
 -- the same terms are led where nothing of them changes

@@ -10,9 +10,9 @@ use Rattle.cluster_model.specs.Words.{Deployment, part_of_slot, term_of, leader,
 use Rattle.cluster_model.specs.Letters.{Letter, Sends, Turn, Waiting}
 use Rattle.cluster_model.specs.SiteState.{SiteState, Joining}
 use Rattle.cluster_model.specs.World.{took, sent, set_at}
-use Rattle.word_laws.specs.Histories.{In}
+use Rattle.cluster_steps.specs.Lists.{In, Prefix}
 use Rattle.word_laws.proofs.Moves as word
-use Rattle.log_laws.specs.Histories.{LogState, Logs, Entered, Streaming, Leadership, Prefix, Holds, start_at, log_at, term_at, JoinsIn}
+use Rattle.log_laws.specs.Histories.{LogState, Logs, Entered, Streaming, Leadership, Holds, start_at, log_at, term_at, JoinsIn}
 
 -- ---- states
 

@@ -11,12 +11,13 @@ use Rattle.cluster_model.specs.Letters.{Letter, Waiting, becomes}
 use Rattle.cluster_model.specs.SiteState.{Ask, Joiner, Joining, SiteState, Streamed, is_leader}
 use Rattle.cluster_model.specs.Words.{term_of}
 use Rattle.cluster_model.specs.World.{set_at}
-use Rattle.word_laws.proofs.Lists.{all-mono, none-and-some, same-some, set-here, set-there}
-use Rattle.word_laws.proofs.Channels.{sent-nothing}
-use Rattle.word_laws.specs.Histories.{Distinct, In}
+use Rattle.cluster_steps.proofs.Lists.{all-mono, none-and-some, same-some, set-here, set-there}
+use Rattle.cluster_steps.proofs.Channels.{sent-nothing}
+use Rattle.word_laws.specs.Histories.{Distinct}
+use Rattle.cluster_steps.specs.Lists.{In}
 use Rattle.log_laws.specs.Histories.{AskOk, BeginsAt, Coming, CountedOk, Flow, Follows, ForeignOk, Holds, InWord, IsCounted, IsSlot, JoinerOk, KeepsOk, LogState, MemberOk, Inert, SiteLetterOk, StreamIn, StreamedOk, Streaming, Took, Untaken, ViewIn, WaitingOk, Wordless, asked, between, ends, flow, follows, line, part, start_at, term_at, log_at}
 use Rattle.log_laws.proofs.Kept.Asked.{AsksLess, at-most-none, at-most-one}
-use Rattle.log_laws.proofs.Plain.Copies.{leader-view}
+use Rattle.cluster_steps.proofs.Leaders.{leader-view}
 use Rattle.log_laws.proofs.Kept.Keeps.{CountedBy, SameFrom, Still, Uncounted, counted-from, still-same}
 use Rattle.log_laws.proofs.Kept.Laters.{letter-later, streamed-later}
 use Rattle.log_laws.proofs.Kept.Moves.{Goes, Later, Unentered}

@@ -13,11 +13,12 @@ use Rattle.cluster_model.specs.Letters.{same, Letter, Sends, Turn, ◌▸◌, on
 use Rattle.cluster_model.specs.SiteState.{SiteState, Ask}
 use Rattle.cluster_model.specs.Site.{ordered, order_of, of_order, takes_asks, takes_first_ask, can_take}
 use Rattle.cluster_model.specs.World.{sent}
-use Rattle.word_laws.proofs.Lists.{all-append, all-behind, all-if, all-mono, filter-all}
+use Rattle.cluster_steps.proofs.Lists.{all-append, all-behind, all-if, all-mono, filter-all}
 use Rattle.word_laws.proofs.Steps.{channel-holds}
 use Rattle.log_laws.specs.Histories.{LogState, Logs, Holds, SiteLetterOk, ForeignOk, ToldOk, start_at, term_at, between, from_agent, line, flow, ends, asks_in, asks_waiting, asks_of_term, asked}
 use Rattle.log_laws.proofs.Kept.Moves.{after, NoStreamStart, Turns}
-use Rattle.log_laws.proofs.Plain.Lines.{in_order, line-append, flow-append, ends-append, asks-append, line-order, flow-order, ends-order, asks-order, all-order}
+use Rattle.cluster_steps.proofs.Sends.{in_order, all-order}
+use Rattle.log_laws.proofs.Plain.Lines.{line-append, flow-append, ends-append, asks-append, line-order, flow-order, ends-order, asks-order}
 use Rattle.log_laws.proofs.Kept.Asked.{at-most-is}
 use Rattle.log_laws.proofs.Kept.KeepsViews.{leaves-same}
 use Rattle.log_laws.proofs.Kept.Inert.{moved, channels-hold}

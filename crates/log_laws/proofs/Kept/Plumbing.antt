@@ -10,11 +10,11 @@ use Rattle.cluster_model.specs.Letters.{same, Letter, Sends, no_sends, Turn, bec
 use Rattle.cluster_model.specs.SiteState.{SiteState}
 use Rattle.cluster_model.specs.World.{sent, rest, set_at}
 use Rattle.word_laws.specs.Histories as word
-use Rattle.word_laws.specs.Histories.{In}
-use Rattle.word_laws.proofs.Lists.{all-append, all-at, all-from, all-mono, eqb-same, set-here, set-there, set-both, set-same, set-twice}
+use Rattle.cluster_steps.specs.Lists.{In}
+use Rattle.cluster_steps.proofs.Lists.{all-append, all-at, all-from, all-mono, eqb-same, set-here, set-there, set-both, set-same, set-twice}
 use Rattle.word_laws.proofs.Moves as word_moves
 use Rattle.word_laws.proofs.Steps as word_steps
-use Rattle.word_laws.proofs.Channels.{sent-nothing, sent-twice}
+use Rattle.cluster_steps.proofs.Channels.{sent-nothing, sent-twice}
 use Rattle.log_laws.specs.Histories.{LogState, Logs, Holds, IsSlot, SiteLetterOk, ForeignOk, ToldOk, LoadsOk, ViewsOk, start_at, log_at, between}
 use Rattle.log_laws.proofs.Kept.Moves.{after, popped, Later, Grown, Enters, Turns, Goes, NoStreamStart}
 use Rattle.log_laws.proofs.Kept.Grown.{grown-same, grown-then, enters-same, enters-then}

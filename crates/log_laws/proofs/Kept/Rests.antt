@@ -11,13 +11,14 @@ use Rattle.cluster_model.specs.Words.{Deployment, term_of}
 use Rattle.cluster_model.specs.Letters.{Letter, Sends, no_sends, Turn, sending, Waiting}
 use Rattle.cluster_model.specs.SiteState.{SiteState, Streamed, Joining, Joiner, is_leader}
 use Rattle.cluster_model.specs.World.{sent, set_at}
-use Rattle.word_laws.specs.Histories.{In, Distinct}
-use Rattle.word_laws.proofs.Lists.{not-both, in-none, in-map, in-map-from, all-append, all-mono, none-and-some, same-some, set-both}
+use Rattle.cluster_steps.specs.Lists.{In}
+use Rattle.word_laws.specs.Histories.{Distinct}
+use Rattle.cluster_steps.proofs.Lists.{not-both, in-none, in-map, in-map-from, all-append, all-mono, none-and-some, same-some, set-both}
 use Rattle.log_laws.specs.Histories.{LogState, Entered, Streaming, Leadership, Flow, Holds, SiteOk, BeginsAt, WaitingOk, ReportOk, AskOk, from_agent, IsSlot, AckOk, CountedOk, IsCounted, HeldOk, MemberOk, JoinerOk, ViewIn, StreamIn, Inert, Coming, KeepsOk, ViewsOk, ForeignOk, LoadsOk, ToldOk, SiteLetterOk, JoinsIn, line_in, flow_in, ask_in, line_of, flow_of, ask_of, asks_waiting, asks_of_term, line, flow, ends, asks_in, asked, follows, FollowsIn, part, start_at, log_at, term_at, between}
 use Rattle.log_laws.proofs.Kept.Moves.{after, Later, Goes, NoStreamStart, JoinsOn, SameLeaderships}
 use Rattle.log_laws.proofs.Kept.Grown.{grown-reach, enters-same}
 use Rattle.log_laws.proofs.Kept.Laters.{ack-later, report-later, ask-later, counted-later, letter-later, waiting-later-with, loads-later, entered-later, streamed-later, leaderships-later, unleds-later}
-use Rattle.log_laws.proofs.Plain.Copies.{leader-same, leader-view}
+use Rattle.cluster_steps.proofs.Leaders.{leader-same, leader-view}
 use Rattle.log_laws.proofs.Plain.Lines.{line-same, flow-same, ends-same, asks-same, line-none, flow-none, asks-none, line-plain, flow-plain, asks-plain}
 use Rattle.log_laws.proofs.Kept.KeepsViews.{views-keeps-with, leaves-same}
 use Rattle.log_laws.proofs.Kept.Plumbing.{GoesFrom, words-later, words-after, sent-either}

@@ -9,7 +9,7 @@ use Rattle.cluster_model.specs.Laws.{starts_in}
 use Rattle.cluster_model.specs.Letters.{Letter, Waiting}
 use Rattle.cluster_model.specs.SiteState.{Ask, Joiner, Joining, SiteState, is_leader}
 use Rattle.cluster_model.specs.Words.{host_of_slot, term_of}
-use Rattle.word_laws.proofs.Lists.{all-mono, none-and-some}
+use Rattle.cluster_steps.proofs.Lists.{all-mono, none-and-some}
 use Rattle.word_laws.proofs.Steps.{channel-holds}
 use Rattle.word_laws.specs.Histories.{Distinct}
 use Rattle.log_laws.specs.Histories.{AckOk, AskOk, AskedOk, CountedOk, FirstViews, ForeignOk, Holds, IsCounted, IsSlot, JoinerOk, KeepsOk, LoadsOk, LogState, MemberOk, QueuedOk, ReportOk, RunViews, SiteLetterOk, SiteOk, StreamedOk, Streaming, ToldOk, ViewsOk, WaitingOk, between, from_agent, line, part, start_at, term_at, views}

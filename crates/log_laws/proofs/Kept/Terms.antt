@@ -6,12 +6,13 @@ use Rattle.std.specs.Prelude.{ℕ, nat_lt, Option, Some, None}
 use Rattle.std.specs.List.{list_any}
 use Rattle.volt_wire.specs.Word.{Membership}
 use Rattle.cluster_model.specs.Words.{slots, host_of_slot, is_in, term_of, start_of, start_of_slot, admits}
-use Rattle.word_laws.specs.Histories.{In, Within, Comparable, Recorded, GoodWord, names}
-use Rattle.word_laws.proofs.Lists.{same-some, none-and-some, not-both}
+use Rattle.cluster_steps.specs.Lists.{In, Prefix}
+use Rattle.word_laws.specs.Histories.{Within, Comparable, Recorded, GoodWord, names}
+use Rattle.cluster_steps.proofs.Lists.{same-some, none-and-some, not-both}
 use Rattle.word_laws.proofs.Algebra.{firsts, subset-length, within-refl, within-cases, names-first, names-admits, names-within, admits-fresh, admits-firsts}
 use Rattle.word_laws.proofs.Agreement.{one-first, term-same, member-of, member-is}
 use Rattle.word_laws.proofs.Admissions.{not-earlier-self}
-use Rattle.log_laws.specs.Histories.{LogState, Holds, Entered, Leadership, WordOf, Last, WasIn, HasBeen, Came, Prefix, LeadershipOk, IsSlot, base_of, part, start_at, log_at, term_at}
+use Rattle.log_laws.specs.Histories.{LogState, Holds, Entered, Leadership, WordOf, Last, WasIn, HasBeen, Came, LeadershipOk, IsSlot, base_of, part, start_at, log_at, term_at}
 
 module _ (S : LogState) (H : Holds S) where
   -- ---- sites

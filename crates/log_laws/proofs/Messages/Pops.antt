@@ -11,8 +11,8 @@ use Rattle.cluster_model.specs.Words.{host_of_slot}
 use Rattle.cluster_model.specs.Letters.{Letter, Waiting, of_term, above_term, Taken, Refused, Waits, arrival, in_term, no_sends, becomes}
 use Rattle.cluster_model.specs.SiteState.{SiteState}
 use Rattle.cluster_model.specs.World.{set_at}
-use Rattle.word_laws.proofs.Channels.{took-all, sent-nothing}
-use Rattle.word_laws.proofs.Lists.{all-append, all-filter, set-same}
+use Rattle.cluster_steps.proofs.Channels.{took-all, sent-nothing}
+use Rattle.cluster_steps.proofs.Lists.{all-append, all-filter, set-same}
 use Rattle.log_laws.specs.Histories.{LogState, Holds, SiteLetterOk, ForeignOk, WaitingOk, IsSlot, Reached, start_at, term_at, from_agent, line, line_of, flow, flow_of, ends, end_of, line_in, flow_in, view_in, WaitingFrom, view_of, asks_of_term, log_at}
 use Rattle.log_laws.proofs.Kept.Moves.{after, popped, left, Later, Goes}
 use Rattle.log_laws.proofs.Kept.Grown.{grown-same, enters-same}

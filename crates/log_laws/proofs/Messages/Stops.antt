@@ -17,8 +17,8 @@ use Rattle.cluster_model.specs.Site.{on_start, on_stop}
 use Rattle.cluster_model.specs.Sync.{stops_so}
 use Rattle.cluster_model.specs.World.{sent, rest, set_at}
 use Rattle.cluster_model.specs.Laws.{starts_in}
-use Rattle.word_laws.specs.Histories.{In}
-use Rattle.word_laws.proofs.Lists.{all-if, all-mono, not-both, same-some, set-both, set-here, set-there, set-twice}
+use Rattle.cluster_steps.specs.Lists.{In}
+use Rattle.cluster_steps.proofs.Lists.{all-if, all-mono, not-both, same-some, set-both, set-here, set-there, set-twice}
 use Rattle.log_laws.specs.Histories.{LogState, Logs, Entered, Streaming, Holds, IsCounted, SiteLetterOk, ForeignOk, IsSlot, SiteOk, KeepsOk, ViewsOk, JoinerOk, FirstViews, Starting, part, start_at, log_at, term_at, between, from_agent, views, asks_in, asks_waiting, asks_of_term}
 use Rattle.log_laws.proofs.Kept.Moves.{Grown, Enters, after, popped, Later, SiteLater, Stays, SameLeaderships, JoinsOn}
 use Rattle.log_laws.proofs.Kept.Grown.{grown-same, grown-reach, enters-same}

@@ -8,8 +8,8 @@ use Rattle.volt_wire.specs.declared.actor.Actor.TheVariants.{Agent, Site}
 use Rattle.cluster_model.specs.Letters.{Letter, no_sends, same}
 use Rattle.cluster_model.specs.SiteState.{SiteState}
 use Rattle.cluster_model.specs.World.{rest, took}
-use Rattle.word_laws.proofs.Channels.{took-all, sent-nothing}
-use Rattle.word_laws.proofs.Lists.{all-behind, and-false, eqb-same}
+use Rattle.cluster_steps.proofs.Channels.{took-all, sent-nothing}
+use Rattle.cluster_steps.proofs.Lists.{all-behind, and-false, eqb-same}
 use Rattle.log_laws.specs.Histories.{BeginsAt, ForeignOk, Holds, IsSlot, LogState, SiteLetterOk, Streaming, between, end_of, ends, flow, flow_of, line, line_in, start_at}
 use Rattle.log_laws.proofs.Kept.Asked.{AsksLess}
 use Rattle.log_laws.proofs.Plain.Lines.{line-plain, both-empty}

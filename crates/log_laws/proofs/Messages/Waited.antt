@@ -9,7 +9,7 @@ use Rattle.cluster_model.specs.Words.{Deployment, term_in}
 use Rattle.cluster_model.specs.Letters.{Waiting, Turn, ◌▸◌, no_sends, of_term, above_term}
 use Rattle.cluster_model.specs.SiteState.{SiteState, site_term}
 use Rattle.cluster_model.specs.Site.{site_handler, takes_each, takes_waiting}
-use Rattle.word_laws.proofs.Lists.{all-append, all-from, in-filter, set-here, set-same, set-twice}
+use Rattle.cluster_steps.proofs.Lists.{all-append, all-from, in-filter, set-here, set-same, set-twice}
 use Rattle.log_laws.specs.Histories.{LogState, Holds, WaitingOk, start_at, log_at, term_at}
 use Rattle.log_laws.proofs.Kept.Moves.{after, left, Enters, Goes, NoStreamStart}
 use Rattle.log_laws.proofs.Kept.Grown.{grown-then, enters-then}

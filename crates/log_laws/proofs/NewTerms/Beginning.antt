@@ -10,10 +10,10 @@ use Rattle.volt_wire.specs.Word.{Membership}
 use Rattle.cluster_model.specs.Words.{term_of, term_in, start_of_slot, leader}
 use Rattle.cluster_model.specs.SiteState.{SiteState, Reported, other_copies}
 use Rattle.cluster_model.specs.Site.{longest, lacks}
-use Rattle.word_laws.specs.Histories.{In}
-use Rattle.word_laws.proofs.Lists.{none-and-some, same-some, all-at, not-both, list_all-at, list_any-from}
-use Rattle.log_laws.specs.Histories.{LogState, Entered, Leadership, Prefix, Holds, IsSlot, WordOf, Last, Unled, known, EnteredOk, ReportOk, MemberOk, LeadsIn, base_of, part, start_at, log_at, term_at}
-use Rattle.log_laws.proofs.Plain.Prefixes.{prefixes-order}
+use Rattle.cluster_steps.specs.Lists.{In, Prefix}
+use Rattle.cluster_steps.proofs.Lists.{none-and-some, same-some, all-at, not-both, list_all-at, list_any-from}
+use Rattle.log_laws.specs.Histories.{LogState, Entered, Leadership, Holds, IsSlot, WordOf, Last, Unled, known, EnteredOk, ReportOk, MemberOk, LeadsIn, base_of, part, start_at, log_at, term_at}
+use Rattle.cluster_steps.proofs.Prefixes.{prefixes-order}
 use Rattle.log_laws.proofs.Kept.Terms.{base-least, entered-start, member-or-joined, named-first, last-below}
 use Rattle.log_laws.proofs.Plain.Copies.{copy-other, is_in-in}
 use Rattle.log_laws.proofs.NewTerms.Entering.{behind-at}

@@ -11,15 +11,16 @@ use Rattle.cluster_model.specs.Letters.{Letter, Sends}
 use Rattle.cluster_model.specs.SiteState.{SiteState, Scanning, Joining, Joiner, Reported, site_term, start_in_view, other_copies}
 use Rattle.cluster_model.specs.Site.{longest, lacks, repair_to}
 use Rattle.cluster_model.specs.World.{sent}
-use Rattle.word_laws.specs.Histories.{In}
-use Rattle.word_laws.proofs.Lists.{none-and-some, same-some, all-mono, not-both, set-here, set-there, set-both}
-use Rattle.log_laws.specs.Histories.{LogState, Logs, Repairs, Entered, Leadership, Prefix, Holds, IsSlot, WordOf, Last, known, EnteredOk, ReportOk, LeadershipOk, UnledOk, SiteOk, KeepsOk, MemberOk, JoinerOk, LeadsIn, FollowsIn, SiteLetterOk, Reached, IsCounted, AckOk, CountedOk, AskOk, ForeignOk, WaitingOk, JoinsIn, asks_of_term, part, start_at, log_at, term_at, between, follows, line}
+use Rattle.cluster_steps.specs.Lists.{In, Prefix}
+use Rattle.cluster_steps.proofs.Lists.{none-and-some, same-some, all-mono, not-both, set-here, set-there, set-both}
+use Rattle.log_laws.specs.Histories.{LogState, Logs, Repairs, Entered, Leadership, Holds, IsSlot, WordOf, Last, known, EnteredOk, ReportOk, LeadershipOk, UnledOk, SiteOk, KeepsOk, MemberOk, JoinerOk, LeadsIn, FollowsIn, SiteLetterOk, Reached, IsCounted, AckOk, CountedOk, AskOk, ForeignOk, WaitingOk, JoinsIn, asks_of_term, part, start_at, log_at, term_at, between, follows, line}
 use Rattle.log_laws.proofs.Kept.Moves.{Grown, after, Later, JoinsOn}
 use Rattle.log_laws.proofs.Kept.Grown.{grown-at}
 use Rattle.log_laws.proofs.Kept.Laters.{been-later, word_of-later, ack-later, counted-later, ask-later, reached-later, stays, leadership-later, unled-later}
-use Rattle.log_laws.proofs.Plain.Lines.{line-same, line-append, repair-line, repair-line-other, repair-flow, repair-ends, repair-all, repair_letter}
-use Rattle.log_laws.proofs.Plain.Prefixes.{prefix-length, prefix-refl, prefix-trans}
-use Rattle.log_laws.proofs.Plain.Appends.{grown}
+use Rattle.log_laws.proofs.Plain.Lines.{line-same, line-append, repair-line, repair-line-other, repair-flow, repair-ends}
+use Rattle.cluster_steps.proofs.Sends.{repair-all, repair_letter}
+use Rattle.cluster_steps.proofs.Prefixes.{prefix-length, prefix-refl, prefix-trans}
+use Rattle.cluster_steps.proofs.Appends.{grown}
 use Rattle.log_laws.proofs.Plain.Copies.{start-in-view, follows-leader, leader-follows-none, leader-followed}
 use Rattle.log_laws.proofs.Kept.Terms.{running-slot, same-word, some-term, entered-start, running-in}
 use Rattle.log_laws.proofs.Kept.Plumbing.{sent-here, sent-there, words-after, foreign-after, views-after}

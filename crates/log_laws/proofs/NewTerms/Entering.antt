@@ -5,12 +5,13 @@ use Rattle.std.specs.Prelude.{ℕ, ◌≤◌, nat_lt, max, length, Option, Some,
 use Rattle.volt_wire.specs.Word.{Membership}
 use Rattle.cluster_model.specs.Words.{slots, term_of, term_in, start_of_slot, host_of_slot}
 use Rattle.cluster_model.specs.SiteState.{SiteState, Joining, Streamed}
-use Rattle.word_laws.specs.Histories.{In, Admitted, names, HistoryOk, GoodWord, Recorded, AdmittedOk}
-use Rattle.word_laws.proofs.Lists.{none-and-some, same-some, all-at, not-both}
+use Rattle.cluster_steps.specs.Lists.{In, Prefix}
+use Rattle.word_laws.specs.Histories.{Admitted, names, HistoryOk, GoodWord, Recorded, AdmittedOk}
+use Rattle.cluster_steps.proofs.Lists.{none-and-some, same-some, all-at, not-both}
 use Rattle.word_laws.proofs.Algebra.{admits-fresh}
 use Rattle.word_laws.proofs.Agreement.{one-first, at-good, term-same, member-is}
-use Rattle.log_laws.specs.Histories.{LogState, Entered, Streaming, Leadership, Prefix, Holds, IsSlot, WordOf, WasIn, Last, Unled, Came, known, MemberOk, JoinerOk, InWord, Took, ViewIn, StreamIn, LeadsIn, FollowsIn, line, between, part, start_at, log_at, term_at}
-use Rattle.log_laws.proofs.Plain.Prefixes.{prefix-trans}
+use Rattle.log_laws.specs.Histories.{LogState, Entered, Streaming, Leadership, Holds, IsSlot, WordOf, WasIn, Last, Unled, Came, known, MemberOk, JoinerOk, InWord, Took, ViewIn, StreamIn, LeadsIn, FollowsIn, line, between, part, start_at, log_at, term_at}
+use Rattle.cluster_steps.proofs.Prefixes.{prefix-trans}
 use Rattle.log_laws.proofs.Kept.Terms.{running-slot, took-not-named, base-least, entered-start, leadership-entered, running-in, was-in, last-below}
 use Rattle.log_laws.proofs.NewTerms.Since.{since-running}
 use Rattle.log_laws.proofs.Plain.Copies.{leads-or-follows}

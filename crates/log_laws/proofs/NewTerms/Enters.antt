@@ -12,9 +12,9 @@ use Rattle.cluster_model.specs.Letters.{Letter, Sends, letter_in, sending}
 use Rattle.cluster_model.specs.SiteState.{SiteState, Joiner, site_term, start_in_view}
 use Rattle.cluster_model.specs.Site.{in_new_term}
 use Rattle.cluster_model.specs.World.{sent}
-use Rattle.word_laws.specs.Histories.{In}
-use Rattle.word_laws.proofs.Lists.{none-and-some, same-some, all-filter, set-here, set-there, set-both}
-use Rattle.log_laws.specs.Histories.{LogState, Logs, Holds, Entered, Streaming, IsSlot, Prefix, known, EnteredOk, UnledOk, MemberOk, SiteOk, LeadsIn, FollowsIn, SiteLetterOk, AskOk, HasBeen, HeldOk, ForeignOk, part, start_at, log_at, term_at, between, line, line_of, flow_of, end_of, asks_of_term, asked}
+use Rattle.cluster_steps.specs.Lists.{In, Prefix}
+use Rattle.cluster_steps.proofs.Lists.{none-and-some, same-some, all-filter, set-here, set-there, set-both}
+use Rattle.log_laws.specs.Histories.{LogState, Logs, Holds, Entered, Streaming, IsSlot, known, EnteredOk, UnledOk, MemberOk, SiteOk, LeadsIn, FollowsIn, SiteLetterOk, AskOk, HasBeen, HeldOk, ForeignOk, part, start_at, log_at, term_at, between, line, line_of, flow_of, end_of, asks_of_term, asked}
 use Rattle.log_laws.proofs.Kept.Moves.{after, popped, Later, Stays, EntersNow, Turns, NoStreamStart}
 use Rattle.log_laws.proofs.Kept.Grown.{grown-reach, enters-later}
 use Rattle.log_laws.proofs.Kept.Laters.{been-later, stays, entered-later, same-leaderships, leaderships-later}
@@ -27,7 +27,7 @@ use Rattle.log_laws.proofs.Kept.Keeps.{still-same, member-keeps}
 use Rattle.log_laws.proofs.NewTerms.Entering.{since-within, running-ran, entering, was-member, came, earlier-below, not-entered, not-streamed, not-led, behind, still, known-within, reach-within, others-within}
 use Rattle.log_laws.proofs.Kept.Turned.{put_at, put-both, put-here, put-there, turned, turned-later, Turned, turned-holds, fresh-keeps, said-same}
 use Rattle.log_laws.proofs.NewTerms.Taking.{no-line, later-word, popped-other, mine-taken, theirs-taken, tells-taken, foreign-taken, views-taken}
-use Rattle.log_laws.proofs.Plain.Prefixes.{prefix-refl}
+use Rattle.cluster_steps.proofs.Prefixes.{prefix-refl}
 
 -- the site as it enters
 abbrev pub entered_site : SiteState → Membership → SiteState

@@ -12,8 +12,8 @@ use Rattle.cluster_model.specs.Letters.{same, Letter, Sends, Waiting, letter_in,
 use Rattle.cluster_model.specs.SiteState.{SiteState, Joining, Joiner, site_term, start_in_view}
 use Rattle.cluster_model.specs.Site.{in_new_term, asks_to_join}
 use Rattle.cluster_model.specs.World.{sent}
-use Rattle.word_laws.specs.Histories.{In}
-use Rattle.word_laws.proofs.Lists.{none-and-some, same-some, not-both, all-at, all-filter, in-cases, in-none, in-map-from, in-filter, only-one, set-here, set-there, set-both}
+use Rattle.cluster_steps.specs.Lists.{In}
+use Rattle.cluster_steps.proofs.Lists.{none-and-some, same-some, not-both, all-at, all-filter, in-cases, in-none, in-map-from, in-filter, only-one, set-here, set-there, set-both}
 use Rattle.word_laws.proofs.Steps.{same-true}
 use Rattle.log_laws.specs.Histories.{LogState, Holds, IsSlot, Inert, Untaken, Wordless, InWord, StreamIn, JoinerOk, SiteOk, ViewIn, SiteLetterOk, WaitingFrom, WaitingOk, AskOk, HeldOk, CountedOk, ForeignOk, line_of, flow_of, end_of, part, start_at, term_at, between, line, flow, ends, ask_in, ask_of, asks_in, wait_of, asks_waiting, asks_kept, asks_of_term, asked, follows, log_at}
 use Rattle.log_laws.proofs.Kept.Moves.{after, popped, Later, Turns, NoStreamStart}
@@ -21,7 +21,8 @@ use Rattle.log_laws.proofs.Kept.Grown.{grown-same, enters-same}
 use Rattle.log_laws.proofs.Kept.Laters.{ask-later, stays, entered-later, same-leaderships, leaderships-later, unleds-later}
 use Rattle.log_laws.proofs.Plain.Lines.{flat-in, line-none, line-same, line-plain, flow-none, flow-same, flow-plain, ends-none, ends-same, ends-plain, asks-append, asks-here, if-none}
 use Rattle.log_laws.proofs.Kept.Asked.{AtMost, at-most-both, at-most-same, at-most-none}
-use Rattle.log_laws.proofs.Plain.Copies.{follows-leader, leader-follows, leader-copy, start-in-view, leader-view}
+use Rattle.log_laws.proofs.Plain.Copies.{follows-leader, leader-follows, leader-copy, start-in-view}
+use Rattle.cluster_steps.proofs.Leaders.{leader-view}
 use Rattle.log_laws.proofs.Kept.Terms.{running-slot, took-decided, some-term, some-start}
 use Rattle.log_laws.proofs.Kept.Keeps.{still-same, member-keeps}
 use Rattle.log_laws.proofs.NewTerms.Entering.{running-ran}

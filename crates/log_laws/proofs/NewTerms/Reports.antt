@@ -11,19 +11,20 @@ use Rattle.cluster_model.specs.Words.{Deployment, term_of, leader}
 use Rattle.cluster_model.specs.Letters.{Letter, Sends, no_sends, Turn, becomes, sending, ◌▸◌}
 use Rattle.cluster_model.specs.SiteState.{SiteState, Joiner, Joining, Reported, site_term, is_leader, other_copies}
 use Rattle.cluster_model.specs.Site.{longest, lacks, appends_all, repair_to, is_repaired, repairs, works_calls, on_report}
-use Rattle.word_laws.specs.Histories.{In}
-use Rattle.word_laws.proofs.Lists.{all-append, all-mono, set-here, set-there, set-both}
-use Rattle.word_laws.proofs.Channels.{sent-nothing}
+use Rattle.cluster_steps.specs.Lists.{In}
+use Rattle.cluster_steps.proofs.Lists.{all-append, all-mono, set-here, set-there, set-both}
+use Rattle.cluster_steps.proofs.Channels.{sent-nothing}
 use Rattle.word_laws.proofs.Hearings.{then-assoc}
 use Rattle.log_laws.specs.Histories.{LogState, Holds, IsSlot, ReportOk, AckOk, CountedOk, AskOk, KeepsOk, SiteOk, IsCounted, JoinsIn, WaitingOk, from_agent, part, start_at, log_at, term_at, between, asked, asks_in, asks_waiting, asks_of_term}
 use Rattle.log_laws.proofs.Kept.Terms.{running-slot}
 use Rattle.log_laws.proofs.Kept.Moves.{Grown, after, Later, JoinsOn, Goes, NoStreamStart}
 use Rattle.log_laws.proofs.Kept.Grown.{grown-same, enters-same}
 use Rattle.log_laws.proofs.Kept.Laters.{ack-later, counted-later, report-later, ask-later, stays, entered-later, same-leaderships, leaderships-later, unleds-later}
-use Rattle.log_laws.proofs.Plain.Prefixes.{prefix-append, prefix-length}
-use Rattle.log_laws.proofs.Plain.Lines.{repair-all}
-use Rattle.log_laws.proofs.Plain.Appends.{Appended, appends-all}
-use Rattle.log_laws.proofs.Plain.Copies.{leader-view, leader-same, is-leader}
+use Rattle.cluster_steps.proofs.Prefixes.{prefix-append, prefix-length}
+use Rattle.cluster_steps.proofs.Sends.{repair-all}
+use Rattle.cluster_steps.proofs.Appends.{Appended, appends-all}
+use Rattle.cluster_steps.proofs.Leaders.{leader-view, leader-same}
+use Rattle.log_laws.proofs.Plain.Copies.{is-leader}
 use Rattle.log_laws.proofs.Kept.Asked.{AtMost, at-most-same}
 use Rattle.log_laws.proofs.Kept.Plumbing.{goes-then, goes-same}
 use Rattle.log_laws.proofs.Kept.Keeps.{Still, still-same, member-keeps, site-keeps}

@@ -4,8 +4,8 @@ use Rattle.std.proofs.lemmas.Bool.{cases_eq}
 use Rattle.std.specs.Prelude.{ℕ, Some, None}
 use Rattle.volt_wire.specs.Word.{Membership}
 use Rattle.cluster_model.specs.Words.{term_of, start_of_slot}
-use Rattle.word_laws.specs.Histories.{In}
-use Rattle.word_laws.proofs.Lists.{none-and-some, same-some}
+use Rattle.cluster_steps.specs.Lists.{In}
+use Rattle.cluster_steps.proofs.Lists.{none-and-some, same-some}
 use Rattle.log_laws.specs.Histories.{LogState, Holds, Entered, Streaming, Leadership, WordOf, WasIn, Last, Came, LeadershipOk, IsSlot, base_of, part, start_at, log_at}
 use Rattle.log_laws.proofs.Kept.Terms.{base-least, named-first, member-or-joined, running-in, last-below}
 

@@ -14,9 +14,9 @@ use Rattle.cluster_model.specs.AgentState.{AgentState}
 use Rattle.cluster_model.specs.SiteState.{SiteState}
 use Rattle.cluster_model.specs.World.{sent, rest}
 use Rattle.cluster_model.specs.Laws.{starts_in}
-use Rattle.word_laws.specs.Histories.{In}
-use Rattle.word_laws.proofs.Lists.{if-true, if-false, and-false, all-at, all-from, all-append, all-mono, eqb-same, set-here}
-use Rattle.word_laws.proofs.Channels.{took-all}
+use Rattle.cluster_steps.specs.Lists.{In}
+use Rattle.cluster_steps.proofs.Lists.{if-true, if-false, and-false, all-at, all-from, all-append, all-mono, eqb-same, set-here}
+use Rattle.cluster_steps.proofs.Channels.{took-all}
 use Rattle.log_laws.specs.Histories.{LogState, Logs, Holds, ViewsOk, MemberViews, FirstViews, RunViews, Starting, ForeignOk, start_at, term_at, from_agent, between, views, IsSlot, Reached, SiteLetterOk, is_for, line_of, flow_of, end_of, line, flow, ends, sent_term}
 use Rattle.log_laws.proofs.Kept.Moves.{after, popped, Later}
 use Rattle.log_laws.proofs.Plain.Lines.{views-here, line-other, flow-other, ends-other, line-none, flow-none, ends-none, if-none}

@@ -10,11 +10,12 @@ use Rattle.cluster_model.specs.Words.{Deployment, host_of_slot, leader, is_membe
 use Rattle.cluster_model.specs.Letters.{Letter, no_sends, becomes, sending}
 use Rattle.cluster_model.specs.SiteState.{SiteState, Joining, is_joiner, is_leader}
 use Rattle.cluster_model.specs.Site.{as_member, reports_to, repairs, on_view}
-use Rattle.word_laws.proofs.Lists.{none-and-some, not-both, and-false, if-true, if-false}
+use Rattle.cluster_steps.proofs.Lists.{none-and-some, not-both, and-false, if-true, if-false}
 use Rattle.word_laws.proofs.Members.{is_member-start, start-is_member}
 use Rattle.log_laws.specs.Histories.{LogState, Holds, part, start_at, from_agent}
 use Rattle.log_laws.proofs.Kept.Moves.{popped, Turns, Goes}
-use Rattle.log_laws.proofs.Plain.Copies.{leader-is, a-joiner}
+use Rattle.log_laws.proofs.Plain.Copies.{leader-is}
+use Rattle.cluster_steps.proofs.Leaders.{a-joiner}
 use Rattle.log_laws.proofs.Kept.Terms.{took-unnamed}
 use Rattle.log_laws.proofs.Kept.Plumbing.{turns-then-goes}
 use Rattle.log_laws.proofs.NewTerms.Reports.{repairs-goes}

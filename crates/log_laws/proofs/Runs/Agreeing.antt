@@ -3,9 +3,10 @@ use Rattle.std.proofs.Common.{◌≡◌, ◌+◌, ◌<◌, ◌≤◌, zero, suc,
 use Rattle.std.proofs.lemmas.Bool.{cases_eq}
 use Rattle.std.specs.Prelude.{ℕ, Some}
 use Rattle.volt_base.specs.declared.entry.Entry.{Entry}
-use Rattle.word_laws.proofs.Lists.{same-some}
-use Rattle.log_laws.specs.Histories.{LogState, Holds, Entered, Leadership, Prefix, EnteredOk, Last, IsSlot, known, base_of, part}
-use Rattle.log_laws.proofs.Plain.Prefixes.{prefix-trans, prefixes-order, prefix-take, take-short}
+use Rattle.cluster_steps.proofs.Lists.{same-some}
+use Rattle.log_laws.specs.Histories.{LogState, Holds, Entered, Leadership, EnteredOk, Last, IsSlot, known, base_of, part}
+use Rattle.cluster_steps.specs.Lists.{Prefix}
+use Rattle.cluster_steps.proofs.Prefixes.{prefix-trans, prefixes-order, prefix-take, take-short}
 use Rattle.log_laws.proofs.Kept.Terms.{base-least, last-below}
 
 module _ (S : LogState) (H : Holds S) (p v : ℕ) (g : Leadership) (led : S.logs.leadership p v ≡ Some g) where

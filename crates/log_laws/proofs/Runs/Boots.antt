@@ -19,8 +19,8 @@ use Rattle.cluster_model.specs.SiteState.{SiteState, Joining, site_term, is_join
 use Rattle.cluster_model.specs.World.{World, Input, first_world, new_word, greatest_done, first_initiating, member_agent, start_from}
 use Rattle.cluster_model.specs.Recover.{is_of_host, new_channels, new_base, new_log, starts_anew}
 use Rattle.word_laws.specs.Histories as word
-use Rattle.word_laws.specs.Histories.{In}
-use Rattle.word_laws.proofs.Lists.{eqb-same, if-true, if-false, none-and-some, same-some, in-one, in-map-from, all-from}
+use Rattle.cluster_steps.specs.Lists.{In}
+use Rattle.cluster_steps.proofs.Lists.{eqb-same, if-true, if-false, none-and-some, same-some, in-one, in-map-from, all-from}
 use Rattle.word_laws.proofs.Epochs.{epoch_state, new_history, new_owner, boot-holds, recovery-holds, start_of-first, first-there}
 use Rattle.log_laws.specs.Histories.{Entered, Streaming, Leadership, Logs, LogState, IsSlot, HasBeen, AckOk, EnteredOk, LeadershipOk, LeadsIn, FollowsIn, MemberOk, KeepsOk, SiteOk, ViewsOk, LoadsOk, ForeignOk, Holds, part, start_at, log_at, term_at, from_agent, between, line, views, sent_term}
 use Rattle.log_laws.proofs.Plain.Copies.{in-is_in, copy-member}

@@ -11,8 +11,9 @@ use Rattle.cluster_model.specs.Disk.{Shown}
 use Rattle.cluster_model.specs.Letters.{same, Letter}
 use Rattle.cluster_model.specs.AgentState.{Queued, Job_, Admission}
 use Rattle.word_laws.specs.Histories as word
-use Rattle.word_laws.specs.Histories.{In, Admitted}
-use Rattle.word_laws.proofs.Lists.{all-mono, eqb-same}
+use Rattle.cluster_steps.specs.Lists.{In}
+use Rattle.word_laws.specs.Histories.{Admitted}
+use Rattle.cluster_steps.proofs.Lists.{all-mono, eqb-same}
 use Rattle.word_laws.proofs.Worlds.{grows-same}
 use Rattle.log_laws.specs.Histories.{LogState, views, ViewsOk, ForeignOk, AllLoaded, AskedOk, QueuedOk, Holds, start_at, from_agent}
 use Rattle.log_laws.proofs.Agents.Words.{sites-hold, sites-kept}

@@ -9,11 +9,12 @@ use Rattle.cluster_model.specs.SiteState.{is_joiner}
 use Rattle.cluster_model.specs.World.{World, Input, AuthoritativeLog, first_world}
 use Rattle.cluster_model.specs.Runs.{Happening, IsRun, run}
 use Rattle.word_laws.specs.Chain.{IsOneEpoch}
-use Rattle.word_laws.proofs.Lists.{same-some}
+use Rattle.cluster_steps.proofs.Lists.{same-some}
 use Rattle.word_laws.proofs.Worlds.{run-append, run-first, run-second}
-use Rattle.log_laws.specs.Histories.{LogState, Leadership, Prefix, Holds, part, term_at}
+use Rattle.log_laws.specs.Histories.{LogState, Leadership, Holds, part, term_at}
+use Rattle.cluster_steps.specs.Lists.{Prefix}
 use Rattle.log_laws.specs.Copies.{Leads, LeadsNext, AuthoritativeOk, KeepsFirm, IsInAuthoritative, HasLogs, log_state, log_of, authoritative_for}
-use Rattle.log_laws.proofs.Plain.Prefixes.{prefix-trans, prefix-length, prefix-take, take-prefix, take-grown, take-of-prefix}
+use Rattle.cluster_steps.proofs.Prefixes.{prefix-trans, prefix-length, prefix-take, take-prefix, take-grown, take-of-prefix}
 use Rattle.log_laws.proofs.Runs.Agreeing.{agrees-begun}
 use Rattle.log_laws.proofs.Kept.Moves.{Onward}
 use Rattle.log_laws.proofs.Runs.Leading.{Rises}

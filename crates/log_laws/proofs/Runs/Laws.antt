@@ -7,10 +7,12 @@ use Rattle.volt_wire.specs.Word.{Membership}
 use Rattle.cluster_model.specs.Words.{term_of, term_in}
 use Rattle.cluster_model.specs.SiteState.{SiteState, Joining, Streamed, is_joiner, is_member_site, leads}
 use Rattle.cluster_model.specs.World.{World}
-use Rattle.word_laws.proofs.Lists.{not-both, same-some, none-and-some}
-use Rattle.log_laws.specs.Histories.{Prefix, Logs, LogState, Line, line, between, Leadership, Last, FollowsIn, LeadsIn, MemberOk, StreamIn, ViewIn, Took, Holds, part, start_at, log_at, term_at, base_of}
-use Rattle.log_laws.proofs.Plain.Copies.{leads-or-follows, leads-parts, is-leader}
-use Rattle.log_laws.proofs.Plain.Prefixes.{prefix-same, prefix-trans, prefixes-compare}
+use Rattle.cluster_steps.proofs.Lists.{not-both, same-some, none-and-some}
+use Rattle.cluster_steps.specs.Lists.{Prefix}
+use Rattle.log_laws.specs.Histories.{Logs, LogState, Line, line, between, Leadership, Last, FollowsIn, LeadsIn, MemberOk, StreamIn, ViewIn, Took, Holds, part, start_at, log_at, term_at, base_of}
+use Rattle.log_laws.proofs.Plain.Copies.{leads-or-follows, is-leader}
+use Rattle.cluster_steps.proofs.Leaders.{leads-parts}
+use Rattle.cluster_steps.proofs.Prefixes.{prefix-same, prefix-trans, prefixes-compare}
 use Rattle.log_laws.proofs.Kept.Terms.{base-least, leadership-entered, last-below, running-slot}
 use Rattle.log_laws.specs.Copies.{OfOneTerm, AreCopies, Leads, HasLoaded, Follows, HasLogs, log_state}
 

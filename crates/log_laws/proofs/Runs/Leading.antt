@@ -7,10 +7,11 @@ use Rattle.volt_wire.specs.Word.{Membership}
 use Rattle.cluster_model.specs.Words.{Deployment, term_of, term_in, leader}
 use Rattle.cluster_model.specs.SiteState.{SiteState, Joining, site_term, is_leader, leads}
 use Rattle.cluster_model.specs.World.{AuthoritativeLog, authoritative_after}
-use Rattle.word_laws.proofs.Lists.{none-and-some, same-some, not-both}
+use Rattle.cluster_steps.proofs.Lists.{none-and-some, same-some, not-both}
 use Rattle.log_laws.specs.Histories.{LogState, Logs, Leadership, Holds, ViewIn, LeadsIn, part, start_at, log_at, term_at}
 use Rattle.log_laws.specs.Copies.{AuthoritativeOk}
-use Rattle.log_laws.proofs.Plain.Copies.{leader-is, leader-view, leads-parts}
+use Rattle.log_laws.proofs.Plain.Copies.{leader-is}
+use Rattle.cluster_steps.proofs.Leaders.{leader-view, leads-parts}
 use Rattle.log_laws.proofs.Kept.Terms.{took-unnamed}
 use Rattle.log_laws.proofs.Kept.Moves.{Heads, Grown}
 use Rattle.log_laws.proofs.Entries.Leads.{Leading, leading}

@@ -23,8 +23,8 @@ use Rattle.cluster_model.specs.Laws.{starts_in}
 use Rattle.cluster_model.proofs.Starts.{takes-next}
 use Rattle.word_laws.specs.Histories as word
 use Rattle.word_laws.specs.Chain.{state_of}
-use Rattle.word_laws.proofs.Lists.{all-append, all-if, all-mono, set-there}
-use Rattle.word_laws.proofs.Channels.{starts-if, stops_all-starts}
+use Rattle.cluster_steps.proofs.Lists.{all-append, all-if, all-mono, set-there}
+use Rattle.cluster_steps.proofs.Channels.{starts-if, stops_all-starts}
 use Rattle.word_laws.proofs.Steps.{same-true, channel-holds}
 use Rattle.word_laws.proofs.Draws.{director-inert-holds, draws-holds}
 use Rattle.log_laws.specs.Histories.{LogState, ForeignOk, Holds}

@@ -13,7 +13,7 @@ use Rattle.cluster_model.specs.Words.{host_of_slot}
 use Rattle.cluster_model.specs.Letters.{Blocks, Letter, becomes, arrival, Taken, Waiting}
 use Rattle.cluster_model.specs.Site.{on_view, from_agent, from_site, from_scanner, from_director, site_handler}
 use Rattle.cluster_model.specs.World.{rest}
-use Rattle.word_laws.proofs.Lists.{eqb-same}
+use Rattle.cluster_steps.proofs.Lists.{eqb-same}
 use Rattle.log_laws.specs.Histories as log
 use Rattle.log_laws.specs.Histories.{LogState, Holds, AckOk, ReportOk, EndOk, SiteLetterOk, WaitingFrom, WaitingOk, ForeignOk, part, start_at, term_at, between, flow}
 use Rattle.log_laws.proofs.Kept.Moves.{popped, left, Turns, Goes}

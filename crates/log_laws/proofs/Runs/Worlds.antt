@@ -21,7 +21,7 @@ use Rattle.cluster_model.specs.Recover.{stays_stopped}
 use Rattle.cluster_model.specs.Events.{is_actor, is_some_letter, can, allows, delivered, recovered_with, may_do, happens, step}
 use Rattle.cluster_model.specs.Runs.{Happening, IsRun, has_failed, may_happen, run}
 use Rattle.word_laws.specs.Chain.{renews_by, renews_at, renews, IsOneEpoch}
-use Rattle.word_laws.proofs.Lists.{if-false, set-here, set-both}
+use Rattle.cluster_steps.proofs.Lists.{if-false, set-here, set-both}
 use Rattle.word_laws.proofs.Worlds.{actor-host, host-apart, memory-runs}
 use Rattle.log_laws.specs.Histories.{Logs, LogState, Holds, start_at}
 use Rattle.log_laws.specs.Copies.{log_state, AuthoritativeOk, HasLogs}

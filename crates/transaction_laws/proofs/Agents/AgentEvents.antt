@@ -15,8 +15,8 @@ use Rattle.cluster_model.specs.AgentState.{AgentState, new_agent, stops, stops_w
 use Rattle.cluster_model.specs.Agent.{may_decide, agent_handler, handler_and_word, takes_waiting, agent_runs, agent_takes, agent_turn, start_after, on_start}
 use Rattle.cluster_model.specs.Environment.{Environment, NoFault, DiskFails, NoMemory, DisksShow}
 use Rattle.word_laws.specs.Histories as word
-use Rattle.word_laws.specs.Histories.{In}
-use Rattle.word_laws.proofs.Lists.{all-append, all-if, not-both}
+use Rattle.cluster_steps.specs.Lists.{In}
+use Rattle.cluster_steps.proofs.Lists.{all-append, all-if, not-both}
 use Rattle.word_laws.proofs.Members.{initiator-member}
 use Rattle.word_laws.proofs.Agreement.{member-is}
 use Rattle.word_laws.proofs.Moves as word_moves

@@ -15,7 +15,7 @@ use Rattle.cluster_model.specs.Letters.{Letter, Sends, Turn, becomes, letter_to,
 use Rattle.cluster_model.specs.AgentState.{AgentState, Phase, Off, Hears, Closes, Idle, Works, Queued, Job_, Admission, RunCall, TakeSnapshot, initiates, answers_client, on_reply, stops_with_host}
 use Rattle.cluster_model.specs.Initiator.{works_queue, if_idle, queues, on_frag_done, on_finished, on_mp_state}
 use Rattle.cluster_model.specs.Agent.{to_slot, to_partition, to_initiator, hands_on, unless_down, on_call, on_closed, on_word, on_hello, takes_word, on_decided, asks_initiator, has_loaded, on_loaded, from_agent, from_site, from_director, from_client, agent_handler}
-use Rattle.word_laws.proofs.Lists.{all-mono, all-if}
+use Rattle.cluster_steps.proofs.Lists.{all-mono, all-if}
 use Rattle.log_laws.specs.Histories.{LogState, Holds, IsSlot, is_for, part}
 use Rattle.log_laws.proofs.Plain.Lines.{flat-none, if-none}
 use Rattle.disk_laws.specs.Disks.{Firm}

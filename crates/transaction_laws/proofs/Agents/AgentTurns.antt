@@ -16,11 +16,12 @@ use Rattle.cluster_model.specs.Initiator.{with_phase}
 use Rattle.cluster_model.specs.Agent.{is_other_word, says, is_word, may_decide, decides_word, agent_handler}
 use Rattle.cluster_model.specs.World.{took, rest}
 use Rattle.word_laws.specs.Histories as word
-use Rattle.word_laws.specs.Histories.{In, History}
-use Rattle.word_laws.proofs.Lists.{all-mono, all-append, all-if, same-some, not-both, eqb-same, set-there, set-both}
+use Rattle.cluster_steps.specs.Lists.{In}
+use Rattle.word_laws.specs.Histories.{History}
+use Rattle.cluster_steps.proofs.Lists.{all-mono, all-append, all-if, same-some, not-both, eqb-same, set-there, set-both}
 use Rattle.word_laws.proofs.Algebra.{same_word-refl}
 use Rattle.word_laws.proofs.Members.{initiates-is}
-use Rattle.word_laws.proofs.Channels.{sent-both, took-all}
+use Rattle.cluster_steps.proofs.Channels.{sent-both, took-all}
 use Rattle.word_laws.proofs.Moves.{Grows}
 use Rattle.word_laws.proofs.Turns.{tells, tells-state, concludes, concludes-not, concludes-is, decides-state}
 use Rattle.word_laws.proofs.Steps.{after-after}

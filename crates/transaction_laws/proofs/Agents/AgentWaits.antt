@@ -13,8 +13,9 @@ use Rattle.cluster_model.specs.Letters.{Letter, Sends, Turn, becomes, ◌▸◌,
 use Rattle.cluster_model.specs.AgentState.{AgentState, Phase, Off, Hears, Closes, Idle, Works, Queued, Admission, initiates}
 use Rattle.cluster_model.specs.Agent.{is_word, may_decide, agent_handler, unless_stopped, takes_each, takes_waiting}
 use Rattle.word_laws.specs.Histories as word
-use Rattle.word_laws.specs.Histories.{In, OnSome, State, GoodWord, SaidBy, OwnOk, CameOk, QueuedOk, WaitingFrom, WaitingOk, names}
-use Rattle.word_laws.proofs.Lists.{all-mono, all-filter, all-from, all-at, in-filter, in-cases, some-here, not-both, set-here}
+use Rattle.cluster_steps.specs.Lists.{In, OnSome}
+use Rattle.word_laws.specs.Histories.{State, GoodWord, SaidBy, OwnOk, CameOk, QueuedOk, WaitingFrom, WaitingOk, names}
+use Rattle.cluster_steps.proofs.Lists.{all-mono, all-filter, all-from, all-at, in-filter, in-cases, some-here, not-both, set-here}
 use Rattle.word_laws.proofs.Algebra.{same_word-is, names-admits, with_admitted-admits}
 use Rattle.word_laws.proofs.Members.{members-all, initiates-is}
 use Rattle.word_laws.proofs.Moves.{Calm, AdmitsNow, asked_by}

@@ -10,10 +10,9 @@ use Rattle.volt_base.specs.declared.entry.Outcome.TheVariants.{Dropped, Kept, Ab
 use Rattle.cluster_model.specs.Engine.{Database}
 use Rattle.cluster_model.specs.Log.{last_done, outcome_if_last, first_outcome}
 use Rattle.cluster_model.specs.Words.{Deployment, parts}
-use Rattle.word_laws.specs.Histories.{In}
-use Rattle.word_laws.proofs.Lists.{same-some, none-and-some, eqb-same, if-true, in-cases, all-at, all-append}
-use Rattle.log_laws.specs.Histories.{Prefix}
-use Rattle.log_laws.proofs.Plain.Prefixes.{prefix-grows}
+use Rattle.cluster_steps.specs.Lists.{In, Prefix}
+use Rattle.cluster_steps.proofs.Lists.{same-some, none-and-some, eqb-same, if-true, in-cases, all-at, all-append}
+use Rattle.cluster_steps.proofs.Prefixes.{prefix-grows}
 use Rattle.transaction_laws.specs.Machine.{WellFormed, EndFits, first_stage, stage, point_after}
 use Rattle.transaction_laws.specs.Transactions.{Transactions, Aligned, OfNumber, point_in, since}
 use Rattle.transaction_laws.proofs.Entries.Machine.{first-sound, stage-sound, stage-append, formed-append, formed-rest, opened-point, last-in, in-last}

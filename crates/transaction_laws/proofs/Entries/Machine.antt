@@ -8,9 +8,8 @@ use Rattle.volt_base.specs.declared.entry.Outcome.{Outcome}
 use Rattle.volt_base.specs.declared.entry.Outcome.TheVariants.{Dropped, Kept, Aborted, Snapshot}
 use Rattle.cluster_model.specs.Engine.{Database}
 use Rattle.cluster_model.specs.Log.{open_in, open_behind, last_done, done_behind, number_of}
-use Rattle.word_laws.specs.Histories.{In}
-use Rattle.word_laws.proofs.Lists.{same-some, none-and-some}
-use Rattle.log_laws.specs.Histories.{Prefix}
+use Rattle.cluster_steps.specs.Lists.{In, Prefix}
+use Rattle.cluster_steps.proofs.Lists.{same-some, none-and-some}
 use Rattle.transaction_laws.specs.Machine.{Stage, first_stage, next_stage, stage_behind, stage, IsOpen, Fits, WellFormed}
 use Rattle.transaction_laws.specs.Transactions.{OnlyCalls, IsOrder, OfNumber}
 use Rattle.transaction_laws.proofs.Kept.Moves.{CallsAt}

@@ -11,8 +11,8 @@ use Rattle.cluster_model.specs.Engine.{Database}
 use Rattle.cluster_model.specs.Words.{is_in, term_of}
 use Rattle.cluster_model.specs.AgentState.{AgentState, Heard}
 use Rattle.cluster_model.specs.Initiator.{open_told, own_decision, closing_outcome, open_parts, done_to, closes_open}
-use Rattle.word_laws.specs.Histories.{In}
-use Rattle.word_laws.proofs.Lists.{not-both, in-map, in-map-from, in-filter, filter-in}
+use Rattle.cluster_steps.specs.Lists.{In}
+use Rattle.cluster_steps.proofs.Lists.{not-both, in-map, in-map-from, in-filter, filter-in}
 use Rattle.log_laws.specs.Histories.{LogState, Holds}
 use Rattle.log_laws.proofs.Plain.Copies.{is_in-in, in-is_in}
 use Rattle.disk_laws.specs.Disks.{Firm}

@@ -13,7 +13,7 @@ use Rattle.cluster_model.specs.Words.{all_parts, is_in, term_of}
 use Rattle.cluster_model.specs.Letters.{Turn, becomes}
 use Rattle.cluster_model.specs.AgentState.{AgentState, Phase, Off, Hears, Closes, Idle, Works, Work, Decision}
 use Rattle.cluster_model.specs.Initiator.{with_phase, with_work, all_finished, ends_job, settles, on_finished}
-use Rattle.word_laws.proofs.Lists.{same-some, none-and-some, all-behind, list_all-at}
+use Rattle.cluster_steps.proofs.Lists.{same-some, none-and-some, all-behind, list_all-at}
 use Rattle.log_laws.specs.Histories.{LogState, Holds}
 use Rattle.log_laws.proofs.Plain.Copies.{is_in-in}
 use Rattle.disk_laws.specs.Disks.{Firm}

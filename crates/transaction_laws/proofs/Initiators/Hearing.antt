@@ -11,10 +11,10 @@ use Rattle.cluster_model.specs.Words.{all_parts, term_of, term_in, initiator}
 use Rattle.cluster_model.specs.Letters.{becomes}
 use Rattle.cluster_model.specs.AgentState.{AgentState, Phase, Off, Hears, Closes, Idle, Works, Heard}
 use Rattle.cluster_model.specs.Initiator.{with_phase, greatest_told, open_told, has_told, first_number, closes_open, hears, on_mp_state}
-use Rattle.word_laws.specs.Histories.{In}
-use Rattle.word_laws.proofs.Lists.{same-some, all-append, all-at}
-use Rattle.log_laws.specs.Histories.{LogState, Holds, Prefix}
-use Rattle.log_laws.proofs.Plain.Prefixes.{prefix-trans, prefix-append}
+use Rattle.cluster_steps.specs.Lists.{In, Prefix}
+use Rattle.cluster_steps.proofs.Lists.{same-some, all-append, all-at}
+use Rattle.log_laws.specs.Histories.{LogState, Holds}
+use Rattle.cluster_steps.proofs.Prefixes.{prefix-trans, prefix-append}
 use Rattle.disk_laws.specs.Disks.{Firm}
 use Rattle.transaction_laws.specs.Machine.{WellFormed, first_stage, stage}
 use Rattle.transaction_laws.specs.Transactions.{Transactions, Books, HeardPart, DueOk, Aligned, Initiates, IsPart, OnlyCalls, Everywhere, StateOk, JobOk, PhaseOk, point_in, since, led_log, whole}

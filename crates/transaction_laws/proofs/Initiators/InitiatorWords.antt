@@ -12,8 +12,9 @@ use Rattle.cluster_model.specs.Words.{is_in, term_of, term_in, not_lost, members
 use Rattle.cluster_model.specs.Agent.{may_decide}
 use Rattle.cluster_model.specs.Laws.{RiseFrom}
 use Rattle.word_laws.specs.Histories as word
-use Rattle.word_laws.specs.Histories.{In, State, Within, Recorded, GoodWord, AdmittedOk, HistoryOk, names}
-use Rattle.word_laws.proofs.Lists.{some-here, same-some, not-both, all-from, filter-all, list_all-from, list_any-in, list_any-from, in-filter, in-map-from, all-at, eqb-same}
+use Rattle.cluster_steps.specs.Lists.{In}
+use Rattle.word_laws.specs.Histories.{State, Within, Recorded, GoodWord, AdmittedOk, HistoryOk, names}
+use Rattle.cluster_steps.proofs.Lists.{some-here, same-some, not-both, all-from, filter-all, list_all-from, list_any-in, list_any-from, in-filter, in-map-from, all-at, eqb-same}
 use Rattle.word_laws.proofs.Algebra.{firsts, any-firsts, admits-firsts, subset-length, rise-below, within-cases, within-refl, names-admits}
 use Rattle.word_laws.proofs.Members.{first-in, in-not_lost, is_member-start, initiator-member}
 use Rattle.word_laws.proofs.Turns.{may_decide-cases}

@@ -13,8 +13,9 @@ use Rattle.cluster_model.specs.Engine.{Database}
 use Rattle.cluster_model.specs.Words.{slots, parts, term_of, leader, start_of_slot, is_some_of}
 use Rattle.cluster_model.specs.Letters.{Blocks, Letter, letter_in}
 use Rattle.cluster_model.specs.Initiator.{to_leader, to_leaders}
-use Rattle.word_laws.specs.Histories.{In, names}
-use Rattle.word_laws.proofs.Lists.{eqb-same, if-true, if-false, some-here}
+use Rattle.cluster_steps.specs.Lists.{In}
+use Rattle.word_laws.specs.Histories.{names}
+use Rattle.cluster_steps.proofs.Lists.{eqb-same, if-true, if-false, some-here}
 use Rattle.word_laws.proofs.Members.{is_some_of-is}
 use Rattle.log_laws.specs.Histories.{LogState, Holds, Leadership, IsSlot, part}
 use Rattle.log_laws.proofs.Kept.Terms.{some-term, some-start}

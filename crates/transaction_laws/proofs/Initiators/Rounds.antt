@@ -16,11 +16,11 @@ use Rattle.cluster_model.specs.Words.{Deployment, parts, all_parts, is_in, term_
 use Rattle.cluster_model.specs.Letters.{Blocks, becomes, sending}
 use Rattle.cluster_model.specs.AgentState.{AgentState, Phase, Off, Hears, Closes, Idle, Works, Work, Job, RunCall, TakeSnapshot}
 use Rattle.cluster_model.specs.Initiator.{to_all_leaders, with_work, has_part, in_order, outcome_of, decides, goes_on, feeds, ends_round, gathers, on_frag_done}
-use Rattle.word_laws.specs.Histories.{In}
-use Rattle.word_laws.proofs.Lists.{or-false, is_none-none, same-some, list_all-at, all-append, in-cases, none-and-some}
-use Rattle.log_laws.specs.Histories.{LogState, Holds, Prefix}
+use Rattle.cluster_steps.specs.Lists.{In, Prefix}
+use Rattle.cluster_steps.proofs.Lists.{or-false, is_none-none, same-some, list_all-at, all-append, in-cases, none-and-some}
+use Rattle.log_laws.specs.Histories.{LogState, Holds}
 use Rattle.log_laws.proofs.Plain.Lines.{both-empty}
-use Rattle.log_laws.proofs.Plain.Prefixes.{prefix-refl, prefix-same, prefix-grows}
+use Rattle.cluster_steps.proofs.Prefixes.{prefix-refl, prefix-same, prefix-grows}
 use Rattle.disk_laws.specs.Disks.{Firm}
 use Rattle.transaction_laws.specs.Machine.{Stage, IsOpen, WellFormed, Fits, EndFits, point_after, first_stage, next_stage, stage_behind, stage}
 use Rattle.transaction_laws.specs.Transactions.{Transactions, Books, Initiates, IsPart, IsOrder, HeardPart, Stood, Fed, Ended, Settled, AtHand, JobOk, PhaseOk, Aligned, led_log, whole, OfNumber, since, point_in, order_in}

@@ -13,10 +13,10 @@ use Rattle.cluster_model.specs.Words.{Deployment, parts, term_of, with_admitted}
 use Rattle.cluster_model.specs.Letters.{Turn, becomes, sending, only, letter_to}
 use Rattle.cluster_model.specs.AgentState.{AgentState, Work, Job, RunCall, TakeSnapshot, Idle, Queued, Job_, Admission, is_down_in, client_of, answers_client, on_reply}
 use Rattle.cluster_model.specs.Initiator.{begins, admitting, works_queue, answers, no_work, rests, ends_job, settles}
-use Rattle.word_laws.specs.Histories.{In}
-use Rattle.word_laws.proofs.Lists.{in-left, in-cases}
-use Rattle.log_laws.specs.Histories.{LogState, Holds, Prefix}
-use Rattle.log_laws.proofs.Plain.Prefixes.{prefix-rest}
+use Rattle.cluster_steps.specs.Lists.{In, Prefix}
+use Rattle.cluster_steps.proofs.Lists.{in-left, in-cases}
+use Rattle.log_laws.specs.Histories.{LogState, Holds}
+use Rattle.cluster_steps.proofs.Prefixes.{prefix-rest}
 use Rattle.disk_laws.specs.Disks.{Firm}
 use Rattle.transaction_laws.specs.Machine.{first_stage, stage}
 use Rattle.transaction_laws.specs.Transactions.{Transactions, Books, Initiates, IsPart, OnlyCalls, Settled, PhaseOk, whole}

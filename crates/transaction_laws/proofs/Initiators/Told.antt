@@ -12,10 +12,10 @@ use Rattle.cluster_model.specs.Words.{all_parts}
 use Rattle.cluster_model.specs.AgentState.{Heard}
 use Rattle.cluster_model.specs.Initiator.{greatest_told, open_told, has_told, last_told}
 use Rattle.cluster_model.specs.Site.{standing}
-use Rattle.word_laws.specs.Histories.{In}
-use Rattle.word_laws.proofs.Lists.{same-some, list_all-at, list_any-from, not-both, if-false}
-use Rattle.log_laws.specs.Histories.{LogState, Holds, Leadership, Prefix}
-use Rattle.log_laws.proofs.Plain.Prefixes.{prefix-rest, prefix-grows, prefix-length}
+use Rattle.cluster_steps.specs.Lists.{In, Prefix}
+use Rattle.cluster_steps.proofs.Lists.{same-some, list_all-at, list_any-from, not-both, if-false}
+use Rattle.log_laws.specs.Histories.{LogState, Holds, Leadership}
+use Rattle.cluster_steps.proofs.Prefixes.{prefix-rest, prefix-grows, prefix-length}
 use Rattle.disk_laws.specs.Disks.{Firm}
 use Rattle.transaction_laws.specs.Machine.{WellFormed, first_stage, stage, stage_behind}
 use Rattle.transaction_laws.specs.Transactions.{Transactions, Books, LeadershipFits, IsPart, OnlyCalls, Everywhere, StateOk, Settled, whole}

@@ -16,12 +16,12 @@ use Rattle.cluster_model.specs.Words.{parts, part_of_slot, slots, term_in, leade
 use Rattle.cluster_model.specs.Letters.{Letter}
 use Rattle.cluster_model.specs.AgentState.{AgentState, Phase, Off, Hears, Closes, Idle, Works, Work, Decision}
 use Rattle.cluster_model.specs.Site.{standing}
-use Rattle.word_laws.specs.Histories.{In}
-use Rattle.word_laws.proofs.Lists.{same-some, none-and-some, not-both, in-left, in-right, in-cases, all-at, all-append, all-mono, all-behind}
+use Rattle.cluster_steps.specs.Lists.{In, Prefix}
+use Rattle.cluster_steps.proofs.Lists.{same-some, none-and-some, not-both, in-left, in-right, in-cases, all-at, all-append, all-mono, all-behind}
 use Rattle.word_laws.proofs.Agreement.{member-is}
 use Rattle.word_laws.proofs.Members.{initiator-member}
-use Rattle.log_laws.specs.Histories.{LogState, Logs, Leadership, Prefix, Last, Holds, known, base_of, part}
-use Rattle.log_laws.proofs.Plain.Prefixes.{prefix-refl, prefix-append, prefix-trans, prefix-grows, prefix-length, prefixes-order, prefix-take, prefix-rest}
+use Rattle.log_laws.specs.Histories.{LogState, Logs, Leadership, Last, Holds, known, base_of, part}
+use Rattle.cluster_steps.proofs.Prefixes.{prefix-refl, prefix-append, prefix-trans, prefix-grows, prefix-length, prefixes-order, prefix-take, prefix-rest}
 use Rattle.log_laws.proofs.Kept.Terms.{base-least, last-below}
 use Rattle.log_laws.proofs.Runs.Agreeing.{agrees-begun}
 use Rattle.disk_laws.specs.Disks.{Firm, Top, AtLeast}

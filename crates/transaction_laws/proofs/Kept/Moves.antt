@@ -11,8 +11,8 @@ use Rattle.cluster_model.specs.Engine.{Database}
 use Rattle.cluster_model.specs.Words.{term_of, leader, start_of_slot}
 use Rattle.cluster_model.specs.Letters.{Letter, Sends, Turn}
 use Rattle.cluster_model.specs.AgentState.{AgentState, Off, new_agent}
-use Rattle.word_laws.specs.Histories.{In}
-use Rattle.log_laws.specs.Histories.{LogState, Logs, Leadership, Prefix, IsSlot, part}
+use Rattle.cluster_steps.specs.Lists.{In, Prefix}
+use Rattle.log_laws.specs.Histories.{LogState, Logs, Leadership, IsSlot, part}
 use Rattle.log_laws.proofs.Kept.Moves.{Onward}
 use Rattle.disk_laws.specs.Disks.{Firm, Top}
 use Rattle.transaction_laws.specs.Machine.{stage}

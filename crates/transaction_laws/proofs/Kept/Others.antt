@@ -8,7 +8,7 @@ use Rattle.cluster_model.specs.Engine.{Database}
 use Rattle.cluster_model.specs.Words.{term_of}
 use Rattle.cluster_model.specs.Disk.{chosen}
 use Rattle.cluster_model.specs.Letters.{Letter, Waiting}
-use Rattle.word_laws.proofs.Lists.{all-mono}
+use Rattle.cluster_steps.proofs.Lists.{all-mono}
 use Rattle.log_laws.specs.Histories.{LogState, Holds, part, start_at}
 use Rattle.log_laws.proofs.Kept.Grown.{onward-same}
 use Rattle.disk_laws.specs.Disks.{Firm}

@@ -5,9 +5,10 @@ use Rattle.std.specs.Prelude.{ℕ, Some}
 use Rattle.volt_base.specs.declared.entry.Entry.{Entry}
 use Rattle.cluster_model.specs.Engine.{Database}
 use Rattle.cluster_model.specs.Disk.{Shown, chosen}
-use Rattle.word_laws.proofs.Lists.{all-at}
-use Rattle.log_laws.specs.Histories.{LogState, Holds, Prefix, Leadership, part}
-use Rattle.log_laws.proofs.Plain.Prefixes.{prefix-trans, prefix-append, prefix-take, prefixes-order, take-grown}
+use Rattle.cluster_steps.proofs.Lists.{all-at}
+use Rattle.log_laws.specs.Histories.{LogState, Holds, Leadership, part}
+use Rattle.cluster_steps.specs.Lists.{Prefix}
+use Rattle.cluster_steps.proofs.Prefixes.{prefix-trans, prefix-append, prefix-take, prefixes-order, take-grown}
 use Rattle.disk_laws.specs.Disks.{Written, Firm, ContentOk, DisksHold, Shows, shown_at}
 use Rattle.disk_laws.proofs.Order.{Chosen, top-chosen, at_least-mark}
 use Rattle.disk_laws.proofs.Contents.{firm-within, firm-prefix}

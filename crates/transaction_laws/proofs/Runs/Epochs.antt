@@ -24,13 +24,14 @@ use Rattle.cluster_model.specs.Site.{acked_in, own_ack, least, lesser}
 use Rattle.cluster_model.specs.World.{World, Input, first_world, new_word, greatest_done, start_from, member_agent}
 use Rattle.cluster_model.specs.Recover.{shown_of, new_base, new_log, new_content, starts_anew, stays_stopped}
 use Rattle.cluster_model.specs.Events.{is_stopped, may_recover, is_shown, is_slot_or_none, allows}
-use Rattle.word_laws.specs.Histories.{In, names}
-use Rattle.word_laws.proofs.Lists.{all-mono, eqb-same, if-true, if-false, some-here, same-some, none-and-some, not-both}
+use Rattle.cluster_steps.specs.Lists.{In}
+use Rattle.word_laws.specs.Histories.{names}
+use Rattle.cluster_steps.proofs.Lists.{all-mono, eqb-same, if-true, if-false, some-here, same-some, none-and-some, not-both}
 use Rattle.word_laws.proofs.Epochs.{initiator-first}
 use Rattle.log_laws.specs.Histories.{LogState, Holds, IsSlot, Leadership, part, start_at}
 use Rattle.log_laws.specs.Copies.{log_state, HasLogs}
 use Rattle.log_laws.proofs.Plain.Copies.{slots-part}
-use Rattle.log_laws.proofs.Plain.Prefixes.{prefix-refl}
+use Rattle.cluster_steps.proofs.Prefixes.{prefix-refl}
 use Rattle.log_laws.proofs.Kept.Grown.{onward-same}
 use Rattle.log_laws.proofs.Runs.Boots.{first_leadership, new_logs, first-logs, anew-logs, first-logs-are, anew-logs-are}
 use Rattle.disk_laws.specs.Disks.{AtLeast, Top, Firm, DisksHold, Shows}

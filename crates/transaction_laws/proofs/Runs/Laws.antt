@@ -11,9 +11,10 @@ use Rattle.cluster_model.specs.Recover.{shown_of}
 use Rattle.cluster_model.specs.Runs.{Happening, IsRun, run}
 use Rattle.cluster_model.specs.Words.{part_of_slot}
 use Rattle.cluster_model.specs.World.{World, Input, first_world}
-use Rattle.log_laws.specs.Histories.{LogState, Prefix}
+use Rattle.log_laws.specs.Histories.{LogState}
+use Rattle.cluster_steps.specs.Lists.{Prefix}
 use Rattle.log_laws.specs.Copies.{log_state, log_of}
-use Rattle.log_laws.proofs.Plain.Prefixes.{prefix-append, prefix-trans}
+use Rattle.cluster_steps.proofs.Prefixes.{prefix-append, prefix-trans}
 use Rattle.disk_laws.specs.Survival.{MayShow}
 use Rattle.disk_laws.proofs.Boots.{firm_in}
 use Rattle.disk_laws.proofs.Choices.{world-shows}

@@ -5,10 +5,11 @@ use Rattle.std.specs.Prelude.{ℕ}
 use Rattle.volt_base.specs.declared.entry.Entry.{Entry}
 use Rattle.cluster_model.specs.Engine.{Database}
 use Rattle.cluster_model.specs.World.{AuthoritativeLog}
-use Rattle.word_laws.proofs.Lists.{same-some}
-use Rattle.log_laws.specs.Histories.{LogState, Holds, Prefix}
+use Rattle.cluster_steps.proofs.Lists.{same-some}
+use Rattle.log_laws.specs.Histories.{LogState, Holds}
+use Rattle.cluster_steps.specs.Lists.{Prefix}
 use Rattle.log_laws.specs.Copies.{AuthoritativeOk}
-use Rattle.log_laws.proofs.Plain.Prefixes.{prefix-append, prefix-trans}
+use Rattle.cluster_steps.proofs.Prefixes.{prefix-append, prefix-trans}
 use Rattle.disk_laws.specs.Disks.{Firm}
 use Rattle.transaction_laws.specs.Machine.{WellFormed, first_stage, stage}
 use Rattle.transaction_laws.specs.Transactions.{Transactions, Books, LeadershipFits, HeardPart, Aligned, Everywhere, IsPart, led_log, whole}

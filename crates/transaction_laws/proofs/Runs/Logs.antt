@@ -5,9 +5,10 @@ use Rattle.std.specs.Prelude.{ℕ, Option, Some, None}
 use Rattle.volt_wire.specs.Word.{Membership}
 use Rattle.cluster_model.specs.Words.{term_of, term_in}
 use Rattle.cluster_model.specs.SiteState.{Joining, Streamed}
-use Rattle.log_laws.specs.Histories.{LogState, Holds, Leadership, Prefix, ViewIn, StreamIn, base_of, part, start_at, log_at, term_at}
+use Rattle.log_laws.specs.Histories.{LogState, Holds, Leadership, ViewIn, StreamIn, base_of, part, start_at, log_at, term_at}
+use Rattle.cluster_steps.specs.Lists.{Prefix}
 use Rattle.log_laws.proofs.Kept.Terms.{base-least}
-use Rattle.log_laws.proofs.Plain.Prefixes.{prefix-none}
+use Rattle.cluster_steps.proofs.Prefixes.{prefix-none}
 use Rattle.disk_laws.proofs.Contents.{member-behind}
 
 -- Of a slot's log: its partition's leader had it, in some term.

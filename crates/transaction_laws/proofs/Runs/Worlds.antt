@@ -19,7 +19,7 @@ use Rattle.cluster_model.specs.Recover.{new_base, new_log, new_site, starts_anew
 use Rattle.cluster_model.specs.Events.{is_actor, is_some_letter, is_shown, is_slot_or_none, may_recover, can, allows, delivered, recovered_with, may_do, happens, step}
 use Rattle.cluster_model.specs.Runs.{Happening, IsRun, has_failed, may_happen, run}
 use Rattle.word_laws.specs.Histories as word
-use Rattle.word_laws.proofs.Lists.{if-false, set-both, all-mono}
+use Rattle.cluster_steps.proofs.Lists.{if-false, set-both, all-mono}
 use Rattle.word_laws.proofs.Worlds.{actor-host, host-apart, memory-runs}
 use Rattle.log_laws.specs.Histories.{Logs, LogState, Holds, WaitingOk}
 use Rattle.log_laws.specs.Copies.{log_state, HasLogs}

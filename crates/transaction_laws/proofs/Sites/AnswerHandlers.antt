@@ -20,11 +20,11 @@ use Rattle.cluster_model.specs.SiteState.{SiteState, Joining, Reported, Held, As
 use Rattle.cluster_model.specs.Site.{begins_base, appends, appends_all, passes_on, leads_with, holds, runs_call, runs_calls, works_calls, on_sp_call, holds_for, initiator_in, on_frag, on_done, firm_now, floor_now, answers_held, counts, noted, on_ack, repair_to, is_repaired, longest, lacks, repairs, on_report, reports_to, asks_to_join, is_reply, in_new_term, as_member, on_view, on_put, on_repair, on_join_ask, with_count, on_scan_end, may_finish, finishes_load, on_chunk, on_stream_end, on_task, on_look, from_agent, from_site, from_scanner, from_director, site_handler}
 use Rattle.cluster_model.specs.Initiator.{end_of_reply}
 use Rattle.cluster_model.specs.Sync.{acknowledges, says_loaded, after_sync}
-use Rattle.word_laws.proofs.Lists.{all-append, all-filter, all-if, all-at, all-from, in-filter, in-map-from, none-and-some}
-use Rattle.log_laws.specs.Histories.{Prefix}
-use Rattle.log_laws.proofs.Plain.Copies.{leader-view, leads-parts}
-use Rattle.log_laws.proofs.Plain.Prefixes.{prefix-refl, prefix-append}
-use Rattle.log_laws.proofs.Plain.Least.{firm_now-above}
+use Rattle.cluster_steps.proofs.Lists.{all-append, all-filter, all-if, all-at, all-from, in-filter, in-map-from, none-and-some}
+use Rattle.cluster_steps.specs.Lists.{Prefix}
+use Rattle.cluster_steps.proofs.Leaders.{leader-view, leads-parts}
+use Rattle.cluster_steps.proofs.Prefixes.{prefix-refl, prefix-append}
+use Rattle.cluster_steps.proofs.Least.{firm_now-above}
 use Rattle.disk_laws.proofs.Handlers.{Plain}
 use Rattle.disk_laws.proofs.SiteHandlers.{stays_joiner, as_joiner, as_entered}
 use Rattle.transaction_laws.specs.Transactions.{StandsAt, HeldAnswer}

@@ -14,10 +14,9 @@ use Rattle.cluster_model.specs.Words.{Deployment, part_of_slot}
 use Rattle.cluster_model.specs.Letters.{Blocks, Letter, Waiting, Turn, becomes, ◌▸◌}
 use Rattle.cluster_model.specs.SiteState.{SiteState, Held, site_term, leads}
 use Rattle.cluster_model.specs.Site.{standing, is_first_term, has_all_on_disk}
-use Rattle.word_laws.specs.Histories.{In}
-use Rattle.word_laws.proofs.Lists.{all-append, all-mono}
-use Rattle.log_laws.specs.Histories.{Prefix}
-use Rattle.log_laws.proofs.Plain.Prefixes.{prefix-refl, prefix-trans}
+use Rattle.cluster_steps.specs.Lists.{In, Prefix}
+use Rattle.cluster_steps.proofs.Lists.{all-append, all-mono}
+use Rattle.cluster_steps.proofs.Prefixes.{prefix-refl, prefix-trans}
 use Rattle.transaction_laws.specs.Transactions.{StandsAt, HeldAnswer, WaitsPlain}
 
 -- ---- what is said of a site

@@ -13,11 +13,12 @@ use Rattle.cluster_model.specs.Words.{Deployment, term_of, term_in, start_of_slo
 use Rattle.cluster_model.specs.Letters.{Letter, Sends}
 use Rattle.cluster_model.specs.SiteState.{SiteState, Reported, site_term, leads}
 use Rattle.cluster_model.specs.Site.{longest, lacks}
-use Rattle.word_laws.specs.Histories.{In}
-use Rattle.word_laws.proofs.Lists.{all-at, all-behind, eqb-same, if-false, if-true, is_none-none, none-and-some, same-some}
-use Rattle.log_laws.specs.Histories.{LogState, Logs, Entered, Leadership, Prefix, WordOf, Holds, IsSlot, LeadsIn, MemberOk, ReportOk, part, start_at, log_at, term_at}
-use Rattle.log_laws.proofs.Plain.Copies.{leader-is, leads-from}
-use Rattle.log_laws.proofs.Plain.Prefixes.{prefix-length, prefixes-order}
+use Rattle.cluster_steps.specs.Lists.{In, Prefix}
+use Rattle.cluster_steps.proofs.Lists.{all-at, all-behind, eqb-same, if-false, if-true, is_none-none, none-and-some, same-some}
+use Rattle.log_laws.specs.Histories.{LogState, Logs, Entered, Leadership, WordOf, Holds, IsSlot, LeadsIn, MemberOk, ReportOk, part, start_at, log_at, term_at}
+use Rattle.log_laws.proofs.Plain.Copies.{leader-is}
+use Rattle.cluster_steps.proofs.Leaders.{leads-from}
+use Rattle.cluster_steps.proofs.Prefixes.{prefix-length, prefixes-order}
 use Rattle.log_laws.proofs.Kept.Moves.{Enters, Grown, Heads, after}
 use Rattle.log_laws.proofs.Kept.Plumbing.{here}
 use Rattle.log_laws.proofs.Kept.Terms.{entered-start, leadership-entered, running-slot, same-word}

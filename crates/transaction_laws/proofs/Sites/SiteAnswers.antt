@@ -21,10 +21,10 @@ use Rattle.cluster_model.specs.SiteState.{SiteState, new_joiner, stopped_site, S
 use Rattle.cluster_model.specs.Site.{initiator_in, on_view, can_take, takes_first_ask, takes_asks, ends_streams, may_stream, on_stream_start, standing, tells, tells_initiator, has_all_on_disk, is_first_term, shows, settles, ordered, site_handler, takes_each, takes_waiting, on_start, on_stop, site_runs, site_takes}
 use Rattle.cluster_model.specs.Environment.{Environment, NoFault, DiskFails, NoMemory, DisksShow}
 use Rattle.cluster_model.specs.Sync.{written, joiner_written, after_sync, syncs, parts_of_sync, parts_of_message, start_after, stops_so, site_turn, sync_turn}
-use Rattle.word_laws.proofs.Lists.{all-append, all-filter, all-mono, all-if, all-one, all-at, all-from, in-filter, is_none-none}
-use Rattle.log_laws.specs.Histories.{Prefix}
-use Rattle.log_laws.proofs.Plain.Prefixes.{prefix-refl, prefix-none}
-use Rattle.log_laws.proofs.Plain.Lines.{all-order}
+use Rattle.cluster_steps.proofs.Lists.{all-append, all-filter, all-mono, all-if, all-one, all-at, all-from, in-filter, is_none-none}
+use Rattle.cluster_steps.specs.Lists.{Prefix}
+use Rattle.cluster_steps.proofs.Prefixes.{prefix-refl, prefix-none}
+use Rattle.cluster_steps.proofs.Sends.{all-order}
 use Rattle.disk_laws.proofs.Handlers.{Plain, PlainWaiting}
 use Rattle.disk_laws.proofs.SiteHandlers.{stays_joiner, as_joiner, as_entered}
 use Rattle.transaction_laws.specs.Transactions.{WaitsPlain}

@@ -16,9 +16,9 @@ use Rattle.cluster_model.specs.Site.{acked_in, own_ack, copy_acks, lesser, least
 use Rattle.cluster_model.specs.Environment.{Environment, NoFault, DiskFails, NoMemory, DisksShow}
 use Rattle.cluster_model.specs.Disk.{after_parts}
 use Rattle.cluster_model.specs.Sync.{after_sync, parts_of_sync, site_turn, syncs, sync_turn}
-use Rattle.word_laws.proofs.Lists.{if-true, all-append, not-both, none-and-some, same-some}
-use Rattle.log_laws.proofs.Plain.Copies.{leader-view, leads-parts, leads-from}
-use Rattle.log_laws.proofs.Plain.Least.{least_of-below}
+use Rattle.cluster_steps.proofs.Lists.{if-true, all-append, not-both, none-and-some, same-some}
+use Rattle.cluster_steps.proofs.Leaders.{leader-view, leads-parts, leads-from}
+use Rattle.cluster_steps.proofs.Least.{least_of-below}
 use Rattle.disk_laws.proofs.SiteHandlers.{stays_joiner}
 use Rattle.transaction_laws.specs.Transactions.{acknowledged}
 use Rattle.transaction_laws.proofs.Sites.SiteWalk.{Comes, WaitsQuietly, with_rest, begins_at, Settles, Steps, AnyReport, any-report, any-reports, settled, settled-walk, after_sync-walk}

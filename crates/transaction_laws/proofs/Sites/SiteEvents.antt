@@ -11,7 +11,7 @@ use Rattle.cluster_model.specs.Letters.{Letter}
 use Rattle.cluster_model.specs.Environment.{Environment}
 use Rattle.cluster_model.specs.SiteState.{SiteState, leads}
 use Rattle.cluster_model.specs.Sync.{site_turn, sync_turn}
-use Rattle.word_laws.proofs.Lists.{all-mono}
+use Rattle.cluster_steps.proofs.Lists.{all-mono}
 use Rattle.log_laws.specs.Histories.{LogState, Logs, Holds, IsSlot, StreamIn, ViewIn, WaitingOk, start_at, log_at}
 use Rattle.log_laws.proofs.Kept.Moves.{Enters, Grown, after, popped}
 use Rattle.log_laws.proofs.Kept.Terms.{some-start}

@@ -14,12 +14,13 @@ use Rattle.cluster_model.specs.Letters.{Blocks, Letter, Waiting, arrival, Taken}
 use Rattle.cluster_model.specs.SiteState.{SiteState, Joining, Streamed, Reported, is_joiner, is_leader, leads, site_term}
 use Rattle.cluster_model.specs.Environment.{Environment}
 use Rattle.cluster_model.specs.Sync.{site_turn}
-use Rattle.word_laws.specs.Histories.{In}
-use Rattle.word_laws.proofs.Lists.{not-both, all-both, all-mono, none-and-some, same-some}
+use Rattle.cluster_steps.specs.Lists.{In}
+use Rattle.cluster_steps.proofs.Lists.{not-both, all-both, all-mono, none-and-some, same-some}
 use Rattle.word_laws.proofs.Agreement.{member-is}
 use Rattle.word_laws.proofs.Members.{is_member-start}
 use Rattle.log_laws.specs.Histories.{LogState, Holds, JoinerOk, ViewIn, InWord, StreamIn, ReportOk, SiteLetterOk, WaitingFrom, WaitingOk, IsSlot, line, line_in, between, part, start_at, term_at}
-use Rattle.log_laws.proofs.Plain.Copies.{leader-view, is-leader, leader-follows-none, a-joiner}
+use Rattle.cluster_steps.proofs.Leaders.{leader-view, a-joiner}
+use Rattle.log_laws.proofs.Plain.Copies.{is-leader, leader-follows-none}
 use Rattle.log_laws.proofs.Plain.Lines.{line-empty, for-true}
 use Rattle.log_laws.proofs.Messages.Pops.{taken-for}
 use Rattle.log_laws.proofs.NewTerms.Entering.{took-admitted, ran-owner, running-ran}

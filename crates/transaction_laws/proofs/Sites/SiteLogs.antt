@@ -14,8 +14,8 @@ use Rattle.cluster_model.specs.Site.{longest, lacks, takes_asks, in_new_term}
 use Rattle.cluster_model.specs.Environment.{Environment, NoFault, DiskFails, NoMemory, DisksShow}
 use Rattle.cluster_model.specs.Sync.{after_sync, parts_of_sync, site_turn, syncs, sync_turn}
 use Rattle.cluster_model.specs.Disk.{after_parts}
-use Rattle.word_laws.proofs.Lists.{all-append, not-both, none-and-some}
-use Rattle.log_laws.proofs.Plain.Copies.{leader-view, leads-parts, leads-from}
+use Rattle.cluster_steps.proofs.Lists.{all-append, not-both, none-and-some}
+use Rattle.cluster_steps.proofs.Leaders.{leader-view, leads-parts, leads-from}
 use Rattle.transaction_laws.proofs.Kept.Moves.{CallsAt, IsCallAt}
 use Rattle.transaction_laws.proofs.Sites.SiteWalk.{Comes, WaitsQuietly, ReportOf, WaitsReport, taken_at, taken_by, with_rest, Settles, Steps, AnyReport, any-report, any-reports, settled, settled-walk, after_sync-walk}
 use Rattle.transaction_laws.proofs.Sites.SiteWalked.{takes-asks, asks-view, Walked, Ends, Same, Stays, Views, walked, comes-view, wrote, wrote-leader, written_site}

@@ -14,7 +14,7 @@ use Rattle.cluster_model.specs.Words.{term_of, term_in, initiator}
 use Rattle.cluster_model.specs.Letters.{same, Letter, arrival, Arrival, Taken, Refused, Waits}
 use Rattle.cluster_model.specs.SiteState.{SiteState}
 use Rattle.cluster_model.specs.World.{rest}
-use Rattle.word_laws.proofs.Lists.{all-mono, and-false, eqb-same, if-false, if-true, none-and-some, not-both, same-some}
+use Rattle.cluster_steps.proofs.Lists.{all-mono, and-false, eqb-same, if-false, if-true, none-and-some, not-both, same-some}
 use Rattle.word_laws.proofs.Steps as word_steps
 use Rattle.log_laws.specs.Histories.{LogState, Holds, IsSlot, is_for, part, start_at, term_at}
 use Rattle.log_laws.proofs.Plain.Lines.{both-empty, flat-none, for-false, for-true, if-none, true-for}

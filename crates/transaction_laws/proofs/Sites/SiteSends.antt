@@ -13,10 +13,11 @@ use Rattle.cluster_model.specs.Words.{Deployment, term_of, term_in, is_some_of}
 use Rattle.cluster_model.specs.Letters.{Letter}
 use Rattle.cluster_model.specs.SiteState.{SiteState, Joiner, site_term, leads, other_copies}
 use Rattle.cluster_model.specs.Site.{acked_in, copy_acks, has_all_on_disk, least, lesser, own_ack, standing}
-use Rattle.word_laws.proofs.Lists.{all-append, none-and-some}
+use Rattle.cluster_steps.proofs.Lists.{all-append, none-and-some}
 use Rattle.word_laws.proofs.Members.{is_some_of-is}
-use Rattle.log_laws.specs.Histories.{LogState, Prefix, Holds, IsSlot, part, start_at}
-use Rattle.log_laws.proofs.Plain.Prefixes.{prefix-length, prefix-rest}
+use Rattle.log_laws.specs.Histories.{LogState, Holds, IsSlot, part, start_at}
+use Rattle.cluster_steps.specs.Lists.{Prefix}
+use Rattle.cluster_steps.proofs.Prefixes.{prefix-length, prefix-rest}
 use Rattle.log_laws.proofs.Kept.Terms.{some-term}
 use Rattle.log_laws.proofs.Entries.Leads.{Leading, leading}
 use Rattle.log_laws.proofs.Runs.Leading.{leads-runs}

@@ -12,11 +12,12 @@ use Rattle.cluster_model.specs.Words.{Deployment, term_of, term_in, leader, init
 use Rattle.cluster_model.specs.Disk.{Shown, chosen}
 use Rattle.cluster_model.specs.Letters.{Letter, Sends, Waiting}
 use Rattle.cluster_model.specs.SiteState.{SiteState, site_term, leads}
-use Rattle.word_laws.specs.Histories.{In}
-use Rattle.word_laws.proofs.Lists.{all-append, all-at, all-from, all-mono, in-none, none-and-some, same-some}
+use Rattle.cluster_steps.specs.Lists.{In}
+use Rattle.cluster_steps.proofs.Lists.{all-append, all-at, all-from, all-mono, in-none, none-and-some, same-some}
 use Rattle.log_laws.specs.Histories.{LogState, Logs, LeadsIn, Leadership, Holds, IsSlot, part, start_at, log_at, term_at}
-use Rattle.log_laws.proofs.Plain.Copies.{leader-is, leader-view, leads-from}
-use Rattle.log_laws.proofs.Plain.Prefixes.{prefix-length}
+use Rattle.log_laws.proofs.Plain.Copies.{leader-is}
+use Rattle.cluster_steps.proofs.Leaders.{leader-view, leads-from}
+use Rattle.cluster_steps.proofs.Prefixes.{prefix-length}
 use Rattle.log_laws.proofs.Kept.Moves.{Enters, Grown}
 use Rattle.log_laws.proofs.Kept.Plumbing.{here, sent-either, there}
 use Rattle.log_laws.proofs.Kept.Terms.{same-word}

@@ -19,9 +19,9 @@ use Rattle.cluster_model.specs.SiteState.{SiteState, Joining, Reported, Joiner, 
 use Rattle.cluster_model.specs.Site.{appends_all, leads_with, holds, runs_calls, works_calls, on_sp_call, holds_for, initiator_in, on_frag, on_done, firm_now, floor_now, counts, with_position, noted, on_ack, is_repaired, longest, lacks, repairs, on_report, reports_to, as_member, on_put, on_repair, on_join_ask, is_sent, without_count, ends_streams, with_count, on_scan_end, may_finish, may_stream, on_stream_start, finishes_load, on_chunk, on_stream_end, on_task, tells, tells_initiator, has_all_on_disk, is_first_term, shows, from_agent, from_site, from_scanner, from_director, site_handler, takes_each, takes_waiting}
 use Rattle.cluster_model.specs.Initiator.{end_of_reply}
 use Rattle.cluster_model.specs.Sync.{acknowledges, says_loaded, after_sync}
-use Rattle.word_laws.proofs.Lists.{not-both, all-filter, all-from}
+use Rattle.cluster_steps.proofs.Lists.{not-both, all-filter, all-from}
 use Rattle.log_laws.specs.Histories.{LogState, WaitingFrom, WaitingOk}
-use Rattle.log_laws.proofs.Plain.Appends.{Appended, grown, appends-one, appends-all, leads-with}
+use Rattle.cluster_steps.proofs.Appends.{Appended, grown, appends-one, appends-all, leads-with}
 use Rattle.transaction_laws.specs.Transactions.{WaitsPlain, order_in}
 
 -- ---- messages

@@ -17,8 +17,8 @@ use Rattle.cluster_model.specs.Site.{in_new_term, on_view, is_lost_in, can_take,
 use Rattle.cluster_model.specs.Environment.{Environment, NoFault, DiskFails, NoMemory, DisksShow}
 use Rattle.cluster_model.specs.Sync.{written, joiner_written, parts_of_sync, site_turn}
 use Rattle.cluster_model.specs.Disk.{Shown, after_parts}
-use Rattle.word_laws.proofs.Lists.{not-both, same-some}
-use Rattle.log_laws.proofs.Plain.Copies.{leader-same}
+use Rattle.cluster_steps.proofs.Lists.{not-both, same-some}
+use Rattle.cluster_steps.proofs.Leaders.{leader-same}
 use Rattle.disk_laws.proofs.SiteHandlers.{stays_joiner, as_joiner, as_entered}
 use Rattle.transaction_laws.specs.Transactions.{order_in}
 use Rattle.transaction_laws.proofs.Sites.SiteWalk.{Comes, WaitsQuietly, ReportOf, WaitsReport, taken_from, taken_at, taken_by, with_rest, joiner-apart, Steps, OnWaiting, worked, worked-walk, Alike, AnyReport, any-report, any-reports, alike-steps, SameView, view-steps, NoWord, taken-handler, as_member-walk}

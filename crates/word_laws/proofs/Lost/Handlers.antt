@@ -18,7 +18,7 @@ use Rattle.cluster_model.specs.Initiator.{to_leader, to_leaders, to_all_leaders,
 use Rattle.cluster_model.specs.Agent.{to_slot, to_partition, to_initiator, hands_on, unless_down, on_call, on_closed, on_word, on_hello, takes_word, on_decided, asks_initiator, has_loaded, on_loaded, is_other_word, word_to, says, unknown_ends, decided_sends, decides_word, may_decide, agrees, from_agent, from_site, from_director, from_client, agent_handler, handler_and_word, unless_stopped, takes_each, takes_waiting, agent_runs, agent_takes, takes_start}
 use Rattle.cluster_model.proofs.Closing.{Over, handler_and_word-over}
 use Rattle.word_laws.specs.Lost.{OfLost, OfLetter, OfLetterFrom, OfAgent}
-use Rattle.word_laws.proofs.Lists.{all-append, all-mono, all-if, all-filter, all-map}
+use Rattle.cluster_steps.proofs.Lists.{all-append, all-mono, all-if, all-filter, all-map}
 
 -- ---- lists
 

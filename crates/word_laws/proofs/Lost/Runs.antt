@@ -30,8 +30,8 @@ use Rattle.cluster_model.specs.Laws.{start_in_letter, starts_in}
 use Rattle.cluster_model.proofs.Closing.{start_after-same}
 use Rattle.cluster_model.proofs.Starts.{takes-next}
 use Rattle.word_laws.specs.Lost.{OfLetter, OfLetterFrom, OfAgent, LostAreStopped}
-use Rattle.word_laws.proofs.Lists.{all-append, all-mono, all-if, rise-append, set-here, set-there}
-use Rattle.word_laws.proofs.Channels.{starts-append, starts-if, stops_all-starts, took-all}
+use Rattle.cluster_steps.proofs.Lists.{all-append, all-mono, all-if, rise-append, set-here, set-there}
+use Rattle.cluster_steps.proofs.Channels.{starts-append, starts-if, stops_all-starts, took-all}
 use Rattle.word_laws.proofs.Lost.Handlers.{StopsWith, Kept, takes-kept, stops_with_host-with}
 use Rattle.word_laws.proofs.Lost.Starts.{letter-mono, agent-mono, new_agent-ok, Owned, HostOk, Agents, Channels, starts_of, letters_of, DeadIn, HoldsOf, Holds, DeadOf, holds-lost, to_site-holds, to_client-holds, to_scanner-holds, dead-make, agents_after, channels_after, kept-holds, stays-holds, start-runs, start-stops}
 

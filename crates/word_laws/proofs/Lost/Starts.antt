@@ -17,8 +17,8 @@ use Rattle.cluster_model.specs.Events.{delivered}
 use Rattle.cluster_model.specs.Runs.{run}
 use Rattle.cluster_model.specs.Laws.{RiseFrom, start_in_letter, starts_in}
 use Rattle.word_laws.specs.Lost.{OfLost, OfLetter, OfLetterFrom, OfAgent, IsStopped, LostAreStopped}
-use Rattle.word_laws.proofs.Lists.{all-append, all-mono, rise-lower}
-use Rattle.word_laws.proofs.Channels.{took-all, starts-all, starts-rise}
+use Rattle.cluster_steps.proofs.Lists.{all-append, all-mono, rise-lower}
+use Rattle.cluster_steps.proofs.Channels.{took-all, starts-all, starts-rise}
 use Rattle.word_laws.proofs.Lost.Handlers.{OrOwn, StopsWith, Kept}
 
 -- ---- what is monotone

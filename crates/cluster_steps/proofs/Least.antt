@@ -5,8 +5,8 @@ use Rattle.std.specs.Prelude.{ℕ, map, max, min, if◌then◌else◌, Option, S
 use Rattle.cluster_model.specs.Words.{Deployment}
 use Rattle.cluster_model.specs.SiteState.{SiteState, Joiner, other_copies}
 use Rattle.cluster_model.specs.Site.{acked_in, own_ack, copy_acks, lesser, least, least_of, at_least, firm_now, floor_now}
-use Rattle.word_laws.specs.Histories.{In}
-use Rattle.word_laws.proofs.Lists.{in-left, in-right, in-map}
+use Rattle.cluster_steps.specs.Lists.{In}
+use Rattle.cluster_steps.proofs.Lists.{in-left, in-right, in-map}
 
 -- ---- the least of these positions
 

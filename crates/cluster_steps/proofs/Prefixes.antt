@@ -5,7 +5,7 @@ use Rattle.std.proofs.lemmas.List.{drop-append-le, nil_from_length, take-append-
 use Rattle.std.proofs.lemmas.List.Prefix.{front_rest, front_fits}
 use Rattle.std.specs.Prelude.{ℕ}
 use Rattle.volt_base.specs.declared.entry.Entry.{Entry}
-use Rattle.log_laws.specs.Histories.{Prefix}
+use Rattle.cluster_steps.specs.Lists.{Prefix}
 
 -- ---- prefixes
 

@@ -7,7 +7,7 @@ use Rattle.std.specs.Prelude.{ℕ, ◌&&◌, ◌||◌, filter, map, if◌then◌
 use Rattle.std.specs.List.{AllByRecursion, list_any, list_all}
 use Rattle.cluster_model.specs.World.{rest, set_at}
 use Rattle.cluster_model.specs.Laws.{RiseFrom}
-use Rattle.word_laws.specs.Histories.{In, OnSome}
+use Rattle.cluster_steps.specs.Lists.{In, OnSome}
 
 -- ---- choices
 
