@@ -4,7 +4,7 @@ use Rattle.std.proofs.lemmas.Bool.{and_parts, eqb-true, false≢true, or_cases}
 use Rattle.std.proofs.lemmas.Bool.Decides.{nat_tests}
 use Rattle.std.proofs.lemmas.List.Folds.{list_any-append}
 use Rattle.std.specs.Prelude.{ℕ, ◌&&◌, ◌||◌, not, nat_lt, nat_le, map, Option, Some, None, is_none}
-use Rattle.std.specs.List.{AllByRecursion, list_any, range_with_len}
+use Rattle.std.specs.List.{list_any, range_with_len}
 use Rattle.volt_wire.specs.declared.actor.Actor.{Actor}
 use Rattle.volt_wire.specs.declared.actor.Actor.TheVariants.{Director, Client, Agent, Site, Scanner}
 use Rattle.volt_wire.specs.declared.event.Event.{Event}
@@ -23,11 +23,11 @@ use Rattle.cluster_model.specs.Agent.{agent_turn, start_after}
 use Rattle.cluster_model.specs.World.{World, Input, first_world, set_at, sent, stamp_of, with_director, member_agent, new_word, greatest_done}
 use Rattle.cluster_model.specs.Recover.{recovers, starts_anew, stays_stopped, new_base, new_log}
 use Rattle.cluster_model.specs.Events.{is_actor, is_some_letter, can, allows, delivered, recovered_with, may_do, happens, step}
-use Rattle.cluster_model.specs.Runs.{Happening, IsRun, has_failed, may_happen, run}
+use Rattle.cluster_model.specs.Runs.{Happening, has_failed, may_happen, renews_by, renews_at, renews}
 use Rattle.cluster_model.specs.Laws.{starts_in}
 use Rattle.cluster_model.proofs.Starts.{takes-next}
 use Rattle.word_laws.specs.Histories.{History, Holds}
-use Rattle.word_laws.specs.Chain.{state_of, InEpoch, renews_by, renews_at, renews}
+use Rattle.word_laws.specs.Chain.{state_of, InEpoch}
 use Rattle.cluster_steps.proofs.Lists.{if-false}
 use Rattle.cluster_steps.proofs.Channels.{starts-if, stops_all-starts}
 use Rattle.word_laws.proofs.Moves.{Grows}
@@ -269,33 +269,3 @@ step-holds E w e may k = (step-reaches E w e may k).next
 -- It is the same one, unless a recovery works.
 pub step-grows : (E : Database) (w : World) (e : Happening) → may_happen w e ≡ true → renews e ≡ false → (k : InEpoch w) → (next : InEpoch (step E w e)) × Grows k.history next.history
 step-grows E w e may same k = let r = step-reaches E w e may k in (r.next, r.grows same)
-
--- ---- runs
-
--- Each world of a run is in an epoch, if the first one is.
-pub run-holds : (E : Database) (es : List Happening) (w : World) → IsRun E es w → InEpoch w → InEpoch (run E es w)
-run-holds E [] w r k = k
-run-holds E (e ∷ es) w r k = run-holds E es (step E w e) r.1 (step-holds E w e r.0 k)
-
--- Where no recovery works on the way, it is the same one.
-pub run-grows : (E : Database) (es : List Happening) (w : World) → IsRun E es w → AllByRecursion (λ e. renews e ≡ false) es → (k : InEpoch w)
-    → (n : InEpoch (run E es w)) × Grows k.history n.history
-run-grows E [] w r same k = (k, grows-same k.history)
-run-grows E (e ∷ es) w r same k =
-    let s = step-grows E w e r.0 same.0 k in
-    let n = run-grows E es (step E w e) r.1 same.1 s.0 in
-    (n.0, grows-then k.history s.0.history n.0.history s.1 n.1)
-
--- ---- runs that go on
-
-pub run-append : (E : Database) (es fs : List Happening) (w : World) → run E (es ++ fs) w ≡ run E fs (run E es w)
-run-append E [] fs w = refl
-run-append E (e ∷ es) fs w = run-append E es fs (step E w e)
-
-pub run-first : (E : Database) (es fs : List Happening) (w : World) → IsRun E (es ++ fs) w → IsRun E es w
-run-first E [] fs w r = tt
-run-first E (e ∷ es) fs w r = (r.0, run-first E es fs (step E w e) r.1)
-
-pub run-second : (E : Database) (es fs : List Happening) (w : World) → IsRun E (es ++ fs) w → IsRun E fs (run E es w)
-run-second E [] fs w r = r
-run-second E (e ∷ es) fs w r = run-second E es fs (step E w e) r.1

@@ -25,7 +25,8 @@ use Rattle.cluster_model.specs.Agent.{agent_runs, agent_takes, takes_start, on_s
 use Rattle.cluster_model.specs.World.{World, Input, first_world, took, sent, stamp_of, member_agent, new_word, greatest_done, set_at}
 use Rattle.cluster_model.specs.Recover.{recovers, starts_anew, new_base, new_log, opens}
 use Rattle.cluster_model.specs.Events.{can, allows, delivered, recovered_with, may_do, step}
-use Rattle.cluster_model.specs.Runs.{Happening, IsRun, has_failed, run}
+use Rattle.cluster_model.specs.Runs.{Happening, Reached, has_failed, may_happen}
+use Rattle.cluster_model.proofs.Runs.{reached-kept}
 use Rattle.cluster_model.specs.Laws.{start_in_letter, starts_in}
 use Rattle.cluster_model.proofs.Closing.{start_after-same}
 use Rattle.cluster_model.proofs.Starts.{takes-next}
@@ -397,11 +398,8 @@ step-holds E w event.Item o may h = next-holds w (may_do w w.director.items) w.d
 step-holds E w (event.Submit n) o may h = others-hold w (Client n) (submits w.deployment (stamp_of w) (w.clients n) (w.clients n).left).sends h (λ g b. refl) (λ g. refl)
 step-holds E w (event.Idle a) o may h = h
 
-run-holds : (E : Database) (es : List Happening) (w : World) → IsRun E es w → Holds w → Holds (run E es w)
-run-holds E [] w r h = h
-run-holds E (e ∷ es) w r h =
-    let may = and_parts (not (has_failed w) && can w e.0) (allows w e.0 e.1) r.0 in
-    run-holds E es (step E w e) r.1 (step-holds E w e.0 e.1 may.1 h)
+reached-step : (E : Database) (w : World) (e : Happening) → may_happen w e ≡ true → Holds w → Holds (step E w e)
+reached-step E w e r h = step-holds E w e.0 e.1 (and_parts (not (has_failed w) && can w e.0) (allows w e.0 e.1) r).1 h
 
 first-host : (hosts h : ℕ) (c : Bool) → nat_lt h hosts ≡ c → HostOk (λ s. s - 1) (hosts + 1) h (if c then 1 + h else 0) []
 first-host hosts h c q = record { running = runs c q; owned = tt; rising = tt; apart = tt }
@@ -428,5 +426,5 @@ first-holds E I = record {
     held-choice h true = member-ok (DeadIn (λ s. s - 1) (I.deployment.layout.hosts + 1) (first_world E I).agents (first_world E I).channel) I.deployment I.base 1 1 (greatest_done E (λ p. []) (parts I.deployment) + 1) h
     held-choice h false = new_agent-ok (DeadIn (λ s. s - 1) (I.deployment.layout.hosts + 1) (first_world E I).agents (first_world E I).channel) 0
 
-pub lost-stopped : (E : Database) (I : Input) (es : List Happening) → IsRun E es (first_world E I) → LostAreStopped (run E es (first_world E I))
-lost-stopped E I es r = holds-lost (run E es (first_world E I)) (run-holds E es (first_world E I) r (first-holds E I))
+pub lost-stopped : (E : Database) (I : Input) (w : World) → Reached E I w → LostAreStopped w
+lost-stopped E I w r = holds-lost w (reached-kept E Holds (reached-step E) I w (λ is. first-holds E I) r)

@@ -14,7 +14,6 @@ use Rattle.cluster_model.specs.Environment.{Environment}
 use Rattle.cluster_model.specs.AgentState.{AgentState, new_agent}
 use Rattle.cluster_model.specs.World.{World, took, sent, set_at}
 use Rattle.cluster_model.specs.Events.{delivered}
-use Rattle.cluster_model.specs.Runs.{run}
 use Rattle.cluster_model.specs.Laws.{RiseFrom, start_in_letter, starts_in}
 use Rattle.word_laws.specs.Lost.{OfLost, OfLetter, OfLetterFrom, OfAgent, IsStopped, LostAreStopped}
 use Rattle.cluster_steps.proofs.Lists.{all-append, all-mono, rise-lower}
