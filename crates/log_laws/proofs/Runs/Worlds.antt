@@ -16,11 +16,11 @@ use Rattle.cluster_model.specs.SiteState.{SiteState, is_member_site, leads}
 use Rattle.cluster_model.specs.Agent.{agent_turn}
 use Rattle.cluster_model.specs.Sync.{owes_in, may_sync, site_turn, sync_turn}
 use Rattle.cluster_model.specs.Environment.{Environment, NoFault, DiskFails, NoMemory, DisksShow}
-use Rattle.cluster_model.specs.World.{World, AuthoritativeLog, Stopped, Input, first_world, stamp_of, took, authoritative_after, with_site, stops_with}
+use Rattle.cluster_model.specs.World.{World, AuthoritativeLog, Stopped, Input, stamp_of, took, authoritative_after, with_site, stops_with}
 use Rattle.cluster_model.specs.Recover.{stays_stopped}
 use Rattle.cluster_model.specs.Events.{is_actor, is_some_letter, can, allows, delivered, recovered_with, may_do, happens, step}
-use Rattle.cluster_model.specs.Runs.{Happening, IsRun, has_failed, may_happen, run}
-use Rattle.word_laws.specs.Chain.{renews_by, renews_at, renews, IsOneEpoch}
+use Rattle.cluster_model.specs.Runs.{Happening, Reached, RunsInEpoch, has_failed, may_happen, renews_by, renews_at, renews}
+use Rattle.cluster_model.proofs.Runs.{reached-kept, in-epoch-kept}
 use Rattle.cluster_steps.proofs.Lists.{if-false, set-here, set-both}
 use Rattle.word_laws.proofs.Worlds.{actor-host, host-apart, memory-runs}
 use Rattle.log_laws.specs.Histories.{Logs, LogState, Holds, start_at}
@@ -225,24 +225,19 @@ step-reaches E w e may k =
     let v = happens E w e.0 e.1 in
     noted w k.logs (renews e) v (v.trace ++ e.0 ∷ []) (happens-reaches E w e.0 e.1 k inner.1 outer.1)
 
--- ---- runs
+-- ---- reached worlds
 
--- Each world of a run has a history of its logs, if the first one has.
-pub run-logs : (E : Database) (es : List Happening) (w : World) → IsRun E es w → HasLogs w → HasLogs (run E es w)
-run-logs E [] w r k = k
-run-logs E (e ∷ es) w r k = run-logs E es (step E w e) r.1 (step-reaches E w e r.0 k).next
+-- Each world that is reached has a history of its logs.
+pub logs-agree : (E : Database) (input : Input) (w : World) → Reached E input w → HasLogs w
+logs-agree E input w r = reached-kept E HasLogs (λ v e may k. (step-reaches E v e may k).next) input w (λ is. first-logs E input is.base) r
 
 -- Where no recovery works on the way, it is the same one, and has only grown.
-pub run-reaches : (E : Database) (es : List Happening) (w : World) → IsRun E es w → IsOneEpoch es → (k : HasLogs w) → Reaches w k.logs false (run E es w)
-run-reaches E [] w r same k = same-reaches w false k
-run-reaches E (e ∷ es) w r same k =
-    let s = step-reaches E w e r.0 k in
-    let n = run-reaches E es (step E w e) r.1 same.1 s.next in
-    record {
-      next = n.next;
-      onward = λ f. onward-then k.logs s.next.logs n.next.logs (s.onward same.0) (n.onward f);
-      rises = λ f p. rises-then (w.authoritative p) ((step E w e).authoritative p) ((run E es (step E w e)).authoritative p) (s.rises same.0 p) (n.rises f p);
+pub epoch-reaches : (E : Database) (v w : World) → RunsInEpoch E v w → (k : HasLogs v) → Reaches v k.logs false w
+epoch-reaches E v w r k = in-epoch-kept E (Reaches v k.logs false) goes-on v w r (same-reaches v false k)
+  where
+    goes-on : (u : World) (e : Happening) → may_happen u e ≡ true → renews e ≡ false → Reaches v k.logs false u → Reaches v k.logs false (step E u e)
+    goes-on u e may same n = let s = step-reaches E u e may n.next in record {
+      next = s.next;
+      onward = λ f. onward-then k.logs n.next.logs s.next.logs (n.onward f) (s.onward same);
+      rises = λ f p. rises-then (v.authoritative p) (u.authoritative p) ((step E u e).authoritative p) (n.rises f p) (s.rises same p);
     }
-
-pub logs-agree : (E : Database) (input : Input) (es : List Happening) → 0 < input.base → IsRun E es (first_world E input) → HasLogs (run E es (first_world E input))
-logs-agree E input es some r = run-logs E es (first_world E input) r (first-logs E input some)
