@@ -86,10 +86,6 @@ done_to-none : (D : Deployment) (w : Option Membership) (parts : List ℕ) (m : 
 done_to-none D None parts m o g = tt
 done_to-none D (Some w) parts m o g = tt
 
--- a turn that says something to all leaders
-to_all-calls : (D : Deployment) (a : AgentState) (w : Option Membership) (m : Msg Blocks) → NoView (open_letter m) → Calls a.loaded (sending a (to_all_leaders D w m))
-to_all-calls D a w m plain = record { same = refl; sites = to_all_leaders-calls D w m plain; agents = to_all_leaders-none D w m }
-
 answers_client-calls : (a : AgentState) (call : ℕ) (e : End) (client : Option ℕ) → Calls a.loaded (answers_client a call e client)
 answers_client-calls a call e None = becomes-calls a
 answers_client-calls a call e (Some c) = record { same = refl; sites = λ c. tt; agents = λ g. tt }

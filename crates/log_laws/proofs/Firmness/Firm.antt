@@ -8,7 +8,7 @@ use Rattle.volt_wire.specs.declared.actor.Actor.{Actor}
 use Rattle.volt_wire.specs.declared.actor.Actor.TheVariants.{Agent, Site}
 use Rattle.volt_wire.specs.declared.message.Msg.TheVariants as msg
 use Rattle.cluster_model.specs.Words.{Deployment, term_of, term_in, start_of_slot, leader}
-use Rattle.cluster_model.specs.Letters.{same, Letter, no_sends, becomes}
+use Rattle.cluster_model.specs.Letters.{same, Letter, becomes}
 use Rattle.cluster_model.specs.SiteState.{SiteState, Held, Joiner, is_leader, leads, other_copies}
 use Rattle.cluster_model.specs.Site.{own_ack, acked_in, firm_now, floor_now, answers_held, sends_firm, counts}
 use Rattle.cluster_steps.specs.Lists.{In}
@@ -20,10 +20,10 @@ use Rattle.log_laws.proofs.Plain.Lines.{ends-none}
 use Rattle.log_laws.proofs.Plain.Copies.{is_in-in, copy-other, is-leader}
 use Rattle.cluster_steps.proofs.Leaders.{leads-parts, leader-view}
 use Rattle.log_laws.proofs.Kept.Terms.{same-word, entered-start, one-in, took-decided}
-use Rattle.log_laws.proofs.Kept.Plumbing.{after-same, goes-same}
+use Rattle.log_laws.proofs.Kept.Plumbing.{goes-same}
 use Rattle.cluster_steps.proofs.Least.{acked_in-from, reach_now, reach_now-own, reach_now-copy, reach_now-joiner}
 use Rattle.log_laws.proofs.NewTerms.Since.{since-raised}
-use Rattle.log_laws.proofs.Kept.Rests.{SiteRests, ReachRests, SaysRests, Plain, same-joiners, reach-same, site-same, says-nothing, rests-holds, rests-goes}
+use Rattle.log_laws.proofs.Kept.Rests.{SiteRests, ReachRests, SaysRests, Plain, same-joiners, reach-same, rests-goes}
 use Rattle.log_laws.proofs.Kept.Turned.{put_at, put-both, put-here}
 
 -- ---- who leads
@@ -231,11 +231,6 @@ reach-raised S H p t n g led within entered streamed since coming = record {
   where
     o : ReachRests S S.logs.reach
     o = reach-same S H
-
--- Then all holds as before.
-pub raised-holds : (S : LogState) → Holds S → (reach : ℕ → ℕ → ℕ) → ReachRests S reach → Holds (record S { logs = record S.logs { reach = reach } })
-raised-holds S H reach r = subst Holds (after-same (record S { logs = record S.logs { reach = reach } }) 0)
-    (rests-holds S H 0 (S.sites 0) no_sends reach (site-same S H 0 reach 0) r (says-nothing S H 0))
 
 -- ---- answers that were held
 

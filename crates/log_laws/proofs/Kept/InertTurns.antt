@@ -10,8 +10,8 @@ use Rattle.cluster_model.specs.Engine.{Database}
 use Rattle.cluster_model.specs.Words.{Deployment, part_of_slot}
 use Rattle.cluster_model.specs.Letters.{Letter, Sends, Turn, becomes, sending, only, letter_in}
 use Rattle.cluster_model.specs.Log.{open_in, last_done, nothing_open}
-use Rattle.cluster_model.specs.SiteState.{SiteState, AskedCall, Scanning, ForJoiner, ForBase, site_term, leads, is_joiner}
-use Rattle.cluster_model.specs.Site.{on_chunk, on_scan_end, tells, tells_initiator, standing, is_first_term, has_all_on_disk, initiator_in, shows, looked, on_look, on_power}
+use Rattle.cluster_model.specs.SiteState.{SiteState, AskedCall, site_term, leads, is_joiner}
+use Rattle.cluster_model.specs.Site.{tells, tells_initiator, standing, is_first_term, has_all_on_disk, initiator_in, shows, looked, on_look, on_power}
 use Rattle.cluster_model.specs.World.{sent}
 use Rattle.cluster_steps.proofs.Lists.{all-append, all-from, all-if, all-mono, set-both}
 use Rattle.log_laws.specs.Histories.{LogState, Holds, HeldOk, SiteLetterOk, ForeignOk, ToldOk, start_at, term_at, between, from_agent, line, line_of, flow, flow_of, ends, end_of, ask_of, asks_in, asks_waiting, asks_of_term, asked, log_at}
@@ -316,21 +316,3 @@ power-goes S i call choice H = inert-becomes S i (on_power (S.sites i) call choi
 -- other calls wait
 pub calls-goes : (S : LogState) (i : ℕ) (calls : List AskedCall) → Holds S → Goes S i (becomes (record (S.sites i) { calls = calls }))
 calls-goes S i calls H = inert-becomes S i (record (S.sites i) { calls = calls }) H (unwatched (S.sites i) (record (S.sites i) { calls = calls }) (λ k. k))
-
--- another scan runs, or none
-pub scanning-goes : (S : LogState) (i : ℕ) (scanning : Option Scanning) → Holds S → Goes S i (becomes (record (S.sites i) { scanning = scanning }))
-scanning-goes S i scanning H = inert-becomes S i (record (S.sites i) { scanning = scanning }) H (unwatched (S.sites i) (record (S.sites i) { scanning = scanning }) (λ k. k))
-
--- of a base of its own a block came, or the number of all
-pub base_chunk-goes : (S : LogState) (i id : ℕ) (scanning : Option Scanning) → Holds S → Goes S i (becomes (on_chunk (S.sites i) None scanning id))
-base_chunk-goes S i id None H = goes-same S i H
-base_chunk-goes S i id (Some (ForJoiner own slot)) H = goes-same S i H
-base_chunk-goes S i id (Some (ForBase own position blocks written count)) H =
-    goes-if-becomes S i (own == id) (record (S.sites i) { scanning = Some (ForBase own position (blocks + 1) written count) }) (S.sites i)
-    (scanning-goes S i (Some (ForBase own position (blocks + 1) written count)) H) (goes-same S i H)
-
-pub base_end-goes : (S : LogState) (i id count own position blocks written : ℕ) (ended : Option ℕ) → Holds S
-    → Goes S i (becomes (on_scan_end (S.sites i) (Some (ForBase own position blocks written ended)) id count))
-base_end-goes S i id count own position blocks written ended H =
-    goes-if-becomes S i (own == id) (record (S.sites i) { scanning = Some (ForBase own position blocks written (Some count)) }) (S.sites i)
-    (scanning-goes S i (Some (ForBase own position blocks written (Some count))) H) (goes-same S i H)

@@ -1,6 +1,5 @@
 -- What is kept from one state to a later one.
 use Rattle.std.proofs.Common.{◌≡◌, ◌<◌, List, refl, sym, subst, ap, ◌∙◌, ◌⊎◌, inl, inr, ◌==◌, arith}
-use Rattle.std.proofs.lemmas.Bool.{cases_eq}
 use Rattle.std.specs.Prelude.{ℕ, ◌≤◌, max, length, Option, Some, None}
 use Rattle.std.specs.List.{AllByRecursion, list_any}
 use Rattle.volt_base.specs.declared.entry.Entry.{Entry}
@@ -334,24 +333,6 @@ module _ (S T : LogState) (H : Holds S) (f : Later S T) where
       led-before : (v : ℕ) (o : Option Leadership) → S.logs.leadership (part S c) v ≡ o → {g : Leadership} → T.logs.leadership (part S c) v ≡ Some g → v < t → T.logs.reach (part S c) v ≤ length e.log
       led-before v None none led below = absurd (none-and-some (same.none (part S c) v none) led)
       led-before v (Some h) old led below = since v h old below
-
-  -- a slot doesn't enter a term of which it took a stream
-  pub apart-later : (c t : ℕ) (x : Streaming) → StreamedOk S c t x → ((e : Entered) → EntersNow S c t e → (S.sites c).earlier ≤ term_at S c)
-      → T.logs.entered c t ≡ None
-  apart-later c t x k low = go (T.logs.entered c t) refl
-    where
-      clash : (e : Entered) → EntersNow S c t e → ⊥
-      clash e n = elim (cases_eq (start_at S c) x.start) [
-        | inl same ↦ let up = (k.running same).1 in let above = n.above in absurd (omega (arith, up, above))
-        | inr other ↦ let up = k.been.others n.runs other in let below = low e n in let above = n.above in absurd (omega (arith, up, below, above))
-      ]
-
-      go : (o : Option Entered) → T.logs.entered c t ≡ o → T.logs.entered c t ≡ None
-      go None is = is
-      go (Some e) is = elim (f.entered_now c t e is) [
-        | inl old ↦ absurd (none-and-some k.apart old)
-        | inr new ↦ absurd (clash e new)
-      ]
 
   -- Of a slot that took the stream of a term, where it didn't enter it, what is everywhere is in its log still, and it is counted.
   pub streamed-later : (c t : ℕ) (x : Streaming) → (k : StreamedOk S c t x) → SameLeaderships S.logs T.logs → T.logs.entered c t ≡ None

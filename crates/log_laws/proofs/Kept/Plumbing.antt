@@ -15,10 +15,9 @@ use Rattle.cluster_steps.proofs.Lists.{all-append, all-at, all-from, all-mono, e
 use Rattle.word_laws.proofs.Moves as word_moves
 use Rattle.word_laws.proofs.Steps as word_steps
 use Rattle.cluster_steps.proofs.Channels.{sent-nothing, sent-twice}
-use Rattle.log_laws.specs.Histories.{LogState, Logs, Holds, IsSlot, SiteLetterOk, ForeignOk, ToldOk, LoadsOk, ViewsOk, start_at, log_at, between}
+use Rattle.log_laws.specs.Histories.{LogState, Logs, Holds, IsSlot, SiteLetterOk, ForeignOk, ViewsOk, start_at, log_at, between}
 use Rattle.log_laws.proofs.Kept.Moves.{after, popped, Later, Grown, Enters, Turns, Goes, NoStreamStart}
 use Rattle.log_laws.proofs.Kept.Grown.{grown-same, grown-then, enters-same, enters-then}
-use Rattle.log_laws.proofs.Kept.Laters.{loads-later}
 use Rattle.log_laws.proofs.Kept.KeepsViews.{foreign-later, views-keeps}
 
 -- ---- the site and the channels after a turn
@@ -87,13 +86,6 @@ module _ (S : LogState) (H : Holds S) (i : ℕ) (s : SiteState) (out : Sends) (G
       old Director = H.foreign Director c
       old (Client n) = H.foreign (Client n) c
       old (Scanner j) = H.foreign (Scanner j) c
-
-  -- what agents know of loads
-  pub loads-after : ((h : ℕ) → AllByRecursion (ToldOk S i) (out (Agent h))) → LoadsOk (after S i s out G)
-  loads-after new = loads-later S (after S i s out G) H f refl refl
-      (λ c h. sent-either S i s out G (λ j ls. AllByRecursion (ToldOk S j) ls) (Agent h)
-      (all-append (ToldOk S i) (S.words.channel (Site i) (Agent h)) (out (Agent h)) (H.loads.told i h) (new h)) (λ j other. H.loads.told j h) c)
-      (λ h g. refl)
 
   -- what agents say of words to sites
   pub views-after : (c : ℕ) → (c ≡ i → (s.start ≡ start_at S i) × (s.view ≡ (S.sites i).view)) → G.ran c ≡ S.logs.ran c → ViewsOk S c → ViewsOk (after S i s out G) c

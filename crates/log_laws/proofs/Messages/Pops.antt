@@ -14,14 +14,13 @@ use Rattle.cluster_model.specs.World.{set_at}
 use Rattle.cluster_steps.proofs.Channels.{took-all, sent-nothing}
 use Rattle.cluster_steps.proofs.Lists.{all-append, all-filter, set-same}
 use Rattle.log_laws.specs.Histories.{LogState, Holds, SiteLetterOk, ForeignOk, WaitingOk, IsSlot, Reached, start_at, term_at, from_agent, line, line_of, flow, flow_of, ends, end_of, line_in, flow_in, view_in, WaitingFrom, view_of, asks_of_term, log_at}
-use Rattle.log_laws.proofs.Kept.Moves.{after, popped, left, Later, Goes}
+use Rattle.log_laws.proofs.Kept.Moves.{after, popped, left, Goes}
 use Rattle.log_laws.proofs.Kept.Grown.{grown-same, enters-same}
 use Rattle.log_laws.proofs.Plain.Lines.{line-other, flow-other, views-other, line-plain, flow-plain, views-plain, both-empty}
 use Rattle.log_laws.proofs.Kept.Asked.{AsksLess, at-most-same, popped-less, left-less, parted-asks, waits-asks}
-use Rattle.log_laws.proofs.Kept.Keeps.{still-same}
 use Rattle.log_laws.proofs.Kept.KeepsViews.{Leaves, leaves-same, leaves-first}
 use Rattle.log_laws.proofs.Kept.Plumbing.{after-same, taken-either, words-popped}
-use Rattle.log_laws.proofs.Kept.Inert.{ChannelsOk, channels-same, SiteStill, inert-holds, site-same, site-waiting, moved, moved-later, still-holds}
+use Rattle.log_laws.proofs.Kept.Inert.{ChannelsOk, channels-same, SiteStill, inert-holds, site-same, site-waiting, moved, still-holds}
 use Rattle.log_laws.proofs.Kept.Terms.{running-slot}
 
 -- ---- whether a site takes a message
@@ -117,10 +116,6 @@ plain-view l k = elim l.body as (λ m. PlainKind (record l { body = m }) → vie
   | msg.View w ↦ λ k. absurd k
   | m ↦ λ k. refl
 ] k
-
--- A state from which a message is taken is a later one.
-pub popped-later : (S : LogState) (from : Actor) (i : ℕ) → Later S (popped S from i)
-popped-later S from i = moved-later S (popped S from i).words.channel S.sites S.pending (λ c. still-same (S.sites c) (S.sites c) refl)
 
 module _ (S : LogState) (H : Holds S) (from : Actor) (i : ℕ) (l : Letter) (ls : List Letter) (is : S.words.channel from (Site i) ≡ l ∷ ls) where
   -- its channel without it
