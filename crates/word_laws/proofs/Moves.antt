@@ -1,4 +1,4 @@
--- Of what the proofs speak: the state after a turn, what is kept in a later one, turns that bring no word, and events of agents.
+-- Of what the proofs speak: the state after_agent a turn, what is kept in a later one, turns that bring no word, and events of agents.
 use Rattle.std.proofs.Common.{◌≡◌, ◌<◌, true, false, List, [], ◌∷◌, ◌++◌, ◌⊎◌, ◌==◌}
 use Rattle.std.specs.Prelude.{ℕ, Option, Some, None}
 use Rattle.std.specs.List.{AllByRecursion, list_any}
@@ -11,20 +11,20 @@ use Rattle.cluster_model.specs.Letters.{Letter, Sends, Turn}
 use Rattle.cluster_model.specs.AgentState.{AgentState, Queued, Admission}
 use Rattle.cluster_model.specs.World.{took, sent, set_at}
 use Rattle.cluster_steps.specs.Lists.{In}
-use Rattle.word_laws.specs.Histories.{State, History, Admitted, Begun, Gone, IsOff, OwnIs, Earlier, Holds, start_at, names}
+use Rattle.word_laws.specs.Histories.{State, History, Admitted, Begun, Gone, IsOff, OwnIs, Earlier, WordsHold, agent_start, names}
 
 -- ---- states
 
--- the state after a turn of the agent of host n
-abbrev pub after : State → ℕ → AgentState → Sends → History → State
-after S n a out H = record S { agents = set_at S.agents n a; channel = sent S.channel (Agent n) out; history = H }
+-- the state after_agent a turn of the agent of host n
+abbrev pub after_agent : State → ℕ → AgentState → Sends → History → State
+after_agent S n a out H = record S { agents = set_at S.agents n a; channel = sent S.channel (Agent n) out; history = H }
 
 -- the state once the agent of host n took the first message from this actor
-abbrev pub popped : State → Actor → ℕ → State
-popped S from n = record S { channel = took S.channel from (Agent n) }
+abbrev pub agent_popped : State → Actor → ℕ → State
+agent_popped S from n = record S { channel = took S.channel from (Agent n) }
 
 -- What is so in S is so in T, for what only grows.
-pub record Later (S T : State) : Type 0 where
+pub record WordsLater (S T : State) : Type 0 where
   pub deployment : T.deployment ≡ S.deployment
   pub owner : T.owner ≡ S.owner
   pub first : T.history.first ≡ S.history.first
@@ -41,8 +41,8 @@ pub record Later (S T : State) : Type 0 where
 -- ---- a turn that brings no word
 
 -- what an agent says to that of host g in such a turn
-abbrev pub Plain : ℕ → AgentState → ℕ → Letter → Type 0
-Plain n a g l = elim l.body as (λ _. Type 0) [
+abbrev pub SaysNoWord : ℕ → AgentState → ℕ → Letter → Type 0
+SaysNoWord n a g l = elim l.body as (λ _. Type 0) [
   | msg.Word base lost admitted ↦ ⊥
   | msg.Decided w ↦ (l.term ≡ 0) × (a.decided ≡ Some w)
   | msg.Closed o ↦ ⊥
@@ -76,7 +76,7 @@ pub record Calm (n : ℕ) (a : AgentState) (came : List Queued) (t : Turn AgentS
   pub own : (t.state.own ≡ a.own) ⊎ AdmitsNow a came t.state.own
   pub queue : (j h term : ℕ) → In (Admission j h term) t.state.initiating.queue → In (Admission j h term) (a.initiating.queue ++ came)
   pub phase : IsOff t.state.initiating.phase ⊎ (IsOff a.initiating.phase → ⊥)
-  pub sends : (g : ℕ) → AllByRecursion (Plain n a g) (t.sends (Agent g))
+  pub sends : (g : ℕ) → AllByRecursion (SaysNoWord n a g) (t.sends (Agent g))
 
 -- the admission that a message asks for
 abbrev pub asked_by : Actor → Letter → List Queued
@@ -112,11 +112,11 @@ OwnAdmits j a = OwnIs (λ w. admits w j ≡ true) a
 abbrev pub Heeded : State → ℕ → Letter → Type 0
 Heeded S n l = elim l.body as (λ _. Type 0) [
   | msg.Word base lost admitted ↦
-      0 < start_at S n → l.start ≡ start_at S n
+      0 < agent_start S n → l.start ≡ agent_start S n
       → ((S.agents n).own ≡ None) ⊎ ((j : ℕ) → list_any (λ a. a.0 == j) admitted ≡ true → OwnAdmits j (S.agents n))
   | msg.Closed o ↦
-      0 < start_at S n
-      → OwnLost o (S.agents n) ⊎ ((w : Membership) → In w (S.history.said o) → names w (start_at S n) ≡ false)
+      0 < agent_start S n
+      → OwnLost o (S.agents n) ⊎ ((w : Membership) → In w (S.history.said o) → names w (agent_start S n) ≡ false)
   | _ ↦ Unit {0}
 ]
 
@@ -138,9 +138,9 @@ Nobody j h = ⊥
 abbrev pub Anyone : ℕ → ℕ → Type 0
 Anyone j h = Unit {0}
 
--- The agent of host n took the first message from this actor, and that is its turn: what holds, holds after it, with a history
+-- The agent of host n took the first message from this actor, and that is its turn: what holds, holds after_agent it, with a history
 -- that grew.
-pub record Goes (S : State) (n : ℕ) (from : Actor) (t : Turn AgentState) : Type 0 where
+pub record WordsGo (S : State) (n : ℕ) (from : Actor) (t : Turn AgentState) : Type 0 where
   pub history : History
   pub grows : Grows S.history history
-  pub holds : Holds (after (popped S from n) n t.state t.sends history)
+  pub holds : WordsHold (after_agent (agent_popped S from n) n t.state t.sends history)

@@ -21,7 +21,7 @@ use Rattle.cluster_steps.specs.Lists.{In}
 use Rattle.word_laws.specs.Histories.{IsOff}
 use Rattle.cluster_steps.proofs.Lists.{all-append, all-if, same-some, in-left, in-right, in-cases}
 use Rattle.word_laws.proofs.Algebra.{same_word-is}
-use Rattle.word_laws.proofs.Moves.{Plain, AdmitsNow, Calm, asked_by, BringsWord}
+use Rattle.word_laws.proofs.Moves.{SaysNoWord, AdmitsNow, Calm, asked_by, BringsWord}
 
 -- ---- words that are the same
 
@@ -66,7 +66,7 @@ calm-first a came = record {
 
 -- at a state, with what was sent on the way there, and back
 pub calm-at : (n : ℕ) (a0 : AgentState) (came : List Queued) (t : Turn AgentState) → CalmAt a0 came t.state
-    → ((g : ℕ) → AllByRecursion (Plain n a0 g) (t.sends (Agent g))) → Calm n a0 came t
+    → ((g : ℕ) → AllByRecursion (SaysNoWord n a0 g) (t.sends (Agent g))) → Calm n a0 came t
 calm-at n a0 came t h s = record {
   start = h.start;
   decided = h.decided;
@@ -105,7 +105,7 @@ pub then-calm : (n : ℕ) (a0 : AgentState) (came : List Queued) (t : Turn Agent
     → Calm n a0 came t → (CalmAt a0 came t.state → Calm n a0 came (f t.state)) → Calm n a0 came (t ▸ f)
 then-calm n a0 came t f h k = let r = k (calm-state n a0 came t h) in
     calm-at n a0 came (t ▸ f) (calm-state n a0 came (f t.state) r)
-    (λ g. all-append (Plain n a0 g) (t.sends (Agent g)) ((f t.state).sends (Agent g)) (h.sends g) (r.sends g))
+    (λ g. all-append (SaysNoWord n a0 g) (t.sends (Agent g)) ((f t.state).sends (Agent g)) (h.sends g) (r.sends g))
 
 -- with its own word, decided and taken ones, and all else that words go by
 calm-with : (a0 : AgentState) (came : List Queued) (a b : AgentState) → CalmAt a0 came a
@@ -125,11 +125,11 @@ calm-with a0 came a b h start own decided taken said waiting queue phase = recor
 
 -- ---- calls on all partitions
 
-to_all_leaders-calm : (n : ℕ) (a0 : AgentState) (D : Deployment) (w : Option Membership) (m : Msg Blocks) (g : ℕ) → AllByRecursion (Plain n a0 g) (to_all_leaders D w m (Agent g))
+to_all_leaders-calm : (n : ℕ) (a0 : AgentState) (D : Deployment) (w : Option Membership) (m : Msg Blocks) (g : ℕ) → AllByRecursion (SaysNoWord n a0 g) (to_all_leaders D w m (Agent g))
 to_all_leaders-calm n a0 D None m g = tt
 to_all_leaders-calm n a0 D (Some w) m g = tt
 
-done_to-calm : (n : ℕ) (a0 : AgentState) (D : Deployment) (w : Option Membership) (parts : List ℕ) (m : ℕ) (o : Outcome) (g : ℕ) → AllByRecursion (Plain n a0 g) (done_to D w parts m o (Agent g))
+done_to-calm : (n : ℕ) (a0 : AgentState) (D : Deployment) (w : Option Membership) (parts : List ℕ) (m : ℕ) (o : Outcome) (g : ℕ) → AllByRecursion (SaysNoWord n a0 g) (done_to D w parts m o (Agent g))
 done_to-calm n a0 D None parts m o g = tt
 done_to-calm n a0 D (Some w) parts m o g = tt
 
@@ -249,7 +249,7 @@ answers-calm n a0 came D a TakeSnapshot (Some e) h = becomes-calm n a0 came a h
 answers-calm n a0 came D a (RunCall call host start body) (Some e) h =
     let reply = sending a (only (Agent host) (letter_to start (msg.MpReply call e))) in
     calm-if n a0 came (host == n && start == a.start) (on_reply D a call e) reply (on_reply-calm n a0 came D a call e h)
-    (calm-at n a0 came reply h (λ g. all-if (Plain n a0 g) (same (Agent host) (Agent g)) (letter_to start (msg.MpReply call e) ∷ []) [] (tt, tt) tt))
+    (calm-at n a0 came reply h (λ g. all-if (SaysNoWord n a0 g) (same (Agent host) (Agent g)) (letter_to start (msg.MpReply call e) ∷ []) [] (tt, tt) tt))
 
 rests-calm : (n : ℕ) (a0 : AgentState) (came : List Queued) (E : Database) (D : Deployment) (a : AgentState)
     → (IsOff a0.initiating.phase → ⊥) → CalmAt a0 came a → Calm n a0 came (rests E D a)
@@ -383,7 +383,7 @@ to_initiator-calm : (n : ℕ) (a0 : AgentState) (came : List Queued) (a : AgentS
 to_initiator-calm n a0 came a call c body None h = becomes-calm n a0 came a h
 to_initiator-calm n a0 came a call c body (Some first) h =
     calm-at n a0 came (to_initiator a call c body (Some first)) (calm-with a0 came a _ h refl refl refl refl refl refl h.queue h.phase)
-    (λ g. all-if (Plain n a0 g) (same (Agent first.0) (Agent g)) (letter_to first.1 (msg.MpCall call a.start body) ∷ []) [] (tt, tt) tt)
+    (λ g. all-if (SaysNoWord n a0 g) (same (Agent first.0) (Agent g)) (letter_to first.1 (msg.MpCall call a.start body) ∷ []) [] (tt, tt) tt)
 
 hands_on-calm : (n : ℕ) (a0 : AgentState) (came : List Queued) (D : Deployment) (a : AgentState) (w : Membership) (c call : ℕ) (part : Option ℕ) (body : List ℕ) → CalmAt a0 came a → Calm n a0 came (hands_on D a w c call part body)
 hands_on-calm n a0 came D a w c call (Some part) body h = to_partition-calm n a0 came D a w call c body (leader D w part) h
@@ -406,14 +406,14 @@ on_hello-calm n a0 came a None host start d h = becomes-calm n a0 came a h
 on_hello-calm n a0 came a (Some w) host start d h =
     let reply = sending a (only (Agent host) (letter_to start (msg.Decided w))) in
     calm-if n a0 came (is_member w n a.start) reply (becomes a)
-    (calm-at n a0 came reply h (λ g. all-if (Plain n a0 g) (same (Agent host) (Agent g)) (letter_to start (msg.Decided w) ∷ []) [] ((refl, d), tt) tt))
+    (calm-at n a0 came reply h (λ g. all-if (SaysNoWord n a0 g) (same (Agent host) (Agent g)) (letter_to start (msg.Decided w) ∷ []) [] ((refl, d), tt) tt))
     (becomes-calm n a0 came a h)
 
 asks_initiator-calm : (n : ℕ) (a0 : AgentState) (came : List Queued) (a : AgentState) (w : Membership) (first : Option (ℕ × ℕ)) → a0.taken ≡ Some w → CalmAt a0 came a → Calm n a0 came (asks_initiator n a w first)
 asks_initiator-calm n a0 came a w None t h = becomes-calm n a0 came a h
 asks_initiator-calm n a0 came a w (Some first) t h = choice (first.0 == n) refl
   where
-    asked : (g : ℕ) (c : Bool) → (first.0 == n) ≡ false → (first.0 == g) ≡ c → AllByRecursion (Plain n a0 g) (if c then letter_in (term_of w) first.1 (msg.Admit a.start) ∷ [] else [])
+    asked : (g : ℕ) (c : Bool) → (first.0 == n) ≡ false → (first.0 == g) ≡ c → AllByRecursion (SaysNoWord n a0 g) (if c then letter_in (term_of w) first.1 (msg.Admit a.start) ∷ [] else [])
     asked g false e f = tt
     asked g true e f = ((h.start, grind (arith, nat_tests, e, f), (w, t, refl)), tt)
 

@@ -5,7 +5,7 @@ use Rattle.cluster_model.specs.Words.{is_host, not_lost}
 use Rattle.cluster_model.specs.AgentState.{new_agent}
 use Rattle.cluster_model.specs.World.{World}
 use Rattle.cluster_steps.specs.Lists.{In}
-use Rattle.word_laws.specs.Histories.{State, History, Holds}
+use Rattle.word_laws.specs.Histories.{State, History, WordsHold}
 
 -- ---- epochs
 
@@ -25,7 +25,7 @@ state_of w owner history = record {
 pub record InEpoch (w : World) : Type 0 where
   pub owner : ℕ → ℕ
   pub history : History
-  pub holds : Holds (state_of w owner history)
+  pub holds : WordsHold (state_of w owner history)
   pub strangers : (h : ℕ) → is_host w.deployment h ≡ false → w.agents h ≡ new_agent 0
 
 -- ---- words of a world

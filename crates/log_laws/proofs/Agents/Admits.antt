@@ -20,9 +20,9 @@ use Rattle.word_laws.proofs.Algebra.{in-with_number}
 use Rattle.cluster_steps.proofs.Channels.{sent-both, took-all}
 use Rattle.word_laws.proofs.Moves as word
 use Rattle.word_laws.proofs.Moves.{asked_by}
-use Rattle.log_laws.specs.Histories.{LogState, LoadedOk, AllLoaded, ToldOk, AskedOk, QueuedOk, LoadsOk}
+use Rattle.log_laws.specs.Histories.{LogState, LoadedOk, AllLoaded, ToldOk, AskedOk, QueuedLoadedOk, LoadsOk}
 use Rattle.log_laws.proofs.Agents.AgentSends.{NoView, NoAdmit}
-use Rattle.log_laws.proofs.Agents.Views.{worded, turned}
+use Rattle.log_laws.proofs.Agents.Views.{worded, agent_turned}
 use Rattle.log_laws.proofs.Plain.Copies.{range-in}
 
 -- ---- what is asked, in another state of words
@@ -35,7 +35,7 @@ module _ (S : LogState) (agents : ℕ → AgentState) (channel : Actor → Actor
   asked-worded (Client n) l k = tt
   asked-worded (Scanner x) l k = tt
 
-  pub queued-worded : (q : Queued) → QueuedOk S q → QueuedOk (worded S agents channel G) q
+  pub queued-worded : (q : Queued) → QueuedLoadedOk S q → QueuedLoadedOk (worded S agents channel G) q
   queued-worded (Job_ job) k = tt
   queued-worded (Admission a h term) k = k
 
@@ -51,7 +51,7 @@ pub asked-admission : (S : LogState) (from : Actor) (l : Letter) → AskedOk S f
 asked-admission S (Agent g) l p j h term i = (elim l.body as
     (λ m. AskedOk S (Agent g) (record l { body = m }) → In (Admission j h term) (asked_by (Agent g) (record l { body = m })) → AllLoaded S h j) [
       | msg.Admit s ↦ λ k q. elim q [
-        | inl e ↦ subst (QueuedOk S) e k
+        | inl e ↦ subst (QueuedLoadedOk S) e k
         | inr e ↦ absurd e
       ]
       | m ↦ λ k q. absurd q
@@ -138,7 +138,7 @@ loads-asked S n slot start a t k heard g = elim (k.asks g) [
 -- ---- the whole of it
 
 -- a message to an agent is taken
-pub loads-popped : (S : LogState) (from : Actor) (n : ℕ) → LoadsOk S → LoadsOk (record S { words = word.popped S.words from n })
+pub loads-popped : (S : LogState) (from : Actor) (n : ℕ) → LoadsOk S → LoadsOk (record S { words = word.agent_popped S.words from n })
 loads-popped S from n k = record {
   told = λ c h. took-all (ToldOk S c) S.words.channel from (Agent n) (Site c) (Agent h) (k.told c h);
   heard = k.heard;
@@ -156,10 +156,10 @@ pub record LoadsTurn (S : LogState) (n : ℕ) (a : AgentState) (out : Sends) (G 
   pub heard : 0 < a.start → (c : ℕ) → is_in c a.loaded ≡ true → LoadedOk S c a.start
   pub asked : (g : ℕ) → AllByRecursion (AskedOk S (Agent n)) (out (Agent g))
   pub waiting : AllByRecursion (λ x. AskedOk S x.from x.letter) a.waiting
-  pub queued : AllByRecursion (QueuedOk S) a.initiating.queue
+  pub queued : AllByRecursion (QueuedLoadedOk S) a.initiating.queue
   pub admitted : (x : Admitted) → In x G.admitted → AllLoaded S (S.words.owner x.start) x.start
 
-pub loads-turned : (S : LogState) (n : ℕ) (a : AgentState) (out : Sends) (G : History) → LoadsOk S → LoadsTurn S n a out G → LoadsOk (turned S n a out G)
+pub loads-turned : (S : LogState) (n : ℕ) (a : AgentState) (out : Sends) (G : History) → LoadsOk S → LoadsTurn S n a out G → LoadsOk (agent_turned S n a out G)
 loads-turned S n a out G k t = record {
   told = k.told;
   heard = λ h c. set-both (λ h x. 0 < x.start → is_in c x.loaded ≡ true → LoadedOk S c x.start) S.words.agents n a (λ u i. t.heard u c i) (λ h d u i. k.heard h c u i) h;
@@ -170,9 +170,9 @@ loads-turned S n a out G k t = record {
   waiting = λ h. all-mono _ _ (λ x p. asked-worded S T.words.agents T.words.channel G x.from x.letter p) (T.words.agents h).waiting
       (set-both (λ h x. AllByRecursion (λ y. AskedOk S y.from y.letter) x.waiting) S.words.agents n a t.waiting (λ h d. k.waiting h) h);
   queued = λ h. all-mono _ _ (λ q p. queued-worded S T.words.agents T.words.channel G q p) (T.words.agents h).initiating.queue
-      (set-both (λ h x. AllByRecursion (QueuedOk S) x.initiating.queue) S.words.agents n a t.queued (λ h d. k.queued h) h);
+      (set-both (λ h x. AllByRecursion (QueuedLoadedOk S) x.initiating.queue) S.words.agents n a t.queued (λ h d. k.queued h) h);
   admitted = t.admitted;
 }
   where
     T : LogState
-    T = turned S n a out G
+    T = agent_turned S n a out G

@@ -16,8 +16,8 @@ use Rattle.cluster_steps.specs.Lists.{In}
 use Rattle.cluster_steps.proofs.Lists.{all-mono, all-append, all-at, all-from, in-left, in-cases}
 use Rattle.word_laws.proofs.Moves.{Calm, asked_by}
 use Rattle.word_laws.proofs.Turns.{handler-calm, tells, tells-state, on_decided-joiner}
-use Rattle.word_laws.proofs.Hearings.{Handler}
-use Rattle.log_laws.specs.Histories.{LogState, LoadedOk, AskedOk, QueuedOk}
+use Rattle.word_laws.proofs.Hearings.{WordsTurn}
+use Rattle.log_laws.specs.Histories.{LogState, LoadedOk, AskedOk, QueuedLoadedOk}
 use Rattle.log_laws.proofs.Agents.AgentSends.{NoView, NoAdmit, Calls, handler-calls, tells-calls, stops-none, stops_with_host-plain}
 use Rattle.log_laws.proofs.Agents.Admits.{Loads, none-asked, asked-admission, on_loaded-loads, loads-asked}
 use Rattle.log_laws.proofs.Agents.AgentTurns.{Rest, MayJoin, AgentHandler, plain-agent, stay-plain, tells-plain, stopped-agent}
@@ -86,7 +86,7 @@ record HandlerSays (S : LogState) (n : ℕ) (t : Turn AgentState) : Type 0 where
   pub asked : (g : ℕ) → AllByRecursion (AskedOk S (Agent n)) (t.sends (Agent g))
   pub heard : (c : ℕ) → is_in c t.state.loaded ≡ true → LoadedOk S c (S.words.agents n).start
 
-module _ (S : LogState) (n : ℕ) (r : Rest S) (up : 0 < word.start_at S.words n) where
+module _ (S : LogState) (n : ℕ) (r : Rest S) (up : 0 < word.agent_start S.words n) where
   calls-says : (t : Turn AgentState) → Calls (S.words.agents n).loaded t → HandlerSays S n t
   calls-says t k = record {
     sites = k.sites;
@@ -135,14 +135,14 @@ module _ (S : LogState) (n : ℕ) (r : Rest S) (up : 0 < word.start_at S.words n
   -- who may be admitted
   pub may-join : (from : Actor) (l : Letter) → AskedOk S from l → (j h term : ℕ) → In (Admission j h term) ((S.words.agents n).initiating.queue ++ asked_by from l) → MayJoin S j h
   may-join from l asked j h term i = elim (in-cases (Admission j h term) (S.words.agents n).initiating.queue (asked_by from l) i) [
-    | inl k ↦ all-at (QueuedOk S) (S.words.agents n).initiating.queue (r.loads.queued n) (Admission j h term) k
+    | inl k ↦ all-at (QueuedLoadedOk S) (S.words.agents n).initiating.queue (r.loads.queued n) (Admission j h term) k
     | inr k ↦ asked-admission S from l asked j h term k
   ]
 
   -- ---- a handler that brings a joiner no word
 
   handler-agent : (E : Database) (stamp : ℕ) (from : Actor) (l : Letter) → (BringsDecided from l → ⊥) → AskedOk S from l
-      → Handler (MayJoin S) S.words n (agent_handler E S.words.deployment n stamp (S.words.agents n) from l ▸ tells n (S.words.agents n).own)
+      → WordsTurn (MayJoin S) S.words n (agent_handler E S.words.deployment n stamp (S.words.agents n) from l ▸ tells n (S.words.agents n).own)
       → AgentHandler S n (agent_handler E S.words.deployment n stamp (S.words.agents n) from l ▸ tells n (S.words.agents n).own)
   handler-agent E stamp from l none asked handler =
       plain-agent S n (t ▸ tells n (S.words.agents n).own) r handler (tells-plain S n t (S.words.agents n).own (record {
@@ -153,7 +153,7 @@ module _ (S : LogState) (n : ℕ) (r : Rest S) (up : 0 < word.start_at S.words n
         asked = s.asked;
         heard = λ u. s.heard;
         waiting = rw k.waiting (r.loads.waiting n);
-        queued = all-from (QueuedOk S) t.state.initiating.queue waits;
+        queued = all-from (QueuedLoadedOk S) t.state.initiating.queue waits;
       }))
     where
       t : Turn AgentState
@@ -165,7 +165,7 @@ module _ (S : LogState) (n : ℕ) (r : Rest S) (up : 0 < word.start_at S.words n
       s : HandlerSays S n t
       s = handler-says E stamp from l none asked
 
-      waits : (q : Queued) → In q t.state.initiating.queue → QueuedOk S q
+      waits : (q : Queued) → In q t.state.initiating.queue → QueuedLoadedOk S q
       waits (Job_ job) i = tt
       waits (Admission j h term) i = may-join from l asked j h term (k.queue j h term i)
 
@@ -175,41 +175,41 @@ module _ (S : LogState) (n : ℕ) (r : Rest S) (up : 0 < word.start_at S.words n
   abbrev pub told : Turn AgentState → Turn AgentState
   told t = t ▸ tells n (S.words.agents n).own
 
-  unchanged : Handler (MayJoin S) S.words n (told (becomes (S.words.agents n))) → AgentHandler S n (told (becomes (S.words.agents n)))
+  unchanged : WordsTurn (MayJoin S) S.words n (told (becomes (S.words.agents n))) → AgentHandler S n (told (becomes (S.words.agents n)))
   unchanged handler = plain-agent S n (told (becomes (S.words.agents n))) r handler (tells-plain S n (becomes (S.words.agents n)) (S.words.agents n).own (stay-plain S n r))
 
-  stops-then : Handler (MayJoin S) S.words n (told (stops_with_host S.words.deployment n (word.start_at S.words n)))
-      → AgentHandler S n (told (stops_with_host S.words.deployment n (word.start_at S.words n)))
-  stops-then handler = stopped-agent S n (told (stops_with_host S.words.deployment n (word.start_at S.words n))) r handler (tells-state n (S.words.agents n).own (new_agent 0))
-      (λ c. all-append NoView _ _ (stops_with_host-plain S.words.deployment n (word.start_at S.words n) c) (says.sites c))
-      (λ g. all-append NoAdmit _ _ (stops-none S.words.deployment n (word.start_at S.words n) g) (says.agents g))
+  stops-then : WordsTurn (MayJoin S) S.words n (told (stops_with_host S.words.deployment n (word.agent_start S.words n)))
+      → AgentHandler S n (told (stops_with_host S.words.deployment n (word.agent_start S.words n)))
+  stops-then handler = stopped-agent S n (told (stops_with_host S.words.deployment n (word.agent_start S.words n))) r handler (tells-state n (S.words.agents n).own (new_agent 0))
+      (λ c. all-append NoView _ _ (stops_with_host-plain S.words.deployment n (word.agent_start S.words n) c) (says.sites c))
+      (λ g. all-append NoAdmit _ _ (stops-none S.words.deployment n (word.agent_start S.words n) g) (says.agents g))
     where
       says : Calls [] (tells n (S.words.agents n).own (new_agent 0))
       says = tells-calls n (S.words.agents n).own (new_agent 0)
 
-  decided-agent : (w : Membership) → word.Holds S.words
-      → Handler (MayJoin S) S.words n (told (on_decided S.words.deployment n (S.words.agents n) (S.words.agents n).decided (S.words.agents n).taken w))
+  decided-agent : (w : Membership) → word.WordsHold S.words
+      → WordsTurn (MayJoin S) S.words n (told (on_decided S.words.deployment n (S.words.agents n) (S.words.agents n).decided (S.words.agents n).taken w))
       → AgentHandler S n (told (on_decided S.words.deployment n (S.words.agents n) (S.words.agents n).decided (S.words.agents n).taken w))
   decided-agent w h = go (S.words.agents n).decided (S.words.agents n).taken refl refl
     where
       go : (d t : Option Membership) → (S.words.agents n).decided ≡ d → (S.words.agents n).taken ≡ t
-          → Handler (MayJoin S) S.words n (told (on_decided S.words.deployment n (S.words.agents n) d t w))
+          → WordsTurn (MayJoin S) S.words n (told (on_decided S.words.deployment n (S.words.agents n) d t w))
           → AgentHandler S n (told (on_decided S.words.deployment n (S.words.agents n) d t w))
       go (Some d) t e f = unchanged
       go None None e f = takes-agent S n w h r up e f
       go None (Some t) e f = elim (on_decided-joiner S.words.deployment n (S.words.agents n) t w) [
-        | inl s ↦ subst (λ z. Handler (MayJoin S) S.words n (told z) → AgentHandler S n (told z)) (sym s) stops-then
-        | inr s ↦ subst (λ z. Handler (MayJoin S) S.words n (told z) → AgentHandler S n (told z)) (sym s) unchanged
+        | inl s ↦ subst (λ z. WordsTurn (MayJoin S) S.words n (told z) → AgentHandler S n (told z)) (sym s) stops-then
+        | inr s ↦ subst (λ z. WordsTurn (MayJoin S) S.words n (told z) → AgentHandler S n (told z)) (sym s) unchanged
       ]
 
   -- ---- the handler of any message
 
-  pub first-agent : (E : Database) (stamp : ℕ) (from : Actor) (l : Letter) → AskedOk S from l → (BringsDecided from l → word.Holds S.words)
-      → Handler (MayJoin S) S.words n (told (agent_handler E S.words.deployment n stamp (S.words.agents n) from l))
+  pub first-agent : (E : Database) (stamp : ℕ) (from : Actor) (l : Letter) → AskedOk S from l → (BringsDecided from l → word.WordsHold S.words)
+      → WordsTurn (MayJoin S) S.words n (told (agent_handler E S.words.deployment n stamp (S.words.agents n) from l))
       → AgentHandler S n (told (agent_handler E S.words.deployment n stamp (S.words.agents n) from l))
   first-agent E stamp (Agent g) l asked holds handler =
-      elim l.body as (λ m. AskedOk S (Agent g) (record l { body = m }) → (BringsDecided (Agent g) (record l { body = m }) → word.Holds S.words)
-      → Handler (MayJoin S) S.words n (told (agent_handler E S.words.deployment n stamp (S.words.agents n) (Agent g) (record l { body = m })))
+      elim l.body as (λ m. AskedOk S (Agent g) (record l { body = m }) → (BringsDecided (Agent g) (record l { body = m }) → word.WordsHold S.words)
+      → WordsTurn (MayJoin S) S.words n (told (agent_handler E S.words.deployment n stamp (S.words.agents n) (Agent g) (record l { body = m })))
       → AgentHandler S n (told (agent_handler E S.words.deployment n stamp (S.words.agents n) (Agent g) (record l { body = m })))) [
         | msg.Decided w ↦ λ p h. decided-agent w (h tt)
         | m ↦ λ p h. handler-agent E stamp (Agent g) (record l { body = m }) (λ b. b) p

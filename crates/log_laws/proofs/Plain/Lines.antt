@@ -15,7 +15,7 @@ use Rattle.cluster_model.specs.Site.{order_of, of_order, put_to, tasks_to, repai
 use Rattle.cluster_steps.specs.Lists.{In}
 use Rattle.word_laws.specs.Histories.{Distinct}
 use Rattle.cluster_steps.proofs.Lists.{if-true, if-false, in-left, in-right, in-cases, in-filter, all-at, all-from, all-mono, in-none, in-map}
-use Rattle.log_laws.specs.Histories.{Line, Repairs, Puts, Flow, Begins, Follows, is_for, line_in, line_of, line, flow_in, flow_of, flow, end_in, end_of, ends, ask_in, ask_of, asks_in, wait_of, asks_waiting, asks_kept, view_in, view_of, views}
+use Rattle.log_laws.specs.Histories.{Line, Repairs, Puts, Flow, Begins, Follows, is_for, line_in, line_of, line, flow_in, flow_of, flow, end_in, end_of, stream_ends_in, ask_in, ask_of, asks_in, wait_of, asks_waiting, asks_kept, view_in, view_of, views}
 use Rattle.cluster_steps.proofs.Sends.{in_order, put_letter, put-all, task_letter, tasks-all, repair_letter, repair-cases, repair-all, end_letter, stream_ends-all}
 use Rattle.log_laws.proofs.Kept.Moves.{NoStreamStart}
 
@@ -77,7 +77,7 @@ line-append start term xs ys = flat_map-append (line_of start term) xs ys
 pub flow-append : (start term : ℕ) (xs ys : List Letter) → flow start term (xs ++ ys) ≡ flow start term xs ++ flow start term ys
 flow-append start term xs ys = flat_map-append (flow_of start term) xs ys
 
-pub ends-append : (start term : ℕ) (xs ys : List Letter) → ends start term (xs ++ ys) ≡ ends start term xs ++ ends start term ys
+pub ends-append : (start term : ℕ) (xs ys : List Letter) → stream_ends_in start term (xs ++ ys) ≡ stream_ends_in start term xs ++ stream_ends_in start term ys
 ends-append start term xs ys = flat_map-append (end_of start term) xs ys
 
 pub asks-append : (term : ℕ) (xs ys : List Letter) → asks_in term (xs ++ ys) ≡ asks_in term xs ++ asks_in term ys
@@ -107,8 +107,8 @@ line-same start term xs ys e = line-append start term xs ys ∙ ap (λ zs. line 
 pub flow-same : (start term : ℕ) (xs ys : List Letter) → flow start term ys ≡ [] → flow start term (xs ++ ys) ≡ flow start term xs
 flow-same start term xs ys e = flow-append start term xs ys ∙ ap (λ zs. flow start term xs ++ zs) e ∙ append-nil (flow start term xs)
 
-pub ends-same : (start term : ℕ) (xs ys : List Letter) → ends start term ys ≡ [] → ends start term (xs ++ ys) ≡ ends start term xs
-ends-same start term xs ys e = ends-append start term xs ys ∙ ap (λ zs. ends start term xs ++ zs) e ∙ append-nil (ends start term xs)
+pub ends-same : (start term : ℕ) (xs ys : List Letter) → stream_ends_in start term ys ≡ [] → stream_ends_in start term (xs ++ ys) ≡ stream_ends_in start term xs
+ends-same start term xs ys e = ends-append start term xs ys ∙ ap (λ zs. stream_ends_in start term xs ++ zs) e ∙ append-nil (stream_ends_in start term xs)
 
 pub asks-same : (term : ℕ) (xs ys : List Letter) → asks_in term ys ≡ [] → asks_in term (xs ++ ys) ≡ asks_in term xs
 asks-same term xs ys e = asks-append term xs ys ∙ ap (λ zs. asks_in term xs ++ zs) e ∙ append-nil (asks_in term xs)
@@ -118,7 +118,7 @@ views-same start xs ys e = views-append start xs ys ∙ ap (λ zs. views start x
 
 -- ---- a first message
 
-pub ends-cons : (start term : ℕ) (l : Letter) (ls : List Letter) → ends start term (l ∷ ls) ≡ end_of start term l ++ ends start term ls
+pub ends-cons : (start term : ℕ) (l : Letter) (ls : List Letter) → stream_ends_in start term (l ∷ ls) ≡ end_of start term l ++ stream_ends_in start term ls
 ends-cons start term l ls = refl
 
 -- ---- messages that say nothing
@@ -129,7 +129,7 @@ line-none start term ls h = flat-none (line_of start term) ls h
 pub flow-none : (start term : ℕ) (ls : List Letter) → AllByRecursion (λ l. flow_of start term l ≡ []) ls → flow start term ls ≡ []
 flow-none start term ls h = flat-none (flow_of start term) ls h
 
-pub ends-none : (start term : ℕ) (ls : List Letter) → AllByRecursion (λ l. end_of start term l ≡ []) ls → ends start term ls ≡ []
+pub ends-none : (start term : ℕ) (ls : List Letter) → AllByRecursion (λ l. end_of start term l ≡ []) ls → stream_ends_in start term ls ≡ []
 ends-none start term ls h = flat-none (end_of start term) ls h
 
 pub asks-none : (term : ℕ) (ls : List Letter) → AllByRecursion (λ l. ask_of term l ≡ []) ls → asks_in term ls ≡ []
@@ -145,7 +145,7 @@ views-none start ls h = flat-none (view_of start) ls h
 pub line-empty : (start term : ℕ) (ls : List Letter) → line start term ls ≡ [] → (l : Letter) → In l ls → line_of start term l ≡ []
 line-empty start term ls e l i = all-at (λ l. line_of start term l ≡ []) ls (flat-empty (line_of start term) ls e) l i
 
-pub ends-empty : (start term : ℕ) (ls : List Letter) → ends start term ls ≡ [] → (l : Letter) → In l ls → end_of start term l ≡ []
+pub ends-empty : (start term : ℕ) (ls : List Letter) → stream_ends_in start term ls ≡ [] → (l : Letter) → In l ls → end_of start term l ≡ []
 ends-empty start term ls e l i = all-at (λ l. end_of start term l ≡ []) ls (flat-empty (end_of start term) ls e) l i
 
 -- ---- for whom a message is
@@ -322,7 +322,7 @@ pub flow-order : (start term : ℕ) (ls : List Letter) → AllByRecursion NoStre
 flow-order start term ls h = order-first (flow_of start term) ls
     (all-mono NoStreamStart (λ l. (order_of l == 1) ≡ false → flow_of start term l ≡ []) (λ l k. flow-place start term l k) ls h)
 
-pub ends-order : (start term : ℕ) (ls : List Letter) → ends start term (in_order ls) ≡ ends start term ls
+pub ends-order : (start term : ℕ) (ls : List Letter) → stream_ends_in start term (in_order ls) ≡ stream_ends_in start term ls
 ends-order start term ls = order-last (end_of start term) ls (all-from (λ l. (order_of l == 4) ≡ false → end_of start term l ≡ []) ls (λ l i. ends-place start term l))
 
 pub asks-order : (term : ℕ) (ls : List Letter) → asks_in term (in_order ls) ≡ asks_in term ls
@@ -390,13 +390,13 @@ module _ (D : Deployment) (s : SiteState) (slot : ℕ) where
   pub repair-flow : (start term : ℕ) (rs : List Reported) → flow start term (repair_to D s slot rs) ≡ []
   repair-flow start term rs = flow-none start term (repair_to D s slot rs) (repair-all D s slot (λ l. flow_of start term l ≡ []) rs (λ r i q. flow-plain start term (repair_letter D s slot r) refl))
 
-  pub repair-ends : (start term : ℕ) (rs : List Reported) → ends start term (repair_to D s slot rs) ≡ []
+  pub repair-ends : (start term : ℕ) (rs : List Reported) → stream_ends_in start term (repair_to D s slot rs) ≡ []
   repair-ends start term rs = ends-none start term (repair_to D s slot rs) (repair-all D s slot (λ l. end_of start term l ≡ []) rs (λ r i q. ends-plain start term (repair_letter D s slot r) refl))
 
 -- ---- that a stream is whole
 
 module _ (s : SiteState) (slot : ℕ) where
   pub stream_ends-other : (start term : ℕ) → ((j : Joiner) → In j s.joiners → j.slot ≡ slot → j.start ≡ start → site_term s ≡ term → is_sent s j ≡ true → ⊥)
-      → ends start term (stream_ends_to s slot) ≡ []
+      → stream_ends_in start term (stream_ends_to s slot) ≡ []
   stream_ends-other start term n =
       ends-none start term (stream_ends_to s slot) (stream_ends-all s slot (λ l. end_of start term l ≡ []) (λ j i q c. ends-other start term (end_letter s slot j) (λ a t. n j i q a t c)))

@@ -9,19 +9,19 @@ use Rattle.cluster_model.specs.SiteState.{is_joiner}
 use Rattle.cluster_model.specs.World.{World, Input, AuthoritativeLog}
 use Rattle.cluster_model.specs.Runs.{Reached, RunsInEpoch}
 use Rattle.cluster_steps.proofs.Lists.{same-some}
-use Rattle.log_laws.specs.Histories.{LogState, Leadership, Holds, part, term_at}
+use Rattle.log_laws.specs.Histories.{LogState, Leadership, LogsHold, part, term_at}
 use Rattle.cluster_steps.specs.Lists.{Prefix}
 use Rattle.log_laws.specs.Copies.{Leads, LeadsNext, AuthoritativeOk, KeepsFirm, IsInAuthoritative, HasLogs, log_state, log_of, authoritative_for}
 use Rattle.cluster_steps.proofs.Prefixes.{prefix-trans, prefix-length, prefix-take, take-prefix, take-grown, take-of-prefix}
 use Rattle.log_laws.proofs.Runs.Agreeing.{agrees-begun}
 use Rattle.log_laws.proofs.Kept.Moves.{Onward}
-use Rattle.log_laws.proofs.Runs.Leading.{Rises}
+use Rattle.log_laws.proofs.Runs.Leading.{AuthoritativeRises}
 use Rattle.log_laws.proofs.Entries.Leads.{Leading, leading}
 use Rattle.log_laws.proofs.Runs.Worlds.{logs-agree, epoch-reaches}
 
 -- ---- what is everywhere in a term
 
-module _ (S : LogState) (H : Holds S) (p v n : ℕ) (g : Leadership) (led : S.logs.leadership p v ≡ Some g) (low : n ≤ S.logs.reach p v) where
+module _ (S : LogState) (H : LogsHold S) (p v n : ℕ) (g : Leadership) (led : S.logs.leadership p v ≡ Some g) (low : n ≤ S.logs.reach p v) where
   -- is in its log, and in that of each later one that was led, at its beginning
   pub lasting : (t : ℕ) (h : Leadership) → S.logs.leadership p t ≡ Some h → v ≤ t → (n ≤ length h.log) × Prefix (take n g.log) h.log
   lasting t h is upto = elim (cases_eq v t) [
@@ -48,7 +48,7 @@ module _ (S : LogState) (H : Holds S) (p v n : ℕ) (g : Leadership) (led : S.lo
 -- ---- the authoritative log of a partition
 
 -- Of that in a state, and that in a later one: what is firm in it is in its log, and a prefix of the later log.
-module _ (S T : LogState) (H : Holds S) (J : Holds T) (f : Onward S.logs T.logs) (p : ℕ) (l m : AuthoritativeLog) (k : AuthoritativeOk S.logs p l) (n : AuthoritativeOk T.logs p m) where
+module _ (S T : LogState) (H : LogsHold S) (J : LogsHold T) (f : Onward S.logs T.logs) (p : ℕ) (l m : AuthoritativeLog) (k : AuthoritativeOk S.logs p l) (n : AuthoritativeOk T.logs p m) where
   authoritative-within : l.firm ≤ length l.log
   authoritative-within = let q = k.firm in subst (λ x. l.firm ≤ length x) (sym k.log) (lasting S H p q.0 l.firm q.1 q.2 q.3 l.term k.leadership k.led (k.greatest q.0 q.1 q.2)).0
 
@@ -66,7 +66,7 @@ module _ (S T : LogState) (H : Holds S) (J : Holds T) (f : Onward S.logs T.logs)
 -- ---- worlds
 
 -- In a later world of one epoch.
-pub keeps-firm : (v w : World) (k : HasLogs v) (n : HasLogs w) → Onward k.logs n.logs → ((p : ℕ) → Rises (v.authoritative p) (w.authoritative p)) → (p : ℕ) → KeepsFirm v w p
+pub keeps-firm : (v w : World) (k : HasLogs v) (n : HasLogs w) → Onward k.logs n.logs → ((p : ℕ) → AuthoritativeRises (v.authoritative p) (w.authoritative p)) → (p : ℕ) → KeepsFirm v w p
 keeps-firm v w k n f rises p =
     let S = log_state v k.owner k.history k.logs in
     let T = log_state w n.owner n.history n.logs in
