@@ -18,9 +18,11 @@ use Rattle.cluster_model.specs.Laws.{start_in_letter, starts_in}
 use Rattle.cluster_steps.specs.Lists.{In}
 use Rattle.word_laws.specs.Histories.{State, agent_start, starts_to, WordsHold, LetterOk, AsksAdmission, CameOk, QueuedAdmissionOk, AgentWaitingFrom, AgentWaitingOk, ClosesFrom, InOrder}
 use Rattle.cluster_steps.proofs.Lists.{all-mono, all-filter, eqb-same, not-both}
-use Rattle.word_laws.proofs.Moves.{Nobody, Anyone, after_agent, agent_popped, WordsLater, BringsWord, asked_by, Heeded, WordsGo}
+use Rattle.word_laws.proofs.Moves.{Nobody, Anyone, after_agent, agent_popped, WordsLater, Heeded, WordsGo}
+use Rattle.word_laws.proofs.Calm.{BringsWord, asked_by}
 use Rattle.word_laws.proofs.Laters.{ask-later, came-later, closes-later, ask-began, waiting-later}
-use Rattle.word_laws.proofs.Turns.{handler-calm, tells, concludes, stops_with_host-closed}
+use Rattle.word_laws.proofs.Calm.{handler-calm, loaded_by}
+use Rattle.word_laws.proofs.Turns.{tells, concludes, stops_with_host-closed}
 use Rattle.word_laws.proofs.Arrivals.{arrival-waits, arrival-taken, arrival-open, arrival-dropped, Commands, AgentTakes, Stops_, Ignores, Runs_, takes-cases, runs-taken, runs-waits, runs-refused, turn-cases, stopped-cases, unless-running, waiting-brings}
 use Rattle.word_laws.proofs.Steps.{later-moved, pops, pops-other, waiting-shrinks, waits-holds}
 use Rattle.word_laws.proofs.Rejoins.{start-goes, start-stops-goes}
@@ -88,7 +90,8 @@ pub calm-event : {M : ℕ → ℕ → Type 0} (E : Database) (P : State) (n stam
     → ((j h term : ℕ) → In (Admission j h term) ((P.agents n).initiating.queue ++ asked_by from l) → M j h)
     → WordsTurn M P n (agent_handler E P.deployment n stamp (P.agents n) from l ▸ tells n (P.agents n).own)
 calm-event E P n stamp from l h up calm new may =
-    calm-handler P h n (asked_by from l) (agent_handler E P.deployment n stamp (P.agents n) from l) up (handler-calm E P.deployment n stamp (P.agents n) from l calm) new may
+    calm-handler P h P.deployment n (asked_by from l) (loaded_by (P.agents n) from l) (agent_handler E P.deployment n stamp (P.agents n) from l) up
+    (handler-calm E P.deployment n stamp (P.agents n) from l calm) new may
 
 -- ---- the handler of a message, and what the agent says then
 

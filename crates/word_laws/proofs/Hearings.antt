@@ -16,7 +16,8 @@ use Rattle.word_laws.specs.Histories.{State, History, Admitted, names, agent_sta
 use Rattle.cluster_steps.proofs.Lists.{all-mono, all-at, in-cases, some-here, not-both, eqb-same, same-some, set-same}
 use Rattle.word_laws.proofs.Algebra.{same_word-refl, same_word-is, with_admitted-admits, names-admits}
 use Rattle.word_laws.proofs.Members.{members-all, is_member-start, initiates-is}
-use Rattle.word_laws.proofs.Moves.{Nobody, after_agent, WordsLater, SaysNoWord, Calm, AdmitsNow, Grows}
+use Rattle.word_laws.proofs.Moves.{Nobody, after_agent, WordsLater, Grows}
+use Rattle.word_laws.proofs.Calm.{SaysNoWord, Calm, AdmitsNow}
 use Rattle.word_laws.proofs.Agreement.{member-is, said-good}
 use Rattle.word_laws.proofs.Turns.{Decides, tells, concludes, tells-same, tells-other, concludes-not, concludes-is, decides-state, decides-sends, may_decide-cases, is_other_word-equal}
 use Rattle.word_laws.proofs.Steps.{later-after, calm-holds, after-after, came-turn, plain-closes}
@@ -257,7 +258,8 @@ module _ {M : ℕ → ℕ → Type 0} (T : State) (H : WordsHold T) (n : ℕ) (D
 pub says-word : (n : ℕ) (x : AgentState) (before : Option Membership) (v : Membership) → x.own ≡ Some v → is_other_word before (Some v) ≡ true → tells n before x ≡ says n x (Some v)
 says-word n x before v e o = tells-other n before x (ap (is_other_word before) e ∙ o) ∙ ap (says n x) e
 
-module _ {M : ℕ → ℕ → Type 0} (P : State) (H : WordsHold P) (n : ℕ) (came : List Queued) (t : Turn AgentState) (up : 0 < agent_start P n) (c : Calm n (P.agents n) came t)
+module _ {M : ℕ → ℕ → Type 0} (P : State) (H : WordsHold P) (D : Deployment) (n : ℕ) (came : List Queued) (loaded : List ℕ) (t : Turn AgentState)
+    (up : 0 < agent_start P n) (c : Calm D n (P.agents n) came loaded t)
     (new : (j h term : ℕ) → In (Admission j h term) came → QueuedAdmissionOk P n (Admission j h term))
     (may : (j h term : ℕ) → In (Admission j h term) ((P.agents n).initiating.queue ++ came) → M j h) where
   -- it admits a start
@@ -295,16 +297,19 @@ module _ {M : ℕ → ℕ → Type 0} (P : State) (H : WordsHold P) (n : ℕ) (c
       out : Sends
       out = (says n t.state (Some v)).sends
 
-      c0 : Calm n (P.agents n) came (record { state = t0; sends = t.sends })
+      c0 : Calm D n (P.agents n) came loaded (record { state = t0; sends = t.sends })
       c0 = record {
-        start = c.start;
-        decided = c.decided;
-        taken = c.taken;
-        said = c.said;
-        waiting = c.waiting;
-        own = inl refl;
-        queue = c.queue;
-        phase = c.phase;
+        at = record {
+          start = c.start;
+          decided = c.decided;
+          taken = c.taken;
+          said = c.said;
+          waiting = c.waiting;
+          loads = c.loads;
+          own = inl refl;
+          queue = c.queue;
+          phase = c.phase;
+        };
         sends = c.sends;
       }
 
@@ -315,7 +320,7 @@ module _ {M : ℕ → ℕ → Type 0} (P : State) (H : WordsHold P) (n : ℕ) (c
       G = record P.history { said = said_more P.history.said (agent_start S1 n) v; admitted = record { start = m.start; by = agent_start S1 n; at = m.word } ∷ P.history.admitted }
 
       H1 : WordsHold S1
-      H1 = calm-holds P n came (record { state = t0; sends = t.sends }) up c0 refl new H
+      H1 = calm-holds P D n came loaded (record { state = t0; sends = t.sends }) up c0 refl new H
 
       here : S1.agents n ≡ t0
       here = agent-there P n t0 t.sends P.history
@@ -346,7 +351,8 @@ module _ {M : ℕ → ℕ → Type 0} (P : State) (H : WordsHold P) (n : ℕ) (c
 
       came1 : CameOk S1 m.host n m.term m.start
       came1 = came-turn P n t0 t.sends (inl c.start)
-          (λ g j. all-mono (SaysNoWord n (P.agents n) g) (ClosesFrom (P.history.began n) j) (λ l p. plain-closes n (P.agents n) g (P.history.began n) j l p) (t.sends (Agent g)) (c.sends g))
+          (λ g j. all-mono (SaysNoWord D n (P.agents n) loaded (Agent g)) (ClosesFrom (P.history.began n) j)
+          (λ l p. plain-closes D n (P.agents n) loaded g (P.history.began n) j l p) (t.sends (Agent g)) (c.sends (Agent g)))
           n m.host m.term m.start came0
 
       over1 : agent_start S1 n < m.start
@@ -378,7 +384,7 @@ module _ {M : ℕ → ℕ → Type 0} (P : State) (H : WordsHold P) (n : ℕ) (c
   calm-handler = elim c.own [
     | inl same ↦ subst (WordsTurn M P n) (sym (then-inert t (tells n (P.agents n).own)
         (tells-same n (P.agents n).own t.state (ap (is_other_word (P.agents n).own) same ∙ other-self (P.agents n).own))))
-        (handler-plain P n t (inl (c.start, up)) (calm-holds P n came t up c same new H))
+        (handler-plain P n t (inl (c.start, up)) (calm-holds P D n came loaded t up c same new H))
     | inr m ↦ admits-handler m
   ]
 

@@ -9,7 +9,7 @@ use Rattle.volt_wire.specs.Word.{Membership}
 use Rattle.volt_wire.specs.declared.actor.Actor.{Actor}
 use Rattle.volt_wire.specs.declared.actor.Actor.TheVariants.{Director, Client, Agent, Site, Scanner}
 use Rattle.volt_wire.specs.declared.message.Msg.TheVariants as msg
-use Rattle.cluster_model.specs.Words.{is_in, is_host, admits, initiator}
+use Rattle.cluster_model.specs.Words.{is_in, is_host, admits, initiator, Deployment}
 use Rattle.cluster_model.specs.Letters.{same, Letter, Sends, Turn, Waiting, open_letter}
 use Rattle.cluster_model.specs.AgentState.{AgentState, Queued, Job_, Admission, initiates, is_initiator_in, new_agent}
 use Rattle.cluster_model.specs.World.{took, sent, rest, set_at}
@@ -19,7 +19,8 @@ use Rattle.word_laws.specs.Histories.{State, History, Admitted, Begun, IsRunning
 use Rattle.cluster_steps.proofs.Lists.{all-append, all-mono, all-at, all-from, in-cases, some-here, some-mono, all-filter, set-twice}
 use Rattle.word_laws.proofs.Channels.{telling-left, closing-left, closing-right, order-append, order-rest}
 use Rattle.cluster_steps.proofs.Channels.{sent-both, sent-keep, taken-both, took-starts, took-all, sent-twice}
-use Rattle.word_laws.proofs.Moves.{OwnLost, OwnAdmits, WordsLater, after_agent, agent_popped, SaysNoWord, Calm, Heeded}
+use Rattle.word_laws.proofs.Moves.{OwnLost, OwnAdmits, WordsLater, after_agent, agent_popped, Heeded}
+use Rattle.word_laws.proofs.Calm.{SaysNoWord, Calm}
 use Rattle.word_laws.proofs.Laters.{good-later, letter-later, own-later, said_by-later, admitted_ok-later, unnamed-later, came-later, waiting-later, queued-later}
 
 -- actors that the model takes for the same are
@@ -555,8 +556,8 @@ begun-running S n h up = record {
     is-host false q = let z = k.environment q in absurd (omega (arith, z, up))
 
 -- what an agent sends in a turn that brings no word may be sent
-pub plain-ok : (S : State) (n g : ℕ) → WordsHold S → 0 < agent_start S n → (l : Letter) → SaysNoWord n (S.agents n) g l → LetterOk S n g l
-plain-ok S n g h up l p = elim l.body as (λ m. SaysNoWord n (S.agents n) g (record l { body = m }) → LetterOk S n g (record l { body = m })) [
+pub plain-ok : (S : State) (D : Deployment) (n : ℕ) (loaded : List ℕ) (g : ℕ) → WordsHold S → 0 < agent_start S n → (l : Letter) → SaysNoWord D n (S.agents n) loaded (Agent g) l → LetterOk S n g l
+plain-ok S D n loaded g h up l p = elim l.body as (λ m. SaysNoWord D n (S.agents n) loaded (Agent g) (record l { body = m }) → LetterOk S n g (record l { body = m })) [
   | msg.Word base lost admitted ↦ λ k. absurd k
   | msg.Decided w ↦ λ k. (k.0, (some-here (λ v. In v S.history.decided × (names v (agent_start S n) ≡ true)) (S.agents n).decided w k.1 (h.agents n).decided).0)
   | msg.Closed o ↦ λ k. absurd k
@@ -572,21 +573,21 @@ plain-ok S n g h up l p = elim l.body as (λ m. SaysNoWord n (S.agents n) g (rec
 ] p
 
 -- it closes no start
-pub plain-closes : (n : ℕ) (a : AgentState) (g : ℕ) (began : List ℕ) (j : ℕ) (l : Letter) → SaysNoWord n a g l → ClosesFrom began j l
-plain-closes n a g began j l p = elim l.body as (λ m. SaysNoWord n a g (record l { body = m }) → ClosesFrom began j (record l { body = m })) [
+pub plain-closes : (D : Deployment) (n : ℕ) (a : AgentState) (loaded : List ℕ) (g : ℕ) (began : List ℕ) (j : ℕ) (l : Letter) → SaysNoWord D n a loaded (Agent g) l → ClosesFrom began j l
+plain-closes D n a loaded g began j l p = elim l.body as (λ m. SaysNoWord D n a loaded (Agent g) (record l { body = m }) → ClosesFrom began j (record l { body = m })) [
   | msg.Closed o ↦ λ k. absurd k
   | m ↦ λ k. tt
 ] p
 
 -- and all of it is in order
-pub plain-order : (n : ℕ) (a : AgentState) (g : ℕ) (began : List ℕ) (ls : List Letter) → AllByRecursion (SaysNoWord n a g) ls → InOrder began ls
-plain-order n a g began [] p = tt
-plain-order n a g began (l ∷ ls) p = (
+pub plain-order : (D : Deployment) (n : ℕ) (a : AgentState) (loaded : List ℕ) (g : ℕ) (began : List ℕ) (ls : List Letter) → AllByRecursion (SaysNoWord D n a loaded (Agent g)) ls → InOrder began ls
+plain-order D n a loaded g began [] p = tt
+plain-order D n a loaded g began (l ∷ ls) p = (
   (elim l.body as (λ m. (elim m as (λ _. Type 0) [ msg.Admit j ↦ AllByRecursion (ClosesFrom began j) ls | _ ↦ Unit {0} ])) [
-    | msg.Admit j ↦ all-mono (SaysNoWord n a g) (ClosesFrom began j) (plain-closes n a g began j) ls p.1
+    | msg.Admit j ↦ all-mono (SaysNoWord D n a loaded (Agent g)) (ClosesFrom began j) (plain-closes D n a loaded g began j) ls p.1
     | m ↦ tt
   ]),
-  plain-order n a g began ls p.1,
+  plain-order D n a loaded g began ls p.1,
 )
 
 -- only the start and the decided word say who initiates
@@ -611,14 +612,14 @@ queue-later S T n up q came more k new from = all-from (QueuedAdmissionOk T n) m
     ]
 
 -- A turn that brings no word and admits no start.
-pub calm-holds : (S : State) (n : ℕ) (came : List Queued) (t : Turn AgentState) → 0 < agent_start S n → Calm n (S.agents n) came t → (t.state.own ≡ (S.agents n).own)
+pub calm-holds : (S : State) (D : Deployment) (n : ℕ) (came : List Queued) (loaded : List ℕ) (t : Turn AgentState) → 0 < agent_start S n → Calm D n (S.agents n) came loaded t → (t.state.own ≡ (S.agents n).own)
     → ((j h term : ℕ) → In (Admission j h term) came → QueuedAdmissionOk S n (Admission j h term)) → WordsHold S → WordsHold (after_agent S n t.state t.sends S.history)
-calm-holds S n came t up c own new h = turn-holds S n t.state t.sends (inl (c.start, own))
+calm-holds S D n came loaded t up c own new h = turn-holds S n t.state t.sends (inl (c.start, own))
     (agent-same T n (S.agents n) t.state c.start own c.decided c.taken c.said (subst (λ x. AllByRecursion (AgentWaitingOk T n) x) (sym c.waiting) k.waiting)
     (queue-later S T n (came-turn S n t.state t.sends (inl c.start) closes n) (S.agents n).initiating.queue came t.state.initiating.queue (h.agents n).queue new c.queue)
     phase k)
-    (λ g. all-mono (SaysNoWord n (S.agents n) g) (LetterOk T n g) (λ l p. letter-later S T f n g l (plain-ok S n g h up l p)) (t.sends (Agent g)) (c.sends g))
-    (λ g. plain-order n (S.agents n) g (S.history.began n) (t.sends (Agent g)) (c.sends g))
+    (λ g. all-mono (SaysNoWord D n (S.agents n) loaded (Agent g)) (LetterOk T n g) (λ l p. letter-later S T f n g l (plain-ok S D n loaded g h up l p)) (t.sends (Agent g)) (c.sends (Agent g)))
+    (λ g. plain-order D n (S.agents n) loaded g (S.history.began n) (t.sends (Agent g)) (c.sends (Agent g)))
     closes
     h
   where
@@ -629,7 +630,7 @@ calm-holds S n came t up c own new h = turn-holds S n t.state t.sends (inl (c.st
     f = later-turn S n t.state t.sends (inl c.start)
 
     closes : (g j : ℕ) → AllByRecursion (ClosesFrom (S.history.began n) j) (t.sends (Agent g))
-    closes g j = all-mono (SaysNoWord n (S.agents n) g) (ClosesFrom (S.history.began n) j) (plain-closes n (S.agents n) g (S.history.began n) j) (t.sends (Agent g)) (c.sends g)
+    closes g j = all-mono (SaysNoWord D n (S.agents n) loaded (Agent g)) (ClosesFrom (S.history.began n) j) (plain-closes D n (S.agents n) loaded g (S.history.began n) j) (t.sends (Agent g)) (c.sends (Agent g))
 
     k : AgentOk T n (S.agents n)
     k = agent-turn S n t.state t.sends (inl c.start) closes n (S.agents n) (h.agents n)
