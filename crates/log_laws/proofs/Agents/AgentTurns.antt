@@ -22,7 +22,7 @@ use Rattle.word_laws.proofs.Steps.{after-after}
 use Rattle.word_laws.proofs.Hearings.{WordsTurn, handler-grows, stay-handler, agent-there, after-handler, then-inert}
 use Rattle.log_laws.specs.Histories.{LogState, LoadedOk, AllLoaded, AskedOk, QueuedLoadedOk, ForeignOk, LoadsOk, ViewsOk, LogsHold, sent_term, agent_to_site}
 use Rattle.log_laws.proofs.Agents.Words.{SitesHold, sites-hold, sites-kept}
-use Rattle.log_laws.proofs.Agents.AgentSends.{NoView, NoAdmit, Calls, tells-calls}
+use Rattle.log_laws.proofs.Agents.AgentSends.{NoView, NoAdmit, Tells, tells-says}
 use Rattle.log_laws.proofs.Agents.Views.{worded, agent_turned, Unsent, SentUpTo, ViewsIn, views-in, views-of, views-later, views-turned, views-plainly}
 use Rattle.log_laws.proofs.Agents.Admits.{none-asked, LoadsTurn, loads-popped, loads-turned}
 
@@ -258,8 +258,8 @@ tells-plain S n t before p = record {
     same : (tells n before t.state).state ≡ t.state
     same = tells-state n before t.state
 
-    calls : Calls t.state.loaded (tells n before t.state)
-    calls = tells-calls n before t.state
+    calls : Tells t.state.loaded (tells n before t.state)
+    calls = tells-says n before t.state
 
 -- One turn, and then another one of an agent that goes on. One that has stopped does nothing then.
 pub then-agent : (S : LogState) (n : ℕ) (t : Turn AgentState) (f : AgentState → Turn AgentState) (r : AgentHandler S n t) → f (new_agent 0) ≡ becomes (new_agent 0)

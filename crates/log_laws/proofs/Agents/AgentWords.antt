@@ -20,7 +20,7 @@ use Rattle.word_laws.proofs.Hearings.{WordsTurn, handler-grows, agent-there, dec
 use Rattle.word_laws.proofs.Rejoins.{with_began, start-grows}
 use Rattle.word_laws.proofs.Turns.{Decides, decides-state, decides-sends, may_decide-cases, tells, tells-state, concludes, concludes-not, concludes-is}
 use Rattle.log_laws.specs.Histories.{LogState, LoadedOk, AskedOk, ForeignOk, sent_term, site_start, views}
-use Rattle.log_laws.proofs.Agents.AgentSends.{NoView, NoAdmit, Calls, tells-calls}
+use Rattle.log_laws.proofs.Agents.AgentSends.{NoView, NoAdmit, Tells, tells-says}
 use Rattle.log_laws.proofs.Agents.Decided.{decides-above}
 use Rattle.log_laws.proofs.Agents.Views.{agent_turned, Unsent, SentUpTo, ViewsIn, views-in, views-later, views-plainly, views-start, views-next}
 use Rattle.log_laws.proofs.Agents.Admits.{none-asked}
@@ -59,8 +59,8 @@ module _ (S : LogState) (n : ℕ) (w : Membership) (h : word.WordsHold S.words) 
   takes-is : takes_word S.words.deployment n a w ▸ tells n a.own ≡ takes
   takes-is = ap {A = AgentState} {B = Turn AgentState} (λ x. record { state = x; sends = takes.sends }) (tells-state n a.own joiner)
 
-  calls : Calls a.loaded (tells n a.own joiner)
-  calls = tells-calls n a.own joiner
+  calls : Tells a.loaded (tells n a.own joiner)
+  calls = tells-says n a.own joiner
 
   abbrev ls : ℕ → List Letter
   ls c = S.words.channel (Agent n) (Site c)
