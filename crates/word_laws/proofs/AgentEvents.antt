@@ -1,4 +1,4 @@
--- An agent takes a message: what holds, holds after_agent all that it does then.
+-- An agent takes a message: what holds, holds after all that it does then.
 use Rattle.std.proofs.Common.{◌≡◌, ◌<◌, true, false, List, [], ◌∷◌, ◌++◌, refl, sym, subst, ap, ◌∙◌, inl, inr, ◌==◌, arith}
 use Rattle.std.proofs.lemmas.Bool.Decides.{nat_tests}
 use Rattle.std.proofs.lemmas.Bool.{cases_eq}
@@ -18,11 +18,10 @@ use Rattle.cluster_model.specs.Laws.{start_in_letter, starts_in}
 use Rattle.cluster_steps.specs.Lists.{In}
 use Rattle.word_laws.specs.Histories.{State, agent_start, starts_to, WordsHold, LetterOk, AsksAdmission, CameOk, QueuedAdmissionOk, AgentWaitingFrom, AgentWaitingOk, ClosesFrom, InOrder}
 use Rattle.cluster_steps.proofs.Lists.{all-mono, all-filter, eqb-same, not-both}
-use Rattle.word_laws.proofs.Moves.{Nobody, Anyone, after_agent, agent_popped, WordsLater, Heeded, WordsGo}
-use Rattle.word_laws.proofs.Calm.{BringsWord, asked_by}
+use Rattle.word_laws.proofs.Moves.{Nobody, Anyone, after_agent, agent_popped, WordsLater, Heeded, WordsGo, ShownOk}
+use Rattle.word_laws.proofs.Calm.{BringsWord, asked_by, handler-calm, loaded_by}
 use Rattle.word_laws.proofs.Laters.{ask-later, came-later, closes-later, ask-began, waiting-later}
-use Rattle.word_laws.proofs.Calm.{handler-calm, loaded_by}
-use Rattle.word_laws.proofs.Turns.{tells, concludes, stops_with_host-closed}
+use Rattle.word_laws.proofs.Turns.{tells, concludes, stops_with_host-closed, StopsSay, stops-say, stops_with_host-say}
 use Rattle.word_laws.proofs.Arrivals.{arrival-waits, arrival-taken, arrival-open, arrival-dropped, Commands, AgentTakes, Stops_, Ignores, Runs_, takes-cases, runs-taken, runs-waits, runs-refused, turn-cases, stopped-cases, unless-running, waiting-brings}
 use Rattle.word_laws.proofs.Steps.{later-moved, pops, pops-other, waiting-shrinks, waits-holds}
 use Rattle.word_laws.proofs.Rejoins.{start-goes, start-stops-goes}
@@ -46,11 +45,12 @@ pops-any S (Scanner i) n l ls is heeded h = pops-other S (Scanner i) n (λ k. re
 
 -- The agent stops, and then the message leaves its channel.
 pub stop-pops : (S : State) (from : Actor) (n : ℕ) (l : Letter) (ls : List Letter) (t : Turn AgentState) → S.channel from (Agent n) ≡ l ∷ ls → WordsHold S → 0 < agent_start S n → t.state ≡ new_agent 0
-    → ((g : ℕ) → t.sends (Agent g) ≡ (stops S.deployment n (agent_start S n)).sends (Agent g)) → WordsTurn Nobody (agent_popped S from n) n t
-stop-pops S from n l ls t is h up e sends = forgets-handler S n from l ls t is r (λ more q. pops-any T from n l more q (λ k z. unheeded) r.holds)
+    → ((g : ℕ) → t.sends (Agent g) ≡ (stops S.deployment n (agent_start S n)).sends (Agent g))
+    → ((b : Actor) → AllByRecursion (StopsSay (agent_start S n)) (t.sends b)) → WordsTurn Nobody (agent_popped S from n) n t
+stop-pops S from n l ls t is h up e sends says = forgets-handler S n from l ls t is r (λ more q. pops-any T from n l more q (λ k z. unheeded) r.holds)
   where
     r : WordsTurn Nobody S n t
-    r = stop-handler S n t h up e sends
+    r = stop-handler S n t h up e sends says
 
     T : State
     T = after_agent S n t.state t.sends r.history
@@ -177,7 +177,7 @@ waited : (E : Database) (D : Deployment) (n stamp : ℕ) (P : State) → P.deplo
 waited E D n stamp P d h up =
     on-handler P n (becomes (record (P.agents n) { waiting = above_term (term_in (P.agents n).decided) (P.agents n).waiting })) (takes_each E D n stamp (of_term (term_in (P.agents n).decided) (P.agents n).waiting))
     (handler-plain P n (becomes (record (P.agents n) { waiting = above_term (term_in (P.agents n).decided) (P.agents n).waiting })) (inl (refl, up))
-    (waiting-shrinks P n (λ w. nat_lt (term_in (P.agents n).decided) w.letter.term) h))
+    (waiting-shrinks P n (λ w. nat_lt (term_in (P.agents n).decided) w.letter.term) h) (λ b. tt))
     (none-taken E D n stamp (of_term (term_in (P.agents n).decided) (P.agents n).waiting))
     (λ T e q later others g u. waited-each E D n stamp (of_term (term_in (P.agents n).decided) (P.agents n).waiting) T (q ∙ d) g u
     (all-mono (λ x. AgentWaitingFrom P n x.from x.letter) (λ x. AgentWaitingFrom T n x.from x.letter) (λ x p. waiting-later P T n (came-still P T n later others) x.from x.letter p)
@@ -208,7 +208,7 @@ pub waits-event : {M : ℕ → ℕ → Type 0} (S : State) (n : ℕ) (from : Act
 waits-event S n from l ls h up is waits =
     handler-plain (agent_popped S from n) n (becomes (record (S.agents n) { waiting = (S.agents n).waiting ++ record { from = from; letter = l } ∷ [] })) (inl (refl, up))
     (waits-holds (agent_popped S from n) from n l (may-wait from l is waits)
-    (pops-any S from n l ls is (λ k e. unheeded k l (subst (λ z. S.channel z (Agent n) ≡ l ∷ ls) e is) waits) h))
+    (pops-any S from n l ls is (λ k e. unheeded k l (subst (λ z. S.channel z (Agent n) ≡ l ∷ ls) e is) waits) h)) (λ b. tt)
   where
     -- it has a term
     no-term : (l : Letter) → arrival (agent_start S n) (term_in (S.agents n).decided) l ≡ Waits → l.term ≡ 0 → ⊥
@@ -227,6 +227,7 @@ waits-event S n from l ls h up is waits =
           | msg.Word base lost admitted ↦ λ e a. no-term (record l { body = msg.Word base lost admitted }) a (subst (AllByRecursion (LetterOk S k n)) e (h.channels k n).letters).0.0
           | msg.Decided w ↦ λ e a. no-term (record l { body = msg.Decided w }) a (subst (AllByRecursion (LetterOk S k n)) e (h.channels k n).letters).0.0
           | msg.Closed o ↦ λ e a. no-term (record l { body = msg.Closed o }) a (subst (AllByRecursion (LetterOk S k n)) e (h.channels k n).letters).0.0
+          | msg.View w ↦ λ e a. (subst (AllByRecursion (LetterOk S k n)) e (h.channels k n).letters).0
           | msg.Admit j ↦ λ e a. came-popped S k n j l ls h e
           | m ↦ λ e a. tt
         ] is w
@@ -273,7 +274,8 @@ running-event : (E : Database) (S : State) (n stamp : ℕ) (from : Actor) (l : L
     → WordsTurn Anyone (agent_popped S from n) n (agent_turn E S.deployment n stamp (S.agents n) from l o)
 running-event E S n stamp from l ls o h up is = elim (turn-cases E S.deployment n stamp (S.agents n) from l o running) [
   | inl e ↦ subst (WordsTurn Anyone (agent_popped S from n) n) (sym e) (none-handler
-      (stop-pops S from n l ls (stops_with_host S.deployment n (agent_start S n)) is h up refl (λ g. stops_with_host-closed S.deployment n (agent_start S n) g)))
+      (stop-pops S from n l ls (stops_with_host S.deployment n (agent_start S n)) is h up refl (λ g. stops_with_host-closed S.deployment n (agent_start S n) g)
+      (stops_with_host-say S.deployment n (agent_start S n))))
   | inr e ↦ subst (WordsTurn Anyone (agent_popped S from n) n) (sym e) (takes (takes-cases E S.deployment n stamp (S.agents n) from l running))
 ]
   where
@@ -286,7 +288,8 @@ running-event E S n stamp from l ls o h up is = elim (turn-cases E S.deployment 
     runs Refused e = subst (WordsTurn Anyone (agent_popped S from n) n) (sym (runs-refused E S.deployment n stamp (S.agents n) from l e)) (refused-event S n from l ls h up is e)
 
     takes : AgentTakes E S.deployment n stamp (S.agents n) from l → WordsTurn Anyone (agent_popped S from n) n (agent_takes E S.deployment n stamp (S.agents n) from l)
-    takes (Stops_ e) = subst (WordsTurn Anyone (agent_popped S from n) n) (sym e) (none-handler (stop-pops S from n l ls (stops S.deployment n (agent_start S n)) is h up refl (λ g. refl)))
+    takes (Stops_ e) = subst (WordsTurn Anyone (agent_popped S from n) n) (sym e) (none-handler (stop-pops S from n l ls (stops S.deployment n (agent_start S n)) is h up refl (λ g. refl)
+        (stops-say S.deployment n (agent_start S n))))
     takes (Ignores e c) = subst (WordsTurn Anyone (agent_popped S from n) n) (sym e) (ignored-event S n from l ls h up is c)
     takes (Runs_ e c) = subst (WordsTurn Anyone (agent_popped S from n) n) (sym e) (runs (arrival (agent_start S n) (term_in (S.agents n).decided) l) refl)
 
@@ -297,6 +300,7 @@ handler-goes S n from t r = record {
   history = r.history;
   grows = handler-grows r;
   holds = r.holds;
+  shown = r.shown;
 }
 
 -- a stopped agent stays as it is
@@ -324,6 +328,7 @@ stays-goes S n from l ls h is z = record {
     admitted = λ x i. i;
   };
   holds = stays-holds S n from l ls h is z;
+  shown = λ b. tt;
 }
 
 -- ---- a message of an agent that is stopped
@@ -369,7 +374,7 @@ stopped-memory S n from l ls h z host is some = (elim l.body as (λ m. S.channel
 
 -- ---- an agent takes a message
 
--- A message of an agent that is there: what holds, holds after_agent its turn, with a history that grew.
+-- A message of an agent that is there: what holds, holds after its turn, with a history that grew.
 pub agent-event : (E : Database) (S : State) (n stamp : ℕ) (from : Actor) (l : Letter) (ls : List Letter) (o : Environment) → S.channel from (Agent n) ≡ l ∷ ls → is_host S.deployment n ≡ true
     → ((answered : ℕ) → o ≡ NoMemory answered → nat_lt 0 (start_after (S.agents n) from l) ≡ true) → WordsHold S → WordsGo S n from (agent_turn E S.deployment n stamp (S.agents n) from l o)
 agent-event E S n stamp from l ls o is host memory h = elim (cases_eq (agent_start S n) 0) [

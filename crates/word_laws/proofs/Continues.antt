@@ -1,4 +1,4 @@
--- An agent goes on after_agent its turn, with a history that grew: what must hold of the turn, so that what holds, holds after_agent it.
+-- An agent goes on after its turn, with a history that grew: what must hold of the turn, so that what holds, holds after it.
 use Rattle.std.proofs.Common.{◌≡◌, ◌<◌, true, refl, sym, subst, ap, ◌∙◌, inl, inr}
 use Rattle.std.specs.Prelude.{ℕ, None}
 use Rattle.std.specs.List.{AllByRecursion}

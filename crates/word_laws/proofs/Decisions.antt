@@ -1,4 +1,4 @@
--- A member decides its word: what holds, holds after_agent that.
+-- A member decides its word: what holds, holds after that.
 use Rattle.std.proofs.Common.{◌≡◌, ◌<◌, true, List, [], ◌∷◌, refl, sym, subst, ap, ◌∙◌, inl, inr}
 use Rattle.std.specs.Prelude.{ℕ, Some}
 use Rattle.std.specs.List.{AllByRecursion}
@@ -31,7 +31,7 @@ module _ (S : State) (H : WordsHold S) (n : ℕ) (v : Membership) (a : AgentStat
   abbrev G : History
   G = record S.history { decided = v ∷ S.history.decided }
 
-  -- the state after_agent it
+  -- the state after it
   abbrev T : State
   T = after_agent S n a out G
 

@@ -122,6 +122,7 @@ module _ (S : State) (next : ℕ) (owner : ℕ → ℕ) (director : Actor → Li
     | msg.Decided w ↦ λ k. k
     | msg.Closed o ↦ λ k. (k.0, k.1, gone-to o k.2, same_owner o k.2.0.below ∙ k.3)
     | msg.Admit j ↦ λ k. ask-to f g l.term j k
+    | msg.View w ↦ λ k. k
     | m ↦ λ k. tt
   ] p
 

@@ -1,22 +1,22 @@
--- The handlers of an agent, and what it says of a new word: what holds, holds after_agent them.
+-- The handlers of an agent, and what it says of a new word: what holds, holds after them.
 use Rattle.std.proofs.Common.{◌≡◌, ◌<◌, Bool, true, false, List, [], ◌∷◌, ◌++◌, append-nil, append_assoc, refl, sym, subst, ap, ◌∙◌, ◌⊎◌, inl, inr, ◌==◌, arith}
 use Rattle.std.proofs.lemmas.Bool.{cases_Bool, eqb-true}
 use Rattle.std.proofs.Math.Path.{fun_ext}
-use Rattle.std.specs.Prelude.{ℕ, ◌||◌, if◌then◌else◌, Option, Some, None}
-use Rattle.std.specs.List.{list_all}
+use Rattle.std.specs.Prelude.{ℕ, ◌||◌, if◌then◌else◌, Option, Some, None, ◌&&◌, not, filter, is_none}
+use Rattle.std.specs.List.{list_all, AllByRecursion}
 use Rattle.volt_wire.specs.Word.{Membership}
-use Rattle.volt_wire.specs.declared.actor.Actor.TheVariants.{Agent}
-use Rattle.cluster_model.specs.Words.{Deployment, start_of, is_member, members, initiator, with_admitted}
-use Rattle.cluster_model.specs.Letters.{same, Letter, Sends, Turn, becomes, ◌▸◌}
+use Rattle.volt_wire.specs.declared.actor.Actor.TheVariants.{Agent, Client, Site, Scanner, Director}
+use Rattle.cluster_model.specs.Words.{Deployment, start_of, is_member, members, initiator, with_admitted, is_slot_of, is_down, is_client, term_of, is_in}
+use Rattle.cluster_model.specs.Letters.{same, Letter, Sends, Turn, becomes, ◌▸◌, letter_to, open_letter}
 use Rattle.cluster_model.specs.AgentState.{AgentState, Queued, Admission, new_agent, initiates}
-use Rattle.cluster_model.specs.Agent.{is_other_word, says, is_word, may_decide, decides_word}
+use Rattle.cluster_model.specs.Agent.{is_other_word, says, is_word, may_decide, decides_word, decided_sends, unknown_ends}
 use Rattle.cluster_model.specs.World.{set_at}
 use Rattle.cluster_steps.specs.Lists.{In, OnSome}
 use Rattle.word_laws.specs.Histories.{State, History, Admitted, names, agent_start, GoodWord, SaidBy, ClosesFrom, CameOk, QueuedAdmissionOk, OwnOk, WordsHold}
-use Rattle.cluster_steps.proofs.Lists.{all-mono, all-at, in-cases, some-here, not-both, eqb-same, same-some, set-same}
+use Rattle.cluster_steps.proofs.Lists.{all-mono, all-at, in-cases, some-here, not-both, eqb-same, same-some, set-same, all-append, all-from, all-if, all-map}
 use Rattle.word_laws.proofs.Algebra.{same_word-refl, same_word-is, with_admitted-admits, names-admits}
 use Rattle.word_laws.proofs.Members.{members-all, is_member-start, initiates-is}
-use Rattle.word_laws.proofs.Moves.{Nobody, after_agent, WordsLater, Grows}
+use Rattle.word_laws.proofs.Moves.{Nobody, after_agent, WordsLater, Grows, ShownOk, TellsKnown}
 use Rattle.word_laws.proofs.Calm.{SaysNoWord, Calm, AdmitsNow}
 use Rattle.word_laws.proofs.Agreement.{member-is, said-good}
 use Rattle.word_laws.proofs.Turns.{Decides, tells, concludes, tells-same, tells-other, concludes-not, concludes-is, decides-state, decides-sends, may_decide-cases, is_other_word-equal}
@@ -25,6 +25,10 @@ use Rattle.word_laws.proofs.OwnWords.{said_more, said-both, said_to}
 use Rattle.word_laws.proofs.Decisions.{decides-holds}
 use Rattle.word_laws.proofs.Admissions.{admits-holds, fresh}
 use Rattle.cluster_steps.proofs.Channels.{sent-nothing}
+use Rattle.word_laws.proofs.Laters.{shown-later}
+use Rattle.volt_wire.specs.declared.actor.Actor.{Actor}
+use Rattle.volt_wire.specs.declared.message.Msg.TheVariants as msg
+use Rattle.volt_wire.specs.declared.end.End.TheVariants as end
 
 -- ---- turns, one behind the other
 
@@ -32,7 +36,7 @@ use Rattle.cluster_steps.proofs.Channels.{sent-nothing}
 abbrev pub Going : State → ℕ → AgentState → Type 0
 Going P n a = ((a.start ≡ agent_start P n) × (0 < agent_start P n)) ⊎ (a ≡ new_agent 0)
 
--- A turn of the agent of host n, from a state: the agent goes on or has stopped, and what holds of the state after_agent it.
+-- A turn of the agent of host n, from a state: the agent goes on or has stopped, and what holds of the state after it.
 pub record WordsTurn (M : ℕ → ℕ → Type 0) (P : State) (n : ℕ) (t : Turn AgentState) : Type 0 where
   pub history : History
   pub goes : Going P n t.state
@@ -47,6 +51,7 @@ pub record WordsTurn (M : ℕ → ℕ → Type 0) (P : State) (n : ℕ) (t : Tur
   -- it is the one that admits them
   pub by : (x : Admitted) → In x history.admitted → In x P.history.admitted ⊎ ((x.by ≡ agent_start P n) × (0 < agent_start P n))
   pub holds : WordsHold (after_agent P n t.state t.sends history)
+  pub shown : (b : Actor) → AllByRecursion (ShownOk (after_agent P n t.state t.sends history) b) (t.sends b)
 
 -- such a turn only adds to the history
 pub handler-grows : {M : ℕ → ℕ → Type 0} {P : State} {n : ℕ} {t : Turn AgentState} (r : WordsTurn M P n t) → Grows P.history r.history
@@ -80,11 +85,13 @@ none-handler r = record {
   ];
   by = r.by;
   holds = r.holds;
+  shown = r.shown;
 }
 
 -- a turn in which the history stays
-pub handler-plain : {M : ℕ → ℕ → Type 0} (P : State) (n : ℕ) (t : Turn AgentState) → Going P n t.state → WordsHold (after_agent P n t.state t.sends P.history) → WordsTurn M P n t
-handler-plain P n t g h = record {
+pub handler-plain : {M : ℕ → ℕ → Type 0} (P : State) (n : ℕ) (t : Turn AgentState) → Going P n t.state → WordsHold (after_agent P n t.state t.sends P.history)
+    → ((b : Actor) → AllByRecursion (ShownOk (after_agent P n t.state t.sends P.history) b) (t.sends b)) → WordsTurn M P n t
+handler-plain P n t g h shown = record {
   history = P.history;
   goes = g;
   first = refl;
@@ -96,6 +103,7 @@ handler-plain P n t g h = record {
   admits = λ x i. inl i;
   by = λ x i. inl i;
   holds = h;
+  shown = shown;
 }
 
 -- the agent is what the turn made of it
@@ -111,7 +119,7 @@ others-after P n a out H h e = choice (n == h) refl
     choice true q = absurd (not-both (h == n) (subst (λ z. (h == z) ≡ true) (sym (eqb-true n h q)) (eqb-same h)) e)
     choice false q = refl
 
--- One turn, and then another one from the state after_agent it, with the history that this one leaves.
+-- One turn, and then another one from the state after it, with the history that this one leaves.
 pub after-handler : {M : ℕ → ℕ → Type 0} (P : State) (n : ℕ) (t : Turn AgentState) (f : AgentState → Turn AgentState) (r : WordsTurn M P n t)
     → (q : WordsTurn M (after_agent P n t.state t.sends r.history) n (f t.state)) → (both : WordsTurn M P n (t ▸ f)) × (both.history ≡ q.history)
 after-handler P n t f r q = (
@@ -135,11 +143,19 @@ after-handler P n t f r q = (
       | inl k ↦ r.by x k
       | inr k ↦ inr (ran (k.0 ∙ ap (λ a. a.start) here) (subst (λ a. 0 < a.start) here k.1))
     ];
-    holds = subst WordsHold (after-after P n t.state (f t.state).state t.sends (f t.state).sends r.history q.history) q.holds;
+    holds = subst WordsHold one q.holds;
+    shown = λ b. subst (λ Z. AllByRecursion (ShownOk Z b) (t.sends b ++ (f t.state).sends b)) one (all-append (ShownOk U b) (t.sends b) ((f t.state).sends b)
+        (shown-later (after_agent P n t.state t.sends r.history) U (handler-later (after_agent P n t.state t.sends r.history) n (f t.state) q) b (t.sends b) (r.shown b)) (q.shown b));
   },
   refl,
 )
   where
+    U : State
+    U = after_agent (after_agent P n t.state t.sends r.history) n (f t.state).state (f t.state).sends q.history
+
+    one : U ≡ after_agent P n (f t.state).state (λ b. t.sends b ++ (f t.state).sends b) q.history
+    one = after-after P n t.state (f t.state).state t.sends (f t.state).sends r.history q.history
+
     here : (after_agent P n t.state t.sends r.history).agents n ≡ t.state
     here = agent-there P n t.state t.sends r.history
 
@@ -186,7 +202,7 @@ after-same P n = ap (λ c. record P { agents = set_at P.agents n (P.agents n); c
 
 -- a turn of an agent that stays as it is
 pub stay-handler : {M : ℕ → ℕ → Type 0} (P : State) (n : ℕ) → Going P n (P.agents n) → WordsHold P → WordsTurn M P n (becomes (P.agents n))
-stay-handler P n g h = handler-plain P n (becomes (P.agents n)) g (subst WordsHold (sym (after-same P n)) h)
+stay-handler P n g h = handler-plain P n (becomes (P.agents n)) g (subst WordsHold (sym (after-same P n)) h) (λ b. tt)
 
 -- ---- a word is decided, where it may be
 
@@ -205,8 +221,25 @@ module _ {M : ℕ → ℕ → Type 0} (T : State) (H : WordsHold T) (n : ℕ) (D
     by = λ x i. inl i;
     holds = decides-holds T H n v (decides_word D n (T.agents n) (Some v)).state (decides_word D n (T.agents n) (Some v)).sends up own
         (member-is T H.history v n (agent_start T n) good mine).0 others d (decides-sends D n (T.agents n) v);
+    shown = shows;
   }
     where
+      U : State
+      U = after_agent T n (decides_word D n (T.agents n) (Some v)).state (decides_word D n (T.agents n) (Some v)).sends (record T.history { decided = v ∷ T.history.decided })
+
+      -- it shows the word to its sites; the clients get answers
+      shows : (b : Actor) → AllByRecursion (ShownOk U b) (decided_sends D n (T.agents n) v b)
+      shows (Site c) = all-if (ShownOk U (Site c)) (is_slot_of D n c && not (is_down D v)) (letter_to (T.agents n).start (msg.View v) ∷ []) [] (inl refl, tt) tt
+      shows (Client c) =
+          let opened = if is_none (T.agents n).decided then open_letter (msg.Opened (T.agents n).start) ∷ [] else [] in
+          all-if (ShownOk U (Client c)) (is_client D c) (opened ++ unknown_ends v (T.agents n).pending c) []
+          (all-append (ShownOk U (Client c)) opened (unknown_ends v (T.agents n).pending c) (all-if (ShownOk U (Client c)) (is_none (T.agents n).decided) _ [] (tt, tt) tt)
+          (all-map (ShownOk U (Client c)) (λ p. open_letter (msg.Answer p.call (end.Unknown p.target (term_of v)))) (λ p. tt)
+          (filter (λ p. p.client == c && is_in p.target v.lost) (T.agents n).pending))) tt
+      shows (Agent g) = all-from (ShownOk U (Agent g)) (decided_sends D n (T.agents n) v (Agent g)) (λ l i. tt)
+      shows Director = tt
+      shows (Scanner c) = tt
+
       d : Decides n (T.agents n) v (decides_word D n (T.agents n) (Some v)).state
       d = decides-state D n (T.agents n) v
 
@@ -254,6 +287,34 @@ module _ {M : ℕ → ℕ → Type 0} (T : State) (H : WordsHold T) (n : ℕ) (D
 
 -- ---- a message that brings no word
 
+-- what a turn that brings no word shows, and a word that is said: to others than agents none
+pub calm-shown : (S T : State) (D : Deployment) (n : ℕ) (loaded : List ℕ) → WordsHold S → WordsLater S T → (b : Actor) (ls : List Letter)
+    → AllByRecursion (SaysNoWord D n (S.agents n) loaded b) ls → AllByRecursion (ShownOk T b) ls
+calm-shown S T D n loaded h f b ls p = shown-later S T f b ls (all-mono (SaysNoWord D n (S.agents n) loaded b) (ShownOk S b) (one b) ls p)
+  where
+    told : (b : Actor) (l : Letter) → SaysNoWord D n (S.agents n) loaded b l → TellsKnown S l
+    told b l p = elim l.body as (λ m. SaysNoWord D n (S.agents n) loaded b (record l { body = m }) → TellsKnown S (record l { body = m })) [
+      | msg.Word base lost admitted ↦ λ k. k
+      | msg.Decided w ↦ λ k. (some-here (λ v. In v S.history.decided × (names v (agent_start S n) ≡ true)) (S.agents n).decided w k.1 (h.agents n).decided).0
+      | msg.View w ↦ λ k. absurd k
+      | msg.Closed o ↦ λ k. absurd k
+      | m ↦ λ k. tt
+    ] p
+
+    one : (b : Actor) (l : Letter) → SaysNoWord D n (S.agents n) loaded b l → ShownOk S b l
+    one (Agent g) l p = tt
+    one Director l p = told Director l p
+    one (Client g) l p = told (Client g) l p
+    one (Site g) l p = told (Site g) l p
+    one (Scanner g) l p = told (Scanner g) l p
+
+pub says-shown : (T : State) (n : ℕ) (x : AgentState) (v : Membership) (b : Actor) → AllByRecursion (ShownOk T b) ((says n x (Some v)).sends b)
+says-shown T n x v (Agent g) = all-from (ShownOk T (Agent g)) ((says n x (Some v)).sends (Agent g)) (λ l i. tt)
+says-shown T n x v Director = tt
+says-shown T n x v (Client g) = tt
+says-shown T n x v (Site g) = tt
+says-shown T n x v (Scanner g) = tt
+
 -- it says the word that it has just got, which is another one
 pub says-word : (n : ℕ) (x : AgentState) (before : Option Membership) (v : Membership) → x.own ≡ Some v → is_other_word before (Some v) ≡ true → tells n before x ≡ says n x (Some v)
 says-word n x before v e o = tells-other n before x (ap (is_other_word before) e ∙ o) ∙ ap (says n x) e
@@ -285,6 +346,8 @@ module _ {M : ℕ → ℕ → Type 0} (P : State) (H : WordsHold P) (D : Deploym
         (subst WordsHold (ap (λ z. after_agent S1 n z out G) state-is
         ∙ after-after P n t0 t.state t.sends out P.history G)
         (admits-holds S1 H1 n m.word m.decided m.start m.host m.term out up1 own1 decided1 m.same init came1 m.term_is over1 sends));
+    shown = λ b. subst (λ u. AllByRecursion (ShownOk (after_agent P n u.state u.sends G) b) (u.sends b)) (sym turn-is)
+        (all-append (ShownOk T b) (t.sends b) (out b) (calm-shown P T D n loaded H later b (t.sends b) (c.sends b)) (says-shown T n t.state v b));
   }
     where
       -- first the turn without the new word, and then the word
@@ -376,6 +439,14 @@ module _ {M : ℕ → ℕ → Type 0} (P : State) (H : WordsHold P) (D : Deploym
             (fresh S1 H1 n m.word m.decided m.start m.host m.term out up1 own1 decided1 m.same init came1 m.term_is over1 sends))
       ]
 
+      T : State
+      T = after_agent P n t.state (λ b. t.sends b ++ out b) G
+
+      later : WordsLater P T
+      later = later-after P n t.state (λ b. t.sends b ++ out b) G (inl c.start) refl refl
+          (λ r u i. said-both (λ k us. (u : Membership) → In u (P.history.said k) → In u us) P.history.said (agent_start S1 n) v (λ y i. inr i) (λ k d y i. i) r u i)
+          (λ s w e. e) (λ w i. i) (λ x i. inr i)
+
       turn-is : t ▸ tells n (P.agents n).own ≡ record { state = t.state; sends = λ b. t.sends b ++ (says n t.state (Some v)).sends b }
       turn-is = ap (λ u. record { state = u.state; sends = λ b. t.sends b ++ u.sends b }) (says-word n t.state (P.agents n).own v m.becomes other)
 
@@ -384,7 +455,9 @@ module _ {M : ℕ → ℕ → Type 0} (P : State) (H : WordsHold P) (D : Deploym
   calm-handler = elim c.own [
     | inl same ↦ subst (WordsTurn M P n) (sym (then-inert t (tells n (P.agents n).own)
         (tells-same n (P.agents n).own t.state (ap (is_other_word (P.agents n).own) same ∙ other-self (P.agents n).own))))
-        (handler-plain P n t (inl (c.start, up)) (calm-holds P D n came loaded t up c same new H))
+        (handler-plain P n t (inl (c.start, up)) (calm-holds P D n came loaded t up c same new H)
+        (λ b. calm-shown P (after_agent P n t.state t.sends P.history) D n loaded H
+        (later-after P n t.state t.sends P.history (inl c.start) refl refl (λ s w i. i) (λ s w e. e) (λ w i. i) (λ x i. i)) b (t.sends b) (c.sends b)))
     | inr m ↦ admits-handler m
   ]
 

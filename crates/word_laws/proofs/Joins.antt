@@ -1,4 +1,4 @@
--- A joiner takes its first word, and its word grows without being said: what holds, holds after_agent that.
+-- A joiner takes its first word, and its word grows without being said: what holds, holds after that.
 use Rattle.std.proofs.Common.{◌≡◌, ◌<◌, Bool, true, false, List, [], ◌∷◌, refl, sym, subst, ap, ◌∙◌, ◌⊎◌, inl, inr, ◌==◌}
 use Rattle.std.proofs.lemmas.Bool.{cases_Bool, cases_eq}
 use Rattle.std.specs.Prelude.{ℕ, if◌then◌else◌, Option, Some, None}
@@ -22,7 +22,7 @@ use Rattle.word_laws.proofs.Continues.{continues-holds}
 
 -- ---- a turn in which nothing is said to other agents, and the agent's start stays
 
--- the state after_agent it: only what starts took may be more
+-- the state after it: only what starts took may be more
 abbrev pub inert : State → ℕ → AgentState → Sends → (ℕ → Option Membership) → State
 inert S n a out took_word = after_agent S n a out (record S.history { took = took_word })
 
@@ -37,7 +37,7 @@ pub came-inert : (S : State) (n : ℕ) (a : AgentState) (out : Sends) (K : ℕ �
 came-inert S n a out K start silent keeps = came-after S n a out (record S.history { took = K }) (later-inert S n a out K start keeps) refl
     (λ g j. subst (λ x. AllByRecursion (ClosesFrom (S.history.began n) j) x) (sym (silent g)) tt)
 
--- What must hold of such a turn, so that what holds, holds after_agent it: who knew of an admission, or of a start that stopped, still does.
+-- What must hold of such a turn, so that what holds, holds after it: who knew of an admission, or of a start that stopped, still does.
 pub inert-holds : (S : State) (H : WordsHold S) (n : ℕ) (a : AgentState) (out : Sends) (K : ℕ → Option Membership) → 0 < agent_start S n → a.start ≡ agent_start S n → ((g : ℕ) → out (Agent g) ≡ [])
     → ((r : ℕ) (u : Membership) → S.history.took r ≡ Some u → K r ≡ Some u)
     → ((r : ℕ) → (r ≡ agent_start S n → ⊥) → K r ≡ S.history.took r)

@@ -12,7 +12,7 @@ use Rattle.cluster_model.specs.AgentState.{Queued, Job_, Admission}
 use Rattle.cluster_steps.specs.Lists.{In}
 use Rattle.word_laws.specs.Histories.{State, Admitted, Recorded, GoodWord, SaidBy, Unnamed, AsksAdmission, LetterOk, ClosesFrom, InOrder, CameOk, QueuedAdmissionOk, AgentWaitingFrom, OwnOk, AdmittedOk}
 use Rattle.cluster_steps.proofs.Lists.{all-mono}
-use Rattle.word_laws.proofs.Moves.{WordsLater}
+use Rattle.word_laws.proofs.Moves.{TellsKnown, ShownOk, WordsLater}
 
 -- ---- what is so in S is so in a later T
 
@@ -53,6 +53,7 @@ letter-later S T f h g l p = elim l.body as (λ m. LetterOk S h g (record l { bo
   | msg.Decided w ↦ λ k. (k.0, f.decided w k.1)
   | msg.Closed o ↦ λ k. (k.0, k.1, f.gone o k.2, ap (λ x. x o) f.owner ∙ k.3)
   | msg.Admit j ↦ ask-later S T f h g l.term j
+  | msg.View w ↦ λ k. k
   | m ↦ λ k. tt
 ] p
 
@@ -106,6 +107,7 @@ waiting-later S T g came (Agent h) l p = elim l.body as (λ m. AgentWaitingFrom 
   | msg.Word base lost admitted ↦ λ k. k
   | msg.Decided w ↦ λ k. k
   | msg.Closed o ↦ λ k. k
+  | msg.View w ↦ λ k. k
   | msg.Admit j ↦ came h l.term j
   | m ↦ λ k. tt
 ] p
@@ -129,3 +131,23 @@ order-later S T f h g (l ∷ ls) k o = (
       ] k.0 o),
   order-later S T f h g ls k.1 o.1,
 )
+
+-- what others than agents are shown
+pub shown-later : (S T : State) → WordsLater S T → (b : Actor) (ls : List Letter) → AllByRecursion (ShownOk S b) ls → AllByRecursion (ShownOk T b) ls
+shown-later S T f b ls h = all-mono (ShownOk S b) (ShownOk T b) (one b) ls h
+  where
+    told : (l : Letter) → TellsKnown S l → TellsKnown T l
+    told l p = elim l.body as (λ m. TellsKnown S (record l { body = m }) → TellsKnown T (record l { body = m })) [
+      | msg.Word base lost admitted ↦ λ k. k
+      | msg.Decided w ↦ f.decided w
+      | msg.View w ↦ f.decided w
+      | msg.Closed o ↦ f.gone o
+      | m ↦ λ k. tt
+    ] p
+
+    one : (b : Actor) (l : Letter) → ShownOk S b l → ShownOk T b l
+    one (Agent g) l p = tt
+    one Director l p = told l p
+    one (Client g) l p = told l p
+    one (Site g) l p = told l p
+    one (Scanner g) l p = told l p

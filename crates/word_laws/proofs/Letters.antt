@@ -1,34 +1,36 @@
--- An agent takes a message that brings a word: what holds, holds after_agent its handler and what it says then.
+-- An agent takes a message that brings a word: what holds, holds after its handler and what it says then.
 use Rattle.std.proofs.Common.{◌≡◌, ◌<◌, Bool, true, false, List, [], ◌∷◌, ◌++◌, refl, sym, subst, ap, ◌∙◌, ◌⊎◌, inl, inr, ◌==◌, arith}
 use Rattle.std.proofs.lemmas.Bool.{cases_Bool, eqb-true}
 use Rattle.std.specs.Prelude.{ℕ, if◌then◌else◌, Option, Some, None}
 use Rattle.std.specs.List.{AllByRecursion}
 use Rattle.volt_wire.specs.Word.{Membership}
 use Rattle.volt_wire.specs.declared.actor.Actor.{Actor}
-use Rattle.volt_wire.specs.declared.actor.Actor.TheVariants.{Agent}
+use Rattle.volt_wire.specs.declared.actor.Actor.TheVariants.{Agent, Site, Client, Scanner, Director}
 use Rattle.volt_wire.specs.declared.message.Msg.TheVariants as msg
-use Rattle.cluster_model.specs.Words.{is_in, is_member, admits, union, with_lost}
-use Rattle.cluster_model.specs.Letters.{same, Letter, Turn, becomes, ◌▸◌}
+use Rattle.cluster_model.specs.Words.{is_in, is_member, admits, union, with_lost, is_slot_of}
+use Rattle.cluster_model.specs.Letters.{same, Letter, Turn, becomes, ◌▸◌, open_letter, letter_to}
 use Rattle.cluster_model.specs.AgentState.{AgentState, new_agent, stops, stops_with_host}
 use Rattle.cluster_model.specs.Agent.{is_other_word, says, on_closed, on_word, on_decided, takes_word}
 use Rattle.cluster_steps.specs.Lists.{In, OnSome}
-use Rattle.word_laws.specs.Histories.{State, Admitted, Within, names, agent_start, Gone, GoodWord, SaidBy, LetterOk, OwnOk, Telling, WordsHold}
-use Rattle.cluster_steps.proofs.Lists.{some-here, not-both, eqb-same, same-some}
+use Rattle.word_laws.specs.Histories.{State, Admitted, Within, names, agent_start, Gone, GoodWord, SaidBy, LetterOk, OwnOk, Telling, WordsHold, History}
+use Rattle.cluster_steps.proofs.Lists.{some-here, not-both, eqb-same, same-some, all-append, all-if, all-from}
 use Rattle.word_laws.proofs.Algebra.{within-with_lost, within-union-left, within-union-right, in-with_lost, with_lost-in, lost-union, names-within}
 use Rattle.word_laws.proofs.Members.{is_member-start}
-use Rattle.word_laws.proofs.Moves.{Nobody, OwnLost, after_agent, agent_popped, WordsLater, Heeded}
+use Rattle.word_laws.proofs.Moves.{Nobody, OwnLost, after_agent, agent_popped, WordsLater, Heeded, ShownOk}
 use Rattle.word_laws.proofs.Agreement.{member-is, runs-not-lost, said-good, knows-told}
-use Rattle.word_laws.proofs.Laters.{good-later, admitted_ok-later}
-use Rattle.word_laws.proofs.Turns.{tells, tells-same, tells-state, is_other_word-equal, on_decided-joiner, stops-sends, stops-sends-none, stops_with_host-closed}
-use Rattle.word_laws.proofs.Steps.{later-after, took-sent, pops, stops-holds, unnamed-not}
+use Rattle.word_laws.proofs.Laters.{good-later, admitted_ok-later, shown-later}
+use Rattle.word_laws.proofs.Turns.{tells, tells-same, tells-state, is_other_word-equal, on_decided-joiner, stops-sends, stops-sends-none, stops_with_host-closed, StopsSay, stops-shown, stops_with_host-say}
+use Rattle.word_laws.proofs.Steps.{later-after, took-sent, pops, stops-holds, unnamed-not, begun-after, later-moved, begun-running}
 use Rattle.word_laws.proofs.OwnWords.{said_more, said-both, says-holds, said_to}
 use Rattle.word_laws.proofs.Goods.{good-lost, good-union}
 use Rattle.word_laws.proofs.Joins.{took-keeps, takes_word-holds, grows-holds, heard-holds}
-use Rattle.word_laws.proofs.Hearings.{WordsTurn, handler-plain, stay-handler, agent-there, other-self, says-word, then-inert}
+use Rattle.word_laws.proofs.Hearings.{WordsTurn, handler-plain, stay-handler, agent-there, other-self, says-word, then-inert, says-shown}
+use Rattle.volt_wire.specs.declared.message.Msg.TheVariants.{Look}
+use Rattle.cluster_model.specs.World.{took}
 
 -- ---- a message is forgotten behind the turn in which it was heeded
 
--- behind a turn, where it may be forgotten after_agent it
+-- behind a turn, where it may be forgotten after it
 pub forgets-handler : {M : ℕ → ℕ → Type 0} (S : State) (n : ℕ) (from : Actor) (l : Letter) (ls : List Letter) (t : Turn AgentState) → S.channel from (Agent n) ≡ l ∷ ls
     → (r : WordsTurn M S n t)
     → ((more : List Letter) → (after_agent S n t.state t.sends r.history).channel from (Agent n) ≡ l ∷ more → WordsHold (agent_popped (after_agent S n t.state t.sends r.history) from n))
@@ -44,9 +46,14 @@ forgets-handler S n from l ls t is r forgets = record {
   admitted = r.admitted;
   admits = r.admits;
   by = r.by;
+  shown = λ b. subst (λ Z. AllByRecursion (ShownOk Z b) (t.sends b)) (sym (took-sent S from n t.state t.sends r.history l ls is))
+      (shown-later T (agent_popped T from n) (later-moved T T.agents (took T.channel from (Agent n)) (λ s g e. e)) b (t.sends b) (r.shown b));
   holds = let b = behind (same (Agent n) from) in subst WordsHold (sym (took-sent S from n t.state t.sends r.history l ls is)) (forgets b.0 b.1);
 }
   where
+    T : State
+    T = after_agent S n t.state t.sends r.history
+
     behind : (b : Bool) → (more : List Letter) × ((if b then S.channel from (Agent n) ++ t.sends (Agent n) else S.channel from (Agent n)) ≡ l ∷ more)
     behind true = (ls ++ t.sends (Agent n), ap (λ z. z ++ t.sends (Agent n)) is)
     behind false = (ls, is)
@@ -60,10 +67,20 @@ pop-handler S n k l ls t is r heeded = forgets-handler S n (Agent k) l ls t is r
 
 -- it says Closed as it should
 pub stop-handler : (S : State) (n : ℕ) (t : Turn AgentState) → WordsHold S → 0 < agent_start S n → t.state ≡ new_agent 0
-    → ((g : ℕ) → t.sends (Agent g) ≡ (stops S.deployment n (agent_start S n)).sends (Agent g)) → WordsTurn Nobody S n t
-stop-handler S n t H up e sends = handler-plain S n t (inr e) (stops-holds S n t up e
+    → ((g : ℕ) → t.sends (Agent g) ≡ (stops S.deployment n (agent_start S n)).sends (Agent g))
+    → ((b : Actor) → AllByRecursion (StopsSay (agent_start S n)) (t.sends b)) → WordsTurn Nobody S n t
+stop-handler S n t H up e sends says = handler-plain S n t (inr e) (stops-holds S n t up e
     (λ g i o. sends g ∙ stops-sends S.deployment n (agent_start S n) g i o)
     (λ g o. sends g ∙ stops-sends-none S.deployment n (agent_start S n) g o) H)
+    (λ b. stops-shown (after_agent S n t.state t.sends S.history) (agent_start S n) gone b (t.sends b) (says b))
+  where
+    owner : S.owner (agent_start S n) ≡ n
+    owner = ((H.hosts n).running up).0
+
+    gone : Gone (after_agent S n t.state t.sends S.history) (agent_start S n)
+    gone = (begun-after S n t.state t.sends S.history (λ k x i. i) (agent_start S n) (begun-running S n H up),
+        λ r. absurd (omega (arith, up, sym (ap (λ x. x.start) (subst (λ z. (after_agent S n t.state t.sends S.history).agents z ≡ new_agent 0) (sym owner)
+        (agent-there S n t.state t.sends S.history ∙ e))) ∙ r)))
 
 -- ---- an agent's own word becomes another one
 
@@ -89,6 +106,7 @@ module _ (S : State) (H : WordsHold S) (n : ℕ) (w v : Membership) (heard : ℕ
     by = λ y i. inl i;
     holds = says-holds S H n w v heard (says n speaker (Some v)).sends S.history.admitted up own low member hears (λ g. refl) (λ y i. i) (λ y i. inl i)
         (good-later S T later v good) (λ y i. admitted_ok-later S T later y (H.history.admitted_ok y i)) H.history.once H.history.one_each H.history.nothing_between knows;
+    shown = says-shown T n speaker v;
   }
     where
       grows : (s : ℕ) (u : Membership) → In u (S.history.said s) → In u (said_more S.history.said (agent_start S n) v s)
@@ -111,6 +129,7 @@ module _ (S : State) (H : WordsHold S) (n : ℕ) (w v : Membership) (heard : ℕ
       → WordsTurn Nobody S n (says n speaker (Some v))
   silent-handler other knows = handler-plain S n (says n speaker (Some v)) (inl (refl, up))
       (grows-holds S H n w v heard (says n speaker (Some v)).sends up own low other good hears knows (silent-words other))
+      (says-shown (after_agent S n speaker (says n speaker (Some v)).sends S.history) n speaker v)
 
 -- ---- Closed
 
@@ -293,7 +312,7 @@ module _ (S : State) (H : WordsHold S) (n k base : ℕ) (lost : List ℕ) (admit
           let same = is_other_word-equal w v refl other in
           subst (WordsTurn Nobody S n) (sym (tells-same n (Some w) hearer other))
           (subst (λ z. WordsTurn Nobody S n (becomes (record (S.agents n) { own = z; said = heard }))) (own ∙ ap Some same)
-          (handler-plain S n (becomes (record (S.agents n) { said = heard })) (inl (refl, up)) (heard-holds S H n heard up hears)))
+          (handler-plain S n (becomes (record (S.agents n) { said = heard })) (inl (refl, up)) (heard-holds S H n heard up hears) (λ b. tt)))
     ]
 
   -- what the agent does with it, and says then
@@ -334,7 +353,8 @@ module _ (P : State) (H : WordsHold P) (n : ℕ) (w : Membership) (up : 0 < agen
 
   stops-then : WordsTurn Nobody P n (stops_with_host P.deployment n (agent_start P n) ▸ tells n (P.agents n).own)
   stops-then = subst (WordsTurn Nobody P n) (sym (then-inert (stops_with_host P.deployment n (agent_start P n)) (tells n (P.agents n).own) (tells-nothing n (P.agents n).own)))
-      (stop-handler P n (stops_with_host P.deployment n (agent_start P n)) H up refl (λ g. stops_with_host-closed P.deployment n (agent_start P n) g))
+      (stop-handler P n (stops_with_host P.deployment n (agent_start P n)) H up refl (λ g. stops_with_host-closed P.deployment n (agent_start P n) g)
+      (stops_with_host-say P.deployment n (agent_start P n)))
 
   abbrev joiner : AgentState
   joiner = record (P.agents n) { own = Some w; taken = Some w }
@@ -354,8 +374,24 @@ module _ (P : State) (H : WordsHold P) (n : ℕ) (w : Membership) (up : 0 < agen
     by = λ x i. inl i;
     holds = subst (λ u. WordsHold (after_agent P n u.state u.sends (record P.history { took = λ r. if r == agent_start P n then Some w else P.history.took r }))) (sym turn-is)
         (takes_word-holds P H n w (λ b. (takes_word P.deployment n (P.agents n) w).sends b ++ (says n joiner (Some w)).sends b) up own taken decided silent);
+    shown = λ b. subst (λ u. AllByRecursion (ShownOk (after_agent P n u.state u.sends G) b) (u.sends b)) (sym turn-is) (shows b);
   }
     where
+      G : History
+      G = record P.history { took = λ r. if r == agent_start P n then Some w else P.history.took r }
+
+      T : State
+      T = after_agent P n joiner (λ b. (takes_word P.deployment n (P.agents n) w).sends b ++ (says n joiner (Some w)).sends b) G
+
+      -- it shows the word to its sites
+      shows : (b : Actor) → AllByRecursion (ShownOk T b) ((takes_word P.deployment n (P.agents n) w).sends b ++ (says n joiner (Some w)).sends b)
+      shows (Site c) = all-append (ShownOk T (Site c)) (if is_slot_of P.deployment n c then open_letter (msg.Start (agent_start P n)) ∷ letter_to (agent_start P n) (msg.View w) ∷ [] else []) []
+          (all-if (ShownOk T (Site c)) (is_slot_of P.deployment n c) _ [] (tt, (decided, tt)) tt) tt
+      shows (Agent g) = all-from (ShownOk T (Agent g)) _ (λ l i. tt)
+      shows Director = tt
+      shows (Client c) = tt
+      shows (Scanner c) = tt
+
       good : GoodWord P w
       good = H.history.decided_good w decided
 

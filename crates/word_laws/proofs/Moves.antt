@@ -1,4 +1,4 @@
--- Of what the proofs speak: the state after_agent a turn, what is kept in a later one, turns that bring no word, and events of agents.
+-- Of what the proofs speak: the state after a turn, what is kept in a later one, turns that bring no word, and events of agents.
 use Rattle.std.proofs.Common.{◌≡◌, ◌<◌, true, false, List, [], ◌∷◌, ◌++◌, ◌⊎◌, ◌==◌}
 use Rattle.std.specs.Prelude.{ℕ, Option, Some, None}
 use Rattle.std.specs.List.{AllByRecursion, list_any}
@@ -15,7 +15,7 @@ use Rattle.word_laws.specs.Histories.{State, History, Admitted, Begun, Gone, IsO
 
 -- ---- states
 
--- the state after_agent a turn of the agent of host n
+-- the state after a turn of the agent of host n
 abbrev pub after_agent : State → ℕ → AgentState → Sends → History → State
 after_agent S n a out H = record S { agents = set_at S.agents n a; channel = sent S.channel (Agent n) out; history = H }
 
@@ -73,6 +73,21 @@ pub record Grows (G H : History) : Type 0 where
   pub decided : (w : Membership) → In w G.decided → In w H.decided
   pub admitted : (x : Admitted) → In x G.admitted → In x H.admitted
 
+-- A message tells of decided words alone, and of starts that have stopped.
+abbrev pub TellsKnown : State → Letter → Type 0
+TellsKnown S l = elim l.body as (λ _. Type 0) [
+  | msg.Word base lost admitted ↦ ⊥
+  | msg.Decided w ↦ In w S.history.decided
+  | msg.View w ↦ In w S.history.decided
+  | msg.Closed o ↦ Gone S o
+  | _ ↦ Unit {0}
+]
+
+-- so does what an agent says to others than agents
+abbrev pub ShownOk : State → Actor → Letter → Type 0
+ShownOk S (Agent g) l = Unit {0}
+ShownOk S b l = TellsKnown S l
+
 -- no start is admitted, and any may be
 abbrev pub Nobody : ℕ → ℕ → Type 0
 Nobody j h = ⊥
@@ -80,9 +95,10 @@ Nobody j h = ⊥
 abbrev pub Anyone : ℕ → ℕ → Type 0
 Anyone j h = Unit {0}
 
--- The agent of host n took the first message from this actor, and that is its turn: what holds, holds after_agent it, with a history
+-- The agent of host n took the first message from this actor, and that is its turn: what holds, holds after it, with a history
 -- that grew.
 pub record WordsGo (S : State) (n : ℕ) (from : Actor) (t : Turn AgentState) : Type 0 where
   pub history : History
   pub grows : Grows S.history history
   pub holds : WordsHold (after_agent (agent_popped S from n) n t.state t.sends history)
+  pub shown : (b : Actor) → AllByRecursion (ShownOk (after_agent (agent_popped S from n) n t.state t.sends history) b) (t.sends b)

@@ -1,4 +1,4 @@
--- A member's own word grows, and it says so: what holds, holds after_agent that.
+-- A member's own word grows, and it says so: what holds, holds after that.
 use Rattle.std.proofs.Common.{◌≡◌, ◌<◌, Bool, true, false, List, [], ◌∷◌, ◌++◌, refl, sym, subst, ap, ◌∙◌, ◌⊎◌, inl, inr, ◌==◌}
 use Rattle.std.proofs.lemmas.Bool.{cases_Bool, eqb-true, cases_eq}
 use Rattle.std.specs.Prelude.{ℕ, ◌&&◌, not, if◌then◌else◌, Option, Some, None}
@@ -51,7 +51,7 @@ abbrev pub spoken : State → ℕ → Membership → (ℕ → Option Membership)
 spoken S n v heard out A =
     after_agent S n (record (S.agents n) { own = Some v; said = heard }) out (record S.history { said = said_more S.history.said (agent_start S n) v; admitted = A })
 
--- of the admissions after_agent it, one that wasn't there before
+-- of the admissions after it, one that wasn't there before
 pub record NewHere (S : State) (n : ℕ) (v : Membership) (x : Admitted) : Type 0 where
   pub by : x.by ≡ agent_start S n
   pub within : Within x.at v
@@ -84,7 +84,7 @@ module _ (S : State) (H : WordsHold S) (n : ℕ) (w v : Membership) (heard : ℕ
   abbrev G : History
   G = record S.history { said = said_more S.history.said s v; admitted = A }
 
-  -- the state after_agent it
+  -- the state after it
   abbrev T : State
   T = spoken S n v heard out A
 

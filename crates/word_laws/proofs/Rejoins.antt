@@ -5,7 +5,7 @@ use Rattle.std.proofs.lemmas.Bool.Decides.{nat_tests}
 use Rattle.std.specs.Prelude.{ℕ, ◌&&◌, ◌||◌, not, if◌then◌else◌, Option, Some, None}
 use Rattle.std.specs.List.{AllByRecursion, list_any}
 use Rattle.volt_wire.specs.Word.{Membership}
-use Rattle.volt_wire.specs.declared.actor.Actor.TheVariants.{Director, Agent}
+use Rattle.volt_wire.specs.declared.actor.Actor.TheVariants.{Director, Agent, Client, Site, Scanner}
 use Rattle.volt_wire.specs.declared.message.Msg.TheVariants as msg
 use Rattle.cluster_model.specs.Words.{Deployment, is_host, admits}
 use Rattle.cluster_model.specs.Letters.{Letter, Sends, open_letter}
@@ -15,11 +15,13 @@ use Rattle.cluster_model.specs.World.{set_at, took, rest}
 use Rattle.cluster_model.specs.Laws.{RiseFrom, starts_in}
 use Rattle.cluster_steps.specs.Lists.{In}
 use Rattle.word_laws.specs.Histories.{names, Admitted, History, State, agent_start, starts_to, Begun, IsRunning, Gone, Earlier, HostOk, GoodWord, Unnamed, LetterOk, ClosesFrom, InOrder, ChannelOk, CameOk, AgentOk, HistoryOk, Telling, ClosedUnderWay, Told, HearsClosed, WordsHold}
-use Rattle.cluster_steps.proofs.Lists.{all-mono, all-append, all-if, all-at, and-false, set-here, set-there, set-both, rise-lower, in-none, all-both, rise-above}
+use Rattle.cluster_steps.proofs.Lists.{all-mono, all-append, all-if, all-at, and-false, set-here, set-there, set-both, rise-lower, in-none, all-both, rise-above, all-from}
 use Rattle.word_laws.proofs.Channels.{telling-left, closing-left}
-use Rattle.word_laws.proofs.Moves.{OwnLost, OwnAdmits, WordsLater, Grows, WordsGo, after_agent, agent_popped}
+use Rattle.word_laws.proofs.Moves.{OwnLost, OwnAdmits, WordsLater, Grows, WordsGo, after_agent, agent_popped, ShownOk}
 use Rattle.word_laws.proofs.Laters.{letter-later, came-later, closes-later, ask-began, order-later}
 use Rattle.word_laws.proofs.Steps.{history-renewed, agent-later, earlier-in}
+use Rattle.volt_wire.specs.declared.actor.Actor.{Actor}
+use Rattle.word_laws.proofs.Turns.{stops-shown, stops_with_host-say}
 
 -- ---- channels
 
@@ -275,6 +277,7 @@ module _ (S : State) (n s k : ℕ) (out : Sends) (h : WordsHold S) (c : TakesSta
         | msg.Word base lost admitted ↦ λ q. absurd q
         | msg.Decided w ↦ λ q. absurd q
         | msg.Admit j ↦ λ q. absurd q
+        | msg.View w ↦ λ q. absurd q
         | msg.Closed o ↦ λ q. (q.0, q.1, subst (λ x. Gone T x) (sym q.2) (begun-new, λ r. not-running q.3 r), ap S.owner q.2 ∙ drawn.0 ∙ sym e)
         | m ↦ λ q. tt
       ] p
@@ -481,7 +484,18 @@ start-goes S n s h stopped host comes = record {
   history = with_began S.history n s;
   grows = start-grows S.history n s;
   holds = start-holds S n s h stopped host comes;
+  shown = shows;
 }
+  where
+    T : State
+    T = after_agent (agent_popped S Director n) n (new_agent s) (on_start S.deployment n s).sends (with_began S.history n s)
+
+    shows : (b : Actor) → AllByRecursion (ShownOk T b) ((on_start S.deployment n s).sends b)
+    shows (Agent g) = all-from (ShownOk T (Agent g)) _ (λ l i. tt)
+    shows Director = tt
+    shows (Client c) = tt
+    shows (Site c) = tt
+    shows (Scanner c) = tt
 
 -- it has stopped at once
 pub start-stops-goes : (S : State) (n s : ℕ) → WordsHold S → agent_start S n ≡ 0 → is_host S.deployment n ≡ true
@@ -490,4 +504,22 @@ start-stops-goes S n s h stopped host comes = record {
   history = with_began S.history n s;
   grows = start-grows S.history n s;
   holds = start-stops-holds S n s h stopped host comes;
+  shown = λ b. stops-shown T s gone b ((stops_with_host S.deployment n s).sends b) (stops_with_host-say S.deployment n s b);
 }
+  where
+    T : State
+    T = after_agent (agent_popped S Director n) n (new_agent 0) (stops_with_host S.deployment n s).sends (with_began S.history n s)
+
+    drawn : (S.owner s ≡ n) × (0 < s) × (s < S.next)
+    drawn = (subst (AllByRecursion (λ x. (S.owner x ≡ n) × (0 < x) × (x < S.next))) comes (h.hosts n).owned).0
+
+    gone : Gone T s
+    gone = (
+      record {
+        some = drawn.1;
+        below = drawn.2;
+        host = ap (is_host S.deployment) drawn.0 ∙ host;
+        began = subst (λ z. In s (set_at S.history.began n (s ∷ S.history.began n) z)) (sym drawn.0) (subst (In s) (sym (set-here S.history.began n (s ∷ S.history.began n))) (inl refl));
+      },
+      λ r. absurd (omega (arith, drawn.1, sym (ap (λ x. x.start) (subst (λ z. set_at S.agents n (new_agent 0) z ≡ new_agent 0) (sym drawn.0) (set-here S.agents n (new_agent 0)))) ∙ r)),
+    )

@@ -32,7 +32,7 @@ same-true (Site a) (Site b) e = ap Site (eqb-true a b e)
 same-true (Scanner a) (Scanner b) e = ap Scanner (eqb-true a b e)
 same-true _ _ e = absurd (false≢true e)
 
--- ---- an agent's start after_agent its turn
+-- ---- an agent's start after its turn
 
 -- it keeps its start, or has stopped
 abbrev pub StartGoesOn : State → ℕ → AgentState → Type 0
@@ -371,7 +371,7 @@ pops S k n l ls is heeded h = channel-moves S ch (took-starts S.channel k n)
           | inr later ↦ inl later
         ])
 
--- ---- a turn after_agent which the history stays
+-- ---- a turn after which the history stays
 
 -- The agent goes on with its word, or it stops and says to each that runs that it has closed.
 abbrev pub Ends : State → ℕ → AgentState → Sends → Type 0
@@ -387,7 +387,7 @@ ends-goes S n a out (inr k) = inr k.0
 pub later-turn : (S : State) (n : ℕ) (a : AgentState) (out : Sends) → StartGoesOn S n a → WordsLater S (after_agent S n a out S.history)
 later-turn S n a out e = later-after S n a out S.history e refl refl (λ s w i. i) (λ s w i. i) (λ w i. i) (λ x i. i)
 
--- an Admit that came, after_agent a turn that closes no earlier start
+-- an Admit that came, after a turn that closes no earlier start
 pub came-after : (S : State) (n : ℕ) (a : AgentState) (out : Sends) (H : History) → WordsLater S (after_agent S n a out H) → H.began ≡ S.history.began
     → ((g j : ℕ) → AllByRecursion (ClosesFrom (S.history.began n) j) (out (Agent g))) → (g h term j : ℕ) → CameOk S h g term j → CameOk (after_agent S n a out H) h g term j
 came-after S n a out H f began closes g h term j k = came-later S (after_agent S n a out H) f h g term j
@@ -408,7 +408,7 @@ pub agent-turn : (S : State) (n : ℕ) (a : AgentState) (out : Sends) → StartG
     → (h : ℕ) (b : AgentState) → AgentOk S h b → AgentOk (after_agent S n a out S.history) h b
 agent-turn S n a out e closes h b k = agent-later S (after_agent S n a out S.history) (later-turn S n a out e) h b refl refl (λ up q x i z. i) (came-turn S n a out e closes h) k
 
--- who runs after_agent the turn ran before it, with the same word
+-- who runs after the turn ran before it, with the same word
 pub alive-same : (S : State) (n : ℕ) (a : AgentState) (out : Sends) → Ends S n a out → (g : ℕ) → 0 < agent_start (after_agent S n a out S.history) g
     → (agent_start (after_agent S n a out S.history) g ≡ agent_start S g) × (((after_agent S n a out S.history).agents g).own ≡ (S.agents g).own)
 alive-same S n a out e g up = choice (g == n) refl up
@@ -428,7 +428,7 @@ runs-still S n a out o e r = choice (S.owner o == n) refl
     choice true q = let z = eqb-true (S.owner o) n q in e (sym z) ∙ ap (λ y. agent_start S y) (sym z) ∙ r
     choice false q = r
 
--- What must hold of such a turn, so that what holds, holds after_agent it.
+-- What must hold of such a turn, so that what holds, holds after it.
 pub turn-holds : (S : State) (n : ℕ) (a : AgentState) (out : Sends) → Ends S n a out → AgentOk (after_agent S n a out S.history) n a
     → ((g : ℕ) → AllByRecursion (LetterOk (after_agent S n a out S.history) n g) (out (Agent g)))
     → ((g : ℕ) → InOrder (S.history.began n) (out (Agent g)))
@@ -531,7 +531,7 @@ pub took-sent : (S : State) (from : Actor) (n : ℕ) (a : AgentState) (out : Sen
     → after_agent (agent_popped S from n) n a out H ≡ agent_popped (after_agent S n a out H) from n
 took-sent S from n a out H l ls is = ap (λ c. record S { agents = set_at S.agents n a; channel = c; history = H }) (sent-took S.channel from (Agent n) out l ls is)
 
--- one turn after_agent another is one turn
+-- one turn after another is one turn
 pub after-after : (S : State) (n : ℕ) (a b : AgentState) (out out' : Sends) (H H' : History) → after_agent (after_agent S n a out H) n b out' H' ≡ after_agent S n b (λ x. out x ++ out' x) H'
 after-after S n a b out out' H H' =
     ap (λ g. record S { agents = g; channel = sent (sent S.channel (Agent n) out) (Agent n) out'; history = H' }) (set-twice S.agents n a b)
@@ -569,6 +569,7 @@ plain-ok S D n loaded g h up l p = elim l.body as (λ m. SaysNoWord D n (S.agent
     took = ap (λ x. S.history.took x) k.0 ∙ (some-here (λ v. (S.history.took (agent_start S n) ≡ Some v) × In v S.history.decided) (S.agents n).taken k.2.0 k.2.1 (h.agents n).taken).0;
     term_is = k.2.2;
   }
+  | msg.View w ↦ λ k. absurd k
   | m ↦ λ k. tt
 ] p
 

@@ -12,15 +12,16 @@ use Rattle.volt_wire.specs.declared.end.End.{End}
 use Rattle.volt_wire.specs.declared.message.Msg.{Msg}
 use Rattle.volt_wire.specs.declared.message.Msg.TheVariants as msg
 use Rattle.cluster_model.specs.Engine.{Database, CoordStep, Round, Finish}
-use Rattle.cluster_model.specs.Words.{Deployment, part_of_slot, is_host, slots_of_host, all_parts, with_number, is_in, term_of, same_word, members, initiator, leader, start_of, start_of_slot, is_member, part_down, admits, with_admitted}
+use Rattle.cluster_model.specs.Words.{Deployment, part_of_slot, is_host, slots_of_host, all_parts, with_number, is_in, term_of, same_word, members, initiator, leader, start_of, start_of_slot, is_member, part_down, admits, with_admitted, is_slot_of, is_client}
 use Rattle.cluster_model.specs.Letters.{Blocks, same, Letter, Turn, becomes, sending, ◌▸◌, open_letter, letter_to, letter_in, only}
 use Rattle.cluster_model.specs.AgentState.{AgentState, Phase, Off, Hears, Closes, Idle, Works, Work, Job, RunCall, TakeSnapshot, Queued, Job_, Admission, Heard, Initiating, initiates, answers_client, on_reply, stops, stops_with_host}
 use Rattle.cluster_model.specs.Initiator.{to_all_leaders, begins, admitting, works_queue, if_idle, queues, answers, no_work, with_work, with_phase, all_finished, open_told, rests, ends_job, goes_on, feeds, ends_round, gathers, on_frag_done, settles, on_finished, done_to, closes_open, first_number, hears, on_mp_state}
 use Rattle.cluster_model.specs.Agent.{to_slot, to_partition, to_initiator, hands_on, unless_down, on_call, on_hello, on_decided, asks_initiator, has_loaded, on_loaded, is_other_word, says, decides_word, is_word, may_decide, from_agent, from_site, from_director, from_client, agent_handler}
 use Rattle.cluster_steps.specs.Lists.{In}
-use Rattle.word_laws.specs.Histories.{IsOff}
-use Rattle.cluster_steps.proofs.Lists.{all-append, all-if, same-some, in-left, in-right, in-cases}
+use Rattle.word_laws.specs.Histories.{IsOff, State, Gone, OwnOk}
+use Rattle.cluster_steps.proofs.Lists.{all-append, all-if, same-some, in-left, in-right, in-cases, all-mono}
 use Rattle.word_laws.proofs.Algebra.{same_word-is}
+use Rattle.word_laws.proofs.Moves.{ShownOk, TellsKnown}
 
 -- ---- the handlers that bring words
 
@@ -50,6 +51,48 @@ stops-sends-none D n s g (inr e) = choice (is_host D g) (g == n) e
     choice true true q = refl
     choice true false q = absurd (cc)
     choice false b q = refl
+
+-- that it has closed, and Stop to others of its host
+abbrev pub StopsSay : ℕ → Letter → Type 0
+StopsSay s l = elim l.body as (λ _. Type 0) [
+  | msg.Closed o ↦ o ≡ s
+  | msg.Stop o ↦ Unit {0}
+  | _ ↦ ⊥
+]
+
+pub stops-say : (D : Deployment) (n s : ℕ) (b : Actor) → AllByRecursion (StopsSay s) ((stops D n s).sends b)
+stops-say D n s (Agent g) = all-if (StopsSay s) (is_host D g) _ [] (all-if (StopsSay s) (g == n) [] (open_letter (msg.Closed s) ∷ []) tt (refl, tt)) tt
+stops-say D n s (Client c) = all-if (StopsSay s) (is_client D c) (open_letter (msg.Closed s) ∷ []) [] (refl, tt) tt
+stops-say D n s Director = tt
+stops-say D n s (Site c) = tt
+stops-say D n s (Scanner c) = tt
+
+pub stops_with_host-say : (D : Deployment) (n s : ℕ) (b : Actor) → AllByRecursion (StopsSay s) ((stops_with_host D n s).sends b)
+stops_with_host-say D n s (Agent g) = stops-say D n s (Agent g)
+stops_with_host-say D n s (Client c) = all-append (StopsSay s) ((stops D n s).sends (Client c)) [] (stops-say D n s (Client c)) tt
+stops_with_host-say D n s Director = tt
+stops_with_host-say D n s (Site c) = all-if (StopsSay s) (is_slot_of D n c) (open_letter (msg.Stop s) ∷ []) [] (tt, tt) tt
+stops_with_host-say D n s (Scanner c) = all-if (StopsSay s) (is_slot_of D n c) (open_letter (msg.Stop s) ∷ []) [] (tt, tt) tt
+
+-- it shows that to all once it has stopped
+pub stops-shown : (T : State) (s : ℕ) → Gone T s → (b : Actor) (ls : List Letter) → AllByRecursion (StopsSay s) ls → AllByRecursion (ShownOk T b) ls
+stops-shown T s gone b ls h = all-mono (StopsSay s) (ShownOk T b) (one b) ls h
+  where
+    told : (l : Letter) → StopsSay s l → TellsKnown T l
+    told l p = elim l.body as (λ m. StopsSay s (record l { body = m }) → TellsKnown T (record l { body = m })) [
+      | msg.Closed o ↦ λ k. subst (Gone T) (sym k) gone
+      | msg.Word base lost admitted ↦ λ k. k
+      | msg.Decided w ↦ λ k. absurd k
+      | msg.View w ↦ λ k. absurd k
+      | m ↦ λ k. tt
+    ] p
+
+    one : (b : Actor) (l : Letter) → StopsSay s l → ShownOk T b l
+    one (Agent g) l p = tt
+    one Director l p = told l p
+    one (Client g) l p = told l p
+    one (Site g) l p = told l p
+    one (Scanner g) l p = told l p
 
 -- ---- what follows a handler: the agent says its word, and decides it
 

@@ -155,6 +155,7 @@ LetterOk S h g l = elim l.body as (λ _. Type 0) [
       × (start_of (record S.history.first { lost = lost; admitted = admitted }) g ≡ Some l.start)
   | msg.Decided w ↦ (l.term ≡ 0) × In w S.history.decided
   | msg.Closed o ↦ (l.term ≡ 0) × (l.start ≡ 0) × Gone S o × (S.owner o ≡ h)
+  | msg.View w ↦ ⊥
   | msg.Admit j ↦ AsksAdmission S h g l.term j
   | _ ↦ Unit {0}
 ]
@@ -196,6 +197,7 @@ AgentWaitingFrom S g (Agent h) l = elim l.body as (λ _. Type 0) [
   | msg.Word base lost admitted ↦ ⊥
   | msg.Decided w ↦ ⊥
   | msg.Closed o ↦ ⊥
+  | msg.View w ↦ ⊥
   | msg.Admit j ↦ CameOk S h g l.term j
   | _ ↦ Unit {0}
 ]

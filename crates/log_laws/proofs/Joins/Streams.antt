@@ -542,7 +542,7 @@ module _ (E : Database) (S : LogState) (H : LogsHold S) (i : ℕ) (up : 0 < site
 
 -- ---- the turn
 
--- What holds, holds after_site the leader took the first joiner that it can take, if there is one. It stays in its word.
+-- What holds, holds after the leader took the first joiner that it can take, if there is one. It stays in its word.
 pub record TakesAsks (S : LogState) (i : ℕ) (t : Turn SiteState) : Type 0 where
   pub start : t.state.start ≡ site_start S i
   pub view : t.state.view ≡ (S.sites i).view

@@ -213,7 +213,7 @@ kept-more s a slot l body term c t = rw (body, term) (choice (site_term s == t) 
     choice false true e = refl
     choice false false e = refl
 
--- From a channel: of the state after_site a turn in which nothing is sent.
+-- From a channel: of the state after a turn in which nothing is sent.
 module _ (S : LogState) (from : Actor) (i : ℕ) (l : Letter) (ls : List Letter) (e : S.words.channel from (Site i) ≡ l ∷ ls) (G : Logs) where
   popped-others : (s : SiteState) (k : ℕ) → (k ≡ i → ⊥)
       → ((after_site (site_popped S from i) i s no_sends G).sites k ≡ S.sites k) × ((after_site (site_popped S from i) i s no_sends G).pending k ≡ S.pending k)
@@ -262,7 +262,7 @@ module _ (S : LogState) (from : Actor) (i : ℕ) (l : Letter) (ls : List Letter)
       (first-to-last (wait_of c t (came from l)) (asks_in t (between (site_popped S from i) c i)) (asks_waiting c t (S.sites i).waiting)
       (asks_waiting c t (S.pending i)) (asks_of_term c t (S.sites i)))))
 
--- From what waited: of the state after_site a turn in which nothing is sent, with these left.
+-- From what waited: of the state after a turn in which nothing is sent, with these left.
 module _ (S : LogState) (i : ℕ) (ws : List Waiting) (G : Logs) where
   left-others : (s : SiteState) (k : ℕ) → (k ≡ i → ⊥)
       → ((after_site (left S i ws) i s no_sends G).sites k ≡ S.sites k) × ((after_site (left S i ws) i s no_sends G).pending k ≡ S.pending k)

@@ -1,4 +1,4 @@
--- Turns of a site in which nothing changes that is looked at: what holds, holds after_site them.
+-- Turns of a site in which nothing changes that is looked at: what holds, holds after them.
 use Rattle.std.proofs.Common.{◌≡◌, Bool, true, false, List, [], ◌∷◌, ◌++◌, refl, ap, ◌∙◌, ◌==◌, arith}
 use Rattle.std.specs.Prelude.{ℕ, ◌&&◌, ◌+◌, not, nat_lt, if◌then◌else◌, replicate, Option, Some, None, length}
 use Rattle.std.specs.List.{AllByRecursion}

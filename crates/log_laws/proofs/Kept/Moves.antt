@@ -1,4 +1,4 @@
--- Of what the proofs speak: the state after_site a turn of a site, what is kept in a later one, and what a turn adds to the history.
+-- Of what the proofs speak: the state after a turn of a site, what is kept in a later one, and what a turn adds to the history.
 use Rattle.std.proofs.Common.{◌≡◌, ◌<◌, List, ◌⊎◌}
 use Rattle.std.specs.Prelude.{ℕ, ◌≤◌, length, Some, None, true}
 use Rattle.std.specs.List.{AllByRecursion}
@@ -16,7 +16,7 @@ use Rattle.log_laws.specs.Histories.{LogState, Logs, Entered, Streaming, Leaders
 
 -- ---- states
 
--- the state after_site a turn of the site of slot i
+-- the state after a turn of the site of slot i
 abbrev pub after_site : LogState → ℕ → SiteState → Sends → Logs → LogState
 after_site S i s out G = record S {
   words = record S.words { channel = sent S.words.channel (Site i) out };
@@ -121,7 +121,7 @@ NoStreamStart l = elim l.body as (λ _. Type 0) [
   | _ ↦ Unit {0}
 ]
 
--- A turn of the site of slot i, from a state: the site goes on with its start, begins no stream, and what holds, holds after_site it.
+-- A turn of the site of slot i, from a state: the site goes on with its start, begins no stream, and what holds, holds after it.
 pub record Turns (S : LogState) (i : ℕ) (t : Turn SiteState) : Type 0 where
   pub logs : Logs
   pub start : t.state.start ≡ site_start S i

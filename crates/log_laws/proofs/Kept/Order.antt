@@ -1,4 +1,4 @@
--- A turn whose messages are put in order: what holds after_site it as they were sent, holds then.
+-- A turn whose messages are put in order: what holds after it as they were sent, holds then.
 use Rattle.std.proofs.Common.{◌≡◌, Bool, true, false, List, [], ◌∷◌, ◌++◌, append-nil, append_assoc, refl, sym, subst, ap, ◌∙◌, ◌==◌}
 use Rattle.std.proofs.lemmas.Bool.{eqb-true, eqb-false}
 use Rattle.std.proofs.Math.Path.{fun_ext}

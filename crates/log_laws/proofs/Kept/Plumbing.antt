@@ -1,4 +1,4 @@
--- States after_site turns: their channels, their words, and one turn behind another.
+-- States after turns: their channels, their words, and one turn behind another.
 use Rattle.std.proofs.Common.{◌≡◌, Bool, true, false, List, ◌∷◌, ◌++◌, refl, sym, subst, ap, ◌∙◌, ◌==◌, arith}
 use Rattle.std.proofs.lemmas.Bool.{eqb-true, and_parts}
 use Rattle.std.proofs.lemmas.Bool.Decides.{nat_tests}
@@ -20,7 +20,7 @@ use Rattle.log_laws.proofs.Kept.Moves.{after_site, site_popped, LogsLater, Grown
 use Rattle.log_laws.proofs.Kept.Grown.{grown-same, grown-then, enters-same, enters-then}
 use Rattle.log_laws.proofs.Kept.KeepsViews.{foreign-later, views-keeps}
 
--- ---- the site and the channels after_site a turn
+-- ---- the site and the channels after a turn
 
 module _ (S : LogState) (i : ℕ) (s : SiteState) (out : Sends) (G : Logs) where
   -- the site is what the turn made of it, and the others are as they were
@@ -52,7 +52,7 @@ module _ (S : LogState) (i : ℕ) (s : SiteState) (out : Sends) (G : Logs) where
       choice true e = subst (λ z. P z (S.words.channel (Site z) b ++ out b)) (eqb-true i j e) mine
       choice false e = other j (λ d. grind (arith, nat_tests, e, d))
 
--- ---- all messages after_site a turn
+-- ---- all messages after a turn
 
 -- those that were under way, where each stays as it may be, and those that the site sent
 pub all-after : (P Q : Letter → Type 0) (xs ys : List Letter) → ((l : Letter) → In l xs → P l → Q l) → AllByRecursion P xs → AllByRecursion Q ys → AllByRecursion Q (xs ++ ys)
@@ -153,7 +153,7 @@ words-later S ch = word_steps.later-moved S.words S.words.agents ch (λ s b r. r
 
 -- ---- turns, one behind another
 
--- one turn after_site another is one turn
+-- one turn after another is one turn
 pub after-after : (S : LogState) (i : ℕ) (a b : SiteState) (out more : Sends) (G F : Logs) → after_site (after_site S i a out G) i b more F ≡ after_site S i b (λ x. out x ++ more x) F
 after-after S i a b out more G F =
     ap (λ g. record S { words = record S.words { channel = sent (sent S.words.channel (Site i) out) (Site i) more }; sites = g; logs = F }) (set-twice S.sites i a b)
@@ -183,7 +183,7 @@ then-enters S i s t out G r longer k = let e = log-here S i s out G in
 pub then-longer : (S : LogState) (i : ℕ) (s : SiteState) (out : Sends) (G : Logs) (n : ℕ) → length (log_at S i) ≤ length s.log → length (log_at (after_site S i s out G) i) ≤ n → length (log_at S i) ≤ n
 then-longer S i s out G n low high = let e = log-here S i s out G in omega (arith, low, high, e)
 
--- A further part of a turn, from the state after_site the first one.
+-- A further part of a turn, from the state after the first one.
 pub goes-then-after : (S : LogState) (i : ℕ) (t : Turn SiteState) (f : SiteState → Turn SiteState) (g : LogsGo S i t)
     → LogsGo (after_site S i t.state t.sends g.logs) i (f t.state) → LogsGo S i (t ▸ f)
 goes-then-after S i t f g r = record {

@@ -94,7 +94,7 @@ pub record SaysRests (S : LogState) (i : ℕ) (out : Sends) : Type 0 where
       → Inert S c w i ⊎ (follows S.words.deployment w c i ≡ false) → stream_ends_in (site_start S c) (term_of w) (out (Site c)) ≡ []
   pub told : (h : ℕ) → AllByRecursion (ToldOk S i) (out (Agent h))
 
--- ---- the state after_site it
+-- ---- the state after it
 
 abbrev pub rested : LogState → (ℕ → SiteState) → ℕ → Sends → (ℕ → ℕ → ℕ) → LogState
 rested S states i out reach = record S {

@@ -1,4 +1,4 @@
--- A slot's site stops, or a start of it begins to run: what holds, holds after_site it.
+-- A slot's site stops, or a start of it begins to run: what holds, holds after it.
 use Rattle.std.proofs.Common.{◌≡◌, ◌<◌, Bool, true, false, List, [], ◌∷◌, ◌++◌, refl, sym, subst, ap, ◌∙◌, inl, inr, ◌==◌, arith, ◌⊎◌}
 use Rattle.std.proofs.lemmas.Bool.{cases_eq, and_parts}
 use Rattle.std.proofs.lemmas.Bool.Decides.{nat_tests}

@@ -1,4 +1,4 @@
--- A site that has come to a term takes what waited for that, one after_site another: what holds, holds after_site it.
+-- A site that has come to a term takes what waited for that, one after another: what holds, holds after it.
 use Rattle.std.proofs.Common.{◌≡◌, ◌<◌, List, [], ◌∷◌, sym, subst, ap, ◌∙◌, ◌==◌, arith}
 use Rattle.std.proofs.lemmas.Bool.{eqb-true}
 use Rattle.std.specs.Prelude.{ℕ, length}
@@ -41,10 +41,10 @@ left-then S i ws vs t f g r = record {
   longer = then-longer (left S i ws) i t.state t.sends g.logs (length (f t.state).state.log) g.longer r.longer;
 }
 
--- ---- one after_site another
+-- ---- one after another
 
 module _ (E : Database) (D : Deployment) (stamp i : ℕ) where
-  -- All holds after_site the handler of each message that waited for the term.
+  -- All holds after the handler of each message that waited for the term.
   abbrev pub HandlersGo : Type 0
   HandlersGo = (T : LogState) (x : Waiting) (ws : List Waiting) → LogsHold T → 0 < site_start T i → T.words.deployment ≡ D → T.pending i ≡ x ∷ ws
       → x.letter.term ≡ term_at T i → SiteWaitingOk T i x → LogsGo (left T i ws) i (site_handler E D stamp i (T.sites i) x.from x.letter)

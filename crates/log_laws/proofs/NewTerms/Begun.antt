@@ -1,4 +1,4 @@
--- A leader that has all reports begins its term: what holds, holds after_site it.
+-- A leader that has all reports begins its term: what holds, holds after it.
 use Rattle.std.proofs.Common.{◌≡◌, ◌<◌, true, false, List, [], ◌∷◌, ◌++◌, append-nil, refl, sym, subst, ap, ◌∙◌, inl, inr, ◌==◌, true≢false, arith}
 use Rattle.std.proofs.lemmas.Bool.{cases_eq}
 use Rattle.std.specs.Prelude.{ℕ, ◌≤◌, length, drop, Option, Some, None}

@@ -1,4 +1,4 @@
--- A site takes a word that counts its start, and enters its term: what holds, holds after_site it.
+-- A site takes a word that counts its start, and enters its term: what holds, holds after it.
 use Rattle.std.proofs.Common.{◌≡◌, ◌<◌, List, [], ◌∷◌, refl, sym, subst, ap, ◌∙◌, ◌⊎◌, inl, inr, ◌==◌, arith}
 use Rattle.std.proofs.lemmas.Bool.{cases_eq, cases_lt}
 use Rattle.std.specs.Prelude.{ℕ, ◌≤◌, length, drop, max, Option, Some, None}

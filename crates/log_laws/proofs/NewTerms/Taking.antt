@@ -1,4 +1,4 @@
--- A site takes the first word that is under way to it: its channels after_site that, and what is left of its words.
+-- A site takes the first word that is under way to it: its channels after that, and what is left of its words.
 use Rattle.std.proofs.Common.{◌≡◌, ◌+◌, ◌<◌, Bool, true, false, List, [], ◌∷◌, ◌++◌, append-nil, refl, sym, subst, ap, ◌∙◌, inl, inr, ◌==◌, arith}
 use Rattle.std.proofs.lemmas.Bool.{cases_eq}
 use Rattle.std.proofs.lemmas.Bool.Decides.{nat_tests}
