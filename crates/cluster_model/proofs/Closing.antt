@@ -411,7 +411,7 @@ start_after-same a from l runs = elim l.body as (λ m. start_after a from (recor
   | _ ↦ refl
 ]
 
-turn-over : (E : Database) (D : Deployment) (h stamp : ℕ) (a : AgentState) (from : Actor) (l : Letter) (o : Environment) → (a.start == 0) ≡ false → Over D h a.start (agent_turn E D h stamp a from l o)
+pub turn-over : (E : Database) (D : Deployment) (h stamp : ℕ) (a : AgentState) (from : Actor) (l : Letter) (o : Environment) → (a.start == 0) ≡ false → Over D h a.start (agent_turn E D h stamp a from l o)
 turn-over E D h stamp a from l NoFault runs = takes-over E D h stamp a from l runs
 turn-over E D h stamp a from l (DiskFails answered) runs = takes-over E D h stamp a from l runs
 turn-over E D h stamp a from l (NoMemory answered) runs =

@@ -4,7 +4,7 @@ use Rattle.std.proofs.lemmas.Bool.{and_parts, eqb-true, false≢true, or_cases}
 use Rattle.std.proofs.lemmas.Bool.Decides.{nat_tests}
 use Rattle.std.proofs.lemmas.List.Folds.{list_any-append}
 use Rattle.std.specs.Prelude.{ℕ, ◌&&◌, ◌||◌, not, nat_lt, nat_le, map, Option, Some, None, is_none}
-use Rattle.std.specs.List.{list_any, range_with_len}
+use Rattle.std.specs.List.{list_any, range_with_len, AllByRecursion}
 use Rattle.volt_wire.specs.declared.actor.Actor.{Actor}
 use Rattle.volt_wire.specs.declared.actor.Actor.TheVariants.{Director, Client, Agent, Site, Scanner}
 use Rattle.volt_wire.specs.declared.event.Event.{Event}
@@ -15,7 +15,7 @@ use Rattle.volt_wire.specs.declared.item.TimedItem.{TimedItem}
 use Rattle.volt_wire.specs.declared.message.Msg.TheVariants as msg
 use Rattle.cluster_model.specs.Engine.{Database}
 use Rattle.cluster_model.specs.Words.{Deployment, is_host, parts, slots}
-use Rattle.cluster_model.specs.Letters.{same, Letter, Turn, open_letter}
+use Rattle.cluster_model.specs.Letters.{same, Letter, Turn, open_letter, Sends}
 use Rattle.cluster_model.specs.Director.{DirectorState, does, does_next}
 use Rattle.cluster_model.specs.Environment.{Environment, NoFault, DiskFails, NoMemory, DisksShow}
 use Rattle.cluster_model.specs.AgentState.{new_agent}
@@ -30,7 +30,7 @@ use Rattle.word_laws.specs.Histories.{History, WordsHold}
 use Rattle.word_laws.specs.Chain.{state_of, InEpoch}
 use Rattle.cluster_steps.proofs.Lists.{if-false}
 use Rattle.cluster_steps.proofs.Channels.{starts-if, stops_all-starts}
-use Rattle.word_laws.proofs.Moves.{Grows}
+use Rattle.word_laws.proofs.Moves.{Grows, ShownOk}
 use Rattle.word_laws.proofs.Steps.{channel-holds}
 use Rattle.word_laws.proofs.Epochs.{new_history, new_owner, boot-holds, recovery-holds}
 use Rattle.word_laws.proofs.Draws.{director-inert-holds, draws-holds}
@@ -220,12 +220,17 @@ memory-runs w n answered from l ls o is may e =
     let some : (nat_lt 0 (start_after (w.agents n) from l) && nat_le answered 0) ≡ true = rw is at out in
     (and_parts (nat_lt 0 (start_after (w.agents n) from l)) (nat_le answered 0) some).0
 
-to_agent-reaches : (E : Database) (w : World) (n : ℕ) (from : Actor) (ls : List Letter) (o : Environment) (c : Bool) (k : InEpoch w) → w.channel from (Agent n) ≡ ls
-    → is_host w.deployment n ≡ true → allows w (event.Deliver (Agent n) from) o ≡ true → WordsReach k.history c (delivered E w (Agent n) from ls o)
-to_agent-reaches E w n from [] o c k is host may = still w c k
-to_agent-reaches E w n from (l ∷ ls) o c k is host may =
-    let S = state_of w k.owner k.history in
-    let g = agent-event E S n (stamp_of w) from l ls o is host (λ answered e. memory-runs w n answered from l ls o is may e) k.holds in
+-- It is in the same epoch then, and others than agents are shown what is known.
+pub record AgentReach (G : History) (v : World) (sends : Sends) : Type 0 where
+  pub next : InEpoch v
+  pub grows : Grows G next.history
+  pub shown : (b : Actor) → AllByRecursion (ShownOk (state_of v next.owner next.history) b) (sends b)
+
+pub agent-reach : (E : Database) (w : World) (n : ℕ) (from : Actor) (l : Letter) (ls : List Letter) (o : Environment) (k : InEpoch w) → w.channel from (Agent n) ≡ l ∷ ls
+    → is_host w.deployment n ≡ true → allows w (event.Deliver (Agent n) from) o ≡ true
+    → AgentReach k.history (delivered E w (Agent n) from (l ∷ ls) o) (agent_turn E w.deployment n (stamp_of w) (w.agents n) from l o).sends
+agent-reach E w n from l ls o k is host may =
+    let g = agent-event E (state_of w k.owner k.history) n (stamp_of w) from l ls o is host (λ answered e. memory-runs w n answered from l ls o is may e) k.holds in
     record {
       next = record {
         owner = k.owner;
@@ -233,8 +238,14 @@ to_agent-reaches E w n from (l ∷ ls) o c k is host may =
         holds = g.holds;
         strangers = λ h e. if-false (h == n) (agent_turn E w.deployment n (stamp_of w) (w.agents n) from l o).state (w.agents h) (host-apart w.deployment n h host e) ∙ k.strangers h e;
       };
-      grows = λ e. g.grows;
+      grows = g.grows;
+      shown = g.shown;
     }
+
+to_agent-reaches : (E : Database) (w : World) (n : ℕ) (from : Actor) (ls : List Letter) (o : Environment) (c : Bool) (k : InEpoch w) → w.channel from (Agent n) ≡ ls
+    → is_host w.deployment n ≡ true → allows w (event.Deliver (Agent n) from) o ≡ true → WordsReach k.history c (delivered E w (Agent n) from ls o)
+to_agent-reaches E w n from [] o c k is host may = still w c k
+to_agent-reaches E w n from (l ∷ ls) o c k is host may = let r = agent-reach E w n from l ls o k is host may in record { next = r.next; grows = λ e. r.grows }
 
 -- ---- events
 
@@ -246,7 +257,7 @@ delivered-reaches E w (Agent n) from o k there may = to_agent-reaches E w n from
 delivered-reaches E w (Site i) from o k there may = to_site-reaches E w i from (w.channel from (Site i)) o false k
 delivered-reaches E w (Scanner i) from o k there may = to_scanner-reaches E w i from (w.channel from (Scanner i)) o false k
 
-happens-reaches : (E : Database) (w : World) (e : Event) (o : Environment) (k : InEpoch w) → can w e ≡ true → allows w e o ≡ true → WordsReach k.history (renews_at e o) (happens E w e o)
+pub happens-reaches : (E : Database) (w : World) (e : Event) (o : Environment) (k : InEpoch w) → can w e ≡ true → allows w e o ≡ true → WordsReach k.history (renews_at e o) (happens E w e o)
 happens-reaches E w (event.Deliver to from) o k may environment = delivered-reaches E w to from o k (and_parts (is_some_letter (w.channel from to)) (is_actor w.deployment to) may).1 environment
 happens-reaches E w (event.Sync i) o k may environment = keeps w (happens E w (event.Sync i) o) false k k.owner (others-hold w k (happens E w (event.Sync i) o).channel (λ h g. refl) (λ h. refl)) k.strangers
 happens-reaches E w (event.Scan i) o k may environment = keeps w (happens E w (event.Scan i) o) false k k.owner (others-hold w k (happens E w (event.Scan i) o).channel (λ h g. refl) (λ h. refl)) k.strangers

@@ -1,4 +1,4 @@
-use Rattle.word_laws.proofs.Lost.Runs.{lost-stopped}
+use Rattle.word_laws.proofs.Lost.{lost-stopped}
 use Rattle.word_laws.proofs.lost_starts_are_stopped.Goals as goal
 
 pub returns : goal.returns
