@@ -23,14 +23,14 @@ use Rattle.word_laws.proofs.Moves as word_moves
 use Rattle.word_laws.proofs.Moves.{Grows}
 use Rattle.word_laws.proofs.Laters.{waiting-later}
 use Rattle.word_laws.proofs.Worlds.{grows-same}
-use Rattle.word_laws.proofs.Turns.{tells, concludes}
+use Rattle.word_laws.proofs.Turns.{tells, concludes, StopsSay, stops-say, stops_with_host-say}
 use Rattle.word_laws.proofs.Arrivals.{AgentTakes, Stops_, Ignores, Runs_, takes-cases, runs-taken, runs-waits, runs-refused, turn-cases, stopped-cases, unless-running, waiting-brings}
 use Rattle.word_laws.proofs.Steps.{pops, waiting-shrinks}
 use Rattle.word_laws.proofs.Rejoins.{with_began, start-grows, start-holds, start-stops-holds}
 use Rattle.word_laws.proofs.Hearings.{WordsTurn, none-handler, handler-grows, handler-plain, handler-later, others-after, then-assoc, concludes-none}
 use Rattle.word_laws.proofs.AgentEvents.{calm-event, handler-event, asked-waiting, came-still, none-taken, none-waited, waits-event, refused-event, ignored-event, stop-pops, stays-holds, comes-first, start-of-body}
 use Rattle.log_laws.specs.Histories.{LogState, AskedOk, LogsHold}
-use Rattle.log_laws.proofs.Agents.AgentSends.{NoView, NoAdmit, stops-plain, stops-none, stops_with_host-plain}
+use Rattle.log_laws.proofs.Agents.AgentSends.{NoView, NoAdmit, stops-plain, stops-none}
 use Rattle.log_laws.proofs.Agents.Views.{agent_turned}
 use Rattle.log_laws.proofs.Agents.Admits.{asked-worded}
 use Rattle.log_laws.proofs.Agents.AgentTurns.{Rest, rest-of, holds-of, agent_heard, rest-heard, MayJoin, AgentHandler, plain-rest, plain-agent, stay-plain, stay-agent, stopped-agent, then-agent}
@@ -127,7 +127,7 @@ waited-agent E S n stamp h r up = then-agent S n t (takes_each E S.words.deploym
     t = becomes (record (S.words.agents n) { waiting = above_term term (S.words.agents n).waiting })
 
     first : AgentHandler S n t
-    first = plain-agent S n t r (handler-plain S.words n t (inl (refl, up)) (waiting-shrinks S.words n (λ w. nat_lt term w.letter.term) h)) (record {
+    first = plain-agent S n t r (handler-plain S.words n t (inl (refl, up)) (waiting-shrinks S.words n (λ w. nat_lt term w.letter.term) h) (λ b. tt)) (record {
       start = refl;
       decided = refl;
       taken = refl;
@@ -194,19 +194,19 @@ module _ (E : Database) (S : LogState) (n stamp : ℕ) (from : Actor) (l : Lette
 
   -- it stops
   stops-agent : (t : Turn AgentState) → t.state ≡ new_agent 0 → ((g : ℕ) → t.sends (Agent g) ≡ (stops S.words.deployment n a.start).sends (Agent g))
-      → ((c : ℕ) → AllByRecursion NoView (t.sends (Site c))) → AgentHandler P n t
-  stops-agent t z sends sites = stopped-agent P n t left (none-handler (stop-pops S.words from n l ls t is H.words up z sends)) z sites
-      (λ g. subst (AllByRecursion NoAdmit) (sym (sends g)) (stops-none S.words.deployment n a.start g))
+      → ((b : Actor) → AllByRecursion (StopsSay a.start) (t.sends b)) → AgentHandler P n t
+  stops-agent t z sends says = stopped-agent P n t left (none-handler (stop-pops S.words from n l ls t is H.words up z sends says)) z
+      (λ c. stops-plain a.start (t.sends (Site c)) (says (Site c))) (λ g. stops-none a.start (t.sends (Agent g)) (says (Agent g)))
 
   takes-agent : AgentTakes E S.words.deployment n stamp a from l → AgentHandler P n (agent_takes E S.words.deployment n stamp a from l)
-  takes-agent (Stops_ e) = subst (AgentHandler P n) (sym e) (stops-agent (stops S.words.deployment n a.start) refl (λ g. refl) (stops-plain S.words.deployment n a.start))
+  takes-agent (Stops_ e) = subst (AgentHandler P n) (sym e) (stops-agent (stops S.words.deployment n a.start) refl (λ g. refl) (stops-say S.words.deployment n a.start))
   takes-agent (Ignores e c) = subst (AgentHandler P n) (sym e) (dropped-agent (ignored-event S.words n from l ls H.words up is c))
   takes-agent (Runs_ e c) = subst (AgentHandler P n) (sym e) (runs-agent (arrival a.start (term_in a.decided) l) refl)
 
   running-agent : (o : Environment) → AgentHandler P n (agent_turn E S.words.deployment n stamp a from l o)
   running-agent o = elim (turn-cases E S.words.deployment n stamp a from l o running) [
     | inl e ↦ subst (AgentHandler P n) (sym e)
-        (stops-agent (stops_with_host S.words.deployment n a.start) refl (λ g. refl) (stops_with_host-plain S.words.deployment n a.start))
+        (stops-agent (stops_with_host S.words.deployment n a.start) refl (λ g. refl) (stops_with_host-say S.words.deployment n a.start))
     | inr e ↦ subst (AgentHandler P n) (sym e) (takes-agent (takes-cases E S.words.deployment n stamp a from l running))
   ]
     where
@@ -283,7 +283,8 @@ module _ (S : LogState) (n s : ℕ) (H : LogsHold S) (z : word.agent_start S.wor
     by = λ x i. inl i;
     holds = holds-of (agent_turned (agent_heard S Director n) n (new_agent 0) (stops_with_host S.words.deployment n s).sends (with_began S.words.history n s))
         (start-stops-holds S.words n s H.words z host comes)
-        (begun-rest 0 (stops_with_host S.words.deployment n s).sends (inr refl) (stops_with_host-plain S.words.deployment n s) (stops-none S.words.deployment n s));
+        (begun-rest 0 (stops_with_host S.words.deployment n s).sends (inr refl)
+        (λ c. stops-plain s _ (stops_with_host-say S.words.deployment n s (Site c))) (λ g. stops-none s _ (stops_with_host-say S.words.deployment n s (Agent g))));
   }
 
 stopped-takes : (E : Database) (S : LogState) (n stamp : ℕ) (from : Actor) (l : Letter) (ls : List Letter) → LogsHold S → word.agent_start S.words n ≡ 0

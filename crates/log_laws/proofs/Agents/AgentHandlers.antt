@@ -16,10 +16,10 @@ use Rattle.cluster_steps.specs.Lists.{In}
 use Rattle.cluster_steps.proofs.Lists.{all-mono, all-append, all-at, all-from, in-left, in-cases}
 use Rattle.word_laws.proofs.Algebra.{in-with_number}
 use Rattle.word_laws.proofs.Calm.{Calm, SaysNoWord, asked_by, loaded_by, handler-calm}
-use Rattle.word_laws.proofs.Turns.{tells, tells-state, on_decided-joiner}
+use Rattle.word_laws.proofs.Turns.{stops_with_host-say, tells, tells-state, on_decided-joiner}
 use Rattle.word_laws.proofs.Hearings.{WordsTurn}
 use Rattle.log_laws.specs.Histories.{LogState, LoadedOk, AskedOk, QueuedLoadedOk, AllLoaded}
-use Rattle.log_laws.proofs.Agents.AgentSends.{NoView, NoAdmit, Tells, tells-says, stops-none, stops_with_host-plain}
+use Rattle.log_laws.proofs.Agents.AgentSends.{NoView, NoAdmit, Tells, tells-says, stops-plain, stops-none}
 use Rattle.log_laws.proofs.Agents.Admits.{asked-admission, all-slots}
 use Rattle.log_laws.proofs.Agents.AgentTurns.{Rest, MayJoin, AgentHandler, plain-agent, stay-plain, tells-plain, stopped-agent}
 use Rattle.log_laws.proofs.Agents.AgentWords.{takes-agent}
@@ -190,8 +190,8 @@ module _ (S : LogState) (n : ℕ) (r : Rest S) (up : 0 < word.agent_start S.word
   stops-then : WordsTurn (MayJoin S) S.words n (told (stops_with_host S.words.deployment n (word.agent_start S.words n)))
       → AgentHandler S n (told (stops_with_host S.words.deployment n (word.agent_start S.words n)))
   stops-then handler = stopped-agent S n (told (stops_with_host S.words.deployment n (word.agent_start S.words n))) r handler (tells-state n (S.words.agents n).own (new_agent 0))
-      (λ c. all-append NoView _ _ (stops_with_host-plain S.words.deployment n (word.agent_start S.words n) c) (says.sites c))
-      (λ g. all-append NoAdmit _ _ (stops-none S.words.deployment n (word.agent_start S.words n) g) (says.agents g))
+      (λ c. all-append NoView _ _ (stops-plain (word.agent_start S.words n) _ (stops_with_host-say S.words.deployment n (word.agent_start S.words n) (Site c))) (says.sites c))
+      (λ g. all-append NoAdmit _ _ (stops-none (word.agent_start S.words n) _ (stops_with_host-say S.words.deployment n (word.agent_start S.words n) (Agent g))) (says.agents g))
     where
       says : Tells [] (tells n (S.words.agents n).own (new_agent 0))
       says = tells-says n (S.words.agents n).own (new_agent 0)

@@ -1,16 +1,16 @@
 -- What an agent says to sites and to agents as it tells its word and as it stops: to sites neither a start nor a word.
-use Rattle.std.proofs.Common.{◌≡◌, Bool, true, false, List, [], ◌∷◌, refl, ◌==◌}
+use Rattle.std.proofs.Common.{◌≡◌, Bool, true, false, List, [], refl, ◌==◌}
 use Rattle.std.specs.Prelude.{ℕ, ◌&&◌, not, if◌then◌else◌, Option, Some, None}
 use Rattle.std.specs.List.{AllByRecursion}
 use Rattle.volt_wire.specs.Word.{Membership}
 use Rattle.volt_wire.specs.declared.actor.Actor.TheVariants.{Agent, Site}
 use Rattle.volt_wire.specs.declared.message.Msg.TheVariants as msg
-use Rattle.cluster_model.specs.Words.{Deployment, start_of, is_member, is_host, is_slot_of}
-use Rattle.cluster_model.specs.Letters.{Letter, Turn, becomes, open_letter}
-use Rattle.cluster_model.specs.AgentState.{AgentState, stops, stops_with_host}
+use Rattle.cluster_model.specs.Words.{start_of, is_member}
+use Rattle.cluster_model.specs.Letters.{Letter, Turn, becomes}
+use Rattle.cluster_model.specs.AgentState.{AgentState}
 use Rattle.cluster_model.specs.Agent.{says, word_to, is_other_word}
-use Rattle.cluster_steps.proofs.Lists.{all-if}
-use Rattle.word_laws.proofs.Turns.{tells}
+use Rattle.cluster_steps.proofs.Lists.{all-if, all-mono}
+use Rattle.word_laws.proofs.Turns.{tells, StopsSay}
 
 -- to a site: neither its start nor a word, nor a stream
 abbrev pub NoView : Letter → Type 0
@@ -54,13 +54,16 @@ tells-says n before a = choice (is_other_word before a.own) a.own
 
 -- ---- an agent that stops
 
-pub stops-plain : (D : Deployment) (n s c : ℕ) → AllByRecursion NoView ((stops D n s).sends (Site c))
-stops-plain D n s c = tt
+stop-plain : (s : ℕ) (l : Letter) → StopsSay s l → NoView l × NoAdmit l
+stop-plain s l p = elim l.body as (λ m. StopsSay s (record l { body = m }) → NoView (record l { body = m }) × NoAdmit (record l { body = m })) [
+  | msg.Closed o ↦ λ k. (tt, tt)
+  | msg.Stop o ↦ λ k. (tt, tt)
+  | m ↦ λ k. absurd k
+] p
 
-pub stops_with_host-plain : (D : Deployment) (n s c : ℕ) → AllByRecursion NoView ((stops_with_host D n s).sends (Site c))
-stops_with_host-plain D n s c = all-if NoView (is_slot_of D n c) (open_letter (msg.Stop s) ∷ []) [] (tt, tt) tt
+-- to its sites, and to other agents
+pub stops-plain : (s : ℕ) (ls : List Letter) → AllByRecursion (StopsSay s) ls → AllByRecursion NoView ls
+stops-plain s ls h = all-mono (StopsSay s) NoView (λ l p. (stop-plain s l p).0) ls h
 
--- what it says to others is that it has closed
-pub stops-none : (D : Deployment) (n s g : ℕ) → AllByRecursion NoAdmit ((stops D n s).sends (Agent g))
-stops-none D n s g =
-    all-if NoAdmit (is_host D g) (if g == n then [] else open_letter (msg.Closed s) ∷ []) [] (all-if NoAdmit (g == n) [] (open_letter (msg.Closed s) ∷ []) tt (tt, tt)) tt
+pub stops-none : (s : ℕ) (ls : List Letter) → AllByRecursion (StopsSay s) ls → AllByRecursion NoAdmit ls
+stops-none s ls h = all-mono (StopsSay s) NoAdmit (λ l p. (stop-plain s l p).1) ls h
