@@ -1,13 +1,15 @@
 -- What a small step of a site changes and says, where no law goes by it, and what it leaves of the joiners that are counted.
 use Rattle.std.proofs.Common.{◌≡◌, Bool, true, false, List, [], ◌∷◌, ◌++◌, append_assoc, refl, sym, ap, zero, suc, ◌==◌}
 use Rattle.std.proofs.Math.Path.{fun_ext}
-use Rattle.std.specs.Prelude.{ℕ, map, replicate, if◌then◌else◌, Some, None}
+use Rattle.std.specs.Prelude.{ℕ, map, replicate, if◌then◌else◌, Option, Some, None}
 use Rattle.std.specs.List.{AllByRecursion}
 use Rattle.volt_wire.specs.declared.actor.Actor.{Actor}
+use Rattle.volt_wire.specs.declared.actor.Actor.TheVariants.{Agent}
+use Rattle.volt_wire.specs.declared.message.Msg.{Msg}
 use Rattle.volt_wire.specs.declared.message.Msg.TheVariants as msg
-use Rattle.cluster_model.specs.Letters.{Letter, Sends, Turn, ◌▸◌}
-use Rattle.cluster_model.specs.SiteState.{SiteState, Joiner}
-use Rattle.cluster_model.specs.Site.{with_position, with_count, without_count, is_sent}
+use Rattle.cluster_model.specs.Letters.{Blocks, Letter, Sends, Turn, ◌▸◌, letter_in}
+use Rattle.cluster_model.specs.SiteState.{SiteState, Joiner, site_term}
+use Rattle.cluster_model.specs.Site.{holds, holds_for, with_position, with_count, without_count, is_sent}
 
 -- ---- what is sent
 
@@ -103,3 +105,10 @@ uncounted-joiner s j = choice (is_sent s j)
     choice : (b : Bool) → SameJoiner (if b then record j { count = None } else j) j
     choice true = record { slot = refl; stream_start = refl; position = refl }
     choice false = record { slot = refl; stream_start = refl; position = refl }
+
+-- ---- an answer that is held, where there is an initiator
+
+pub holds_for-cases : (P : SiteState → Type 0) (s : SiteState) (o : Option (ℕ × ℕ)) (m : Msg Blocks) → P s
+    → ((first : ℕ × ℕ) → P (holds s (Agent first.0) (letter_in (site_term s) first.1 m))) → P (holds_for s o m)
+holds_for-cases P s None m none one = none
+holds_for-cases P s (Some first) m none one = one first

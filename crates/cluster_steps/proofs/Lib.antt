@@ -8,3 +8,4 @@ pub mod Appends
 pub mod Sends
 pub mod Steps
 pub mod SiteWalk
+pub mod SiteTurns
