@@ -1,5 +1,5 @@
 -- What a small step of a site changes and says, where no law goes by it, and what it leaves of the joiners that are counted.
-use Rattle.std.proofs.Common.{◌≡◌, Bool, true, false, List, [], ◌∷◌, ◌++◌, append_assoc, refl, sym, ap, zero, suc, ◌==◌}
+use Rattle.std.proofs.Common.{◌≡◌, Bool, true, false, List, [], ◌∷◌, append_assoc, refl, ap, zero, suc, ◌==◌}
 use Rattle.std.proofs.Math.Path.{fun_ext}
 use Rattle.std.specs.Prelude.{ℕ, map, replicate, if◌then◌else◌, Option, Some, None}
 use Rattle.std.specs.List.{AllByRecursion}

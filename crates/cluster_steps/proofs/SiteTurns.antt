@@ -1,11 +1,12 @@
 -- What goes on over each small step of a site goes on over its whole turn, and what a message or a Sync makes of a site, by cases.
-use Rattle.std.proofs.Common.{◌≡◌, ◌<◌, Bool, true, false, List, [], ◌∷◌, ◌++◌, refl, sym, subst, ap, ◌∙◌, ◌⊎◌, inl, inr, ◌==◌, arith}
+use Rattle.std.proofs.Common.{◌≡◌, ◌<◌, Bool, true, false, List, [], ◌∷◌, ◌++◌, refl, sym, subst, ap, ◌∙◌, ◌==◌, arith}
 use Rattle.std.proofs.lemmas.Bool.{and_parts, eqb-true}
 use Rattle.std.proofs.lemmas.Bool.Decides.{nat_tests}
 use Rattle.std.specs.Prelude.{ℕ, ◌&&◌, not, max, find, take, length, nat_lt, nat_le, if◌then◌else◌, Option, Some, None, is_none}
 use Rattle.std.specs.List.{AllByRecursion, list_any}
 use Rattle.volt_base.specs.declared.entry.Entry.{Entry}
 use Rattle.volt_base.specs.declared.entry.Entry.TheVariants.{Frag, Done}
+use Rattle.volt_wire.specs.Stream.{StreamHead}
 use Rattle.volt_wire.specs.Word.{Membership}
 use Rattle.volt_wire.specs.declared.actor.Actor.{Actor}
 use Rattle.volt_wire.specs.declared.actor.Actor.TheVariants.{Director, Client, Agent, Site, Scanner}
@@ -18,14 +19,14 @@ use Rattle.cluster_model.specs.Log.{nothing_open}
 use Rattle.cluster_model.specs.Words.{Deployment, part_of_slot, host_of_slot, is_slot_of, is_member}
 use Rattle.cluster_model.specs.Letters.{Blocks, same, Letter, Sends, Waiting, Turn, becomes, sending, ◌▸◌, open_letter, only, arrival, Arrival, Taken, Refused, Waits, of_term, above_term}
 use Rattle.cluster_model.specs.AgentState.{stops_others}
-use Rattle.cluster_model.specs.SiteState.{SiteState, Streamed, Joining, Joiner, Ask, emptied, new_joining, new_joiner, stopped_site, is_joiner, leads, leader_in, site_term}
-use Rattle.cluster_model.specs.Site.{holds_for, initiator_in, in_new_term, asks_to_join, as_member, on_view, is_lost_in, can_take, takes_first_ask, takes_asks, settles, ordered, site_handler, takes_each, takes_waiting, on_start, on_stop, site_runs, site_takes}
-use Rattle.cluster_model.specs.Sync.{written, joiner_written, after_sync, syncs, parts_of_sync, parts_of_message, start_after, stops_so, site_turn, sync_turn}
+use Rattle.cluster_model.specs.SiteState.{SiteState, Streamed, Joining, Ask, emptied, new_joining, new_joiner, stopped_site, is_joiner, leads, leader_in, site_term}
+use Rattle.cluster_model.specs.Site.{holds_for, initiator_in, may_stream, on_stream_start, in_new_term, asks_to_join, on_view, is_lost_in, can_take, takes_first_ask, takes_asks, settles, ordered, site_handler, takes_each, takes_waiting, on_start, on_stop, site_runs, site_takes}
+use Rattle.cluster_model.specs.Sync.{written, joiner_written, syncs, parts_of_sync, parts_of_message, start_after, stops_so, site_turn, sync_turn}
 use Rattle.cluster_steps.specs.Lists.{In}
-use Rattle.cluster_steps.proofs.Lists.{all-at, all-filter, all-from, all-if, all-mono, all-one, in-filter, same-some}
+use Rattle.cluster_steps.proofs.Lists.{all-append, all-at, all-from, all-if, all-mono, all-one, in-filter, same-some}
 use Rattle.cluster_steps.proofs.Frames.{Inert, InertSends, holds_for-cases}
-use Rattle.cluster_steps.proofs.Steps.{KnownOf, LetsGo, Settles, Steps, with_entry}
-use Rattle.cluster_steps.proofs.SiteWalk.{after_sync-walk, as_member-walk, asks_to_join-inert, handler-walk, settled, settled-walk}
+use Rattle.cluster_steps.proofs.Steps.{KnownOf, LetsGo, Moves, Settles, Steps, Tells, with_entry, with_stream}
+use Rattle.cluster_steps.proofs.SiteWalk.{as_member-walk, asks_to_join-inert, handler-walk, settled, settled-walk}
 
 -- ---- a joiner that asked is taken
 
@@ -88,28 +89,18 @@ KnownAt K s = AllByRecursion (KnownOf K (site_term s)) s.waiting
 abbrev pub TakesAsks : Database → Deployment → ℕ → (SiteState → Turn SiteState → Type 0) → Type 0
 TakesAsks E D i R = (s : SiteState) → R s (takes_asks E D i s)
 
--- R doesn't go by the order in which a turn sends.
-abbrev pub AnyOrder : (SiteState → Turn SiteState → Type 0) → Type 0
-AnyOrder R = (s : SiteState) (t : Turn SiteState) → R s t → R s (ordered t)
-
 -- what is so of each of those of a term, if it is of that
 all-of-term : (Q : Waiting → Type 0) (term : ℕ) (ws : List Waiting) → AllByRecursion (λ x. x.letter.term ≡ term → Q x) ws → AllByRecursion Q (of_term term ws)
 all-of-term Q term ws h = all-from Q (of_term term ws) (λ x k.
     let r = in-filter (λ w. w.letter.term == term) x ws k in all-at (λ x. x.letter.term ≡ term → Q x) ws h x r.0 (eqb-true x.letter.term term r.1))
 
-module _ (E : Database) (D : Deployment) (i : ℕ) (R : SiteState → Turn SiteState → Type 0) (W : Settles E D i R) (asks : TakesAsks E D i R) where
+module _ (E : Database) (D : Deployment) (i : ℕ) (R : SiteState → Turn SiteState → Type 0) (M : Moves R) (told : Tells E D i R) (asks : TakesAsks E D i R) where
   pub settles-walk : (s : SiteState) → R s (settles E D i s)
-  settles-walk s = let t = settled E D i s in W.next s t (takes_asks E D i) (settled-walk E D i R W s) (asks t.state)
-
-  -- that of a Sync, behind what is written
-  pub syncs-walk : AnyOrder R → (s : SiteState) → R s (ordered (after_sync D i s s.joining ▸ settles E D i))
-  syncs-walk order s =
-      let t = after_sync D i s s.joining in
-      order s (t ▸ settles E D i) (W.next s t (settles E D i) (after_sync-walk E D i R W s) (settles-walk t.state))
+  settles-walk s = let t = settled E D i s in M.next s t (takes_asks E D i) (settled-walk E D i R M told s) (asks t.state)
 
 module _ (E : Database) (D : Deployment) (stamp i : ℕ) (K : SiteState → Actor → Letter → Type 0) (R : SiteState → Turn SiteState → Type 0) (W : Steps E D stamp i K R) where
-  abbrev S : Settles E D i R
-  S = W.settles
+  abbrev S : Moves R
+  S = W.settles.moves
 
   -- a word, from the site on that has it
   pub joins-walk : (s : SiteState) (w : Membership) → stays_joiner D i s w ≡ true → R (as_joiner s w) (on_view E D i stamp s w)
@@ -127,7 +118,7 @@ module _ (E : Database) (D : Deployment) (stamp i : ℕ) (K : SiteState → Acto
       S.next s t (takes_each E D stamp i ws) (handler-walk E D stamp i K R W s w.from w.letter (k.0 s)) (takes_each-walk ws t.state k.1)
 
   module _ (lets : LetsGo R) where
-    takes_waiting-walk : (s : SiteState) → KnownAt K s → R s (takes_waiting E D stamp i s)
+    pub takes_waiting-walk : (s : SiteState) → KnownAt K s → R s (takes_waiting E D stamp i s)
     takes_waiting-walk s known =
         let term = site_term s in
         let u = record s { waiting = above_term term s.waiting } in
@@ -135,16 +126,16 @@ module _ (E : Database) (D : Deployment) (stamp i : ℕ) (K : SiteState → Acto
         (takes_each-walk (of_term term s.waiting) u (all-of-term (λ x. (m : SiteState) → K m x.from x.letter) term s.waiting known))
 
     -- from a state on, from which the handler goes on
-    pub worked-walk : (b : SiteState) (t : Turn SiteState) → R b t → KnownAt K t.state → R b (worked E D stamp i t)
-    worked-walk b t handler known =
-        let u = t ▸ takes_waiting E D stamp i in
-        S.next b u (settled E D i) (S.next b t (takes_waiting E D stamp i) handler (takes_waiting-walk t.state known)) (settled-walk E D i R S u.state)
+    pub taken-walk : (b : SiteState) (t : Turn SiteState) → R b t → KnownAt K t.state → R b (t ▸ takes_waiting E D stamp i)
+    taken-walk b t handler known = S.next b t (takes_waiting E D stamp i) handler (takes_waiting-walk t.state known)
 
-    pub turn-walk : TakesAsks E D i R → AnyOrder R → (b : SiteState) (t : Turn SiteState) → R b t → KnownAt K t.state → R b (whole E D stamp i t)
-    turn-walk asks order b t handler known =
-        let u = t ▸ takes_waiting E D stamp i in
-        order b (u ▸ settles E D i) (S.next b u (settles E D i) (S.next b t (takes_waiting E D stamp i) handler (takes_waiting-walk t.state known))
-        (settles-walk E D i R S asks u.state))
+    pub worked-walk : Tells E D i R → (b : SiteState) (t : Turn SiteState) → R b t → KnownAt K t.state → R b (worked E D stamp i t)
+    worked-walk told b t handler known =
+        let u = t ▸ takes_waiting E D stamp i in S.next b u (settled E D i) (taken-walk b t handler known) (settled-walk E D i R S told u.state)
+
+    pub turn-walk : Tells E D i R → TakesAsks E D i R → (b : SiteState) (t : Turn SiteState) → R b t → KnownAt K t.state → R b (t ▸ takes_waiting E D stamp i ▸ settles E D i)
+    turn-walk told asks b t handler known =
+        let u = t ▸ takes_waiting E D stamp i in S.next b u (settles E D i) (taken-walk b t handler known) (settles-walk E D i R S told asks u.state)
 
 -- ---- what a turn leaves of the word and of what waits
 
@@ -165,16 +156,17 @@ keeps-same : (s : SiteState) (t : Turn SiteState) → t.state.start ≡ s.start 
 keeps-same s t start view waiting = record { start = start; view = view; waits = λ x k. subst (In x) waiting k }
 
 module _ (E : Database) (D : Deployment) (i : ℕ) where
-  keeps-settles : Settles E D i Keeps
+  keeps-settles : Settles D i Keeps
   keeps-settles = record {
-    first = λ s. keeps-same s (becomes s) refl refl refl;
-    next = λ s t f h k. record { start = k.start ∙ h.start; view = k.view ∙ h.view; waits = λ x m. h.waits x (k.waits x m) };
-    rest = λ s u. keeps-same s _ refl refl refl;
-    says = λ s out inert. keeps-same s _ refl refl refl;
+    moves = record {
+      first = λ s. keeps-same s (becomes s) refl refl refl;
+      next = λ s t f h k. record { start = k.start ∙ h.start; view = k.view ∙ h.view; waits = λ x m. h.waits x (k.waits x m) };
+      rest = λ s u. keeps-same s _ refl refl refl;
+      says = λ s out inert. keeps-same s _ refl refl refl;
+      joiners = λ s f same. keeps-same s _ refl refl refl;
+    };
     joins = λ s j k log is stream based more. keeps-same s _ refl refl refl;
     counted = λ s authoritative acks joiners same. keeps-same s _ refl refl refl;
-    joiners = λ s f same. keeps-same s _ refl refl refl;
-    told = λ s may first. keeps-same s _ refl refl refl;
   }
 
   keeps-entry : (s : SiteState) (o : Option (ℕ × ℕ)) (m : Msg Blocks) (e : Entry) → Keeps s (becomes (with_entry (holds_for s o m) e))
@@ -204,7 +196,7 @@ module _ (E : Database) (D : Deployment) (i : ℕ) where
   pub worked-keeps : (stamp : ℕ) (t : Turn SiteState) → AllByRecursion (λ x. NoWord x.from x.letter) t.state.waiting → Keeps t.state (worked E D stamp i t)
   worked-keeps stamp t quiet =
       let s = t.state in
-      let k = worked-walk E D stamp i (λ s from l. NoWord from l) Keeps (keeps-steps stamp) lets s (becomes s) (keeps-same s (becomes s) refl refl refl) (known quiet) in
+      let k = worked-walk E D stamp i (λ s from l. NoWord from l) Keeps (keeps-steps stamp) lets (λ s may first. keeps-same s _ refl refl refl) s (becomes s) (keeps-same s (becomes s) refl refl refl) (known quiet) in
       record { start = k.start; view = k.view; waits = k.waits }
     where
       lets : LetsGo Keeps
@@ -223,6 +215,106 @@ module _ (E : Database) (D : Deployment) (i : ℕ) where
   view-keeps : (stamp : ℕ) (s : SiteState) (w : Membership) (c : Bool) → stays_joiner D i s w ≡ c → Keeps (if c then as_joiner s w else as_entered s w) (on_view E D i stamp s w)
   view-keeps stamp s w true e = joins-walk E D stamp i (λ s from l. NoWord from l) Keeps (keeps-steps stamp) s w e
   view-keeps stamp s w false e = enters-walk E D stamp i (λ s from l. NoWord from l) Keeps (keeps-steps stamp) s w e
+
+-- What waits behind a handler waited before, and so does what waits behind a turn that takes a message.
+pub handler-waits : (E : Database) (D : Deployment) (stamp i : ℕ) (s : SiteState) (from : Actor) (l : Letter) (x : Waiting)
+    → In x (site_handler E D stamp i s from l).state.waiting → In x s.waiting
+handler-waits E D stamp i s from l = go from l
+  where
+    view : (w : Membership) (c : Bool) → stays_joiner D i s w ≡ c → (x : Waiting) → In x (on_view E D i stamp s w).state.waiting → In x s.waiting
+    view w true e = (view-keeps E D i stamp s w true e).waits
+    view w false e = (view-keeps E D i stamp s w false e).waits
+
+    go : (from : Actor) (l : Letter) (x : Waiting) → In x (site_handler E D stamp i s from l).state.waiting → In x s.waiting
+    go (Agent h) l = elim l.body as (λ m. (x : Waiting) → In x (site_handler E D stamp i s (Agent h) (record l { body = m })).state.waiting → In x s.waiting) [
+      | msg.View w ↦ view w (stays_joiner D i s w) refl
+      | m ↦ (handler-keeps E D i stamp s (Agent h) (record l { body = m }) tt).waits
+    ]
+    go (Site slot) l = (handler-keeps E D i stamp s (Site slot) l tt).waits
+    go (Scanner x) l = (handler-keeps E D i stamp s (Scanner x) l tt).waits
+    go Director l = (handler-keeps E D i stamp s Director l tt).waits
+    go (Client n) l = (handler-keeps E D i stamp s (Client n) l tt).waits
+
+pub taken-waits : (E : Database) (D : Deployment) (stamp i : ℕ) (s : SiteState) (from : Actor) (l : Letter) → AllByRecursion (λ x. NoWord x.from x.letter) s.waiting
+    → (x : Waiting) → In x (whole E D stamp i (site_handler E D stamp i s from l)).state.waiting → In x s.waiting
+taken-waits E D stamp i s from l quiet x m =
+    let t = site_handler E D stamp i s from l in
+    let h = handler-waits E D stamp i s from l in
+    h x ((whole-keeps E D i stamp t (all-from (λ x. NoWord x.from x.letter) t.state.waiting (λ x k. all-at (λ x. NoWord x.from x.letter) s.waiting quiet x (h x k)))).waits x m)
+
+-- ---- from which state the handler of a message goes on
+
+-- neither a word, nor a stream
+abbrev pub Plain : Actor → Letter → Type 0
+Plain (Site slot) l = elim l.body as (λ _. Type 0) [
+  | msg.StreamStart head ↦ ⊥
+  | _ ↦ Unit {0}
+]
+Plain (Agent h) l = elim l.body as (λ _. Type 0) [
+  | msg.View w ↦ ⊥
+  | _ ↦ Unit {0}
+]
+Plain from l = Unit {0}
+
+abbrev pub PlainWaiting : Waiting → Type 0
+PlainWaiting x = Plain x.from x.letter
+
+pub plain-word : (x : Waiting) → PlainWaiting x → NoWord x.from x.letter
+plain-word x = go x.from x.letter
+  where
+    go : (from : Actor) (l : Letter) → Plain from l → NoWord from l
+    go (Agent h) l k = k
+    go (Site slot) l k = tt
+    go (Scanner x) l k = tt
+    go Director l k = tt
+    go (Client n) l k = tt
+
+-- what waits, behind the handler of a message
+pub handler-known : (E : Database) (D : Deployment) (stamp i : ℕ) (s : SiteState) (from : Actor) (l : Letter) → AllByRecursion PlainWaiting s.waiting
+    → KnownAt (λ _ from l. Plain from l) (site_handler E D stamp i s from l).state
+handler-known E D stamp i s from l plain = all-from (KnownOf (λ _ from l. Plain from l) (site_term (site_handler E D stamp i s from l).state)) _
+    (λ x m _ _. all-at PlainWaiting s.waiting plain x (handler-waits E D stamp i s from l x m))
+
+module _ (E : Database) (D : Deployment) (stamp i : ℕ) (R : SiteState → Turn SiteState → Type 0) (W : Steps E D stamp i (λ _ from l. Plain from l) R) (s : SiteState)
+    (P : SiteState → Type 0) (itself : P s) (streams : (j : Joining) (l : Letter) (head : StreamHead) → s.joining ≡ Some j → may_stream s j l ≡ true → P (with_stream s j l head))
+    (words : (w : Membership) (joining : Option Joining) → P (record (in_new_term s w) { joining = joining })) where
+  -- From the site itself, or with the stream or word that it takes.
+  abbrev From : Turn SiteState → Type 0
+  From t = (b : SiteState) × P b × R b t
+
+  from-stream : (slot : ℕ) (l : Letter) (head : StreamHead) → From (becomes (on_stream_start s s.joining l head))
+  from-stream slot l head = go s.joining refl
+    where
+      may : (j : Joining) → s.joining ≡ Some j → (c : Bool) → may_stream s j l ≡ c → From (becomes (if c then with_stream s j l head else s))
+      may j e true m = let b = with_stream s j l head in (b, streams j l head e m, W.settles.moves.first b)
+      may j e false m = (s, itself, W.settles.moves.first s)
+
+      go : (o : Option Joining) → s.joining ≡ o → From (becomes (on_stream_start s o l head))
+      go None e = (s, itself, W.settles.moves.first s)
+      go (Some j) e = may j e (may_stream s j l) refl
+
+  from-word : (w : Membership) → From (on_view E D i stamp s w)
+  from-word w = go (stays_joiner D i s w) refl
+    where
+      go : (c : Bool) → stays_joiner D i s w ≡ c → From (on_view E D i stamp s w)
+      go true e = (as_joiner s w, words w s.joining, joins-walk E D stamp i (λ _ from l. Plain from l) R W s w e)
+      go false e = (as_entered s w, words w None, enters-walk E D stamp i (λ _ from l. Plain from l) R W s w e)
+
+  from-plain : (from : Actor) (l : Letter) → Plain from l → From (site_handler E D stamp i s from l)
+  from-plain from l k = (s, itself, handler-walk E D stamp i (λ _ from l. Plain from l) R W s from l k)
+
+  pub handler-from : (from : Actor) (l : Letter) → From (site_handler E D stamp i s from l)
+  handler-from (Agent h) l = elim l.body as (λ m. From (site_handler E D stamp i s (Agent h) (record l { body = m }))) [
+    | msg.View w ↦ from-word w
+    | m ↦ from-plain (Agent h) (record l { body = m }) tt
+  ]
+  handler-from (Site slot) l = elim l.body as (λ m. From (site_handler E D stamp i s (Site slot) (record l { body = m }))) [
+    | msg.StreamStart head ↦ from-stream slot (record l { body = msg.StreamStart head }) head
+    | m ↦ from-plain (Site slot) (record l { body = m }) tt
+  ]
+  handler-from (Scanner x) l = from-plain (Scanner x) l tt
+  handler-from Director l = from-plain Director l tt
+  handler-from (Client n) l = from-plain (Client n) l tt
 
 -- ---- what a message makes of a site, by cases
 
@@ -363,3 +455,15 @@ wrote s = go s.joining refl
     go : (o : Option Joining) → s.joining ≡ o → Wrote s (record (written s o) { contents = shown })
     go None e = same _ refl refl refl refl refl refl refl refl (λ none. none)
     go (Some j) e = streams j e j.stream
+
+-- ---- what waits behind a turn
+
+module _ (E : Database) (D : Deployment) (stamp i : ℕ) (s : SiteState) (from : Actor) (l : Letter) (o : Environment) (P : Waiting → Type 0) where
+  -- What is so of each message that waits is so behind a turn, if it is so of one that comes to wait.
+  pub turn-waits : (0 < s.start → AllByRecursion (λ x. NoWord x.from x.letter) s.waiting) → (0 < s.start → AllByRecursion P s.waiting)
+      → (0 < s.start → arrival s.start (site_term s) l ≡ Waits → P (record { from = from; letter = l }))
+      → 0 < (site_turn E D stamp i s from l o).state.start → AllByRecursion P (site_turn E D stamp i s from l o).state.waiting
+  turn-waits quiet all new = turn-cases E D stamp i s from (λ t. 0 < t.state.start → AllByRecursion P t.state.waiting) (λ start stop joining contents out inert up. tt) l o
+      (λ stop plans aside. all)
+      (λ up waits _. all-append P s.waiting (record { from = from; letter = l } ∷ []) (all up) (new up waits, tt))
+      (λ up takes _. let k = taken-waits E D stamp i s from l (quiet up) in all-from P _ (λ x m. all-at P s.waiting (all up) x (k x m)))

@@ -13,15 +13,15 @@ use Rattle.volt_wire.specs.declared.message.Msg.TheVariants as msg
 use Rattle.cluster_model.specs.Engine.{Database}
 use Rattle.cluster_model.specs.Log.{is_snapshot, answer_behind, nothing_open, open_behind}
 use Rattle.cluster_model.specs.Words.{Deployment, part_of_slot, host_of_slot, is_in}
-use Rattle.cluster_model.specs.Letters.{same, Letter, Sends, Turn, becomes, sending, ◌▸◌, letter_to, letter_in, only}
-use Rattle.cluster_model.specs.SiteState.{SiteState, Joining, Joiner, Reported, AskedCall, Scanning, ForJoiner, ForBase, is_joiner, is_leader, leads, leader_in, start_in_view, other_copies, site_term}
-use Rattle.cluster_model.specs.Site.{begins_base, appends, appends_all, put_to, tasks_to, passes_on, leads_with, holds, runs_call, runs_calls, works_calls, on_sp_call, holds_for, initiator_in, on_frag, on_done, firm_now, floor_now, counts, with_position, noted, on_ack, repair_to, is_repaired, longest, lacks, repairs, on_report, reports_to, asks_to_join, as_member, on_put, on_repair, on_join_ask, is_sent, without_count, stream_ends_to, ends_streams, with_count, on_scan_end, may_finish, may_stream, on_stream_start, finishes_load, on_chunk, on_stream_end, on_task, is_first_term, has_all_on_disk, tells, tells_initiator, looked, shows, on_look, from_agent, from_site, from_scanner, from_director, site_handler}
+use Rattle.cluster_model.specs.Letters.{same, Letter, Sends, Turn, becomes, sending, ◌▸◌, only}
+use Rattle.cluster_model.specs.SiteState.{SiteState, Joining, Joiner, Reported, AskedCall, Scanning, ForJoiner, ForBase, is_joiner, is_leader, leads, leader_in, other_copies, site_term}
+use Rattle.cluster_model.specs.Site.{begins_base, appends, appends_all, put_to, tasks_to, passes_on, leads_with, holds, runs_call, runs_calls, works_calls, on_sp_call, holds_for, initiator_in, on_frag, on_done, counts, noted, on_ack, repair_to, is_repaired, longest, lacks, repairs, on_report, reports_to, asks_to_join, as_member, on_put, on_repair, on_join_ask, is_sent, without_count, ends_streams, with_count, on_scan_end, may_finish, may_stream, on_stream_start, finishes_load, on_chunk, on_stream_end, on_task, is_first_term, has_all_on_disk, tells, tells_initiator, looked, shows, from_agent, from_site, from_scanner, from_director, site_handler}
 use Rattle.cluster_model.specs.Sync.{acknowledges, says_loaded, after_sync}
 use Rattle.cluster_steps.proofs.Lists.{all-append, all-if, all-map, all-one}
 use Rattle.cluster_steps.proofs.Prefixes.{prefix-append, prefix-refl}
-use Rattle.cluster_steps.proofs.Frames.{Inert, InertSends, SameJoiner, SameJoiners, all-replicate, counted-joiner, positioned, turn-assoc, uncounted-joiner, with_rest}
+use Rattle.cluster_steps.proofs.Frames.{Inert, InertSends, SameJoiners, all-replicate, counted-joiner, positioned, turn-assoc, uncounted-joiner, with_rest}
 use Rattle.cluster_steps.proofs.Appends.{Appended, appends-all, grown}
-use Rattle.cluster_steps.proofs.Steps.{MayTell, Settles, Steps, reply_to, with_acks, with_entry, with_repair, with_reported, with_stream}
+use Rattle.cluster_steps.proofs.Steps.{MayTell, Moves, Settles, Steps, Tells, reply_to, with_acks, with_entry, with_reported, with_stream}
 
 -- ---- calls and tests
 
@@ -78,7 +78,7 @@ ends_streams-inert s (Scanner x) = tt
 abbrev pub settled : Database → Deployment → ℕ → SiteState → Turn SiteState
 settled E D i s = tells E D i s ▸ ends_streams ▸ shows E D i
 
-module _ (E : Database) (D : Deployment) (i : ℕ) (R : SiteState → Turn SiteState → Type 0) (W : Settles E D i R) where
+module _ (R : SiteState → Turn SiteState → Type 0) (W : Moves R) where
   -- the one turn or the other
   pub walk-if : (s : SiteState) (c : Bool) (x y : Turn SiteState) → (c ≡ true → R s x) → (c ≡ false → R s y) → R s (if c then x else y)
   walk-if s true x y p q = p refl
@@ -96,31 +96,22 @@ module _ (E : Database) (D : Deployment) (i : ℕ) (R : SiteState → Turn SiteS
   rest-says : (s u : SiteState) (out : Sends) → InertSends out → R s (sending (with_rest s u) out)
   rest-says s u out inert = walk-behind s (with_rest s u) (sending (with_rest s u) out) (W.rest s u) (W.says (with_rest s u) out inert)
 
-  pub counts-walk : (s : SiteState) (acks : List (ℕ × ℕ)) (joiners : List Joiner) → SameJoiners joiners s.joiners → leads D i s ≡ true → R s (counts D i (with_acks s acks joiners))
-  counts-walk s acks joiners same authoritative = rw authoritative (W.counted s authoritative acks joiners same)
-
-  counts-own : (s : SiteState) → R s (counts D i s)
-  counts-own s = choice (leads D i s) refl
-    where
-      choice : (b : Bool) → leads D i s ≡ b → R s (counts D i s)
-      choice true e = counts-walk s s.acks s.joiners (record { slots = refl; begins = refl }) e
-      choice false e = rw e (W.first s)
-
-  tells-walk : (s : SiteState) → R s (tells E D i s)
-  tells-walk s = walk-if s (leads D i s && not s.has_told && not (is_first_term s.view) && has_all_on_disk D i s) (tells_initiator E D i s (initiator_in s.view)) (becomes s)
+module _ (E : Database) (D : Deployment) (i : ℕ) (R : SiteState → Turn SiteState → Type 0) (W : Moves R) where
+  tells-walk : Tells E D i R → (s : SiteState) → R s (tells E D i s)
+  tells-walk told s = walk-if R W s (leads D i s && not s.has_told && not (is_first_term s.view) && has_all_on_disk D i s) (tells_initiator E D i s (initiator_in s.view)) (becomes s)
       (λ e. to (may-tell D i s e) (initiator_in s.view)) (λ _. W.first s)
     where
       to : MayTell D i s → (o : Option (ℕ × ℕ)) → R s (tells_initiator E D i s o)
       to may None = W.first s
-      to may (Some first) = W.told s may first
+      to may (Some first) = told s may first
 
   ends_streams-walk : (s : SiteState) → R s (ends_streams s)
   ends_streams-walk s =
       let u = (ends_streams s).state in
-      walk-behind s u (ends_streams s) (W.joiners s (without_count s) (uncounted-joiner s)) (W.says u (ends_streams s).sends (ends_streams-inert s))
+      walk-behind R W s u (ends_streams s) (W.joiners s (without_count s) (uncounted-joiner s)) (W.says u (ends_streams s).sends (ends_streams-inert s))
 
   shows-walk : (s : SiteState) → R s (shows E D i s)
-  shows-walk s = walk-if s (nat_lt 0 s.looks && nothing_open s.log) _ (becomes s) (λ _. rest-says s (record s { looks = 0 }) _ shown) (λ _. W.first s)
+  shows-walk s = walk-if R W s (nat_lt 0 s.looks && nothing_open s.log) _ (becomes s) (λ _. rest-says R W s (record s { looks = 0 }) _ shown) (λ _. W.first s)
     where
       shown : InertSends (λ b. elim b as (λ _. List Letter) [
         | Director ↦ replicate s.looks (looked E D i s)
@@ -132,18 +123,34 @@ module _ (E : Database) (D : Deployment) (i : ℕ) (R : SiteState → Turn SiteS
       shown (Site c) = tt
       shown (Scanner x) = tt
 
-  pub settled-walk : (s : SiteState) → R s (settled E D i s)
-  settled-walk s =
+  pub settled-walk : Tells E D i R → (s : SiteState) → R s (settled E D i s)
+  settled-walk told s =
       let t = tells E D i s in let u = t ▸ ends_streams in
-      W.next s u (shows E D i) (W.next s t ends_streams (tells-walk s) (ends_streams-walk t.state)) (shows-walk u.state)
+      W.next s u (shows E D i) (W.next s t ends_streams (tells-walk told s) (ends_streams-walk t.state)) (shows-walk u.state)
+
+-- ---- behind a Sync
+
+module _ (D : Deployment) (i : ℕ) (R : SiteState → Turn SiteState → Type 0) (W : Settles D i R) where
+  abbrev M : Moves R
+  M = W.moves
+
+  pub counts-walk : (s : SiteState) (acks : List (ℕ × ℕ)) (joiners : List Joiner) → SameJoiners joiners s.joiners → leads D i s ≡ true → R s (counts D i (with_acks s acks joiners))
+  counts-walk s acks joiners same authoritative = rw authoritative (W.counted s authoritative acks joiners same)
+
+  counts-own : (s : SiteState) → R s (counts D i s)
+  counts-own s = choice (leads D i s) refl
+    where
+      choice : (b : Bool) → leads D i s ≡ b → R s (counts D i s)
+      choice true e = counts-walk s s.acks s.joiners (record { slots = refl; begins = refl }) e
+      choice false e = rw e (M.first s)
 
   acknowledges-walk : (s : SiteState) (to : Option ℕ) → R s (acknowledges D i s to)
-  acknowledges-walk s None = W.first s
-  acknowledges-walk s (Some slot) = W.says s _ (only-inert (Site slot) _ tt)
+  acknowledges-walk s None = M.first s
+  acknowledges-walk s (Some slot) = M.says s _ (only-inert (Site slot) _ tt)
 
   says_loaded-walk : (s : SiteState) (j : Joining) → s.joining ≡ Some j → R s (says_loaded D i s j)
-  says_loaded-walk s j e = walk-if s j.has_told (becomes s) _ (λ _. W.first s)
-      (λ _. walk-behind s u _ (W.joins s j (record j { has_told = true }) s.log e refl refl (prefix-refl s.log)) (W.says u _ (only-inert (Agent (host_of_slot D i)) _ tt)))
+  says_loaded-walk s j e = walk-if R M s j.has_told (becomes s) _ (λ _. M.first s)
+      (λ _. walk-behind R M s u _ (W.joins s j (record j { has_told = true }) s.log e refl refl (prefix-refl s.log)) (M.says u _ (only-inert (Agent (host_of_slot D i)) _ tt)))
     where
       u : SiteState
       u = record s { joining = Some (record j { has_told = true }) }
@@ -159,18 +166,18 @@ module _ (E : Database) (D : Deployment) (i : ℕ) (R : SiteState → Turn SiteS
       state (Some slot) = refl
 
       go : (o : Option Joining) → s.joining ≡ o → R s (after_sync D i s o)
-      go None e = walk-if s (is_leader D i s) (counts D i s) _ (λ _. counts-own s)
-          (λ _. walk-if s (s.mark == site_term s) (acknowledges D i s to) (becomes s) (λ _. acknowledges-walk s to) (λ _. W.first s))
-      go (Some j) e = walk-if s j.is_based (acknowledges D i s to ▸ (λ b. says_loaded D i b j)) (becomes s)
-          (λ _. W.next s (acknowledges D i s to) (λ b. says_loaded D i b j) (acknowledges-walk s to)
+      go None e = walk-if R M s (is_leader D i s) (counts D i s) _ (λ _. counts-own s)
+          (λ _. walk-if R M s (s.mark == site_term s) (acknowledges D i s to) (becomes s) (λ _. acknowledges-walk s to) (λ _. M.first s))
+      go (Some j) e = walk-if R M s j.is_based (acknowledges D i s to ▸ (λ b. says_loaded D i b j)) (becomes s)
+          (λ _. M.next s (acknowledges D i s to) (λ b. says_loaded D i b j) (acknowledges-walk s to)
           (subst (λ b. R b (says_loaded D i b j)) (sym (state to)) (says_loaded-walk s j e)))
-          (λ _. W.first s)
+          (λ _. M.first s)
 
 -- ---- that of a handler
 
 module _ (E : Database) (D : Deployment) (stamp i : ℕ) (K : SiteState → Actor → Letter → Type 0) (R : SiteState → Turn SiteState → Type 0) (W : Steps E D stamp i K R) where
-  abbrev S : Settles E D i R
-  S = W.settles
+  abbrev S : Moves R
+  S = W.settles.moves
 
   -- ---- entries
 
@@ -178,9 +185,9 @@ module _ (E : Database) (D : Deployment) (stamp i : ℕ) (K : SiteState → Acto
   appends-walk : (s h : SiteState) (e : Entry) → R s (becomes (with_entry h e)) → R s (appends E D i e h)
   appends-walk s h e k =
       let b = with_entry h e in
-      walk-behind E D i R S s b (appends E D i e h) k
-      (walk-if E D i R S b (is_snapshot e && is_none b.scanning && not (is_joiner b)) (begins_base E D i b) (becomes b)
-      (λ _. rest-says E D i R S b (begins_base E D i b).state (begins_base E D i b).sends (only-inert (Scanner i) _ tt)) (λ _. S.first b))
+      walk-behind R S s b (appends E D i e h) k
+      (walk-if R S b (is_snapshot e && is_none b.scanning && not (is_joiner b)) (begins_base E D i b) (becomes b)
+      (λ _. rest-says R S b (begins_base E D i b).state (begins_base E D i b).sends (only-inert (Scanner i) _ tt)) (λ _. S.first b))
 
   -- So is each of these, to m but for its log.
   appends_all-walk : (s h : SiteState) (es : List Entry) → R s (becomes (record h { log = h.log ++ es })) → R s (appends_all E D i es h)
@@ -188,8 +195,8 @@ module _ (E : Database) (D : Deployment) (stamp i : ℕ) (K : SiteState → Acto
       let all = appends-all E D i es h in
       let m = record h { log = h.log ++ es } in
       let t = appends_all E D i es h in
-      walk-behind E D i R S s m t k
-      (subst (λ x. R m (sending x t.sends)) (sym all.state) (rest-says E D i R S m (grown h es all.scans all.scanning) t.sends all.plain))
+      walk-behind R S s m t k
+      (subst (λ x. R m (sending x t.sends)) (sym all.state) (rest-says R S m (grown h es all.scans all.scanning) t.sends all.plain))
 
   -- and passed on
   pub leads_with-walk : (s h : SiteState) (e : Entry) → R s (becomes (with_entry h e)) → R s (leads_with E D i e h)
@@ -210,14 +217,14 @@ module _ (E : Database) (D : Deployment) (stamp i : ℕ) (K : SiteState → Acto
   pub works_calls-walk : (s : SiteState) → R s (works_calls E D i stamp s)
   works_calls-walk s =
       let b = record s { calls = [] } in
-      walk-if E D i R S s (leads D i s && nothing_open s.log) (runs_calls E D i stamp s.calls b) (becomes s)
+      walk-if R S s (leads D i s && nothing_open s.log) (runs_calls E D i stamp s.calls b) (becomes s)
       (λ e. let p = and_parts (leads D i s) (nothing_open s.log) e in
-      walk-behind E D i R S s b (runs_calls E D i stamp s.calls b) (S.rest s b) (runs_calls-walk s.calls b p.0 p.1)) (λ _. S.first s)
+      walk-behind R S s b (runs_calls E D i stamp s.calls b) (S.rest s b) (runs_calls-walk s.calls b p.0 p.1)) (λ _. S.first s)
 
   on_sp_call-walk : (s : SiteState) (host call start : ℕ) (body : List ℕ) → R s (on_sp_call E D i stamp s host call start body)
   on_sp_call-walk s host call start body =
       let b = record s { calls = s.calls ++ record { call = call; host = host; start = start; body = body } ∷ [] } in
-      walk-behind E D i R S s b (works_calls E D i stamp b) (S.rest s b) (works_calls-walk b)
+      walk-behind R S s b (works_calls E D i stamp b) (S.rest s b) (works_calls-walk b)
 
   -- ---- rounds and ends, which a leader appends
 
@@ -225,25 +232,25 @@ module _ (E : Database) (D : Deployment) (stamp i : ℕ) (K : SiteState → Acto
   on_frag-walk s h l m round body k =
       let e = Frag m round body in
       let b = holds_for s (initiator_in s.view) (msg.FragDone m round (answer_behind E (part_of_slot D i) s.log e)) in
-      walk-if E D i R S s (leads D i s) (leads_with E D i e b) (becomes s) (λ q. leads_with-walk s b e (W.round s h l m round body k q)) (λ _. S.first s)
+      walk-if R S s (leads D i s) (leads_with E D i e b) (becomes s) (λ q. leads_with-walk s b e (W.round s h l m round body k q)) (λ _. S.first s)
 
   on_done-walk : (s : SiteState) (h : ℕ) (l : Letter) (m : ℕ) (o : Outcome) → K s (Agent h) (record l { body = msg.Done m o }) → R s (on_done E D i stamp s m o)
   on_done-walk s h l m o k =
       let b = holds_for s (initiator_in s.view) (msg.Finished m) in
       let t = leads_with E D i (Done m o) b in
-      walk-if E D i R S s (leads D i s) (t ▸ works_calls E D i stamp) (becomes s)
+      walk-if R S s (leads D i s) (t ▸ works_calls E D i stamp) (becomes s)
       (λ q. S.next s t (works_calls E D i stamp) (leads_with-walk s b (Done m o) (W.ended s h l m o k q)) (works_calls-walk t.state)) (λ _. S.first s)
 
   -- ---- acknowledgements
 
   on_ack-walk : (s : SiteState) (slot position : ℕ) → R s (on_ack D i s slot position)
-  on_ack-walk s slot position = walk-if E D i R S s (is_leader D i s) (counts D i n) (becomes s) (λ _. choice (leads D i s) refl) (λ _. S.first s)
+  on_ack-walk s slot position = walk-if R S s (is_leader D i s) (counts D i n) (becomes s) (λ _. choice (leads D i s) refl) (λ _. S.first s)
     where
       n : SiteState
       n = noted D i s slot position
 
       choice : (b : Bool) → leads D i s ≡ b → R s (counts D i n)
-      choice true e = counts-walk E D i R S s n.acks n.joiners (positioned slot position s.joiners) e
+      choice true e = counts-walk D i R W.settles s n.acks n.joiners (positioned slot position s.joiners) e
       choice false e = rw e (W.noted s e n.acks n.joiners (positioned slot position s.joiners))
 
   -- ---- a new term
@@ -285,28 +292,28 @@ module _ (E : Database) (D : Deployment) (stamp i : ℕ) (K : SiteState → Acto
       from-grown : R s (sending (repaired g).state (out g))
       from-grown =
           let m = with_reported s in
-          walk-behind E D i R S s m (sending (repaired g).state (out g)) (W.begun s authoritative un all)
-          (rest-says E D i R S m (repaired g).state (out g) (λ b. all-append Inert (t.sends b) ((repaired g).sends b) (one.plain b) (repaired-inert g b)))
+          walk-behind R S s m (sending (repaired g).state (out g)) (W.begun s authoritative un all)
+          (rest-says R S m (repaired g).state (out g) (λ b. all-append Inert (t.sends b) ((repaired g).sends b) (one.plain b) (repaired-inert g b)))
 
       behind : R s (t ▸ repaired)
       behind = subst (λ a. R s (sending (repaired a).state (out a))) (sym one.state) from-grown
 
   repairs-walk : (s : SiteState) → is_leader D i s ≡ true → s.repaired ≡ false → R s (repairs E D i stamp s)
   repairs-walk s authoritative un =
-      walk-if E D i R S s (list_all (λ c. list_any (λ r. r.slot == c) s.reports) (other_copies D i s)) _ (becomes s) (begins-walk s authoritative un) (λ _. S.first s)
+      walk-if R S s (list_all (λ c. list_any (λ r. r.slot == c) s.reports) (other_copies D i s)) _ (becomes s) (begins-walk s authoritative un) (λ _. S.first s)
 
   on_report-walk : (s : SiteState) (slot : ℕ) (l : Letter) (position floor : ℕ) (tail : List Entry) → K s (Site slot) (record l { body = msg.Report position floor tail })
       → R s (on_report E D i stamp s slot position floor tail)
   on_report-walk s slot l position floor tail k =
       let b = record s { reports = s.reports ++ record { slot = slot; position = position; floor = floor; tail = tail } ∷ [] } in
-      walk-if E D i R S s (is_leader D i s && not s.repaired) (repairs E D i stamp b) (becomes s)
+      walk-if R S s (is_leader D i s && not s.repaired) (repairs E D i stamp b) (becomes s)
       (λ e. let p = and_parts (is_leader D i s) (not s.repaired) e in
-      walk-behind E D i R S s b (repairs E D i stamp b) (W.reported s slot l position floor tail k) (repairs-walk b p.0 (not-true s.repaired p.1))) (λ _. S.first s)
+      walk-behind R S s b (repairs E D i stamp b) (W.reported s slot l position floor tail k) (repairs-walk b p.0 (not-true s.repaired p.1))) (λ _. S.first s)
 
   pub as_member-walk : (s : SiteState) → s.repaired ≡ false → R s (as_member E D i stamp s)
   as_member-walk s un =
       let to = leader_in D s.view (part_of_slot D i) in
-      walk-if E D i R S s (is_leader D i s) (repairs E D i stamp s) (sending s (reports_to D s to)) (λ e. repairs-walk s e un)
+      walk-if R S s (is_leader D i s) (repairs E D i stamp s) (sending s (reports_to D s to)) (λ e. repairs-walk s e un)
       (λ _. S.says s (reports_to D s to) (reports_to-inert D s to))
 
   -- ---- a copy
@@ -316,7 +323,7 @@ module _ (E : Database) (D : Deployment) (stamp i : ℕ) (K : SiteState → Acto
   on_put-walk s slot l position e floor k =
       let h = record s { floor = max s.floor floor } in
       let m = with_entry s e in let u = with_entry h e in
-      appends-walk s h e (walk-behind E D i R S s m (becomes u) (W.put s slot l position e floor k) (S.rest m u))
+      appends-walk s h e (walk-behind R S s m (becomes u) (W.put s slot l position e floor k) (S.rest m u))
 
   on_repair-walk : (s : SiteState) (slot : ℕ) (l : Letter) (from : ℕ) (entries : List Entry) → K s (Site slot) (record l { body = msg.Repair from entries })
       → R s (on_repair E D i s from entries)
@@ -330,16 +337,16 @@ module _ (E : Database) (D : Deployment) (stamp i : ℕ) (K : SiteState → Acto
   on_scan_end-walk s (Some (ForJoiner own slot)) id count =
       let m = record s { joiners = map (with_count slot count) s.joiners } in
       let u = record m { scanning = None } in
-      state-if E D i R S s (own == id) u s (λ _. walk-behind E D i R S s m (becomes u) (S.joiners s (with_count slot count) (counted-joiner slot count)) (S.rest m u)) (λ _. S.first s)
+      state-if R S s (own == id) u s (λ _. walk-behind R S s m (becomes u) (S.joiners s (with_count slot count) (counted-joiner slot count)) (S.rest m u)) (λ _. S.first s)
   on_scan_end-walk s (Some (ForBase own position blocks written ended)) id count =
       let u = record s { scanning = Some (ForBase own position blocks written (Some count)) } in
-      state-if E D i R S s (own == id) u s (λ _. S.rest s u) (λ _. S.first s)
+      state-if R S s (own == id) u s (λ _. S.rest s u) (λ _. S.first s)
 
   finishes_load-walk : (s : SiteState) (j k : Joining) → s.joining ≡ Some j → k.stream ≡ j.stream → k.is_based ≡ j.is_based → R s (becomes (finishes_load s k))
   finishes_load-walk s j k is stream based =
-      state-if E D i R S s (may_finish k) (record s { joining = Some (record k { is_loaded = true; tasks = [] }); log = s.log ++ k.tasks }) (record s { joining = Some k })
-      (λ _. S.joins s j (record k { is_loaded = true; tasks = [] }) (s.log ++ k.tasks) is stream based (prefix-append s.log k.tasks))
-      (λ _. S.joins s j k s.log is stream based (prefix-refl s.log))
+      state-if R S s (may_finish k) (record s { joining = Some (record k { is_loaded = true; tasks = [] }); log = s.log ++ k.tasks }) (record s { joining = Some k })
+      (λ _. W.settles.joins s j (record k { is_loaded = true; tasks = [] }) (s.log ++ k.tasks) is stream based (prefix-append s.log k.tasks))
+      (λ _. W.settles.joins s j k s.log is stream based (prefix-refl s.log))
 
   on_chunk-walk : (s : SiteState) (o : Option Joining) (sc : Option Scanning) (id : ℕ) → s.joining ≡ o → R s (becomes (on_chunk s o sc id))
   on_chunk-walk s (Some j) sc id is = finishes_load-walk s j (record j { blocks = j.blocks + 1 }) is refl refl
@@ -347,7 +354,7 @@ module _ (E : Database) (D : Deployment) (stamp i : ℕ) (K : SiteState → Acto
   on_chunk-walk s None (Some (ForJoiner own slot)) id is = S.first s
   on_chunk-walk s None (Some (ForBase own position blocks written count)) id is =
       let u = record s { scanning = Some (ForBase own position (blocks + 1) written count) } in
-      state-if E D i R S s (own == id) u s (λ _. S.rest s u) (λ _. S.first s)
+      state-if R S s (own == id) u s (λ _. S.rest s u) (λ _. S.first s)
 
   on_stream_start-walk : (s : SiteState) (slot : ℕ) (o : Option Joining) (l : Letter) (head : StreamHead) → s.joining ≡ o → K s (Site slot) (record l { body = msg.StreamStart head })
       → R s (becomes (on_stream_start s o l head))
@@ -362,17 +369,17 @@ module _ (E : Database) (D : Deployment) (stamp i : ℕ) (K : SiteState → Acto
   on_stream_end-walk : (s : SiteState) (o : Option Joining) (count : ℕ) → s.joining ≡ o → R s (becomes (on_stream_end s o count))
   on_stream_end-walk s None count is = S.first s
   on_stream_end-walk s (Some j) count is =
-      state-if E D i R S s (is_some j.stream) (finishes_load s (record j { count = Some count })) s
+      state-if R S s (is_some j.stream) (finishes_load s (record j { count = Some count })) s
       (λ _. finishes_load-walk s j (record j { count = Some count }) is refl refl) (λ _. S.first s)
 
   on_task-walk : (s : SiteState) (o : Option Joining) (e : Entry) → s.joining ≡ o → R s (becomes (on_task s o e))
   on_task-walk s None e is = S.first s
   on_task-walk s (Some j) e is =
       let v = record s { joining = Some (record j { tasks = j.tasks ++ e ∷ [] }) } in
-      state-if E D i R S s (is_some j.stream) (if j.is_loaded then with_entry s e else v) s
-      (λ _. state-if E D i R S s j.is_loaded (with_entry s e) v
-      (λ _. subst (λ o. R s (becomes (record s { joining = o; log = s.log ++ e ∷ [] }))) (sym is) (S.joins s j j (s.log ++ e ∷ []) is refl refl (prefix-append s.log (e ∷ []))))
-      (λ _. S.joins s j (record j { tasks = j.tasks ++ e ∷ [] }) s.log is refl refl (prefix-refl s.log)))
+      state-if R S s (is_some j.stream) (if j.is_loaded then with_entry s e else v) s
+      (λ _. state-if R S s j.is_loaded (with_entry s e) v
+      (λ _. subst (λ o. R s (becomes (record s { joining = o; log = s.log ++ e ∷ [] }))) (sym is) (W.settles.joins s j j (s.log ++ e ∷ []) is refl refl (prefix-append s.log (e ∷ []))))
+      (λ _. W.settles.joins s j (record j { tasks = j.tasks ++ e ∷ [] }) s.log is refl refl (prefix-refl s.log)))
       (λ _. S.first s)
 
   -- ---- the handler of each message
@@ -409,7 +416,7 @@ module _ (E : Database) (D : Deployment) (stamp i : ℕ) (K : SiteState → Acto
 
     from_director-walk : (l : Letter) → R s (becomes (from_director s l))
     from_director-walk l = elim l.body as (λ b. R s (becomes (from_director s (record l { body = b })))) [
-      | msg.Look ↦ let u = record s { looks = s.looks + 1 } in state-if E D i R S s (is_joiner s) s u (λ _. S.first s) (λ _. S.rest s u)
+      | msg.Look ↦ let u = record s { looks = s.looks + 1 } in state-if R S s (is_joiner s) s u (λ _. S.first s) (λ _. S.rest s u)
       | b ↦ S.first s
     ]
 

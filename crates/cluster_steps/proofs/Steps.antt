@@ -1,6 +1,6 @@
 -- The small steps of which each turn of a site consists: a relation that goes on over each of them goes on over the turn.
-use Rattle.std.proofs.Common.{◌≡◌, Bool, true, false, List, [], ◌∷◌, ◌++◌, ◌==◌}
-use Rattle.std.specs.Prelude.{ℕ, map, drop, length, ◌-◌, Option, Some, None}
+use Rattle.std.proofs.Common.{◌≡◌, true, false, List, [], ◌∷◌, ◌++◌, ◌==◌}
+use Rattle.std.specs.Prelude.{ℕ, map, drop, length, ◌-◌, Some, None}
 use Rattle.std.specs.List.{list_any, list_all}
 use Rattle.volt_base.specs.declared.entry.Entry.{Entry}
 use Rattle.volt_base.specs.declared.entry.Entry.TheVariants.{Sp, Frag, Done}
@@ -9,13 +9,12 @@ use Rattle.volt_wire.specs.Stream.{StreamHead}
 use Rattle.volt_wire.specs.Word.{Membership}
 use Rattle.volt_wire.specs.declared.actor.Actor.{Actor}
 use Rattle.volt_wire.specs.declared.actor.Actor.TheVariants.{Agent, Site}
-use Rattle.volt_wire.specs.declared.message.Msg.{Msg}
 use Rattle.volt_wire.specs.declared.message.Msg.TheVariants as msg
 use Rattle.cluster_model.specs.Engine.{Database}
 use Rattle.cluster_model.specs.Log.{answer_behind, nothing_open}
 use Rattle.cluster_model.specs.Words.{Deployment, part_of_slot}
-use Rattle.cluster_model.specs.Letters.{Blocks, Letter, Sends, Waiting, Turn, becomes, sending, ◌▸◌, letter_to}
-use Rattle.cluster_model.specs.SiteState.{SiteState, Joining, Reported, Joiner, AskedCall, is_leader, leads, other_copies, site_term}
+use Rattle.cluster_model.specs.Letters.{Letter, Sends, Waiting, Turn, becomes, sending, ◌▸◌, letter_to}
+use Rattle.cluster_model.specs.SiteState.{SiteState, Joining, Joiner, AskedCall, is_leader, leads, other_copies, site_term}
 use Rattle.cluster_model.specs.Site.{holds, holds_for, initiator_in, firm_now, floor_now, sends_firm, longest, lacks, may_stream, is_first_term, has_all_on_disk, tells_initiator}
 use Rattle.cluster_model.specs.Initiator.{end_of_reply}
 use Rattle.cluster_steps.specs.Lists.{In, Prefix}
@@ -69,25 +68,31 @@ pub record MayTell (D : Deployment) (i : ℕ) (s : SiteState) : Type 0 where
 
 -- ---- the steps
 
--- A relation of a site and its turn goes on over the steps of what follows a handler, and a Sync.
-pub record Settles (E : Database) (D : Deployment) (i : ℕ) (R : SiteState → Turn SiteState → Type 0) : Type 0 where
+-- A relation of a site and its turn goes on over the steps of what follows each handler,
+pub record Moves (R : SiteState → Turn SiteState → Type 0) : Type 0 where
   pub first : (s : SiteState) → R s (becomes s)
   pub next : (s : SiteState) (t : Turn SiteState) (f : SiteState → Turn SiteState) → R s t → R t.state (f t.state) → R s (t ▸ f)
   pub rest : (s u : SiteState) → R s (becomes (with_rest s u))
   pub says : (s : SiteState) (out : Sends) → InertSends out → R s (sending s out)
+  pub joiners : (s : SiteState) (f : Joiner → Joiner) → ((j : Joiner) → SameJoiner (f j) j) → R s (becomes (record s { joiners = map f s.joiners }))
+
+-- among them that a leader tells the initiator how its partition stands.
+abbrev pub Tells : Database → Deployment → ℕ → (SiteState → Turn SiteState → Type 0) → Type 0
+Tells E D i R = (s : SiteState) → MayTell D i s → (first : ℕ × ℕ) → R s (tells_initiator E D i s (Some first))
+
+-- So it does over those of what a site says behind its Sync,
+pub record Settles (D : Deployment) (i : ℕ) (R : SiteState → Turn SiteState → Type 0) : Type 0 where
+  pub moves : Moves R
   -- a joiner goes on in its stream
   pub joins : (s : SiteState) (j k : Joining) (log : List Entry) → s.joining ≡ Some j → k.stream ≡ j.stream → k.is_based ≡ j.is_based → Prefix s.log log
       → R s (becomes (record s { joining = Some k; log = log }))
   -- a leader counts, with these acknowledgements
   pub counted : (s : SiteState) → leads D i s ≡ true → (acks : List (ℕ × ℕ)) (joiners : List Joiner) → SameJoiners joiners s.joiners
       → R s (counts_with D i (with_acks s acks joiners))
-  pub joiners : (s : SiteState) (f : Joiner → Joiner) → ((j : Joiner) → SameJoiner (f j) j) → R s (becomes (record s { joiners = map f s.joiners }))
-  -- it tells this initiator how its partition stands
-  pub told : (s : SiteState) → MayTell D i s → (first : ℕ × ℕ) → R s (tells_initiator E D i s (Some first))
 
--- So it does over those of a handler, with K of each message that comes.
+-- and over those of a handler, with K of each message that comes.
 pub record Steps (E : Database) (D : Deployment) (stamp i : ℕ) (K : SiteState → Actor → Letter → Type 0) (R : SiteState → Turn SiteState → Type 0) : Type 0 where
-  pub settles : Settles E D i R
+  pub settles : Settles D i R
   -- a call runs, and its reply is held
   pub called : (s : SiteState) → leads D i s ≡ true → nothing_open s.log ≡ true → (c : AskedCall)
       → R s (becomes (with_entry (holds s (Agent c.host) (reply_to E D i stamp c s)) (Sp c.call stamp c.body)))
