@@ -9,3 +9,4 @@ pub mod Sends
 pub mod Steps
 pub mod SiteWalk
 pub mod SiteTurns
+pub mod StateSteps

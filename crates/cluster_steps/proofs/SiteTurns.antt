@@ -21,12 +21,12 @@ use Rattle.cluster_model.specs.Letters.{Blocks, same, Letter, Sends, Waiting, Tu
 use Rattle.cluster_model.specs.AgentState.{stops_others}
 use Rattle.cluster_model.specs.SiteState.{SiteState, Streamed, Joining, Ask, emptied, new_joining, new_joiner, stopped_site, is_joiner, leads, leader_in, site_term}
 use Rattle.cluster_model.specs.Site.{holds_for, initiator_in, may_stream, on_stream_start, in_new_term, asks_to_join, on_view, is_lost_in, can_take, takes_first_ask, takes_asks, settles, ordered, site_handler, takes_each, takes_waiting, on_start, on_stop, site_runs, site_takes}
-use Rattle.cluster_model.specs.Sync.{written, joiner_written, syncs, parts_of_sync, parts_of_message, start_after, stops_so, site_turn, sync_turn}
+use Rattle.cluster_model.specs.Sync.{after_sync, written, joiner_written, syncs, parts_of_sync, parts_of_message, start_after, stops_so, site_turn, sync_turn}
 use Rattle.cluster_steps.specs.Lists.{In}
 use Rattle.cluster_steps.proofs.Lists.{all-append, all-at, all-from, all-if, all-mono, all-one, in-filter, same-some}
 use Rattle.cluster_steps.proofs.Frames.{Inert, InertSends, holds_for-cases}
 use Rattle.cluster_steps.proofs.Steps.{KnownOf, LetsGo, Moves, Settles, Steps, Tells, with_entry, with_stream}
-use Rattle.cluster_steps.proofs.SiteWalk.{as_member-walk, asks_to_join-inert, handler-walk, settled, settled-walk}
+use Rattle.cluster_steps.proofs.SiteWalk.{after_sync-walk, as_member-walk, asks_to_join-inert, handler-walk, settled, settled-walk}
 
 -- ---- a joiner that asked is taken
 
@@ -212,7 +212,7 @@ module _ (E : Database) (D : Deployment) (i : ℕ) where
       let k = keeps-asks (worked E D stamp i t).state in
       record { start = k.start ∙ h.start; view = k.view ∙ h.view; waits = λ x m. h.waits x (k.waits x m) }
 
-  view-keeps : (stamp : ℕ) (s : SiteState) (w : Membership) (c : Bool) → stays_joiner D i s w ≡ c → Keeps (if c then as_joiner s w else as_entered s w) (on_view E D i stamp s w)
+  pub view-keeps : (stamp : ℕ) (s : SiteState) (w : Membership) (c : Bool) → stays_joiner D i s w ≡ c → Keeps (if c then as_joiner s w else as_entered s w) (on_view E D i stamp s w)
   view-keeps stamp s w true e = joins-walk E D stamp i (λ s from l. NoWord from l) Keeps (keeps-steps stamp) s w e
   view-keeps stamp s w false e = enters-walk E D stamp i (λ s from l. NoWord from l) Keeps (keeps-steps stamp) s w e
 
@@ -343,67 +343,67 @@ stops_so-inert D i s start contents b = all-if Inert (same (Site i) b) [] (stops
 
 module _ (E : Database) (D : Deployment) (stamp i : ℕ) (s : SiteState) (from : Actor) (G : Turn SiteState → Type 0)
     (ends : (start stop : ℕ) (joining : Option Joining) (contents : List Shown) (out : Sends) → InertSends out → G (sending (anew s start joining stop contents) out))
-    where
-  -- What holds of each turn that a message may make: it stops or begins, takes a number, lets the message wait, or takes it.
-  module _ (l : Letter)
-      (aside : (stop : ℕ) (plans : List (ℕ × ℕ)) → (0 < s.start → arrival s.start (site_term s) l ≡ Taken → ForHost l) → G (becomes (record s { stop = stop; plans = plans })))
-      (waits : 0 < s.start → arrival s.start (site_term s) l ≡ Waits → G (becomes (record s { waiting = s.waiting ++ record { from = from; letter = l } ∷ [] })))
-      (taken : 0 < s.start → arrival s.start (site_term s) l ≡ Taken → G (whole E D stamp i (site_handler E D stamp i s from l))) where
-    runs : 0 < s.start → G (site_runs E D stamp i s from l)
-    runs up = go (arrival s.start (site_term s) l) refl
-      where
-        go : (a : Arrival) → arrival s.start (site_term s) l ≡ a → G (elim a as (λ _. Turn SiteState) [
-          | Taken ↦ whole E D stamp i (site_handler E D stamp i s from l)
-          | Waits ↦ becomes (record s { waiting = s.waiting ++ record { from = from; letter = l } ∷ [] })
-          | Refused ↦ becomes s
-        ])
-        go Taken e = taken up e
-        go Waits e = waits up e
-        go Refused e = aside s.stop s.plans (λ _ q. let r = sym e ∙ q in absurd (cc))
+  where
+    -- What holds of each turn that a message may make: it stops or begins, takes a number, lets the message wait, or takes it.
+    module _ (l : Letter)
+        (aside : (stop : ℕ) (plans : List (ℕ × ℕ)) → (0 < s.start → arrival s.start (site_term s) l ≡ Taken → ForHost l) → G (becomes (record s { stop = stop; plans = plans })))
+        (waits : 0 < s.start → arrival s.start (site_term s) l ≡ Waits → G (becomes (record s { waiting = s.waiting ++ record { from = from; letter = l } ∷ [] })))
+        (taken : 0 < s.start → arrival s.start (site_term s) l ≡ Taken → G (whole E D stamp i (site_handler E D stamp i s from l))) where
+      runs : 0 < s.start → G (site_runs E D stamp i s from l)
+      runs up = go (arrival s.start (site_term s) l) refl
+        where
+          go : (a : Arrival) → arrival s.start (site_term s) l ≡ a → G (elim a as (λ _. Turn SiteState) [
+            | Taken ↦ whole E D stamp i (site_handler E D stamp i s from l)
+            | Waits ↦ becomes (record s { waiting = s.waiting ++ record { from = from; letter = l } ∷ [] })
+            | Refused ↦ becomes s
+          ])
+          go Taken e = taken up e
+          go Waits e = waits up e
+          go Refused e = aside s.stop s.plans (λ _ q. let r = sym e ∙ q in absurd (cc))
 
-    running : G (if s.start == 0 then becomes s else site_runs E D stamp i s from l)
-    running = go (s.start == 0) refl
-      where
-        go : (c : Bool) → (s.start == 0) ≡ c → G (if c then becomes s else site_runs E D stamp i s from l)
-        go true e = aside s.stop s.plans (λ up. absurd (let z = eqb-true s.start 0 e in omega (arith, up, z)))
-        go false e = runs (grind (arith, nat_tests, e))
+      running : G (if s.start == 0 then becomes s else site_runs E D stamp i s from l)
+      running = go (s.start == 0) refl
+        where
+          go : (c : Bool) → (s.start == 0) ≡ c → G (if c then becomes s else site_runs E D stamp i s from l)
+          go true e = aside s.stop s.plans (λ up. absurd (let z = eqb-true s.start 0 e in omega (arith, up, z)))
+          go false e = runs (grind (arith, nat_tests, e))
 
-    starts : (start : ℕ) → ForHost l → G (on_start i s start)
-    starts start k = go (nat_lt s.start start && nat_lt s.stop start)
-      where
-        go : (c : Bool) → G (if c then sending (new_joiner s start) (only (Scanner i) (open_letter (msg.Start start))) else becomes s)
-        go true = ends start s.stop (Some new_joining) s.contents _ (λ b. all-one Inert (same (Scanner i) b) _ (λ _. tt))
-        go false = aside s.stop s.plans (λ _ _. k)
+      starts : (start : ℕ) → ForHost l → G (on_start i s start)
+      starts start k = go (nat_lt s.start start && nat_lt s.stop start)
+        where
+          go : (c : Bool) → G (if c then sending (new_joiner s start) (only (Scanner i) (open_letter (msg.Start start))) else becomes s)
+          go true = ends start s.stop (Some new_joining) s.contents _ (λ b. all-one Inert (same (Scanner i) b) _ (λ _. tt))
+          go false = aside s.stop s.plans (λ _ _. k)
 
-    stops : (start : ℕ) → ForHost l → G (becomes (on_stop s start))
-    stops start k = go (nat_le s.start start)
-      where
-        b : SiteState
-        b = record s { stop = max s.stop start }
+      stops : (start : ℕ) → ForHost l → G (becomes (on_stop s start))
+      stops start k = go (nat_le s.start start)
+        where
+          b : SiteState
+          b = record s { stop = max s.stop start }
 
-        go : (c : Bool) → G (becomes (if c then stopped_site b else b))
-        go true = ends 0 (max s.stop start) None s.contents _ (λ b. tt)
-        go false = aside (max s.stop start) s.plans (λ _ _. k)
+          go : (c : Bool) → G (becomes (if c then stopped_site b else b))
+          go true = ends 0 (max s.stop start) None s.contents _ (λ b. tt)
+          go false = aside (max s.stop start) s.plans (λ _ _. k)
 
-  abbrev Cases : Letter → Turn SiteState → Type 0
-  Cases l t =
-      ((stop : ℕ) (plans : List (ℕ × ℕ)) → (0 < s.start → arrival s.start (site_term s) l ≡ Taken → ForHost l) → G (becomes (record s { stop = stop; plans = plans })))
-      → (0 < s.start → arrival s.start (site_term s) l ≡ Waits → G (becomes (record s { waiting = s.waiting ++ record { from = from; letter = l } ∷ [] })))
-      → (0 < s.start → arrival s.start (site_term s) l ≡ Taken → G (whole E D stamp i (site_handler E D stamp i s from l))) → G t
+    abbrev Cases : Letter → Turn SiteState → Type 0
+    Cases l t =
+        ((stop : ℕ) (plans : List (ℕ × ℕ)) → (0 < s.start → arrival s.start (site_term s) l ≡ Taken → ForHost l) → G (becomes (record s { stop = stop; plans = plans })))
+        → (0 < s.start → arrival s.start (site_term s) l ≡ Waits → G (becomes (record s { waiting = s.waiting ++ record { from = from; letter = l } ∷ [] })))
+        → (0 < s.start → arrival s.start (site_term s) l ≡ Taken → G (whole E D stamp i (site_handler E D stamp i s from l))) → G t
 
-  takes-cases : (l : Letter) → Cases l (site_takes E D stamp i s from l)
-  takes-cases l = elim l.body as (λ m. let x = record l { body = m } in Cases x (site_takes E D stamp i s from x)) [
-    | msg.Start start ↦ λ aside waits taken. starts (record l { body = msg.Start start }) aside waits taken start tt
-    | msg.Stop start ↦ λ aside waits taken. stops (record l { body = msg.Stop start }) aside waits taken start tt
-    | msg.Power call choice ↦ λ aside waits taken. aside s.stop (s.plans ++ (call, choice) ∷ []) (λ _ _. tt)
-    | m ↦ λ aside waits taken. running (record l { body = m }) aside waits taken
-  ]
+    takes-cases : (l : Letter) → Cases l (site_takes E D stamp i s from l)
+    takes-cases l = elim l.body as (λ m. let x = record l { body = m } in Cases x (site_takes E D stamp i s from x)) [
+      | msg.Start start ↦ λ aside waits taken. starts (record l { body = msg.Start start }) aside waits taken start tt
+      | msg.Stop start ↦ λ aside waits taken. stops (record l { body = msg.Stop start }) aside waits taken start tt
+      | msg.Power call choice ↦ λ aside waits taken. aside s.stop (s.plans ++ (call, choice) ∷ []) (λ _ _. tt)
+      | m ↦ λ aside waits taken. running (record l { body = m }) aside waits taken
+    ]
 
-  pub turn-cases : (l : Letter) (o : Environment) → Cases l (site_turn E D stamp i s from l o)
-  turn-cases l NoFault = takes-cases l
-  turn-cases l (DisksShow shown failed) = takes-cases l
-  turn-cases l (DiskFails answered) = λ aside waits taken. let xs = after_failure s.contents (parts_of_message s l) answered in ends 0 s.stop None xs (stops_so D i s s.start xs).sends (stops_so-inert D i s s.start xs)
-  turn-cases l (NoMemory answered) = λ aside waits taken. let xs = after_parts s.contents (take answered (parts_of_message s l)) in ends 0 s.stop None xs (stops_so D i s (start_after s l) xs).sends (stops_so-inert D i s (start_after s l) xs)
+    pub turn-cases : (l : Letter) (o : Environment) → Cases l (site_turn E D stamp i s from l o)
+    turn-cases l NoFault = takes-cases l
+    turn-cases l (DisksShow shown failed) = takes-cases l
+    turn-cases l (DiskFails answered) = λ aside waits taken. let xs = after_failure s.contents (parts_of_message s l) answered in ends 0 s.stop None xs (stops_so D i s s.start xs).sends (stops_so-inert D i s s.start xs)
+    turn-cases l (NoMemory answered) = λ aside waits taken. let xs = after_parts s.contents (take answered (parts_of_message s l)) in ends 0 s.stop None xs (stops_so D i s (start_after s l) xs).sends (stops_so-inert D i s (start_after s l) xs)
 
 -- ---- a Sync
 
@@ -467,3 +467,11 @@ module _ (E : Database) (D : Deployment) (stamp i : ℕ) (s : SiteState) (from :
       (λ stop plans aside. all)
       (λ up waits _. all-append P s.waiting (record { from = from; letter = l } ∷ []) (all up) (new up waits, tt))
       (λ up takes _. let k = taken-waits E D stamp i s from l (quiet up) in all-from P _ (λ x m. all-at P s.waiting (all up) x (k x m)))
+
+pub sync-waits : (E : Database) (D : Deployment) (i : ℕ) (s : SiteState) (o : Environment) (x : Waiting) → In x (sync_turn E D i s o).state.waiting → In x s.waiting
+sync-waits E D i s o x = sync-cases E D i s o (λ t. In x t.state.waiting → In x s.waiting) (λ stop contents out inert m. absurd m) (λ m.
+    let b = written_site s in
+    let h = after_sync-walk D i Keeps (keeps-settles E D i) b in
+    let u = (after_sync D i b b.joining).state in
+    let k = settles-walk E D i Keeps (keeps-settles E D i).moves (λ s may first. keeps-same s _ refl refl refl) (keeps-asks E D i) u in
+    subst (In x) (wrote s).waiting (h.waits x (k.waits x m)))

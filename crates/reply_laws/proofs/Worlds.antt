@@ -3,7 +3,7 @@ use Rattle.std.proofs.Common.{◌≡◌, ◌<◌, Bool, true, false, List, [], �
 use Rattle.std.proofs.lemmas.Bool.{and_parts, and_from, eqb-true}
 use Rattle.std.proofs.lemmas.Bool.Decides.{nat_tests}
 use Rattle.std.proofs.lemmas.List.{length-take, length-take-le}
-use Rattle.std.specs.Prelude.{ℕ, ◌&&◌, not, nat_lt, if◌then◌else◌, Option, Some, None}
+use Rattle.std.specs.Prelude.{ℕ, ◌&&◌, not, nat_lt, if◌then◌else◌, Some, None}
 use Rattle.std.specs.List.{AllByRecursion}
 use Rattle.volt_base.specs.declared.entry.Entry.{Entry}
 use Rattle.volt_wire.specs.Word.{Membership}
@@ -14,29 +14,27 @@ use Rattle.volt_wire.specs.declared.event.Event.TheVariants as event
 use Rattle.cluster_model.specs.Engine.{Database}
 use Rattle.cluster_model.specs.Words.{Deployment, slots, part_of_slot, is_some_of}
 use Rattle.cluster_model.specs.Letters.{same, Letter, Turn}
-use Rattle.cluster_model.specs.SiteState.{SiteState, Streamed, is_joiner, leader_in, leads, no_site, member_site}
+use Rattle.cluster_model.specs.SiteState.{SiteState, is_joiner, leader_in, leads, no_site, member_site}
 use Rattle.cluster_model.specs.Sync.{may_sync, site_turn, sync_turn}
 use Rattle.cluster_model.specs.Environment.{Environment, NoFault, DiskFails, NoMemory, DisksShow}
 use Rattle.cluster_model.specs.World.{World, Input, first_world, stamp_of, set_at, took, sent, rest, new_word, start_from}
 use Rattle.cluster_model.specs.Recover.{new_base, new_log, new_site, starts_anew}
 use Rattle.cluster_model.specs.Events.{can, allows, delivered, recovered_with, happens, step}
 use Rattle.cluster_model.specs.Runs.{Happening, IsRun, has_failed, may_happen, run}
-use Rattle.cluster_steps.proofs.Lists.{all-append, all-mono, all-if, all-rest, none-and-some, set-here, set-both}
-use Rattle.log_laws.specs.Histories.{LogState, StreamIn, ViewIn, WaitingOk, log_at}
+use Rattle.cluster_steps.proofs.Lists.{all-append, all-mono, all-if, all-rest, set-here, set-both}
 use Rattle.cluster_steps.specs.Lists.{Prefix}
-use Rattle.log_laws.specs.Copies.{HasLogs, log_state}
+use Rattle.log_laws.specs.Copies.{log_state}
 use Rattle.cluster_steps.proofs.Prefixes.{prefix-trans, prefix-length, prefixes-order, prefix-take, take-short}
 use Rattle.cluster_steps.proofs.Leaders.{leads-parts}
 use Rattle.log_laws.proofs.Runs.Boots.{first-logs}
 use Rattle.log_laws.proofs.Runs.Lasting.{in-authoritative}
 use Rattle.disk_laws.specs.Survival.{Survives, firm_entries}
 use Rattle.disk_laws.proofs.Boots.{first-disks}
-use Rattle.disk_laws.proofs.Handlers.{PlainWaiting, waiting-plain}
 use Rattle.disk_laws.proofs.Syncs.{sync-runs}
 use Rattle.disk_laws.proofs.Worlds.{HasDisks, survives-same, run-goes}
 use Rattle.reply_laws.specs.Answers.{Fits, Claim, Stands, Tells, is_answer, HoldsAnswers, Answered, SentAnswer, TurnAnswers}
-use Rattle.reply_laws.proofs.Answers.{NoLog, stands-on}
-use Rattle.reply_laws.proofs.Turns.{site_turn-answers, sync_turn-answers}
+use Rattle.reply_laws.proofs.Answers.{stands-on}
+use Rattle.reply_laws.proofs.Turns.{no-log, site_turn-answers, sync_turn-answers, waits-plain}
 
 -- ---- what holds of the answers of a world
 
@@ -155,28 +153,6 @@ turn-firm v w i t d sites =
     let e : w.sites i ≡ t.state = ap (λ f. f i) sites ∙ set-here v.sites i t.state in
     subst (λ s. leads w.deployment i s ≡ true → 0 < s.start → Prefix (take s.firm s.log) (firm_entries w (part_of_slot w.deployment i))) e (leader-firm w d i)
 
--- ---- what a site has that runs
-
-module _ (w : World) (k : HasLogs w) (i : ℕ) where
-  abbrev S : LogState
-  S = log_state w k.owner k.history k.logs
-
-  -- nothing waits at it that never does
-  waits-plain : 0 < (w.sites i).start → AllByRecursion PlainWaiting (w.sites i).waiting
-  waits-plain up = all-mono (WaitingOk S i) PlainWaiting (waiting-plain S i) (w.sites i).waiting ((k.holds.sites i).keeps up).waiting
-
-  -- a joiner that has no stream has no entries
-  no-log : NoLog (w.sites i)
-  no-log j e none = seen (w.sites i).view ((k.holds.sites i).joiner j e).view
-    where
-      streamed : (m : Membership) (o : Option Streamed) → o ≡ None → StreamIn S i m j o → log_at S i ≡ []
-      streamed m None q u = u.empty
-      streamed m (Some st) q u = absurd (none-and-some q refl)
-
-      seen : (o : Option Membership) → ViewIn S i j o → log_at S i ≡ []
-      seen None u = u.empty
-      seen (Some m) u = streamed m j.stream none u.stream
-
 -- ---- events
 
 module _ (E : Database) (w : World) (k : HasAnswers E w) (d : HasDisks w) where
@@ -189,9 +165,10 @@ module _ (E : Database) (w : World) (k : HasAnswers E w) (d : HasDisks w) where
   to_site i from (l ∷ ls) o next grown =
       let v = delivered E w (Site i) from (l ∷ ls) o in
       let t = site_turn E w.deployment (stamp_of w) i (w.sites i) from l o in
+      let S = log_state w d.logs.owner d.logs.history d.logs.logs in
       turned E w.deployment i t (firm_entries v)
       (site_turn-answers E w.deployment i (Tells E (part_of_slot w.deployment i)) (tells-fit E (part_of_slot w.deployment i)) (w.sites i) (stamp_of w) from l o
-      (waits-plain w d.logs i) (no-log w d.logs i) (k.held i))
+      (waits-plain S d.logs.holds i) (no-log S d.logs.holds i) (k.held i))
       (turn-firm w v i t next refl) w.sites (took w.channel from (Site i)) (firm_entries w) grown (record { held = k.held; sent = k.sent })
 
   to_agent : (n : ℕ) (from : Actor) (ls : List Letter) (o : Environment) → let v = delivered E w (Agent n) from ls o in Later v → HasAnswers E v
