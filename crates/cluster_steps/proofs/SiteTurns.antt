@@ -216,31 +216,37 @@ module _ (E : Database) (D : Deployment) (i : ℕ) where
   view-keeps stamp s w true e = joins-walk E D stamp i (λ s from l. NoWord from l) Keeps (keeps-steps stamp) s w e
   view-keeps stamp s w false e = enters-walk E D stamp i (λ s from l. NoWord from l) Keeps (keeps-steps stamp) s w e
 
--- What waits behind a handler waited before, and so does what waits behind a turn that takes a message.
-pub handler-waits : (E : Database) (D : Deployment) (stamp i : ℕ) (s : SiteState) (from : Actor) (l : Letter) (x : Waiting)
-    → In x (site_handler E D stamp i s from l).state.waiting → In x s.waiting
-handler-waits E D stamp i s from l = go from l
+-- It goes on with its start, and what waits behind waited before: behind a handler, and behind a turn that takes a message.
+abbrev pub StaysUp : SiteState → SiteState → Type 0
+StaysUp s u = (u.start ≡ s.start) × ((x : Waiting) → In x u.waiting → In x s.waiting)
+
+pub handler-stays : (E : Database) (D : Deployment) (stamp i : ℕ) (s : SiteState) (from : Actor) (l : Letter) → StaysUp s (site_handler E D stamp i s from l).state
+handler-stays E D stamp i s from l = go from l
   where
-    view : (w : Membership) (c : Bool) → stays_joiner D i s w ≡ c → (x : Waiting) → In x (on_view E D i stamp s w).state.waiting → In x s.waiting
-    view w true e = (view-keeps E D i stamp s w true e).waits
-    view w false e = (view-keeps E D i stamp s w false e).waits
+    view : (w : Membership) (c : Bool) → stays_joiner D i s w ≡ c → StaysUp s (on_view E D i stamp s w).state
+    view w true e = let k = view-keeps E D i stamp s w true e in (k.start, k.waits)
+    view w false e = let k = view-keeps E D i stamp s w false e in (k.start, k.waits)
 
-    go : (from : Actor) (l : Letter) (x : Waiting) → In x (site_handler E D stamp i s from l).state.waiting → In x s.waiting
-    go (Agent h) l = elim l.body as (λ m. (x : Waiting) → In x (site_handler E D stamp i s (Agent h) (record l { body = m })).state.waiting → In x s.waiting) [
+    plain : (from : Actor) (l : Letter) → NoWord from l → StaysUp s (site_handler E D stamp i s from l).state
+    plain from l n = let k = handler-keeps E D i stamp s from l n in (k.start, k.waits)
+
+    go : (from : Actor) (l : Letter) → StaysUp s (site_handler E D stamp i s from l).state
+    go (Agent h) l = elim l.body as (λ m. StaysUp s (site_handler E D stamp i s (Agent h) (record l { body = m })).state) [
       | msg.View w ↦ view w (stays_joiner D i s w) refl
-      | m ↦ (handler-keeps E D i stamp s (Agent h) (record l { body = m }) tt).waits
+      | m ↦ plain (Agent h) (record l { body = m }) tt
     ]
-    go (Site slot) l = (handler-keeps E D i stamp s (Site slot) l tt).waits
-    go (Scanner x) l = (handler-keeps E D i stamp s (Scanner x) l tt).waits
-    go Director l = (handler-keeps E D i stamp s Director l tt).waits
-    go (Client n) l = (handler-keeps E D i stamp s (Client n) l tt).waits
+    go (Site slot) l = plain (Site slot) l tt
+    go (Scanner x) l = plain (Scanner x) l tt
+    go Director l = plain Director l tt
+    go (Client n) l = plain (Client n) l tt
 
-pub taken-waits : (E : Database) (D : Deployment) (stamp i : ℕ) (s : SiteState) (from : Actor) (l : Letter) → AllByRecursion (λ x. NoWord x.from x.letter) s.waiting
-    → (x : Waiting) → In x (whole E D stamp i (site_handler E D stamp i s from l)).state.waiting → In x s.waiting
-taken-waits E D stamp i s from l quiet x m =
+pub taken-stays : (E : Database) (D : Deployment) (stamp i : ℕ) (s : SiteState) (from : Actor) (l : Letter) → AllByRecursion (λ x. NoWord x.from x.letter) s.waiting
+    → StaysUp s (whole E D stamp i (site_handler E D stamp i s from l)).state
+taken-stays E D stamp i s from l quiet =
     let t = site_handler E D stamp i s from l in
-    let h = handler-waits E D stamp i s from l in
-    h x ((whole-keeps E D i stamp t (all-from (λ x. NoWord x.from x.letter) t.state.waiting (λ x k. all-at (λ x. NoWord x.from x.letter) s.waiting quiet x (h x k)))).waits x m)
+    let h = handler-stays E D stamp i s from l in
+    let k = whole-keeps E D i stamp t (all-from (λ x. NoWord x.from x.letter) t.state.waiting (λ x m. all-at (λ x. NoWord x.from x.letter) s.waiting quiet x (h.1 x m))) in
+    (k.start ∙ h.0, λ x m. h.1 x (k.waits x m))
 
 -- ---- from which state the handler of a message goes on
 
@@ -273,7 +279,7 @@ plain-word x = go x.from x.letter
 pub handler-known : (E : Database) (D : Deployment) (stamp i : ℕ) (s : SiteState) (from : Actor) (l : Letter) → AllByRecursion PlainWaiting s.waiting
     → KnownAt (λ _ from l. Plain from l) (site_handler E D stamp i s from l).state
 handler-known E D stamp i s from l plain = all-from (KnownOf (λ _ from l. Plain from l) (site_term (site_handler E D stamp i s from l).state)) _
-    (λ x m _ _. all-at PlainWaiting s.waiting plain x (handler-waits E D stamp i s from l x m))
+    (λ x m _ _. all-at PlainWaiting s.waiting plain x ((handler-stays E D stamp i s from l).1 x m))
 
 module _ (E : Database) (D : Deployment) (stamp i : ℕ) (R : SiteState → Turn SiteState → Type 0) (W : Steps E D stamp i (λ _ from l. Plain from l) R) (s : SiteState)
     (P : SiteState → Type 0) (itself : P s) (streams : (j : Joining) (l : Letter) (head : StreamHead) → s.joining ≡ Some j → may_stream s j l ≡ true → P (with_stream s j l head))
@@ -317,6 +323,25 @@ module _ (E : Database) (D : Deployment) (stamp i : ℕ) (R : SiteState → Turn
   handler-from (Client n) l = from-plain (Client n) l tt
 
 -- ---- what a message makes of a site, by cases
+
+-- a message that arrives so
+abbrev arrived : Database → Deployment → ℕ → ℕ → SiteState → Actor → Letter → Arrival → Turn SiteState
+arrived E D stamp i s from l a = elim a as (λ _. Turn SiteState) [
+  | Taken ↦ whole E D stamp i (site_handler E D stamp i s from l)
+  | Waits ↦ becomes (record s { waiting = s.waiting ++ record { from = from; letter = l } ∷ [] })
+  | Refused ↦ becomes s
+]
+
+module _ (E : Database) (D : Deployment) (stamp i : ℕ) (s : SiteState) (from : Actor) (l : Letter) where
+  pub runs-taken : arrival s.start (site_term s) l ≡ Taken → site_runs E D stamp i s from l ≡ whole E D stamp i (site_handler E D stamp i s from l)
+  runs-taken e = ap (arrived E D stamp i s from l) e
+
+  pub runs-refused : arrival s.start (site_term s) l ≡ Refused → site_runs E D stamp i s from l ≡ becomes s
+  runs-refused e = ap (arrived E D stamp i s from l) e
+
+  pub runs-waits : arrival s.start (site_term s) l ≡ Waits
+      → site_runs E D stamp i s from l ≡ becomes (record s { waiting = s.waiting ++ record { from = from; letter = l } ∷ [] })
+  runs-waits e = ap (arrived E D stamp i s from l) e
 
 -- a site that stopped, or begins
 abbrev pub anew : SiteState → ℕ → Option Joining → ℕ → List Shown → SiteState
@@ -466,12 +491,16 @@ module _ (E : Database) (D : Deployment) (stamp i : ℕ) (s : SiteState) (from :
   turn-waits quiet all new = turn-cases E D stamp i s from (λ t. 0 < t.state.start → AllByRecursion P t.state.waiting) (λ start stop joining contents out inert up. tt) l o
       (λ stop plans aside. all)
       (λ up waits _. all-append P s.waiting (record { from = from; letter = l } ∷ []) (all up) (new up waits, tt))
-      (λ up takes _. let k = taken-waits E D stamp i s from l (quiet up) in all-from P _ (λ x m. all-at P s.waiting (all up) x (k x m)))
+      (λ up takes _. let k = taken-stays E D stamp i s from l (quiet up) in all-from P _ (λ x m. all-at P s.waiting (all up) x (k.1 x m)))
 
-pub sync-waits : (E : Database) (D : Deployment) (i : ℕ) (s : SiteState) (o : Environment) (x : Waiting) → In x (sync_turn E D i s o).state.waiting → In x s.waiting
-sync-waits E D i s o x = sync-cases E D i s o (λ t. In x t.state.waiting → In x s.waiting) (λ stop contents out inert m. absurd m) (λ m.
+pub syncs-stays : (E : Database) (D : Deployment) (i : ℕ) (s : SiteState) → StaysUp s (syncs E D i s).state
+syncs-stays E D i s =
     let b = written_site s in
+    let w = wrote s in
     let h = after_sync-walk D i Keeps (keeps-settles E D i) b in
     let u = (after_sync D i b b.joining).state in
     let k = settles-walk E D i Keeps (keeps-settles E D i).moves (λ s may first. keeps-same s _ refl refl refl) (keeps-asks E D i) u in
-    subst (In x) (wrote s).waiting (h.waits x (k.waits x m)))
+    (k.start ∙ h.start ∙ w.start, λ x m. subst (In x) w.waiting (h.waits x (k.waits x m)))
+
+pub sync-waits : (E : Database) (D : Deployment) (i : ℕ) (s : SiteState) (o : Environment) (x : Waiting) → In x (sync_turn E D i s o).state.waiting → In x s.waiting
+sync-waits E D i s o x = sync-cases E D i s o (λ t. In x t.state.waiting → In x s.waiting) (λ stop contents out inert m. absurd m) ((syncs-stays E D i s).1 x)
