@@ -37,6 +37,3 @@ leads-from D i s e r = and_from (is_leader D i s) s.repaired e r
 -- as the view and the join stay, so does all that
 pub leader-same : (D : Deployment) (i : ℕ) (s t : SiteState) → t.view ≡ s.view → t.joining ≡ s.joining → is_leader D i t ≡ is_leader D i s
 leader-same D i s t v j = rw (v, j) refl
-
-pub other-copies-same : (D : Deployment) (i : ℕ) (s t : SiteState) → t.view ≡ s.view → other_copies D i t ≡ other_copies D i s
-other-copies-same D i s t v = rw v refl

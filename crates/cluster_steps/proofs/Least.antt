@@ -90,6 +90,3 @@ module _ (D : Deployment) (i : ℕ) (s : SiteState) (n : ℕ) (firm : s.firm ≤
 -- they never fall
 pub firm_now-above : (D : Deployment) (i : ℕ) (s : SiteState) → s.firm ≤ firm_now D i s
 firm_now-above D i s = at_least-above s.firm (least_of (copy_acks D i s ++ map (λ j. Some (max j.stream_start j.position)) s.joiners))
-
-pub floor_now-above : (D : Deployment) (i : ℕ) (s : SiteState) → s.floor ≤ floor_now D i s
-floor_now-above D i s = at_least-above s.floor (least_of (copy_acks D i s ++ map (λ j. Some j.position) s.joiners))

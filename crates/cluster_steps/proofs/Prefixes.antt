@@ -63,23 +63,6 @@ prefixes-compare xs ys zs h k = elim (cases_lt (length xs) (length ys)) [
   | inr l ↦ inr (prefixes-order ys xs zs k h l)
 ]
 
--- they are one, if they are as long
-pub prefixes-same : (xs ys zs : List Entry) → Prefix xs zs → Prefix ys zs → length xs ≡ length ys → xs ≡ ys
-prefixes-same xs ys zs h k e = prefix-whole xs ys (prefixes-order xs ys zs h k (omega (arith, e))) (omega (arith, e))
-
-pub compare-same : (xs ys : List Entry) → Prefix xs ys ⊎ Prefix ys xs → length xs ≡ length ys → xs ≡ ys
-compare-same xs ys (inl h) e = prefix-whole xs ys h (omega (arith, e))
-compare-same xs ys (inr h) e = sym (prefix-whole ys xs h (omega (arith, e)))
-
--- of two that can be compared
-pub compare-order : (xs ys : List Entry) → Prefix xs ys ⊎ Prefix ys xs → length xs ≤ length ys → Prefix xs ys
-compare-order xs ys (inl h) l = h
-compare-order xs ys (inr h) l = prefix-same xs ys (sym (prefix-whole ys xs h l))
-
--- what isn't longer than the first part of a list is a prefix of that part
-pub prefix-within : (xs ys more : List Entry) → Prefix xs (ys ++ more) → length xs ≤ length ys → Prefix xs ys
-prefix-within xs ys more h l = prefixes-order xs ys (ys ++ more) h (prefix-append ys more) l
-
 -- ---- behind a position
 
 -- what is behind a prefix
@@ -92,10 +75,6 @@ prefix-drop xs ys n (more, e) l = (more, ap (drop n) e ∙ drop-append-le n xs m
 -- what is behind a position, of what is behind an earlier one
 pub drop-behind : (n f : ℕ) (xs : List Entry) → f ≤ n → drop (n - f) (drop f xs) ≡ drop n xs
 drop-behind n f xs l = let e : f + (n - f) ≡ n = omega (arith, l) in drop-drop (n - f) f xs ∙ ap (λ k. drop k xs) e
-
--- a log with what another one, a prefix of which it is, has behind a position up to its end
-pub prefix-joined : (xs ys : List Entry) (f : ℕ) → Prefix xs ys → f ≤ length xs → xs ++ drop (length xs - f) (drop f ys) ≡ ys
-prefix-joined xs ys f h l = ap (λ z. xs ++ z) (drop-behind (length xs) f ys l) ∙ sym (prefix-rest xs ys h)
 
 -- ---- the first entries of a log
 

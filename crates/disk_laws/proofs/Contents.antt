@@ -30,16 +30,6 @@ rises-same S T same logs = record {
   reach = λ p t. let e : T.logs.reach p t ≡ S.logs.reach p t = ap (λ G. G.reach p t) logs in omega (arith, e);
 }
 
-pub rises-trans : (S T U : LogState) → Rises S T → Rises T U → Rises S U
-rises-trans S T U f g = record {
-  deployment = g.deployment ∙ f.deployment;
-  kept = λ p t r is.
-      let a = f.kept p t r is in
-      let b = g.kept p t a.0 a.1 in
-      (b.0, b.1, b.2 ∙ a.2, prefix-trans r.log a.0.log b.0.log a.3 b.3);
-  reach = λ p t. let a = f.reach p t in let b = g.reach p t in omega (arith, a, b);
-}
-
 -- ---- what is everywhere in a led term
 
 module _ (S : LogState) (H : Holds S) (p : ℕ) where

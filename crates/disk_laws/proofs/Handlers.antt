@@ -1,7 +1,7 @@
 -- What a turn of a site leaves as it was of all that its disk shows, and of what the record of disks looks at.
-use Rattle.std.proofs.Common.{◌≡◌, ◌≤◌, Bool, true, false, refl, sym, ap, ◌∙◌, ◌⊎◌, inl, inr, arith}
+use Rattle.std.proofs.Common.{◌≡◌, ◌≤◌, true, refl, sym, ap, ◌∙◌, ◌⊎◌, inl, inr, arith}
 use Rattle.std.proofs.lemmas.Bool.{and_parts}
-use Rattle.std.specs.Prelude.{ℕ, not, map, if◌then◌else◌, Option, Some, None}
+use Rattle.std.specs.Prelude.{ℕ, not, map, Option, Some, None}
 use Rattle.std.specs.List.{AllByRecursion}
 use Rattle.volt_wire.specs.declared.actor.Actor.{Actor}
 use Rattle.volt_wire.specs.declared.actor.Actor.TheVariants.{Director, Client, Agent, Site, Scanner}
@@ -11,25 +11,10 @@ use Rattle.cluster_model.specs.Letters.{Letter, Waiting, Turn, becomes, ◌▸�
 use Rattle.cluster_model.specs.SiteState.{SiteState, Joining, Joiner, site_term, leader_in, is_joiner, leads}
 use Rattle.cluster_steps.specs.Lists.{In, Prefix}
 use Rattle.cluster_steps.proofs.Lists.{all-append, all-mono, in-map-from, none-and-some, same-some}
+use Rattle.cluster_steps.proofs.SiteTurns.{Plain, PlainWaiting}
 use Rattle.log_laws.specs.Histories.{LogState, HeldOk, WaitingFrom, WaitingOk}
 use Rattle.cluster_steps.proofs.Leaders.{leader-view, leads-parts}
 use Rattle.cluster_steps.proofs.Prefixes.{prefix-refl, prefix-trans}
-
--- ---- messages that neither wipe a disk nor begin a term
-
-abbrev pub Plain : Actor → Letter → Type 0
-Plain (Site slot) l = elim l.body as (λ _. Type 0) [
-  | msg.StreamStart head ↦ ⊥
-  | _ ↦ Unit {0}
-]
-Plain (Agent h) l = elim l.body as (λ _. Type 0) [
-  | msg.View w ↦ ⊥
-  | _ ↦ Unit {0}
-]
-Plain from l = Unit {0}
-
-abbrev pub PlainWaiting : Waiting → Type 0
-PlainWaiting x = Plain x.from x.letter
 
 -- ---- the state behind a turn
 
@@ -64,7 +49,6 @@ pub record DiskAt (D : Deployment) (i : ℕ) (s u : SiteState) : Type 0 where
   pub owes : (u.owes ≡ s.owes) ⊎ ((u.owes ≡ Some (site_term s)) × (u.repaired ≡ true))
   pub firm : (u.firm ≡ s.firm) ⊎ FirmRises D i s u
   pub held : AllByRecursion HeldOk s.held → AllByRecursion HeldOk u.held
-  pub waiting : AllByRecursion PlainWaiting s.waiting → AllByRecursion PlainWaiting u.waiting
   pub counted : (c : ℕ) → Counts s c → Counts u c
 
 -- ---- a turn
@@ -146,7 +130,6 @@ at-first D i s = record {
   owes = inl refl;
   firm = inl refl;
   held = λ k. k;
-  waiting = λ k. k;
   counted = λ c k. k;
 }
 
@@ -189,7 +172,6 @@ module _ (D : Deployment) (i : ℕ) (s m u : SiteState) (h : DiskAt D i s m) (k 
     owes = then-owes h.owes k.owes;
     firm = then-firm h.firm k.firm;
     held = λ x. k.held (h.held x);
-    waiting = λ x. k.waiting (h.waiting x);
     counted = λ c x. k.counted c (h.counted c x);
   }
 
@@ -228,30 +210,9 @@ handler-then D i s t f h k = record {
       (k.sends (h.at.held x) c));
 }
 
--- from a state on the way
-pub handler-behind : (D : Deployment) (i : ℕ) (s m : SiteState) (t : Turn SiteState) → DiskAt D i s m → DiskHandler D i m t → DiskHandler D i s t
-handler-behind D i s m t h k = record {
-  at = at-then D i s m t.state h k.at;
-  sends = λ x c. all-mono (Begins D i c m t.state) (Begins D i c s t.state) (then-behind D i s m t.state h k.at c) (t.sends (Site c)) (k.sends (h.held x) c);
-}
-
 -- a turn that sends nothing
 pub handler-becomes : (D : Deployment) (i : ℕ) (s u : SiteState) → DiskAt D i s u → DiskHandler D i s (becomes u)
 handler-becomes D i s u h = record { at = h; sends = λ x c. tt }
-
-pub handler-nothing : (D : Deployment) (i : ℕ) (s : SiteState) → DiskHandler D i s (becomes s)
-handler-nothing D i s = handler-becomes D i s s (at-first D i s)
-
--- the one turn or the other
-pub handler-if : (D : Deployment) (i : ℕ) (s : SiteState) (c : Bool) (x y : Turn SiteState) → (c ≡ true → DiskHandler D i s x) → (c ≡ false → DiskHandler D i s y)
-    → DiskHandler D i s (if c then x else y)
-handler-if D i s true x y p q = p refl
-handler-if D i s false x y p q = q refl
-
-pub at-if : (D : Deployment) (i : ℕ) (s : SiteState) (c : Bool) (x y : SiteState) → (c ≡ true → DiskAt D i s x) → (c ≡ false → DiskAt D i s y)
-    → DiskAt D i s (if c then x else y)
-at-if D i s true x y p q = p refl
-at-if D i s false x y p q = q refl
 
 -- ---- what waits
 

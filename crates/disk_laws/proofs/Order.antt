@@ -35,21 +35,11 @@ at_least-above t v n None h l = h
 at_least-above t v n (Some x) (inl a) l = inl (omega (arith, a, l))
 at_least-above t v n (Some x) (inr a) l = inl (omega (arith, a.0, l))
 
--- so is it for less
-pub at_least-less : (m n k : ℕ) (x : Shown) → AtLeast m n x → k ≤ n → AtLeast m k x
-at_least-less m n k None h l = h
-at_least-less m n k (Some x) (inl a) l = inl a
-at_least-less m n k (Some x) (inr a) l = inr (a.0, omega (arith, a.1, l))
-
 -- it has that mark or a later one
 pub at_least-mark : (m n : ℕ) (x : Shown) → AtLeast m n x → m ≤ mark_of x
 at_least-mark m n None h = absurd h
 at_least-mark m n (Some x) (inl a) = omega (arith, a)
 at_least-mark m n (Some x) (inr a) = omega (arith, a.0)
-
--- what it is as good as itself
-pub at_least-self : (x : Content) → AtLeast x.mark (length x.log) (Some x)
-at_least-self x = inr (refl, omega arith)
 
 -- ---- the parts of an event
 
@@ -122,12 +112,6 @@ raise-refl xs y i = (y, i, λ m n h. h)
 pub raise-same : (xs ys : List Shown) → ys ≡ xs → Raise xs ys
 raise-same xs ys e = subst (Raise xs) (sym e) (raise-refl xs)
 
-pub raise-trans : (xs ys zs : List Shown) → Raise xs ys → Raise ys zs → Raise xs zs
-raise-trans xs ys zs f g z i =
-    let k = g z i in
-    let r = f k.0 k.1 in
-    (r.0, r.1, λ m n h. k.2 m n (r.2 m n h))
-
 -- from one content to some that are no worse
 pub raise-one : (x : Content) (ys : List Shown) → AllByRecursion (AtLeast x.mark (length x.log)) ys → Raise (Some x ∷ []) ys
 raise-one x ys h y i = (Some x, inl refl, λ m n k. at_least-trans x y m n k (all-at (AtLeast x.mark (length x.log)) ys h y i))
@@ -199,15 +183,6 @@ module _ (S T : LogState) (same : T.words.deployment ≡ S.words.deployment) whe
       below : (xs : List Shown) → (xs ≡ [] → ⊥) → AllByRecursion (λ x. mark_of x < t) xs → AllByRecursion (AtLeast m n) xs → m < t
       below [] f g k = absurd (f refl)
       below (x ∷ xs) f g k = let l = at_least-mark m n x k.0 in omega (arith, l, g.0)
-
--- more than is asked for
-pub top-less : (S : LogState) (p m n k : ℕ) → Top S p m n → k ≤ n → Top S p m k
-top-less S p m n k t l = record {
-  slot = t.slot;
-  is_slot = t.is_slot;
-  part_is = t.part_is;
-  all = all-mono (AtLeast m n) (AtLeast m k) (λ x h. at_least-less m n k x h l) (shown_at S t.slot) t.all;
-}
 
 -- ---- the choice of a recovery
 

@@ -34,8 +34,9 @@ use Rattle.log_laws.proofs.NewTerms.Taking.{first-word, later-word}
 use Rattle.log_laws.proofs.Kept.Terms.{took-unnamed}
 use Rattle.disk_laws.specs.Disks.{Firm, ContentOk, StreamDisk, StreamOk, StreamLetter, Halted, DisksHold, shown_at}
 use Rattle.disk_laws.proofs.Order.{Raise, in-take, in-after_parts, in-after_failure, some-after_parts, some-after_failure, raise-take, raise-after_parts, raise-after_failure}
-use Rattle.disk_laws.proofs.Handlers.{DiskHandler, Plain, PlainWaiting, waiting-plain}
-use Rattle.disk_laws.proofs.SiteHandlers.{stays_joiner, as_joiner, as_entered, site_runs-handler, site_runs-refused, site_runs-stream, site_runs-joins, site_runs-enters, entered-held}
+use Rattle.cluster_steps.proofs.SiteTurns.{Plain, PlainWaiting, as_entered, as_joiner, stays_joiner}
+use Rattle.disk_laws.proofs.Handlers.{DiskHandler, waiting-plain}
+use Rattle.disk_laws.proofs.SiteHandlers.{site_runs-plain, site_runs-refused, site_runs-stream, site_runs-joins, site_runs-enters, entered-held}
 use Rattle.disk_laws.proofs.Own.{Own, OwnMember, OwnStream}
 use Rattle.disk_laws.proofs.SiteDisks.{Raised, firm-up}
 use Rattle.disk_laws.proofs.Turning.{DisksGo, Kept, Wiped, Leaves, firm-before, own-before, same-tops, wiped-tops, same-still, handler-disks, handler-kept, handler-goes, handler-begins, halts-after, still-kept, begins-kept, stops-kept, leaves-same, noted-kept, none-ok, stops-none, taken-from, fewer}
@@ -196,7 +197,7 @@ module _ (S : LogState) (H : Holds S) (F : Firm) (halted : Bool) (K : DisksHold 
     -- Its turn, whether the site takes the stream or not.
     pub start-kept : (E : Database) (stamp : ℕ) → Kept S F halted (Site k) i (site_runs E D stamp i s (Site k) (record l { body = msg.StreamStart head }))
     start-kept E stamp = choice s.joining refl
-        (site_runs-stream E D stamp i s k (record l { body = msg.StreamStart head }) head refl take-it (waits-plain up))
+        (site_runs-stream E D i stamp s (record l { body = msg.StreamStart head }) (waits-plain up) take-it k head refl)
       where
         t : Turn SiteState
         t = site_runs E D stamp i s (Site k) (record l { body = msg.StreamStart head })
@@ -420,13 +421,13 @@ module _ (S : LogState) (H : Holds S) (F : Firm) (halted : Bool) (K : DisksHold 
         t = site_runs E D stamp i s (Agent h) (record l { body = msg.View w })
 
         taken : arrival (start_at S i) (term_at S i) (record l { body = msg.View w }) ≡ Taken → (b : Bool) → stays_joiner D i s w ≡ b → Kept S F halted (Agent h) i t
-        taken e true q = joins-kept e q t (site_runs-joins E D stamp i s h (record l { body = msg.View w }) w refl e q (waits-plain up))
+        taken e true q = joins-kept e q t (site_runs-joins E D i stamp s (record l { body = msg.View w }) (waits-plain up) e h w refl q)
         taken e false q = λ M G L grown raised.
-            enters-disks e q t (site_runs-enters E D stamp i s h (record l { body = msg.View w }) w refl e q (waits-plain up)) M G L grown raised
+            enters-disks e q t (site_runs-enters E D i stamp s (record l { body = msg.View w }) (waits-plain up) e h w refl q) M G L grown raised
 
         choice : (a : Arrival) → arrival (start_at S i) (term_at S i) (record l { body = msg.View w }) ≡ a → Kept S F halted (Agent h) i t
         choice Taken e = taken e (stays_joiner D i s w) refl
-        choice Refused e = handler-kept S H F halted K (Agent h) i slot t up (site_runs-refused E D stamp i s (Agent h) (record l { body = msg.View w }) e)
+        choice Refused e = handler-kept S H F halted K (Agent h) i slot t up (site_runs-refused E D i stamp s (Agent h) (record l { body = msg.View w }) (waits-plain up) e)
         choice Waits e =
             let a = (waits-for (start_at S i) (term_at S i) (record l { body = msg.View w }) e).1 in
             let b = meant.0 in
@@ -445,7 +446,7 @@ module _ (S : LogState) (H : Holds S) (F : Firm) (halted : Bool) (K : DisksHold 
           → Kept S F halted (Site k) i (site_runs E D stamp i s (Site k) (record l { body = msg.StreamStart head }))
       choice Taken e = start-kept k l head ls is up e E stamp
       choice Refused e = handler-kept S H F halted K (Site k) i slot (site_runs E D stamp i s (Site k) (record l { body = msg.StreamStart head })) up
-          (site_runs-refused E D stamp i s (Site k) (record l { body = msg.StreamStart head }) e)
+          (site_runs-refused E D i stamp s (Site k) (record l { body = msg.StreamStart head }) (waits-plain up) e)
       choice Waits e =
           let w = waits-for (start_at S i) (term_at S i) (record l { body = msg.StreamStart head }) e in
           elim w.0 [
@@ -458,7 +459,7 @@ module _ (S : LogState) (H : Holds S) (F : Firm) (halted : Bool) (K : DisksHold 
   stream-turn (Scanner x) l head ls is up E stamp = absurd ((rw is at (H.foreign (Scanner x) i)).0)
 
   plain-turn : (from : Actor) (l : Letter) → Plain from l → 0 < start_at S i → (E : Database) (stamp : ℕ) → Kept S F halted from i (site_runs E D stamp i s from l)
-  plain-turn from l p up E stamp = handler-kept S H F halted K from i slot (site_runs E D stamp i s from l) up (site_runs-handler E D stamp i s from l p (waits-plain up))
+  plain-turn from l p up E stamp = handler-kept S H F halted K from i slot (site_runs E D stamp i s from l) up (site_runs-plain E D i stamp s from l (waits-plain up) p)
 
   view-turn : (from : Actor) (l : Letter) (w : Membership) (ls : List Letter) → S.words.channel from (Site i) ≡ record l { body = msg.View w } ∷ ls → 0 < start_at S i
       → (E : Database) (stamp : ℕ) → Kept S F halted from i (site_runs E D stamp i s from (record l { body = msg.View w }))

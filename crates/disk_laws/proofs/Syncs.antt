@@ -7,19 +7,18 @@ use Rattle.std.specs.List.{AllByRecursion}
 use Rattle.volt_wire.specs.declared.actor.Actor.{Actor}
 use Rattle.cluster_model.specs.Disk.{Shown, after_parts, after_failure, mark_of}
 use Rattle.cluster_model.specs.Engine.{Database}
-use Rattle.cluster_model.specs.Letters.{Letter, Turn, ◌▸◌}
+use Rattle.cluster_model.specs.Letters.{Letter, Turn}
 use Rattle.cluster_model.specs.Environment.{Environment, NoFault, DiskFails, NoMemory, DisksShow}
 use Rattle.cluster_model.specs.SiteState.{SiteState, Joining}
-use Rattle.cluster_model.specs.Site.{settles}
-use Rattle.cluster_model.specs.Sync.{joiner_owes, may_sync, owes_in, parts_of_sync, after_sync, syncs, stops_so, sync_turn}
+use Rattle.cluster_model.specs.Sync.{joiner_owes, may_sync, owes_in, parts_of_sync, syncs, stops_so, sync_turn}
 use Rattle.cluster_steps.specs.Lists.{In}
 use Rattle.cluster_steps.proofs.Lists.{not-both}
 use Rattle.log_laws.specs.Histories.{LogState, Logs, Holds, IsSlot, part, start_at}
 use Rattle.log_laws.proofs.Kept.Moves.{Grown, after}
 use Rattle.disk_laws.specs.Disks.{Firm, Top, ContentOk, DisksHold}
 use Rattle.disk_laws.proofs.Order.{all-take, some-after_parts, some-after_failure, all-after_parts, all-after_failure, Raise, raise-after_parts, raise-after_failure, raise-take}
-use Rattle.disk_laws.proofs.Handlers.{DiskHandler, handler-then}
-use Rattle.disk_laws.proofs.SiteHandlers.{after_sync-handler, settles-handler, ordered-handler}
+use Rattle.disk_laws.proofs.Handlers.{DiskHandler}
+use Rattle.disk_laws.proofs.SiteHandlers.{syncs-handler}
 use Rattle.disk_laws.proofs.SiteDisks.{Raised, contents-on, disk-on}
 use Rattle.disk_laws.proofs.Turning.{DisksGo, stops-none, firm-before, raised-tops, handler-disks, stopped-disks}
 use Rattle.disk_laws.proofs.SyncContents.{PartsOk, parts-ok}
@@ -67,10 +66,7 @@ module _ (E : Database) (S : LogState) (H : Holds S) (F : Firm) (K : DisksHold S
     T = after S i t.state t.sends G
 
     handler : DiskHandler S.words.deployment i b t
-    handler =
-        let says = after_sync S.words.deployment i b b.joining in
-        ordered-handler S.words.deployment i b (says ▸ settles E S.words.deployment i)
-        (handler-then S.words.deployment i b says (settles E S.words.deployment i) (after_sync-handler S.words.deployment i b) (settles-handler E S.words.deployment i says.state))
+    handler = syncs-handler E S.words.deployment i b
 
     module _ (L : Holds T) (grown : Grown S.words.deployment i t.state S.logs G) (raised : Raised S.words.deployment i t.state F M) where
       pub syncs-disks : DisksGo S T M false

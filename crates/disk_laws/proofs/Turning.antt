@@ -367,7 +367,6 @@ module _ (S : LogState) (H : Holds S) (F : Firm) (halted : Bool) (K : DisksHold 
     owes = inl refl;
     firm = inl refl;
     held = λ k. k;
-    waiting = λ k. k;
     counted = λ c k. k;
   }
 

@@ -106,13 +106,6 @@ calls-number s (Sp call point body ∷ es) h = calls-number (record s { point = 
 calls-number s (Frag m round body ∷ es) h = absurd h.0
 calls-number s (Done m o ∷ es) h = absurd h.0
 
--- none fits where a transaction is open
-pub opened-no-calls : (s : Stage) (es : List Entry) (m r : ℕ) → s.opened ≡ Some (m, r) → OnlyCalls es → WellFormed s es → es ≡ []
-opened-no-calls s [] m r e h k = refl
-opened-no-calls s (Sp call point body ∷ es) m r e h k = absurd (none-and-some k.0.0 e)
-opened-no-calls s (Frag n round body ∷ es) m r e h k = absurd h.0
-opened-no-calls s (Done n o ∷ es) m r e h k = absurd h.0
-
 pub calls-formed : (s : Stage) (n : ℕ) (es : List Entry) → CallsAt n es → s.opened ≡ None → s.point ≤ n → WellFormed s es
 calls-formed s n [] h e l = tt
 calls-formed s n (Sp call point body ∷ es) h e l =

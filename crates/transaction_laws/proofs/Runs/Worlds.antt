@@ -2,7 +2,6 @@
 use Rattle.std.proofs.Common.{◌≡◌, ◌<◌, Bool, true, false, List, [], ◌∷◌, ◌++◌, length, length-append, refl, sym, subst, ap, ◌∙◌, ◌==◌, ◌+◌, arith}
 use Rattle.std.proofs.lemmas.Bool.{and_parts}
 use Rattle.std.specs.Prelude.{ℕ, ◌&&◌, not, nat_lt, if◌then◌else◌, Some, None}
-use Rattle.std.specs.List.{AllByRecursion}
 use Rattle.volt_wire.specs.declared.actor.Actor.{Actor}
 use Rattle.volt_wire.specs.declared.actor.Actor.TheVariants.{Director, Client, Agent, Site, Scanner}
 use Rattle.volt_wire.specs.declared.event.Event.{Event}
@@ -19,9 +18,9 @@ use Rattle.cluster_model.specs.Recover.{new_base, new_log, new_site, starts_anew
 use Rattle.cluster_model.specs.Events.{is_actor, is_some_letter, is_shown, is_slot_or_none, may_recover, can, allows, delivered, recovered_with, may_do, happens, step}
 use Rattle.cluster_model.specs.Runs.{Happening, IsRun, has_failed, may_happen, run}
 use Rattle.word_laws.specs.Histories as word
-use Rattle.cluster_steps.proofs.Lists.{if-false, set-both, all-mono}
+use Rattle.cluster_steps.proofs.Lists.{if-false, set-both}
 use Rattle.word_laws.proofs.Worlds.{actor-host, host-apart, memory-runs}
-use Rattle.log_laws.specs.Histories.{Logs, LogState, Holds, WaitingOk}
+use Rattle.log_laws.specs.Histories.{Logs, LogState, Holds}
 use Rattle.log_laws.specs.Copies.{log_state, HasLogs}
 use Rattle.log_laws.proofs.Kept.Moves.{Grown}
 use Rattle.log_laws.proofs.Runs.Boots.{first-logs, anew-logs}
@@ -34,7 +33,7 @@ use Rattle.disk_laws.proofs.Syncs.{sync-disks, sync-runs}
 use Rattle.disk_laws.proofs.Recoveries.{stopped-hold}
 use Rattle.disk_laws.proofs.Boots.{firm_in, first-disks, anew-disks}
 use Rattle.disk_laws.proofs.Others.{disks-plain, disks-agent}
-use Rattle.disk_laws.proofs.Handlers.{PlainWaiting, waiting-plain}
+use Rattle.reply_laws.proofs.Turns.{waits-plain}
 use Rattle.disk_laws.proofs.SiteTurns.{site_turn-kept}
 use Rattle.transaction_laws.specs.Transactions.{Transactions, CallsHold}
 use Rattle.transaction_laws.specs.Worlds.{IsLaidOut}
@@ -202,12 +201,6 @@ module _ (E : Database) (w : World) (d : HasCalls E (length w.trace) w) (channel
       (subst (λ x. Are x r.next.history r.next.logs) (sym e.0) (subst (λ h. Are k.owner h r.next.logs) (sym e.1) (subst (Are k.owner k.history) (sym e.2) known)))
       (set-both (λ c s. Blank s) w.sites i t.state blank (λ c n. d.blank c))
 
--- what waits at a site is plain
-waits-plain : (w : World) (k : HasLogs w) (i : ℕ) → 0 < (w.sites i).start → AllByRecursion PlainWaiting (w.sites i).waiting
-waits-plain w k i up =
-    let S = log_state w k.owner k.history k.logs in
-    all-mono (WaitingOk S i) PlainWaiting (waiting-plain S i) (w.sites i).waiting ((k.holds.sites i).keeps up).waiting
-
 to_site-calls : (E : Database) (w : World) (i : ℕ) (from : Actor) (ls : List Letter) (o : Environment) → HasCalls E (length w.trace) w → w.channel from (Site i) ≡ ls
     → nat_lt i (slots w.deployment) ≡ true → HasCalls E (length w.trace + 1) (delivered E w (Site i) from ls o)
 to_site-calls E w i from [] o d is slot = same-calls E (length w.trace) w d
@@ -223,7 +216,7 @@ to_site-calls E w i from (l ∷ ls) o d is slot =
     let go = site_turn-kept S k.holds (firm_in w) d.halted d.disks i slot E (stamp_of w) from l ls o is M r.0 r.1 r.2 raised in
     let c = site-calls E S k.holds (firm_in w) d.halted d.transactions (length w.trace) d.calls d.laid i slot d.disks from l ls is o r.0 M r.1 r.2 r.3 r.4 go raised in
     site-known E w d channel stops i t r.0 r.1 r.2 (record { disks = go.disks; transactions = _; calls = c.1 })
-    (turn-blank E w.deployment (stamp_of w) i (w.sites i) (d.blank i) (waits-plain w k i) from l o)
+    (turn-blank E w.deployment (stamp_of w) i (w.sites i) (d.blank i) (waits-plain S k.holds i) from l o)
 
 site-syncs : (E : Database) (w : World) (i : ℕ) (o : Environment) → HasCalls E (length w.trace) w → nat_lt i (slots w.deployment) ≡ true → may_sync (w.sites i) ≡ true
     → HasCalls E (length w.trace + 1) (happens E w (event.Sync i) o)

@@ -14,15 +14,17 @@ use Rattle.cluster_model.specs.Letters.{Letter, becomes, arrival, Taken}
 use Rattle.cluster_model.specs.SiteState.{SiteState, Joining, Joiner, is_leader, leads, other_copies, site_term}
 use Rattle.cluster_model.specs.Site.{acked_in, own_ack, copy_acks, lesser, least, least_of, firm_now, floor_now, sends_firm, counts, takes_asks, in_new_term}
 use Rattle.cluster_model.specs.Environment.{Environment, NoFault, DiskFails, NoMemory, DisksShow}
-use Rattle.cluster_model.specs.Disk.{after_parts}
-use Rattle.cluster_model.specs.Sync.{after_sync, parts_of_sync, site_turn, syncs, sync_turn}
+use Rattle.cluster_model.specs.Sync.{after_sync, site_turn, syncs, sync_turn}
 use Rattle.cluster_steps.proofs.Lists.{if-true, all-append, not-both, none-and-some, same-some}
 use Rattle.cluster_steps.proofs.Leaders.{leader-view, leads-parts, leads-from}
 use Rattle.cluster_steps.proofs.Least.{least_of-below}
-use Rattle.disk_laws.proofs.SiteHandlers.{stays_joiner}
+use Rattle.cluster_steps.proofs.SiteTurns.{stays_joiner}
 use Rattle.transaction_laws.specs.Transactions.{acknowledged}
-use Rattle.transaction_laws.proofs.Sites.SiteWalk.{Comes, WaitsQuietly, with_rest, begins_at, Settles, Steps, AnyReport, any-report, any-reports, settled, settled-walk, after_sync-walk}
-use Rattle.transaction_laws.proofs.Sites.SiteWalked.{takes-asks, asks-view, Walked, Ends, Same, Stays, Views, walked, Wrote, wrote, written_site}
+use Rattle.cluster_steps.proofs.StateSteps.{Comes, Over, StateSettles, StateSteps, over-moves, over-settles, over-tells, with_others}
+use Rattle.transaction_laws.proofs.Sites.SiteWalk.{WaitsQuietly, AnyReport, any-report, any-reports, takes-asks, asks-view, Walked, Ends, Same, Stays, Views, walked}
+use Rattle.cluster_steps.proofs.Frames.{begins_at}
+use Rattle.cluster_steps.proofs.SiteWalk.{settled, settled-walk, after_sync-walk}
+use Rattle.cluster_steps.proofs.SiteTurns.{Wrote, wrote, written_site}
 use Rattle.transaction_laws.proofs.Sites.SiteLogs.{stopped-not-leads, sync-steady}
 
 -- ---- what is shown
@@ -111,7 +113,7 @@ module _ (D : Deployment) (i : ℕ) where
     counted = λ authoritative x c. k.counted (h.same ∙ authoritative) (h.marked authoritative x) (h.counted authoritative x c);
   }
 
-  reckons-rest : (s u : SiteState) → Reckons D i s (with_rest s u)
+  reckons-rest : (s u : SiteState) → Reckons D i s (with_others s u)
   reckons-rest s u = record { same = refl; view = refl; joiners = refl; repaired = λ e. e; marked = λ authoritative x. x; counted = λ authoritative x c. c }
 
   -- the same positions of joiners
@@ -120,7 +122,7 @@ module _ (D : Deployment) (i : ℕ) where
   same-positions f n p [] = (refl, refl)
   same-positions f n p (j ∷ js) = let r = same-positions f n p js in (rw (n j, r.0), rw (n j, p j, r.1))
 
-  reckons-settles : Settles D i (Reckons D i)
+  reckons-settles : StateSettles D i (Reckons D i)
   reckons-settles = record {
     first = λ s. reckons-rest s s;
     next = reckons-then;
@@ -151,7 +153,7 @@ module _ (D : Deployment) (i : ℕ) where
     };
   }
 
-  reckons-steps : (stamp : ℕ) → Steps D stamp i AnyReport (Reckons D i)
+  reckons-steps : (stamp : ℕ) → StateSteps D stamp i AnyReport (Reckons D i)
   reckons-steps stamp = record {
     settles = reckons-settles;
     called = λ s authoritative clear call body. record { same = refl; view = refl; joiners = refl; repaired = λ e. e; marked = λ _ x. x; counted = λ _ x c. c };
@@ -331,16 +333,16 @@ module _ (E : Database) (D : Deployment) (i : ℕ) (s : SiteState) where
   m = (after_sync D i b b.joining).state
 
   abbrev v : SiteState
-  v = settled E D i m
+  v = (settled E D i m).state
 
   said : Reckons D i b m
-  said = after_sync-walk E D i (Reckons D i) (reckons-settles D i) b
+  said = after_sync-walk D i (Over (Reckons D i)) (over-settles D i (Reckons D i) (reckons-settles D i)) b
 
   then : Reckons D i m v
-  then = settled-walk E D i (Reckons D i) (reckons-settles D i) m
+  then = settled-walk E D i (Over (Reckons D i)) (over-moves D i (Reckons D i) (reckons-settles D i)) (over-tells D i (Reckons D i) (reckons-settles D i) E) m
 
-  is-written : Wrote D i s b
-  is-written = wrote D i s (after_parts s.contents (parts_of_sync s s.joining))
+  is-written : Wrote s b
+  is-written = wrote s
 
   -- A leader counts.
   says-counted : (j : Option Joining) → b.joining ≡ j → leads D i b ≡ true → Counted D i (after_sync D i b j).state

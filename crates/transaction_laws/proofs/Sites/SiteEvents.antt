@@ -1,9 +1,8 @@
 -- A site takes a message, or syncs: all that holds of transactions holds after it.
-use Rattle.std.proofs.Common.{◌≡◌, ◌<◌, Bool, true, List, [], ◌∷◌, ◌++◌, append-nil, refl, sym, subst, ◌∙◌, ◌⊎◌, inl, ◌+◌}
-use Rattle.std.specs.Prelude.{ℕ, length, Option, Some, None}
+use Rattle.std.proofs.Common.{◌≡◌, ◌<◌, Bool, true, List, [], ◌∷◌, ◌++◌, append-nil, refl, sym, ◌∙◌, ◌⊎◌, inl, ◌+◌}
+use Rattle.std.specs.Prelude.{ℕ, length, None}
 use Rattle.std.specs.List.{AllByRecursion}
 use Rattle.volt_base.specs.declared.entry.Entry.{Entry}
-use Rattle.volt_wire.specs.Word.{Membership}
 use Rattle.volt_wire.specs.declared.actor.Actor.{Actor}
 use Rattle.volt_wire.specs.declared.actor.Actor.TheVariants.{Agent, Site}
 use Rattle.cluster_model.specs.Engine.{Database}
@@ -11,34 +10,27 @@ use Rattle.cluster_model.specs.Letters.{Letter}
 use Rattle.cluster_model.specs.Environment.{Environment}
 use Rattle.cluster_model.specs.SiteState.{SiteState, leads}
 use Rattle.cluster_model.specs.Sync.{site_turn, sync_turn}
-use Rattle.cluster_steps.proofs.Lists.{all-mono}
-use Rattle.log_laws.specs.Histories.{LogState, Logs, Holds, IsSlot, StreamIn, ViewIn, WaitingOk, start_at, log_at}
+use Rattle.cluster_steps.proofs.Lists.{all-at, all-from, all-mono}
+use Rattle.cluster_steps.proofs.SiteTurns.{NoWord, PlainWaiting, plain-word, sync-waits, turn-waits}
+use Rattle.log_laws.specs.Histories.{LogState, Logs, Holds, IsSlot, part, start_at, log_at}
 use Rattle.log_laws.proofs.Kept.Moves.{Enters, Grown, after, popped}
 use Rattle.log_laws.proofs.Kept.Terms.{some-start}
 use Rattle.log_laws.proofs.Entries.Leads.{Leading, leading}
 use Rattle.disk_laws.specs.Disks.{DisksHold, Firm}
-use Rattle.disk_laws.proofs.Handlers.{PlainWaiting, waiting-plain}
+use Rattle.reply_laws.proofs.Turns.{no-log, site_turn-answers, sync_turn-answers, waits-plain}
 use Rattle.disk_laws.proofs.SiteDisks.{Raised}
 use Rattle.disk_laws.proofs.Turning.{DisksGo, fewer}
-use Rattle.transaction_laws.specs.Transactions.{Transactions, CallsHold, SiteCalls, ToSiteOk}
+use Rattle.transaction_laws.specs.Transactions.{Transactions, CallsHold, SiteCalls, ToOrders, ToSiteOk, WaitsPlain}
 use Rattle.transaction_laws.proofs.Kept.Moves.{with_due}
 use Rattle.transaction_laws.proofs.Initiators.Orders.{LaidOut}
 use Rattle.transaction_laws.proofs.Sites.Leaderships.{OwnTurn, due_after, runs}
-use Rattle.transaction_laws.proofs.Sites.SiteAnswers.{NoLog, site_turn-answers, sync_turn-answers}
+use Rattle.transaction_laws.proofs.Sites.Answers.{orders-fit}
 use Rattle.transaction_laws.proofs.Sites.SiteCounts.{sync-counted, sync-joined, sync-unrepaired}
 use Rattle.transaction_laws.proofs.Sites.SiteGiven.{given-counted, given-joined, given-starts, given-steady, given-unrepaired}
 use Rattle.transaction_laws.proofs.Sites.SiteLogs.{sync-steady}
 use Rattle.transaction_laws.proofs.Sites.SiteOrders.{head-ok, left-orders, own-orders, popped-there, taken-due, waits-none}
 use Rattle.transaction_laws.proofs.Sites.SiteTurned.{OwnFacts, turned-calls}
 use Rattle.transaction_laws.proofs.Sites.SiteWalk.{taken_by}
-
--- what may be so of a joiner without a stream
-no-log : (S : LogState) → Holds S → (i : ℕ) → NoLog (S.sites i)
-no-log S H i j joins none = go (S.sites i).view refl ((H.sites i).joiner j joins).view
-  where
-    go : (o : Option Membership) → (S.sites i).view ≡ o → ViewIn S i j (S.sites i).view → log_at S i ≡ []
-    go None e k = (subst (ViewIn S i j) e k).empty
-    go (Some w) e k = (subst (StreamIn S i w j) none (subst (ViewIn S i j) e k).stream).empty
 
 module _ (E : Database) (S : LogState) (H : Holds S) (F : Firm) (halted : Bool) (K : Transactions) (now : ℕ) (C : CallsHold E S F halted K now) (lay : LaidOut S) (i : ℕ)
     (slot : IsSlot S i) (disks : DisksHold S F halted) where
@@ -84,11 +76,10 @@ module _ (E : Database) (S : LogState) (H : Holds S) (F : Firm) (halted : Bool) 
       facts : OwnFacts E S H F M halted K now C lay i slot ch u out G J grown enters on go.disks raised go.tops taken
       facts = record {
         own = own;
-        answers = site_turn-answers E S.words.deployment (now + 1) i (S.sites i) from l o
-            (λ up. all-mono (WaitingOk S i) PlainWaiting (waiting-plain S i) (S.sites i).waiting ((H.sites i).keeps up).waiting)
-            (no-log S H i)
-            (λ up. waits-none S H i slot from l (head-ok S i under-way from l ls is))
-            (λ up. (before up).waiting) (λ up. (before up).held);
+        answers = site_turn-answers E S.words.deployment i ToOrders (orders-fit E (part S i)) (S.sites i) (now + 1) from l o (waits-plain S H i) (no-log S H i) (λ up. (before up).held);
+        waiting = turn-waits E S.words.deployment (now + 1) i (S.sites i) from l o (λ x. WaitsPlain x.from x.letter)
+            (λ up. all-mono PlainWaiting (λ x. NoWord x.from x.letter) plain-word (S.sites i).waiting (waits-plain S H i up)) (λ up. (before up).waiting)
+            (λ up. waits-none S H i slot from l (head-ok S i under-way from l ls is));
         counted = λ authoritative. let up = runs S H i ch u out G J enters on authoritative in
             given-counted E (now + 1) S H i slot up from l ls is (before up).waiting o F halted disks (λ was. ((before up).counts was).counted) authoritative;
         joined = λ low old authoritative. let up = runs S H i ch u out G J enters on authoritative in
@@ -138,7 +129,9 @@ module _ (E : Database) (S : LogState) (H : Holds S) (F : Firm) (halted : Bool) 
       sync-facts : OwnFacts E S H F M halted K now C lay i slot S.words.channel synced says G J grown enters on go.disks raised go.tops []
       sync-facts = record {
         own = sync-own;
-        answers = sync_turn-answers E S.words.deployment i (S.sites i) o up (before up).waiting (before up).held;
+        answers = sync_turn-answers E S.words.deployment i ToOrders (orders-fit E (part S i)) (S.sites i) o up (before up).held;
+        waiting = λ _. all-from (λ x. WaitsPlain x.from x.letter) synced.waiting
+            (λ x m. all-at (λ x. WaitsPlain x.from x.letter) (S.sites i).waiting (before up).waiting x (sync-waits E S.words.deployment i (S.sites i) o x m));
         counted = sync-counted E S.words.deployment i (S.sites i) o;
         joined = λ low old authoritative. sync-joined E S.words.deployment i (S.sites i) o low (λ was. old was (still-leads authoritative).1) authoritative;
         unrepaired = λ _. sync-unrepaired E S.words.deployment i (S.sites i) o (before up).unrepaired;

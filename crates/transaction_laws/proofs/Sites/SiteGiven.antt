@@ -10,12 +10,13 @@ use Rattle.volt_wire.specs.declared.message.Msg.{Msg}
 use Rattle.volt_wire.specs.declared.message.Msg.TheVariants as msg
 use Rattle.cluster_model.specs.Engine.{Database}
 use Rattle.cluster_model.specs.Words.{slots, host_of_slot, is_member, term_of, term_in}
-use Rattle.cluster_model.specs.Letters.{Blocks, Letter, Waiting, arrival, Taken}
+use Rattle.cluster_model.specs.Letters.{Blocks, Letter, Turn, Waiting, arrival, Taken}
 use Rattle.cluster_model.specs.SiteState.{SiteState, Joining, Streamed, Reported, is_joiner, is_leader, leads, site_term}
+use Rattle.cluster_model.specs.Site.{site_handler}
 use Rattle.cluster_model.specs.Environment.{Environment}
 use Rattle.cluster_model.specs.Sync.{site_turn}
 use Rattle.cluster_steps.specs.Lists.{In}
-use Rattle.cluster_steps.proofs.Lists.{not-both, all-both, all-mono, none-and-some, same-some}
+use Rattle.cluster_steps.proofs.Lists.{all-at, all-from, not-both, all-both, all-mono, none-and-some, same-some}
 use Rattle.word_laws.proofs.Agreement.{member-is}
 use Rattle.word_laws.proofs.Members.{is_member-start}
 use Rattle.log_laws.specs.Histories.{LogState, Holds, JoinerOk, ViewIn, InWord, StreamIn, ReportOk, SiteLetterOk, WaitingFrom, WaitingOk, IsSlot, line, line_in, between, part, start_at, term_at}
@@ -28,10 +29,10 @@ use Rattle.log_laws.proofs.NewTerms.Taking.{first-word, later-word}
 use Rattle.log_laws.proofs.Kept.Terms.{some-term, took-decided, took-unnamed}
 use Rattle.log_laws.proofs.Runs.SiteHandlers.{taken-here}
 use Rattle.disk_laws.specs.Disks.{Firm, StreamDisk, DisksHold}
-use Rattle.disk_laws.proofs.SiteHandlers.{stays_joiner}
+use Rattle.cluster_steps.proofs.SiteTurns.{Keeps, NoWord, anew, handler-keeps, stays_joiner, turn-cases, whole, whole-keeps}
 use Rattle.transaction_laws.specs.Transactions.{WaitsPlain}
-use Rattle.transaction_laws.proofs.Sites.SiteWalk.{Comes, WaitsQuietly, ReportOf, waits-quietly, taken_by, AnyReport, any-report, any-reports, SameView, view-steps}
-use Rattle.transaction_laws.proofs.Sites.SiteWalked.{asks-view, Walked, Ends, Same, Stays, Views, walked}
+use Rattle.cluster_steps.proofs.StateSteps.{Comes, ReportOf}
+use Rattle.transaction_laws.proofs.Sites.SiteWalk.{WaitsQuietly, quiet-word, waits-quietly, taken_by}
 use Rattle.transaction_laws.proofs.Sites.SiteLogs.{Steady, Started, stopped-not-leads, site-steady, site-starts}
 use Rattle.transaction_laws.proofs.Sites.SiteCounts.{Counted, AboveMark, Unrepaired, site-counted, site-joined, site-unrepaired}
 
@@ -265,15 +266,19 @@ module _ (E : Database) (stamp : ℕ) (S : LogState) (H : Holds S) (i : ℕ) (sl
 
   -- a message from a site leaves it in its word, or stops it
   same-word : leads S.words.deployment i u ≡ true → (c : ℕ) → from ≡ Site c → u.view ≡ (S.sites i).view
-  same-word led c sender =
-      go (walked E S.words.deployment stamp i AnyReport SameView (view-steps S.words.deployment stamp i) (λ s ws. refl) (S.sites i) waits from l o comes (λ _. any-report from l)
-      (any-reports (site_term u) (S.sites i).waiting))
+  same-word led c sender = turn-cases E S.words.deployment stamp i (S.sites i) from (λ t. leads S.words.deployment i t.state ≡ true → t.state.view ≡ (S.sites i).view)
+      (λ start stop joining contents out inert led. absurd (stopped-not-leads S.words.deployment i (anew (S.sites i) start joining stop contents) refl led)) l o
+      (λ stop plans aside led. refl) (λ up waits led. refl) (λ up takes led. behind) led
     where
-      go : Walked E S.words.deployment i SameView (S.sites i) from l u → u.view ≡ (S.sites i).view
-      go (Ends view joiners) = absurd (stopped-not-leads S.words.deployment i u view led)
-      go (Same none e) = ap (λ x. x.view) e
-      go (Stays a log leading other v view k e) = ap (λ x. x.view) e ∙ asks-view E S.words.deployment i v ∙ view
-      go (Views a h w agent body joining enters v view k e) = absurd (let x = sym sender ∙ agent in cc)
+      t : Turn SiteState
+      t = site_handler E S.words.deployment stamp i (S.sites i) from l
+
+      k : Keeps (S.sites i) t
+      k = handler-keeps E S.words.deployment i stamp (S.sites i) from l (subst (λ f. NoWord f l) (sym sender) tt)
+
+      behind : (whole E S.words.deployment stamp i t).state.view ≡ (S.sites i).view
+      behind = (whole-keeps E S.words.deployment i stamp t (all-from (λ x. NoWord x.from x.letter) t.state.waiting (λ x m.
+          quiet-word x.from x.letter (all-at WaitsQuietly (S.sites i).waiting waits x (k.waits x m))))).view ∙ k.view
 
   -- a report that it takes is of its term
   own-report : leads S.words.deployment i u ≡ true → arrival (start_at S i) (term_at S i) l ≡ Taken → ReportOf (ReportsOk S (part S i) (site_term u)) from l

@@ -12,13 +12,14 @@ use Rattle.cluster_model.specs.Letters.{Letter, arrival, Taken}
 use Rattle.cluster_model.specs.SiteState.{SiteState, Reported, is_leader, leads, other_copies, site_term}
 use Rattle.cluster_model.specs.Site.{longest, lacks, takes_asks, in_new_term}
 use Rattle.cluster_model.specs.Environment.{Environment, NoFault, DiskFails, NoMemory, DisksShow}
-use Rattle.cluster_model.specs.Sync.{after_sync, parts_of_sync, site_turn, syncs, sync_turn}
-use Rattle.cluster_model.specs.Disk.{after_parts}
+use Rattle.cluster_model.specs.Sync.{after_sync, site_turn, syncs, sync_turn}
 use Rattle.cluster_steps.proofs.Lists.{all-append, not-both, none-and-some}
 use Rattle.cluster_steps.proofs.Leaders.{leader-view, leads-parts, leads-from}
 use Rattle.transaction_laws.proofs.Kept.Moves.{CallsAt, IsCallAt}
-use Rattle.transaction_laws.proofs.Sites.SiteWalk.{Comes, WaitsQuietly, ReportOf, WaitsReport, taken_at, taken_by, with_rest, Settles, Steps, AnyReport, any-report, any-reports, settled, settled-walk, after_sync-walk}
-use Rattle.transaction_laws.proofs.Sites.SiteWalked.{takes-asks, asks-view, Walked, Ends, Same, Stays, Views, walked, comes-view, wrote, wrote-leader, written_site}
+use Rattle.cluster_steps.proofs.StateSteps.{Comes, Over, ReportOf, StateSettles, StateSteps, over-moves, over-settles, over-tells, with_others}
+use Rattle.transaction_laws.proofs.Sites.SiteWalk.{WaitsQuietly, WaitsReport, taken_at, taken_by, AnyReport, any-report, any-reports, takes-asks, asks-view, Walked, Ends, Same, Stays, Views, walked, comes-view, wrote-leader}
+use Rattle.cluster_steps.proofs.SiteWalk.{settled, settled-walk, after_sync-walk}
+use Rattle.cluster_steps.proofs.SiteTurns.{wrote, written_site}
 
 -- ---- what is shown
 
@@ -127,11 +128,11 @@ module _ (D : Deployment) (stamp i : ℕ) (P : Reported → Type 0) where
     ];
   }
 
-  logs-settles : Settles D i (Logs D stamp i P)
+  logs-settles : StateSettles D i (Logs D stamp i P)
   logs-settles = record {
     first = λ s. logs-same s s refl refl refl refl refl;
     next = logs-then;
-    rest = λ s u. logs-same s (with_rest s u) refl refl refl refl refl;
+    rest = λ s u. logs-same s (with_others s u) refl refl refl refl refl;
     apart = λ s u a. record {
       same = a.after ∙ sym a.before;
       view = a.view;
@@ -142,7 +143,7 @@ module _ (D : Deployment) (stamp i : ℕ) (P : Reported → Type 0) where
     joiners = λ s f n p. logs-same s _ refl refl refl refl refl;
   }
 
-  logs-steps : Steps D stamp i P (Logs D stamp i P)
+  logs-steps : StateSteps D stamp i P (Logs D stamp i P)
   logs-steps = record {
     settles = logs-settles;
     called = λ s authoritative clear call body. record {
@@ -279,7 +280,7 @@ record Still (D : Deployment) (i : ℕ) (s u : SiteState) : Type 0 where
   view : u.view ≡ s.view
   leads : is_leader D i s ≡ true → (u.repaired ≡ s.repaired) × (u.log ≡ s.log)
 
-still-settles : (D : Deployment) (i : ℕ) → Settles D i (Still D i)
+still-settles : (D : Deployment) (i : ℕ) → StateSettles D i (Still D i)
 still-settles D i = record {
   first = λ s. record { same = refl; view = refl; leads = λ _. (refl, refl) };
   next = λ s m u h k. record {
@@ -305,18 +306,19 @@ syncs-still E D i s =
     let K = still-settles D i in
     let b = written_site s in
     let m = (after_sync D i b b.joining).state in
-    let v = settled E D i m in
-    K.next b v (takes_asks E D i v).state (K.next b m v (after_sync-walk E D i (Still D i) K b) (settled-walk E D i (Still D i) K m)) (asks-still E D i v)
+    let v = (settled E D i m).state in
+    K.next b v (takes_asks E D i v).state (K.next b m v (after_sync-walk D i (Over (Still D i)) (over-settles D i (Still D i) K) b)
+    (settled-walk E D i (Over (Still D i)) (over-moves D i (Still D i) K) (over-tells D i (Still D i) K E) m)) (asks-still E D i v)
 
 syncs-steady : (E : Database) (D : Deployment) (i : ℕ) (s : SiteState) → leads D i (syncs E D i s).state ≡ true
     → ((syncs E D i s).state.log ≡ s.log) × ((syncs E D i s).state.view ≡ s.view) × (leads D i s ≡ true)
 syncs-steady E D i s led =
     let k = syncs-still E D i s in
-    let w = wrote D i s (after_parts s.contents (parts_of_sync s s.joining)) in
+    let w = wrote s in
     let p = leads-parts D i (syncs E D i s).state led in
     let authoritative : is_leader D i (written_site s) ≡ true = sym k.same ∙ p.0 in
     let r = k.leads authoritative in
-    (r.1 ∙ w.log, k.view ∙ w.view, leads-from D i s (wrote-leader D i s (written_site s) w authoritative) (sym w.repaired ∙ sym r.0 ∙ p.1))
+    (r.1 ∙ w.log, k.view ∙ w.view, leads-from D i s (wrote-leader D i s (written_site s) w authoritative (leader-view D i (written_site s) authoritative).0) (sym w.repaired ∙ sym r.0 ∙ p.1))
 
 pub sync-steady : (E : Database) (D : Deployment) (i : ℕ) (s : SiteState) (o : Environment) → leads D i (sync_turn E D i s o).state ≡ true
     → ((sync_turn E D i s o).state.log ≡ s.log) × ((sync_turn E D i s o).state.view ≡ s.view) × (leads D i s ≡ true)

@@ -23,8 +23,9 @@ use Rattle.log_laws.proofs.Entries.Leads.{Leading, leading}
 use Rattle.log_laws.proofs.Runs.Leading.{leads-runs}
 use Rattle.disk_laws.specs.Disks.{DisksHold, Firm, MemberDisk, Top}
 use Rattle.transaction_laws.specs.Machine.{first_stage, stage}
-use Rattle.transaction_laws.specs.Transactions.{Transactions, AnswerOk, Books, CountsOk, Everywhere, IsPart, OnlyCalls, StandsAt, StateOk, Stood, acknowledged}
-use Rattle.transaction_laws.proofs.Sites.Answers.{AnswersFirm, SentAnswer}
+use Rattle.transaction_laws.specs.Transactions.{Transactions, ToOrders, AnswerOk, Books, CountsOk, Everywhere, IsPart, OnlyCalls, EntryAt, StateOk, Stood, acknowledged}
+use Rattle.reply_laws.specs.Answers.{SentAnswer}
+use Rattle.transaction_laws.proofs.Sites.Answers.{AnswersFirm, answers-firm}
 use Rattle.transaction_laws.proofs.Entries.Machine.{calls-done, calls-opened, done-append, open_in-stage, stage-append}
 
 -- ---- the least of what was acknowledged
@@ -121,7 +122,7 @@ module _ (E : Database) (T : LogState) (J : Holds T) (M : Firm) (halted : Bool) 
         leadership = k.leadership;
         led = k.led;
         position = a.position;
-        stands = subst (λ xs. StandsAt xs a.position e) k.log a.stands;
+        stands = subst (λ xs. EntryAt xs a.position e) k.log a.stands;
         everywhere = everywhere a.position a.firm;
       }),
     )
@@ -174,11 +175,15 @@ module _ (E : Database) (T : LogState) (J : Holds T) (M : Firm) (halted : Bool) 
       }
 
   -- What it says is so.
-  pub answers-ok : (l : Letter) → SentAnswer E D i s l → AnswerOk E T M L (part T i) l
-  answers-ok l = elim l.body as (λ b. SentAnswer E D i s (record l { body = b }) → AnswerOk E T M L (part T i) (record l { body = b })) [
-    | msg.FragDone m round partial ↦ λ a. let r = answer-stood a.1.leads l.term (Frag m round a.0) a.1 in (r.0, (a.0, r.1))
-    | msg.Finished m ↦ λ a. let r = answer-stood a.1.leads l.term (Done m a.0) a.1 in (r.0, (a.0, r.1))
-    | msg.MpState m is_open outcome ↦ λ a. (
+  pub answers-ok : (l : Letter) → SentAnswer E D i ToOrders s l → AnswerOk E T M L (part T i) l
+  answers-ok l = elim l.body as (λ b. SentAnswer E D i ToOrders s (record l { body = b }) → AnswerOk E T M L (part T i) (record l { body = b })) [
+    | msg.FragDone m round partial ↦ λ a.
+        let k = a.answered refl in let c = k.stands.here.claim in let e = Frag m round c.0 in
+        let r = answer-stood k.leads l.term e (answers-firm D i s (ToOrders (msg.FragDone m round partial)) l.term e a.to_initiator k c.1) in (r.0, (c.0, r.1))
+    | msg.Finished m ↦ λ a.
+        let k = a.answered refl in let c = k.stands.here.claim in let e = Done m c.0 in
+        let r = answer-stood k.leads l.term e (answers-firm D i s (ToOrders (msg.Finished m)) l.term e a.to_initiator k c.1) in (r.0, (c.0, r.1))
+    | msg.MpState m is_open outcome ↦ λ sent. let a = sent.to_initiator in (
       some a.leads l.term a.term_is,
       λ above. let e = a.term_is ∙ term-is a.leads in
           subst (λ t. StateOk E T M (part T i) t m is_open outcome) (sym e) (told-state a.leads a.on_disk m is_open outcome a.told (omega (arith, above, e))),

@@ -25,12 +25,13 @@ use Rattle.log_laws.proofs.Entries.Leads.{Leading, leading}
 use Rattle.log_laws.proofs.Runs.Leading.{leads-runs}
 use Rattle.disk_laws.specs.Disks.{DisksHold, Firm, Shows, Top, shown_at}
 use Rattle.disk_laws.proofs.SiteDisks.{Raised}
-use Rattle.transaction_laws.specs.Transactions.{Transactions, Aligned, Books, CallsHold, CountsOk, HeldAnswer, AgentCalls, AnswerOk, InitiatingOk, IsPart, SiteCalls, ToSiteOk, WaitingAnswer, orders}
+use Rattle.transaction_laws.specs.Transactions.{Transactions, Aligned, Books, CallsHold, CountsOk, ToOrders, AgentCalls, AnswerOk, InitiatingOk, IsPart, SiteCalls, ToSiteOk, WaitingAnswer, orders}
 use Rattle.transaction_laws.proofs.Kept.Moves.{Moved, Onto, with_due}
 use Rattle.transaction_laws.proofs.Kept.Worded.{aligned-later}
 use Rattle.transaction_laws.proofs.Kept.Later.{answer-on, books-moved, phase-moved, to_site-on}
 use Rattle.transaction_laws.proofs.Initiators.Orders.{LaidOut, slot-part}
-use Rattle.transaction_laws.proofs.Sites.Answers.{SentAnswer, TurnAnswers}
+use Rattle.reply_laws.specs.Answers.{HoldsAnswers, SentAnswer, TurnAnswers}
+use Rattle.transaction_laws.proofs.Sites.Answers.{NoOrderWaits}
 use Rattle.transaction_laws.proofs.Sites.SiteSends.{answers-ok}
 use Rattle.transaction_laws.proofs.Sites.Leaderships.{OwnTurn, all-moved, due-here, due-none, due-unless, due_after, heads-own, authoritative-on, led-before, next, runs, start, unled-due}
 use Rattle.transaction_laws.proofs.Sites.SiteOrders.{none-under-way}
@@ -49,7 +50,8 @@ module _ (E : Database) (S : LogState) (H : Holds S) (F M : Firm) (halted : Bool
   -- What must be so of the site's own turn, and of the channels before what it sent.
   pub record OwnFacts : Type 0 where
     pub own : OwnTurn E S H K C.books.due (now + 1) i ch u out G J grown enters on taken
-    pub answers : TurnAnswers E D i (record { state = u; sends = out })
+    pub answers : TurnAnswers E D i ToOrders (record { state = u; sends = out })
+    pub waiting : 0 < u.start → NoOrderWaits u
     pub counted : leads D i u ≡ true → Counted D i u
     pub joined : (low : ℕ) → (leads D i (S.sites i) ≡ true → u.view ≡ (S.sites i).view → AllByRecursion (λ j. low ≤ j.stream_start) (S.sites i).joiners) → leads D i u ≡ true
         → low ≤ length u.log → AllByRecursion (λ j. low ≤ j.stream_start) u.joiners
@@ -156,7 +158,7 @@ module _ (E : Database) (S : LogState) (H : Holds S) (F M : Firm) (halted : Bool
     other-site : (c : ℕ) → (c ≡ i → ⊥) → 0 < start_at S c → SiteCalls S K c → SiteCalls T L c
     other-site c n up k = record {
       waiting = rw same k.waiting;
-      held = subst (λ x. AllByRecursion (HeldAnswer x (site_term x)) x.held) (sym same) k.held;
+      held = subst (HoldsAnswers ToOrders) (sym same) k.held;
       orders = λ w joins view first h a init.
           let joined = ap (λ x. x.joining) (sym same) ∙ joins in
           let viewed = ap (λ x. x.view) (sym same) ∙ view in
@@ -263,8 +265,8 @@ module _ (E : Database) (S : LogState) (H : Holds S) (F M : Firm) (halted : Bool
 
       own-site : 0 < u.start → SiteCalls T L i
       own-site some = record {
-        waiting = rw mine (facts.answers.waiting some);
-        held = subst (λ x. AllByRecursion (HeldAnswer x (site_term x)) x.held) (sym mine) (facts.answers.held some);
+        waiting = rw mine (facts.waiting some);
+        held = subst (HoldsAnswers ToOrders) (sym mine) (facts.answers.held some);
         orders = λ w joins view first h a init.
             ap (λ x. orders x.start (term_of w) (ch (Agent h) (Site i))) mine
             ∙ orders-here w (ap (λ x. x.joining) (sym mine) ∙ joins) (ap (λ x. x.view) (sym mine) ∙ view) first some h a init;
@@ -289,8 +291,8 @@ module _ (E : Database) (S : LogState) (H : Holds S) (F M : Firm) (halted : Bool
       counts-here authoritative = (own-site (subst (λ x. 0 < x.start) mine (leads-runs T J i authoritative))).counts authoritative
 
       said : (h : ℕ) → AllByRecursion (AnswerOk E T M L (part S i)) (out (Agent h))
-      said h = all-mono (SentAnswer E D i u) (AnswerOk E T M L (part S i)) (λ l a.
-          answers-ok E T J M halted disks L (now + 1) books i slot (slot-part S lay i slot) counts-here l (subst (λ x. SentAnswer E D i x l) (sym mine) a))
+      said h = all-mono (SentAnswer E D i ToOrders u) (AnswerOk E T M L (part S i)) (λ l a.
+          answers-ok E T J M halted disks L (now + 1) books i slot (slot-part S lay i slot) counts-here l (subst (λ x. SentAnswer E D i ToOrders x l) (sym mine) a))
           (out (Agent h)) (facts.answers.sends h)
 
       to_agents : (c h : ℕ) → IsSlot S c → AllByRecursion (AnswerOk E T M L (part S c)) (T.words.channel (Site c) (Agent h))
