@@ -31,9 +31,13 @@ is_host D host = nat_lt host D.layout.hosts
 abbrev pub is_client : Deployment → ℕ → Bool
 is_client D n = nat_lt 0 n && nat_le n D.clients
 
+-- a layout that isn't refused
+abbrev pub IsLaidOut : Deployment → Type 0
+IsLaidOut D = IsLayout D.layout.hosts D.layout.sites D.layout.k
+
 -- A deployment that isn't refused: its layout isn't, and it serves 1 to 16 clients.
 pub record IsDeployment (D : Deployment) : Type 0 where
-  pub layout : IsLayout D.layout.hosts D.layout.sites D.layout.k
+  pub layout : IsLaidOut D
   pub some_client : 1 ≤ D.clients
   pub few_clients : D.clients ≤ 16
 

@@ -18,7 +18,7 @@ use Rattle.cluster_model.specs.Laws.{start_in_letter, starts_in}
 use Rattle.cluster_steps.specs.Lists.{In}
 use Rattle.word_laws.specs.Histories.{State, agent_start, starts_to, WordsHold, LetterOk, AsksAdmission, CameOk, QueuedAdmissionOk, AgentWaitingFrom, AgentWaitingOk, ClosesFrom, InOrder}
 use Rattle.cluster_steps.proofs.Lists.{all-mono, all-filter, eqb-same, not-both}
-use Rattle.word_laws.proofs.Moves.{Nobody, Anyone, after_agent, agent_popped, WordsLater, Heeded, WordsGo, ShownOk}
+use Rattle.word_laws.proofs.Moves.{Nobody, Anyone, after_agent, agent_popped, WordsLater, Heeded, WordsGo}
 use Rattle.word_laws.proofs.Calm.{BringsWord, asked_by, handler-calm, loaded_by}
 use Rattle.word_laws.proofs.Laters.{ask-later, came-later, closes-later, ask-began, waiting-later}
 use Rattle.word_laws.proofs.Turns.{tells, concludes, stops_with_host-closed, StopsSay, stops-say, stops_with_host-say}

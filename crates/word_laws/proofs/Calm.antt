@@ -3,7 +3,7 @@
 use Rattle.std.proofs.Common.{◌≡◌, ◌<◌, Bool, true, false, List, [], ◌∷◌, ◌++◌, refl, sym, subst, ap, ◌∙◌, ◌⊎◌, inl, inr, ◌==◌, arith}
 use Rattle.std.proofs.lemmas.Bool.{and_parts, eqb-true, ltb-true}
 use Rattle.std.proofs.lemmas.Bool.Decides.{nat_tests}
-use Rattle.std.specs.Prelude.{ℕ, ◌&&◌, ◌||◌, not, filter, if◌then◌else◌, nat_lt, Option, Some, None, is_none}
+use Rattle.std.specs.Prelude.{ℕ, ◌&&◌, if◌then◌else◌, nat_lt, Option, Some, None}
 use Rattle.std.specs.List.{AllByRecursion, list_all}
 use Rattle.volt_base.specs.declared.entry.Outcome.{Outcome}
 use Rattle.volt_wire.specs.Word.{Membership}
@@ -14,11 +14,11 @@ use Rattle.volt_wire.specs.declared.end.End.TheVariants as end
 use Rattle.volt_wire.specs.declared.message.Msg.{Msg}
 use Rattle.volt_wire.specs.declared.message.Msg.TheVariants as msg
 use Rattle.cluster_model.specs.Engine.{Database, CoordStep, Round, Finish}
-use Rattle.cluster_model.specs.Words.{Deployment, part_of_slot, is_host, slots_of_host, all_parts, with_number, is_in, term_of, same_word, members, initiator, leader, start_of, start_of_slot, is_member, part_down, admits, with_admitted, is_some_of}
+use Rattle.cluster_model.specs.Words.{Deployment, part_of_slot, slots_of_host, all_parts, with_number, is_in, term_of, same_word, initiator, leader, start_of_slot, is_member, part_down, with_admitted, is_some_of}
 use Rattle.cluster_model.specs.Letters.{Blocks, same, Letter, Turn, becomes, sending, ◌▸◌, open_letter, letter_to, letter_in, only}
-use Rattle.cluster_model.specs.AgentState.{AgentState, Phase, Off, Hears, Closes, Idle, Works, Work, Job, RunCall, TakeSnapshot, Queued, Job_, Admission, Heard, Initiating, initiates, answers_client, on_reply, stops, stops_with_host, without_call, Pending}
+use Rattle.cluster_model.specs.AgentState.{AgentState, Phase, Off, Hears, Closes, Idle, Works, Work, Job, RunCall, TakeSnapshot, Queued, Job_, Admission, Heard, Initiating, answers_client, on_reply, without_call, Pending}
 use Rattle.cluster_model.specs.Initiator.{to_all_leaders, begins, admitting, works_queue, if_idle, queues, answers, no_work, with_work, with_phase, all_finished, open_told, rests, ends_job, goes_on, feeds, ends_round, gathers, on_frag_done, settles, on_finished, done_to, closes_open, first_number, hears, on_mp_state, to_leaders, to_leader}
-use Rattle.cluster_model.specs.Agent.{to_slot, to_partition, to_initiator, hands_on, unless_down, on_call, on_hello, on_decided, asks_initiator, has_loaded, on_loaded, is_other_word, says, decides_word, is_word, may_decide, from_agent, from_site, from_director, from_client, agent_handler, pends}
+use Rattle.cluster_model.specs.Agent.{to_slot, to_partition, to_initiator, hands_on, unless_down, on_call, on_hello, asks_initiator, has_loaded, on_loaded, agent_handler, pends}
 use Rattle.cluster_steps.specs.Lists.{In}
 use Rattle.word_laws.specs.Histories.{IsOff}
 use Rattle.cluster_steps.proofs.Lists.{all-append, all-if, same-some, in-left, in-right, in-cases, all-one}

@@ -78,9 +78,15 @@ stop-handler S n t H up e sends says = handler-plain S n t (inr e) (stops-holds 
     owner = ((H.hosts n).running up).0
 
     gone : Gone (after_agent S n t.state t.sends S.history) (agent_start S n)
-    gone = (begun-after S n t.state t.sends S.history (λ k x i. i) (agent_start S n) (begun-running S n H up),
-        λ r. absurd (omega (arith, up, sym (ap (λ x. x.start) (subst (λ z. (after_agent S n t.state t.sends S.history).agents z ≡ new_agent 0) (sym owner)
-        (agent-there S n t.state t.sends S.history ∙ e))) ∙ r)))
+    gone = (
+      begun-after S n t.state t.sends S.history (λ k x i. i) (agent_start S n) (begun-running S n H up),
+      λ r. absurd (omega (
+        arith,
+        up,
+        sym (ap (λ x. x.start) (subst (λ z. (after_agent S n t.state t.sends S.history).agents z ≡ new_agent 0) (sym owner)
+            (agent-there S n t.state t.sends S.history ∙ e))) ∙ r,
+      )),
+    )
 
 -- ---- an agent's own word becomes another one
 

@@ -1,9 +1,8 @@
 -- Lost starts are stopped in every world that is reached: by what words of the epoch say, and, of messages to clients, which a recovery
 -- leaves, because a start that is over never comes back.
 use Rattle.std.proofs.Common.{◌≡◌, ◌+◌, ◌<◌, ◌≤◌, Bool, true, false, List, [], ◌∷◌, ◌++◌, append-nil, refl, sym, subst, ap, ◌∙◌, ◌⊎◌, inl, inr, ◌==◌, arith}
-use Rattle.std.proofs.lemmas.Bool.{cases_Bool, and_parts, eqb-true}
-use Rattle.std.proofs.lemmas.Bool.Decides.{nat_tests}
-use Rattle.std.specs.Prelude.{ℕ, ◌&&◌, not, if◌then◌else◌, nat_lt, Option, Some, None}
+use Rattle.std.proofs.lemmas.Bool.{cases_Bool, and_parts}
+use Rattle.std.specs.Prelude.{ℕ, ◌&&◌, not, if◌then◌else◌, Option, Some, None}
 use Rattle.std.specs.List.{AllByRecursion}
 use Rattle.volt_wire.specs.Word.{Membership}
 use Rattle.volt_wire.specs.declared.actor.Actor.{Actor}
@@ -15,15 +14,15 @@ use Rattle.volt_wire.specs.declared.item.Item.TheVariants as item
 use Rattle.volt_wire.specs.declared.item.TimedItem.{TimedItem}
 use Rattle.volt_wire.specs.declared.message.Msg.TheVariants as msg
 use Rattle.cluster_model.specs.Engine.{Database}
-use Rattle.cluster_model.specs.Words.{Deployment, is_host, is_client, is_in, parts}
-use Rattle.cluster_model.specs.Letters.{same, Letter, Turn, open_letter}
+use Rattle.cluster_model.specs.Words.{Deployment, is_host, is_client, parts}
+use Rattle.cluster_model.specs.Letters.{Letter, Turn, open_letter}
 use Rattle.cluster_model.specs.Director.{DirectorState, does, does_next}
 use Rattle.cluster_model.specs.Environment.{Environment, NoFault, DiskFails, NoMemory, DisksShow}
-use Rattle.cluster_model.specs.AgentState.{AgentState, new_agent}
+use Rattle.cluster_model.specs.AgentState.{AgentState}
 use Rattle.cluster_model.specs.Agent.{agent_turn, agent_takes}
-use Rattle.cluster_model.specs.World.{World, Input, first_world, set_at, took, stamp_of, with_director, new_word, greatest_done, member_agent}
+use Rattle.cluster_model.specs.World.{World, Input, took, stamp_of, with_director, new_word, greatest_done, member_agent}
 use Rattle.cluster_model.specs.Recover.{recovers, starts_anew, opens, new_base, new_log}
-use Rattle.cluster_model.specs.Events.{is_actor, is_some_letter, can, allows, delivered, recovered_with, may_do, happens, step}
+use Rattle.cluster_model.specs.Events.{is_actor, is_some_letter, can, allows, delivered, may_do, happens, step}
 use Rattle.cluster_model.specs.Runs.{Happening, Reached, has_failed, may_happen}
 use Rattle.cluster_model.specs.Laws.{start_in_letter, starts_in}
 use Rattle.cluster_model.proofs.Runs.{reached-kept}
@@ -311,14 +310,26 @@ module _ (E : Database) (w : World) (H : LostHold w) where
       choice : (h : ℕ) (b : Actor) (c : Bool) → AllByRecursion (Left v b) (if c then took w.channel from (Agent n) (Agent h) b ++ t.sends b else took w.channel from (Agent n) (Agent h) b)
       choice h b true = all-append (Left v b) (took w.channel from (Agent n) (Agent h) b) (t.sends b) (before h b) (shown-left v a.next b (t.sends b) (a.shown b))
       choice h b false = before h b
-  delivered-left Director from (l ∷ ls) o is there may k = record { epoch = k; left = λ h b.
-      took-all (Left (delivered E w Director from (l ∷ ls) o) b) w.channel from Director (Agent h) b (kept _ (λ s r. delivered-retired E w s r Director from (l ∷ ls) o is) h b) }
-  delivered-left (Client n) from (l ∷ ls) o is there may k = record { epoch = k; left = λ h b.
-      took-all (Left (delivered E w (Client n) from (l ∷ ls) o) b) w.channel from (Client n) (Agent h) b (kept _ (λ s r. delivered-retired E w s r (Client n) from (l ∷ ls) o is) h b) }
-  delivered-left (Site i) from (l ∷ ls) o is there may k = record { epoch = k; left = λ h b.
-      took-all (Left (delivered E w (Site i) from (l ∷ ls) o) b) w.channel from (Site i) (Agent h) b (kept _ (λ s r. delivered-retired E w s r (Site i) from (l ∷ ls) o is) h b) }
-  delivered-left (Scanner i) from (l ∷ ls) o is there may k = record { epoch = k; left = λ h b.
-      took-all (Left (delivered E w (Scanner i) from (l ∷ ls) o) b) w.channel from (Scanner i) (Agent h) b (kept _ (λ s r. delivered-retired E w s r (Scanner i) from (l ∷ ls) o is) h b) }
+  delivered-left Director from (l ∷ ls) o is there may k = record {
+    epoch = k;
+    left = λ h b.
+        took-all (Left (delivered E w Director from (l ∷ ls) o) b) w.channel from Director (Agent h) b (kept _ (λ s r. delivered-retired E w s r Director from (l ∷ ls) o is) h b);
+  }
+  delivered-left (Client n) from (l ∷ ls) o is there may k = record {
+    epoch = k;
+    left = λ h b.
+        took-all (Left (delivered E w (Client n) from (l ∷ ls) o) b) w.channel from (Client n) (Agent h) b (kept _ (λ s r. delivered-retired E w s r (Client n) from (l ∷ ls) o is) h b);
+  }
+  delivered-left (Site i) from (l ∷ ls) o is there may k = record {
+    epoch = k;
+    left = λ h b.
+        took-all (Left (delivered E w (Site i) from (l ∷ ls) o) b) w.channel from (Site i) (Agent h) b (kept _ (λ s r. delivered-retired E w s r (Site i) from (l ∷ ls) o is) h b);
+  }
+  delivered-left (Scanner i) from (l ∷ ls) o is there may k = record {
+    epoch = k;
+    left = λ h b.
+        took-all (Left (delivered E w (Scanner i) from (l ∷ ls) o) b) w.channel from (Scanner i) (Agent h) b (kept _ (λ s r. delivered-retired E w s r (Scanner i) from (l ∷ ls) o is) h b);
+  }
 
   recovers-left : (shown : List ℕ) (failed : Option (ℕ × Bool)) → InEpoch (recovers E w shown failed) → LostHold (recovers E w shown failed)
   recovers-left shown (Some failed) k = record { epoch = k; left = kept (recovers E w shown (Some failed)) (λ s r. recovers-retired E w s r shown (Some failed)) }

@@ -1,17 +1,17 @@
 -- Of what the proofs speak: the state after a turn, what is kept in a later one, turns that bring no word, and events of agents.
-use Rattle.std.proofs.Common.{◌≡◌, ◌<◌, true, false, List, [], ◌∷◌, ◌++◌, ◌⊎◌, ◌==◌}
-use Rattle.std.specs.Prelude.{ℕ, Option, Some, None}
+use Rattle.std.proofs.Common.{◌≡◌, ◌<◌, true, false, ◌⊎◌, ◌==◌}
+use Rattle.std.specs.Prelude.{ℕ, Some, None}
 use Rattle.std.specs.List.{AllByRecursion, list_any}
 use Rattle.volt_wire.specs.Word.{Membership}
 use Rattle.volt_wire.specs.declared.actor.Actor.{Actor}
 use Rattle.volt_wire.specs.declared.actor.Actor.TheVariants.{Agent}
 use Rattle.volt_wire.specs.declared.message.Msg.TheVariants as msg
-use Rattle.cluster_model.specs.Words.{is_in, term_of, same_word, admits, with_admitted}
+use Rattle.cluster_model.specs.Words.{is_in, admits}
 use Rattle.cluster_model.specs.Letters.{Letter, Sends, Turn}
-use Rattle.cluster_model.specs.AgentState.{AgentState, Queued, Admission}
+use Rattle.cluster_model.specs.AgentState.{AgentState}
 use Rattle.cluster_model.specs.World.{took, sent, set_at}
 use Rattle.cluster_steps.specs.Lists.{In}
-use Rattle.word_laws.specs.Histories.{State, History, Admitted, Begun, Gone, IsOff, OwnIs, Earlier, WordsHold, agent_start, names}
+use Rattle.word_laws.specs.Histories.{State, History, Admitted, Begun, Gone, OwnIs, Earlier, WordsHold, agent_start, names}
 
 -- ---- states
 

@@ -1,25 +1,19 @@
 -- What the handlers of an agent do with words.
-use Rattle.std.proofs.Common.{◌≡◌, ◌<◌, Bool, true, false, List, [], ◌∷◌, ◌++◌, refl, sym, subst, ap, ◌∙◌, ◌⊎◌, inl, inr, ◌==◌, arith}
-use Rattle.std.proofs.lemmas.Bool.{and_parts, eqb-true, ltb-true}
-use Rattle.std.proofs.lemmas.Bool.Decides.{nat_tests}
+use Rattle.std.proofs.Common.{◌≡◌, Bool, true, false, List, [], ◌∷◌, refl, sym, subst, ◌⊎◌, inl, inr, ◌==◌}
+use Rattle.std.proofs.lemmas.Bool.{and_parts}
 use Rattle.std.specs.Prelude.{ℕ, ◌&&◌, ◌||◌, not, filter, if◌then◌else◌, nat_lt, Option, Some, None, is_none}
 use Rattle.std.specs.List.{AllByRecursion, list_all}
-use Rattle.volt_base.specs.declared.entry.Outcome.{Outcome}
 use Rattle.volt_wire.specs.Word.{Membership}
 use Rattle.volt_wire.specs.declared.actor.Actor.{Actor}
 use Rattle.volt_wire.specs.declared.actor.Actor.TheVariants.{Director, Client, Agent, Site, Scanner}
-use Rattle.volt_wire.specs.declared.end.End.{End}
-use Rattle.volt_wire.specs.declared.message.Msg.{Msg}
 use Rattle.volt_wire.specs.declared.message.Msg.TheVariants as msg
-use Rattle.cluster_model.specs.Engine.{Database, CoordStep, Round, Finish}
-use Rattle.cluster_model.specs.Words.{Deployment, part_of_slot, is_host, slots_of_host, all_parts, with_number, is_in, term_of, same_word, members, initiator, leader, start_of, start_of_slot, is_member, part_down, admits, with_admitted, is_slot_of, is_client}
-use Rattle.cluster_model.specs.Letters.{Blocks, same, Letter, Turn, becomes, sending, ◌▸◌, open_letter, letter_to, letter_in, only}
-use Rattle.cluster_model.specs.AgentState.{AgentState, Phase, Off, Hears, Closes, Idle, Works, Work, Job, RunCall, TakeSnapshot, Queued, Job_, Admission, Heard, Initiating, initiates, answers_client, on_reply, stops, stops_with_host}
-use Rattle.cluster_model.specs.Initiator.{to_all_leaders, begins, admitting, works_queue, if_idle, queues, answers, no_work, with_work, with_phase, all_finished, open_told, rests, ends_job, goes_on, feeds, ends_round, gathers, on_frag_done, settles, on_finished, done_to, closes_open, first_number, hears, on_mp_state}
-use Rattle.cluster_model.specs.Agent.{to_slot, to_partition, to_initiator, hands_on, unless_down, on_call, on_hello, on_decided, asks_initiator, has_loaded, on_loaded, is_other_word, says, decides_word, is_word, may_decide, from_agent, from_site, from_director, from_client, agent_handler}
-use Rattle.cluster_steps.specs.Lists.{In}
-use Rattle.word_laws.specs.Histories.{IsOff, State, Gone, OwnOk}
-use Rattle.cluster_steps.proofs.Lists.{all-append, all-if, same-some, in-left, in-right, in-cases, all-mono}
+use Rattle.cluster_model.specs.Words.{Deployment, is_host, is_in, term_of, same_word, members, start_of, is_member, admits, is_slot_of, is_client}
+use Rattle.cluster_model.specs.Letters.{Letter, Turn, becomes, open_letter}
+use Rattle.cluster_model.specs.AgentState.{AgentState, Off, Hears, initiates, stops, stops_with_host}
+use Rattle.cluster_model.specs.Initiator.{with_phase}
+use Rattle.cluster_model.specs.Agent.{on_decided, is_other_word, says, decides_word, is_word, may_decide}
+use Rattle.word_laws.specs.Histories.{IsOff, State, Gone}
+use Rattle.cluster_steps.proofs.Lists.{all-append, all-if, all-mono}
 use Rattle.word_laws.proofs.Algebra.{same_word-is}
 use Rattle.word_laws.proofs.Moves.{ShownOk, TellsKnown}
 

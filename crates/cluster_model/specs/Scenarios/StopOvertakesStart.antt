@@ -1,11 +1,9 @@
 -- A second Stop reaches a site before the Start that was sent between the two.
-use Rattle.std.specs.Prelude.{ℕ, Some, List, [], ◌∷◌, ◌++◌}
-use Rattle.volt_base.specs.declared.entry.Entry.TheVariants.{Sp}
+use Rattle.std.specs.Prelude.{List, [], ◌∷◌}
 use Rattle.volt_wire.specs.declared.actor.Actor.TheVariants.{Director, Client, Agent, Site, Scanner}
 use Rattle.volt_wire.specs.declared.event.Event.{Event}
-use Rattle.volt_wire.specs.declared.event.Event.TheVariants.{Deliver, Sync, Scan, Submit, Item}
+use Rattle.volt_wire.specs.declared.event.Event.TheVariants.{Deliver, Sync, Item}
 use Rattle.volt_wire.specs.declared.item.Item.TheVariants as item
-use Rattle.cluster_model.specs.Disk.{Shown}
 use Rattle.cluster_model.specs.World.{World, Input}
 use Rattle.cluster_model.specs.Runs.{run, no_fault, Happening}
 use Rattle.cluster_model.specs.Toy.{toy, put, add}

@@ -331,7 +331,6 @@ asks-order term ls = order-last (ask_of term) ls (all-from (λ l. (order_of l ==
 -- ---- what is put to a copy
 
 module _ (D : Deployment) (s : SiteState) (e : Entry) (slot : ℕ) (others : List ℕ) where
-
   pub put-line : (start term : ℕ) → is_in slot others ≡ true → start_in_view D s.view slot ≡ start → site_term s ≡ term
       → line start term (put_to D s e slot others) ≡ Puts e ∷ []
   put-line start term i a t =
