@@ -61,8 +61,8 @@ pub record BeginsOk (D : Deployment) (i c : ℕ) (s u : SiteState) (l : Letter) 
   pub leads : leads D i u ≡ true
   pub counted : Counts u c
 
-abbrev pub Begins : Deployment → ℕ → ℕ → SiteState → SiteState → Letter → Type 0
-Begins D i c s u l = elim l.body as (λ _. Type 0) [
+abbrev pub BeginsStream : Deployment → ℕ → ℕ → SiteState → SiteState → Letter → Type 0
+BeginsStream D i c s u l = elim l.body as (λ _. Type 0) [
   | msg.StreamStart head ↦ BeginsOk D i c s u l head.mark
   | _ ↦ Unit {0}
 ]
@@ -70,7 +70,7 @@ Begins D i c s u l = elim l.body as (λ _. Type 0) [
 -- A turn of the site of slot i from s on: its disk and its word stay.
 pub record DiskHandler (D : Deployment) (i : ℕ) (s : SiteState) (t : Turn SiteState) : Type 0 where
   pub at : DiskAt D i s t.state
-  pub sends : AllByRecursion HeldOk s.held → (c : ℕ) → AllByRecursion (Begins D i c s t.state) (t.sends (Site c))
+  pub sends : AllByRecursion HeldOk s.held → (c : ℕ) → AllByRecursion (BeginsStream D i c s t.state) (t.sends (Site c))
 
 -- ---- what follows from it
 
@@ -176,8 +176,8 @@ module _ (D : Deployment) (i : ℕ) (s m u : SiteState) (h : DiskAt D i s m) (k 
   }
 
   -- what was sent on the way, and what is sent then
-  then-before : (c : ℕ) (l : Letter) → Begins D i c s m l → Begins D i c s u l
-  then-before c l = elim l.body as (λ b. Begins D i c s m (record l { body = b }) → Begins D i c s u (record l { body = b })) [
+  then-before : (c : ℕ) (l : Letter) → BeginsStream D i c s m l → BeginsStream D i c s u l
+  then-before c l = elim l.body as (λ b. BeginsStream D i c s m (record l { body = b }) → BeginsStream D i c s u (record l { body = b })) [
     | msg.StreamStart head ↦ λ x. record {
       mark_is = x.mark_is;
       term_is = x.term_is;
@@ -188,8 +188,8 @@ module _ (D : Deployment) (i : ℕ) (s m u : SiteState) (h : DiskAt D i s m) (k 
     | b ↦ λ x. tt
   ]
 
-  then-behind : (c : ℕ) (l : Letter) → Begins D i c m u l → Begins D i c s u l
-  then-behind c l = elim l.body as (λ b. Begins D i c m u (record l { body = b }) → Begins D i c s u (record l { body = b })) [
+  then-behind : (c : ℕ) (l : Letter) → BeginsStream D i c m u l → BeginsStream D i c s u l
+  then-behind c l = elim l.body as (λ b. BeginsStream D i c m u (record l { body = b }) → BeginsStream D i c s u (record l { body = b })) [
     | msg.StreamStart head ↦ λ x. record {
       mark_is = x.mark_is ∙ at-term D i s m h;
       term_is = x.term_is ∙ at-term D i s m h;
@@ -204,9 +204,9 @@ pub handler-then : (D : Deployment) (i : ℕ) (s : SiteState) (t : Turn SiteStat
     → DiskHandler D i s t → DiskHandler D i t.state (f t.state) → DiskHandler D i s (t ▸ f)
 handler-then D i s t f h k = record {
   at = at-then D i s t.state (f t.state).state h.at k.at;
-  sends = λ x c. all-append (Begins D i c s (f t.state).state) (t.sends (Site c)) ((f t.state).sends (Site c))
-      (all-mono (Begins D i c s t.state) (Begins D i c s (f t.state).state) (then-before D i s t.state (f t.state).state h.at k.at c) (t.sends (Site c)) (h.sends x c))
-      (all-mono (Begins D i c t.state (f t.state).state) (Begins D i c s (f t.state).state) (then-behind D i s t.state (f t.state).state h.at k.at c) ((f t.state).sends (Site c))
+  sends = λ x c. all-append (BeginsStream D i c s (f t.state).state) (t.sends (Site c)) ((f t.state).sends (Site c))
+      (all-mono (BeginsStream D i c s t.state) (BeginsStream D i c s (f t.state).state) (then-before D i s t.state (f t.state).state h.at k.at c) (t.sends (Site c)) (h.sends x c))
+      (all-mono (BeginsStream D i c t.state (f t.state).state) (BeginsStream D i c s (f t.state).state) (then-behind D i s t.state (f t.state).state h.at k.at c) ((f t.state).sends (Site c))
       (k.sends (h.at.held x) c));
 }
 

@@ -36,10 +36,10 @@ use Rattle.disk_laws.specs.Disks.{Firm, ContentOk, StreamDisk, StreamOk, StreamL
 use Rattle.disk_laws.proofs.Order.{Raise, in-take, in-after_parts, in-after_failure, some-after_parts, some-after_failure, raise-take, raise-after_parts, raise-after_failure}
 use Rattle.cluster_steps.proofs.SiteTurns.{Plain, PlainWaiting, as_entered, as_joiner, stays_joiner}
 use Rattle.disk_laws.proofs.Handlers.{DiskHandler, waiting-plain}
-use Rattle.disk_laws.proofs.SiteHandlers.{site_runs-plain, site_runs-refused, site_runs-stream, site_runs-joins, site_runs-enters, entered-held}
+use Rattle.disk_laws.proofs.SiteHandlers.{plain-handler, refused-handler, stream-handler, joins-handler, enters-handler, entered-held}
 use Rattle.disk_laws.proofs.Own.{Own, OwnMember, OwnStream}
 use Rattle.disk_laws.proofs.SiteDisks.{Raised, firm-up}
-use Rattle.disk_laws.proofs.Turning.{DisksGo, Kept, Wiped, Leaves, firm-before, own-before, same-tops, wiped-tops, same-still, handler-disks, handler-kept, handler-goes, handler-begins, halts-after, still-kept, begins-kept, stops-kept, leaves-same, noted-kept, none-ok, stops-none, taken-from, fewer}
+use Rattle.disk_laws.proofs.Turning.{DisksGo, Kept, Wiped, LeavesShown, firm-before, own-before, same-tops, wiped-tops, same-still, handler-disks, handler-kept, handler-goes, handler-begins, halts-after, still-kept, begins-kept, stops-kept, leaves-same, noted-kept, none-ok, stops-none, taken-from, fewer}
 
 -- ---- messages
 
@@ -197,7 +197,7 @@ module _ (S : LogState) (H : Holds S) (F : Firm) (halted : Bool) (K : DisksHold 
     -- Its turn, whether the site takes the stream or not.
     pub start-kept : (E : Database) (stamp : ℕ) → Kept S F halted (Site k) i (site_runs E D stamp i s (Site k) (record l { body = msg.StreamStart head }))
     start-kept E stamp = choice s.joining refl
-        (site_runs-stream E D i stamp s (record l { body = msg.StreamStart head }) (waits-plain up) take-it k head refl)
+        (stream-handler E D i stamp s (record l { body = msg.StreamStart head }) (waits-plain up) take-it k head refl)
       where
         t : Turn SiteState
         t = site_runs E D stamp i s (Site k) (record l { body = msg.StreamStart head })
@@ -421,13 +421,13 @@ module _ (S : LogState) (H : Holds S) (F : Firm) (halted : Bool) (K : DisksHold 
         t = site_runs E D stamp i s (Agent h) (record l { body = msg.View w })
 
         taken : arrival (start_at S i) (term_at S i) (record l { body = msg.View w }) ≡ Taken → (b : Bool) → stays_joiner D i s w ≡ b → Kept S F halted (Agent h) i t
-        taken e true q = joins-kept e q t (site_runs-joins E D i stamp s (record l { body = msg.View w }) (waits-plain up) e h w refl q)
+        taken e true q = joins-kept e q t (joins-handler E D i stamp s (record l { body = msg.View w }) (waits-plain up) e h w refl q)
         taken e false q = λ M G L grown raised.
-            enters-disks e q t (site_runs-enters E D i stamp s (record l { body = msg.View w }) (waits-plain up) e h w refl q) M G L grown raised
+            enters-disks e q t (enters-handler E D i stamp s (record l { body = msg.View w }) (waits-plain up) e h w refl q) M G L grown raised
 
         choice : (a : Arrival) → arrival (start_at S i) (term_at S i) (record l { body = msg.View w }) ≡ a → Kept S F halted (Agent h) i t
         choice Taken e = taken e (stays_joiner D i s w) refl
-        choice Refused e = handler-kept S H F halted K (Agent h) i slot t up (site_runs-refused E D i stamp s (Agent h) (record l { body = msg.View w }) (waits-plain up) e)
+        choice Refused e = handler-kept S H F halted K (Agent h) i slot t up (refused-handler E D i stamp s (Agent h) (record l { body = msg.View w }) (waits-plain up) e)
         choice Waits e =
             let a = (waits-for (start_at S i) (term_at S i) (record l { body = msg.View w }) e).1 in
             let b = meant.0 in
@@ -446,7 +446,7 @@ module _ (S : LogState) (H : Holds S) (F : Firm) (halted : Bool) (K : DisksHold 
           → Kept S F halted (Site k) i (site_runs E D stamp i s (Site k) (record l { body = msg.StreamStart head }))
       choice Taken e = start-kept k l head ls is up e E stamp
       choice Refused e = handler-kept S H F halted K (Site k) i slot (site_runs E D stamp i s (Site k) (record l { body = msg.StreamStart head })) up
-          (site_runs-refused E D i stamp s (Site k) (record l { body = msg.StreamStart head }) (waits-plain up) e)
+          (refused-handler E D i stamp s (Site k) (record l { body = msg.StreamStart head }) (waits-plain up) e)
       choice Waits e =
           let w = waits-for (start_at S i) (term_at S i) (record l { body = msg.StreamStart head }) e in
           elim w.0 [
@@ -459,7 +459,7 @@ module _ (S : LogState) (H : Holds S) (F : Firm) (halted : Bool) (K : DisksHold 
   stream-turn (Scanner x) l head ls is up E stamp = absurd ((rw is at (H.foreign (Scanner x) i)).0)
 
   plain-turn : (from : Actor) (l : Letter) → Plain from l → 0 < start_at S i → (E : Database) (stamp : ℕ) → Kept S F halted from i (site_runs E D stamp i s from l)
-  plain-turn from l p up E stamp = handler-kept S H F halted K from i slot (site_runs E D stamp i s from l) up (site_runs-plain E D i stamp s from l (waits-plain up) p)
+  plain-turn from l p up E stamp = handler-kept S H F halted K from i slot (site_runs E D stamp i s from l) up (plain-handler E D i stamp s from l (waits-plain up) p)
 
   view-turn : (from : Actor) (l : Letter) (w : Membership) (ls : List Letter) → S.words.channel from (Site i) ≡ record l { body = msg.View w } ∷ ls → 0 < start_at S i
       → (E : Database) (stamp : ℕ) → Kept S F halted from i (site_runs E D stamp i s from (record l { body = msg.View w }))
@@ -496,7 +496,7 @@ module _ (S : LogState) (H : Holds S) (F : Firm) (halted : Bool) (K : DisksHold 
         choice true = stops-kept S H F halted K from i slot (becomes (stopped_site (record s { stop = max s.stop a }))) refl refl (leaves-same S H F halted K from i slot) (λ c. tt)
         choice false = noted-kept S H F halted K from i slot (max s.stop a) s.plans
 
-    fails-kept : (start : ℕ) (xs : List Shown) → Leaves S halted i xs → Kept S F halted from i (stops_so D i s start xs)
+    fails-kept : (start : ℕ) (xs : List Shown) → LeavesShown S halted i xs → Kept S F halted from i (stops_so D i s start xs)
     fails-kept start xs k = stops-kept S H F halted K from i slot (stops_so D i s start xs) refl refl k (stops-none D i start s xs)
 
     running : (x : Letter) (E : Database) (stamp : ℕ) (b : Bool) → (start_at S i == 0) ≡ b → (0 < start_at S i → Kept S F halted from i (site_runs E D stamp i s from x))
@@ -587,7 +587,7 @@ module _ (S : LogState) (H : Holds S) (F : Firm) (halted : Bool) (K : DisksHold 
     none-added : halted ≡ true → (y : Shown) → In y parts → In y (shown_at S i)
     none-added e y m = absurd (subst (In y) (k.still e) m)
 
-    leaves-failure : Leaves S halted i (after_failure (shown_at S i) parts n)
+    leaves-failure : LeavesShown S halted i (after_failure (shown_at S i) parts n)
     leaves-failure = record {
       some = some-after_failure (shown_at S i) parts n some;
       from = λ y m. elim (in-after_failure (shown_at S i) parts n y m) [
@@ -604,7 +604,7 @@ module _ (S : LogState) (H : Holds S) (F : Firm) (halted : Bool) (K : DisksHold 
       ];
     }
 
-    leaves-parts : Leaves S halted i (after_parts (shown_at S i) (take n parts))
+    leaves-parts : LeavesShown S halted i (after_parts (shown_at S i) (take n parts))
     leaves-parts = record {
       some = some-after_parts (shown_at S i) (take n parts) some;
       from = λ y m. elim (in-after_parts (shown_at S i) (take n parts) y m) [

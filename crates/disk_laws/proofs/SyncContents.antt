@@ -30,7 +30,7 @@ no-parts : (S : LogState) (F : Firm) (i : ℕ) → PartsOk S F i []
 no-parts S F i = record { contents = tt; marks = tt; raise = λ y k. absurd k }
 
 -- What a term began with that was led is in a site's log, up to a position.
-pub record Begun (S : LogState) (i mark end : ℕ) : Type 0 where
+pub record BegunContent (S : LogState) (i mark end : ℕ) : Type 0 where
   pub leadership : Leadership
   pub led : S.logs.leadership (part S i) mark ≡ Some leadership
   pub begun : Prefix leadership.begun (take end (log_at S i))
@@ -80,7 +80,7 @@ module _ (S : LogState) (H : Holds S) (i : ℕ) (up : 0 < start_at S i) (F : Fir
     ]
 
     -- a mark of a part was led, and isn't below that which it has
-    pub mark-begun : (n end : ℕ) → s.on_disk ≤ end → (n ≡ s.mark) ⊎ ((s.owes ≡ Some n) × (length s.log ≤ end)) → Begun S i n end
+    pub mark-begun : (n end : ℕ) → s.on_disk ≤ end → (n ≡ s.mark) ⊎ ((s.owes ≡ Some n) × (length s.log ≤ end)) → BegunContent S i n end
     mark-begun n end from (inl e) = record {
       leadership = disk.leadership;
       led = ap (S.logs.leadership (part S i)) e ∙ disk.led;

@@ -22,7 +22,7 @@ use Rattle.disk_laws.proofs.SiteHandlers.{syncs-handler}
 use Rattle.disk_laws.proofs.SiteDisks.{Raised, contents-on, disk-on}
 use Rattle.disk_laws.proofs.Turning.{DisksGo, stops-none, firm-before, raised-tops, handler-disks, stopped-disks}
 use Rattle.disk_laws.proofs.SyncContents.{PartsOk, parts-ok}
-use Rattle.disk_laws.proofs.Writing.{wrote, wrote-start, wrote-firm, wrote-held, wrote-low, wrote-own}
+use Rattle.disk_laws.proofs.Writing.{wrote_disk, wrote-start, wrote-firm, wrote-held, wrote-low, wrote-own}
 
 -- ---- a site that may sync
 
@@ -57,7 +57,7 @@ module _ (E : Database) (S : LogState) (H : Holds S) (F : Firm) (K : DisksHold S
 
   module _ (M : Firm) (G : Logs) where
     abbrev b : SiteState
-    b = wrote S H i up F (K.disks i slot)
+    b = wrote_disk S H i up F (K.disks i slot)
 
     abbrev t : Turn SiteState
     t = syncs E S.words.deployment i s

@@ -24,7 +24,7 @@ use Rattle.log_laws.proofs.Kept.Plumbing.{here, there}
 use Rattle.log_laws.proofs.Runs.Leading.{leads-runs}
 use Rattle.disk_laws.specs.Disks.{AtLeast, Top, Firm, ContentOk, DiskOk, StreamLetter, Halted, DisksHold, shown_at}
 use Rattle.disk_laws.proofs.Order.{Raise, raise-refl, raise-same, top-raise, top-wipe}
-use Rattle.disk_laws.proofs.Handlers.{DiskAt, DiskHandler, Counts, counts-joiner, Begins, at-term, at-was-joiner, handler-becomes}
+use Rattle.disk_laws.proofs.Handlers.{DiskAt, DiskHandler, Counts, counts-joiner, BeginsStream, at-term, at-was-joiner, handler-becomes}
 use Rattle.disk_laws.proofs.Own.{OwnAt, OwnStream, disk-own, own-disk, own-handler}
 use Rattle.disk_laws.proofs.Halts.{SiteGoes, LeadersBegin, halted-site}
 use Rattle.disk_laws.proofs.SiteDisks.{Raised, contents-on, disk-on, disk-other, disks-after}
@@ -50,7 +50,7 @@ pub record Wiped (S : LogState) (i : ℕ) : Type 0 where
   pub top : Top S (part S i) mark 0
 
 -- What it shows then, of what it showed, or blank; while all is stopped nothing is wiped.
-pub record Leaves (S : LogState) (halted : Bool) (i : ℕ) (xs : List Shown) : Type 0 where
+pub record LeavesShown (S : LogState) (halted : Bool) (i : ℕ) (xs : List Shown) : Type 0 where
   pub some : (xs ≡ []) → ⊥
   pub from : (y : Shown) → In y xs → In y (shown_at S i) ⊎ (y ≡ None)
   pub still : halted ≡ true → (y : Shown) → In y xs → In y (shown_at S i)
@@ -66,8 +66,8 @@ leaders-letter D i s l k = elim l.body as (λ m. NoStreamStart (record l { body 
   | m ↦ λ k. tt
 ] k
 
-begins-leader : (D : Deployment) (i c : ℕ) (m s : SiteState) (l : Letter) → Begins D i c m s l → LeadersBegin D i s l
-begins-leader D i c m s l k = elim l.body as (λ b. Begins D i c m s (record l { body = b }) → LeadersBegin D i s (record l { body = b })) [
+begins-leader : (D : Deployment) (i c : ℕ) (m s : SiteState) (l : Letter) → BeginsStream D i c m s l → LeadersBegin D i s l
+begins-leader D i c m s l k = elim l.body as (λ b. BeginsStream D i c m s (record l { body = b }) → LeadersBegin D i s (record l { body = b })) [
   | msg.StreamStart head ↦ λ k. k.leads
   | b ↦ λ k. tt
 ] k
@@ -166,8 +166,8 @@ module _ (S : LogState) (H : Holds S) (F : Firm) (halted : Bool) (K : DisksHold 
       own = own-disk T M halted i t.state site (own-handler S.words.deployment i m t.state handler.at halted C (G.leadership (part S i)) (M (part S i)) whole
           (λ r. let e = raised.own ∙ if-true (leads S.words.deployment i t.state) (max (F (part S i)) t.state.firm) (F (part S i)) r.leads in omega (arith, e)) o)
 
-      letter : (c : ℕ) (l : Letter) → Begins S.words.deployment i c m t.state l → StreamLetter T c l
-      letter c l k = elim l.body as (λ b. Begins S.words.deployment i c m t.state (record l { body = b }) → StreamLetter T c (record l { body = b })) [
+      letter : (c : ℕ) (l : Letter) → BeginsStream S.words.deployment i c m t.state l → StreamLetter T c l
+      letter c l k = elim l.body as (λ b. BeginsStream S.words.deployment i c m t.state (record l { body = b }) → StreamLetter T c (record l { body = b })) [
         | msg.StreamStart head ↦ λ k. record {
           mark_is = k.mark_is ∙ sym k.term_is;
           top = record {
@@ -198,7 +198,7 @@ module _ (S : LogState) (H : Holds S) (F : Firm) (halted : Bool) (K : DisksHold 
       pub handler-disks : AllByRecursion HeldOk m.held → m.firm ≤ F (part S i) → ((p n k : ℕ) → Top S p n k → Top T p n k)
           → (halted ≡ true → (y : Shown) → In y t.state.contents → In y (shown_at S i)) → DisksGo S T M halted
       handler-disks held firm tops still = assembled own tops still counted
-          (λ c _. all-mono (Begins S.words.deployment i c m t.state) (StreamLetter T c) (letter c) (t.sends (Site c)) (handler.sends held c))
+          (λ c _. all-mono (BeginsStream S.words.deployment i c m t.state) (StreamLetter T c) (letter c) (t.sends (Site c)) (handler.sends held c))
         where
           counted : leads S.words.deployment i t.state ≡ true → (t.state.firm ≤ F (part S i)) ⊎ ((t.state.mark ≡ site_term t.state) × (t.state.firm ≤ t.state.on_disk))
           counted l = elim handler.at.firm [
@@ -231,7 +231,7 @@ module _ (S : LogState) (H : Holds S) (F : Firm) (halted : Bool) (K : DisksHold 
         }
 
     -- with what its disk showed, or blank
-    pub stops-disks : t.state.start ≡ 0 → t.state.greatest ≡ (S.sites i).greatest → Leaves S halted i t.state.contents
+    pub stops-disks : t.state.start ≡ 0 → t.state.greatest ≡ (S.sites i).greatest → LeavesShown S halted i t.state.contents
         → ((c : ℕ) → AllByRecursion NoStreamStart (t.sends (Site c))) → DisksGo S T M halted
     stops-disks down greatest k = stopped-disks down k.some (all-from C t.state.contents contents)
         (λ e. all-from (λ y. mark_of y ≤ t.state.greatest) t.state.contents (mark e)) tops k.still
@@ -302,7 +302,7 @@ module _ (S : LogState) (i : ℕ) where
 
   pub handler-begins : (t : Turn SiteState) (m : SiteState) → DiskHandler S.words.deployment i m t → AllByRecursion HeldOk m.held
       → (c : ℕ) → AllByRecursion (LeadersBegin S.words.deployment i t.state) (t.sends (Site c))
-  handler-begins t m handler held c = all-mono (Begins S.words.deployment i c m t.state) (LeadersBegin S.words.deployment i t.state)
+  handler-begins t m handler held c = all-mono (BeginsStream S.words.deployment i c m t.state) (LeadersBegin S.words.deployment i t.state)
       (begins-leader S.words.deployment i c m t.state) (t.sends (Site c)) (handler.sends held c)
 
 -- ---- the turns
@@ -338,7 +338,7 @@ module _ (S : LogState) (H : Holds S) (F : Firm) (halted : Bool) (K : DisksHold 
       begins-disks S H F halted K ch on i slot t M G L grown raised
       (halts-after S H F halted K ch on i slot t G L (inr (inr ((new_joining, refl, refl), fresh))) (λ c. tt)) a refl (λ c. refl)
 
-  pub stops-kept : (t : Turn SiteState) → t.state.start ≡ 0 → t.state.greatest ≡ (S.sites i).greatest → Leaves S halted i t.state.contents
+  pub stops-kept : (t : Turn SiteState) → t.state.start ≡ 0 → t.state.greatest ≡ (S.sites i).greatest → LeavesShown S halted i t.state.contents
       → ((c : ℕ) → AllByRecursion NoStreamStart (t.sends (Site c))) → Kept S F halted from i t
   stops-kept t down greatest k none M G L grown raised = stops-disks S H F halted K ch on i slot t M G L grown raised
       (halts-after S H F halted K ch on i slot t G L (inl down) (λ c.
@@ -346,7 +346,7 @@ module _ (S : LogState) (H : Holds S) (F : Firm) (halted : Bool) (K : DisksHold 
       down greatest k none
 
   -- where the disk stays
-  pub leaves-same : Leaves S halted i (shown_at S i)
+  pub leaves-same : LeavesShown S halted i (shown_at S i)
   leaves-same = record { some = (K.disks i slot).some; from = λ y m. inl m; still = λ e y m. m; wipes = inl (raise-refl (shown_at S i)) }
 
   -- a number is noted

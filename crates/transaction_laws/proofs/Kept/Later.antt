@@ -27,7 +27,7 @@ use Rattle.log_laws.proofs.Runs.Agreeing.{agrees-begun}
 use Rattle.disk_laws.specs.Disks.{Firm, Top, AtLeast}
 use Rattle.transaction_laws.specs.Machine.{Stage, WellFormed, first_stage, stage_behind, stage}
 use Rattle.transaction_laws.specs.Transactions.{Transactions, Books, LeadershipFits, HeardPart, HeardOk, DueOk, Aligned, IsPart, IsCall, OnlyCalls, OfNumber, NoRound, Everywhere, Stood, StateOk, OrderOk, AnswerOk, ToSiteOk, Settled, Fed, Ended, AtHand, PhaseOk, led_log, whole, since}
-use Rattle.transaction_laws.proofs.Kept.Moves.{Onto, Begins, Goes, Moved, with_due, Under, CallsAt}
+use Rattle.transaction_laws.proofs.Kept.Moves.{Onto, BeginsTerm, GoesOnTerm, Moved, with_due, Under, CallsAt}
 use Rattle.transaction_laws.proofs.Entries.Machine.{AtMostOne, formed-append, formed-prefix, prefix-point, calls-only, calls-formed, calls-point, due-formed, due-opened, due-number, due-point, stage-append}
 use Rattle.transaction_laws.proofs.Entries.Since.{all-first, call-number, call-round}
 use Rattle.transaction_laws.proofs.Entries.Aligned.{under-refl, under-prefix, under-trans, under-calls, aligned-under}
@@ -226,7 +226,7 @@ due-one S K p t (inl none) = inl none
 due-one S K p t (inr (x, g, is, order, led, l)) = inr (x, is, order)
 
 -- so it is with the log of a leader that took what was due
-abbrev between-goes : (E : Database) (F G : Logs) (due next : List Entry) (stamp p t : ℕ) (k : Goes E F G due next stamp p t) → AtMostOne due
+abbrev between-goes : (E : Database) (F G : Logs) (due next : List Entry) (stamp p t : ℕ) (k : GoesOnTerm E F G due next stamp p t) → AtMostOne due
     → Between E p stamp (k.old.log ++ due) (k.new.log ++ next)
 between-goes E F G due next stamp p t k one = record {
   log = k.old.log ++ k.taken;
@@ -240,7 +240,7 @@ between-goes E F G due next stamp p t k one = record {
 }
 
 -- where nothing was due, only calls were added
-goes-inert : (E : Database) (F G : Logs) (due next : List Entry) (stamp p t : ℕ) (k : Goes E F G due next stamp p t) → due ≡ []
+goes-inert : (E : Database) (F G : Logs) (due next : List Entry) (stamp p t : ℕ) (k : GoesOnTerm E F G due next stamp p t) → due ≡ []
     → (next ≡ []) × (k.new.log ≡ k.old.log ++ k.runs.calls) × (k.old.log ++ k.taken ≡ k.old.log)
 goes-inert E F G due next stamp p t k none =
     let r = rest-none k.taken next (sym k.due_is ∙ none) in
@@ -256,7 +256,7 @@ module _ (E : Database) (S T : LogState) (F M : Firm) (K : Transactions) (now : 
 
   -- what the leader of a term took
   abbrev Went : ℕ → ℕ → Type 0
-  Went p t = Goes E S.logs T.logs (K.due p t) (due p t) (now + 1) p t
+  Went p t = GoesOnTerm E S.logs T.logs (K.due p t) (due p t) (now + 1) p t
 
   -- a term that was led goes on
   goes-at : (p t : ℕ) (g : Leadership) → IsPart S p → S.logs.leadership p t ≡ Some g → (k : Went p t) × (k.old ≡ g)
@@ -341,7 +341,7 @@ module _ (E : Database) (S T : LogState) (F M : Firm) (K : Transactions) (now : 
   Fits p t g = LeadershipFits E T L (now + 1) p t g
 
   abbrev Starts : ℕ → ℕ → Type 0
-  Starts p t = Begins E S.logs T.logs (K.due p t) (due p t) (now + 1) p t
+  Starts p t = BeginsTerm E S.logs T.logs (K.due p t) (due p t) (now + 1) p t
 
   -- what a new term begins with fits, if the logs of those before do
   begun-fits : (p t : ℕ) (k : Starts p t) → ((v : ℕ) (g : Leadership) → v < t → T.logs.leadership p v ≡ Some g → Fits p v g)

@@ -28,7 +28,7 @@ use Rattle.transaction_laws.proofs.Runs.Leads.{leads-aligned}
 use Rattle.transaction_laws.proofs.Initiators.Orders.{slot-part}
 use Rattle.transaction_laws.proofs.Entries.Points.{points-rise}
 use Rattle.transaction_laws.proofs.Initiators.InitiatorWords.{one-initiator}
-use Rattle.transaction_laws.proofs.Runs.Logs.{Led, log-led}
+use Rattle.transaction_laws.proofs.Runs.Logs.{LedLog, log-led}
 use Rattle.transaction_laws.proofs.Runs.Epochs.{any-aligned}
 use Rattle.transaction_laws.proofs.Runs.Worlds.{HasCalls, calls-agree}
 
@@ -42,7 +42,7 @@ module _ (E : Database) (now : ℕ) (w : World) (d : HasCalls E now w) (i : ℕ)
   abbrev p : ℕ
   p = part_of_slot w.deployment i
 
-  led : Led S i
+  led : LedLog S i
   led = log-led S d.logs.holds i (d.blank i)
 
   abbrev whole_log : List Entry

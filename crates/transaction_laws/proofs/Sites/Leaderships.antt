@@ -27,9 +27,9 @@ use Rattle.log_laws.proofs.NewTerms.Beginning.{longest-cases}
 use Rattle.log_laws.proofs.Runs.Leading.{heads-authoritative, leads-runs}
 use Rattle.transaction_laws.specs.Machine.{first_stage, stage}
 use Rattle.transaction_laws.specs.Transactions.{Transactions, DueOk}
-use Rattle.transaction_laws.proofs.Kept.Moves.{IsCallAt, CallsAt, Runs, Moved}
+use Rattle.transaction_laws.proofs.Kept.Moves.{IsCallAt, CallsAt, RunsBehind, Moved}
 use Rattle.transaction_laws.proofs.Entries.Machine.{calls-only, calls-opened, open_in-stage, stage-append}
-use Rattle.transaction_laws.proofs.Sites.SiteLogs.{Steady, Started, repaired_log}
+use Rattle.transaction_laws.proofs.Sites.SiteLogs.{SteadyLog, Started, repaired_log}
 
 -- ---- logs
 
@@ -48,7 +48,7 @@ nothing-opened E p log e = go (stage E p log).opened (sym (open_in-stage E p log
 
 -- Behind this log stand calls, and it is a prefix of what a term began with: so calls stand behind that.
 runs-behind : (E : Database) (p stamp : ℕ) (low begun log more : List Entry) → log ≡ low ++ more → Prefix low begun → Prefix begun log → CallsAt stamp more
-    → (more ≡ []) ⊎ (nothing_open low ≡ true) → Runs E p stamp begun log
+    → (more ≡ []) ⊎ (nothing_open low ≡ true) → RunsBehind E p stamp begun log
 runs-behind E p stamp low begun log more is (a, f) (b, g) at room = record {
   calls = b;
   is = g;
@@ -197,7 +197,7 @@ module _ (S : LogState) (H : Holds S) (i : ℕ) (ch : Actor → Actor → List L
 
     -- So it begins with the longest of these logs, and perhaps some of the calls that ran then: calls stand behind what it begins with.
     begins-runs : (E : Database) (stamp : ℕ) → S.logs.leadership (part S i) (term_of k.word) ≡ None → Started D stamp i s u Reports
-        → Runs E (part S i) stamp k.leadership.begun k.leadership.log
+        → RunsBehind E (part S i) stamp k.leadership.begun k.leadership.log
     begins-runs E stamp none st =
         let is : k.leadership.log ≡ repaired_log s st.reports ++ st.more = sym log ∙ st.log_is in
         let begun = (J.leaderships (part S i) (term_of k.word) k.leadership k.led).grown in
@@ -206,7 +206,7 @@ module _ (S : LogState) (H : Holds S) (i : ℕ) (ch : Actor → Actor → List L
         (prefixes-order (repaired_log s st.reports) k.leadership.begun k.leadership.log (st.more, is) begun short) begun st.at st.room
 
     -- It goes on with what it took, and calls.
-    goes-runs : (E : Database) (stamp : ℕ) (taken : List Entry) (g : Leadership) → log_at S i ≡ g.log → Steady stamp s u taken → Runs E (part S i) stamp (g.log ++ taken) k.leadership.log
+    goes-runs : (E : Database) (stamp : ℕ) (taken : List Entry) (g : Leadership) → log_at S i ≡ g.log → SteadyLog stamp s u taken → RunsBehind E (part S i) stamp (g.log ++ taken) k.leadership.log
     goes-runs E stamp taken g is st = record {
       calls = st.more;
       is = sym log ∙ st.log_is ∙ ap (λ xs. (xs ++ taken) ++ st.more) is;
@@ -280,7 +280,7 @@ module _ (E : Database) (S : LogState) (H : Holds S) (K : Transactions) (due : (
     (on : (u.start ≡ start_at S i) ⊎ (u.view ≡ None)) (taken : List Entry) where
   -- What must be so of the site's own turn.
   pub record OwnTurn : Type 0 where
-    pub steady : leads S.words.deployment i (S.sites i) ≡ true → leads S.words.deployment i u ≡ true → u.view ≡ (S.sites i).view → Steady stamp (S.sites i) u taken
+    pub steady : leads S.words.deployment i (S.sites i) ≡ true → leads S.words.deployment i u ≡ true → u.view ≡ (S.sites i).view → SteadyLog stamp (S.sites i) u taken
     pub starts : leads S.words.deployment i u ≡ true → (leads S.words.deployment i (S.sites i) ≡ true → u.view ≡ (S.sites i).view → ⊥)
         → Started S.words.deployment stamp i (S.sites i) u (λ r. ReportOk S (part S i) r.slot (site_term u) r.position r.floor r.tail)
     -- what it took was due
@@ -294,8 +294,8 @@ module _ (E : Database) (S : LogState) (H : Holds S) (K : Transactions) (due : (
     abbrev after-due : ℕ → ℕ → List Entry
     after-due = due_after S K i u taken
 
-    abbrev Moves : ℕ → ℕ → Type 0
-    Moves p t = Moved E S.logs G K.due after-due stamp p t
+    abbrev MovedHere : ℕ → ℕ → Type 0
+    MovedHere p t = Moved E S.logs G K.due after-due stamp p t
 
     module _ (authoritative : leads S.words.deployment i u ≡ true) where
       abbrev l : Leading (next S H i ch u out G) i
@@ -305,7 +305,7 @@ module _ (E : Database) (S : LogState) (H : Holds S) (K : Transactions) (due : (
       term-is = ap term_in (view S H i ch u out G J enters on authoritative)
 
       -- its term goes on
-      here-goes : (g : Leadership) → S.logs.leadership (part S i) (term_of l.word) ≡ Some g → Moves (part S i) (term_of l.word)
+      here-goes : (g : Leadership) → S.logs.leadership (part S i) (term_of l.word) ≡ Some g → MovedHere (part S i) (term_of l.word)
       here-goes g is =
           let b = led-before S H i ch u out G J enters on authoritative g is in
           let same = view S H i ch u out G J enters on authoritative ∙ sym b.1 in
@@ -324,7 +324,7 @@ module _ (E : Database) (S : LogState) (H : Holds S) (K : Transactions) (due : (
           }))
 
       -- or it begins
-      here-begins : S.logs.leadership (part S i) (term_of l.word) ≡ None → Moves (part S i) (term_of l.word)
+      here-begins : S.logs.leadership (part S i) (term_of l.word) ≡ None → MovedHere (part S i) (term_of l.word)
       here-begins none = inr (inl (record {
         none = none;
         leadership = l.leadership;
@@ -342,31 +342,31 @@ module _ (E : Database) (S : LogState) (H : Holds S) (K : Transactions) (due : (
               let e = same-some (sym b.view ∙ sym same ∙ view S H i ch u out G J enters on authoritative) in
               none-and-some none (subst (λ w. S.logs.leadership (part S i) (term_of w) ≡ Some b.leadership) e b.led)
 
-      here-moves : Moves (part S i) (term_of l.word)
+      here-moves : MovedHere (part S i) (term_of l.word)
       here-moves = go (S.logs.leadership (part S i) (term_of l.word)) refl
         where
-          go : (o : Option Leadership) → S.logs.leadership (part S i) (term_of l.word) ≡ o → Moves (part S i) (term_of l.word)
+          go : (o : Option Leadership) → S.logs.leadership (part S i) (term_of l.word) ≡ o → MovedHere (part S i) (term_of l.word)
           go None e = here-begins e
           go (Some g) e = here-goes g e
 
-      at-moves : (p t : ℕ) → p ≡ part S i → t ≡ term_of l.word → Moves p t
-      at-moves p t e f = subst (λ q. Moves q t) (sym e) (subst (Moves (part S i)) (sym f) here-moves)
+      at-moves : (p t : ℕ) → p ≡ part S i → t ≡ term_of l.word → MovedHere p t
+      at-moves p t e f = subst (λ q. MovedHere q t) (sym e) (subst (MovedHere (part S i)) (sym f) here-moves)
 
     -- Each term stays as it was, or goes on or begins in this way.
-    pub all-moved : (p t : ℕ) → Moves p t
+    pub all-moved : (p t : ℕ) → MovedHere p t
     all-moved p t = go (G.leadership p t) refl
       where
         -- no other term is led, or with a longer log
-        still : (h : Leadership) → G.leadership p t ≡ Some h → S.logs.leadership p t ≡ Some h → Moves p t
+        still : (h : Leadership) → G.leadership p t ≡ Some h → S.logs.leadership p t ≡ Some h → MovedHere p t
         still h is old = elim (cases_Bool (test S K i u taken p t)) [
           | inl e ↦ let r = test-parts S K i u taken p t e in at-moves r.2 p t r.0 (r.1 ∙ sym r.3 ∙ term-is r.2)
           | inr e ↦ inl (is ∙ sym old, due-there S K i u taken p t e)
         ]
 
-        leads-there : (h : Leadership) → G.leadership p t ≡ Some h → Heads S.words.deployment i u p t → Moves p t
+        leads-there : (h : Leadership) → G.leadership p t ≡ Some h → Heads S.words.deployment i u p t → MovedHere p t
         leads-there h is heads = let r = heads-own S H i ch u out G J p t h is heads in at-moves r.0 p t r.1 (r.2 ∙ term-is r.0)
 
-        go : (o : Option Leadership) → G.leadership p t ≡ o → Moves p t
+        go : (o : Option Leadership) → G.leadership p t ≡ o → MovedHere p t
         go (Some h) e = elim (grown.led p t h e) [
           | inl old ↦ still h e old
           | inr new ↦ leads-there h e new

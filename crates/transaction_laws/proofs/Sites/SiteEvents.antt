@@ -28,7 +28,7 @@ use Rattle.transaction_laws.proofs.Sites.Answers.{orders-fit}
 use Rattle.transaction_laws.proofs.Sites.SiteCounts.{sync-counted, sync-joined, sync-unrepaired}
 use Rattle.transaction_laws.proofs.Sites.SiteGiven.{given-counted, given-joined, given-starts, given-steady, given-unrepaired}
 use Rattle.transaction_laws.proofs.Sites.SiteLogs.{sync-steady}
-use Rattle.transaction_laws.proofs.Sites.SiteOrders.{head-ok, left-orders, own-orders, popped-there, taken-due, waits-none}
+use Rattle.transaction_laws.proofs.Sites.SiteOrders.{head-ok, left-orders, own-orders, popped-there, taken-due, order-waits-none}
 use Rattle.transaction_laws.proofs.Sites.SiteTurned.{OwnFacts, turned-calls}
 use Rattle.transaction_laws.proofs.Sites.SiteWalk.{taken_by}
 
@@ -79,7 +79,7 @@ module _ (E : Database) (S : LogState) (H : Holds S) (F : Firm) (halted : Bool) 
         answers = site_turn-answers E S.words.deployment i ToOrders (orders-fit E (part S i)) (S.sites i) (now + 1) from l o (waits-plain S H i) (no-log S H i) (λ up. (before up).held);
         waiting = turn-waits E S.words.deployment (now + 1) i (S.sites i) from l o (λ x. WaitsPlain x.from x.letter)
             (λ up. all-mono PlainWaiting (λ x. NoWord x.from x.letter) plain-word (S.sites i).waiting (waits-plain S H i up)) (λ up. (before up).waiting)
-            (λ up. waits-none S H i slot from l (head-ok S i under-way from l ls is));
+            (λ up. order-waits-none S H i slot from l (head-ok S i under-way from l ls is));
         counted = λ authoritative. let up = runs S H i ch u out G J enters on authoritative in
             given-counted E (now + 1) S H i slot up from l ls is (before up).waiting o F halted disks (λ was. ((before up).counts was).counted) authoritative;
         joined = λ low old authoritative. let up = runs S H i ch u out G J enters on authoritative in

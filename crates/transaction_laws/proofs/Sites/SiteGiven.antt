@@ -29,11 +29,11 @@ use Rattle.log_laws.proofs.NewTerms.Taking.{first-word, later-word}
 use Rattle.log_laws.proofs.Kept.Terms.{some-term, took-decided, took-unnamed}
 use Rattle.log_laws.proofs.Runs.SiteHandlers.{taken-here}
 use Rattle.disk_laws.specs.Disks.{Firm, StreamDisk, DisksHold}
-use Rattle.cluster_steps.proofs.SiteTurns.{Keeps, NoWord, anew, handler-keeps, stays_joiner, turn-cases, whole, whole-keeps}
+use Rattle.cluster_steps.proofs.SiteTurns.{KeepsWord, NoWord, anew, handler-keeps, stays_joiner, site_turn-cases, whole_turn, whole-keeps}
 use Rattle.transaction_laws.specs.Transactions.{WaitsPlain}
 use Rattle.cluster_steps.proofs.StateSteps.{Comes, ReportOf}
 use Rattle.transaction_laws.proofs.Sites.SiteWalk.{WaitsQuietly, quiet-word, waits-quietly, taken_by}
-use Rattle.transaction_laws.proofs.Sites.SiteLogs.{Steady, Started, stopped-not-leads, site-steady, site-starts}
+use Rattle.transaction_laws.proofs.Sites.SiteLogs.{SteadyLog, Started, stopped-not-leads, site-steady, site-starts}
 use Rattle.transaction_laws.proofs.Sites.SiteCounts.{Counted, AboveMark, Unrepaired, site-counted, site-joined, site-unrepaired}
 
 -- where it isn't both, it isn't the second
@@ -261,28 +261,28 @@ module _ (E : Database) (stamp : ℕ) (S : LogState) (H : Holds S) (i : ℕ) (sl
   comes = site-comes S H i slot up from l ls is
 
   pub given-steady : leads S.words.deployment i (S.sites i) ≡ true → leads S.words.deployment i u ≡ true → u.view ≡ (S.sites i).view
-      → Steady stamp (S.sites i) u (taken_by (S.sites i) from l)
+      → SteadyLog stamp (S.sites i) u (taken_by (S.sites i) from l)
   given-steady = site-steady E S.words.deployment stamp i (S.sites i) from l o up comes waits
 
   -- a message from a site leaves it in its word, or stops it
-  same-word : leads S.words.deployment i u ≡ true → (c : ℕ) → from ≡ Site c → u.view ≡ (S.sites i).view
-  same-word led c sender = turn-cases E S.words.deployment stamp i (S.sites i) from (λ t. leads S.words.deployment i t.state ≡ true → t.state.view ≡ (S.sites i).view)
+  site-same-word : leads S.words.deployment i u ≡ true → (c : ℕ) → from ≡ Site c → u.view ≡ (S.sites i).view
+  site-same-word led c sender = site_turn-cases E S.words.deployment stamp i (S.sites i) from (λ t. leads S.words.deployment i t.state ≡ true → t.state.view ≡ (S.sites i).view)
       (λ start stop joining contents out inert led. absurd (stopped-not-leads S.words.deployment i (anew (S.sites i) start joining stop contents) refl led)) l o
       (λ stop plans aside led. refl) (λ up waits led. refl) (λ up takes led. behind) led
     where
       t : Turn SiteState
       t = site_handler E S.words.deployment stamp i (S.sites i) from l
 
-      k : Keeps (S.sites i) t
+      k : KeepsWord (S.sites i) t
       k = handler-keeps E S.words.deployment i stamp (S.sites i) from l (subst (λ f. NoWord f l) (sym sender) tt)
 
-      behind : (whole E S.words.deployment stamp i t).state.view ≡ (S.sites i).view
+      behind : (whole_turn E S.words.deployment stamp i t).state.view ≡ (S.sites i).view
       behind = (whole-keeps E S.words.deployment i stamp t (all-from (λ x. NoWord x.from x.letter) t.state.waiting (λ x m.
           quiet-word x.from x.letter (all-at WaitsQuietly (S.sites i).waiting waits x (k.waits x m))))).view ∙ k.view
 
   -- a report that it takes is of its term
   own-report : leads S.words.deployment i u ≡ true → arrival (start_at S i) (term_at S i) l ≡ Taken → ReportOf (ReportsOk S (part S i) (site_term u)) from l
-  own-report led take = go from (same-word led) (site-report S H i slot up from l ls is take)
+  own-report led take = go from (site-same-word led) (site-report S H i slot up from l ls is take)
     where
       go : (from : Actor) → ((c : ℕ) → from ≡ Site c → u.view ≡ (S.sites i).view) → ReportOf (ReportsOk S (part S i) (term_at S i)) from l
           → ReportOf (ReportsOk S (part S i) (site_term u)) from l

@@ -92,16 +92,16 @@ module _ (S : LogState) (H : Holds S) (i : ℕ) (slot : IsSlot S i) where
         | inr q ↦ let a = order-below h l k q in let b = w.1 in absurd (omega (arith, a, b))
       ]
 
-  pub waits-none : (from : Actor) (l : Letter) → ((h : ℕ) → from ≡ Agent h → ToSiteOk S h i l) → arrival (start_at S i) (term_at S i) l ≡ Waits → WaitsPlain from l
-  waits-none (Agent h) l ok e = (elim l.body as (λ m. ToSiteOk S h i (record l { body = m }) → arrival (start_at S i) (term_at S i) (record l { body = m }) ≡ Waits → WaitsPlain (Agent h) (record l { body = m })) [
+  pub order-waits-none : (from : Actor) (l : Letter) → ((h : ℕ) → from ≡ Agent h → ToSiteOk S h i l) → arrival (start_at S i) (term_at S i) l ≡ Waits → WaitsPlain from l
+  order-waits-none (Agent h) l ok e = (elim l.body as (λ m. ToSiteOk S h i (record l { body = m }) → arrival (start_at S i) (term_at S i) (record l { body = m }) ≡ Waits → WaitsPlain (Agent h) (record l { body = m })) [
     | msg.Frag m round body ↦ λ k e. order-waits h (record l { body = msg.Frag m round body }) k e
     | msg.Done m o ↦ λ k e. order-waits h (record l { body = msg.Done m o }) k e
     | m ↦ λ k e. tt
   ]) (ok h refl) e
-  waits-none (Site k) l ok e = tt
-  waits-none Director l ok e = tt
-  waits-none (Client n) l ok e = tt
-  waits-none (Scanner x) l ok e = tt
+  order-waits-none (Site k) l ok e = tt
+  order-waits-none Director l ok e = tt
+  order-waits-none (Client n) l ok e = tt
+  order-waits-none (Scanner x) l ok e = tt
 
   -- What it takes is what is for its start and term.
   order-taken : (h : ℕ) (l : Letter) → ToSiteOk S h i l → order_of (start_at S i) (term_at S i) l ≡ taken_by s (Agent h) l
