@@ -32,8 +32,8 @@ pub record FirmRises (D : Deployment) (i : ℕ) (s u : SiteState) : Type 0 where
   pub disk : u.firm ≤ s.on_disk
   pub above : s.firm ≤ u.firm
 
--- The site of slot i came from s to u with the same disk, in the same word.
-pub record DiskAt (D : Deployment) (i : ℕ) (s u : SiteState) : Type 0 where
+-- Its start and word, and its disk as it knows that, are the same.
+pub record SameDisk (s u : SiteState) : Type 0 where
   pub start : u.start ≡ s.start
   pub greatest : u.greatest ≡ s.greatest
   pub earlier : u.earlier ≡ s.earlier
@@ -42,6 +42,27 @@ pub record DiskAt (D : Deployment) (i : ℕ) (s u : SiteState) : Type 0 where
   pub mark : u.mark ≡ s.mark
   pub base : u.base ≡ s.base
   pub on_disk : u.on_disk ≡ s.on_disk
+
+-- the second site with all that of the first one
+abbrev pub with_disk : SiteState → SiteState → SiteState
+with_disk s u = record u {
+  start = s.start;
+  greatest = s.greatest;
+  earlier = s.earlier;
+  view = s.view;
+  contents = s.contents;
+  mark = s.mark;
+  base = s.base;
+  on_disk = s.on_disk;
+}
+
+pub same-disk : (s u : SiteState) → SameDisk s (with_disk s u)
+same-disk s u = record { start = refl; greatest = refl; earlier = refl; view = refl; contents = refl; mark = refl; base = refl; on_disk = refl }
+
+-- The site of slot i came from s to u with the same disk, in the same word.
+pub record DiskAt (D : Deployment) (i : ℕ) (s u : SiteState) : Type 0 where
+  pub disk : SameDisk s u
+  pub open disk use *
   pub log : Prefix s.log u.log
   pub member : s.joining ≡ None → u.joining ≡ None
   pub joiner : (j : Joining) → s.joining ≡ Some j → (k : Joining) × (u.joining ≡ Some k) × (k.stream ≡ j.stream) × (k.is_based ≡ j.is_based)
@@ -115,14 +136,7 @@ module _ (D : Deployment) (i : ℕ) (s u : SiteState) (h : DiskAt D i s u) where
 -- at the first state itself
 pub at-first : (D : Deployment) (i : ℕ) (s : SiteState) → DiskAt D i s s
 at-first D i s = record {
-  start = refl;
-  greatest = refl;
-  earlier = refl;
-  view = refl;
-  contents = refl;
-  mark = refl;
-  base = refl;
-  on_disk = refl;
+  disk = same-disk s s;
   log = prefix-refl s.log;
   member = λ e. e;
   joiner = λ j e. (j, e, refl, refl);
@@ -157,14 +171,16 @@ module _ (D : Deployment) (i : ℕ) (s m u : SiteState) (h : DiskAt D i s m) (k 
 
   pub at-then : DiskAt D i s u
   at-then = record {
-    start = k.start ∙ h.start;
-    greatest = k.greatest ∙ h.greatest;
-    earlier = k.earlier ∙ h.earlier;
-    view = k.view ∙ h.view;
-    contents = k.contents ∙ h.contents;
-    mark = k.mark ∙ h.mark;
-    base = k.base ∙ h.base;
-    on_disk = k.on_disk ∙ h.on_disk;
+    disk = record {
+      start = k.start ∙ h.start;
+      greatest = k.greatest ∙ h.greatest;
+      earlier = k.earlier ∙ h.earlier;
+      view = k.view ∙ h.view;
+      contents = k.contents ∙ h.contents;
+      mark = k.mark ∙ h.mark;
+      base = k.base ∙ h.base;
+      on_disk = k.on_disk ∙ h.on_disk;
+    };
     log = prefix-trans s.log m.log u.log h.log k.log;
     member = λ e. k.member (h.member e);
     joiner = λ j e. let a = h.joiner j e in let b = k.joiner a.0 a.1 in (b.0, b.1, b.2 ∙ a.2, b.3 ∙ a.3);

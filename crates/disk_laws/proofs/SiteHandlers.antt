@@ -29,12 +29,12 @@ use Rattle.cluster_steps.proofs.SiteWalk.{after_sync-walk, handler-walk}
 use Rattle.cluster_steps.proofs.SiteTurns.{Plain, PlainWaiting, MayTakeAsks, as_entered, as_joiner, takes_asks-cases, enters-walk, handler-known, joins-walk, site_runs-refused, site_runs-taken, site_runs-waits, settles-walk, stays_joiner, turn-walk}
 use Rattle.log_laws.specs.Histories.{HeldOk, HeldFor}
 use Rattle.log_laws.proofs.Firmness.Firm.{answers-all, held-away}
-use Rattle.disk_laws.proofs.Handlers.{DiskAt, DiskHandler, BeginsStream, Counts, at-first, handler-becomes, handler-then}
+use Rattle.disk_laws.proofs.Handlers.{DiskAt, DiskHandler, same-disk, BeginsStream, Counts, at-first, handler-becomes, handler-then}
 
 -- ---- what a disk doesn't go by
 
 -- the first site with what a disk doesn't go by of the second one
-abbrev with_unseen : SiteState → SiteState → SiteState
+abbrev pub with_unseen : SiteState → SiteState → SiteState
 with_unseen s u = record (with_rest s u) {
   stop = u.stop;
   log = u.log;
@@ -88,14 +88,7 @@ module _ (D : Deployment) (i : ℕ) where
 
   at-rest : (s u : SiteState) → Prefix s.log u.log → (AllByRecursion HeldOk s.held → AllByRecursion HeldOk u.held) → ((c : ℕ) → Counts s c → Counts u c) → DiskAt D i s (with_unseen s u)
   at-rest s u log held counted = record {
-    start = refl;
-    greatest = refl;
-    earlier = refl;
-    view = refl;
-    contents = refl;
-    mark = refl;
-    base = refl;
-    on_disk = refl;
+    disk = same-disk s (with_unseen s u);
     log = log;
     member = λ e. e;
     joiner = λ j e. (j, e, refl, refl);
@@ -110,7 +103,7 @@ module _ (D : Deployment) (i : ℕ) where
   disk-rest s u log held counted = handler-becomes D i s (with_unseen s u) (at-rest s u log held counted)
 
   -- with the same log and answers, and joiners of the same slots
-  disk-same : (s u : SiteState) → u.log ≡ s.log → u.held ≡ s.held → map (λ j. j.slot) u.joiners ≡ map (λ j. j.slot) s.joiners → R s (becomes (with_unseen s u))
+  pub disk-same : (s u : SiteState) → u.log ≡ s.log → u.held ≡ s.held → map (λ j. j.slot) u.joiners ≡ map (λ j. j.slot) s.joiners → R s (becomes (with_unseen s u))
   disk-same s u log held slots =
       disk-rest s u (subst (Prefix s.log) (sym log) (prefix-refl s.log)) (subst (AllByRecursion HeldOk) (sym held)) (λ c. subst (In c) (sym slots))
 
@@ -132,14 +125,7 @@ module _ (D : Deployment) (i : ℕ) where
   disk-repaired : (s : SiteState) (more : List Entry) (reports : List Reported)
       → R s (becomes (record s { log = s.log ++ more; repaired = true; owes = Some (site_term s); reports = reports }))
   disk-repaired s more reports = handler-becomes D i s _ (record {
-    start = refl;
-    greatest = refl;
-    earlier = refl;
-    view = refl;
-    contents = refl;
-    mark = refl;
-    base = refl;
-    on_disk = refl;
+    disk = same-disk s (record s { log = s.log ++ more; repaired = true; owes = Some (site_term s); reports = reports });
     log = prefix-append s.log more;
     member = λ e. e;
     joiner = λ j e. (j, e, refl, refl);
@@ -163,14 +149,7 @@ module _ (D : Deployment) (i : ℕ) where
   disk-joins : (s : SiteState) (j k : Joining) (log : List Entry) → s.joining ≡ Some j → k.stream ≡ j.stream → k.is_based ≡ j.is_based → Prefix s.log log
       → R s (becomes (record s { joining = Some k; log = log }))
   disk-joins s j k log is stream based more = handler-becomes D i s _ (record {
-    start = refl;
-    greatest = refl;
-    earlier = refl;
-    view = refl;
-    contents = refl;
-    mark = refl;
-    base = refl;
-    on_disk = refl;
+    disk = same-disk s (record s { joining = Some k; log = log });
     log = more;
     member = λ e. absurd (none-and-some e is);
     joiner = λ x e. let q : j ≡ x = same-some (sym is ∙ e) in (k, refl, stream ∙ ap (λ y. y.stream) q, based ∙ ap (λ y. y.is_based) q);
@@ -184,14 +163,7 @@ module _ (D : Deployment) (i : ℕ) where
   disk-counted : (s : SiteState) → leads D i s ≡ true → (acks : List (ℕ × ℕ)) (joiners : List Joiner) → AlikeJoiners joiners s.joiners
       → let m = with_acks s acks joiners in DiskAt D i s (record m { firm = firm_now D i m; floor = floor_now D i m; held = filter (λ d. nat_lt (firm_now D i m) d.position) s.held })
   disk-counted s authoritative acks joiners same = let m = with_acks s acks joiners in record {
-    start = refl;
-    greatest = refl;
-    earlier = refl;
-    view = refl;
-    contents = refl;
-    mark = refl;
-    base = refl;
-    on_disk = refl;
+    disk = same-disk s (record m { firm = firm_now D i m; floor = floor_now D i m; held = filter (λ d. nat_lt (firm_now D i m) d.position) s.held });
     log = prefix-refl s.log;
     member = λ e. e;
     joiner = λ j e. (j, e, refl, refl);

@@ -34,6 +34,7 @@ use Rattle.log_laws.proofs.NewTerms.Taking.{first-word, later-word}
 use Rattle.log_laws.proofs.Kept.Terms.{took-unnamed}
 use Rattle.disk_laws.specs.Disks.{Firm, ContentOk, StreamDisk, StreamOk, StreamLetter, Halted, DisksHold, shown_at}
 use Rattle.disk_laws.proofs.Order.{Raise, in-take, in-after_parts, in-after_failure, some-after_parts, some-after_failure, raise-take, raise-after_parts, raise-after_failure}
+use Rattle.cluster_steps.proofs.Steps.{with_stream}
 use Rattle.cluster_steps.proofs.SiteTurns.{Plain, PlainWaiting, as_entered, as_joiner, stays_joiner}
 use Rattle.disk_laws.proofs.Handlers.{DiskHandler, waiting-plain}
 use Rattle.disk_laws.proofs.SiteHandlers.{plain-handler, refused-handler, stream-handler, joins-handler, enters-handler, entered-held}
@@ -155,12 +156,7 @@ module _ (S : LogState) (H : Holds S) (F : Firm) (halted : Bool) (K : DisksHold 
 
       -- the joiner with its stream
       abbrev u : SiteState
-      u = record s {
-        joining = Some (record j { stream = Some (record { stream_start = head.stream_start; mark = head.mark }) });
-        log = l.past;
-        floor = head.stream_start;
-        contents = None ∷ [];
-      }
+      u = with_stream s j l head
 
       unwritten : s.on_disk ≤ length l.past
       unwritten =
@@ -202,12 +198,7 @@ module _ (S : LogState) (H : Holds S) (F : Firm) (halted : Bool) (K : DisksHold 
         t : Turn SiteState
         t = site_runs E D stamp i s (Site k) (record l { body = msg.StreamStart head })
 
-        may : (j : Joining) → s.joining ≡ Some j → (b : Bool) → may_stream s j l ≡ b → DiskHandler D i (if b then record s {
-          joining = Some (record j { stream = Some (record { stream_start = head.stream_start; mark = head.mark }) });
-          log = l.past;
-          floor = head.stream_start;
-          contents = None ∷ [];
-        } else s) t → Kept S F halted (Site k) i t
+        may : (j : Joining) → s.joining ≡ Some j → (b : Bool) → may_stream s j l ≡ b → DiskHandler D i (if b then with_stream s j l head else s) t → Kept S F halted (Site k) i t
         may j e true m handler = stream-kept j e m t handler
         may j e false m handler = handler-kept S H F halted K (Site k) i slot t up handler
 

@@ -18,13 +18,13 @@ use Rattle.cluster_steps.proofs.Channels.{took-all}
 use Rattle.cluster_steps.proofs.Lists.{all-if, all-at, all-from, all-mono, if-true, same-some}
 use Rattle.log_laws.specs.Histories.{LogState, Logs, Holds, IsSlot, HeldOk, CountedOk, part, start_at, term_at}
 use Rattle.cluster_steps.proofs.Leaders.{leader-view, leads-parts}
-use Rattle.cluster_steps.proofs.Prefixes.{prefix-refl}
 use Rattle.log_laws.proofs.Kept.Moves.{Grown, NoStreamStart, after, popped}
 use Rattle.log_laws.proofs.Kept.Plumbing.{here, there}
 use Rattle.log_laws.proofs.Runs.Leading.{leads-runs}
 use Rattle.disk_laws.specs.Disks.{AtLeast, Top, Firm, ContentOk, DiskOk, StreamLetter, Halted, DisksHold, shown_at}
 use Rattle.disk_laws.proofs.Order.{Raise, raise-refl, raise-same, top-raise, top-wipe}
-use Rattle.disk_laws.proofs.Handlers.{DiskAt, DiskHandler, Counts, counts-joiner, BeginsStream, at-term, at-was-joiner, handler-becomes}
+use Rattle.disk_laws.proofs.SiteHandlers.{disk-same}
+use Rattle.disk_laws.proofs.Handlers.{DiskHandler, Counts, counts-joiner, BeginsStream, at-term, at-was-joiner}
 use Rattle.disk_laws.proofs.Own.{OwnAt, OwnStream, disk-own, own-disk, own-handler}
 use Rattle.disk_laws.proofs.Halts.{SiteGoes, LeadersBegin, halted-site}
 use Rattle.disk_laws.proofs.SiteDisks.{Raised, contents-on, disk-on, disk-other, disks-after}
@@ -350,29 +350,9 @@ module _ (S : LogState) (H : Holds S) (F : Firm) (halted : Bool) (K : DisksHold 
   leaves-same = record { some = (K.disks i slot).some; from = λ y m. inl m; still = λ e y m. m; wipes = inl (raise-refl (shown_at S i)) }
 
   -- a number is noted
-  noted : (stop : ℕ) (plans : List (ℕ × ℕ)) → DiskAt S.words.deployment i (S.sites i) (record (S.sites i) { stop = stop; plans = plans })
-  noted stop plans = record {
-    start = refl;
-    greatest = refl;
-    earlier = refl;
-    view = refl;
-    contents = refl;
-    mark = refl;
-    base = refl;
-    on_disk = refl;
-    log = prefix-refl (S.sites i).log;
-    member = λ e. e;
-    joiner = λ j e. (j, e, refl, refl);
-    repaired = λ e. e;
-    owes = inl refl;
-    firm = inl refl;
-    held = λ k. k;
-    counted = λ c k. k;
-  }
-
   pub noted-kept : (stop : ℕ) (plans : List (ℕ × ℕ)) → Kept S F halted from i (becomes (record (S.sites i) { stop = stop; plans = plans }))
   noted-kept stop plans = elim (cases_eq (start_at S i) 0) [
     | inl z ↦ stops-kept (becomes (record (S.sites i) { stop = stop; plans = plans })) z refl leaves-same (λ c. tt)
     | inr n ↦ handler-kept (becomes (record (S.sites i) { stop = stop; plans = plans })) (omega (arith, n))
-        (handler-becomes S.words.deployment i (S.sites i) (record (S.sites i) { stop = stop; plans = plans }) (noted stop plans))
+        (disk-same S.words.deployment i (S.sites i) (record (S.sites i) { stop = stop; plans = plans }) refl refl refl)
   ]
