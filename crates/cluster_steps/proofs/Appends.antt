@@ -11,7 +11,7 @@ use Rattle.cluster_model.specs.Letters.{same, Sends, Turn, becomes}
 use Rattle.cluster_model.specs.SiteState.{SiteState, Scanning, is_joiner, other_copies}
 use Rattle.cluster_model.specs.Site.{begins_base, appends, appends_all, put_to, tasks_to, passes_on, leads_with}
 use Rattle.cluster_steps.proofs.Lists.{all-append, all-if}
-use Rattle.cluster_steps.proofs.Frames.{Inert, InertSends}
+use Rattle.cluster_steps.proofs.Frames.{InertLetter, InertSends}
 
 -- ---- entries behind a log
 
@@ -34,7 +34,7 @@ appends-one E D i e s = choice (is_snapshot e && is_none s.scanning && not (is_j
     b = record s { log = s.log ++ e ∷ [] }
 
     choice : (c : Bool) → Appended i s (e ∷ []) (if c then begins_base E D i b else becomes b)
-    choice true = record { scans = _; scanning = _; state = refl; inert = λ a q. rw q; plain = λ a. all-if Inert (same (Scanner i) a) _ [] (tt, tt) tt }
+    choice true = record { scans = _; scanning = _; state = refl; inert = λ a q. rw q; plain = λ a. all-if InertLetter (same (Scanner i) a) _ [] (tt, tt) tt }
     choice false = record { scans = _; scanning = _; state = refl; inert = λ a q. refl; plain = λ a. tt }
 
 pub appends-all : (E : Database) (D : Deployment) (i : ℕ) (es : List Entry) (s : SiteState) → Appended i s es (appends_all E D i es s)
@@ -55,7 +55,7 @@ appends-all E D i (e ∷ es) s =
           ∙ ap (λ x. grown x es more.scans more.scanning) one.state
           ∙ ap (λ log. record s { log = log; scans = more.scans; scanning = more.scanning }) (append_assoc s.log (e ∷ []) es);
       inert = λ b q. rw (one.inert b q, more.inert b q);
-      plain = λ b. all-append Inert ((appends E D i e s).sends b) ((appends_all E D i es (appends E D i e s).state).sends b) (one.plain b) (more.plain b);
+      plain = λ b. all-append InertLetter ((appends E D i e s).sends b) ((appends_all E D i es (appends E D i e s).state).sends b) (one.plain b) (more.plain b);
     }
 
 -- ---- what a leader sends of an entry

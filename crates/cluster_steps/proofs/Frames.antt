@@ -14,8 +14,8 @@ use Rattle.cluster_model.specs.Site.{holds, holds_for, with_position, with_count
 -- ---- what is sent
 
 -- A message that says nothing of the log, and begins no stream: all but the answers, what an initiator is told, and StreamStart.
-abbrev pub Inert : Letter → Type 0
-Inert l = elim l.body as (λ _. Type 0) [
+abbrev pub InertLetter : Letter → Type 0
+InertLetter l = elim l.body as (λ _. Type 0) [
   | msg.StreamStart head ↦ ⊥
   | msg.Reply call start end ↦ ⊥
   | msg.FragDone m round partial ↦ ⊥
@@ -25,7 +25,7 @@ Inert l = elim l.body as (λ _. Type 0) [
 ]
 
 abbrev pub InertSends : Sends → Type 0
-InertSends out = (b : Actor) → AllByRecursion Inert (out b)
+InertSends out = (b : Actor) → AllByRecursion InertLetter (out b)
 
 pub all-replicate : {A : Type 0} (P : A → Type 0) (n : ℕ) (x : A) → P x → AllByRecursion P (replicate n x)
 all-replicate P zero x p = tt
@@ -58,12 +58,12 @@ abbrev pub begins_at : List Joiner → List ℕ
 begins_at js = map (λ j. j.stream_start) js
 
 -- They are the same, but for what they acknowledged and whether all was sent to them.
-pub record SameJoiners (js ks : List Joiner) : Type 0 where
+pub record AlikeJoiners (js ks : List Joiner) : Type 0 where
   pub slots : map (λ j. j.slot) js ≡ map (λ j. j.slot) ks
   pub begins : begins_at js ≡ begins_at ks
 
 -- One is the same, and has acknowledged as much.
-pub record SameJoiner (j k : Joiner) : Type 0 where
+pub record AlikeJoiner (j k : Joiner) : Type 0 where
   pub slot : j.slot ≡ k.slot
   pub stream_start : j.stream_start ≡ k.stream_start
   pub position : j.position ≡ k.position
@@ -72,13 +72,13 @@ pub map-field : (g : Joiner → ℕ) (f : Joiner → Joiner) → ((j : Joiner) �
 map-field g f e [] = refl
 map-field g f e (j ∷ js) = rw (e j, map-field g f e js)
 
-pub mapped-joiners : (f : Joiner → Joiner) → ((j : Joiner) → SameJoiner (f j) j) → (js : List Joiner) → SameJoiners (map f js) js
+pub mapped-joiners : (f : Joiner → Joiner) → ((j : Joiner) → AlikeJoiner (f j) j) → (js : List Joiner) → AlikeJoiners (map f js) js
 mapped-joiners f e js = record {
   slots = map-field (λ j. j.slot) f (λ j. (e j).slot) js;
   begins = map-field (λ j. j.stream_start) f (λ j. (e j).stream_start) js;
 }
 
-pub positioned : (slot position : ℕ) (js : List Joiner) → SameJoiners (map (with_position slot position) js) js
+pub positioned : (slot position : ℕ) (js : List Joiner) → AlikeJoiners (map (with_position slot position) js) js
 positioned slot position js = record {
   slots = map-field (λ j. j.slot) (with_position slot position) (λ j. slot-of j (j.slot == slot)) js;
   begins = map-field (λ j. j.stream_start) (with_position slot position) (λ j. begin-of j (j.slot == slot)) js;
@@ -92,17 +92,17 @@ positioned slot position js = record {
     begin-of j true = refl
     begin-of j false = refl
 
-pub counted-joiner : (slot count : ℕ) (j : Joiner) → SameJoiner (with_count slot count j) j
-counted-joiner slot count j = choice (j.slot == slot)
+pub counted-alike : (slot count : ℕ) (j : Joiner) → AlikeJoiner (with_count slot count j) j
+counted-alike slot count j = choice (j.slot == slot)
   where
-    choice : (b : Bool) → SameJoiner (if b then record j { count = Some count } else j) j
+    choice : (b : Bool) → AlikeJoiner (if b then record j { count = Some count } else j) j
     choice true = record { slot = refl; stream_start = refl; position = refl }
     choice false = record { slot = refl; stream_start = refl; position = refl }
 
-pub uncounted-joiner : (s : SiteState) (j : Joiner) → SameJoiner (without_count s j) j
-uncounted-joiner s j = choice (is_sent s j)
+pub uncounted-alike : (s : SiteState) (j : Joiner) → AlikeJoiner (without_count s j) j
+uncounted-alike s j = choice (is_sent s j)
   where
-    choice : (b : Bool) → SameJoiner (if b then record j { count = None } else j) j
+    choice : (b : Bool) → AlikeJoiner (if b then record j { count = None } else j) j
     choice true = record { slot = refl; stream_start = refl; position = refl }
     choice false = record { slot = refl; stream_start = refl; position = refl }
 

@@ -24,9 +24,9 @@ use Rattle.cluster_model.specs.Site.{holds_for, initiator_in, may_stream, on_str
 use Rattle.cluster_model.specs.Sync.{after_sync, written, joiner_written, syncs, parts_of_sync, parts_of_message, start_after, stops_so, site_turn, sync_turn}
 use Rattle.cluster_steps.specs.Lists.{In}
 use Rattle.cluster_steps.proofs.Lists.{all-append, all-at, all-from, all-if, all-mono, all-one, in-filter, same-some}
-use Rattle.cluster_steps.proofs.Frames.{Inert, InertSends, holds_for-cases}
-use Rattle.cluster_steps.proofs.Steps.{KnownOf, LetsGo, Moves, Settles, Steps, Tells, with_entry, with_stream}
-use Rattle.cluster_steps.proofs.SiteWalk.{after_sync-walk, as_member-walk, asks_to_join-inert, handler-walk, settled, settled-walk}
+use Rattle.cluster_steps.proofs.Frames.{InertLetter, InertSends, holds_for-cases}
+use Rattle.cluster_steps.proofs.Steps.{KnownOf, LetsGo, SmallSteps, SayingSteps, HandlerSteps, MayBeTold, with_entry, with_stream}
+use Rattle.cluster_steps.proofs.SiteWalk.{after_sync-walk, as_member-walk, asks_to_join-inert, handler-walk, settled_turn, settled-walk}
 
 -- ---- a joiner that asked is taken
 
@@ -52,9 +52,9 @@ module _ (E : Database) (D : Deployment) (i : ℕ) (s : SiteState) where
       (v.0, eqb-true s.mark (site_term s) v.1)
 
   -- Either nothing happens, or a joiner that asked is taken.
-  pub asks-cases : (P : Turn SiteState → Type 0) → P (becomes s)
+  pub takes_asks-cases : (P : Turn SiteState → Type 0) → P (becomes s)
       → ((a : Ask) → leads D i s ≡ true → s.mark ≡ site_term s → P (takes_first_ask E D i s (Some a))) → P (takes_asks E D i s)
-  asks-cases P none one = go (find (can_take D i s) s.asks) refl
+  takes_asks-cases P none one = go (find (can_take D i s) s.asks) refl
     where
       go : (o : Option Ask) → find (can_take D i s) s.asks ≡ o → P (takes_first_ask E D i s o)
       go None e = none
@@ -75,31 +75,31 @@ as_entered s w = record (in_new_term s w) { joining = None }
 -- ---- a whole turn
 
 -- It takes what waited, and does all that follows but to take a joiner.
-abbrev pub worked : Database → Deployment → ℕ → ℕ → Turn SiteState → Turn SiteState
-worked E D stamp i t = t ▸ takes_waiting E D stamp i ▸ settled E D i
+abbrev pub worked_turn : Database → Deployment → ℕ → ℕ → Turn SiteState → Turn SiteState
+worked_turn E D stamp i t = t ▸ takes_waiting E D stamp i ▸ settled_turn E D i
 
-abbrev pub whole : Database → Deployment → ℕ → ℕ → Turn SiteState → Turn SiteState
-whole E D stamp i t = ordered (t ▸ takes_waiting E D stamp i ▸ settles E D i)
+abbrev pub whole_turn : Database → Deployment → ℕ → ℕ → Turn SiteState → Turn SiteState
+whole_turn E D stamp i t = ordered (t ▸ takes_waiting E D stamp i ▸ settles E D i)
 
 -- what is said of what waits at a site
 abbrev pub KnownAt : (SiteState → Actor → Letter → Type 0) → SiteState → Type 0
 KnownAt K s = AllByRecursion (KnownOf K (site_term s)) s.waiting
 
 -- A joiner that asked may be taken.
-abbrev pub TakesAsks : Database → Deployment → ℕ → (SiteState → Turn SiteState → Type 0) → Type 0
-TakesAsks E D i R = (s : SiteState) → R s (takes_asks E D i s)
+abbrev pub MayTakeAsks : Database → Deployment → ℕ → (SiteState → Turn SiteState → Type 0) → Type 0
+MayTakeAsks E D i R = (s : SiteState) → R s (takes_asks E D i s)
 
 -- what is so of each of those of a term, if it is of that
 all-of-term : (Q : Waiting → Type 0) (term : ℕ) (ws : List Waiting) → AllByRecursion (λ x. x.letter.term ≡ term → Q x) ws → AllByRecursion Q (of_term term ws)
 all-of-term Q term ws h = all-from Q (of_term term ws) (λ x k.
     let r = in-filter (λ w. w.letter.term == term) x ws k in all-at (λ x. x.letter.term ≡ term → Q x) ws h x r.0 (eqb-true x.letter.term term r.1))
 
-module _ (E : Database) (D : Deployment) (i : ℕ) (R : SiteState → Turn SiteState → Type 0) (M : Moves R) (told : Tells E D i R) (asks : TakesAsks E D i R) where
+module _ (E : Database) (D : Deployment) (i : ℕ) (R : SiteState → Turn SiteState → Type 0) (M : SmallSteps R) (told : MayBeTold E D i R) (asks : MayTakeAsks E D i R) where
   pub settles-walk : (s : SiteState) → R s (settles E D i s)
-  settles-walk s = let t = settled E D i s in M.next s t (takes_asks E D i) (settled-walk E D i R M told s) (asks t.state)
+  settles-walk s = let t = settled_turn E D i s in M.next s t (takes_asks E D i) (settled-walk E D i R M told s) (asks t.state)
 
-module _ (E : Database) (D : Deployment) (stamp i : ℕ) (K : SiteState → Actor → Letter → Type 0) (R : SiteState → Turn SiteState → Type 0) (W : Steps E D stamp i K R) where
-  abbrev S : Moves R
+module _ (E : Database) (D : Deployment) (stamp i : ℕ) (K : SiteState → Actor → Letter → Type 0) (R : SiteState → Turn SiteState → Type 0) (W : HandlerSteps E D stamp i K R) where
+  abbrev S : SmallSteps R
   S = W.settles.moves
 
   -- a word, from the site on that has it
@@ -129,11 +129,11 @@ module _ (E : Database) (D : Deployment) (stamp i : ℕ) (K : SiteState → Acto
     pub taken-walk : (b : SiteState) (t : Turn SiteState) → R b t → KnownAt K t.state → R b (t ▸ takes_waiting E D stamp i)
     taken-walk b t handler known = S.next b t (takes_waiting E D stamp i) handler (takes_waiting-walk t.state known)
 
-    pub worked-walk : Tells E D i R → (b : SiteState) (t : Turn SiteState) → R b t → KnownAt K t.state → R b (worked E D stamp i t)
+    pub worked-walk : MayBeTold E D i R → (b : SiteState) (t : Turn SiteState) → R b t → KnownAt K t.state → R b (worked_turn E D stamp i t)
     worked-walk told b t handler known =
-        let u = t ▸ takes_waiting E D stamp i in S.next b u (settled E D i) (taken-walk b t handler known) (settled-walk E D i R S told u.state)
+        let u = t ▸ takes_waiting E D stamp i in S.next b u (settled_turn E D i) (taken-walk b t handler known) (settled-walk E D i R S told u.state)
 
-    pub turn-walk : Tells E D i R → TakesAsks E D i R → (b : SiteState) (t : Turn SiteState) → R b t → KnownAt K t.state → R b (t ▸ takes_waiting E D stamp i ▸ settles E D i)
+    pub turn-walk : MayBeTold E D i R → MayTakeAsks E D i R → (b : SiteState) (t : Turn SiteState) → R b t → KnownAt K t.state → R b (t ▸ takes_waiting E D stamp i ▸ settles E D i)
     turn-walk told asks b t handler known =
         let u = t ▸ takes_waiting E D stamp i in S.next b u (settles E D i) (taken-walk b t handler known) (settles-walk E D i R S told asks u.state)
 
@@ -147,16 +147,16 @@ NoWord (Agent h) l = elim l.body as (λ _. Type 0) [
 ]
 NoWord from l = Unit {0}
 
-pub record Keeps (s : SiteState) (t : Turn SiteState) : Type 0 where
+pub record KeepsWord (s : SiteState) (t : Turn SiteState) : Type 0 where
   pub start : t.state.start ≡ s.start
   pub view : t.state.view ≡ s.view
   pub waits : (x : Waiting) → In x t.state.waiting → In x s.waiting
 
-keeps-same : (s : SiteState) (t : Turn SiteState) → t.state.start ≡ s.start → t.state.view ≡ s.view → t.state.waiting ≡ s.waiting → Keeps s t
+keeps-same : (s : SiteState) (t : Turn SiteState) → t.state.start ≡ s.start → t.state.view ≡ s.view → t.state.waiting ≡ s.waiting → KeepsWord s t
 keeps-same s t start view waiting = record { start = start; view = view; waits = λ x k. subst (In x) waiting k }
 
 module _ (E : Database) (D : Deployment) (i : ℕ) where
-  keeps-settles : Settles D i Keeps
+  keeps-settles : SayingSteps D i KeepsWord
   keeps-settles = record {
     moves = record {
       first = λ s. keeps-same s (becomes s) refl refl refl;
@@ -169,10 +169,10 @@ module _ (E : Database) (D : Deployment) (i : ℕ) where
     counted = λ s authoritative acks joiners same. keeps-same s _ refl refl refl;
   }
 
-  keeps-entry : (s : SiteState) (o : Option (ℕ × ℕ)) (m : Msg Blocks) (e : Entry) → Keeps s (becomes (with_entry (holds_for s o m) e))
-  keeps-entry s o m e = holds_for-cases (λ h. Keeps s (becomes (with_entry h e))) s o m (keeps-same s _ refl refl refl) (λ first. keeps-same s _ refl refl refl)
+  keeps-entry : (s : SiteState) (o : Option (ℕ × ℕ)) (m : Msg Blocks) (e : Entry) → KeepsWord s (becomes (with_entry (holds_for s o m) e))
+  keeps-entry s o m e = holds_for-cases (λ h. KeepsWord s (becomes (with_entry h e))) s o m (keeps-same s _ refl refl refl) (λ first. keeps-same s _ refl refl refl)
 
-  keeps-steps : (stamp : ℕ) → Steps E D stamp i (λ s from l. NoWord from l) Keeps
+  keeps-steps : (stamp : ℕ) → HandlerSteps E D stamp i (λ s from l. NoWord from l) KeepsWord
   keeps-steps stamp = record {
     settles = keeps-settles;
     called = λ s authoritative clear c. keeps-same s _ refl refl refl;
@@ -187,34 +187,34 @@ module _ (E : Database) (D : Deployment) (i : ℕ) where
     stream = λ s slot l head j k is may. keeps-same s _ refl refl refl;
   }
 
-  keeps-asks : TakesAsks E D i Keeps
-  keeps-asks s = asks-cases E D i s (Keeps s) (keeps-same s (becomes s) refl refl refl) (λ a authoritative mark. keeps-same s _ refl refl refl)
+  keeps-asks : MayTakeAsks E D i KeepsWord
+  keeps-asks s = takes_asks-cases E D i s (KeepsWord s) (keeps-same s (becomes s) refl refl refl) (λ a authoritative mark. keeps-same s _ refl refl refl)
 
-  pub handler-keeps : (stamp : ℕ) (s : SiteState) (from : Actor) (l : Letter) → NoWord from l → Keeps s (site_handler E D stamp i s from l)
-  handler-keeps stamp = handler-walk E D stamp i (λ s from l. NoWord from l) Keeps (keeps-steps stamp)
+  pub handler-keeps : (stamp : ℕ) (s : SiteState) (from : Actor) (l : Letter) → NoWord from l → KeepsWord s (site_handler E D stamp i s from l)
+  handler-keeps stamp = handler-walk E D stamp i (λ s from l. NoWord from l) KeepsWord (keeps-steps stamp)
 
-  pub worked-keeps : (stamp : ℕ) (t : Turn SiteState) → AllByRecursion (λ x. NoWord x.from x.letter) t.state.waiting → Keeps t.state (worked E D stamp i t)
+  pub worked-keeps : (stamp : ℕ) (t : Turn SiteState) → AllByRecursion (λ x. NoWord x.from x.letter) t.state.waiting → KeepsWord t.state (worked_turn E D stamp i t)
   worked-keeps stamp t quiet =
       let s = t.state in
-      let k = worked-walk E D stamp i (λ s from l. NoWord from l) Keeps (keeps-steps stamp) lets (λ s may first. keeps-same s _ refl refl refl) s (becomes s) (keeps-same s (becomes s) refl refl refl) (known quiet) in
+      let k = worked-walk E D stamp i (λ s from l. NoWord from l) KeepsWord (keeps-steps stamp) lets (λ s may first. keeps-same s _ refl refl refl) s (becomes s) (keeps-same s (becomes s) refl refl refl) (known quiet) in
       record { start = k.start; view = k.view; waits = k.waits }
     where
-      lets : LetsGo Keeps
+      lets : LetsGo KeepsWord
       lets s ws less = record { start = refl; view = refl; waits = less }
 
       known : AllByRecursion (λ x. NoWord x.from x.letter) t.state.waiting → KnownAt (λ s from l. NoWord from l) t.state
       known = all-mono (λ x. NoWord x.from x.letter) (KnownOf (λ s from l. NoWord from l) (site_term t.state)) (λ x k _ _. k) t.state.waiting
 
   -- behind a whole turn, that of what waited and a joiner that is taken among it
-  pub whole-keeps : (stamp : ℕ) (t : Turn SiteState) → AllByRecursion (λ x. NoWord x.from x.letter) t.state.waiting → Keeps t.state (whole E D stamp i t)
+  pub whole-keeps : (stamp : ℕ) (t : Turn SiteState) → AllByRecursion (λ x. NoWord x.from x.letter) t.state.waiting → KeepsWord t.state (whole_turn E D stamp i t)
   whole-keeps stamp t quiet =
       let h = worked-keeps stamp t quiet in
-      let k = keeps-asks (worked E D stamp i t).state in
+      let k = keeps-asks (worked_turn E D stamp i t).state in
       record { start = k.start ∙ h.start; view = k.view ∙ h.view; waits = λ x m. h.waits x (k.waits x m) }
 
-  pub view-keeps : (stamp : ℕ) (s : SiteState) (w : Membership) (c : Bool) → stays_joiner D i s w ≡ c → Keeps (if c then as_joiner s w else as_entered s w) (on_view E D i stamp s w)
-  view-keeps stamp s w true e = joins-walk E D stamp i (λ s from l. NoWord from l) Keeps (keeps-steps stamp) s w e
-  view-keeps stamp s w false e = enters-walk E D stamp i (λ s from l. NoWord from l) Keeps (keeps-steps stamp) s w e
+  pub view-keeps : (stamp : ℕ) (s : SiteState) (w : Membership) (c : Bool) → stays_joiner D i s w ≡ c → KeepsWord (if c then as_joiner s w else as_entered s w) (on_view E D i stamp s w)
+  view-keeps stamp s w true e = joins-walk E D stamp i (λ s from l. NoWord from l) KeepsWord (keeps-steps stamp) s w e
+  view-keeps stamp s w false e = enters-walk E D stamp i (λ s from l. NoWord from l) KeepsWord (keeps-steps stamp) s w e
 
 -- It goes on with its start, and what waits behind waited before: behind a handler, and behind a turn that takes a message.
 abbrev pub StaysUp : SiteState → SiteState → Type 0
@@ -241,7 +241,7 @@ handler-stays E D stamp i s from l = go from l
     go (Client n) l = plain (Client n) l tt
 
 pub taken-stays : (E : Database) (D : Deployment) (stamp i : ℕ) (s : SiteState) (from : Actor) (l : Letter) → AllByRecursion (λ x. NoWord x.from x.letter) s.waiting
-    → StaysUp s (whole E D stamp i (site_handler E D stamp i s from l)).state
+    → StaysUp s (whole_turn E D stamp i (site_handler E D stamp i s from l)).state
 taken-stays E D stamp i s from l quiet =
     let t = site_handler E D stamp i s from l in
     let h = handler-stays E D stamp i s from l in
@@ -281,7 +281,7 @@ pub handler-known : (E : Database) (D : Deployment) (stamp i : ℕ) (s : SiteSta
 handler-known E D stamp i s from l plain = all-from (KnownOf (λ _ from l. Plain from l) (site_term (site_handler E D stamp i s from l).state)) _
     (λ x m _ _. all-at PlainWaiting s.waiting plain x ((handler-stays E D stamp i s from l).1 x m))
 
-module _ (E : Database) (D : Deployment) (stamp i : ℕ) (R : SiteState → Turn SiteState → Type 0) (W : Steps E D stamp i (λ _ from l. Plain from l) R) (s : SiteState)
+module _ (E : Database) (D : Deployment) (stamp i : ℕ) (R : SiteState → Turn SiteState → Type 0) (W : HandlerSteps E D stamp i (λ _ from l. Plain from l) R) (s : SiteState)
     (P : SiteState → Type 0) (itself : P s) (streams : (j : Joining) (l : Letter) (head : StreamHead) → s.joining ≡ Some j → may_stream s j l ≡ true → P (with_stream s j l head))
     (words : (w : Membership) (joining : Option Joining) → P (record (in_new_term s w) { joining = joining })) where
   -- From the site itself, or with the stream or word that it takes.
@@ -327,21 +327,21 @@ module _ (E : Database) (D : Deployment) (stamp i : ℕ) (R : SiteState → Turn
 -- a message that arrives so
 abbrev arrived : Database → Deployment → ℕ → ℕ → SiteState → Actor → Letter → Arrival → Turn SiteState
 arrived E D stamp i s from l a = elim a as (λ _. Turn SiteState) [
-  | Taken ↦ whole E D stamp i (site_handler E D stamp i s from l)
+  | Taken ↦ whole_turn E D stamp i (site_handler E D stamp i s from l)
   | Waits ↦ becomes (record s { waiting = s.waiting ++ record { from = from; letter = l } ∷ [] })
   | Refused ↦ becomes s
 ]
 
 module _ (E : Database) (D : Deployment) (stamp i : ℕ) (s : SiteState) (from : Actor) (l : Letter) where
-  pub runs-taken : arrival s.start (site_term s) l ≡ Taken → site_runs E D stamp i s from l ≡ whole E D stamp i (site_handler E D stamp i s from l)
-  runs-taken e = ap (arrived E D stamp i s from l) e
+  pub site_runs-taken : arrival s.start (site_term s) l ≡ Taken → site_runs E D stamp i s from l ≡ whole_turn E D stamp i (site_handler E D stamp i s from l)
+  site_runs-taken e = ap (arrived E D stamp i s from l) e
 
-  pub runs-refused : arrival s.start (site_term s) l ≡ Refused → site_runs E D stamp i s from l ≡ becomes s
-  runs-refused e = ap (arrived E D stamp i s from l) e
+  pub site_runs-refused : arrival s.start (site_term s) l ≡ Refused → site_runs E D stamp i s from l ≡ becomes s
+  site_runs-refused e = ap (arrived E D stamp i s from l) e
 
-  pub runs-waits : arrival s.start (site_term s) l ≡ Waits
+  pub site_runs-waits : arrival s.start (site_term s) l ≡ Waits
       → site_runs E D stamp i s from l ≡ becomes (record s { waiting = s.waiting ++ record { from = from; letter = l } ∷ [] })
-  runs-waits e = ap (arrived E D stamp i s from l) e
+  site_runs-waits e = ap (arrived E D stamp i s from l) e
 
 -- a site that stopped, or begins
 abbrev pub anew : SiteState → ℕ → Option Joining → ℕ → List Shown → SiteState
@@ -357,12 +357,12 @@ ForHost l = elim l.body as (λ _. Type 0) [
 ]
 
 stops_so-inert : (D : Deployment) (i : ℕ) (s : SiteState) (start : ℕ) (contents : List Shown) → InertSends (stops_so D i s start contents).sends
-stops_so-inert D i s start contents b = all-if Inert (same (Site i) b) [] (stops_others D (host_of_slot D i) start b) tt (others b)
+stops_so-inert D i s start contents b = all-if InertLetter (same (Site i) b) [] (stops_others D (host_of_slot D i) start b) tt (others b)
   where
     others : InertSends (stops_others D (host_of_slot D i) start)
-    others (Agent g) = all-one Inert (g == host_of_slot D i) _ (λ _. tt)
-    others (Site c) = all-one Inert (is_slot_of D (host_of_slot D i) c) _ (λ _. tt)
-    others (Scanner x) = all-one Inert (is_slot_of D (host_of_slot D i) x) _ (λ _. tt)
+    others (Agent g) = all-one InertLetter (g == host_of_slot D i) _ (λ _. tt)
+    others (Site c) = all-one InertLetter (is_slot_of D (host_of_slot D i) c) _ (λ _. tt)
+    others (Scanner x) = all-one InertLetter (is_slot_of D (host_of_slot D i) x) _ (λ _. tt)
     others Director = tt
     others (Client n) = tt
 
@@ -373,12 +373,12 @@ module _ (E : Database) (D : Deployment) (stamp i : ℕ) (s : SiteState) (from :
     module _ (l : Letter)
         (aside : (stop : ℕ) (plans : List (ℕ × ℕ)) → (0 < s.start → arrival s.start (site_term s) l ≡ Taken → ForHost l) → G (becomes (record s { stop = stop; plans = plans })))
         (waits : 0 < s.start → arrival s.start (site_term s) l ≡ Waits → G (becomes (record s { waiting = s.waiting ++ record { from = from; letter = l } ∷ [] })))
-        (taken : 0 < s.start → arrival s.start (site_term s) l ≡ Taken → G (whole E D stamp i (site_handler E D stamp i s from l))) where
+        (taken : 0 < s.start → arrival s.start (site_term s) l ≡ Taken → G (whole_turn E D stamp i (site_handler E D stamp i s from l))) where
       runs : 0 < s.start → G (site_runs E D stamp i s from l)
       runs up = go (arrival s.start (site_term s) l) refl
         where
           go : (a : Arrival) → arrival s.start (site_term s) l ≡ a → G (elim a as (λ _. Turn SiteState) [
-            | Taken ↦ whole E D stamp i (site_handler E D stamp i s from l)
+            | Taken ↦ whole_turn E D stamp i (site_handler E D stamp i s from l)
             | Waits ↦ becomes (record s { waiting = s.waiting ++ record { from = from; letter = l } ∷ [] })
             | Refused ↦ becomes s
           ])
@@ -397,7 +397,7 @@ module _ (E : Database) (D : Deployment) (stamp i : ℕ) (s : SiteState) (from :
       starts start k = go (nat_lt s.start start && nat_lt s.stop start)
         where
           go : (c : Bool) → G (if c then sending (new_joiner s start) (only (Scanner i) (open_letter (msg.Start start))) else becomes s)
-          go true = ends start s.stop (Some new_joining) s.contents _ (λ b. all-one Inert (same (Scanner i) b) _ (λ _. tt))
+          go true = ends start s.stop (Some new_joining) s.contents _ (λ b. all-one InertLetter (same (Scanner i) b) _ (λ _. tt))
           go false = aside s.stop s.plans (λ _ _. k)
 
       stops : (start : ℕ) → ForHost l → G (becomes (on_stop s start))
@@ -414,7 +414,7 @@ module _ (E : Database) (D : Deployment) (stamp i : ℕ) (s : SiteState) (from :
     Cases l t =
         ((stop : ℕ) (plans : List (ℕ × ℕ)) → (0 < s.start → arrival s.start (site_term s) l ≡ Taken → ForHost l) → G (becomes (record s { stop = stop; plans = plans })))
         → (0 < s.start → arrival s.start (site_term s) l ≡ Waits → G (becomes (record s { waiting = s.waiting ++ record { from = from; letter = l } ∷ [] })))
-        → (0 < s.start → arrival s.start (site_term s) l ≡ Taken → G (whole E D stamp i (site_handler E D stamp i s from l))) → G t
+        → (0 < s.start → arrival s.start (site_term s) l ≡ Taken → G (whole_turn E D stamp i (site_handler E D stamp i s from l))) → G t
 
     takes-cases : (l : Letter) → Cases l (site_takes E D stamp i s from l)
     takes-cases l = elim l.body as (λ m. let x = record l { body = m } in Cases x (site_takes E D stamp i s from x)) [
@@ -424,11 +424,11 @@ module _ (E : Database) (D : Deployment) (stamp i : ℕ) (s : SiteState) (from :
       | m ↦ λ aside waits taken. running (record l { body = m }) aside waits taken
     ]
 
-    pub turn-cases : (l : Letter) (o : Environment) → Cases l (site_turn E D stamp i s from l o)
-    turn-cases l NoFault = takes-cases l
-    turn-cases l (DisksShow shown failed) = takes-cases l
-    turn-cases l (DiskFails answered) = λ aside waits taken. let xs = after_failure s.contents (parts_of_message s l) answered in ends 0 s.stop None xs (stops_so D i s s.start xs).sends (stops_so-inert D i s s.start xs)
-    turn-cases l (NoMemory answered) = λ aside waits taken. let xs = after_parts s.contents (take answered (parts_of_message s l)) in ends 0 s.stop None xs (stops_so D i s (start_after s l) xs).sends (stops_so-inert D i s (start_after s l) xs)
+    pub site_turn-cases : (l : Letter) (o : Environment) → Cases l (site_turn E D stamp i s from l o)
+    site_turn-cases l NoFault = takes-cases l
+    site_turn-cases l (DisksShow shown failed) = takes-cases l
+    site_turn-cases l (DiskFails answered) = λ aside waits taken. let xs = after_failure s.contents (parts_of_message s l) answered in ends 0 s.stop None xs (stops_so D i s s.start xs).sends (stops_so-inert D i s s.start xs)
+    site_turn-cases l (NoMemory answered) = λ aside waits taken. let xs = after_parts s.contents (take answered (parts_of_message s l)) in ends 0 s.stop None xs (stops_so D i s (start_after s l) xs).sends (stops_so-inert D i s (start_after s l) xs)
 
 -- ---- a Sync
 
@@ -437,12 +437,12 @@ abbrev pub written_site : SiteState → SiteState
 written_site s = record (written s s.joining) { contents = after_parts s.contents (parts_of_sync s s.joining) }
 
 -- it stops, or says what it has written
-pub sync-cases : (E : Database) (D : Deployment) (i : ℕ) (s : SiteState) (o : Environment) (G : Turn SiteState → Type 0)
+pub sync_turn-cases : (E : Database) (D : Deployment) (i : ℕ) (s : SiteState) (o : Environment) (G : Turn SiteState → Type 0)
     → ((stop : ℕ) (contents : List Shown) (out : Sends) → InertSends out → G (sending (anew s 0 None stop contents) out)) → G (syncs E D i s) → G (sync_turn E D i s o)
-sync-cases E D i s NoFault G ends says = says
-sync-cases E D i s (DisksShow shown failed) G ends says = says
-sync-cases E D i s (DiskFails answered) G ends says = let xs = after_failure s.contents (parts_of_sync s s.joining) answered in ends s.stop xs (stops_so D i s s.start xs).sends (stops_so-inert D i s s.start xs)
-sync-cases E D i s (NoMemory answered) G ends says = let xs = after_parts s.contents (take answered (parts_of_sync s s.joining)) in ends s.stop xs (stops_so D i s s.start xs).sends (stops_so-inert D i s s.start xs)
+sync_turn-cases E D i s NoFault G ends says = says
+sync_turn-cases E D i s (DisksShow shown failed) G ends says = says
+sync_turn-cases E D i s (DiskFails answered) G ends says = let xs = after_failure s.contents (parts_of_sync s s.joining) answered in ends s.stop xs (stops_so D i s s.start xs).sends (stops_so-inert D i s s.start xs)
+sync_turn-cases E D i s (NoMemory answered) G ends says = let xs = after_parts s.contents (take answered (parts_of_sync s s.joining)) in ends s.stop xs (stops_so D i s s.start xs).sends (stops_so-inert D i s s.start xs)
 
 -- What it has written leaves all this as it was.
 pub record Wrote (s b : SiteState) : Type 0 where
@@ -488,7 +488,7 @@ module _ (E : Database) (D : Deployment) (stamp i : ℕ) (s : SiteState) (from :
   pub turn-waits : (0 < s.start → AllByRecursion (λ x. NoWord x.from x.letter) s.waiting) → (0 < s.start → AllByRecursion P s.waiting)
       → (0 < s.start → arrival s.start (site_term s) l ≡ Waits → P (record { from = from; letter = l }))
       → 0 < (site_turn E D stamp i s from l o).state.start → AllByRecursion P (site_turn E D stamp i s from l o).state.waiting
-  turn-waits quiet all new = turn-cases E D stamp i s from (λ t. 0 < t.state.start → AllByRecursion P t.state.waiting) (λ start stop joining contents out inert up. tt) l o
+  turn-waits quiet all new = site_turn-cases E D stamp i s from (λ t. 0 < t.state.start → AllByRecursion P t.state.waiting) (λ start stop joining contents out inert up. tt) l o
       (λ stop plans aside. all)
       (λ up waits _. all-append P s.waiting (record { from = from; letter = l } ∷ []) (all up) (new up waits, tt))
       (λ up takes _. let k = taken-stays E D stamp i s from l (quiet up) in all-from P _ (λ x m. all-at P s.waiting (all up) x (k.1 x m)))
@@ -497,10 +497,10 @@ pub syncs-stays : (E : Database) (D : Deployment) (i : ℕ) (s : SiteState) → 
 syncs-stays E D i s =
     let b = written_site s in
     let w = wrote s in
-    let h = after_sync-walk D i Keeps (keeps-settles E D i) b in
+    let h = after_sync-walk D i KeepsWord (keeps-settles E D i) b in
     let u = (after_sync D i b b.joining).state in
-    let k = settles-walk E D i Keeps (keeps-settles E D i).moves (λ s may first. keeps-same s _ refl refl refl) (keeps-asks E D i) u in
+    let k = settles-walk E D i KeepsWord (keeps-settles E D i).moves (λ s may first. keeps-same s _ refl refl refl) (keeps-asks E D i) u in
     (k.start ∙ h.start ∙ w.start, λ x m. subst (In x) w.waiting (h.waits x (k.waits x m)))
 
 pub sync-waits : (E : Database) (D : Deployment) (i : ℕ) (s : SiteState) (o : Environment) (x : Waiting) → In x (sync_turn E D i s o).state.waiting → In x s.waiting
-sync-waits E D i s o x = sync-cases E D i s o (λ t. In x t.state.waiting → In x s.waiting) (λ stop contents out inert m. absurd m) ((syncs-stays E D i s).1 x)
+sync-waits E D i s o x = sync_turn-cases E D i s o (λ t. In x t.state.waiting → In x s.waiting) (λ stop contents out inert m. absurd m) ((syncs-stays E D i s).1 x)

@@ -19,9 +19,9 @@ use Rattle.cluster_model.specs.Site.{begins_base, appends, appends_all, put_to, 
 use Rattle.cluster_model.specs.Sync.{acknowledges, says_loaded, after_sync}
 use Rattle.cluster_steps.proofs.Lists.{all-append, all-if, all-map, all-one}
 use Rattle.cluster_steps.proofs.Prefixes.{prefix-append, prefix-refl}
-use Rattle.cluster_steps.proofs.Frames.{Inert, InertSends, SameJoiners, all-replicate, counted-joiner, positioned, turn-assoc, uncounted-joiner, with_rest}
+use Rattle.cluster_steps.proofs.Frames.{InertLetter, InertSends, AlikeJoiners, all-replicate, counted-alike, positioned, turn-assoc, uncounted-alike, with_rest}
 use Rattle.cluster_steps.proofs.Appends.{Appended, appends-all, grown}
-use Rattle.cluster_steps.proofs.Steps.{MayTell, Moves, Settles, Steps, Tells, reply_to, with_acks, with_entry, with_reported, with_stream}
+use Rattle.cluster_steps.proofs.Steps.{MayTell, SmallSteps, SayingSteps, HandlerSteps, MayBeTold, reply_to, with_acks, with_entry, with_reported, with_stream}
 
 -- ---- calls and tests
 
@@ -41,12 +41,12 @@ may-tell D i s e =
 
 -- ---- what a site says of its state, which no law goes by
 
-repair_to-inert : (D : Deployment) (s : SiteState) (slot : ℕ) (rs : List Reported) → AllByRecursion Inert (repair_to D s slot rs)
+repair_to-inert : (D : Deployment) (s : SiteState) (slot : ℕ) (rs : List Reported) → AllByRecursion InertLetter (repair_to D s slot rs)
 repair_to-inert D s slot [] = tt
-repair_to-inert D s slot (r ∷ rs) = all-if Inert (r.slot == slot) _ (repair_to D s slot rs) (tt, tt) (repair_to-inert D s slot rs)
+repair_to-inert D s slot (r ∷ rs) = all-if InertLetter (r.slot == slot) _ (repair_to D s slot rs) (tt, tt) (repair_to-inert D s slot rs)
 
-only-inert : (a : Actor) (l : Letter) → Inert l → InertSends (only a l)
-only-inert a l h b = all-one Inert (same a b) l (λ _. h)
+only-inert : (a : Actor) (l : Letter) → InertLetter l → InertSends (only a l)
+only-inert a l h b = all-one InertLetter (same a b) l (λ _. h)
 
 reports_to-inert : (D : Deployment) (s : SiteState) (to : Option ℕ) → InertSends (reports_to D s to)
 reports_to-inert D s None b = tt
@@ -54,19 +54,19 @@ reports_to-inert D s (Some slot) b = only-inert (Site slot) _ tt b
 
 pub asks_to_join-inert : (i : ℕ) (D : Deployment) (s : SiteState) (to : Option ℕ) → InertSends (asks_to_join i D s to)
 asks_to_join-inert i D s None b = tt
-asks_to_join-inert i D s (Some slot) b = all-if Inert (slot == i) [] _ tt (only-inert (Site slot) _ tt b)
+asks_to_join-inert i D s (Some slot) b = all-if InertLetter (slot == i) [] _ tt (only-inert (Site slot) _ tt b)
 
 passes_on-inert : (D : Deployment) (i : ℕ) (e : Entry) (s : SiteState) → InertSends (passes_on D i e s).sends
 passes_on-inert D i e s (Site c) =
-    all-append Inert (put_to D s e c (other_copies D i s)) (tasks_to s e c s.joiners)
-    (all-one Inert (is_in c (other_copies D i s)) _ (λ _. tt)) (all-map Inert _ (λ j. tt) (filter (λ j. j.slot == c) s.joiners))
+    all-append InertLetter (put_to D s e c (other_copies D i s)) (tasks_to s e c s.joiners)
+    (all-one InertLetter (is_in c (other_copies D i s)) _ (λ _. tt)) (all-map InertLetter _ (λ j. tt) (filter (λ j. j.slot == c) s.joiners))
 passes_on-inert D i e s Director = tt
 passes_on-inert D i e s (Client n) = tt
 passes_on-inert D i e s (Agent h) = tt
 passes_on-inert D i e s (Scanner x) = tt
 
 ends_streams-inert : (s : SiteState) → InertSends (ends_streams s).sends
-ends_streams-inert s (Site c) = all-map Inert _ (λ j. tt) (filter (λ j. j.slot == c && is_sent s j) s.joiners)
+ends_streams-inert s (Site c) = all-map InertLetter _ (λ j. tt) (filter (λ j. j.slot == c && is_sent s j) s.joiners)
 ends_streams-inert s Director = tt
 ends_streams-inert s (Client n) = tt
 ends_streams-inert s (Agent h) = tt
@@ -75,10 +75,10 @@ ends_streams-inert s (Scanner x) = tt
 -- ---- what follows a handler, and a Sync
 
 -- all of it, but that a joiner is taken
-abbrev pub settled : Database → Deployment → ℕ → SiteState → Turn SiteState
-settled E D i s = tells E D i s ▸ ends_streams ▸ shows E D i
+abbrev pub settled_turn : Database → Deployment → ℕ → SiteState → Turn SiteState
+settled_turn E D i s = tells E D i s ▸ ends_streams ▸ shows E D i
 
-module _ (R : SiteState → Turn SiteState → Type 0) (W : Moves R) where
+module _ (R : SiteState → Turn SiteState → Type 0) (W : SmallSteps R) where
   -- the one turn or the other
   pub walk-if : (s : SiteState) (c : Bool) (x y : Turn SiteState) → (c ≡ true → R s x) → (c ≡ false → R s y) → R s (if c then x else y)
   walk-if s true x y p q = p refl
@@ -96,8 +96,8 @@ module _ (R : SiteState → Turn SiteState → Type 0) (W : Moves R) where
   rest-says : (s u : SiteState) (out : Sends) → InertSends out → R s (sending (with_rest s u) out)
   rest-says s u out inert = walk-behind s (with_rest s u) (sending (with_rest s u) out) (W.rest s u) (W.says (with_rest s u) out inert)
 
-module _ (E : Database) (D : Deployment) (i : ℕ) (R : SiteState → Turn SiteState → Type 0) (W : Moves R) where
-  tells-walk : Tells E D i R → (s : SiteState) → R s (tells E D i s)
+module _ (E : Database) (D : Deployment) (i : ℕ) (R : SiteState → Turn SiteState → Type 0) (W : SmallSteps R) where
+  tells-walk : MayBeTold E D i R → (s : SiteState) → R s (tells E D i s)
   tells-walk told s = walk-if R W s (leads D i s && not s.has_told && not (is_first_term s.view) && has_all_on_disk D i s) (tells_initiator E D i s (initiator_in s.view)) (becomes s)
       (λ e. to (may-tell D i s e) (initiator_in s.view)) (λ _. W.first s)
     where
@@ -108,7 +108,7 @@ module _ (E : Database) (D : Deployment) (i : ℕ) (R : SiteState → Turn SiteS
   ends_streams-walk : (s : SiteState) → R s (ends_streams s)
   ends_streams-walk s =
       let u = (ends_streams s).state in
-      walk-behind R W s u (ends_streams s) (W.joiners s (without_count s) (uncounted-joiner s)) (W.says u (ends_streams s).sends (ends_streams-inert s))
+      walk-behind R W s u (ends_streams s) (W.joiners s (without_count s) (uncounted-alike s)) (W.says u (ends_streams s).sends (ends_streams-inert s))
 
   shows-walk : (s : SiteState) → R s (shows E D i s)
   shows-walk s = walk-if R W s (nat_lt 0 s.looks && nothing_open s.log) _ (becomes s) (λ _. rest-says R W s (record s { looks = 0 }) _ shown) (λ _. W.first s)
@@ -117,24 +117,24 @@ module _ (E : Database) (D : Deployment) (i : ℕ) (R : SiteState → Turn SiteS
         | Director ↦ replicate s.looks (looked E D i s)
         | _ ↦ []
       ])
-      shown Director = all-replicate Inert s.looks (looked E D i s) tt
+      shown Director = all-replicate InertLetter s.looks (looked E D i s) tt
       shown (Client n) = tt
       shown (Agent h) = tt
       shown (Site c) = tt
       shown (Scanner x) = tt
 
-  pub settled-walk : Tells E D i R → (s : SiteState) → R s (settled E D i s)
+  pub settled-walk : MayBeTold E D i R → (s : SiteState) → R s (settled_turn E D i s)
   settled-walk told s =
       let t = tells E D i s in let u = t ▸ ends_streams in
       W.next s u (shows E D i) (W.next s t ends_streams (tells-walk told s) (ends_streams-walk t.state)) (shows-walk u.state)
 
 -- ---- behind a Sync
 
-module _ (D : Deployment) (i : ℕ) (R : SiteState → Turn SiteState → Type 0) (W : Settles D i R) where
-  abbrev M : Moves R
+module _ (D : Deployment) (i : ℕ) (R : SiteState → Turn SiteState → Type 0) (W : SayingSteps D i R) where
+  abbrev M : SmallSteps R
   M = W.moves
 
-  pub counts-walk : (s : SiteState) (acks : List (ℕ × ℕ)) (joiners : List Joiner) → SameJoiners joiners s.joiners → leads D i s ≡ true → R s (counts D i (with_acks s acks joiners))
+  pub counts-walk : (s : SiteState) (acks : List (ℕ × ℕ)) (joiners : List Joiner) → AlikeJoiners joiners s.joiners → leads D i s ≡ true → R s (counts D i (with_acks s acks joiners))
   counts-walk s acks joiners same authoritative = rw authoritative (W.counted s authoritative acks joiners same)
 
   counts-own : (s : SiteState) → R s (counts D i s)
@@ -175,8 +175,8 @@ module _ (D : Deployment) (i : ℕ) (R : SiteState → Turn SiteState → Type 0
 
 -- ---- that of a handler
 
-module _ (E : Database) (D : Deployment) (stamp i : ℕ) (K : SiteState → Actor → Letter → Type 0) (R : SiteState → Turn SiteState → Type 0) (W : Steps E D stamp i K R) where
-  abbrev S : Moves R
+module _ (E : Database) (D : Deployment) (stamp i : ℕ) (K : SiteState → Actor → Letter → Type 0) (R : SiteState → Turn SiteState → Type 0) (W : HandlerSteps E D stamp i K R) where
+  abbrev S : SmallSteps R
   S = W.settles.moves
 
   -- ---- entries
@@ -293,7 +293,7 @@ module _ (E : Database) (D : Deployment) (stamp i : ℕ) (K : SiteState → Acto
       from-grown =
           let m = with_reported s in
           walk-behind R S s m (sending (repaired g).state (out g)) (W.begun s authoritative un all)
-          (rest-says R S m (repaired g).state (out g) (λ b. all-append Inert (t.sends b) ((repaired g).sends b) (one.plain b) (repaired-inert g b)))
+          (rest-says R S m (repaired g).state (out g) (λ b. all-append InertLetter (t.sends b) ((repaired g).sends b) (one.plain b) (repaired-inert g b)))
 
       behind : R s (t ▸ repaired)
       behind = subst (λ a. R s (sending (repaired a).state (out a))) (sym one.state) from-grown
@@ -337,7 +337,7 @@ module _ (E : Database) (D : Deployment) (stamp i : ℕ) (K : SiteState → Acto
   on_scan_end-walk s (Some (ForJoiner own slot)) id count =
       let m = record s { joiners = map (with_count slot count) s.joiners } in
       let u = record m { scanning = None } in
-      state-if R S s (own == id) u s (λ _. walk-behind R S s m (becomes u) (S.joiners s (with_count slot count) (counted-joiner slot count)) (S.rest m u)) (λ _. S.first s)
+      state-if R S s (own == id) u s (λ _. walk-behind R S s m (becomes u) (S.joiners s (with_count slot count) (counted-alike slot count)) (S.rest m u)) (λ _. S.first s)
   on_scan_end-walk s (Some (ForBase own position blocks written ended)) id count =
       let u = record s { scanning = Some (ForBase own position blocks written (Some count)) } in
       state-if R S s (own == id) u s (λ _. S.rest s u) (λ _. S.first s)

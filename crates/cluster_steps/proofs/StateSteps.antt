@@ -14,7 +14,7 @@ use Rattle.cluster_model.specs.Letters.{Letter, Turn}
 use Rattle.cluster_model.specs.SiteState.{SiteState, Joining, Reported, Joiner, is_leader, leads, leader_in, other_copies, site_term}
 use Rattle.cluster_model.specs.Site.{holds, firm_now, floor_now, longest, lacks}
 use Rattle.cluster_steps.proofs.Frames.{begins_at, with_rest}
-use Rattle.cluster_steps.proofs.Steps.{Moves, Settles, Steps, Tells, reply_to, with_acks, with_entry, with_repair, with_reported, with_stream}
+use Rattle.cluster_steps.proofs.Steps.{SmallSteps, SayingSteps, HandlerSteps, MayBeTold, reply_to, with_acks, with_entry, with_repair, with_reported, with_stream}
 
 -- ---- messages
 
@@ -77,7 +77,7 @@ pub record Apart (D : Deployment) (i : ℕ) (s u : SiteState) : Type 0 where
   pub repaired : u.repaired ≡ false → s.repaired ≡ false
 
 -- A goes on over the steps that follow the handler of a message.
-pub record StateSettles (D : Deployment) (i : ℕ) (A : SiteState → SiteState → Type 0) : Type 0 where
+pub record StateSaying (D : Deployment) (i : ℕ) (A : SiteState → SiteState → Type 0) : Type 0 where
   pub first : (s : SiteState) → A s s
   pub next : (s m u : SiteState) → A s m → A m u → A s u
   pub rest : (s u : SiteState) → A s (with_others s u)
@@ -90,7 +90,7 @@ pub record StateSettles (D : Deployment) (i : ℕ) (A : SiteState → SiteState 
 
 -- So it does over those of a handler, with P of each report that comes.
 pub record StateSteps (D : Deployment) (stamp i : ℕ) (P : Reported → Type 0) (A : SiteState → SiteState → Type 0) : Type 0 where
-  pub settles : StateSettles D i A
+  pub settles : StateSaying D i A
   -- a call runs
   pub called : (s : SiteState) → leads D i s ≡ true → nothing_open s.log ≡ true → (call : ℕ) (body : List ℕ) → A s (with_entry s (Sp call stamp body))
   -- a leader that has all reports begins its term
@@ -109,8 +109,8 @@ Over A s t = A s t.state
 pub joiner-apart : (D : Deployment) (i : ℕ) (s : SiteState) (j : Joining) → s.joining ≡ Some j → is_leader D i s ≡ false
 joiner-apart D i s j e = ap (λ o. not (is_some o) && is_some_of (leader_in D s.view (part_of_slot D i)) i) e
 
-module _ (D : Deployment) (i : ℕ) (A : SiteState → SiteState → Type 0) (W : StateSettles D i A) where
-  pub over-moves : Moves (Over A)
+module _ (D : Deployment) (i : ℕ) (A : SiteState → SiteState → Type 0) (W : StateSaying D i A) where
+  pub over-moves : SmallSteps (Over A)
   over-moves = record {
     first = W.first;
     next = λ s t f h k. W.next s t.state (f t.state).state h k;
@@ -119,10 +119,10 @@ module _ (D : Deployment) (i : ℕ) (A : SiteState → SiteState → Type 0) (W 
     joiners = λ s f same. W.joiners s f (λ j. (same j).stream_start) (λ j. (same j).position);
   }
 
-  pub over-tells : (E : Database) → Tells E D i (Over A)
+  pub over-tells : (E : Database) → MayBeTold E D i (Over A)
   over-tells E s may first = W.rest s (record s { has_told = true })
 
-  pub over-settles : Settles D i (Over A)
+  pub over-settles : SayingSteps D i (Over A)
   over-settles = record {
     moves = over-moves;
     joins = λ s j k log is stream based more. W.apart s _
@@ -135,7 +135,7 @@ module _ (D : Deployment) (i : ℕ) (A : SiteState → SiteState → Type 0) (W 
   }
 
 pub over-steps : (E : Database) (D : Deployment) (stamp i : ℕ) (P : Reported → Type 0) (A : SiteState → SiteState → Type 0) → StateSteps D stamp i P A
-    → Steps E D stamp i (ComesPlainly D i P) (Over A)
+    → HandlerSteps E D stamp i (ComesPlainly D i P) (Over A)
 over-steps E D stamp i P A W = let S = W.settles in record {
   settles = over-settles D i A S;
   called = λ s authoritative clear c. let h = holds s (Agent c.host) (reply_to E D i stamp c s) in

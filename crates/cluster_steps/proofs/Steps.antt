@@ -18,7 +18,7 @@ use Rattle.cluster_model.specs.SiteState.{SiteState, Joining, Joiner, AskedCall,
 use Rattle.cluster_model.specs.Site.{holds, holds_for, initiator_in, firm_now, floor_now, sends_firm, longest, lacks, may_stream, is_first_term, has_all_on_disk, tells_initiator}
 use Rattle.cluster_model.specs.Initiator.{end_of_reply}
 use Rattle.cluster_steps.specs.Lists.{In, Prefix}
-use Rattle.cluster_steps.proofs.Frames.{InertSends, SameJoiner, SameJoiners, with_rest}
+use Rattle.cluster_steps.proofs.Frames.{InertSends, AlikeJoiner, AlikeJoiners, with_rest}
 
 -- ---- states behind a step
 
@@ -69,30 +69,30 @@ pub record MayTell (D : Deployment) (i : ℕ) (s : SiteState) : Type 0 where
 -- ---- the steps
 
 -- A relation of a site and its turn goes on over the steps of what follows each handler,
-pub record Moves (R : SiteState → Turn SiteState → Type 0) : Type 0 where
+pub record SmallSteps (R : SiteState → Turn SiteState → Type 0) : Type 0 where
   pub first : (s : SiteState) → R s (becomes s)
   pub next : (s : SiteState) (t : Turn SiteState) (f : SiteState → Turn SiteState) → R s t → R t.state (f t.state) → R s (t ▸ f)
   pub rest : (s u : SiteState) → R s (becomes (with_rest s u))
   pub says : (s : SiteState) (out : Sends) → InertSends out → R s (sending s out)
-  pub joiners : (s : SiteState) (f : Joiner → Joiner) → ((j : Joiner) → SameJoiner (f j) j) → R s (becomes (record s { joiners = map f s.joiners }))
+  pub joiners : (s : SiteState) (f : Joiner → Joiner) → ((j : Joiner) → AlikeJoiner (f j) j) → R s (becomes (record s { joiners = map f s.joiners }))
 
 -- among them that a leader tells the initiator how its partition stands.
-abbrev pub Tells : Database → Deployment → ℕ → (SiteState → Turn SiteState → Type 0) → Type 0
-Tells E D i R = (s : SiteState) → MayTell D i s → (first : ℕ × ℕ) → R s (tells_initiator E D i s (Some first))
+abbrev pub MayBeTold : Database → Deployment → ℕ → (SiteState → Turn SiteState → Type 0) → Type 0
+MayBeTold E D i R = (s : SiteState) → MayTell D i s → (first : ℕ × ℕ) → R s (tells_initiator E D i s (Some first))
 
 -- So it does over those of what a site says behind its Sync,
-pub record Settles (D : Deployment) (i : ℕ) (R : SiteState → Turn SiteState → Type 0) : Type 0 where
-  pub moves : Moves R
+pub record SayingSteps (D : Deployment) (i : ℕ) (R : SiteState → Turn SiteState → Type 0) : Type 0 where
+  pub moves : SmallSteps R
   -- a joiner goes on in its stream
   pub joins : (s : SiteState) (j k : Joining) (log : List Entry) → s.joining ≡ Some j → k.stream ≡ j.stream → k.is_based ≡ j.is_based → Prefix s.log log
       → R s (becomes (record s { joining = Some k; log = log }))
   -- a leader counts, with these acknowledgements
-  pub counted : (s : SiteState) → leads D i s ≡ true → (acks : List (ℕ × ℕ)) (joiners : List Joiner) → SameJoiners joiners s.joiners
+  pub counted : (s : SiteState) → leads D i s ≡ true → (acks : List (ℕ × ℕ)) (joiners : List Joiner) → AlikeJoiners joiners s.joiners
       → R s (counts_with D i (with_acks s acks joiners))
 
 -- and over those of a handler, with K of each message that comes.
-pub record Steps (E : Database) (D : Deployment) (stamp i : ℕ) (K : SiteState → Actor → Letter → Type 0) (R : SiteState → Turn SiteState → Type 0) : Type 0 where
-  pub settles : Settles D i R
+pub record HandlerSteps (E : Database) (D : Deployment) (stamp i : ℕ) (K : SiteState → Actor → Letter → Type 0) (R : SiteState → Turn SiteState → Type 0) : Type 0 where
+  pub settles : SayingSteps D i R
   -- a call runs, and its reply is held
   pub called : (s : SiteState) → leads D i s ≡ true → nothing_open s.log ≡ true → (c : AskedCall)
       → R s (becomes (with_entry (holds s (Agent c.host) (reply_to E D i stamp c s)) (Sp c.call stamp c.body)))
@@ -110,7 +110,7 @@ pub record Steps (E : Database) (D : Deployment) (stamp i : ℕ) (K : SiteState 
   pub reported : (s : SiteState) (slot : ℕ) (l : Letter) (position floor : ℕ) (tail : List Entry) → K s (Site slot) (record l { body = msg.Report position floor tail })
       → R s (becomes (record s { reports = s.reports ++ record { slot = slot; position = position; floor = floor; tail = tail } ∷ [] }))
   -- one that hasn't begun its term notes an acknowledgement
-  pub noted : (s : SiteState) → leads D i s ≡ false → (acks : List (ℕ × ℕ)) (joiners : List Joiner) → SameJoiners joiners s.joiners
+  pub noted : (s : SiteState) → leads D i s ≡ false → (acks : List (ℕ × ℕ)) (joiners : List Joiner) → AlikeJoiners joiners s.joiners
       → R s (becomes (with_acks s acks joiners))
   -- a copy takes an entry, or what it lacks
   pub put : (s : SiteState) (slot : ℕ) (l : Letter) (position : ℕ) (e : Entry) (floor : ℕ) → K s (Site slot) (record l { body = msg.Put position e floor })

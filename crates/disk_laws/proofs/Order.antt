@@ -30,10 +30,10 @@ at_least-trans x (Some y) m n (inr a) (inl b) = inl (omega (arith, a.0, b))
 at_least-trans x (Some y) m n (inr a) (inr b) = inr (b.0 ∙ a.0, omega (arith, a.1, b.1))
 
 -- a content of a higher mark is as good as any of a lower one
-pub at_least-above : (t v n : ℕ) (x : Shown) → AtLeast t 0 x → v < t → AtLeast v n x
-at_least-above t v n None h l = h
-at_least-above t v n (Some x) (inl a) l = inl (omega (arith, a, l))
-at_least-above t v n (Some x) (inr a) l = inl (omega (arith, a.0, l))
+pub at_least-better : (t v n : ℕ) (x : Shown) → AtLeast t 0 x → v < t → AtLeast v n x
+at_least-better t v n None h l = h
+at_least-better t v n (Some x) (inl a) l = inl (omega (arith, a, l))
+at_least-better t v n (Some x) (inr a) l = inl (omega (arith, a.0, l))
 
 -- it has that mark or a later one
 pub at_least-mark : (m n : ℕ) (x : Shown) → AtLeast m n x → m ≤ mark_of x
@@ -171,7 +171,7 @@ module _ (S T : LogState) (same : T.words.deployment ≡ S.words.deployment) whe
             slot = high.slot;
             is_slot = rw same high.is_slot;
             part_is = rw same (high.part_is ∙ ap (part S) (sym e) ∙ h.part_is);
-            all = rw (others high.slot d) (all-mono (AtLeast t 0) (AtLeast m n) (λ x k. at_least-above t m n x k low) (shown_at S high.slot) high.all);
+            all = rw (others high.slot d) (all-mono (AtLeast t 0) (AtLeast m n) (λ x k. at_least-better t m n x k low) (shown_at S high.slot) high.all);
           }
     ]
   ]

@@ -23,18 +23,18 @@ use Rattle.cluster_steps.proofs.Lists.{all-append, all-filter, all-mono, in-left
 use Rattle.cluster_steps.proofs.Prefixes.{prefix-refl, prefix-append}
 use Rattle.cluster_steps.proofs.Least.{least_of-below}
 use Rattle.cluster_steps.proofs.Sends.{all-order}
-use Rattle.cluster_steps.proofs.Frames.{Inert, SameJoiners, holds_for-cases, mapped-joiners, with_rest}
-use Rattle.cluster_steps.proofs.Steps.{LetsGo, Moves, Settles, Steps, Tells, with_acks, with_entry}
+use Rattle.cluster_steps.proofs.Frames.{InertLetter, AlikeJoiners, holds_for-cases, mapped-joiners, with_rest}
+use Rattle.cluster_steps.proofs.Steps.{LetsGo, SmallSteps, SayingSteps, HandlerSteps, MayBeTold, with_acks, with_entry}
 use Rattle.cluster_steps.proofs.SiteWalk.{after_sync-walk, handler-walk}
-use Rattle.cluster_steps.proofs.SiteTurns.{Plain, PlainWaiting, TakesAsks, as_entered, as_joiner, asks-cases, enters-walk, handler-known, joins-walk, runs-refused, runs-taken, runs-waits, settles-walk, stays_joiner, turn-walk}
+use Rattle.cluster_steps.proofs.SiteTurns.{Plain, PlainWaiting, MayTakeAsks, as_entered, as_joiner, takes_asks-cases, enters-walk, handler-known, joins-walk, site_runs-refused, site_runs-taken, site_runs-waits, settles-walk, stays_joiner, turn-walk}
 use Rattle.log_laws.specs.Histories.{HeldOk, HeldFor}
 use Rattle.log_laws.proofs.Firmness.Firm.{answers-all, held-away}
-use Rattle.disk_laws.proofs.Handlers.{DiskAt, DiskHandler, Begins, Counts, at-first, handler-becomes, handler-then}
+use Rattle.disk_laws.proofs.Handlers.{DiskAt, DiskHandler, same-disk, BeginsStream, Counts, at-first, handler-becomes, handler-then}
 
 -- ---- what a disk doesn't go by
 
 -- the first site with what a disk doesn't go by of the second one
-abbrev with_unseen : SiteState → SiteState → SiteState
+abbrev pub with_unseen : SiteState → SiteState → SiteState
 with_unseen s u = record (with_rest s u) {
   stop = u.stop;
   log = u.log;
@@ -47,8 +47,8 @@ with_unseen s u = record (with_rest s u) {
 }
 
 -- what says nothing begins no stream
-inert-begins : (D : Deployment) (i c : ℕ) (s u : SiteState) (l : Letter) → Inert l → Begins D i c s u l
-inert-begins D i c s u l = elim l.body as (λ m. Inert (record l { body = m }) → Begins D i c s u (record l { body = m })) [
+inert-begins : (D : Deployment) (i c : ℕ) (s u : SiteState) (l : Letter) → InertLetter l → BeginsStream D i c s u l
+inert-begins D i c s u l = elim l.body as (λ m. InertLetter (record l { body = m }) → BeginsStream D i c s u (record l { body = m })) [
   | msg.StreamStart head ↦ λ k. absurd k
   | m ↦ λ k. tt
 ]
@@ -88,14 +88,7 @@ module _ (D : Deployment) (i : ℕ) where
 
   at-rest : (s u : SiteState) → Prefix s.log u.log → (AllByRecursion HeldOk s.held → AllByRecursion HeldOk u.held) → ((c : ℕ) → Counts s c → Counts u c) → DiskAt D i s (with_unseen s u)
   at-rest s u log held counted = record {
-    start = refl;
-    greatest = refl;
-    earlier = refl;
-    view = refl;
-    contents = refl;
-    mark = refl;
-    base = refl;
-    on_disk = refl;
+    disk = same-disk s (with_unseen s u);
     log = log;
     member = λ e. e;
     joiner = λ j e. (j, e, refl, refl);
@@ -110,7 +103,7 @@ module _ (D : Deployment) (i : ℕ) where
   disk-rest s u log held counted = handler-becomes D i s (with_unseen s u) (at-rest s u log held counted)
 
   -- with the same log and answers, and joiners of the same slots
-  disk-same : (s u : SiteState) → u.log ≡ s.log → u.held ≡ s.held → map (λ j. j.slot) u.joiners ≡ map (λ j. j.slot) s.joiners → R s (becomes (with_unseen s u))
+  pub disk-same : (s u : SiteState) → u.log ≡ s.log → u.held ≡ s.held → map (λ j. j.slot) u.joiners ≡ map (λ j. j.slot) s.joiners → R s (becomes (with_unseen s u))
   disk-same s u log held slots =
       disk-rest s u (subst (Prefix s.log) (sym log) (prefix-refl s.log)) (subst (AllByRecursion HeldOk) (sym held)) (λ c. subst (In c) (sym slots))
 
@@ -132,14 +125,7 @@ module _ (D : Deployment) (i : ℕ) where
   disk-repaired : (s : SiteState) (more : List Entry) (reports : List Reported)
       → R s (becomes (record s { log = s.log ++ more; repaired = true; owes = Some (site_term s); reports = reports }))
   disk-repaired s more reports = handler-becomes D i s _ (record {
-    start = refl;
-    greatest = refl;
-    earlier = refl;
-    view = refl;
-    contents = refl;
-    mark = refl;
-    base = refl;
-    on_disk = refl;
+    disk = same-disk s (record s { log = s.log ++ more; repaired = true; owes = Some (site_term s); reports = reports });
     log = prefix-append s.log more;
     member = λ e. e;
     joiner = λ j e. (j, e, refl, refl);
@@ -150,12 +136,12 @@ module _ (D : Deployment) (i : ℕ) where
     counted = λ c h. h;
   })
 
-  disk-moves : Moves R
+  disk-moves : SmallSteps R
   disk-moves = record {
     first = λ s. handler-becomes D i s s (at-first D i s);
     next = handler-then D i;
     rest = λ s u. disk-same s (with_rest s u) refl refl refl;
-    says = λ s out inert. record { at = at-first D i s; sends = λ x c. all-mono Inert (Begins D i c s s) (inert-begins D i c s s) (out (Site c)) (inert (Site c)) };
+    says = λ s out inert. record { at = at-first D i s; sends = λ x c. all-mono InertLetter (BeginsStream D i c s s) (inert-begins D i c s s) (out (Site c)) (inert (Site c)) };
     joiners = λ s f same. disk-same s (record s { joiners = map f s.joiners }) refl refl (mapped-joiners f same s.joiners).slots;
   }
 
@@ -163,14 +149,7 @@ module _ (D : Deployment) (i : ℕ) where
   disk-joins : (s : SiteState) (j k : Joining) (log : List Entry) → s.joining ≡ Some j → k.stream ≡ j.stream → k.is_based ≡ j.is_based → Prefix s.log log
       → R s (becomes (record s { joining = Some k; log = log }))
   disk-joins s j k log is stream based more = handler-becomes D i s _ (record {
-    start = refl;
-    greatest = refl;
-    earlier = refl;
-    view = refl;
-    contents = refl;
-    mark = refl;
-    base = refl;
-    on_disk = refl;
+    disk = same-disk s (record s { joining = Some k; log = log });
     log = more;
     member = λ e. absurd (none-and-some e is);
     joiner = λ x e. let q : j ≡ x = same-some (sym is ∙ e) in (k, refl, stream ∙ ap (λ y. y.stream) q, based ∙ ap (λ y. y.is_based) q);
@@ -181,17 +160,10 @@ module _ (D : Deployment) (i : ℕ) where
     counted = λ c h. h;
   })
 
-  disk-counted : (s : SiteState) → leads D i s ≡ true → (acks : List (ℕ × ℕ)) (joiners : List Joiner) → SameJoiners joiners s.joiners
+  disk-counted : (s : SiteState) → leads D i s ≡ true → (acks : List (ℕ × ℕ)) (joiners : List Joiner) → AlikeJoiners joiners s.joiners
       → let m = with_acks s acks joiners in DiskAt D i s (record m { firm = firm_now D i m; floor = floor_now D i m; held = filter (λ d. nat_lt (firm_now D i m) d.position) s.held })
   disk-counted s authoritative acks joiners same = let m = with_acks s acks joiners in record {
-    start = refl;
-    greatest = refl;
-    earlier = refl;
-    view = refl;
-    contents = refl;
-    mark = refl;
-    base = refl;
-    on_disk = refl;
+    disk = same-disk s (record m { firm = firm_now D i m; floor = floor_now D i m; held = filter (λ d. nat_lt (firm_now D i m) d.position) s.held });
     log = prefix-refl s.log;
     member = λ e. e;
     joiner = λ j e. (j, e, refl, refl);
@@ -205,17 +177,17 @@ module _ (D : Deployment) (i : ℕ) where
     counted = λ c. subst (In c) (sym same.slots);
   }
 
-  disk-settles : Settles D i R
+  disk-settles : SayingSteps D i R
   disk-settles = record {
     moves = disk-moves;
     joins = disk-joins;
     counted = λ s authoritative acks joiners same. let m = with_acks s acks joiners in record {
       at = disk-counted s authoritative acks joiners same;
-      sends = λ x c. answers-all (Begins D i c s _) (Site c) (λ d ok k. absurd (held-away c d ok k)) (firm_now D i m) s.held x;
+      sends = λ x c. answers-all (BeginsStream D i c s _) (Site c) (λ d ok k. absurd (held-away c d ok k)) (firm_now D i m) s.held x;
     };
   }
 
-  disk-steps : (E : Database) (stamp : ℕ) → Steps E D stamp i (λ _ from l. Plain from l) R
+  disk-steps : (E : Database) (stamp : ℕ) → HandlerSteps E D stamp i (λ _ from l. Plain from l) R
   disk-steps E stamp = record {
     settles = disk-settles;
     called = λ s authoritative clear c. disk-holds s c.host _ (Sp c.call stamp c.body) tt;
@@ -237,13 +209,13 @@ module _ (D : Deployment) (i : ℕ) where
 -- ---- a joiner that is taken: its stream begins, under a mark that is on the leader's disk
 
 module _ (E : Database) (D : Deployment) (i : ℕ) where
-  disk-asks : TakesAsks E D i (DiskHandler D i)
-  disk-asks s = asks-cases E D i s (DiskHandler D i s) (handler-becomes D i s s (at-first D i s)) taken
+  disk-asks : MayTakeAsks E D i (DiskHandler D i)
+  disk-asks s = takes_asks-cases E D i s (DiskHandler D i s) (handler-becomes D i s s (at-first D i s)) taken
     where
       taken : (a : Ask) → leads D i s ≡ true → s.mark ≡ site_term s → DiskHandler D i s (takes_first_ask E D i s (Some a))
       taken a authoritative mark = record {
         at = at-rest D i s u (prefix-refl s.log) (λ k. k) kept;
-        sends = λ x c. all-append (Begins D i c s u) (only (Site a.slot) l (Site c)) _ (to c (a.slot == c) refl) tt;
+        sends = λ x c. all-append (BeginsStream D i c s u) (only (Site a.slot) l (Site c)) _ (to c (a.slot == c) refl) tt;
       }
         where
           u : SiteState
@@ -261,15 +233,15 @@ module _ (E : Database) (D : Deployment) (i : ℕ) where
           counted : Counts u a.slot
           counted = in-map (λ j. j.slot) new (s.joiners ++ new ∷ []) (in-right new s.joiners (new ∷ []) (inl refl))
 
-          to : (c : ℕ) (x : Bool) → (a.slot == c) ≡ x → AllByRecursion (Begins D i c s u) (if x then l ∷ [] else [])
+          to : (c : ℕ) (x : Bool) → (a.slot == c) ≡ x → AllByRecursion (BeginsStream D i c s u) (if x then l ∷ [] else [])
           to c true q = (record { mark_is = refl; term_is = refl; own = mark; leads = authoritative; counted = subst (Counts u) (eqb-true a.slot c q) counted }, tt)
           to c false q = tt
 
-  disk-tells : Tells E D i (DiskHandler D i)
+  disk-tells : MayBeTold E D i (DiskHandler D i)
   disk-tells s may first = record { at = at-rest D i s (record s { has_told = true }) (prefix-refl s.log) (λ k. k) (λ c k. k); sends = λ x c. tt }
 
   ordered-handler : (s : SiteState) (t : Turn SiteState) → DiskHandler D i s t → DiskHandler D i s (ordered t)
-  ordered-handler s t h = record { at = h.at; sends = λ x c. all-order (Begins D i c s t.state) (t.sends (Site c)) (h.sends x c) }
+  ordered-handler s t h = record { at = h.at; sends = λ x c. all-order (BeginsStream D i c s t.state) (t.sends (Site c)) (h.sends x c) }
 
   -- ---- a Sync, behind what is written
 
@@ -283,36 +255,36 @@ module _ (E : Database) (D : Deployment) (i : ℕ) where
   module _ (stamp : ℕ) (s : SiteState) (from : Actor) (l : Letter) (plain : AllByRecursion PlainWaiting s.waiting) where
     -- whose handler is from b on
     taken-handler : arrival s.start (site_term s) l ≡ Taken → (b : SiteState) → DiskHandler D i b (site_handler E D stamp i s from l) → DiskHandler D i b (site_runs E D stamp i s from l)
-    taken-handler takes b handler = subst (DiskHandler D i b) (sym (runs-taken E D stamp i s from l takes)) (ordered-handler b _
+    taken-handler takes b handler = subst (DiskHandler D i b) (sym (site_runs-taken E D stamp i s from l takes)) (ordered-handler b _
         (turn-walk E D stamp i (λ _ from l. Plain from l) (DiskHandler D i) (disk-steps D i E stamp) (disk-lets D i) disk-tells disk-asks b (site_handler E D stamp i s from l) handler
         (handler-known E D stamp i s from l plain)))
 
-    pub site_runs-refused : arrival s.start (site_term s) l ≡ Refused → DiskHandler D i s (site_runs E D stamp i s from l)
-    site_runs-refused e = subst (DiskHandler D i s) (sym (runs-refused E D stamp i s from l e)) (handler-becomes D i s s (at-first D i s))
+    pub refused-handler : arrival s.start (site_term s) l ≡ Refused → DiskHandler D i s (site_runs E D stamp i s from l)
+    refused-handler e = subst (DiskHandler D i s) (sym (site_runs-refused E D stamp i s from l e)) (handler-becomes D i s s (at-first D i s))
 
     -- of a plain message, whether it is taken or not
-    pub site_runs-plain : Plain from l → DiskHandler D i s (site_runs E D stamp i s from l)
-    site_runs-plain k = go (arrival s.start (site_term s) l) refl
+    pub plain-handler : Plain from l → DiskHandler D i s (site_runs E D stamp i s from l)
+    plain-handler k = go (arrival s.start (site_term s) l) refl
       where
         go : (a : Arrival) → arrival s.start (site_term s) l ≡ a → DiskHandler D i s (site_runs E D stamp i s from l)
         go Taken e = taken-handler e s (handler-walk E D stamp i (λ _ from l. Plain from l) (DiskHandler D i) (disk-steps D i E stamp) s from l k)
-        go Refused e = site_runs-refused e
-        go Waits e = subst (DiskHandler D i s) (sym (runs-waits E D stamp i s from l e)) (disk-same D i s (record s { waiting = s.waiting ++ record { from = from; letter = l } ∷ [] }) refl refl refl)
+        go Refused e = refused-handler e
+        go Waits e = subst (DiskHandler D i s) (sym (site_runs-waits E D stamp i s from l e)) (disk-same D i s (record s { waiting = s.waiting ++ record { from = from; letter = l } ∷ [] }) refl refl refl)
 
   -- that of StreamStart, and of a View
   module _ (stamp : ℕ) (s : SiteState) (l : Letter) (plain : AllByRecursion PlainWaiting s.waiting) (takes : arrival s.start (site_term s) l ≡ Taken) where
-    pub site_runs-stream : (slot : ℕ) (head : StreamHead) → l.body ≡ msg.StreamStart head → DiskHandler D i (on_stream_start s s.joining l head) (site_runs E D stamp i s (Site slot) l)
-    site_runs-stream slot head is = taken-handler stamp s (Site slot) l plain takes (on_stream_start s s.joining l head)
+    pub stream-handler : (slot : ℕ) (head : StreamHead) → l.body ≡ msg.StreamStart head → DiskHandler D i (on_stream_start s s.joining l head) (site_runs E D stamp i s (Site slot) l)
+    stream-handler slot head is = taken-handler stamp s (Site slot) l plain takes (on_stream_start s s.joining l head)
         (subst (λ m. DiskHandler D i (on_stream_start s s.joining (record l { body = m }) head) (from_site E D stamp i s slot (record l { body = m }))) (sym is)
         (let b = on_stream_start s s.joining (record l { body = msg.StreamStart head }) head in handler-becomes D i b b (at-first D i b)))
 
-    pub site_runs-joins : (h : ℕ) (w : Membership) → l.body ≡ msg.View w → stays_joiner D i s w ≡ true → DiskHandler D i (as_joiner s w) (site_runs E D stamp i s (Agent h) l)
-    site_runs-joins h w is e = taken-handler stamp s (Agent h) l plain takes (as_joiner s w)
+    pub joins-handler : (h : ℕ) (w : Membership) → l.body ≡ msg.View w → stays_joiner D i s w ≡ true → DiskHandler D i (as_joiner s w) (site_runs E D stamp i s (Agent h) l)
+    joins-handler h w is e = taken-handler stamp s (Agent h) l plain takes (as_joiner s w)
         (subst (λ m. DiskHandler D i (as_joiner s w) (from_agent E D stamp i s h (record l { body = m }))) (sym is)
         (joins-walk E D stamp i (λ _ from l. Plain from l) (DiskHandler D i) (disk-steps D i E stamp) s w e))
 
-    pub site_runs-enters : (h : ℕ) (w : Membership) → l.body ≡ msg.View w → stays_joiner D i s w ≡ false → DiskHandler D i (as_entered s w) (site_runs E D stamp i s (Agent h) l)
-    site_runs-enters h w is e = taken-handler stamp s (Agent h) l plain takes (as_entered s w)
+    pub enters-handler : (h : ℕ) (w : Membership) → l.body ≡ msg.View w → stays_joiner D i s w ≡ false → DiskHandler D i (as_entered s w) (site_runs E D stamp i s (Agent h) l)
+    enters-handler h w is e = taken-handler stamp s (Agent h) l plain takes (as_entered s w)
         (subst (λ m. DiskHandler D i (as_entered s w) (from_agent E D stamp i s h (record l { body = m }))) (sym is)
         (enters-walk E D stamp i (λ _ from l. Plain from l) (DiskHandler D i) (disk-steps D i E stamp) s w e))
 

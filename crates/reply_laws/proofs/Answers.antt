@@ -19,10 +19,10 @@ use Rattle.cluster_steps.proofs.Lists.{all-append, all-at, all-filter, all-from,
 use Rattle.cluster_steps.proofs.Leaders.{leader-view, leads-parts}
 use Rattle.cluster_steps.proofs.Least.{firm_now-above}
 use Rattle.cluster_steps.proofs.Prefixes.{prefix-append, prefix-refl, prefix-trans}
-use Rattle.cluster_steps.proofs.Frames.{Inert, holds_for-cases}
-use Rattle.cluster_steps.proofs.Steps.{Moves, Settles, Steps, with_acks, with_entry, with_repair}
+use Rattle.cluster_steps.proofs.Frames.{InertLetter, holds_for-cases}
+use Rattle.cluster_steps.proofs.Steps.{SmallSteps, SayingSteps, HandlerSteps, with_acks, with_entry, with_repair}
 use Rattle.cluster_steps.proofs.SiteTurns.{Plain}
-use Rattle.reply_laws.specs.Answers.{Answered, Claim, Claims, Fits, HeldAnswer, HoldsAnswers, OfTerm, Stands, StandsAt, is_answer}
+use Rattle.reply_laws.specs.Answers.{Answered, Claim, Claims, ClaimsFit, HeldAnswer, HoldsAnswers, OfTerm, Stands, StandsAt, is_answer}
 
 -- a joiner without a stream has no entries
 abbrev pub NoLog : SiteState → Type 0
@@ -45,8 +45,8 @@ all-held-on T log later term f = all-mono (HeldAnswer T log term) (HeldAnswer T 
     (λ d k. record { stands = λ a. stands-at-on (T d.letter.body) log later f d.position (k.stands a); term_is = k.term_is })
 
 -- what says nothing is no answer
-pub inert-answer : (term : ℕ) (l : Letter) → Inert l → (is_answer l.body ≡ false) × OfTerm term l
-inert-answer term l = elim l.body as (λ m. Inert (record l { body = m }) → (is_answer m ≡ false) × OfTerm term (record l { body = m })) [
+pub inert-answer : (term : ℕ) (l : Letter) → InertLetter l → (is_answer l.body ≡ false) × OfTerm term l
+inert-answer term l = elim l.body as (λ m. InertLetter (record l { body = m }) → (is_answer m ≡ false) × OfTerm term (record l { body = m })) [
   | msg.StreamStart head ↦ λ k. absurd k
   | msg.Reply call start end ↦ λ k. absurd k
   | msg.FragDone m round partial ↦ λ k. absurd k
@@ -111,7 +111,7 @@ module _ (D : Deployment) (i : ℕ) (T : Claims) where
       → Answers D i T s (becomes u)
   answers-same s u start term log authoritative firm held = answers-state s u (at-log s u start term (subst (Prefix s.log) (sym log) (prefix-refl s.log)) authoritative firm held)
 
-  answers-moves : Moves (Answers D i T)
+  answers-moves : SmallSteps (Answers D i T)
   answers-moves = record {
     first = λ s. answers-same s s refl refl refl (λ e. e) refl refl;
     next = λ s t f h k. record {
@@ -130,7 +130,7 @@ module _ (D : Deployment) (i : ℕ) (T : Claims) where
     rest = λ s u. answers-same s _ refl refl refl (λ e. e) refl refl;
     says = λ s out inert. record {
       at = (answers-same s s refl refl refl (λ e. e) refl refl).at;
-      sends = λ up x h. all-mono Inert (SentFirm D i T s)
+      sends = λ up x h. all-mono InertLetter (SentFirm D i T s)
           (λ l k. let q = inert-answer (site_term s) l k in record { answered = not-answer (is_answer l.body) q.0; term_is = q.1 }) (out (Agent h)) (inert (Agent h));
     };
     joiners = λ s f same. answers-same s _ refl refl refl (λ e. e) refl refl;
@@ -156,7 +156,7 @@ module _ (D : Deployment) (i : ℕ) (T : Claims) where
       u : SiteState
       u = record (with_acks s acks joiners) { firm = n; held = filter (λ d. nat_lt n d.position) s.held }
 
-  pub answers-settles : Settles D i (Answers D i T)
+  pub answers-settles : SayingSteps D i (Answers D i T)
   answers-settles = record {
     moves = answers-moves;
     joins = λ s j k log is stream based more. answers-state s _ (at-log s _ refl refl more (λ e. absurd (none-and-some (leader-view D i s (leads-parts D i s e).0).0 is)) refl refl);
@@ -210,7 +210,7 @@ module _ (D : Deployment) (i : ℕ) (T : Claims) where
   repaired-answers s u start term log same repaired firm held =
       answers-state s u (at-log s u start term log (λ e. ap (λ b. b && u.repaired) (same ∙ (leads-parts D i s e).0) ∙ repaired) firm held)
 
-  pub answers-steps : (E : Database) → Fits E (part_of_slot D i) T → (stamp : ℕ) → Steps E D stamp i (λ _ from l. Plain from l) (Answers D i T)
+  pub answers-steps : (E : Database) → ClaimsFit E (part_of_slot D i) T → (stamp : ℕ) → HandlerSteps E D stamp i (λ _ from l. Plain from l) (Answers D i T)
   answers-steps E fits stamp = record {
     settles = answers-settles;
     called = λ s authoritative clear c. entry-answers s c.host _ (Sp c.call stamp c.body) (λ _. fits.call s.log c.call c.start stamp c.body) tt;

@@ -21,13 +21,13 @@ use Rattle.cluster_steps.specs.Lists.{Prefix}
 use Rattle.cluster_steps.proofs.Lists.{all-append, all-at, all-from, all-if, all-mono, in-filter, is_none-none}
 use Rattle.cluster_steps.proofs.Prefixes.{prefix-none}
 use Rattle.cluster_steps.proofs.Sends.{all-order}
-use Rattle.cluster_steps.proofs.Frames.{Inert, InertSends, with_rest}
-use Rattle.cluster_steps.proofs.Steps.{LetsGo, MayTell, Moves, Tells, with_stream}
+use Rattle.cluster_steps.proofs.Frames.{InertLetter, InertSends, with_rest}
+use Rattle.cluster_steps.proofs.Steps.{LetsGo, MayTell, SmallSteps, MayBeTold, with_stream}
 use Rattle.cluster_steps.proofs.SiteWalk.{after_sync-walk}
-use Rattle.cluster_steps.proofs.SiteTurns.{Plain, PlainWaiting, TakesAsks, asks-cases, handler-from, handler-known, settles-walk, sync-cases, taken-walk, turn-cases, whole, Wrote, wrote, written_site}
-use Rattle.log_laws.specs.Histories.{LogsHold, LogState, StreamIn, ViewIn, SiteWaitingOk, log_at, site_start}
+use Rattle.cluster_steps.proofs.SiteTurns.{Plain, PlainWaiting, MayTakeAsks, takes_asks-cases, handler-from, handler-known, settles-walk, sync_turn-cases, taken-walk, site_turn-cases, whole_turn, Wrote, wrote, written_site}
+use Rattle.log_laws.specs.Histories.{Holds, LogState, StreamIn, ViewIn, WaitingOk, log_at, start_at}
 use Rattle.disk_laws.proofs.Handlers.{waiting-plain}
-use Rattle.reply_laws.specs.Answers.{Claims, Fits, HeldAnswer, HoldsAnswers, OfTerm, SentAnswer, ToInitiator, TurnAnswers, is_answer}
+use Rattle.reply_laws.specs.Answers.{Claims, ClaimsFit, HeldAnswer, HoldsAnswers, OfTerm, SentAnswer, ToInitiator, TurnAnswers, is_answer}
 use Rattle.reply_laws.proofs.Answers.{Answers, NoLog, SentFirm, all-held-on, answers-same, answers-settles, answers-steps, inert-answer, not-answer}
 
 -- ---- what follows a handler
@@ -37,7 +37,7 @@ abbrev with_shown : SiteState → SiteState → SiteState
 with_shown s u = record (with_rest s u) { joiners = u.joiners }
 
 -- A turn of a site that changes nothing else: what it sends to agents is well.
-record Follows (E : Database) (D : Deployment) (i : ℕ) (T : Claims) (s : SiteState) (t : Turn SiteState) : Type 0 where
+record FollowsHandler (E : Database) (D : Deployment) (i : ℕ) (T : Claims) (s : SiteState) (t : Turn SiteState) : Type 0 where
   still : t.state ≡ with_shown s t.state
   sends : 0 < s.start → (h : ℕ) → AllByRecursion (SentAnswer E D i T t.state) (t.sends (Agent h))
 
@@ -68,13 +68,13 @@ module _ (E : Database) (D : Deployment) (i : ℕ) (T : Claims) where
     ]) k.term_is;
   }
 
-  inert-sent : (u : SiteState) (l : Letter) → Inert l → SentAnswer E D i T u l
+  inert-sent : (u : SiteState) (l : Letter) → InertLetter l → SentAnswer E D i T u l
   inert-sent u l k = let q = inert-answer (site_term u) l k in firm-sent u l (record { answered = not-answer (is_answer l.body) q.0; term_is = q.1 })
 
   all-inert : (u : SiteState) (out : Sends) → InertSends out → (h : ℕ) → AllByRecursion (SentAnswer E D i T u) (out (Agent h))
-  all-inert u out inert h = all-mono Inert (SentAnswer E D i T u) (inert-sent u) (out (Agent h)) (inert (Agent h))
+  all-inert u out inert h = all-mono InertLetter (SentAnswer E D i T u) (inert-sent u) (out (Agent h)) (inert (Agent h))
 
-  follows-moves : Moves (Follows E D i T)
+  follows-moves : SmallSteps (FollowsHandler E D i T)
   follows-moves = record {
     first = λ s. record { still = refl; sends = λ up h. tt };
     next = λ s t f h k. let u = (f t.state).state in record {
@@ -104,7 +104,7 @@ module _ (E : Database) (D : Deployment) (i : ℕ) (T : Claims) where
     to_initiator = record { leads = may.leads; runs = up; term_is = refl; later = may.later; on_disk = may.on_disk; told = e };
   }
 
-  follows-tells : Tells E D i (Follows E D i T)
+  follows-tells : MayBeTold E D i (FollowsHandler E D i T)
   follows-tells s may first =
       let o = open_in s.log in let last = last_done E (part_of_slot D i) s.log in
       record {
@@ -113,8 +113,8 @@ module _ (E : Database) (D : Deployment) (i : ℕ) (T : Claims) where
             (tells-standing s first.1 may up o last refl, tt) tt;
       }
 
-  follows-asks : TakesAsks E D i (Follows E D i T)
-  follows-asks s = asks-cases E D i s (Follows E D i T s) (record { still = refl; sends = λ up h. tt }) (λ a authoritative mark. record { still = refl; sends = λ up h. tt })
+  follows-asks : MayTakeAsks E D i (FollowsHandler E D i T)
+  follows-asks s = takes_asks-cases E D i s (FollowsHandler E D i T s) (record { still = refl; sends = λ up h. tt }) (λ a authoritative mark. record { still = refl; sends = λ up h. tt })
 
   -- A turn from b on, and what follows it.
   settled-answers : (b : SiteState) (t : Turn SiteState) → Answers D i T b t → 0 < b.start → HoldsAnswers T b → TurnAnswers E D i T (ordered (t ▸ settles E D i))
@@ -128,8 +128,8 @@ module _ (E : Database) (D : Deployment) (i : ℕ) (T : Claims) where
       u : SiteState
       u = (settles E D i t.state).state
 
-      k : Follows E D i T t.state (settles E D i t.state)
-      k = settles-walk E D i (Follows E D i T) follows-moves follows-tells follows-asks t.state
+      k : FollowsHandler E D i T t.state (settles E D i t.state)
+      k = settles-walk E D i (FollowsHandler E D i T) follows-moves follows-tells follows-asks t.state
 
 -- ---- a whole turn
 
@@ -142,7 +142,7 @@ reply-term term l = elim l.body as (λ m. is_reply (record l { body = m }) ≡ t
   | m ↦ λ e. tt
 ]
 
-module _ (E : Database) (D : Deployment) (i : ℕ) (T : Claims) (fits : Fits E (part_of_slot D i) T) (s : SiteState) where
+module _ (E : Database) (D : Deployment) (i : ℕ) (T : Claims) (fits : ClaimsFit E (part_of_slot D i) T) (s : SiteState) where
   answers-let : LetsGo (Answers D i T)
   answers-let s ws less = answers-same D i T s _ refl refl refl (λ e. e) refl refl
 
@@ -159,7 +159,7 @@ module _ (E : Database) (D : Deployment) (i : ℕ) (T : Claims) (fits : Fits E (
       record { stands = (all-at (HeldAnswer T s.log (site_term s)) s.held held d r.0).stands; term_is = reply-term (site_term b) d.letter r.1 })
 
   taken-answers : (stamp : ℕ) (from : Actor) (l : Letter) → 0 < s.start → AllByRecursion PlainWaiting s.waiting → NoLog s → HoldsAnswers T s
-      → TurnAnswers E D i T (whole E D stamp i (site_handler E D stamp i s from l))
+      → TurnAnswers E D i T (whole_turn E D stamp i (site_handler E D stamp i s from l))
   taken-answers stamp from l up plain none held =
       let t = site_handler E D stamp i s from l in
       let W = answers-steps D i T E fits stamp in
@@ -172,14 +172,14 @@ module _ (E : Database) (D : Deployment) (i : ℕ) (T : Claims) (fits : Fits E (
   -- What a message makes of it.
   pub site_turn-answers : (stamp : ℕ) (from : Actor) (l : Letter) (o : Environment) → (0 < s.start → AllByRecursion PlainWaiting s.waiting) → NoLog s
       → (0 < s.start → HoldsAnswers T s) → TurnAnswers E D i T (site_turn E D stamp i s from l o)
-  site_turn-answers stamp from l o plain none held = turn-cases E D stamp i s from (TurnAnswers E D i T)
+  site_turn-answers stamp from l o plain none held = site_turn-cases E D stamp i s from (TurnAnswers E D i T)
       (λ start stop joining contents out inert. record { held = λ _. tt; sends = λ h. all-inert E D i T _ out inert h }) l o
       (λ stop plans aside. record { held = held; sends = λ h. tt }) (λ up waits. record { held = held; sends = λ h. tt })
       (λ up takes. taken-answers stamp from l up (plain up) none (held up))
 
   -- What a Sync makes of it.
   pub sync_turn-answers : (o : Environment) → 0 < s.start → HoldsAnswers T s → TurnAnswers E D i T (sync_turn E D i s o)
-  sync_turn-answers o up held = sync-cases E D i s o (TurnAnswers E D i T)
+  sync_turn-answers o up held = sync_turn-cases E D i s o (TurnAnswers E D i T)
       (λ stop contents out inert. record { held = λ _. tt; sends = λ h. all-inert E D i T _ out inert h })
       (settled-answers E D i T b (after_sync D i b b.joining) (after_sync-walk D i (Answers D i T) (answers-settles D i T) b) (let e = w.start in omega (arith, up, e)) holds)
     where
@@ -196,11 +196,11 @@ module _ (E : Database) (D : Deployment) (i : ℕ) (T : Claims) (fits : Fits E (
 -- ---- what the laws of logs give of a site
 
 -- nothing waits at it that never does
-pub waits-plain : (S : LogState) → LogsHold S → (i : ℕ) → 0 < site_start S i → AllByRecursion PlainWaiting (S.sites i).waiting
-waits-plain S H i up = all-mono (SiteWaitingOk S i) PlainWaiting (waiting-plain S i) (S.sites i).waiting ((H.sites i).keeps up).waiting
+pub waits-plain : (S : LogState) → Holds S → (i : ℕ) → 0 < start_at S i → AllByRecursion PlainWaiting (S.sites i).waiting
+waits-plain S H i up = all-mono (WaitingOk S i) PlainWaiting (waiting-plain S i) (S.sites i).waiting ((H.sites i).keeps up).waiting
 
 -- a joiner that has no stream has no entries
-pub no-log : (S : LogState) → LogsHold S → (i : ℕ) → NoLog (S.sites i)
+pub no-log : (S : LogState) → Holds S → (i : ℕ) → NoLog (S.sites i)
 no-log S H i j joins none = go (S.sites i).view refl ((H.sites i).joiner j joins).view
   where
     go : (o : Option Membership) → (S.sites i).view ≡ o → ViewIn S i j (S.sites i).view → log_at S i ≡ []

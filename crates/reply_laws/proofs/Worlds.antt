@@ -17,11 +17,10 @@ use Rattle.cluster_model.specs.Letters.{same, Letter, Turn}
 use Rattle.cluster_model.specs.SiteState.{SiteState, is_joiner, leader_in, leads, no_site, member_site}
 use Rattle.cluster_model.specs.Sync.{may_sync, site_turn, sync_turn}
 use Rattle.cluster_model.specs.Environment.{Environment, NoFault, DiskFails, NoMemory, DisksShow}
-use Rattle.cluster_model.specs.World.{World, Input, stamp_of, set_at, took, sent, rest, new_word, start_from}
+use Rattle.cluster_model.specs.World.{World, Input, first_world, stamp_of, set_at, took, sent, rest, new_word, start_from}
 use Rattle.cluster_model.specs.Recover.{new_base, new_log, new_site, starts_anew}
 use Rattle.cluster_model.specs.Events.{can, allows, delivered, recovered_with, happens, step}
-use Rattle.cluster_model.specs.Runs.{Happening, Reached, has_failed, may_happen}
-use Rattle.cluster_model.proofs.Runs.{reached-kept}
+use Rattle.cluster_model.specs.Runs.{Happening, IsRun, has_failed, may_happen, run}
 use Rattle.cluster_steps.proofs.Lists.{all-append, all-mono, all-if, all-rest, set-here, set-both}
 use Rattle.cluster_steps.specs.Lists.{Prefix}
 use Rattle.log_laws.specs.Copies.{log_state}
@@ -32,8 +31,8 @@ use Rattle.log_laws.proofs.Runs.Lasting.{in-authoritative}
 use Rattle.disk_laws.specs.Survival.{Survives, firm_entries}
 use Rattle.disk_laws.proofs.Boots.{first-disks}
 use Rattle.disk_laws.proofs.Syncs.{sync-runs}
-use Rattle.disk_laws.proofs.Worlds.{HasDisks, survives-same, step-goes}
-use Rattle.reply_laws.specs.Answers.{Fits, Claim, Stands, Tells, is_answer, HoldsAnswers, Answered, SentAnswer, TurnAnswers}
+use Rattle.disk_laws.proofs.Worlds.{HasDisks, survives-same, run-goes}
+use Rattle.reply_laws.specs.Answers.{ClaimsFit, Claim, Stands, ClaimOf, is_answer, HoldsAnswers, Answered, SentAnswer, TurnAnswers}
 use Rattle.reply_laws.proofs.Answers.{stands-on}
 use Rattle.reply_laws.proofs.Turns.{no-log, site_turn-answers, sync_turn-answers, waits-plain}
 
@@ -41,18 +40,18 @@ use Rattle.reply_laws.proofs.Turns.{no-log, site_turn-answers, sync_turn-answers
 
 -- An answer under way is to an entry that stands in this log of partition p.
 abbrev pub AnswerIn : Database → ℕ → List Entry → Letter → Type 0
-AnswerIn E p log l = is_answer l.body ≡ true → Stands (Tells E p l.body) log
+AnswerIn E p log l = is_answer l.body ≡ true → Stands (ClaimOf E p l.body) log
 
 -- With these sites and messages, and these firm entries of each partition.
 pub record AnswersOk (E : Database) (D : Deployment) (sites : ℕ → SiteState) (channel : Actor → Actor → List Letter) (firm : ℕ → List Entry) : Type 0 where
-  pub held : (i : ℕ) → 0 < (sites i).start → HoldsAnswers (Tells E (part_of_slot D i)) (sites i)
+  pub held : (i : ℕ) → 0 < (sites i).start → HoldsAnswers (ClaimOf E (part_of_slot D i)) (sites i)
   pub sent : (i h : ℕ) → AllByRecursion (AnswerIn E (part_of_slot D i) (firm (part_of_slot D i))) (channel (Site i) (Agent h))
 
 abbrev pub HasAnswers : Database → World → Type 0
 HasAnswers E w = AnswersOk E w.deployment w.sites w.channel (firm_entries w)
 
 -- the replay answers so as an answer is held
-tells-fit : (E : Database) (p : ℕ) → Fits E p (Tells E p)
+tells-fit : (E : Database) (p : ℕ) → ClaimsFit E p (ClaimOf E p)
 tells-fit E p = record {
   call = λ log call start point body. record { point = point; body = body; is = refl; answers = refl };
   round = λ log m round body. record { body = body; is = refl; answers = refl };
@@ -63,7 +62,7 @@ tells-fit E p = record {
 
 -- What stands in it still does.
 answer-in : (E : Database) (p : ℕ) (xs ys : List Entry) → Prefix xs ys → (l : Letter) → AnswerIn E p xs l → AnswerIn E p ys l
-answer-in E p xs ys f l k = λ a. stands-on (Tells E p l.body) xs ys f (k a)
+answer-in E p xs ys f l k = λ a. stands-on (ClaimOf E p l.body) xs ys f (k a)
 
 -- ---- an event
 
@@ -79,7 +78,7 @@ moves E D sites ch next F G less grown k = record {
 }
 
 -- A site sends what is in the firm entries.
-module _ (E : Database) (D : Deployment) (i : ℕ) (t : Turn SiteState) (G : ℕ → List Entry) (r : TurnAnswers E D i (Tells E (part_of_slot D i)) t)
+module _ (E : Database) (D : Deployment) (i : ℕ) (t : Turn SiteState) (G : ℕ → List Entry) (r : TurnAnswers E D i (ClaimOf E (part_of_slot D i)) t)
     (firm : leads D i t.state ≡ true → 0 < t.state.start → Prefix (take t.state.firm t.state.log) (G (part_of_slot D i))) where
   answered : (P : Claim) → Answered D i t.state P → Stands P (G (part_of_slot D i))
   answered P k =
@@ -99,8 +98,8 @@ module _ (E : Database) (D : Deployment) (i : ℕ) (t : Turn SiteState) (G : ℕ
         claim = here.claim;
       }
 
-  sent-in : (l : Letter) → SentAnswer E D i (Tells E (part_of_slot D i)) t.state l → AnswerIn E (part_of_slot D i) (G (part_of_slot D i)) l
-  sent-in l k = λ a. answered (Tells E (part_of_slot D i) l.body) (k.answered a)
+  sent-in : (l : Letter) → SentAnswer E D i (ClaimOf E (part_of_slot D i)) t.state l → AnswerIn E (part_of_slot D i) (G (part_of_slot D i)) l
+  sent-in l k = λ a. answered (ClaimOf E (part_of_slot D i) l.body) (k.answered a)
 
   -- in its partition's entries, as they are after the event
   abbrev InFirm : ℕ → Letter → Type 0
@@ -109,7 +108,7 @@ module _ (E : Database) (D : Deployment) (i : ℕ) (t : Turn SiteState) (G : ℕ
   turned : (sites : ℕ → SiteState) (ch : Actor → Actor → List Letter) (F : ℕ → List Entry)
       → ((p : ℕ) → Prefix (F p) (G p)) → AnswersOk E D sites ch F → AnswersOk E D (set_at sites i t.state) (sent ch (Site i) t.sends) G
   turned sites ch F grown k = record {
-    held = set-both (λ j s. 0 < s.start → HoldsAnswers (Tells E (part_of_slot D j)) s) sites i t.state r.held (λ j n. k.held j);
+    held = set-both (λ j s. 0 < s.start → HoldsAnswers (ClaimOf E (part_of_slot D j)) s) sites i t.state r.held (λ j n. k.held j);
     sent = λ j h. choice j h (i == j) refl;
   }
     where
@@ -118,7 +117,7 @@ module _ (E : Database) (D : Deployment) (i : ℕ) (t : Turn SiteState) (G : ℕ
           (answer-in E (part_of_slot D j) (F (part_of_slot D j)) (G (part_of_slot D j)) (grown (part_of_slot D j))) (ch (Site j) (Agent h)) (k.sent j h)
 
       new : (j h : ℕ) → i ≡ j → AllByRecursion (InFirm j) (t.sends (Agent h))
-      new j h e = subst (λ x. AllByRecursion (InFirm x) (t.sends (Agent h))) e (all-mono (SentAnswer E D i (Tells E (part_of_slot D i)) t.state) (InFirm i) sent-in (t.sends (Agent h)) (r.sends h))
+      new j h e = subst (λ x. AllByRecursion (InFirm x) (t.sends (Agent h))) e (all-mono (SentAnswer E D i (ClaimOf E (part_of_slot D i)) t.state) (InFirm i) sent-in (t.sends (Agent h)) (r.sends h))
 
       choice : (j h : ℕ) (b : Bool) → (i == j) ≡ b → AllByRecursion (InFirm j) (if b then ch (Site j) (Agent h) ++ t.sends (Agent h) else ch (Site j) (Agent h))
       choice j h true e = all-append (InFirm j) (ch (Site j) (Agent h)) (t.sends (Agent h)) (before j h) (new j h (eqb-true i j e))
@@ -168,7 +167,7 @@ module _ (E : Database) (w : World) (k : HasAnswers E w) (d : HasDisks w) where
       let t = site_turn E w.deployment (stamp_of w) i (w.sites i) from l o in
       let S = log_state w d.logs.owner d.logs.history d.logs.logs in
       turned E w.deployment i t (firm_entries v)
-      (site_turn-answers E w.deployment i (Tells E (part_of_slot w.deployment i)) (tells-fit E (part_of_slot w.deployment i)) (w.sites i) (stamp_of w) from l o
+      (site_turn-answers E w.deployment i (ClaimOf E (part_of_slot w.deployment i)) (tells-fit E (part_of_slot w.deployment i)) (w.sites i) (stamp_of w) from l o
       (waits-plain S d.logs.holds i) (no-log S d.logs.holds i) (k.held i))
       (turn-firm w v i t next refl) w.sites (took w.channel from (Site i)) (firm_entries w) grown (record { held = k.held; sent = k.sent })
 
@@ -196,7 +195,7 @@ module _ (E : Database) (w : World) (k : HasAnswers E w) (d : HasDisks w) where
   syncs i o up next grown =
       let v = happens E w (event.Sync i) o in
       let t = sync_turn E w.deployment i (w.sites i) o in
-      turned E w.deployment i t (firm_entries v) (sync_turn-answers E w.deployment i (Tells E (part_of_slot w.deployment i)) (tells-fit E (part_of_slot w.deployment i)) (w.sites i) o up (k.held i up))
+      turned E w.deployment i t (firm_entries v) (sync_turn-answers E w.deployment i (ClaimOf E (part_of_slot w.deployment i)) (tells-fit E (part_of_slot w.deployment i)) (w.sites i) o up (k.held i up))
       (turn-firm w v i t next refl) w.sites w.channel (firm_entries w) grown k
 
   -- ---- recoveries
@@ -211,7 +210,7 @@ module _ (E : Database) (w : World) (k : HasAnswers E w) (d : HasDisks w) where
       new : ℕ → SiteState
       new i = new_site w.deployment i (w.sites i) word (start_from w.deployment w.director.next_start i) (new_log E w shown (part_of_slot w.deployment i))
 
-      held : (i : ℕ) (b : Bool) → let s = if b then new i else w.sites i in 0 < s.start → HoldsAnswers (Tells E (part_of_slot w.deployment i)) s
+      held : (i : ℕ) (b : Bool) → let s = if b then new i else w.sites i in 0 < s.start → HoldsAnswers (ClaimOf E (part_of_slot w.deployment i)) s
       held i true up = tt
       held i false up = k.held i up
 
@@ -246,25 +245,27 @@ unnoted w trace d = let n = d.logs in record {
 
 step-answers : (E : Database) (w : World) (e : Happening) → may_happen w e ≡ true → HasDisks w → HasAnswers E w → HasDisks (step E w e) × HasAnswers E (step E w e)
 step-answers E w e may d k =
-    let g = step-goes E w e may d in
+    let g = run-goes E (e ∷ []) w (may, tt) d in
     let outer = and_parts (not (has_failed w) && can w e.0) (allows w e.0 e.1) may in
     let inner = and_parts (not (has_failed w)) (can w e.0) outer.0 in
     let v = happens E w e.0 e.1 in
     let r = event-answers E w k d e.0 e.1 inner.1 (unnoted v (v.trace ++ e.0 ∷ []) g.next) (λ p. firm-grows w (step E w e) d g.next p (g.survives p)) in
     (g.next, record { held = r.held; sent = r.sent })
 
--- So it is in each world that is reached: at first no site holds an answer.
-pub answers-agree : (E : Database) (input : Input) (w : World) → Reached E input w → HasAnswers E w
-answers-agree E input w r = (reached-kept E (λ v. HasDisks v × HasAnswers E v) (λ v e may k. step-answers E v e may k.0 k.1) input w
-    (λ is. (
-      record { logs = first-logs E input is.base; halted = false; disks = first-disks E input is.base },
-      record { held = λ i. first i (nat_lt i (slots input.deployment)); sent = λ i h. tt },
-    )) r).1
+pub run-answers : (E : Database) (es : List Happening) (w : World) → IsRun E es w → HasDisks w → HasAnswers E w → HasAnswers E (run E es w)
+run-answers E [] w r d k = k
+run-answers E (e ∷ es) w r d k = let s = step-answers E w e r.0 d k in run-answers E es (step E w e) r.1 s.0 s.1
+
+-- So it is in each world of a run: at first no site holds an answer.
+pub answers-agree : (E : Database) (input : Input) (es : List Happening) → 0 < input.base → IsRun E es (first_world E input) → HasAnswers E (run E es (first_world E input))
+answers-agree E input es some r =
+    run-answers E es (first_world E input) r (record { logs = first-logs E input some; halted = false; disks = first-disks E input some })
+    (record { held = λ i. first i (nat_lt i (slots input.deployment)); sent = λ i h. tt })
   where
     word : Membership
     word = new_word input.deployment input.base 1
 
     first : (i : ℕ) (b : Bool) → let s = if b then member_site input.deployment i no_site word (start_from input.deployment 1 i) [] else no_site in
-        0 < s.start → HoldsAnswers (Tells E (part_of_slot input.deployment i)) s
+        0 < s.start → HoldsAnswers (ClaimOf E (part_of_slot input.deployment i)) s
     first i true up = tt
     first i false up = tt

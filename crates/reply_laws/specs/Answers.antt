@@ -25,20 +25,20 @@ abbrev pub Claim : Type 1
 Claim = List Entry → Entry → Type 0
 
 -- The entry is this call, and this end is what the replay of partition p answers to it.
-pub record IsCall (E : Database) (p call : ℕ) (end : End) (prefix : List Entry) (e : Entry) : Type 0 where
+pub record IsAnsweredCall (E : Database) (p call : ℕ) (end : End) (prefix : List Entry) (e : Entry) : Type 0 where
   pub point : ℕ
   pub body : List ℕ
   pub is : e ≡ Sp call point body
   pub answers : end ≡ end_of_reply (answer_behind E p prefix e)
 
 -- It is this round, and this part is what the replay answers to it.
-pub record IsRound (E : Database) (p m round : ℕ) (partial : List ℕ) (prefix : List Entry) (e : Entry) : Type 0 where
+pub record IsAnsweredRound (E : Database) (p m round : ℕ) (partial : List ℕ) (prefix : List Entry) (e : Entry) : Type 0 where
   pub body : List ℕ
   pub is : e ≡ Frag m round body
   pub answers : partial ≡ answer_behind E p prefix e
 
 -- It is an end of this transaction.
-pub record IsEnd (m : ℕ) (prefix : List Entry) (e : Entry) : Type 0 where
+pub record IsAnsweredEnd (m : ℕ) (prefix : List Entry) (e : Entry) : Type 0 where
   pub outcome : Outcome
   pub is : e ≡ Done m outcome
 
@@ -66,11 +66,11 @@ is_answer body = elim body as (λ _. Bool) [
 ]
 
 -- what an answer of a site of partition p says of the entry that it answers
-abbrev pub Tells : Database → ℕ → Msg Blocks → Claim
-Tells E p body = elim body as (λ _. Claim) [
-  | msg.Reply call start end ↦ IsCall E p call end
-  | msg.FragDone m round partial ↦ IsRound E p m round partial
-  | msg.Finished m ↦ IsEnd m
+abbrev pub ClaimOf : Database → ℕ → Msg Blocks → Claim
+ClaimOf E p body = elim body as (λ _. Claim) [
+  | msg.Reply call start end ↦ IsAnsweredCall E p call end
+  | msg.FragDone m round partial ↦ IsAnsweredRound E p m round partial
+  | msg.Finished m ↦ IsAnsweredEnd m
   | _ ↦ λ prefix e. Unit {0}
 ]
 
@@ -79,7 +79,7 @@ abbrev pub Claims : Type 1
 Claims = Msg Blocks → Claim
 
 -- What is claimed of an entry is so as the answer to it is held.
-pub record Fits (E : Database) (p : ℕ) (T : Claims) : Type 0 where
+pub record ClaimsFit (E : Database) (p : ℕ) (T : Claims) : Type 0 where
   pub call : (log : List Entry) (call start point : ℕ) (body : List ℕ)
       → T (msg.Reply call start (end_of_reply (answer_behind E p log (Sp call point body)))) log (Sp call point body)
   pub round : (log : List Entry) (m round : ℕ) (body : List ℕ) → T (msg.FragDone m round (answer_behind E p log (Frag m round body))) log (Frag m round body)

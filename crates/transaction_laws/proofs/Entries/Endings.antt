@@ -25,17 +25,17 @@ abbrev pub end_of : ℕ → Outcome → Option (ℕ × Outcome)
 end_of m o = Some (m, o)
 
 -- none of these is known, and so it is dropped, or the first one that is known is that of one of these
-abbrev Known : ℕ → List (Option (ℕ × Outcome)) → Type 0
-Known n lasts =
+abbrev KnownOutcome : ℕ → List (Option (ℕ × Outcome)) → Type 0
+KnownOutcome n lasts =
     (AllByRecursion (λ x. outcome_if_last n x ≡ None) lasts × (first_outcome n lasts ≡ Dropped))
     ⊎ ((last : Option (ℕ × Outcome)) × In last lasts × (outcome_if_last n last ≡ Some (first_outcome n lasts)))
 
-known-more : (n : ℕ) (x : Option (ℕ × Outcome)) (xs : List (Option (ℕ × Outcome))) → Known n xs → (o : Option Outcome) → outcome_if_last n x ≡ o → Known n (x ∷ xs)
+known-more : (n : ℕ) (x : Option (ℕ × Outcome)) (xs : List (Option (ℕ × Outcome))) → KnownOutcome n xs → (o : Option Outcome) → outcome_if_last n x ≡ o → KnownOutcome n (x ∷ xs)
 known-more n x xs k (Some o) e = inr (x, inl refl, e ∙ ap (λ z. Some (unwrap_or z (first_outcome n xs))) (sym e))
 known-more n x xs (inl (none, dropped)) None e = inl ((e, none), ap (λ z. unwrap_or z (first_outcome n xs)) e ∙ dropped)
 known-more n x xs (inr (last, i, f)) None e = inr (last, inr i, f ∙ ap (λ z. Some (unwrap_or z (first_outcome n xs))) (sym e))
 
-first-known : (n : ℕ) (lasts : List (Option (ℕ × Outcome))) → Known n lasts
+first-known : (n : ℕ) (lasts : List (Option (ℕ × Outcome))) → KnownOutcome n lasts
 first-known n [] = inl (tt, refl)
 first-known n (x ∷ xs) = known-more n x xs (first-known n xs) (outcome_if_last n x) refl
 

@@ -10,7 +10,7 @@ use Rattle.cluster_model.specs.SiteState.{SiteState}
 use Rattle.cluster_model.specs.Sync.{site_turn, sync_turn}
 use Rattle.cluster_model.specs.Environment.{Environment}
 use Rattle.cluster_steps.proofs.Lists.{all-mono}
-use Rattle.cluster_steps.proofs.SiteTurns.{NoWord, PlainWaiting, plain-word, sync-cases, syncs-stays, taken-stays, turn-cases}
+use Rattle.cluster_steps.proofs.SiteTurns.{NoWord, PlainWaiting, plain-word, sync_turn-cases, syncs-stays, taken-stays, site_turn-cases}
 
 abbrev pub Blank : SiteState → Type 0
 Blank s = s.start ≡ 0 → s.log ≡ []
@@ -18,12 +18,12 @@ Blank s = s.start ≡ 0 → s.log ≡ []
 -- So it is after each turn: one that takes a message goes on with its start.
 pub turn-blank : (E : Database) (D : Deployment) (stamp i : ℕ) (s : SiteState) → Blank s → (0 < s.start → AllByRecursion PlainWaiting s.waiting)
     → (from : Actor) (l : Letter) (o : Environment) → Blank (site_turn E D stamp i s from l o).state
-turn-blank E D stamp i s blank waits from l o = turn-cases E D stamp i s from (λ t. Blank t.state) (λ start stop joining contents out inert e. refl) l o
+turn-blank E D stamp i s blank waits from l o = site_turn-cases E D stamp i s from (λ t. Blank t.state) (λ start stop joining contents out inert e. refl) l o
     (λ stop plans aside. blank) (λ up waits e. absurd (omega (arith, up, e)))
     (λ up takes e.
     let k = (taken-stays E D stamp i s from l (all-mono PlainWaiting (λ x. NoWord x.from x.letter) plain-word s.waiting (waits up))).0 in
     absurd (omega (arith, up, k, e)))
 
 pub sync-blank : (E : Database) (D : Deployment) (i : ℕ) (s : SiteState) → 0 < s.start → (o : Environment) → Blank (sync_turn E D i s o).state
-sync-blank E D i s up o = sync-cases E D i s o (λ t. Blank t.state) (λ stop contents out inert e. refl)
+sync-blank E D i s up o = sync_turn-cases E D i s o (λ t. Blank t.state) (λ stop contents out inert e. refl)
     (λ e. let k = (syncs-stays E D i s).0 in absurd (omega (arith, up, k, e)))

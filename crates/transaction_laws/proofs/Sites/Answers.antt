@@ -7,7 +7,7 @@ use Rattle.cluster_model.specs.Engine.{Database}
 use Rattle.cluster_model.specs.Words.{Deployment}
 use Rattle.cluster_model.specs.SiteState.{SiteState, site_term, leads}
 use Rattle.cluster_steps.specs.Lists.{Prefix}
-use Rattle.reply_laws.specs.Answers.{Answered, Fits}
+use Rattle.reply_laws.specs.Answers.{Answered, ClaimsFit}
 use Rattle.transaction_laws.specs.Transactions.{EntryAt, ToOrders, WaitsPlain}
 
 -- No round and no end waits for a term.
@@ -37,7 +37,7 @@ answers-firm D i u P term e term_is k is = record {
 }
 
 -- What is claimed of rounds and ends is so as their answers are held.
-pub orders-fit : (E : Database) (p : ℕ) → Fits E p ToOrders
+pub orders-fit : (E : Database) (p : ℕ) → ClaimsFit E p ToOrders
 orders-fit E p = record {
   call = λ log call start point body. tt;
   round = λ log m round body. (body, refl);

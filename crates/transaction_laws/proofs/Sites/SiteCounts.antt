@@ -20,10 +20,10 @@ use Rattle.cluster_steps.proofs.Leaders.{leader-view, leads-parts, leads-from}
 use Rattle.cluster_steps.proofs.Least.{least_of-below}
 use Rattle.cluster_steps.proofs.SiteTurns.{stays_joiner}
 use Rattle.transaction_laws.specs.Transactions.{acknowledged}
-use Rattle.cluster_steps.proofs.StateSteps.{Comes, Over, StateSettles, StateSteps, over-moves, over-settles, over-tells, with_others}
-use Rattle.transaction_laws.proofs.Sites.SiteWalk.{WaitsQuietly, AnyReport, any-report, any-reports, takes-asks, asks-view, Walked, Ends, Same, Stays, Views, walked}
+use Rattle.cluster_steps.proofs.StateSteps.{Comes, Over, StateSaying, StateSteps, over-moves, over-settles, over-tells, with_others}
+use Rattle.transaction_laws.proofs.Sites.SiteWalk.{WaitsQuietly, AnyReport, any-report, any-reports, asks-taken, asks-view, Walked, StopsOrBegins, NothingSeen, GoesOnSame, GoesOnNew, walked}
 use Rattle.cluster_steps.proofs.Frames.{begins_at}
-use Rattle.cluster_steps.proofs.SiteWalk.{settled, settled-walk, after_sync-walk}
+use Rattle.cluster_steps.proofs.SiteWalk.{settled_turn, settled-walk, after_sync-walk}
 use Rattle.cluster_steps.proofs.SiteTurns.{Wrote, wrote, written_site}
 use Rattle.transaction_laws.proofs.Sites.SiteLogs.{stopped-not-leads, sync-steady}
 
@@ -122,7 +122,7 @@ module _ (D : Deployment) (i : ℕ) where
   same-positions f n p [] = (refl, refl)
   same-positions f n p (j ∷ js) = let r = same-positions f n p js in (rw (n j, r.0), rw (n j, p j, r.1))
 
-  reckons-settles : StateSettles D i (Reckons D i)
+  reckons-settles : StateSaying D i (Reckons D i)
   reckons-settles = record {
     first = λ s. reckons-rest s s;
     next = reckons-then;
@@ -193,7 +193,7 @@ module _ (E : Database) (D : Deployment) (i : ℕ) (v : SiteState) where
   last = (takes_asks E D i v).state
 
   asks-leader : is_leader D i last ≡ is_leader D i v
-  asks-leader = elim (takes-asks E D i v) [
+  asks-leader = elim (asks-taken E D i v) [
     | inl e ↦ ap (is_leader D i) e
     | inr k ↦ ap (is_leader D i) k.is
   ]
@@ -212,13 +212,13 @@ module _ (E : Database) (D : Deployment) (i : ℕ) (v : SiteState) where
       omega (arith, k, l)
 
   asks-counted : Counted D i v → Counted D i last
-  asks-counted c = elim (takes-asks E D i v) [
+  asks-counted c = elim (asks-taken E D i v) [
     | inl e ↦ subst (Counted D i) (sym e) c
     | inr k ↦ subst (Counted D i) (sym k.is) (more-counted k.new c)
   ]
 
   asks-joined : (low : ℕ) → low ≤ length last.log → AllByRecursion (λ j. low ≤ j.stream_start) v.joiners → AllByRecursion (λ j. low ≤ j.stream_start) last.joiners
-  asks-joined low long h = elim (takes-asks E D i v) [
+  asks-joined low long h = elim (asks-taken E D i v) [
     | inl e ↦ subst (λ s. AllByRecursion (λ j. low ≤ j.stream_start) s.joiners) (sym e) h
     | inr k ↦
         let same : length last.log ≡ length v.log = ap (λ s. length s.log) k.is in
@@ -228,7 +228,7 @@ module _ (E : Database) (D : Deployment) (i : ℕ) (v : SiteState) where
   ]
 
   asks-unrepaired : Unrepaired v → Unrepaired last
-  asks-unrepaired h = elim (takes-asks E D i v) [
+  asks-unrepaired h = elim (asks-taken E D i v) [
     | inl e ↦ subst Unrepaired (sym e) h
     | inr k ↦ λ un. absurd (not-both v.repaired (leads-parts D i v k.leads).1 (sym (ap (λ s. s.repaired) k.is) ∙ un))
   ]
@@ -279,14 +279,14 @@ module _ (E : Database) (D : Deployment) (stamp i : ℕ) (s : SiteState) (from :
       from-state b v k is authoritative m c = subst (Counted D i) (sym is) (asks-counted E D i v (k.counted authoritative m c))
 
       go : Walked E D i (Reckons D i) s from l u → Counted D i u
-      go (Ends view joiners) = absurd (stopped-not-leads D i u view led)
-      go (Same none is) = subst (Counted D i) (sym is) (counted (sym (ap (leads D i) is) ∙ led))
-      go (Stays a log leading other v view k is) =
+      go (StopsOrBegins view joiners) = absurd (stopped-not-leads D i u view led)
+      go (NothingSeen none is) = subst (Counted D i) (sym is) (counted (sym (ap (leads D i) is) ∙ led))
+      go (GoesOnSame a log leading other v view k is) =
           let b = record s { log = log } in
           let authoritative : is_leader D i s ≡ true = led-before b v k is led in
           let m : Marked s = marked (leader-view D i s authoritative).0 in
           from-state b v k is authoritative m (leader-counted D i s authoritative counted m)
-      go (Views a h w sender body joining enters v view k is) =
+      go (GoesOnNew a h w sender body joining enters v view k is) =
           let b = record (in_new_term s w) { joining = joining } in
           let authoritative : is_leader D i b ≡ true = led-before b v k is led in
           let low : s.mark < term_of w = above-mark D i s from l h w sender body (above a) (enters (leader-view D i b authoritative).0) in
@@ -302,13 +302,13 @@ module _ (E : Database) (D : Deployment) (stamp i : ℕ) (s : SiteState) (from :
           (asks-joined E D i v low (subst (λ x. low ≤ length x.log) is long) (same-begins low v.joiners b.joiners k.joiners h))
 
       go : Walked E D i (Reckons D i) s from l u → AllByRecursion (λ j. low ≤ j.stream_start) u.joiners
-      go (Ends view joiners) = absurd (stopped-not-leads D i u view led)
-      go (Same none is) = subst (λ x. AllByRecursion (λ j. low ≤ j.stream_start) x.joiners) (sym is) (held (sym (ap (leads D i) is) ∙ led) (ap (λ x. x.view) is))
-      go (Stays a log leading other v view k is) =
+      go (StopsOrBegins view joiners) = absurd (stopped-not-leads D i u view led)
+      go (NothingSeen none is) = subst (λ x. AllByRecursion (λ j. low ≤ j.stream_start) x.joiners) (sym is) (held (sym (ap (leads D i) is) ∙ led) (ap (λ x. x.view) is))
+      go (GoesOnSame a log leading other v view k is) =
           let b = record s { log = log } in
           from-state b v k is (leader-joined D i s low (led-before b v k is led)
           (λ authoritative. held authoritative (ap (λ x. x.view) is ∙ asks-view E D i v ∙ view)) unrepaired)
-      go (Views a h w sender body joining enters v view k is) = from-state (record (in_new_term s w) { joining = joining }) v k is tt
+      go (GoesOnNew a h w sender body joining enters v view k is) = from-state (record (in_new_term s w) { joining = joining }) v k is tt
 
   pub site-unrepaired : (arrival s.start (site_term s) l ≡ Taken → Comes D i s from l) → AllByRecursion WaitsQuietly s.waiting → Unrepaired s → Unrepaired u
   site-unrepaired comes waiting h = go (goes comes waiting)
@@ -317,10 +317,10 @@ module _ (E : Database) (D : Deployment) (stamp i : ℕ) (s : SiteState) (from :
       from-state b v k is f = subst Unrepaired (sym is) (asks-unrepaired E D i v (λ un. none-begins v.joiners (k.joiners ∙ ap begins_at (f (k.repaired un)))))
 
       go : Walked E D i (Reckons D i) s from l u → Unrepaired u
-      go (Ends view joiners) = λ un. joiners
-      go (Same none is) = subst Unrepaired (sym is) h
-      go (Stays a log leading other v view k is) = from-state (record s { log = log }) v k is h
-      go (Views a h w sender body joining enters v view k is) = from-state (record (in_new_term s w) { joining = joining }) v k is (λ un. refl)
+      go (StopsOrBegins view joiners) = λ un. joiners
+      go (NothingSeen none is) = subst Unrepaired (sym is) h
+      go (GoesOnSame a log leading other v view k is) = from-state (record s { log = log }) v k is h
+      go (GoesOnNew a h w sender body joining enters v view k is) = from-state (record (in_new_term s w) { joining = joining }) v k is (λ un. refl)
 
 -- ---- a Sync
 
@@ -333,7 +333,7 @@ module _ (E : Database) (D : Deployment) (i : ℕ) (s : SiteState) where
   m = (after_sync D i b b.joining).state
 
   abbrev v : SiteState
-  v = (settled E D i m).state
+  v = (settled_turn E D i m).state
 
   said : Reckons D i b m
   said = after_sync-walk D i (Over (Reckons D i)) (over-settles D i (Reckons D i) (reckons-settles D i)) b

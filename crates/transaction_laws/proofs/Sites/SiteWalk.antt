@@ -23,9 +23,9 @@ use Rattle.cluster_steps.proofs.Leaders.{leader-same}
 use Rattle.cluster_steps.proofs.Frames.{holds_for-cases}
 use Rattle.cluster_steps.proofs.Steps.{KnownOf, with_entry}
 use Rattle.cluster_steps.proofs.SiteWalk.{handler-walk, leads_with-walk, works_calls-walk}
-use Rattle.cluster_steps.proofs.SiteTurns.{ForHost, NoWord, Wrote, asks-cases, enters-walk, handler-keeps, joins-walk, stays_joiner, turn-cases, view-keeps, whole, whole-keeps, worked, worked-walk}
+use Rattle.cluster_steps.proofs.SiteTurns.{ForHost, NoWord, Wrote, takes_asks-cases, enters-walk, handler-keeps, joins-walk, stays_joiner, site_turn-cases, view-keeps, whole_turn, whole-keeps, worked_turn, worked-walk}
 use Rattle.cluster_steps.proofs.StateSteps.{Comes, ComesPlainly, Over, Plainly, ReportOf, StateSteps, over-steps, over-tells, with_others}
-use Rattle.log_laws.specs.Histories.{LogState, SiteWaitingFrom, SiteWaitingOk}
+use Rattle.log_laws.specs.Histories.{LogState, WaitingFrom, WaitingOk}
 use Rattle.transaction_laws.specs.Transactions.{WaitsPlain, order_in}
 
 -- ---- messages
@@ -49,17 +49,17 @@ InertKind from l = Unit {0}
 abbrev pub WaitsQuietly : Waiting → Type 0
 WaitsQuietly x = InertKind x.from x.letter
 
-pub waits-quietly : (S : LogState) (c : ℕ) (x : Waiting) → SiteWaitingOk S c x → WaitsPlain x.from x.letter → WaitsQuietly x
+pub waits-quietly : (S : LogState) (c : ℕ) (x : Waiting) → WaitingOk S c x → WaitsPlain x.from x.letter → WaitsQuietly x
 waits-quietly S c x k p = go x.from x.letter k.1 p
   where
-    go : (from : Actor) (l : Letter) → SiteWaitingFrom S c from l → WaitsPlain from l → InertKind from l
-    go (Site j) l = elim l.body as (λ b. SiteWaitingFrom S c (Site j) (record l { body = b }) → WaitsPlain (Site j) (record l { body = b }) → InertKind (Site j) (record l { body = b })) [
+    go : (from : Actor) (l : Letter) → WaitingFrom S c from l → WaitsPlain from l → InertKind from l
+    go (Site j) l = elim l.body as (λ b. WaitingFrom S c (Site j) (record l { body = b }) → WaitsPlain (Site j) (record l { body = b }) → InertKind (Site j) (record l { body = b })) [
       | msg.Put position e floor ↦ λ k p. k
       | msg.Repair from entries ↦ λ k p. k
       | msg.StreamStart head ↦ λ k p. k
       | b ↦ λ k p. tt
     ]
-    go (Agent h) l = elim l.body as (λ b. SiteWaitingFrom S c (Agent h) (record l { body = b }) → WaitsPlain (Agent h) (record l { body = b }) → InertKind (Agent h) (record l { body = b })) [
+    go (Agent h) l = elim l.body as (λ b. WaitingFrom S c (Agent h) (record l { body = b }) → WaitsPlain (Agent h) (record l { body = b }) → InertKind (Agent h) (record l { body = b })) [
       | msg.View w ↦ λ k p. k
       | msg.Frag m round body ↦ λ k p. p
       | msg.Done m o ↦ λ k p. p
@@ -211,7 +211,7 @@ module _ (E : Database) (D : Deployment) (stamp i : ℕ) (P : Reported → Type 
 -- ---- the last step: a joiner that asked is taken
 
 -- the site of slot i took a joiner: its stream begins at the end of the log
-pub record Takes (D : Deployment) (i : ℕ) (v u : SiteState) : Type 0 where
+pub record TakesJoiner (D : Deployment) (i : ℕ) (v u : SiteState) : Type 0 where
   pub leads : leads D i v ≡ true
   pub new : Joiner
   pub stream_start : new.stream_start ≡ length v.log
@@ -220,8 +220,8 @@ pub record Takes (D : Deployment) (i : ℕ) (v u : SiteState) : Type 0 where
 
 module _ (E : Database) (D : Deployment) (i : ℕ) (v : SiteState) where
   -- Either nothing changes, or it does so.
-  pub takes-asks : ((takes_asks E D i v).state ≡ v) ⊎ Takes D i v (takes_asks E D i v).state
-  takes-asks = asks-cases E D i v (λ t. (t.state ≡ v) ⊎ Takes D i v t.state) (inl refl) (λ a authoritative mark. inr (record {
+  pub asks-taken : ((takes_asks E D i v).state ≡ v) ⊎ TakesJoiner D i v (takes_asks E D i v).state
+  asks-taken = takes_asks-cases E D i v (λ t. (t.state ≡ v) ⊎ TakesJoiner D i v t.state) (inl refl) (λ a authoritative mark. inr (record {
     leads = authoritative;
     new = record { slot = a.slot; start = a.start; stream_start = length v.log; position = length v.log; count = None };
     stream_start = refl;
@@ -230,7 +230,7 @@ module _ (E : Database) (D : Deployment) (i : ℕ) (v : SiteState) where
   }))
 
   pub asks-view : (takes_asks E D i v).state.view ≡ v.view
-  asks-view = elim takes-asks [
+  asks-view = elim asks-taken [
     | inl e ↦ ap (λ s. s.view) e
     | inr k ↦ ap (λ s. s.view) k.is
   ]
@@ -240,11 +240,11 @@ module _ (E : Database) (D : Deployment) (i : ℕ) (v : SiteState) where
 -- What a message makes of the site: it stops or begins; or nothing changes that A goes by, but what waits; or it goes on in its word, from
 -- itself with the round or end that a leader takes; or in a new word.
 pub data Walked (E : Database) (D : Deployment) (i : ℕ) (A : SiteState → SiteState → Type 0) (s : SiteState) (from : Actor) (l : Letter) (u : SiteState) : Type 0 where
-  Ends : u.view ≡ None → u.joiners ≡ [] → Walked E D i A s from l u
-  Same : (0 < s.start → taken_by s from l ≡ []) → u ≡ record (with_others s u) { waiting = u.waiting } → Walked E D i A s from l u
-  Stays : arrival s.start (site_term s) l ≡ Taken → (log : List Entry) → (leads D i s ≡ true → log ≡ s.log ++ taken_from from l) → (leads D i s ≡ false → log ≡ s.log)
+  StopsOrBegins : u.view ≡ None → u.joiners ≡ [] → Walked E D i A s from l u
+  NothingSeen : (0 < s.start → taken_by s from l ≡ []) → u ≡ record (with_others s u) { waiting = u.waiting } → Walked E D i A s from l u
+  GoesOnSame : arrival s.start (site_term s) l ≡ Taken → (log : List Entry) → (leads D i s ≡ true → log ≡ s.log ++ taken_from from l) → (leads D i s ≡ false → log ≡ s.log)
       → (v : SiteState) → v.view ≡ s.view → A (record s { log = log }) v → u ≡ (takes_asks E D i v).state → Walked E D i A s from l u
-  Views : arrival s.start (site_term s) l ≡ Taken → (h : ℕ) (w : Membership) → from ≡ Agent h → l.body ≡ msg.View w
+  GoesOnNew : arrival s.start (site_term s) l ≡ Taken → (h : ℕ) (w : Membership) → from ≡ Agent h → l.body ≡ msg.View w
       → (joining : Option Joining) → (joining ≡ None → stays_joiner D i s w ≡ false)
       → (v : SiteState) → v.view ≡ Some w → A (record (in_new_term s w) { joining = joining }) v → u ≡ (takes_asks E D i v).state → Walked E D i A s from l u
 
@@ -256,16 +256,16 @@ module _ (E : Database) (D : Deployment) (stamp i : ℕ) (P : Reported → Type 
     (waiting : AllByRecursion WaitsQuietly s.waiting) where
   -- A turn whose handler goes on from b: what waits behind it waited before.
   module _ (t : Turn SiteState) (less : (x : Waiting) → In x t.state.waiting → In x s.waiting) where
-    whole-view : (whole E D stamp i t).state.view ≡ t.state.view
+    whole-view : (whole_turn E D stamp i t).state.view ≡ t.state.view
     whole-view = (whole-keeps E D i stamp t (all-from (λ x. NoWord x.from x.letter) t.state.waiting (λ x k. quiet-word x.from x.letter (all-at WaitsQuietly s.waiting waiting x (less x k))))).view
 
-    on-walk : (b : SiteState) → AllByRecursion (WaitsReport P (site_term (whole E D stamp i t).state)) s.waiting → A b t.state → A b (worked E D stamp i t).state
+    on-walk : (b : SiteState) → AllByRecursion (WaitsReport P (site_term (whole_turn E D stamp i t).state)) s.waiting → A b t.state → A b (worked_turn E D stamp i t).state
     on-walk b reports handler = worked-walk E D stamp i (ComesPlainly D i P) (Over A) (over-steps E D stamp i P A W) (λ m ws _. left m ws) (over-tells D i A W.settles E) b t handler
         (all-from (KnownOf (ComesPlainly D i P) (site_term t.state)) t.state.waiting (λ x k e. quiet-plainly D i P x.from x.letter (all-at WaitsQuietly s.waiting waiting x (less x k))
-        (all-at (WaitsReport P (site_term (whole E D stamp i t).state)) s.waiting reports x (less x k) (e ∙ sym (ap (λ o. site_term (record s { view = o })) whole-view)))))
+        (all-at (WaitsReport P (site_term (whole_turn E D stamp i t).state)) s.waiting reports x (less x k) (e ∙ sym (ap (λ o. site_term (record s { view = o })) whole-view)))))
 
-    worked-view : (worked E D stamp i t).state.view ≡ t.state.view
-    worked-view = sym (asks-view E D i (worked E D stamp i t).state) ∙ whole-view
+    worked-view : (worked_turn E D stamp i t).state.view ≡ t.state.view
+    worked-view = sym (asks-view E D i (worked_turn E D stamp i t).state) ∙ whole-view
 
   -- ---- one that is taken
 
@@ -274,28 +274,28 @@ module _ (E : Database) (D : Deployment) (stamp i : ℕ) (P : Reported → Type 
 
   -- no word
   stays : (from : Actor) (l : Letter) → arrival s.start (site_term s) l ≡ Taken → NoWord from l → Comes D i s from l → ReportOf P from l
-      → AllByRecursion (WaitsReport P (site_term (whole E D stamp i (site_handler E D stamp i s from l)).state)) s.waiting → Result from l (whole E D stamp i (site_handler E D stamp i s from l)).state
+      → AllByRecursion (WaitsReport P (site_term (whole_turn E D stamp i (site_handler E D stamp i s from l)).state)) s.waiting → Result from l (whole_turn E D stamp i (site_handler E D stamp i s from l)).state
   stays from l a n c p reports =
       let t = site_handler E D stamp i s from l in
       let k = taken-handler E D stamp i P A W s from l n c p in
       let keeps = handler-keeps E D i stamp s from l n in
-      Stays a k.log k.leading k.other (worked E D stamp i t).state (worked-view t keeps.waits ∙ keeps.view)
+      GoesOnSame a k.log k.leading k.other (worked_turn E D stamp i t).state (worked-view t keeps.waits ∙ keeps.view)
       (on-walk t keeps.waits (record s { log = k.log }) reports k.handler) refl
 
   -- a word, for a joiner that stays one and for a member
   views : (h : ℕ) (l : Letter) (w : Membership) → l.body ≡ msg.View w → arrival s.start (site_term s) l ≡ Taken
-      → AllByRecursion (WaitsReport P (site_term (whole E D stamp i (on_view E D i stamp s w)).state)) s.waiting → Result (Agent h) l (whole E D stamp i (on_view E D i stamp s w)).state
+      → AllByRecursion (WaitsReport P (site_term (whole_turn E D stamp i (on_view E D i stamp s w)).state)) s.waiting → Result (Agent h) l (whole_turn E D stamp i (on_view E D i stamp s w)).state
   views h l w is a reports = choice (stays_joiner D i s w) refl
     where
       t : Turn SiteState
       t = on_view E D i stamp s w
 
       with : (joining : Option Joining) → (joining ≡ None → stays_joiner D i s w ≡ false) → ((x : Waiting) → In x t.state.waiting → In x s.waiting) → t.state.view ≡ Some w
-          → A (record (in_new_term s w) { joining = joining }) t.state → Result (Agent h) l (whole E D stamp i t).state
+          → A (record (in_new_term s w) { joining = joining }) t.state → Result (Agent h) l (whole_turn E D stamp i t).state
       with joining enters less view k =
-          Views a h w refl is joining enters (worked E D stamp i t).state (worked-view t less ∙ view) (on-walk t less (record (in_new_term s w) { joining = joining }) reports k) refl
+          GoesOnNew a h w refl is joining enters (worked_turn E D stamp i t).state (worked-view t less ∙ view) (on-walk t less (record (in_new_term s w) { joining = joining }) reports k) refl
 
-      choice : (c : Bool) → stays_joiner D i s w ≡ c → Result (Agent h) l (whole E D stamp i t).state
+      choice : (c : Bool) → stays_joiner D i s w ≡ c → Result (Agent h) l (whole_turn E D stamp i t).state
       choice true e = let k = view-keeps E D i stamp s w true e in
           with s.joining (λ none. ap (λ o. is_some o && not (is_member w (host_of_slot D i) s.start)) none) k.waits k.view
           (joins-walk E D stamp i (ComesPlainly D i P) (Over A) (over-steps E D stamp i P A W) s w e)
@@ -303,11 +303,11 @@ module _ (E : Database) (D : Deployment) (stamp i : ℕ) (P : Reported → Type 
           with None (λ _. e) k.waits k.view (enters-walk E D stamp i (ComesPlainly D i P) (Over A) (over-steps E D stamp i P A W) s w e)
 
   taken : (from : Actor) (l : Letter) → arrival s.start (site_term s) l ≡ Taken → Comes D i s from l → ReportOf P from l
-      → AllByRecursion (WaitsReport P (site_term (whole E D stamp i (site_handler E D stamp i s from l)).state)) s.waiting
-      → Result from l (whole E D stamp i (site_handler E D stamp i s from l)).state
+      → AllByRecursion (WaitsReport P (site_term (whole_turn E D stamp i (site_handler E D stamp i s from l)).state)) s.waiting
+      → Result from l (whole_turn E D stamp i (site_handler E D stamp i s from l)).state
   taken (Agent h) l a = elim l.body as (λ m. let x = record l { body = m } in Comes D i s (Agent h) x → ReportOf P (Agent h) x
-      → AllByRecursion (WaitsReport P (site_term (whole E D stamp i (site_handler E D stamp i s (Agent h) x)).state)) s.waiting
-      → Result (Agent h) x (whole E D stamp i (site_handler E D stamp i s (Agent h) x)).state) [
+      → AllByRecursion (WaitsReport P (site_term (whole_turn E D stamp i (site_handler E D stamp i s (Agent h) x)).state)) s.waiting
+      → Result (Agent h) x (whole_turn E D stamp i (site_handler E D stamp i s (Agent h) x)).state) [
         | msg.View w ↦ λ c p r. views h (record l { body = msg.View w }) w refl a r
         | m ↦ λ c p r. stays (Agent h) (record l { body = m }) a tt c p r
       ]
@@ -323,9 +323,9 @@ module _ (E : Database) (D : Deployment) (stamp i : ℕ) (P : Reported → Type 
       → AllByRecursion (WaitsReport P (site_term u)) s.waiting → Result from l u
 
   pub walked : (from : Actor) (l : Letter) (o : Environment) → Given from l (site_turn E D stamp i s from l o).state
-  walked from l o = turn-cases E D stamp i s from (λ t. Given from l t.state) (λ start stop joining contents out inert c p r. Ends refl refl) l o
-      (λ stop plans aside c p r. Same (λ up. none (arrival s.start (site_term s) l) refl (aside up)) refl)
-      (λ up waits c p r. Same (λ _. ap (λ a. taken_at a from l) waits) refl)
+  walked from l o = site_turn-cases E D stamp i s from (λ t. Given from l t.state) (λ start stop joining contents out inert c p r. StopsOrBegins refl refl) l o
+      (λ stop plans aside c p r. NothingSeen (λ up. none (arrival s.start (site_term s) l) refl (aside up)) refl)
+      (λ up waits c p r. NothingSeen (λ _. ap (λ a. taken_at a from l) waits) refl)
       (λ up takes c p r. taken from l takes (c takes) (p takes) r)
     where
       none : (a : Arrival) → arrival s.start (site_term s) l ≡ a → (arrival s.start (site_term s) l ≡ Taken → ForHost l) → taken_by s from l ≡ []
