@@ -25,7 +25,7 @@ use Rattle.cluster_steps.proofs.Frames.{InertLetter, InertSends, with_rest}
 use Rattle.cluster_steps.proofs.Steps.{LetsGo, MayTell, SmallSteps, MayBeTold, with_stream}
 use Rattle.cluster_steps.proofs.SiteWalk.{after_sync-walk}
 use Rattle.cluster_steps.proofs.SiteTurns.{Plain, PlainWaiting, MayTakeAsks, takes_asks-cases, handler-from, handler-known, settles-walk, sync_turn-cases, taken-walk, site_turn-cases, whole_turn, Wrote, wrote, written_site}
-use Rattle.log_laws.specs.Histories.{Holds, LogState, StreamIn, ViewIn, WaitingOk, log_at, start_at}
+use Rattle.log_laws.specs.Histories.{LogsHold, LogState, StreamIn, ViewIn, SiteWaitingOk, log_at, site_start}
 use Rattle.disk_laws.proofs.Handlers.{waiting-plain}
 use Rattle.reply_laws.specs.Answers.{Claims, ClaimsFit, HeldAnswer, HoldsAnswers, OfTerm, SentAnswer, ToInitiator, TurnAnswers, is_answer}
 use Rattle.reply_laws.proofs.Answers.{Answers, NoLog, SentFirm, all-held-on, answers-same, answers-settles, answers-steps, inert-answer, not-answer}
@@ -196,11 +196,11 @@ module _ (E : Database) (D : Deployment) (i : ℕ) (T : Claims) (fits : ClaimsFi
 -- ---- what the laws of logs give of a site
 
 -- nothing waits at it that never does
-pub waits-plain : (S : LogState) → Holds S → (i : ℕ) → 0 < start_at S i → AllByRecursion PlainWaiting (S.sites i).waiting
-waits-plain S H i up = all-mono (WaitingOk S i) PlainWaiting (waiting-plain S i) (S.sites i).waiting ((H.sites i).keeps up).waiting
+pub waits-plain : (S : LogState) → LogsHold S → (i : ℕ) → 0 < site_start S i → AllByRecursion PlainWaiting (S.sites i).waiting
+waits-plain S H i up = all-mono (SiteWaitingOk S i) PlainWaiting (waiting-plain S i) (S.sites i).waiting ((H.sites i).keeps up).waiting
 
 -- a joiner that has no stream has no entries
-pub no-log : (S : LogState) → Holds S → (i : ℕ) → NoLog (S.sites i)
+pub no-log : (S : LogState) → LogsHold S → (i : ℕ) → NoLog (S.sites i)
 no-log S H i j joins none = go (S.sites i).view refl ((H.sites i).joiner j joins).view
   where
     go : (o : Option Membership) → (S.sites i).view ≡ o → ViewIn S i j (S.sites i).view → log_at S i ≡ []
