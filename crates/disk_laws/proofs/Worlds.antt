@@ -1,5 +1,5 @@
 -- In each world of a run what disks show is well, and what was counted firm survives each event.
-use Rattle.std.proofs.Common.{◌≡◌, ◌<◌, ◌≤◌, Bool, true, false, List, [], ◌∷◌, ◌++◌, length, refl, sym, subst, ap, ◌∙◌, ◌==◌, arith}
+use Rattle.std.proofs.Common.{◌≡◌, ◌≤◌, Bool, true, false, List, [], ◌∷◌, ◌++◌, length, refl, sym, subst, ap, ◌∙◌, ◌==◌, arith}
 use Rattle.std.proofs.lemmas.Bool.{and_parts}
 use Rattle.std.proofs.lemmas.List.{length-take-le}
 use Rattle.std.specs.Prelude.{ℕ, ◌&&◌, not, nat_lt, Some, None}
@@ -14,7 +14,7 @@ use Rattle.cluster_model.specs.SiteState.{SiteState}
 use Rattle.cluster_model.specs.Agent.{agent_turn}
 use Rattle.cluster_model.specs.Sync.{may_sync, site_turn, sync_turn}
 use Rattle.cluster_model.specs.Environment.{Environment, NoFault, DiskFails, NoMemory, DisksShow}
-use Rattle.cluster_model.specs.World.{World, Stopped, Input, first_world, stamp_of, took, with_site, stops_with}
+use Rattle.cluster_model.specs.World.{World, Stopped, Input, stamp_of, took, with_site, stops_with}
 use Rattle.cluster_model.specs.Recover.{starts_anew, stays_stopped}
 use Rattle.cluster_model.specs.Events.{is_actor, is_some_letter, is_shown, is_slot_or_none, may_recover, can, allows, delivered, recovered_with, may_do, happens, step}
 use Rattle.cluster_model.specs.Runs.{Happening, Reached, RunsTo, has_failed, may_happen}
@@ -43,7 +43,6 @@ use Rattle.disk_laws.proofs.Boots.{firm_in, first-disks, anew-disks}
 use Rattle.disk_laws.proofs.Others.{disks-plain, disks-agent}
 use Rattle.disk_laws.proofs.Turning.{DisksGo}
 use Rattle.disk_laws.proofs.SiteTurns.{site_turn-kept}
-use Rattle.sql_grammar.proofs.Langs.{Goes}
 
 -- ---- worlds
 
@@ -309,9 +308,9 @@ disks-agree E input w r = reached-kept E HasDisks (λ v e may d. (step-goes E v 
     (λ is. record { logs = first-logs E input is.base; halted = false; disks = first-disks E input is.base }) r
 
 -- What is firm survives all that happens.
-pub runs-go : (E : Database) (v w : World) → RunsTo E v w → HasDisks v → Goes v w
-runs-go E v w r d = runs-kept E (Goes v) goes-on v w r (same-goes v d)
+pub runs-go : (E : Database) (v w : World) → RunsTo E v w → HasDisks v → DisksGoOn v w
+runs-go E v w r d = runs-kept E (DisksGoOn v) goes-on v w r (same-goes v d)
   where
-    goes-on : (u : World) (e : Happening) → may_happen u e ≡ true → Goes v u → Goes v (step E u e)
+    goes-on : (u : World) (e : Happening) → may_happen u e ≡ true → DisksGoOn v u → DisksGoOn v (step E u e)
     goes-on u e may g = let n = step-goes E u e may g.next in
         record { next = n.next; survives = λ p. survives-then v u (step E u e) p (g.survives p) (n.survives p) }

@@ -1,5 +1,5 @@
 -- The laws of answers, from what holds of each world.
-use Rattle.std.proofs.Common.{◌≡◌, true, ◌<◌, List, refl, subst}
+use Rattle.std.proofs.Common.{◌≡◌, true, List, refl, subst}
 use Rattle.std.specs.Prelude.{ℕ}
 use Rattle.volt_wire.specs.declared.end.End.{End}
 use Rattle.volt_wire.specs.declared.message.Msg.{Msg}

@@ -17,7 +17,7 @@ use Rattle.cluster_model.specs.Letters.{same, Letter, Turn}
 use Rattle.cluster_model.specs.SiteState.{SiteState, is_joiner, leader_in, leads, no_site, member_site}
 use Rattle.cluster_model.specs.Sync.{may_sync, site_turn, sync_turn}
 use Rattle.cluster_model.specs.Environment.{Environment, NoFault, DiskFails, NoMemory, DisksShow}
-use Rattle.cluster_model.specs.World.{World, Input, first_world, stamp_of, set_at, took, sent, rest, new_word, start_from}
+use Rattle.cluster_model.specs.World.{World, Input, stamp_of, set_at, took, sent, rest, new_word, start_from}
 use Rattle.cluster_model.specs.Recover.{new_base, new_log, new_site, starts_anew}
 use Rattle.cluster_model.specs.Events.{can, allows, delivered, recovered_with, happens, step}
 use Rattle.cluster_model.specs.Runs.{Happening, Reached, has_failed, may_happen}
@@ -256,8 +256,10 @@ step-answers E w e may d k =
 -- So it is in each world that is reached: at first no site holds an answer.
 pub answers-agree : (E : Database) (input : Input) (w : World) → Reached E input w → HasAnswers E w
 answers-agree E input w r = (reached-kept E (λ v. HasDisks v × HasAnswers E v) (λ v e may k. step-answers E v e may k.0 k.1) input w
-    (λ is. (record { logs = first-logs E input is.base; halted = false; disks = first-disks E input is.base },
-    record { held = λ i. first i (nat_lt i (slots input.deployment)); sent = λ i h. tt })) r).1
+    (λ is. (
+      record { logs = first-logs E input is.base; halted = false; disks = first-disks E input is.base },
+      record { held = λ i. first i (nat_lt i (slots input.deployment)); sent = λ i h. tt },
+    )) r).1
   where
     word : Membership
     word = new_word input.deployment input.base 1

@@ -1,5 +1,5 @@
 -- The laws of transactions, from what holds in each world of a run.
-use Rattle.std.proofs.Common.{◌≡◌, ◌<◌, true, List, ◌++◌, length, refl, ap, ◌∙◌, arith, inl, inr}
+use Rattle.std.proofs.Common.{◌≡◌, true, List, ◌++◌, length, refl, ap, ◌∙◌, arith, inl, inr}
 use Rattle.std.specs.Prelude.{ℕ, Some, None, option_map, is_none}
 use Rattle.volt_base.specs.declared.entry.Entry.{Entry}
 use Rattle.volt_base.specs.declared.entry.Outcome.{Outcome}
