@@ -12,10 +12,11 @@ use Rattle.cluster_model.specs.SiteState.{SiteState, no_site, stopped_site, memb
 use Rattle.cluster_model.specs.World.{World, Input, first_world, new_word, start_from}
 use Rattle.cluster_model.specs.Recover.{shown_of, new_base, new_log, starts_anew}
 use Rattle.word_laws.specs.Histories as word
-use Rattle.word_laws.proofs.Lists.{eqb-same, if-true, if-false, none-and-some, not-both}
-use Rattle.log_laws.specs.Histories.{Prefix, LogState, IsSlot, part, between}
+use Rattle.cluster_steps.proofs.Lists.{eqb-same, if-true, if-false, none-and-some, not-both}
+use Rattle.cluster_steps.specs.Lists.{Prefix}
+use Rattle.log_laws.specs.Histories.{LogState, IsSlot, part, between}
 use Rattle.log_laws.specs.Copies.{log_state, HasLogs}
-use Rattle.log_laws.proofs.Plain.Prefixes.{prefix-refl, prefix-same}
+use Rattle.cluster_steps.proofs.Prefixes.{prefix-refl, prefix-same}
 use Rattle.log_laws.proofs.Runs.Boots.{first_leadership, new_logs, first-logs, anew-logs, first-logs-are, anew-logs-are}
 use Rattle.disk_laws.specs.Disks.{Top, Written, Firm, MemberDisk, DiskOk, DisksHold, own_content, shown_at}
 use Rattle.disk_laws.proofs.Order.{best-in, shown-from}

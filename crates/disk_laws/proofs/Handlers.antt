@@ -1,7 +1,7 @@
 -- What a turn of a site leaves as it was of all that its disk shows, and of what the record of disks looks at.
-use Rattle.std.proofs.Common.{◌≡◌, ◌≤◌, Bool, true, false, refl, sym, ap, ◌∙◌, ◌⊎◌, inl, inr, arith}
+use Rattle.std.proofs.Common.{◌≡◌, ◌≤◌, true, refl, sym, ap, ◌∙◌, ◌⊎◌, inl, inr, arith}
 use Rattle.std.proofs.lemmas.Bool.{and_parts}
-use Rattle.std.specs.Prelude.{ℕ, not, map, if◌then◌else◌, Option, Some, None}
+use Rattle.std.specs.Prelude.{ℕ, not, map, Option, Some, None}
 use Rattle.std.specs.List.{AllByRecursion}
 use Rattle.volt_wire.specs.declared.actor.Actor.{Actor}
 use Rattle.volt_wire.specs.declared.actor.Actor.TheVariants.{Director, Client, Agent, Site, Scanner}
@@ -9,27 +9,12 @@ use Rattle.volt_wire.specs.declared.message.Msg.TheVariants as msg
 use Rattle.cluster_model.specs.Words.{Deployment, part_of_slot, is_some_of, term_in}
 use Rattle.cluster_model.specs.Letters.{Letter, Waiting, Turn, becomes, ◌▸◌}
 use Rattle.cluster_model.specs.SiteState.{SiteState, Joining, Joiner, site_term, leader_in, is_joiner, leads}
-use Rattle.word_laws.specs.Histories.{In}
-use Rattle.word_laws.proofs.Lists.{all-append, all-mono, in-map-from, none-and-some, same-some}
-use Rattle.log_laws.specs.Histories.{LogState, Prefix, HeldOk, WaitingFrom, WaitingOk}
-use Rattle.log_laws.proofs.Plain.Copies.{leader-view, leads-parts}
-use Rattle.log_laws.proofs.Plain.Prefixes.{prefix-refl, prefix-trans}
-
--- ---- messages that neither wipe a disk nor begin a term
-
-abbrev pub Plain : Actor → Letter → Type 0
-Plain (Site slot) l = elim l.body as (λ _. Type 0) [
-  | msg.StreamStart head ↦ ⊥
-  | _ ↦ Unit {0}
-]
-Plain (Agent h) l = elim l.body as (λ _. Type 0) [
-  | msg.View w ↦ ⊥
-  | _ ↦ Unit {0}
-]
-Plain from l = Unit {0}
-
-abbrev pub PlainWaiting : Waiting → Type 0
-PlainWaiting x = Plain x.from x.letter
+use Rattle.cluster_steps.specs.Lists.{In, Prefix}
+use Rattle.cluster_steps.proofs.Lists.{all-append, all-mono, in-map-from, none-and-some, same-some}
+use Rattle.cluster_steps.proofs.SiteTurns.{Plain, PlainWaiting}
+use Rattle.log_laws.specs.Histories.{LogState, HeldOk, SiteWaitingFrom, SiteWaitingOk}
+use Rattle.cluster_steps.proofs.Leaders.{leader-view, leads-parts}
+use Rattle.cluster_steps.proofs.Prefixes.{prefix-refl, prefix-trans}
 
 -- ---- the state behind a turn
 
@@ -47,8 +32,8 @@ pub record FirmRises (D : Deployment) (i : ℕ) (s u : SiteState) : Type 0 where
   pub disk : u.firm ≤ s.on_disk
   pub above : s.firm ≤ u.firm
 
--- The site of slot i came from s to u with the same disk, in the same word.
-pub record DiskAt (D : Deployment) (i : ℕ) (s u : SiteState) : Type 0 where
+-- Its start and word, and its disk as it knows that, are the same.
+pub record SameDisk (s u : SiteState) : Type 0 where
   pub start : u.start ≡ s.start
   pub greatest : u.greatest ≡ s.greatest
   pub earlier : u.earlier ≡ s.earlier
@@ -57,6 +42,27 @@ pub record DiskAt (D : Deployment) (i : ℕ) (s u : SiteState) : Type 0 where
   pub mark : u.mark ≡ s.mark
   pub base : u.base ≡ s.base
   pub on_disk : u.on_disk ≡ s.on_disk
+
+-- the second site with all that of the first one
+abbrev pub with_disk : SiteState → SiteState → SiteState
+with_disk s u = record u {
+  start = s.start;
+  greatest = s.greatest;
+  earlier = s.earlier;
+  view = s.view;
+  contents = s.contents;
+  mark = s.mark;
+  base = s.base;
+  on_disk = s.on_disk;
+}
+
+pub same-disk : (s u : SiteState) → SameDisk s (with_disk s u)
+same-disk s u = record { start = refl; greatest = refl; earlier = refl; view = refl; contents = refl; mark = refl; base = refl; on_disk = refl }
+
+-- The site of slot i came from s to u with the same disk, in the same word.
+pub record DiskAt (D : Deployment) (i : ℕ) (s u : SiteState) : Type 0 where
+  pub disk : SameDisk s u
+  pub open disk use *
   pub log : Prefix s.log u.log
   pub member : s.joining ≡ None → u.joining ≡ None
   pub joiner : (j : Joining) → s.joining ≡ Some j → (k : Joining) × (u.joining ≡ Some k) × (k.stream ≡ j.stream) × (k.is_based ≡ j.is_based)
@@ -64,7 +70,6 @@ pub record DiskAt (D : Deployment) (i : ℕ) (s u : SiteState) : Type 0 where
   pub owes : (u.owes ≡ s.owes) ⊎ ((u.owes ≡ Some (site_term s)) × (u.repaired ≡ true))
   pub firm : (u.firm ≡ s.firm) ⊎ FirmRises D i s u
   pub held : AllByRecursion HeldOk s.held → AllByRecursion HeldOk u.held
-  pub waiting : AllByRecursion PlainWaiting s.waiting → AllByRecursion PlainWaiting u.waiting
   pub counted : (c : ℕ) → Counts s c → Counts u c
 
 -- ---- a turn
@@ -77,8 +82,8 @@ pub record BeginsOk (D : Deployment) (i c : ℕ) (s u : SiteState) (l : Letter) 
   pub leads : leads D i u ≡ true
   pub counted : Counts u c
 
-abbrev pub Begins : Deployment → ℕ → ℕ → SiteState → SiteState → Letter → Type 0
-Begins D i c s u l = elim l.body as (λ _. Type 0) [
+abbrev pub BeginsStream : Deployment → ℕ → ℕ → SiteState → SiteState → Letter → Type 0
+BeginsStream D i c s u l = elim l.body as (λ _. Type 0) [
   | msg.StreamStart head ↦ BeginsOk D i c s u l head.mark
   | _ ↦ Unit {0}
 ]
@@ -86,7 +91,7 @@ Begins D i c s u l = elim l.body as (λ _. Type 0) [
 -- A turn of the site of slot i from s on: its disk and its word stay.
 pub record DiskHandler (D : Deployment) (i : ℕ) (s : SiteState) (t : Turn SiteState) : Type 0 where
   pub at : DiskAt D i s t.state
-  pub sends : AllByRecursion HeldOk s.held → (c : ℕ) → AllByRecursion (Begins D i c s t.state) (t.sends (Site c))
+  pub sends : AllByRecursion HeldOk s.held → (c : ℕ) → AllByRecursion (BeginsStream D i c s t.state) (t.sends (Site c))
 
 -- ---- what follows from it
 
@@ -131,14 +136,7 @@ module _ (D : Deployment) (i : ℕ) (s u : SiteState) (h : DiskAt D i s u) where
 -- at the first state itself
 pub at-first : (D : Deployment) (i : ℕ) (s : SiteState) → DiskAt D i s s
 at-first D i s = record {
-  start = refl;
-  greatest = refl;
-  earlier = refl;
-  view = refl;
-  contents = refl;
-  mark = refl;
-  base = refl;
-  on_disk = refl;
+  disk = same-disk s s;
   log = prefix-refl s.log;
   member = λ e. e;
   joiner = λ j e. (j, e, refl, refl);
@@ -146,7 +144,6 @@ at-first D i s = record {
   owes = inl refl;
   firm = inl refl;
   held = λ k. k;
-  waiting = λ k. k;
   counted = λ c k. k;
 }
 
@@ -174,14 +171,16 @@ module _ (D : Deployment) (i : ℕ) (s m u : SiteState) (h : DiskAt D i s m) (k 
 
   pub at-then : DiskAt D i s u
   at-then = record {
-    start = k.start ∙ h.start;
-    greatest = k.greatest ∙ h.greatest;
-    earlier = k.earlier ∙ h.earlier;
-    view = k.view ∙ h.view;
-    contents = k.contents ∙ h.contents;
-    mark = k.mark ∙ h.mark;
-    base = k.base ∙ h.base;
-    on_disk = k.on_disk ∙ h.on_disk;
+    disk = record {
+      start = k.start ∙ h.start;
+      greatest = k.greatest ∙ h.greatest;
+      earlier = k.earlier ∙ h.earlier;
+      view = k.view ∙ h.view;
+      contents = k.contents ∙ h.contents;
+      mark = k.mark ∙ h.mark;
+      base = k.base ∙ h.base;
+      on_disk = k.on_disk ∙ h.on_disk;
+    };
     log = prefix-trans s.log m.log u.log h.log k.log;
     member = λ e. k.member (h.member e);
     joiner = λ j e. let a = h.joiner j e in let b = k.joiner a.0 a.1 in (b.0, b.1, b.2 ∙ a.2, b.3 ∙ a.3);
@@ -189,13 +188,12 @@ module _ (D : Deployment) (i : ℕ) (s m u : SiteState) (h : DiskAt D i s m) (k 
     owes = then-owes h.owes k.owes;
     firm = then-firm h.firm k.firm;
     held = λ x. k.held (h.held x);
-    waiting = λ x. k.waiting (h.waiting x);
     counted = λ c x. k.counted c (h.counted c x);
   }
 
   -- what was sent on the way, and what is sent then
-  then-before : (c : ℕ) (l : Letter) → Begins D i c s m l → Begins D i c s u l
-  then-before c l = elim l.body as (λ b. Begins D i c s m (record l { body = b }) → Begins D i c s u (record l { body = b })) [
+  then-before : (c : ℕ) (l : Letter) → BeginsStream D i c s m l → BeginsStream D i c s u l
+  then-before c l = elim l.body as (λ b. BeginsStream D i c s m (record l { body = b }) → BeginsStream D i c s u (record l { body = b })) [
     | msg.StreamStart head ↦ λ x. record {
       mark_is = x.mark_is;
       term_is = x.term_is;
@@ -206,8 +204,8 @@ module _ (D : Deployment) (i : ℕ) (s m u : SiteState) (h : DiskAt D i s m) (k 
     | b ↦ λ x. tt
   ]
 
-  then-behind : (c : ℕ) (l : Letter) → Begins D i c m u l → Begins D i c s u l
-  then-behind c l = elim l.body as (λ b. Begins D i c m u (record l { body = b }) → Begins D i c s u (record l { body = b })) [
+  then-behind : (c : ℕ) (l : Letter) → BeginsStream D i c m u l → BeginsStream D i c s u l
+  then-behind c l = elim l.body as (λ b. BeginsStream D i c m u (record l { body = b }) → BeginsStream D i c s u (record l { body = b })) [
     | msg.StreamStart head ↦ λ x. record {
       mark_is = x.mark_is ∙ at-term D i s m h;
       term_is = x.term_is ∙ at-term D i s m h;
@@ -222,49 +220,28 @@ pub handler-then : (D : Deployment) (i : ℕ) (s : SiteState) (t : Turn SiteStat
     → DiskHandler D i s t → DiskHandler D i t.state (f t.state) → DiskHandler D i s (t ▸ f)
 handler-then D i s t f h k = record {
   at = at-then D i s t.state (f t.state).state h.at k.at;
-  sends = λ x c. all-append (Begins D i c s (f t.state).state) (t.sends (Site c)) ((f t.state).sends (Site c))
-      (all-mono (Begins D i c s t.state) (Begins D i c s (f t.state).state) (then-before D i s t.state (f t.state).state h.at k.at c) (t.sends (Site c)) (h.sends x c))
-      (all-mono (Begins D i c t.state (f t.state).state) (Begins D i c s (f t.state).state) (then-behind D i s t.state (f t.state).state h.at k.at c) ((f t.state).sends (Site c))
+  sends = λ x c. all-append (BeginsStream D i c s (f t.state).state) (t.sends (Site c)) ((f t.state).sends (Site c))
+      (all-mono (BeginsStream D i c s t.state) (BeginsStream D i c s (f t.state).state) (then-before D i s t.state (f t.state).state h.at k.at c) (t.sends (Site c)) (h.sends x c))
+      (all-mono (BeginsStream D i c t.state (f t.state).state) (BeginsStream D i c s (f t.state).state) (then-behind D i s t.state (f t.state).state h.at k.at c) ((f t.state).sends (Site c))
       (k.sends (h.at.held x) c));
-}
-
--- from a state on the way
-pub handler-behind : (D : Deployment) (i : ℕ) (s m : SiteState) (t : Turn SiteState) → DiskAt D i s m → DiskHandler D i m t → DiskHandler D i s t
-handler-behind D i s m t h k = record {
-  at = at-then D i s m t.state h k.at;
-  sends = λ x c. all-mono (Begins D i c m t.state) (Begins D i c s t.state) (then-behind D i s m t.state h k.at c) (t.sends (Site c)) (k.sends (h.held x) c);
 }
 
 -- a turn that sends nothing
 pub handler-becomes : (D : Deployment) (i : ℕ) (s u : SiteState) → DiskAt D i s u → DiskHandler D i s (becomes u)
 handler-becomes D i s u h = record { at = h; sends = λ x c. tt }
 
-pub handler-nothing : (D : Deployment) (i : ℕ) (s : SiteState) → DiskHandler D i s (becomes s)
-handler-nothing D i s = handler-becomes D i s s (at-first D i s)
-
--- the one turn or the other
-pub handler-if : (D : Deployment) (i : ℕ) (s : SiteState) (c : Bool) (x y : Turn SiteState) → (c ≡ true → DiskHandler D i s x) → (c ≡ false → DiskHandler D i s y)
-    → DiskHandler D i s (if c then x else y)
-handler-if D i s true x y p q = p refl
-handler-if D i s false x y p q = q refl
-
-pub at-if : (D : Deployment) (i : ℕ) (s : SiteState) (c : Bool) (x y : SiteState) → (c ≡ true → DiskAt D i s x) → (c ≡ false → DiskAt D i s y)
-    → DiskAt D i s (if c then x else y)
-at-if D i s true x y p q = p refl
-at-if D i s false x y p q = q refl
-
 -- ---- what waits
 
 -- What waits at a site is plain.
-pub waiting-plain : (S : LogState) (c : ℕ) (x : Waiting) → WaitingOk S c x → PlainWaiting x
+pub waiting-plain : (S : LogState) (c : ℕ) (x : Waiting) → SiteWaitingOk S c x → PlainWaiting x
 waiting-plain S c x k = go x.from x.letter k.1
   where
-    go : (from : Actor) (l : Letter) → WaitingFrom S c from l → Plain from l
-    go (Site j) l = elim l.body as (λ b. WaitingFrom S c (Site j) (record l { body = b }) → Plain (Site j) (record l { body = b })) [
+    go : (from : Actor) (l : Letter) → SiteWaitingFrom S c from l → Plain from l
+    go (Site j) l = elim l.body as (λ b. SiteWaitingFrom S c (Site j) (record l { body = b }) → Plain (Site j) (record l { body = b })) [
       | msg.StreamStart head ↦ λ x. x
       | b ↦ λ x. tt
     ]
-    go (Agent h) l = elim l.body as (λ b. WaitingFrom S c (Agent h) (record l { body = b }) → Plain (Agent h) (record l { body = b })) [
+    go (Agent h) l = elim l.body as (λ b. SiteWaitingFrom S c (Agent h) (record l { body = b }) → Plain (Agent h) (record l { body = b })) [
       | msg.View w ↦ λ x. x
       | b ↦ λ x. tt
     ]

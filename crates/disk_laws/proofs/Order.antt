@@ -12,11 +12,11 @@ use Rattle.cluster_model.specs.Engine.{Database}
 use Rattle.cluster_model.specs.Words.{Deployment, part_of_slot, all_parts}
 use Rattle.cluster_model.specs.Log.{open_in}
 use Rattle.cluster_model.specs.Disk.{Content, Shown, after_parts, after_failure, is_better, better, best_of, shown_of_part, chosen, mark_of, greatest_mark, greatest_open, resolved, closed, recovered}
-use Rattle.word_laws.specs.Histories.{In}
-use Rattle.word_laws.proofs.Lists.{in-left, in-right, in-cases, in-map, in-map-from, all-at, all-from, all-mono}
-use Rattle.log_laws.specs.Histories.{LogState, Prefix, IsSlot, part}
+use Rattle.cluster_steps.specs.Lists.{In, Prefix}
+use Rattle.cluster_steps.proofs.Lists.{in-left, in-right, in-cases, in-map, in-map-from, all-at, all-from, all-mono}
+use Rattle.log_laws.specs.Histories.{LogState, IsSlot, part}
 use Rattle.log_laws.proofs.Plain.Copies.{part-slots, slots-part}
-use Rattle.log_laws.proofs.Plain.Prefixes.{prefix-refl}
+use Rattle.cluster_steps.proofs.Prefixes.{prefix-refl}
 use Rattle.disk_laws.specs.Disks.{AtLeast, Top, shown_at}
 
 -- ---- one content and another
@@ -30,26 +30,16 @@ at_least-trans x (Some y) m n (inr a) (inl b) = inl (omega (arith, a.0, b))
 at_least-trans x (Some y) m n (inr a) (inr b) = inr (b.0 ∙ a.0, omega (arith, a.1, b.1))
 
 -- a content of a higher mark is as good as any of a lower one
-pub at_least-above : (t v n : ℕ) (x : Shown) → AtLeast t 0 x → v < t → AtLeast v n x
-at_least-above t v n None h l = h
-at_least-above t v n (Some x) (inl a) l = inl (omega (arith, a, l))
-at_least-above t v n (Some x) (inr a) l = inl (omega (arith, a.0, l))
-
--- so is it for less
-pub at_least-less : (m n k : ℕ) (x : Shown) → AtLeast m n x → k ≤ n → AtLeast m k x
-at_least-less m n k None h l = h
-at_least-less m n k (Some x) (inl a) l = inl a
-at_least-less m n k (Some x) (inr a) l = inr (a.0, omega (arith, a.1, l))
+pub at_least-better : (t v n : ℕ) (x : Shown) → AtLeast t 0 x → v < t → AtLeast v n x
+at_least-better t v n None h l = h
+at_least-better t v n (Some x) (inl a) l = inl (omega (arith, a, l))
+at_least-better t v n (Some x) (inr a) l = inl (omega (arith, a.0, l))
 
 -- it has that mark or a later one
 pub at_least-mark : (m n : ℕ) (x : Shown) → AtLeast m n x → m ≤ mark_of x
 at_least-mark m n None h = absurd h
 at_least-mark m n (Some x) (inl a) = omega (arith, a)
 at_least-mark m n (Some x) (inr a) = omega (arith, a.0)
-
--- what it is as good as itself
-pub at_least-self : (x : Content) → AtLeast x.mark (length x.log) (Some x)
-at_least-self x = inr (refl, omega arith)
 
 -- ---- the parts of an event
 
@@ -122,12 +112,6 @@ raise-refl xs y i = (y, i, λ m n h. h)
 pub raise-same : (xs ys : List Shown) → ys ≡ xs → Raise xs ys
 raise-same xs ys e = subst (Raise xs) (sym e) (raise-refl xs)
 
-pub raise-trans : (xs ys zs : List Shown) → Raise xs ys → Raise ys zs → Raise xs zs
-raise-trans xs ys zs f g z i =
-    let k = g z i in
-    let r = f k.0 k.1 in
-    (r.0, r.1, λ m n h. k.2 m n (r.2 m n h))
-
 -- from one content to some that are no worse
 pub raise-one : (x : Content) (ys : List Shown) → AllByRecursion (AtLeast x.mark (length x.log)) ys → Raise (Some x ∷ []) ys
 raise-one x ys h y i = (Some x, inl refl, λ m n k. at_least-trans x y m n k (all-at (AtLeast x.mark (length x.log)) ys h y i))
@@ -187,7 +171,7 @@ module _ (S T : LogState) (same : T.words.deployment ≡ S.words.deployment) whe
             slot = high.slot;
             is_slot = rw same high.is_slot;
             part_is = rw same (high.part_is ∙ ap (part S) (sym e) ∙ h.part_is);
-            all = rw (others high.slot d) (all-mono (AtLeast t 0) (AtLeast m n) (λ x k. at_least-above t m n x k low) (shown_at S high.slot) high.all);
+            all = rw (others high.slot d) (all-mono (AtLeast t 0) (AtLeast m n) (λ x k. at_least-better t m n x k low) (shown_at S high.slot) high.all);
           }
     ]
   ]
@@ -199,15 +183,6 @@ module _ (S T : LogState) (same : T.words.deployment ≡ S.words.deployment) whe
       below : (xs : List Shown) → (xs ≡ [] → ⊥) → AllByRecursion (λ x. mark_of x < t) xs → AllByRecursion (AtLeast m n) xs → m < t
       below [] f g k = absurd (f refl)
       below (x ∷ xs) f g k = let l = at_least-mark m n x k.0 in omega (arith, l, g.0)
-
--- more than is asked for
-pub top-less : (S : LogState) (p m n k : ℕ) → Top S p m n → k ≤ n → Top S p m k
-top-less S p m n k t l = record {
-  slot = t.slot;
-  is_slot = t.is_slot;
-  part_is = t.part_is;
-  all = all-mono (AtLeast m n) (AtLeast m k) (λ x h. at_least-less m n k x h l) (shown_at S t.slot) t.all;
-}
 
 -- ---- the choice of a recovery
 

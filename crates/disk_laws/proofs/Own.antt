@@ -5,10 +5,11 @@ use Rattle.std.specs.List.{AllByRecursion}
 use Rattle.cluster_model.specs.Disk.{Shown, mark_of}
 use Rattle.cluster_model.specs.Words.{Deployment}
 use Rattle.cluster_model.specs.SiteState.{SiteState, Joining, Streamed, site_term}
-use Rattle.log_laws.specs.Histories.{LogState, Prefix, Leadership, part}
+use Rattle.log_laws.specs.Histories.{LogState, Leadership, part}
+use Rattle.cluster_steps.specs.Lists.{Prefix}
 use Rattle.disk_laws.specs.Disks.{Firm, ContentOk, StreamDisk, DiskOk, own_content}
 use Rattle.disk_laws.proofs.Handlers.{DiskAt, FirmRises, at-term, at-was-member, at-was-joiner}
-use Rattle.log_laws.proofs.Plain.Prefixes.{take-grown}
+use Rattle.cluster_steps.proofs.Prefixes.{take-grown}
 
 -- Of a member, in whose partition these terms were led, and this was counted firm.
 pub record OwnMember (led : ℕ → Option Leadership) (top : ℕ) (s : SiteState) : Type 0 where

@@ -17,8 +17,9 @@ use Rattle.cluster_model.specs.World.{World}
 use Rattle.cluster_model.specs.Recover.{shown_of, all_shown, new_base, new_content, left_contents, stays_stopped}
 use Rattle.cluster_model.specs.Events.{is_stopped, may_recover, is_shown, is_slot_or_none, allows}
 use Rattle.word_laws.specs.Histories as word
-use Rattle.word_laws.specs.Histories.{In, names}
-use Rattle.word_laws.proofs.Lists.{all-at, all-from, all-mono, in-map, list_all-at, some-here}
+use Rattle.cluster_steps.specs.Lists.{In}
+use Rattle.word_laws.specs.Histories.{names}
+use Rattle.cluster_steps.proofs.Lists.{all-at, all-from, all-mono, in-map, list_all-at, some-here}
 use Rattle.log_laws.specs.Histories.{LogState, IsSlot, part, between}
 use Rattle.log_laws.specs.Copies.{log_state, HasLogs}
 use Rattle.log_laws.proofs.Plain.Copies.{range-in}
@@ -189,9 +190,9 @@ module _ (E : Database) (w : World) (k : HasLogs w) (F : Firm) (halted : Bool) (
   }
 
   -- A recovery that is stopped leaves disks of which all holds.
-  pub stopped-disks : (b : Bool) → is_stopped w ≡ true → is_shown w shown (Some (f, b)) ≡ true → is_slot_or_none w.deployment (Some (f, b)) ≡ true
+  pub halted-disks : (b : Bool) → is_stopped w ≡ true → is_shown w shown (Some (f, b)) ≡ true → is_slot_or_none w.deployment (Some (f, b)) ≡ true
       → DisksHold (after b) F true
-  stopped-disks b s e slot = record {
+  halted-disks b s e slot = record {
     disks = λ c q. let disk = K.disks c q in record {
       some = left-some c b disk.some;
       contents = left-all (ContentOk (after b) F true (part S c)) c q b e
@@ -216,4 +217,4 @@ pub stopped-hold : (E : Database) (w : World) (k : HasLogs w) (F : Firm) (halted
 stopped-hold E w k F halted K shown failed may allowed v same =
     let p = and_parts (is_shown w shown (Some failed)) (is_slot_or_none w.deployment (Some failed)) allowed in
     subst (λ G. DisksHold (log_state (stays_stopped E w shown failed) v.owner v.history G) F true) (sym same)
-    (stopped-disks E w k F halted K shown failed.0 v.owner v.history failed.1 (and_parts w.director.recovery_asked (is_stopped w) may).1 p.0 p.1)
+    (halted-disks E w k F halted K shown failed.0 v.owner v.history failed.1 (and_parts w.director.recovery_asked (is_stopped w) may).1 p.0 p.1)

@@ -9,10 +9,11 @@ use Rattle.cluster_model.specs.Disk.{Shown, mark_of}
 use Rattle.cluster_model.specs.Words.{term_of, term_in}
 use Rattle.cluster_model.specs.SiteState.{SiteState, Streamed, Joining}
 use Rattle.cluster_model.specs.Sync.{joiner_parts, parts_of_sync}
-use Rattle.word_laws.proofs.Lists.{all-mono, none-and-some, same-some, not-both}
-use Rattle.log_laws.specs.Histories.{LogState, Leadership, Prefix, Line, Holds, FollowsIn, LeadsIn, MemberOk, Took, StreamIn, ViewIn, StreamedOk, line, between, part, start_at, log_at, term_at}
+use Rattle.cluster_steps.proofs.Lists.{all-mono, none-and-some, same-some, not-both}
+use Rattle.log_laws.specs.Histories.{LogState, Leadership, Line, LogsHold, FollowsIn, LeadsIn, MemberOk, Took, StreamIn, ViewIn, StreamedOk, line, between, part, site_start, log_at, term_at}
+use Rattle.cluster_steps.specs.Lists.{Prefix}
 use Rattle.log_laws.proofs.Plain.Copies.{leads-or-follows}
-use Rattle.log_laws.proofs.Plain.Prefixes.{prefix-trans, prefix-length, prefixes-order, prefix-take, take-prefix}
+use Rattle.cluster_steps.proofs.Prefixes.{prefix-trans, prefix-length, prefixes-order, prefix-take, take-prefix}
 use Rattle.disk_laws.specs.Disks.{AtLeast, Firm, ContentOk, MemberDisk, StreamDisk, DiskOk, Written}
 use Rattle.disk_laws.proofs.Order.{Raise, raise-one, raise-blank}
 use Rattle.disk_laws.proofs.Contents.{member-written}
@@ -29,12 +30,12 @@ no-parts : (S : LogState) (F : Firm) (i : ℕ) → PartsOk S F i []
 no-parts S F i = record { contents = tt; marks = tt; raise = λ y k. absurd k }
 
 -- What a term began with that was led is in a site's log, up to a position.
-pub record Begun (S : LogState) (i mark end : ℕ) : Type 0 where
+pub record BegunContent (S : LogState) (i mark end : ℕ) : Type 0 where
   pub leadership : Leadership
   pub led : S.logs.leadership (part S i) mark ≡ Some leadership
   pub begun : Prefix leadership.begun (take end (log_at S i))
 
-module _ (S : LogState) (H : Holds S) (i : ℕ) (up : 0 < start_at S i) (F : Firm) (K : DiskOk S F false i) where
+module _ (S : LogState) (H : LogsHold S) (i : ℕ) (up : 0 < site_start S i) (F : Firm) (K : DiskOk S F false i) where
   abbrev s : SiteState
   s = S.sites i
 
@@ -66,9 +67,9 @@ module _ (S : LogState) (H : Holds S) (i : ℕ) (up : 0 < start_at S i) (F : Fir
         follow ln (Some g) e (inr k) = absurd (not-both s.repaired repaired k.1)
 
         there : (g : Leadership) × (S.logs.leadership (part S i) (term_of m.0) ≡ Some g) × Prefix g.begun s.log
-        there = elim (leads-or-follows S.words.deployment m.0 i (start_at S i) m.2.start_is) [
+        there = elim (leads-or-follows S.words.deployment m.0 i (site_start S i) m.2.start_is) [
           | inl k ↦ authoritative (S.logs.leadership (part S i) (term_of m.0)) refl (m.2.leading k)
-          | inr (l, f) ↦ follow (line (start_at S i) (term_of m.0) (between S l i)) (S.logs.leadership (part S i) (term_of m.0)) refl (m.2.following l f)
+          | inr (l, f) ↦ follow (line (site_start S i) (term_of m.0) (between S l i)) (S.logs.leadership (part S i) (term_of m.0)) refl (m.2.following l f)
         ]
 
     -- the mark that it owes is its term's
@@ -79,7 +80,7 @@ module _ (S : LogState) (H : Holds S) (i : ℕ) (up : 0 < start_at S i) (F : Fir
     ]
 
     -- a mark of a part was led, and isn't below that which it has
-    pub mark-begun : (n end : ℕ) → s.on_disk ≤ end → (n ≡ s.mark) ⊎ ((s.owes ≡ Some n) × (length s.log ≤ end)) → Begun S i n end
+    pub mark-begun : (n end : ℕ) → s.on_disk ≤ end → (n ≡ s.mark) ⊎ ((s.owes ≡ Some n) × (length s.log ≤ end)) → BegunContent S i n end
     mark-begun n end from (inl e) = record {
       leadership = disk.leadership;
       led = ap (S.logs.leadership (part S i)) e ∙ disk.led;
@@ -147,8 +148,8 @@ module _ (S : LogState) (H : Holds S) (i : ℕ) (up : 0 < start_at S i) (F : Fir
         viewed None e k = absurd (none-and-some k.stream stream)
         viewed (Some w) e k = (w, e, subst (StreamIn S i w j) stream k.stream)
 
-    ok : StreamedOk S i (term_of took.0) (record { start = start_at S i; stream_start = st.stream_start })
-    ok = H.streamed i (term_of took.0) (record { start = start_at S i; stream_start = st.stream_start }) took.2.streamed
+    ok : StreamedOk S i (term_of took.0) (record { start = site_start S i; stream_start = st.stream_start })
+    ok = H.streamed i (term_of took.0) (record { start = site_start S i; stream_start = st.stream_start }) took.2.streamed
 
     pub stream-within : st.stream_start ≤ length s.log
     stream-within = (ok.running refl).3

@@ -7,7 +7,7 @@ use Rattle.std.specs.List.{AllByRecursion}
 use Rattle.cluster_model.specs.Disk.{Shown, after_parts}
 use Rattle.cluster_model.specs.SiteState.{SiteState, Streamed, Joining, Scanning, ForJoiner, ForBase}
 use Rattle.cluster_model.specs.Sync.{content, mark_owed, split_at, batches, owed_batches, parts_of_sync, base_of, base_after, joiner_base, joiner_parts}
-use Rattle.word_laws.proofs.Lists.{all-append, all-one, all-if, not-both}
+use Rattle.cluster_steps.proofs.Lists.{all-append, all-one, all-if, not-both}
 use Rattle.disk_laws.specs.Disks.{own_content}
 use Rattle.disk_laws.proofs.Order.{after_parts-last}
 

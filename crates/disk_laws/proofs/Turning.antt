@@ -1,4 +1,4 @@
--- Disks hold after a turn with which a site takes a message, by what the turn makes of the site.
+-- Disks hold after_site a turn with which a site takes a message, by what the turn makes of the site.
 use Rattle.std.proofs.Common.{◌≡◌, ◌<◌, ◌≤◌, Bool, true, false, true≢false, List, [], ◌∷◌, length, refl, sym, subst, ap, ◌∙◌, ◌⊎◌, inl, inr, ◌==◌, arith}
 use Rattle.std.proofs.lemmas.Bool.{cases_eq}
 use Rattle.std.specs.Prelude.{ℕ, max, Option, Some, None}
@@ -13,18 +13,18 @@ use Rattle.cluster_model.specs.Letters.{Letter, Turn, becomes, sending, only, op
 use Rattle.cluster_model.specs.SiteState.{SiteState, Joining, new_joiner, new_joining, site_term, leads}
 use Rattle.cluster_model.specs.Sync.{stops_so}
 use Rattle.cluster_model.specs.World.{took}
-use Rattle.word_laws.specs.Histories.{In}
-use Rattle.word_laws.proofs.Channels.{took-all}
-use Rattle.word_laws.proofs.Lists.{all-if, all-at, all-from, all-mono, if-true, same-some}
-use Rattle.log_laws.specs.Histories.{LogState, Logs, Holds, IsSlot, HeldOk, CountedOk, part, start_at, term_at}
-use Rattle.log_laws.proofs.Plain.Copies.{leader-view, leads-parts}
-use Rattle.log_laws.proofs.Plain.Prefixes.{prefix-refl}
-use Rattle.log_laws.proofs.Kept.Moves.{Grown, NoStreamStart, after, popped}
+use Rattle.cluster_steps.specs.Lists.{In}
+use Rattle.cluster_steps.proofs.Channels.{took-all}
+use Rattle.cluster_steps.proofs.Lists.{all-if, all-at, all-from, all-mono, if-true, same-some}
+use Rattle.log_laws.specs.Histories.{LogState, Logs, LogsHold, IsSlot, HeldOk, CountedOk, part, site_start, term_at}
+use Rattle.cluster_steps.proofs.Leaders.{leader-view, leads-parts}
+use Rattle.log_laws.proofs.Kept.Moves.{Grown, NoStreamStart, after_site, site_popped}
 use Rattle.log_laws.proofs.Kept.Plumbing.{here, there}
 use Rattle.log_laws.proofs.Runs.Leading.{leads-runs}
 use Rattle.disk_laws.specs.Disks.{AtLeast, Top, Firm, ContentOk, DiskOk, StreamLetter, Halted, DisksHold, shown_at}
 use Rattle.disk_laws.proofs.Order.{Raise, raise-refl, raise-same, top-raise, top-wipe}
-use Rattle.disk_laws.proofs.Handlers.{DiskAt, DiskHandler, Counts, counts-joiner, Begins, at-term, at-was-joiner, handler-becomes}
+use Rattle.disk_laws.proofs.SiteHandlers.{disk-same}
+use Rattle.disk_laws.proofs.Handlers.{DiskHandler, Counts, counts-joiner, BeginsStream, at-term, at-was-joiner}
 use Rattle.disk_laws.proofs.Own.{OwnAt, OwnStream, disk-own, own-disk, own-handler}
 use Rattle.disk_laws.proofs.Halts.{SiteGoes, LeadersBegin, halted-site}
 use Rattle.disk_laws.proofs.SiteDisks.{Raised, contents-on, disk-on, disk-other, disks-after}
@@ -36,12 +36,12 @@ pub record DisksGo (S T : LogState) (M : Firm) (halted : Bool) : Type 0 where
   pub tops : (p m n : ℕ) → Top S p m n → Top T p m n
   pub still : halted ≡ true → (c : ℕ) (y : Shown) → In y (shown_at T c) → In y (shown_at S c)
 
--- Disks hold after this turn of the site of slot i, with which it takes the first message from this actor: with what the leader of its
+-- Disks hold after_site this turn of the site of slot i, with which it takes the first message from this actor: with what the leader of its
 -- partition, where it leads, has counted firm by then.
 abbrev pub Kept : LogState → Firm → Bool → Actor → ℕ → Turn SiteState → Type 0
 Kept S F halted from i t =
-    (M : Firm) (G : Logs) → Holds (after (popped S from i) i t.state t.sends G) → Grown S.words.deployment i t.state S.logs G
-    → Raised S.words.deployment i t.state F M → DisksGo S (after (popped S from i) i t.state t.sends G) M halted
+    (M : Firm) (G : Logs) → LogsHold (after_site (site_popped S from i) i t.state t.sends G) → Grown S.words.deployment i t.state S.logs G
+    → Raised S.words.deployment i t.state F M → DisksGo S (after_site (site_popped S from i) i t.state t.sends G) M halted
 
 -- The disk of slot i may be wiped: another slot of its partition shows this mark or a later one, and all of its own are lower.
 pub record Wiped (S : LogState) (i : ℕ) : Type 0 where
@@ -50,7 +50,7 @@ pub record Wiped (S : LogState) (i : ℕ) : Type 0 where
   pub top : Top S (part S i) mark 0
 
 -- What it shows then, of what it showed, or blank; while all is stopped nothing is wiped.
-pub record Leaves (S : LogState) (halted : Bool) (i : ℕ) (xs : List Shown) : Type 0 where
+pub record LeavesShown (S : LogState) (halted : Bool) (i : ℕ) (xs : List Shown) : Type 0 where
   pub some : (xs ≡ []) → ⊥
   pub from : (y : Shown) → In y xs → In y (shown_at S i) ⊎ (y ≡ None)
   pub still : halted ≡ true → (y : Shown) → In y xs → In y (shown_at S i)
@@ -66,8 +66,8 @@ leaders-letter D i s l k = elim l.body as (λ m. NoStreamStart (record l { body 
   | m ↦ λ k. tt
 ] k
 
-begins-leader : (D : Deployment) (i c : ℕ) (m s : SiteState) (l : Letter) → Begins D i c m s l → LeadersBegin D i s l
-begins-leader D i c m s l k = elim l.body as (λ b. Begins D i c m s (record l { body = b }) → LeadersBegin D i s (record l { body = b })) [
+begins-leader : (D : Deployment) (i c : ℕ) (m s : SiteState) (l : Letter) → BeginsStream D i c m s l → LeadersBegin D i s l
+begins-leader D i c m s l k = elim l.body as (λ b. BeginsStream D i c m s (record l { body = b }) → LeadersBegin D i s (record l { body = b })) [
   | msg.StreamStart head ↦ λ k. k.leads
   | b ↦ λ k. tt
 ] k
@@ -84,7 +84,7 @@ no-letter S c l k = elim l.body as (λ m. NoStreamStart (record l { body = m }) 
 ] k
 
 -- what the site counted firm is no more than what was
-pub firm-before : (S : LogState) → Holds S → (F : Firm) (halted : Bool) → DisksHold S F halted → (i : ℕ) → IsSlot S i → 0 < start_at S i → (S.sites i).firm ≤ F (part S i)
+pub firm-before : (S : LogState) → LogsHold S → (F : Firm) (halted : Bool) → DisksHold S F halted → (i : ℕ) → IsSlot S i → 0 < site_start S i → (S.sites i).firm ≤ F (part S i)
 firm-before S H F halted K i slot up = choice (S.sites i).joining refl
   where
     choice : (o : Option Joining) → (S.sites i).joining ≡ o → (S.sites i).firm ≤ F (part S i)
@@ -93,15 +93,15 @@ firm-before S H F halted K i slot up = choice (S.sites i).joining refl
 
 -- ---- a turn, with fewer messages under way
 
-module _ (S : LogState) (H : Holds S) (F : Firm) (halted : Bool) (K : DisksHold S F halted) (ch : Actor → Actor → List Letter)
+module _ (S : LogState) (H : LogsHold S) (F : Firm) (halted : Bool) (K : DisksHold S F halted) (ch : Actor → Actor → List Letter)
     (fewer : (a b : Actor) (l : Letter) → In l (ch a b) → In l (S.words.channel a b)) (i : ℕ) (slot : IsSlot S i) where
   abbrev less : LogState
   less = record S { words = record S.words { channel = ch } }
 
-  module _ (t : Turn SiteState) (M : Firm) (G : Logs) (L : Holds (after less i t.state t.sends G)) (grown : Grown S.words.deployment i t.state S.logs G)
-      (raised : Raised S.words.deployment i t.state F M) (halts : halted ≡ true → Halted (after less i t.state t.sends G)) where
+  module _ (t : Turn SiteState) (M : Firm) (G : Logs) (L : LogsHold (after_site less i t.state t.sends G)) (grown : Grown S.words.deployment i t.state S.logs G)
+      (raised : Raised S.words.deployment i t.state F M) (halts : halted ≡ true → Halted (after_site less i t.state t.sends G)) where
     abbrev T : LogState
-    T = after less i t.state t.sends G
+    T = after_site less i t.state t.sends G
 
     abbrev C : Shown → Type 0
     C = ContentOk T M halted (part S i)
@@ -166,8 +166,8 @@ module _ (S : LogState) (H : Holds S) (F : Firm) (halted : Bool) (K : DisksHold 
       own = own-disk T M halted i t.state site (own-handler S.words.deployment i m t.state handler.at halted C (G.leadership (part S i)) (M (part S i)) whole
           (λ r. let e = raised.own ∙ if-true (leads S.words.deployment i t.state) (max (F (part S i)) t.state.firm) (F (part S i)) r.leads in omega (arith, e)) o)
 
-      letter : (c : ℕ) (l : Letter) → Begins S.words.deployment i c m t.state l → StreamLetter T c l
-      letter c l k = elim l.body as (λ b. Begins S.words.deployment i c m t.state (record l { body = b }) → StreamLetter T c (record l { body = b })) [
+      letter : (c : ℕ) (l : Letter) → BeginsStream S.words.deployment i c m t.state l → StreamLetter T c l
+      letter c l k = elim l.body as (λ b. BeginsStream S.words.deployment i c m t.state (record l { body = b }) → StreamLetter T c (record l { body = b })) [
         | msg.StreamStart head ↦ λ k. record {
           mark_is = k.mark_is ∙ sym k.term_is;
           top = record {
@@ -180,7 +180,7 @@ module _ (S : LogState) (H : Holds S) (F : Firm) (halted : Bool) (K : DisksHold 
         | b ↦ λ k. tt
       ] k
         where
-          there-up : 0 < start_at T i
+          there-up : 0 < site_start T i
           there-up = subst (λ x. 0 < x.start) (sym site) up
 
           -- the receiver is of the site's partition, which counts it
@@ -198,7 +198,7 @@ module _ (S : LogState) (H : Holds S) (F : Firm) (halted : Bool) (K : DisksHold 
       pub handler-disks : AllByRecursion HeldOk m.held → m.firm ≤ F (part S i) → ((p n k : ℕ) → Top S p n k → Top T p n k)
           → (halted ≡ true → (y : Shown) → In y t.state.contents → In y (shown_at S i)) → DisksGo S T M halted
       handler-disks held firm tops still = assembled own tops still counted
-          (λ c _. all-mono (Begins S.words.deployment i c m t.state) (StreamLetter T c) (letter c) (t.sends (Site c)) (handler.sends held c))
+          (λ c _. all-mono (BeginsStream S.words.deployment i c m t.state) (StreamLetter T c) (letter c) (t.sends (Site c)) (handler.sends held c))
         where
           counted : leads S.words.deployment i t.state ≡ true → (t.state.firm ≤ F (part S i)) ⊎ ((t.state.mark ≡ site_term t.state) × (t.state.firm ≤ t.state.on_disk))
           counted l = elim handler.at.firm [
@@ -206,7 +206,7 @@ module _ (S : LogState) (H : Holds S) (F : Firm) (halted : Bool) (K : DisksHold 
             | inr r ↦ inr (handler.at.mark ∙ r.mark ∙ sym (at-term S.words.deployment i m t.state handler.at), (let a = r.disk in let b = handler.at.on_disk in omega (arith, a, b)))
           ]
 
-    pub handler-same : 0 < start_at S i → DiskHandler S.words.deployment i (S.sites i) t → DisksGo S T M halted
+    pub handler-same : 0 < site_start S i → DiskHandler S.words.deployment i (S.sites i) t → DisksGo S T M halted
     handler-same up handler = handler-disks (S.sites i) own-before ((H.sites i).keeps up).on_disk handler (subst (λ n. 0 < n) (sym handler.at.start) up) ((H.sites i).keeps up).held
         (firm-before S H F halted K i slot up) (same-tops handler.at.contents) (same-still handler.at.contents)
 
@@ -218,7 +218,7 @@ module _ (S : LogState) (H : Holds S) (F : Firm) (halted : Bool) (K : DisksHold 
     stopped-disks down some contents marks tops still none = assembled own tops still (λ l. let u = leader-up l in absurd (omega (arith, u, down)))
         (λ c _. all-mono NoStreamStart (StreamLetter T c) (no-letter T c) (t.sends (Site c)) (none c))
       where
-        down-there : start_at T i ≡ 0
+        down-there : site_start T i ≡ 0
         down-there = ap (λ x. x.start) site ∙ down
 
         own : DiskOk T M halted i
@@ -231,7 +231,7 @@ module _ (S : LogState) (H : Holds S) (F : Firm) (halted : Bool) (K : DisksHold 
         }
 
     -- with what its disk showed, or blank
-    pub stops-disks : t.state.start ≡ 0 → t.state.greatest ≡ (S.sites i).greatest → Leaves S halted i t.state.contents
+    pub stops-disks : t.state.start ≡ 0 → t.state.greatest ≡ (S.sites i).greatest → LeavesShown S halted i t.state.contents
         → ((c : ℕ) → AllByRecursion NoStreamStart (t.sends (Site c))) → DisksGo S T M halted
     stops-disks down greatest k = stopped-disks down k.some (all-from C t.state.contents contents)
         (λ e. all-from (λ y. mark_of y ≤ t.state.greatest) t.state.contents (mark e)) tops k.still
@@ -283,14 +283,14 @@ module _ (S : LogState) (H : Holds S) (F : Firm) (halted : Bool) (K : DisksHold 
 
   -- ---- what goes on while all is stopped
 
-  pub halts-after : (t : Turn SiteState) (G : Logs) → Holds (after less i t.state t.sends G) → SiteGoes S i t.state
-      → ((c : ℕ) → AllByRecursion (LeadersBegin S.words.deployment i t.state) (t.sends (Site c))) → halted ≡ true → Halted (after less i t.state t.sends G)
+  pub halts-after : (t : Turn SiteState) (G : Logs) → LogsHold (after_site less i t.state t.sends G) → SiteGoes S i t.state
+      → ((c : ℕ) → AllByRecursion (LeadersBegin S.words.deployment i t.state) (t.sends (Site c))) → halted ≡ true → Halted (after_site less i t.state t.sends G)
   halts-after t G L goes begins e = halted-site S H (K.halts e) ch fewer i slot t.state t.sends G L goes begins
 
 -- ---- behind a turn that leaves the disk, from a state on
 
 module _ (S : LogState) (i : ℕ) where
-  pub handler-goes : (t : Turn SiteState) (m : SiteState) → DiskHandler S.words.deployment i m t → m.start ≡ start_at S i
+  pub handler-goes : (t : Turn SiteState) (m : SiteState) → DiskHandler S.words.deployment i m t → m.start ≡ site_start S i
       → ((j : Joining) → m.joining ≡ Some j → (k : Joining) × ((S.sites i).joining ≡ Some k) × (j.stream ≡ k.stream)) → SiteGoes S i t.state
   handler-goes t m handler start joins = inr (inl (
     handler.at.start ∙ start,
@@ -302,7 +302,7 @@ module _ (S : LogState) (i : ℕ) where
 
   pub handler-begins : (t : Turn SiteState) (m : SiteState) → DiskHandler S.words.deployment i m t → AllByRecursion HeldOk m.held
       → (c : ℕ) → AllByRecursion (LeadersBegin S.words.deployment i t.state) (t.sends (Site c))
-  handler-begins t m handler held c = all-mono (Begins S.words.deployment i c m t.state) (LeadersBegin S.words.deployment i t.state)
+  handler-begins t m handler held c = all-mono (BeginsStream S.words.deployment i c m t.state) (LeadersBegin S.words.deployment i t.state)
       (begins-leader S.words.deployment i c m t.state) (t.sends (Site c)) (handler.sends held c)
 
 -- ---- the turns
@@ -315,14 +315,14 @@ pub fewer : (S : LogState) (from : Actor) (i : ℕ) (a b : Actor) (l : Letter) �
 fewer S from i a b l m = all-at (λ x. In x (S.words.channel a b)) (taken-from S from i a b)
     (took-all (λ x. In x (S.words.channel a b)) S.words.channel from (Site i) a b (all-from (λ x. In x (S.words.channel a b)) (S.words.channel a b) (λ x k. k))) l m
 
-module _ (S : LogState) (H : Holds S) (F : Firm) (halted : Bool) (K : DisksHold S F halted) (from : Actor) (i : ℕ) (slot : IsSlot S i) where
+module _ (S : LogState) (H : LogsHold S) (F : Firm) (halted : Bool) (K : DisksHold S F halted) (from : Actor) (i : ℕ) (slot : IsSlot S i) where
   abbrev ch : Actor → Actor → List Letter
   ch = taken-from S from i
 
   abbrev on : (a b : Actor) (l : Letter) → In l (ch a b) → In l (S.words.channel a b)
   on = fewer S from i
 
-  pub handler-kept : (t : Turn SiteState) → 0 < start_at S i → DiskHandler S.words.deployment i (S.sites i) t → Kept S F halted from i t
+  pub handler-kept : (t : Turn SiteState) → 0 < site_start S i → DiskHandler S.words.deployment i (S.sites i) t → Kept S F halted from i t
   handler-kept t up handler M G L grown raised = handler-same S H F halted K ch on i slot t M G L grown raised
       (halts-after S H F halted K ch on i slot t G L (handler-goes S i t (S.sites i) handler refl (λ j e. (j, e, refl)))
       (handler-begins S i t (S.sites i) handler ((H.sites i).keeps up).held)) up handler
@@ -338,7 +338,7 @@ module _ (S : LogState) (H : Holds S) (F : Firm) (halted : Bool) (K : DisksHold 
       begins-disks S H F halted K ch on i slot t M G L grown raised
       (halts-after S H F halted K ch on i slot t G L (inr (inr ((new_joining, refl, refl), fresh))) (λ c. tt)) a refl (λ c. refl)
 
-  pub stops-kept : (t : Turn SiteState) → t.state.start ≡ 0 → t.state.greatest ≡ (S.sites i).greatest → Leaves S halted i t.state.contents
+  pub stops-kept : (t : Turn SiteState) → t.state.start ≡ 0 → t.state.greatest ≡ (S.sites i).greatest → LeavesShown S halted i t.state.contents
       → ((c : ℕ) → AllByRecursion NoStreamStart (t.sends (Site c))) → Kept S F halted from i t
   stops-kept t down greatest k none M G L grown raised = stops-disks S H F halted K ch on i slot t M G L grown raised
       (halts-after S H F halted K ch on i slot t G L (inl down) (λ c.
@@ -346,34 +346,13 @@ module _ (S : LogState) (H : Holds S) (F : Firm) (halted : Bool) (K : DisksHold 
       down greatest k none
 
   -- where the disk stays
-  pub leaves-same : Leaves S halted i (shown_at S i)
+  pub leaves-same : LeavesShown S halted i (shown_at S i)
   leaves-same = record { some = (K.disks i slot).some; from = λ y m. inl m; still = λ e y m. m; wipes = inl (raise-refl (shown_at S i)) }
 
   -- a number is noted
-  noted : (stop : ℕ) (plans : List (ℕ × ℕ)) → DiskAt S.words.deployment i (S.sites i) (record (S.sites i) { stop = stop; plans = plans })
-  noted stop plans = record {
-    start = refl;
-    greatest = refl;
-    earlier = refl;
-    view = refl;
-    contents = refl;
-    mark = refl;
-    base = refl;
-    on_disk = refl;
-    log = prefix-refl (S.sites i).log;
-    member = λ e. e;
-    joiner = λ j e. (j, e, refl, refl);
-    repaired = λ e. e;
-    owes = inl refl;
-    firm = inl refl;
-    held = λ k. k;
-    waiting = λ k. k;
-    counted = λ c k. k;
-  }
-
   pub noted-kept : (stop : ℕ) (plans : List (ℕ × ℕ)) → Kept S F halted from i (becomes (record (S.sites i) { stop = stop; plans = plans }))
-  noted-kept stop plans = elim (cases_eq (start_at S i) 0) [
+  noted-kept stop plans = elim (cases_eq (site_start S i) 0) [
     | inl z ↦ stops-kept (becomes (record (S.sites i) { stop = stop; plans = plans })) z refl leaves-same (λ c. tt)
     | inr n ↦ handler-kept (becomes (record (S.sites i) { stop = stop; plans = plans })) (omega (arith, n))
-        (handler-becomes S.words.deployment i (S.sites i) (record (S.sites i) { stop = stop; plans = plans }) (noted stop plans))
+        (disk-same S.words.deployment i (S.sites i) (record (S.sites i) { stop = stop; plans = plans }) refl refl refl)
   ]

@@ -1,5 +1,5 @@
 -- In each world of a run what disks show is well, and what was counted firm survives each event.
-use Rattle.std.proofs.Common.{◌≡◌, ◌<◌, ◌≤◌, Bool, true, false, List, [], ◌∷◌, ◌++◌, length, refl, sym, subst, ap, ◌∙◌, ◌==◌, arith}
+use Rattle.std.proofs.Common.{◌≡◌, ◌≤◌, Bool, true, false, List, [], ◌∷◌, ◌++◌, length, refl, sym, subst, ap, ◌∙◌, ◌==◌, arith}
 use Rattle.std.proofs.lemmas.Bool.{and_parts}
 use Rattle.std.proofs.lemmas.List.{length-take-le}
 use Rattle.std.specs.Prelude.{ℕ, ◌&&◌, not, nat_lt, Some, None}
@@ -14,18 +14,19 @@ use Rattle.cluster_model.specs.SiteState.{SiteState}
 use Rattle.cluster_model.specs.Agent.{agent_turn}
 use Rattle.cluster_model.specs.Sync.{may_sync, site_turn, sync_turn}
 use Rattle.cluster_model.specs.Environment.{Environment, NoFault, DiskFails, NoMemory, DisksShow}
-use Rattle.cluster_model.specs.World.{World, Stopped, Input, first_world, stamp_of, took, with_site, stops_with}
+use Rattle.cluster_model.specs.World.{World, Stopped, Input, stamp_of, took, with_site, stops_with}
 use Rattle.cluster_model.specs.Recover.{starts_anew, stays_stopped}
 use Rattle.cluster_model.specs.Events.{is_actor, is_some_letter, is_shown, is_slot_or_none, may_recover, can, allows, delivered, recovered_with, may_do, happens, step}
-use Rattle.cluster_model.specs.Runs.{Happening, IsRun, has_failed, may_happen, run}
-use Rattle.word_laws.proofs.Lists.{if-false}
+use Rattle.cluster_model.specs.Runs.{Happening, Reached, RunsTo, has_failed, may_happen}
+use Rattle.cluster_model.proofs.Runs.{reached-kept, runs-kept}
+use Rattle.cluster_steps.proofs.Lists.{if-false}
 use Rattle.word_laws.proofs.Worlds.{actor-host, host-apart, memory-runs}
-use Rattle.log_laws.specs.Histories.{Logs, LogState, Holds}
+use Rattle.log_laws.specs.Histories.{Logs, LogState, LogsHold}
 use Rattle.log_laws.specs.Copies.{log_state, HasLogs}
-use Rattle.log_laws.proofs.Plain.Prefixes.{prefix-trans, prefix-length, prefixes-order, prefix-take}
+use Rattle.cluster_steps.proofs.Prefixes.{prefix-trans, prefix-length, prefixes-order, prefix-take}
 use Rattle.log_laws.proofs.Kept.Moves.{Grown, Onward}
 use Rattle.log_laws.proofs.Kept.Grown.{onward-same}
-use Rattle.log_laws.proofs.Runs.Leading.{Rises, rises-same}
+use Rattle.log_laws.proofs.Runs.Leading.{AuthoritativeRises, rises-same}
 use Rattle.log_laws.proofs.Runs.Boots.{first-logs, anew-logs}
 use Rattle.log_laws.proofs.Runs.Others.{Keeps, to_client-logs, to_director-logs, to_scanner-logs, scan-logs, submit-logs, next-logs, stopped-logs}
 use Rattle.log_laws.proofs.Agents.AgentEvents.{agent-event}
@@ -52,14 +53,14 @@ pub record HasDisks (w : World) : Type 0 where
   pub disks : DisksHold (log_state w logs.owner logs.history logs.logs) (firm_in w) halted
 
 -- So it is in a later world, and what was firm survives.
-pub record Goes (w v : World) : Type 0 where
+pub record DisksGoOn (w v : World) : Type 0 where
   pub next : HasDisks v
   pub survives : (p : ℕ) → Survives w v p
 
 -- ---- what survives
 
 -- in one epoch
-survives-onward : (w v : World) (k : HasLogs w) (n : HasLogs v) → Onward k.logs n.logs → ((p : ℕ) → Rises (w.authoritative p) (v.authoritative p)) → (p : ℕ) → Survives w v p
+survives-onward : (w v : World) (k : HasLogs w) (n : HasLogs v) → Onward k.logs n.logs → ((p : ℕ) → AuthoritativeRises (w.authoritative p) (v.authoritative p)) → (p : ℕ) → Survives w v p
 survives-onward w v k n onward rises p = let f = keeps-firm w v k n onward rises p in record { within = f.within; more = f.more; kept = f.kept }
 
 pub survives-same : (w : World) (k : HasLogs w) (p : ℕ) → Survives w w p
@@ -93,11 +94,11 @@ survives-anew E w shown d e p =
 
 -- ---- later worlds
 
-same-goes : (w : World) → HasDisks w → Goes w w
+same-goes : (w : World) → HasDisks w → DisksGoOn w w
 same-goes w d = record { next = d; survives = survives-same w d.logs }
 
 -- with the same histories of words and logs
-keeps-goes : (w v : World) (d : HasDisks w) (n : Keeps w d.logs v) → DisksHold (log_state v n.next.owner d.logs.history d.logs.logs) (firm_in v) d.halted → Goes w v
+keeps-goes : (w v : World) (d : HasDisks w) (n : Keeps w d.logs v) → DisksHold (log_state v n.next.owner d.logs.history d.logs.logs) (firm_in v) d.halted → DisksGoOn w v
 keeps-goes w v d n disks = record {
   next = record {
     logs = n.next;
@@ -110,10 +111,10 @@ keeps-goes w v d n disks = record {
   where
     keeps-survives : (w v : World) (d : HasDisks w) (n : Keeps w d.logs v) → (p : ℕ) → Survives w v p
     keeps-survives w v d n = survives-onward w v d.logs n.next (subst (Onward d.logs.logs) (sym n.logs) (onward-same d.logs.logs))
-        (λ p. subst (Rises (w.authoritative p)) (ap (λ f. f p) (sym n.authoritative)) (rises-same (w.authoritative p)))
+        (λ p. subst (AuthoritativeRises (w.authoritative p)) (ap (λ f. f p) (sym n.authoritative)) (rises-same (w.authoritative p)))
 
 -- the event is noted in the trace
-noted : (w v : World) (trace : List Event) → Goes w v → Goes w (record v { trace = trace })
+noted : (w v : World) (trace : List Event) → DisksGoOn w v → DisksGoOn w (record v { trace = trace })
 noted w v trace g = let n = g.next.logs in record {
   next = record {
     logs = record { owner = n.owner; history = n.history; logs = n.logs; holds = n.holds; strangers = n.strangers; authoritative = n.authoritative; counted = n.counted };
@@ -134,21 +135,21 @@ module _ (w : World) (d : HasDisks w) where
       → DisksHold (record S { words = record S.words { next = next; channel = ch; owner = owner } }) (firm_in w) d.halted
   plain = disks-plain S (firm_in w) d.halted d.disks
 
-to_client-goes : (E : Database) (w : World) (n : ℕ) (from : Actor) (ls : List Letter) (o : Environment) → HasDisks w → Goes w (delivered E w (Client n) from ls o)
+to_client-goes : (E : Database) (w : World) (n : ℕ) (from : Actor) (ls : List Letter) (o : Environment) → HasDisks w → DisksGoOn w (delivered E w (Client n) from ls o)
 to_client-goes E w n from [] o d = same-goes w d
 to_client-goes E w n from (l ∷ ls) o d =
     let v = delivered E w (Client n) from (l ∷ ls) o in
     let k = to_client-logs E w n from (l ∷ ls) o d.logs in
     keeps-goes w v d k (plain w d v.director.next_start v.channel k.next.owner (λ i c. refl))
 
-to_director-goes : (E : Database) (w : World) (from : Actor) (ls : List Letter) (o : Environment) → HasDisks w → Goes w (delivered E w Director from ls o)
+to_director-goes : (E : Database) (w : World) (from : Actor) (ls : List Letter) (o : Environment) → HasDisks w → DisksGoOn w (delivered E w Director from ls o)
 to_director-goes E w from [] o d = same-goes w d
 to_director-goes E w from (l ∷ ls) o d =
     let v = delivered E w Director from (l ∷ ls) o in
     let k = to_director-logs E w from (l ∷ ls) o d.logs in
     keeps-goes w v d k (plain w d v.director.next_start v.channel k.next.owner (λ i c. refl))
 
-to_scanner-goes : (E : Database) (w : World) (i : ℕ) (from : Actor) (ls : List Letter) (o : Environment) → HasDisks w → Goes w (delivered E w (Scanner i) from ls o)
+to_scanner-goes : (E : Database) (w : World) (i : ℕ) (from : Actor) (ls : List Letter) (o : Environment) → HasDisks w → DisksGoOn w (delivered E w (Scanner i) from ls o)
 to_scanner-goes E w i from [] o d = same-goes w d
 to_scanner-goes E w i from (l ∷ ls) o d =
     let v = delivered E w (Scanner i) from (l ∷ ls) o in
@@ -156,19 +157,19 @@ to_scanner-goes E w i from (l ∷ ls) o d =
     keeps-goes w v d k (plain w d v.director.next_start v.channel k.next.owner (λ i c. refl))
 
 -- what they do of themselves
-scan-goes : (E : Database) (w : World) (i : ℕ) (o : Environment) → HasDisks w → Goes w (happens E w (event.Scan i) o)
+scan-goes : (E : Database) (w : World) (i : ℕ) (o : Environment) → HasDisks w → DisksGoOn w (happens E w (event.Scan i) o)
 scan-goes E w i o d =
     let v = happens E w (event.Scan i) o in
     let k = scan-logs w i o d.logs in
     keeps-goes w v d k (plain w d v.director.next_start v.channel k.next.owner (λ i c. refl))
 
-submit-goes : (E : Database) (w : World) (n : ℕ) (o : Environment) → HasDisks w → Goes w (happens E w (event.Submit n) o)
+submit-goes : (E : Database) (w : World) (n : ℕ) (o : Environment) → HasDisks w → DisksGoOn w (happens E w (event.Submit n) o)
 submit-goes E w n o d =
     let v = happens E w (event.Submit n) o in
     let k = submit-logs w n d.logs in
     keeps-goes w v d k (plain w d v.director.next_start v.channel k.next.owner (λ i c. refl))
 
-item-goes : (E : Database) (w : World) (o : Environment) → HasDisks w → Goes w (happens E w event.Item o)
+item-goes : (E : Database) (w : World) (o : Environment) → HasDisks w → DisksGoOn w (happens E w event.Item o)
 item-goes E w o d =
     let v = happens E w event.Item o in
     let k = next-logs w (may_do w w.director.items) w.director.items d.logs in
@@ -177,7 +178,7 @@ item-goes E w o d =
 -- ---- events of agents
 
 to_agent-goes : (E : Database) (w : World) (n : ℕ) (from : Actor) (ls : List Letter) (o : Environment) → HasDisks w → w.channel from (Agent n) ≡ ls
-    → is_host w.deployment n ≡ true → allows w (event.Deliver (Agent n) from) o ≡ true → Goes w (delivered E w (Agent n) from ls o)
+    → is_host w.deployment n ≡ true → allows w (event.Deliver (Agent n) from) o ≡ true → DisksGoOn w (delivered E w (Agent n) from ls o)
 to_agent-goes E w n from [] o d is host may = same-goes w d
 to_agent-goes E w n from (l ∷ ls) o d is host may =
     let k = d.logs in
@@ -206,8 +207,8 @@ module _ (w : World) (d : HasDisks w) (channel : Actor → Actor → List Letter
   abbrev after-turn : World
   after-turn = with_site (record w { channel = channel; stops = stops }) i t
 
-  site-goes : (G : Logs) (H : Holds (log_state after-turn d.logs.owner d.logs.history G)) → Grown w.deployment i t.state d.logs.logs G
-      → DisksGo (log_state w d.logs.owner d.logs.history d.logs.logs) (log_state after-turn d.logs.owner d.logs.history G) (firm_in after-turn) d.halted → Goes w after-turn
+  site-goes : (G : Logs) (H : LogsHold (log_state after-turn d.logs.owner d.logs.history G)) → Grown w.deployment i t.state d.logs.logs G
+      → DisksGo (log_state w d.logs.owner d.logs.history d.logs.logs) (log_state after-turn d.logs.owner d.logs.history G) (firm_in after-turn) d.halted → DisksGoOn w after-turn
   site-goes G H grown go =
       let k = d.logs in
       let r = site-reaches w false k channel stops i t G H grown in
@@ -224,7 +225,7 @@ module _ (w : World) (d : HasDisks w) (channel : Actor → Actor → List Letter
       }
 
 to_site-goes : (E : Database) (w : World) (i : ℕ) (from : Actor) (ls : List Letter) (o : Environment) → HasDisks w → w.channel from (Site i) ≡ ls
-    → nat_lt i (slots w.deployment) ≡ true → Goes w (delivered E w (Site i) from ls o)
+    → nat_lt i (slots w.deployment) ≡ true → DisksGoOn w (delivered E w (Site i) from ls o)
 to_site-goes E w i from [] o d is slot = same-goes w d
 to_site-goes E w i from (l ∷ ls) o d is slot =
     let k = d.logs in
@@ -238,7 +239,7 @@ to_site-goes E w i from (l ∷ ls) o d is slot =
     (authoritative-raised w.deployment i t.state w.authoritative))
 
 sync-goes : (E : Database) (w : World) (i : ℕ) (o : Environment) → HasDisks w → nat_lt i (slots w.deployment) ≡ true → may_sync (w.sites i) ≡ true
-    → Goes w (happens E w (event.Sync i) o)
+    → DisksGoOn w (happens E w (event.Sync i) o)
 sync-goes E w i o d slot may =
     let k = d.logs in
     let S = log_state w k.owner k.history k.logs in
@@ -250,14 +251,14 @@ sync-goes E w i o d slot may =
 
 -- ---- recoveries
 
-anew-goes : (E : Database) (w : World) (shown : List ℕ) → HasDisks w → is_shown w shown None ≡ true → Goes w (starts_anew E w shown)
+anew-goes : (E : Database) (w : World) (shown : List ℕ) → HasDisks w → is_shown w shown None ≡ true → DisksGoOn w (starts_anew E w shown)
 anew-goes E w shown d e = record {
   next = record { logs = anew-logs E w shown d.logs; halted = false; disks = anew-disks E w shown d.logs (firm_in w) d.halted d.disks };
   survives = survives-anew E w shown d e;
 }
 
 stopped-goes : (E : Database) (w : World) (shown : List ℕ) (failed : ℕ × Bool) → HasDisks w → may_recover w ≡ true → allows w event.Recover (DisksShow shown (Some failed)) ≡ true
-    → Goes w (stays_stopped E w shown failed)
+    → DisksGoOn w (stays_stopped E w shown failed)
 stopped-goes E w shown failed d may environment =
     let n = stopped-logs E w shown failed d.logs in
     record {
@@ -266,7 +267,7 @@ stopped-goes E w shown failed d may environment =
           (subst (Onward d.logs.logs) (sym n.logs) (onward-same d.logs.logs)) (λ p. rises-same (w.authoritative p));
     }
 
-recovery-goes : (E : Database) (w : World) (o : Environment) → HasDisks w → may_recover w ≡ true → allows w event.Recover o ≡ true → Goes w (recovered_with E w o)
+recovery-goes : (E : Database) (w : World) (o : Environment) → HasDisks w → may_recover w ≡ true → allows w event.Recover o ≡ true → DisksGoOn w (recovered_with E w o)
 recovery-goes E w NoFault d may environment = same-goes w d
 recovery-goes E w (DiskFails answered) d may environment = same-goes w d
 recovery-goes E w (NoMemory answered) d may environment = same-goes w d
@@ -276,14 +277,14 @@ recovery-goes E w (DisksShow shown (Some failed)) d may environment = stopped-go
 -- ---- events
 
 delivered-goes : (E : Database) (w : World) (to from : Actor) (o : Environment) → HasDisks w → is_actor w.deployment to ≡ true → allows w (event.Deliver to from) o ≡ true
-    → Goes w (delivered E w to from (w.channel from to) o)
+    → DisksGoOn w (delivered E w to from (w.channel from to) o)
 delivered-goes E w Director from o d there may = to_director-goes E w from (w.channel from Director) o d
 delivered-goes E w (Client n) from o d there may = to_client-goes E w n from (w.channel from (Client n)) o d
 delivered-goes E w (Agent n) from o d there may = to_agent-goes E w n from (w.channel from (Agent n)) o d refl (actor-host w.deployment n there) may
 delivered-goes E w (Site i) from o d there may = to_site-goes E w i from (w.channel from (Site i)) o d refl (actor-slot w.deployment i there)
 delivered-goes E w (Scanner i) from o d there may = to_scanner-goes E w i from (w.channel from (Scanner i)) o d
 
-happens-goes : (E : Database) (w : World) (e : Event) (o : Environment) → HasDisks w → can w e ≡ true → allows w e o ≡ true → Goes w (happens E w e o)
+happens-goes : (E : Database) (w : World) (e : Event) (o : Environment) → HasDisks w → can w e ≡ true → allows w e o ≡ true → DisksGoOn w (happens E w e o)
 happens-goes E w (event.Deliver to from) o d may environment = delivered-goes E w to from o d (and_parts (is_some_letter (w.channel from to)) (is_actor w.deployment to) may).1 environment
 happens-goes E w (event.Sync i) o d may environment = let p = and_parts (nat_lt i (slots w.deployment)) (may_sync (w.sites i)) may in sync-goes E w i o d p.0 p.1
 happens-goes E w (event.Scan i) o d may environment = scan-goes E w i o d
@@ -292,24 +293,24 @@ happens-goes E w event.Item o d may environment = item-goes E w o d
 happens-goes E w (event.Submit n) o d may environment = submit-goes E w n o d
 happens-goes E w (event.Idle a) o d may environment = same-goes w d
 
-step-goes : (E : Database) (w : World) (e : Happening) → may_happen w e ≡ true → HasDisks w → Goes w (step E w e)
+pub step-goes : (E : Database) (w : World) (e : Happening) → may_happen w e ≡ true → HasDisks w → DisksGoOn w (step E w e)
 step-goes E w e may d =
     let outer = and_parts (not (has_failed w) && can w e.0) (allows w e.0 e.1) may in
     let inner = and_parts (not (has_failed w)) (can w e.0) outer.0 in
     let v = happens E w e.0 e.1 in
     noted w v (v.trace ++ e.0 ∷ []) (happens-goes E w e.0 e.1 d inner.1 outer.1)
 
--- ---- runs
+-- ---- reached worlds
+
+-- All holds in each world that is reached.
+pub disks-agree : (E : Database) (input : Input) (w : World) → Reached E input w → HasDisks w
+disks-agree E input w r = reached-kept E HasDisks (λ v e may d. (step-goes E v e may d).next) input w
+    (λ is. record { logs = first-logs E input is.base; halted = false; disks = first-disks E input is.base }) r
 
 -- What is firm survives all that happens.
-pub run-goes : (E : Database) (es : List Happening) (w : World) → IsRun E es w → HasDisks w → Goes w (run E es w)
-run-goes E [] w r d = same-goes w d
-run-goes E (e ∷ es) w r d =
-    let s = step-goes E w e r.0 d in
-    let n = run-goes E es (step E w e) r.1 s.next in
-    record { next = n.next; survives = λ p. survives-then w (step E w e) (run E es (step E w e)) p (s.survives p) (n.survives p) }
-
--- So it is in each world of a run.
-pub disks-agree : (E : Database) (input : Input) (es : List Happening) → 0 < input.base → IsRun E es (first_world E input) → HasDisks (run E es (first_world E input))
-disks-agree E input es some r =
-    (run-goes E es (first_world E input) r (record { logs = first-logs E input some; halted = false; disks = first-disks E input some })).next
+pub runs-go : (E : Database) (v w : World) → RunsTo E v w → HasDisks v → DisksGoOn v w
+runs-go E v w r d = runs-kept E (DisksGoOn v) goes-on v w r (same-goes v d)
+  where
+    goes-on : (u : World) (e : Happening) → may_happen u e ≡ true → DisksGoOn v u → DisksGoOn v (step E u e)
+    goes-on u e may g = let n = step-goes E u e may g.next in
+        record { next = n.next; survives = λ p. survives-then v u (step E u e) p (g.survives p) (n.survives p) }

@@ -6,25 +6,25 @@ use Rattle.std.specs.List.{AllByRecursion}
 use Rattle.cluster_model.specs.Disk.{Shown, after_parts, mark_of}
 use Rattle.cluster_model.specs.SiteState.{SiteState, Streamed, Joining, site_term}
 use Rattle.cluster_model.specs.Sync.{content, mark_owed, joiner_parts, joiner_written, member_written, written, parts_of_sync}
-use Rattle.word_laws.proofs.Lists.{none-and-some, same-some, not-both}
-use Rattle.log_laws.specs.Histories.{LogState, Holds, HeldOk, part, start_at, term_at}
+use Rattle.cluster_steps.proofs.Lists.{none-and-some, same-some, not-both}
+use Rattle.log_laws.specs.Histories.{LogState, LogsHold, HeldOk, part, site_start, term_at}
 use Rattle.disk_laws.specs.Disks.{Firm, ContentOk, MemberDisk, StreamDisk, DiskOk, own_content}
 use Rattle.disk_laws.proofs.Order.{some-after_parts, all-after_parts}
 use Rattle.disk_laws.proofs.Own.{OwnAt, OwnMember, OwnStream}
 use Rattle.disk_laws.proofs.SyncParts.{member-last, stream-last, stream-waits}
-use Rattle.disk_laws.proofs.SyncContents.{PartsOk, Begun, disk, owed-mark, mark-begun, mark-rises, stream-disk, base-shown, stream-within, parts-ok}
+use Rattle.disk_laws.proofs.SyncContents.{PartsOk, BegunContent, disk, owed-mark, mark-begun, mark-rises, stream-disk, base-shown, stream-within, parts-ok}
 
 -- ---- what it shows once all is written
 
-module _ (S : LogState) (H : Holds S) (i : ℕ) (up : 0 < start_at S i) (F : Firm) (K : DiskOk S F false i) where
+module _ (S : LogState) (H : LogsHold S) (i : ℕ) (up : 0 < site_start S i) (F : Firm) (K : DiskOk S F false i) where
   abbrev s : SiteState
   s = S.sites i
 
   abbrev parts : List Shown
   parts = parts_of_sync s s.joining
 
-  abbrev pub wrote : SiteState
-  wrote = record (written s s.joining) { contents = after_parts s.contents parts }
+  abbrev pub wrote_disk : SiteState
+  wrote_disk = record (written s s.joining) { contents = after_parts s.contents parts }
 
   low : s.on_disk ≤ length s.log
   low = ((H.sites i).keeps up).on_disk
@@ -40,7 +40,7 @@ module _ (S : LogState) (H : Holds S) (i : ℕ) (up : 0 < start_at S i) (F : Fir
     owed None e = inl refl
     owed (Some m) e = inr (e, omega arith)
 
-    b : Begun S i (mark_owed s) (length s.log)
+    b : BegunContent S i (mark_owed s) (length s.log)
     b = mark-begun S H i up F K none (mark_owed s) (length s.log) low (owed s.owes refl)
 
     marked : mark_owed s ≡ term_at S i → s.repaired ≡ true
@@ -119,16 +119,16 @@ module _ (S : LogState) (H : Holds S) (i : ℕ) (up : 0 < start_at S i) (F : Fir
       choice None = refl
       choice (Some st) = k j st
 
-  pub wrote-start : wrote.start ≡ s.start
+  pub wrote-start : wrote_disk.start ≡ s.start
   wrote-start = written-same (λ x. x.start) refl (λ j st. cond_both {A = SiteState} j.is_loaded _ _ (λ x. x.start ≡ s.start) (λ _. refl) (λ _. refl)) s.joining
 
-  pub wrote-firm : wrote.firm ≡ s.firm
+  pub wrote-firm : wrote_disk.firm ≡ s.firm
   wrote-firm = written-same (λ x. x.firm) refl (λ j st. cond_both {A = SiteState} j.is_loaded _ _ (λ x. x.firm ≡ s.firm) (λ _. refl) (λ _. refl)) s.joining
 
-  pub wrote-held : AllByRecursion HeldOk wrote.held
+  pub wrote-held : AllByRecursion HeldOk wrote_disk.held
   wrote-held = subst (AllByRecursion HeldOk) (sym held) ((H.sites i).keeps up).held
     where
-      held : wrote.held ≡ s.held
+      held : wrote_disk.held ≡ s.held
       held = written-same (λ x. x.held) refl (λ j st. cond_both {A = SiteState} j.is_loaded _ _ (λ x. x.held ≡ s.held) (λ _. refl) (λ _. refl)) s.joining
 
   joiner-low : (j : Joining) (o : Option Streamed) → (joiner_written s j o).on_disk ≤ length (joiner_written s j o).log
@@ -139,11 +139,11 @@ module _ (S : LogState) (H : Holds S) (i : ℕ) (up : 0 < start_at S i) (F : Fir
   written-low None = omega arith
   written-low (Some j) = joiner-low j j.stream
 
-  pub wrote-low : wrote.on_disk ≤ length wrote.log
+  pub wrote-low : wrote_disk.on_disk ≤ length wrote_disk.log
   wrote-low = written-low s.joining
 
   -- What is said of the site once it has written.
-  pub wrote-own : OwnAt S F false i wrote
+  pub wrote-own : OwnAt S F false i wrote_disk
   wrote-own = record {
     some = some-after_parts s.contents parts K.some;
     contents = all-after_parts (ContentOk S F false (part S i)) s.contents parts K.contents p.contents;
@@ -156,7 +156,7 @@ module _ (S : LogState) (H : Holds S) (i : ℕ) (up : 0 < start_at S i) (F : Fir
       p : PartsOk S F i parts
       p = parts-ok S H i up F K
 
-      greatest : wrote.greatest ≡ s.greatest
+      greatest : wrote_disk.greatest ≡ s.greatest
       greatest = written-same (λ x. x.greatest) refl
           (λ j st. cond_both {A = SiteState} j.is_loaded _ _ (λ x. x.greatest ≡ s.greatest) (λ _. refl) (λ _. refl)) s.joining
 
@@ -164,26 +164,26 @@ module _ (S : LogState) (H : Holds S) (i : ℕ) (up : 0 < start_at S i) (F : Fir
       stream-joins j None e n = none-and-some n e
       stream-joins j (Some st) e n = cond_both {A = SiteState} j.is_loaded _ _ (λ x. x.joining ≡ None → ⊥) (λ _ q. absurd (cc)) (λ _ q. absurd (cc)) n
 
-      member : (o : Option Joining) → s.joining ≡ o → wrote.joining ≡ None → OwnMember (S.logs.leadership (part S i)) (F (part S i)) wrote
+      member : (o : Option Joining) → s.joining ≡ o → wrote_disk.joining ≡ None → OwnMember (S.logs.leadership (part S i)) (F (part S i)) wrote_disk
       member None e n = subst (λ x. OwnMember (S.logs.leadership (part S i)) (F (part S i)) (record (written s x) { contents = after_parts s.contents (parts_of_sync s x) }))
           (sym e) (member-wrote e)
       member (Some j) e n = absurd (stream-joins j j.stream e (sym (ap (λ x. (written s x).joining) e) ∙ n))
 
-      joiner : (o : Option Joining) → s.joining ≡ o → (n : Joining) → wrote.joining ≡ Some n → OwnStream wrote n n.stream
+      joiner : (o : Option Joining) → s.joining ≡ o → (n : Joining) → wrote_disk.joining ≡ Some n → OwnStream wrote_disk n n.stream
       joiner None e n is = absurd (none-and-some (ap (λ x. (written s x).joining) e ∙ e) is)
       joiner (Some j) e n is = stream j.stream refl
         where
-          there : (o : Option Streamed) → j.stream ≡ o → wrote ≡ record (joiner_written s j o) { contents = after_parts s.contents (joiner_parts s j o) }
+          there : (o : Option Streamed) → j.stream ≡ o → wrote_disk ≡ record (joiner_written s j o) { contents = after_parts s.contents (joiner_parts s j o) }
           there o q = ap (λ x. record (written s x) { contents = after_parts s.contents (parts_of_sync s x) }) e
               ∙ ap (λ x. record (joiner_written s j x) { contents = after_parts s.contents (joiner_parts s j x) }) q
 
           -- one without its stream stays as it was
-          none : j.stream ≡ None → OwnStream wrote n n.stream
+          none : j.stream ≡ None → OwnStream wrote_disk n n.stream
           none q =
               let same : j ≡ n = same-some (sym e ∙ sym (ap (λ x. x.joining) (there None q)) ∙ is) in
-              subst (λ x. OwnStream wrote x x.stream) same (subst (OwnStream wrote j) (sym q)
+              subst (λ x. OwnStream wrote_disk x x.stream) same (subst (OwnStream wrote_disk j) (sym q)
               (subst (λ x. AllByRecursion (λ y. mark_of y ≤ x.earlier) x.contents) (sym (there None q)) (subst (StreamDisk S i j) q (K.joiner refl j e))))
 
-          stream : (o : Option Streamed) → j.stream ≡ o → OwnStream wrote n n.stream
+          stream : (o : Option Streamed) → j.stream ≡ o → OwnStream wrote_disk n n.stream
           stream None q = none q
-          stream (Some st) q = stream-wrote j e st q wrote j.is_loaded refl (there (Some st) q) n is
+          stream (Some st) q = stream-wrote j e st q wrote_disk j.is_loaded refl (there (Some st) q) n is

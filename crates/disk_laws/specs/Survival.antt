@@ -6,7 +6,7 @@ use Rattle.cluster_model.specs.Engine.{Database}
 use Rattle.cluster_model.specs.World.{World}
 use Rattle.cluster_model.specs.Recover.{shown_of}
 use Rattle.cluster_model.specs.Events.{is_shown}
-use Rattle.log_laws.specs.Histories.{Prefix}
+use Rattle.cluster_steps.specs.Lists.{Prefix}
 
 -- The entries of a partition that leaders counted firm since the last recovery that worked: the first ones of the log of its
 -- leader of the greatest term. At a recovery that works all that it goes on with is firm.

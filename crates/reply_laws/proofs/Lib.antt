@@ -1,4 +1,4 @@
 pub mod Laws
-pub mod Handlers
-pub mod SiteHandlers
+pub mod Answers
+pub mod Turns
 pub mod Worlds

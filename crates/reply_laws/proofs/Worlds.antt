@@ -3,7 +3,7 @@ use Rattle.std.proofs.Common.{◌≡◌, ◌<◌, Bool, true, false, List, [], �
 use Rattle.std.proofs.lemmas.Bool.{and_parts, and_from, eqb-true}
 use Rattle.std.proofs.lemmas.Bool.Decides.{nat_tests}
 use Rattle.std.proofs.lemmas.List.{length-take, length-take-le}
-use Rattle.std.specs.Prelude.{ℕ, ◌&&◌, not, nat_lt, if◌then◌else◌, Option, Some, None}
+use Rattle.std.specs.Prelude.{ℕ, ◌&&◌, not, nat_lt, if◌then◌else◌, Some, None}
 use Rattle.std.specs.List.{AllByRecursion}
 use Rattle.volt_base.specs.declared.entry.Entry.{Entry}
 use Rattle.volt_wire.specs.Word.{Membership}
@@ -14,48 +14,56 @@ use Rattle.volt_wire.specs.declared.event.Event.TheVariants as event
 use Rattle.cluster_model.specs.Engine.{Database}
 use Rattle.cluster_model.specs.Words.{Deployment, slots, part_of_slot, is_some_of}
 use Rattle.cluster_model.specs.Letters.{same, Letter, Turn}
-use Rattle.cluster_model.specs.SiteState.{SiteState, Streamed, is_joiner, leader_in, leads, no_site, member_site}
+use Rattle.cluster_model.specs.SiteState.{SiteState, is_joiner, leader_in, leads, no_site, member_site}
 use Rattle.cluster_model.specs.Sync.{may_sync, site_turn, sync_turn}
 use Rattle.cluster_model.specs.Environment.{Environment, NoFault, DiskFails, NoMemory, DisksShow}
-use Rattle.cluster_model.specs.World.{World, Input, first_world, stamp_of, set_at, took, sent, rest, new_word, start_from}
+use Rattle.cluster_model.specs.World.{World, Input, stamp_of, set_at, took, sent, rest, new_word, start_from}
 use Rattle.cluster_model.specs.Recover.{new_base, new_log, new_site, starts_anew}
 use Rattle.cluster_model.specs.Events.{can, allows, delivered, recovered_with, happens, step}
-use Rattle.cluster_model.specs.Runs.{Happening, IsRun, has_failed, may_happen, run}
-use Rattle.word_laws.proofs.Lists.{all-append, all-mono, all-if, all-rest, none-and-some, set-here, set-both}
-use Rattle.log_laws.specs.Histories.{LogState, Prefix, StreamIn, ViewIn, WaitingOk, log_at}
-use Rattle.log_laws.specs.Copies.{HasLogs, log_state}
-use Rattle.log_laws.proofs.Plain.Prefixes.{prefix-trans, prefix-length, prefixes-order, prefix-take, take-short}
-use Rattle.log_laws.proofs.Plain.Copies.{leads-parts}
+use Rattle.cluster_model.specs.Runs.{Happening, Reached, has_failed, may_happen}
+use Rattle.cluster_model.proofs.Runs.{reached-kept}
+use Rattle.cluster_steps.proofs.Lists.{all-append, all-mono, all-if, all-rest, set-here, set-both}
+use Rattle.cluster_steps.specs.Lists.{Prefix}
+use Rattle.log_laws.specs.Copies.{log_state}
+use Rattle.cluster_steps.proofs.Prefixes.{prefix-trans, prefix-length, prefixes-order, prefix-take, take-short}
+use Rattle.cluster_steps.proofs.Leaders.{leads-parts}
 use Rattle.log_laws.proofs.Runs.Boots.{first-logs}
 use Rattle.log_laws.proofs.Runs.Lasting.{in-authoritative}
 use Rattle.disk_laws.specs.Survival.{Survives, firm_entries}
 use Rattle.disk_laws.proofs.Boots.{first-disks}
-use Rattle.disk_laws.proofs.Handlers.{PlainWaiting, waiting-plain}
 use Rattle.disk_laws.proofs.Syncs.{sync-runs}
-use Rattle.disk_laws.proofs.Worlds.{HasDisks, survives-same, run-goes}
-use Rattle.reply_laws.specs.Answers.{Claim, Stands, Tells, is_answer, HoldsAnswers, Answered, SentAnswer, TurnAnswers}
-use Rattle.reply_laws.proofs.Handlers.{stands-on}
-use Rattle.reply_laws.proofs.SiteHandlers.{NoLog, site_turn-answers, sync_turn-answers}
+use Rattle.disk_laws.proofs.Worlds.{HasDisks, survives-same, step-goes}
+use Rattle.reply_laws.specs.Answers.{ClaimsFit, Claim, Stands, ClaimOf, is_answer, HoldsAnswers, Answered, SentAnswer, TurnAnswers}
+use Rattle.reply_laws.proofs.Answers.{stands-on}
+use Rattle.reply_laws.proofs.Turns.{no-log, site_turn-answers, sync_turn-answers, waits-plain}
 
 -- ---- what holds of the answers of a world
 
 -- An answer under way is to an entry that stands in this log of partition p.
 abbrev pub AnswerIn : Database → ℕ → List Entry → Letter → Type 0
-AnswerIn E p log l = is_answer l.body ≡ true → Stands (Tells E p l.body) log
+AnswerIn E p log l = is_answer l.body ≡ true → Stands (ClaimOf E p l.body) log
 
 -- With these sites and messages, and these firm entries of each partition.
 pub record AnswersOk (E : Database) (D : Deployment) (sites : ℕ → SiteState) (channel : Actor → Actor → List Letter) (firm : ℕ → List Entry) : Type 0 where
-  pub held : (i : ℕ) → HoldsAnswers E (part_of_slot D i) (sites i)
+  pub held : (i : ℕ) → 0 < (sites i).start → HoldsAnswers (ClaimOf E (part_of_slot D i)) (sites i)
   pub sent : (i h : ℕ) → AllByRecursion (AnswerIn E (part_of_slot D i) (firm (part_of_slot D i))) (channel (Site i) (Agent h))
 
 abbrev pub HasAnswers : Database → World → Type 0
 HasAnswers E w = AnswersOk E w.deployment w.sites w.channel (firm_entries w)
 
+-- the replay answers so as an answer is held
+tells-fit : (E : Database) (p : ℕ) → ClaimsFit E p (ClaimOf E p)
+tells-fit E p = record {
+  call = λ log call start point body. record { point = point; body = body; is = refl; answers = refl };
+  round = λ log m round body. record { body = body; is = refl; answers = refl };
+  end = λ log m o. record { outcome = o; is = refl };
+}
+
 -- ---- a log that grows
 
 -- What stands in it still does.
 answer-in : (E : Database) (p : ℕ) (xs ys : List Entry) → Prefix xs ys → (l : Letter) → AnswerIn E p xs l → AnswerIn E p ys l
-answer-in E p xs ys f l k = λ a. stands-on (Tells E p l.body) xs ys f (k a)
+answer-in E p xs ys f l k = λ a. stands-on (ClaimOf E p l.body) xs ys f (k a)
 
 -- ---- an event
 
@@ -71,7 +79,7 @@ moves E D sites ch next F G less grown k = record {
 }
 
 -- A site sends what is in the firm entries.
-module _ (E : Database) (D : Deployment) (i : ℕ) (t : Turn SiteState) (G : ℕ → List Entry) (r : TurnAnswers E D i t)
+module _ (E : Database) (D : Deployment) (i : ℕ) (t : Turn SiteState) (G : ℕ → List Entry) (r : TurnAnswers E D i (ClaimOf E (part_of_slot D i)) t)
     (firm : leads D i t.state ≡ true → 0 < t.state.start → Prefix (take t.state.firm t.state.log) (G (part_of_slot D i))) where
   answered : (P : Claim) → Answered D i t.state P → Stands P (G (part_of_slot D i))
   answered P k =
@@ -91,8 +99,8 @@ module _ (E : Database) (D : Deployment) (i : ℕ) (t : Turn SiteState) (G : ℕ
         claim = here.claim;
       }
 
-  sent-in : (l : Letter) → SentAnswer E D i t.state l → AnswerIn E (part_of_slot D i) (G (part_of_slot D i)) l
-  sent-in l k = λ a. answered (Tells E (part_of_slot D i) l.body) (k a)
+  sent-in : (l : Letter) → SentAnswer E D i (ClaimOf E (part_of_slot D i)) t.state l → AnswerIn E (part_of_slot D i) (G (part_of_slot D i)) l
+  sent-in l k = λ a. answered (ClaimOf E (part_of_slot D i) l.body) (k.answered a)
 
   -- in its partition's entries, as they are after the event
   abbrev InFirm : ℕ → Letter → Type 0
@@ -101,7 +109,7 @@ module _ (E : Database) (D : Deployment) (i : ℕ) (t : Turn SiteState) (G : ℕ
   turned : (sites : ℕ → SiteState) (ch : Actor → Actor → List Letter) (F : ℕ → List Entry)
       → ((p : ℕ) → Prefix (F p) (G p)) → AnswersOk E D sites ch F → AnswersOk E D (set_at sites i t.state) (sent ch (Site i) t.sends) G
   turned sites ch F grown k = record {
-    held = set-both (λ j s. HoldsAnswers E (part_of_slot D j) s) sites i t.state r.held (λ j n. k.held j);
+    held = set-both (λ j s. 0 < s.start → HoldsAnswers (ClaimOf E (part_of_slot D j)) s) sites i t.state r.held (λ j n. k.held j);
     sent = λ j h. choice j h (i == j) refl;
   }
     where
@@ -110,7 +118,7 @@ module _ (E : Database) (D : Deployment) (i : ℕ) (t : Turn SiteState) (G : ℕ
           (answer-in E (part_of_slot D j) (F (part_of_slot D j)) (G (part_of_slot D j)) (grown (part_of_slot D j))) (ch (Site j) (Agent h)) (k.sent j h)
 
       new : (j h : ℕ) → i ≡ j → AllByRecursion (InFirm j) (t.sends (Agent h))
-      new j h e = subst (λ x. AllByRecursion (InFirm x) (t.sends (Agent h))) e (all-mono (SentAnswer E D i t.state) (InFirm i) sent-in (t.sends (Agent h)) (r.sends h))
+      new j h e = subst (λ x. AllByRecursion (InFirm x) (t.sends (Agent h))) e (all-mono (SentAnswer E D i (ClaimOf E (part_of_slot D i)) t.state) (InFirm i) sent-in (t.sends (Agent h)) (r.sends h))
 
       choice : (j h : ℕ) (b : Bool) → (i == j) ≡ b → AllByRecursion (InFirm j) (if b then ch (Site j) (Agent h) ++ t.sends (Agent h) else ch (Site j) (Agent h))
       choice j h true e = all-append (InFirm j) (ch (Site j) (Agent h)) (t.sends (Agent h)) (before j h) (new j h (eqb-true i j e))
@@ -146,28 +154,6 @@ turn-firm v w i t d sites =
     let e : w.sites i ≡ t.state = ap (λ f. f i) sites ∙ set-here v.sites i t.state in
     subst (λ s. leads w.deployment i s ≡ true → 0 < s.start → Prefix (take s.firm s.log) (firm_entries w (part_of_slot w.deployment i))) e (leader-firm w d i)
 
--- ---- what a site has that runs
-
-module _ (w : World) (k : HasLogs w) (i : ℕ) where
-  abbrev S : LogState
-  S = log_state w k.owner k.history k.logs
-
-  -- nothing waits at it that never does
-  waits-plain : 0 < (w.sites i).start → AllByRecursion PlainWaiting (w.sites i).waiting
-  waits-plain up = all-mono (WaitingOk S i) PlainWaiting (waiting-plain S i) (w.sites i).waiting ((k.holds.sites i).keeps up).waiting
-
-  -- a joiner that has no stream has no entries
-  no-log : NoLog (w.sites i)
-  no-log j e none = seen (w.sites i).view ((k.holds.sites i).joiner j e).view
-    where
-      streamed : (m : Membership) (o : Option Streamed) → o ≡ None → StreamIn S i m j o → log_at S i ≡ []
-      streamed m None q u = u.empty
-      streamed m (Some st) q u = absurd (none-and-some q refl)
-
-      seen : (o : Option Membership) → ViewIn S i j o → log_at S i ≡ []
-      seen None u = u.empty
-      seen (Some m) u = streamed m j.stream none u.stream
-
 -- ---- events
 
 module _ (E : Database) (w : World) (k : HasAnswers E w) (d : HasDisks w) where
@@ -180,8 +166,10 @@ module _ (E : Database) (w : World) (k : HasAnswers E w) (d : HasDisks w) where
   to_site i from (l ∷ ls) o next grown =
       let v = delivered E w (Site i) from (l ∷ ls) o in
       let t = site_turn E w.deployment (stamp_of w) i (w.sites i) from l o in
+      let S = log_state w d.logs.owner d.logs.history d.logs.logs in
       turned E w.deployment i t (firm_entries v)
-      (site_turn-answers E w.deployment (stamp_of w) i (w.sites i) from l o (waits-plain w d.logs i) (no-log w d.logs i) (k.held i))
+      (site_turn-answers E w.deployment i (ClaimOf E (part_of_slot w.deployment i)) (tells-fit E (part_of_slot w.deployment i)) (w.sites i) (stamp_of w) from l o
+      (waits-plain S d.logs.holds i) (no-log S d.logs.holds i) (k.held i))
       (turn-firm w v i t next refl) w.sites (took w.channel from (Site i)) (firm_entries w) grown (record { held = k.held; sent = k.sent })
 
   to_agent : (n : ℕ) (from : Actor) (ls : List Letter) (o : Environment) → let v = delivered E w (Agent n) from ls o in Later v → HasAnswers E v
@@ -208,7 +196,7 @@ module _ (E : Database) (w : World) (k : HasAnswers E w) (d : HasDisks w) where
   syncs i o up next grown =
       let v = happens E w (event.Sync i) o in
       let t = sync_turn E w.deployment i (w.sites i) o in
-      turned E w.deployment i t (firm_entries v) (sync_turn-answers E w.deployment i (w.sites i) o up (k.held i))
+      turned E w.deployment i t (firm_entries v) (sync_turn-answers E w.deployment i (ClaimOf E (part_of_slot w.deployment i)) (tells-fit E (part_of_slot w.deployment i)) (w.sites i) o up (k.held i up))
       (turn-firm w v i t next refl) w.sites w.channel (firm_entries w) grown k
 
   -- ---- recoveries
@@ -223,9 +211,9 @@ module _ (E : Database) (w : World) (k : HasAnswers E w) (d : HasDisks w) where
       new : ℕ → SiteState
       new i = new_site w.deployment i (w.sites i) word (start_from w.deployment w.director.next_start i) (new_log E w shown (part_of_slot w.deployment i))
 
-      held : (i : ℕ) (b : Bool) → HoldsAnswers E (part_of_slot w.deployment i) (if b then new i else w.sites i)
-      held i true = tt
-      held i false = k.held i
+      held : (i : ℕ) (b : Bool) → let s = if b then new i else w.sites i in 0 < s.start → HoldsAnswers (ClaimOf E (part_of_slot w.deployment i)) s
+      held i true up = tt
+      held i false up = k.held i up
 
   recovery : (o : Environment) → let v = recovered_with E w o in Later v → HasAnswers E v
   recovery NoFault grown = k
@@ -258,27 +246,25 @@ unnoted w trace d = let n = d.logs in record {
 
 step-answers : (E : Database) (w : World) (e : Happening) → may_happen w e ≡ true → HasDisks w → HasAnswers E w → HasDisks (step E w e) × HasAnswers E (step E w e)
 step-answers E w e may d k =
-    let g = run-goes E (e ∷ []) w (may, tt) d in
+    let g = step-goes E w e may d in
     let outer = and_parts (not (has_failed w) && can w e.0) (allows w e.0 e.1) may in
     let inner = and_parts (not (has_failed w)) (can w e.0) outer.0 in
     let v = happens E w e.0 e.1 in
     let r = event-answers E w k d e.0 e.1 inner.1 (unnoted v (v.trace ++ e.0 ∷ []) g.next) (λ p. firm-grows w (step E w e) d g.next p (g.survives p)) in
     (g.next, record { held = r.held; sent = r.sent })
 
-pub run-answers : (E : Database) (es : List Happening) (w : World) → IsRun E es w → HasDisks w → HasAnswers E w → HasAnswers E (run E es w)
-run-answers E [] w r d k = k
-run-answers E (e ∷ es) w r d k = let s = step-answers E w e r.0 d k in run-answers E es (step E w e) r.1 s.0 s.1
-
--- So it is in each world of a run: at first no site holds an answer.
-pub answers-agree : (E : Database) (input : Input) (es : List Happening) → 0 < input.base → IsRun E es (first_world E input) → HasAnswers E (run E es (first_world E input))
-answers-agree E input es some r =
-    run-answers E es (first_world E input) r (record { logs = first-logs E input some; halted = false; disks = first-disks E input some })
-    (record { held = λ i. first i (nat_lt i (slots input.deployment)); sent = λ i h. tt })
+-- So it is in each world that is reached: at first no site holds an answer.
+pub answers-agree : (E : Database) (input : Input) (w : World) → Reached E input w → HasAnswers E w
+answers-agree E input w r = (reached-kept E (λ v. HasDisks v × HasAnswers E v) (λ v e may k. step-answers E v e may k.0 k.1) input w
+    (λ is. (
+      record { logs = first-logs E input is.base; halted = false; disks = first-disks E input is.base },
+      record { held = λ i. first i (nat_lt i (slots input.deployment)); sent = λ i h. tt },
+    )) r).1
   where
     word : Membership
     word = new_word input.deployment input.base 1
 
-    first : (i : ℕ) (b : Bool)
-        → HoldsAnswers E (part_of_slot input.deployment i) (if b then member_site input.deployment i no_site word (start_from input.deployment 1 i) [] else no_site)
-    first i true = tt
-    first i false = tt
+    first : (i : ℕ) (b : Bool) → let s = if b then member_site input.deployment i no_site word (start_from input.deployment 1 i) [] else no_site in
+        0 < s.start → HoldsAnswers (ClaimOf E (part_of_slot input.deployment i)) s
+    first i true up = tt
+    first i false up = tt

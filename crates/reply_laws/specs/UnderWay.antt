@@ -8,7 +8,7 @@ use Rattle.cluster_model.specs.Words.{part_of_slot}
 use Rattle.cluster_model.specs.Letters.{Letter}
 use Rattle.cluster_model.specs.World.{World}
 use Rattle.disk_laws.specs.Survival.{firm_entries}
-use Rattle.reply_laws.specs.Answers.{Claim, IsCall, IsRound, IsEnd, Stands}
+use Rattle.reply_laws.specs.Answers.{Claim, IsAnsweredCall, IsAnsweredRound, IsAnsweredEnd, Stands}
 
 -- the messages under way from the site of slot i to the agent of host h
 abbrev pub under_way : World → ℕ → ℕ → List Letter
@@ -32,12 +32,12 @@ StandsFirm w i P = Stands P (firm_entries w (part_of_slot w.deployment i))
 
 -- The call stands among them, and this end is what the replay answers there.
 abbrev pub CallStandsFirm : Database → World → ℕ → ℕ → End → Type 0
-CallStandsFirm E w i call end = StandsFirm w i (IsCall E (part_of_slot w.deployment i) call end)
+CallStandsFirm E w i call end = StandsFirm w i (IsAnsweredCall E (part_of_slot w.deployment i) call end)
 
 -- The round stands among them, and this part is what the replay answers there.
 abbrev pub RoundStandsFirm : Database → World → ℕ → ℕ → ℕ → List ℕ → Type 0
-RoundStandsFirm E w i m round partial = StandsFirm w i (IsRound E (part_of_slot w.deployment i) m round partial)
+RoundStandsFirm E w i m round partial = StandsFirm w i (IsAnsweredRound E (part_of_slot w.deployment i) m round partial)
 
 -- An end of the transaction stands among them.
 abbrev pub EndStandsFirm : World → ℕ → ℕ → Type 0
-EndStandsFirm w i m = StandsFirm w i (IsEnd m)
+EndStandsFirm w i m = StandsFirm w i (IsAnsweredEnd m)

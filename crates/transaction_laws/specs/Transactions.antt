@@ -17,12 +17,13 @@ use Rattle.cluster_model.specs.Words.{Deployment, parts, is_in, term_of, term_in
 use Rattle.cluster_model.specs.Letters.{Blocks, Letter, Waiting}
 use Rattle.cluster_model.specs.AgentState.{AgentState, Phase, Off, Hears, Closes, Idle, Works, Work, Decision}
 use Rattle.cluster_model.specs.Initiator.{has_part}
-use Rattle.cluster_model.specs.SiteState.{SiteState, Held, leads}
+use Rattle.cluster_model.specs.SiteState.{SiteState, leads}
 use Rattle.cluster_model.specs.Site.{standing, copy_acks, least_of}
 use Rattle.cluster_model.specs.Disk.{Shown, chosen}
-use Rattle.word_laws.specs.Histories.{In}
-use Rattle.log_laws.specs.Histories.{LogState, Prefix, Leadership, WordOf, Addressed, IsSlot, is_for, part, start_at, term_at}
+use Rattle.cluster_steps.specs.Lists.{In, Prefix}
+use Rattle.log_laws.specs.Histories.{LogState, Leadership, WordOf, Addressed, IsSlot, is_for, part, site_start, term_at}
 use Rattle.disk_laws.specs.Disks.{Firm, Top, Shows}
+use Rattle.reply_laws.specs.Answers.{Claim, Claims, HoldsAnswers}
 use Rattle.transaction_laws.specs.Machine.{IsOpen, WellFormed, first_stage, stage}
 
 -- ---- the history of an epoch, from the boot, or a recovery that worked, to the next one
@@ -117,7 +118,7 @@ pub record Everywhere (S : LogState) (F : Firm) (p t n : ℕ) : Type 0 where
   pub firm : n ≤ F p
 
 -- this entry stands at this position of a log
-pub record StandsAt (log : List Entry) (position : ℕ) (e : Entry) : Type 0 where
+pub record EntryAt (log : List Entry) (position : ℕ) (e : Entry) : Type 0 where
   pub prefix : List Entry
   pub stands : Prefix (prefix ++ e ∷ []) log
   pub at : length prefix + 1 ≡ position
@@ -127,7 +128,7 @@ pub record Stood (S : LogState) (F : Firm) (p t : ℕ) (e : Entry) : Type 0 wher
   pub leadership : Leadership
   pub led : S.logs.leadership p t ≡ Some leadership
   pub position : ℕ
-  pub stands : StandsAt leadership.log position e
+  pub stands : EntryAt leadership.log position e
   pub everywhere : Everywhere S F p t position
 
 -- ---- the logs of leaders
@@ -231,13 +232,12 @@ AnswerOk E S F K p l = elim l.body as (λ _. Type 0) [
 
 -- ---- sites
 
--- An answer to the initiator that is held waits for the position at which its entry stands, in the site's term.
-abbrev pub HeldAnswer : SiteState → ℕ → Held → Type 0
-HeldAnswer s term d = elim d.letter.body as (λ _. Type 0) [
-  | msg.FragDone m round partial ↦ (d.letter.term ≡ term) × ((body : List ℕ) × StandsAt s.log d.position (Frag m round body))
-  | msg.Finished m ↦ (d.letter.term ≡ term) × ((o : Outcome) × StandsAt s.log d.position (Done m o))
-  | msg.MpState m is_open outcome ↦ ⊥
-  | _ ↦ Unit {0}
+-- An answer to the initiator says that its round, or an end of its transaction, stands.
+abbrev pub ToOrders : Claims
+ToOrders m = elim m as (λ _. Claim) [
+  | msg.FragDone m round partial ↦ λ prefix e. (body : List ℕ) × (e ≡ Frag m round body)
+  | msg.Finished m ↦ λ prefix e. (o : Outcome) × (e ≡ Done m o)
+  | _ ↦ λ prefix e. Unit {0}
 ]
 
 -- No round and no end waits for a term.
@@ -261,10 +261,10 @@ pub record CountsOk (S : LogState) (c : ℕ) : Type 0 where
 -- Of a site that runs. What is due to it as the leader of its term is under way from the initiator of that.
 pub record SiteCalls (S : LogState) (K : Transactions) (c : ℕ) : Type 0 where
   pub waiting : AllByRecursion (λ x. WaitsPlain x.from x.letter) (S.sites c).waiting
-  pub held : AllByRecursion (HeldAnswer (S.sites c) (term_at S c)) (S.sites c).held
+  pub held : HoldsAnswers ToOrders (S.sites c)
   pub orders : (w : Membership) → (S.sites c).joining ≡ None → (S.sites c).view ≡ Some w → leader S.words.deployment w (part S c) ≡ Some c
       → (h a : ℕ) → initiator w ≡ Some (h, a)
-      → orders (start_at S c) (term_of w) (S.words.channel (Agent h) (Site c)) ≡ K.due (part S c) (term_of w)
+      → orders (site_start S c) (term_of w) (S.words.channel (Agent h) (Site c)) ≡ K.due (part S c) (term_of w)
   pub counts : leads S.words.deployment c (S.sites c) ≡ true → CountsOk S c
   -- it counts no joiner before it has what its term begins with
   pub unrepaired : (S.sites c).repaired ≡ false → (S.sites c).joiners ≡ []
@@ -349,6 +349,6 @@ pub record CallsHold (E : Database) (S : LogState) (F : Firm) (halted : Bool) (K
   pub to_sites : (h c : ℕ) → IsSlot S c → AllByRecursion (ToSiteOk S h c) (S.words.channel (Agent h) (Site c))
   pub to_agents : (c h : ℕ) → IsSlot S c → AllByRecursion (AnswerOk E S F K (part S c)) (S.words.channel (Site c) (Agent h))
   pub environment : (c h : ℕ) → (IsSlot S c → ⊥) → S.words.channel (Site c) (Agent h) ≡ []
-  pub sites : (c : ℕ) → IsSlot S c → 0 < start_at S c → SiteCalls S K c
+  pub sites : (c : ℕ) → IsSlot S c → 0 < site_start S c → SiteCalls S K c
   pub agents : (h : ℕ) → AgentCalls E S F K h
   pub halts : halted ≡ true → (shown : ℕ → Shown) → Shows S shown → (L : Transactions) × Aligned E S.words.deployment now L (chosen S.words.deployment shown)

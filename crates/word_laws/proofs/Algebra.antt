@@ -9,7 +9,7 @@ use Rattle.cluster_model.specs.Words.{is_in, same_numbers, same_pairs, with_numb
 use Rattle.cluster_model.specs.World.{rest}
 use Rattle.cluster_model.specs.Laws.{RiseFrom}
 use Rattle.word_laws.specs.Histories.{Within, Alike, names}
-use Rattle.word_laws.proofs.Lists.{not-both, eqb-same, list_all-from, list_any-in, list_all-any, rise-lower}
+use Rattle.cluster_steps.proofs.Lists.{not-both, eqb-same, list_all-from, list_any-in, list_all-any, rise-lower}
 
 -- ---- a number more in a rising list
 

@@ -1,10 +1,10 @@
-pub mod Lists
 pub mod Channels
 pub mod Algebra
 pub mod Members
 pub mod Moves
 pub mod Agreement
 pub mod Laters
+pub mod Calm
 pub mod Turns
 pub mod Arrivals
 pub mod Steps

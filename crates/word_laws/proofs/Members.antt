@@ -8,8 +8,9 @@ use Rattle.volt_wire.specs.Word.{Membership}
 use Rattle.partition_ring.specs.Placement.{greater_start}
 use Rattle.cluster_model.specs.Words.{is_in, not_lost, members, start_of, is_some_of, is_member, first_of, initiator}
 use Rattle.cluster_model.specs.AgentState.{AgentState, is_initiator_in, initiates}
-use Rattle.word_laws.specs.Histories.{In, Within, Comparable, names}
-use Rattle.word_laws.proofs.Lists.{eqb-same, list_all-from, list_all-at, list_any-in, list_any-from, same-some, in-left, in-right, in-cases, in-map, in-map-from, in-filter, filter-in, all-at}
+use Rattle.cluster_steps.specs.Lists.{In}
+use Rattle.word_laws.specs.Histories.{Within, Comparable, names}
+use Rattle.cluster_steps.proofs.Lists.{eqb-same, list_all-from, list_all-at, list_any-in, list_any-from, same-some, in-left, in-right, in-cases, in-map, in-map-from, in-filter, filter-in, all-at}
 use Rattle.word_laws.proofs.Algebra.{StartsOwned, HostsOwned, within-cases, within-refl, within-trans, names-first, names-admits, names-cases}
 
 -- ---- the start that stands with a host

@@ -1,91 +1,20 @@
--- What a site makes of entries that it appends, and what a leader sends of them.
-use Rattle.std.proofs.Common.{◌≡◌, Bool, true, false, List, [], ◌∷◌, ◌++◌, append_assoc, append-nil, refl, sym, subst, ap, ◌∙◌}
-use Rattle.std.specs.Prelude.{ℕ, ◌&&◌, not, if◌then◌else◌, map, Option, is_none}
+-- What an entry that a leader passes on comes to, for the copies and the joiners to which it goes.
+use Rattle.std.proofs.Common.{◌≡◌, true, [], ◌∷◌, ◌++◌, refl, subst, ap, ◌∙◌}
+use Rattle.std.specs.Prelude.{ℕ, map}
 use Rattle.std.specs.List.{AllByRecursion}
 use Rattle.volt_base.specs.declared.entry.Entry.{Entry}
-use Rattle.volt_wire.specs.declared.actor.Actor.{Actor}
-use Rattle.volt_wire.specs.declared.actor.Actor.TheVariants.{Agent, Site, Scanner}
-use Rattle.cluster_model.specs.Engine.{Database}
-use Rattle.cluster_model.specs.Log.{is_snapshot}
+use Rattle.volt_wire.specs.declared.actor.Actor.TheVariants.{Site}
 use Rattle.cluster_model.specs.Words.{Deployment, is_in}
-use Rattle.cluster_model.specs.Letters.{same, Letter, Sends, Turn, becomes}
-use Rattle.cluster_model.specs.SiteState.{SiteState, Joiner, Scanning, site_term, start_in_view, is_joiner, other_copies}
-use Rattle.cluster_model.specs.Site.{begins_base, appends, appends_all, put_to, tasks_to, passes_on, leads_with}
-use Rattle.word_laws.specs.Histories.{In, Distinct}
-use Rattle.word_laws.proofs.Lists.{all-append, all-at, all-from, only-one}
-use Rattle.log_laws.specs.Histories.{Puts, Flow, Follows, is_for, line_of, line, flow_of, flow, end_of, ends, ask_of, asks_in}
-use Rattle.log_laws.proofs.Plain.Lines.{flat-in, line-none, line-same, line-plain, line-other, flow-none, flow-append, flow-plain, flow-other, ends-none, ends-plain, asks-none, asks-plain, put_letter, put-all, put-line, put-flow, task_letter, tasks-all, tasks-line, tasks-flow}
-
--- ---- entries behind a log
-
--- the site with more entries in its log, and its scans as they may be
-abbrev pub grown : SiteState → List Entry → ℕ → Option Scanning → SiteState
-grown s es scans scanning = record s { log = s.log ++ es; scans = scans; scanning = scanning }
-
--- It appended these, and told nobody but its scanner.
-pub record Appended (i : ℕ) (s : SiteState) (es : List Entry) (t : Turn SiteState) : Type 0 where
-  pub scans : ℕ
-  pub scanning : Option Scanning
-  pub state : t.state ≡ grown s es scans scanning
-  pub inert : (b : Actor) → same (Scanner i) b ≡ false → t.sends b ≡ []
-
-pub appends-one : (E : Database) (D : Deployment) (i : ℕ) (e : Entry) (s : SiteState) → Appended i s (e ∷ []) (appends E D i e s)
-appends-one E D i e s = choice (is_snapshot e && is_none s.scanning && not (is_joiner s))
-  where
-    b : SiteState
-    b = record s { log = s.log ++ e ∷ [] }
-
-    choice : (c : Bool) → Appended i s (e ∷ []) (if c then begins_base E D i b else becomes b)
-    choice true = record { scans = _; scanning = _; state = refl; inert = λ a q. rw q }
-    choice false = record { scans = _; scanning = _; state = refl; inert = λ a q. refl }
-
-pub appends-all : (E : Database) (D : Deployment) (i : ℕ) (es : List Entry) (s : SiteState) → Appended i s es (appends_all E D i es s)
-appends-all E D i [] s = record {
-  scans = s.scans;
-  scanning = s.scanning;
-  state = ap (λ es. record s { log = es }) (sym (append-nil s.log));
-  inert = λ b q. refl;
-}
-appends-all E D i (e ∷ es) s =
-    let one = appends-one E D i e s in
-    let more = appends-all E D i es (appends E D i e s).state in
-    record {
-      scans = more.scans;
-      scanning = more.scanning;
-      state = more.state
-          ∙ ap (λ x. grown x es more.scans more.scanning) one.state
-          ∙ ap (λ log. record s { log = log; scans = more.scans; scanning = more.scanning }) (append_assoc s.log (e ∷ []) es);
-      inert = λ b q. rw (one.inert b q, more.inert b q);
-    }
-
--- ---- what a leader sends of an entry
-
--- Of an entry at the end of its log the site sends a Put to each other copy, and a Task to each joiner that it counts.
-pub record Passed (D : Deployment) (i : ℕ) (e : Entry) (s : SiteState) (out : Sends) : Type 0 where
-  pub sites : (c : ℕ) → out (Site c) ≡ put_to D s e c (other_copies D i s) ++ tasks_to s e c s.joiners
-  pub agents : (h : ℕ) → out (Agent h) ≡ []
-
--- It appended the entry, and passed it on.
-pub record Led (D : Deployment) (i : ℕ) (e : Entry) (s : SiteState) (t : Turn SiteState) : Type 0 where
-  pub scans : ℕ
-  pub scanning : Option Scanning
-  pub state : t.state ≡ grown s (e ∷ []) scans scanning
-  pub passed : Passed D i e (grown s (e ∷ []) scans scanning) t.sends
-
-pub leads-with : (E : Database) (D : Deployment) (i : ℕ) (e : Entry) (s : SiteState) → Led D i e s (leads_with E D i e s)
-leads-with E D i e s =
-    let one = appends-one E D i e s in
-    let sends : Sends = λ b. (appends E D i e s).sends b ++ (passes_on D i e (grown s (e ∷ []) one.scans one.scanning)).sends b in
-    let same : (leads_with E D i e s).sends ≡ sends = ap (λ x. (λ b. (appends E D i e s).sends b ++ (passes_on D i e x).sends b)) one.state in
-    record {
-      scans = one.scans;
-      scanning = one.scanning;
-      state = one.state;
-      passed = record {
-        sites = λ c. ap (λ f. f (Site c)) same ∙ ap (λ ls. ls ++ (passes_on D i e (grown s (e ∷ []) one.scans one.scanning)).sends (Site c)) (one.inert (Site c) refl);
-        agents = λ h. ap (λ f. f (Agent h)) same ∙ ap (λ ls. ls ++ []) (one.inert (Agent h) refl);
-      };
-    }
+use Rattle.cluster_model.specs.Letters.{Letter, Sends}
+use Rattle.cluster_model.specs.SiteState.{SiteState, Joiner, site_term, start_in_view, other_copies}
+use Rattle.cluster_model.specs.Site.{put_to, tasks_to}
+use Rattle.cluster_steps.specs.Lists.{In}
+use Rattle.word_laws.specs.Histories.{Distinct}
+use Rattle.cluster_steps.proofs.Lists.{all-append, all-at, all-from, only-one}
+use Rattle.cluster_steps.proofs.Appends.{Passed}
+use Rattle.cluster_steps.proofs.Sends.{put_letter, put-all, task_letter, tasks-all}
+use Rattle.log_laws.specs.Histories.{Puts, Flow, Follows, is_for, line_of, line, flow_of, flow, end_of, stream_ends_in}
+use Rattle.log_laws.proofs.Plain.Lines.{flat-in, line-none, line-same, line-plain, line-other, flow-none, flow-append, flow-plain, flow-other, ends-none, ends-plain, put-line, put-flow, tasks-line, tasks-flow}
 
 module _ (D : Deployment) (i : ℕ) (e : Entry) (s : SiteState) (out : Sends) (k : Passed D i e s out) (c : ℕ) where
   -- each of them
@@ -119,13 +48,9 @@ module _ (D : Deployment) (i : ℕ) (e : Entry) (s : SiteState) (out : Sends) (k
   passed-flow-other start term n = flow-none start term (out (Site c)) (passed-all (λ l. flow_of start term l ≡ [])
       (λ is. flow-plain start term (put_letter D s e c (other_copies D i s)) refl) (λ j is q. flow-other start term (task_letter s e c j) (n j is q)))
 
-  pub passed-ends : (start term : ℕ) → ends start term (out (Site c)) ≡ []
+  pub passed-ends : (start term : ℕ) → stream_ends_in start term (out (Site c)) ≡ []
   passed-ends start term = ends-none start term (out (Site c)) (passed-all (λ l. end_of start term l ≡ [])
       (λ is. ends-plain start term (put_letter D s e c (other_copies D i s)) refl) (λ j is q. ends-plain start term (task_letter s e c j) refl))
-
-  pub passed-asks : (term : ℕ) → asks_in term (out (Site c)) ≡ []
-  passed-asks term = asks-none term (out (Site c)) (passed-all (λ l. ask_of term l ≡ [])
-      (λ is. asks-plain term (put_letter D s e c (other_copies D i s)) refl) (λ j is q. asks-plain term (task_letter s e c j) refl))
 
   -- and nothing but entries that follow
   pub passed-follows : (P : Flow → Type 0) (start term : ℕ) → P (Follows e) → AllByRecursion P (flow start term (out (Site c)))

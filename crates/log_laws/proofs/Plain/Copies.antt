@@ -7,10 +7,11 @@ use Rattle.volt_wire.specs.Word.{Membership}
 use Rattle.partition_ring.specs.Placement.{slot_of, part_of, host_of, slots_of_part, start_in, standing, ordered_copies}
 use Rattle.partition_ring.proofs.LawLemmas.{same_copies}
 use Rattle.cluster_model.specs.Words.{Deployment, part_of_slot, is_in, members, start_of_slot, copies, leader, first_of, is_some_of}
-use Rattle.cluster_model.specs.SiteState.{SiteState, Joining, is_joiner, leader_in, start_in_view, copies_in, is_leader, leads, other_copies}
-use Rattle.word_laws.specs.Histories.{In}
-use Rattle.word_laws.proofs.Lists.{eqb-same, same-some, in-filter, filter-in, list_any-in, list_any-from}
+use Rattle.cluster_model.specs.SiteState.{SiteState, is_joiner, leader_in, start_in_view, copies_in, is_leader, other_copies}
+use Rattle.cluster_steps.specs.Lists.{In}
+use Rattle.cluster_steps.proofs.Lists.{eqb-same, same-some, in-filter, filter-in, list_any-in, list_any-from}
 use Rattle.word_laws.proofs.Members.{is_some_of-is, first-in}
+use Rattle.cluster_steps.proofs.Leaders.{not-joiner}
 use Rattle.log_laws.specs.Histories.{follows}
 
 -- ---- numbers in lists
@@ -126,10 +127,6 @@ module _ (D : Deployment) (w : Membership) where
   pub not-follows : (c l : ℕ) → (leader D w (part_of_slot D c) ≡ Some l → l ≡ c) → follows D w c l ≡ false
   not-follows c l f = false_from_ne_true (follows D w c l) (λ e. let p = follows-leader c l e in p.1 (f p.0))
 
-  -- not itself, and nobody where it leads
-  pub follows-self : (c : ℕ) → follows D w c c ≡ false
-  follows-self c = not-follows c c (λ e. refl)
-
   pub leader-follows-none : (c l : ℕ) → leader D w (part_of_slot D c) ≡ Some c → follows D w c l ≡ false
   leader-follows-none c l e = not-follows c l (λ k. same-some (sym k ∙ e))
 
@@ -148,48 +145,7 @@ module _ (D : Deployment) (w : Membership) where
   pub follows-part : (c l : ℕ) → follows D w c l ≡ true → part_of_slot D l ≡ part_of_slot D c
   follows-part c l e = (leader-copy (part_of_slot D c) l (follows-leader c l e).0).0
 
-  pub follows-start : (c l : ℕ) → follows D w c l ≡ true → (a : ℕ) × (start_of_slot D w l ≡ Some a)
-  follows-start c l e = (leader-copy (part_of_slot D c) l (follows-leader c l e).0).1
-
-  pub follows-leads : (c l : ℕ) → follows D w c l ≡ true → leader D w (part_of_slot D l) ≡ Some l
-  follows-leads c l e = ap (leader D w) (follows-part c l e) ∙ (follows-leader c l e).0
-
 -- ---- at a site
-
--- whether it is a joiner
-pub not-joiner : (s : SiteState) → is_joiner s ≡ false → s.joining ≡ None
-not-joiner s e = none s.joining e
-  where
-    none : (o : Option Joining) → is_some o ≡ false → o ≡ None
-    none None e = refl
-    none (Some j) e = absurd (true≢false e)
-
-pub a-joiner : (s : SiteState) (j : Joining) → s.joining ≡ Some j → is_joiner s ≡ true
-a-joiner s j e = ap is_some e
-
--- a leader isn't one, and has a word
-pub leader-view : (D : Deployment) (i : ℕ) (s : SiteState) → is_leader D i s ≡ true → (s.joining ≡ None) × ((w : Membership) × (s.view ≡ Some w))
-leader-view D i s e =
-    let p = and_parts (not (is_joiner s)) (is_some_of (leader_in D s.view (part_of_slot D i)) i) e in
-    (not-joiner s (not-true (is_joiner s) p.0), word s.view refl p.1)
-  where
-    word : (o : Option Membership) → s.view ≡ o → is_some_of (leader_in D o (part_of_slot D i)) i ≡ true → (w : Membership) × (s.view ≡ Some w)
-    word None v k = absurd (true≢false (sym k))
-    word (Some w) v k = (w, v)
-
--- it leads once it has what its term begins with
-pub leads-parts : (D : Deployment) (i : ℕ) (s : SiteState) → leads D i s ≡ true → (is_leader D i s ≡ true) × (s.repaired ≡ true)
-leads-parts D i s e = and_parts (is_leader D i s) s.repaired e
-
-pub leads-from : (D : Deployment) (i : ℕ) (s : SiteState) → is_leader D i s ≡ true → s.repaired ≡ true → leads D i s ≡ true
-leads-from D i s e r = and_from (is_leader D i s) s.repaired e r
-
--- as the view and the join stay, so does all that
-pub leader-same : (D : Deployment) (i : ℕ) (s t : SiteState) → t.view ≡ s.view → t.joining ≡ s.joining → is_leader D i t ≡ is_leader D i s
-leader-same D i s t v j = rw (v, j) refl
-
-pub other-copies-same : (D : Deployment) (i : ℕ) (s t : SiteState) → t.view ≡ s.view → other_copies D i t ≡ other_copies D i s
-other-copies-same D i s t v = rw v refl
 
 module _ (D : Deployment) (i : ℕ) (s : SiteState) (w : Membership) (v : s.view ≡ Some w) where
   -- whether it leads
@@ -201,13 +157,6 @@ module _ (D : Deployment) (i : ℕ) (s : SiteState) (w : Membership) (v : s.view
   pub leader-is : s.joining ≡ None → leader D w (part_of_slot D i) ≡ Some i → is_leader D i s ≡ true
   leader-is j e = and_from (not (is_joiner s)) (is_some_of (leader_in D s.view (part_of_slot D i)) i)
       (ap (λ o. not (is_some o)) j) (ap (λ o. is_some_of (leader_in D o (part_of_slot D i)) i) v ∙ ap (λ o. is_some_of o i) e ∙ eqb-same i)
-
-  pub not-leader : (leader D w (part_of_slot D i) ≡ Some i → ⊥) → is_leader D i s ≡ false
-  not-leader n = false_from_ne_true (is_leader D i s) (λ e. n (is-leader e).1)
-
-  -- the leader and the starts that it knows
-  pub leader-in-view : (p : ℕ) → leader_in D s.view p ≡ leader D w p
-  leader-in-view p = ap (λ o. leader_in D o p) v
 
   pub start-in-view : (c a : ℕ) → start_of_slot D w c ≡ Some a → start_in_view D s.view c ≡ a
   start-in-view c a e = ap (λ o. start_in_view D o c) v ∙ ap (λ o. unwrap_or o 0) e
@@ -225,7 +174,3 @@ module _ (D : Deployment) (i : ℕ) (s : SiteState) (w : Membership) (v : s.view
       let k = is_in-in c (copies D w (part_of_slot D i)) (ap (λ x. is_in c (copies D w x)) (sym p) ∙ member-copy D w c a e) in
       in-is_in c (other_copies D i s) (filter-in (λ x. not (x == i)) c (copies_in D s.view (part_of_slot D i))
       (subst (λ o. In c (copies_in D o (part_of_slot D i))) (sym v) k) (not_from_false (c == i) (false_from_ne_true (c == i) (λ q. n (eqb-true c i q)))))
-
-  -- a slot isn't one of its own other copies
-  pub other-copy-self : is_in i (other_copies D i s) ≡ false
-  other-copy-self = false_from_ne_true (is_in i (other_copies D i s)) (λ e. (other-copy i e).0 refl)

@@ -1,20 +1,22 @@
 -- What is under way: items of lists of letters, of letters in the order in which a site sends them, and of what a site sends.
-use Rattle.std.proofs.Common.{◌≡◌, Bool, true, false, List, [], ◌∷◌, ◌++◌, append-nil, refl, sym, subst, ap, ◌∙◌, ◌⊎◌, inl, inr, ◌==◌, true≢false}
-use Rattle.std.proofs.lemmas.Bool.{and_parts, and_from, eqb-true, eqb-false, eq-eqb, false_from_ne_true}
+use Rattle.std.proofs.Common.{◌≡◌, Bool, true, false, List, [], ◌∷◌, ◌++◌, append-nil, refl, sym, subst, ap, ◌∙◌, inl, inr, ◌==◌, true≢false}
+use Rattle.std.proofs.lemmas.Bool.{and_parts, and_from, eqb-true, eq-eqb, false_from_ne_true}
 use Rattle.std.proofs.lemmas.List.{map-append}
 use Rattle.std.proofs.lemmas.List.Concat.{flat_map-append}
 use Rattle.std.proofs.lemmas.List.Elements.{filter-append}
-use Rattle.std.specs.Prelude.{ℕ, ◌&&◌, if◌then◌else◌, map, filter, flat_map, drop, length, unwrap_or}
+use Rattle.std.specs.Prelude.{ℕ, if◌then◌else◌, map, filter, flat_map, drop}
 use Rattle.std.specs.List.{AllByRecursion}
 use Rattle.volt_base.specs.declared.entry.Entry.{Entry}
 use Rattle.volt_wire.specs.declared.message.Msg.TheVariants as msg
 use Rattle.cluster_model.specs.Words.{Deployment, is_in}
-use Rattle.cluster_model.specs.Letters.{Letter, Waiting, letter_in}
+use Rattle.cluster_model.specs.Letters.{Letter, Waiting}
 use Rattle.cluster_model.specs.SiteState.{SiteState, Reported, Joiner, Ask, site_term, start_in_view}
 use Rattle.cluster_model.specs.Site.{order_of, of_order, put_to, tasks_to, repair_to, stream_ends_to, is_sent}
-use Rattle.word_laws.specs.Histories.{In, Distinct}
-use Rattle.word_laws.proofs.Lists.{if-true, if-false, in-left, in-right, in-cases, in-map-from, in-filter, all-at, all-from, all-append, all-filter, all-mono, all-one, in-none, in-map}
-use Rattle.log_laws.specs.Histories.{Line, Repairs, Puts, Flow, Begins, Follows, is_for, line_in, line_of, line, flow_in, flow_of, flow, end_in, end_of, ends, ask_in, ask_of, asks_in, wait_of, asks_waiting, asks_kept, view_in, view_of, views}
+use Rattle.cluster_steps.specs.Lists.{In}
+use Rattle.word_laws.specs.Histories.{Distinct}
+use Rattle.cluster_steps.proofs.Lists.{if-true, if-false, in-left, in-right, in-cases, in-filter, all-at, all-from, all-mono, in-none, in-map}
+use Rattle.log_laws.specs.Histories.{Line, Repairs, Puts, Flow, Begins, Follows, is_for, line_in, line_of, line, flow_in, flow_of, flow, end_in, end_of, stream_ends_in, ask_in, ask_of, asks_in, wait_of, asks_waiting, asks_kept, view_in, view_of, views}
+use Rattle.cluster_steps.proofs.Sends.{in_order, put_letter, put-all, task_letter, tasks-all, repair_letter, repair-cases, repair-all, end_letter, stream_ends-all}
 use Rattle.log_laws.proofs.Kept.Moves.{NoStreamStart}
 
 -- ---- lists of lists
@@ -75,7 +77,7 @@ line-append start term xs ys = flat_map-append (line_of start term) xs ys
 pub flow-append : (start term : ℕ) (xs ys : List Letter) → flow start term (xs ++ ys) ≡ flow start term xs ++ flow start term ys
 flow-append start term xs ys = flat_map-append (flow_of start term) xs ys
 
-pub ends-append : (start term : ℕ) (xs ys : List Letter) → ends start term (xs ++ ys) ≡ ends start term xs ++ ends start term ys
+pub ends-append : (start term : ℕ) (xs ys : List Letter) → stream_ends_in start term (xs ++ ys) ≡ stream_ends_in start term xs ++ stream_ends_in start term ys
 ends-append start term xs ys = flat_map-append (end_of start term) xs ys
 
 pub asks-append : (term : ℕ) (xs ys : List Letter) → asks_in term (xs ++ ys) ≡ asks_in term xs ++ asks_in term ys
@@ -92,10 +94,6 @@ kept-append c xs ys =
 pub views-append : (start : ℕ) (xs ys : List Letter) → views start (xs ++ ys) ≡ views start xs ++ views start ys
 views-append start xs ys = flat_map-append (view_of start) xs ys
 
--- with one more
-pub line-push : (start term : ℕ) (xs : List Letter) (l : Letter) → line start term (xs ++ l ∷ []) ≡ line start term xs ++ line_of start term l
-line-push start term xs l = line-append start term xs (l ∷ []) ∙ ap (λ zs. line start term xs ++ zs) (append-nil (line_of start term l))
-
 pub flow-push : (start term : ℕ) (xs : List Letter) (l : Letter) → flow start term (xs ++ l ∷ []) ≡ flow start term xs ++ flow_of start term l
 flow-push start term xs l = flow-append start term xs (l ∷ []) ∙ ap (λ zs. flow start term xs ++ zs) (append-nil (flow_of start term l))
 
@@ -109,8 +107,8 @@ line-same start term xs ys e = line-append start term xs ys ∙ ap (λ zs. line 
 pub flow-same : (start term : ℕ) (xs ys : List Letter) → flow start term ys ≡ [] → flow start term (xs ++ ys) ≡ flow start term xs
 flow-same start term xs ys e = flow-append start term xs ys ∙ ap (λ zs. flow start term xs ++ zs) e ∙ append-nil (flow start term xs)
 
-pub ends-same : (start term : ℕ) (xs ys : List Letter) → ends start term ys ≡ [] → ends start term (xs ++ ys) ≡ ends start term xs
-ends-same start term xs ys e = ends-append start term xs ys ∙ ap (λ zs. ends start term xs ++ zs) e ∙ append-nil (ends start term xs)
+pub ends-same : (start term : ℕ) (xs ys : List Letter) → stream_ends_in start term ys ≡ [] → stream_ends_in start term (xs ++ ys) ≡ stream_ends_in start term xs
+ends-same start term xs ys e = ends-append start term xs ys ∙ ap (λ zs. stream_ends_in start term xs ++ zs) e ∙ append-nil (stream_ends_in start term xs)
 
 pub asks-same : (term : ℕ) (xs ys : List Letter) → asks_in term ys ≡ [] → asks_in term (xs ++ ys) ≡ asks_in term xs
 asks-same term xs ys e = asks-append term xs ys ∙ ap (λ zs. asks_in term xs ++ zs) e ∙ append-nil (asks_in term xs)
@@ -120,23 +118,8 @@ views-same start xs ys e = views-append start xs ys ∙ ap (λ zs. views start x
 
 -- ---- a first message
 
-pub line-cons : (start term : ℕ) (l : Letter) (ls : List Letter) → line start term (l ∷ ls) ≡ line_of start term l ++ line start term ls
-line-cons start term l ls = refl
-
-pub flow-cons : (start term : ℕ) (l : Letter) (ls : List Letter) → flow start term (l ∷ ls) ≡ flow_of start term l ++ flow start term ls
-flow-cons start term l ls = refl
-
-pub ends-cons : (start term : ℕ) (l : Letter) (ls : List Letter) → ends start term (l ∷ ls) ≡ end_of start term l ++ ends start term ls
+pub ends-cons : (start term : ℕ) (l : Letter) (ls : List Letter) → stream_ends_in start term (l ∷ ls) ≡ end_of start term l ++ stream_ends_in start term ls
 ends-cons start term l ls = refl
-
-pub asks-cons : (term : ℕ) (l : Letter) (ls : List Letter) → asks_in term (l ∷ ls) ≡ ask_of term l ++ asks_in term ls
-asks-cons term l ls = refl
-
-pub waits-cons : (c term : ℕ) (x : Waiting) (xs : List Waiting) → asks_waiting c term (x ∷ xs) ≡ wait_of c term x ++ asks_waiting c term xs
-waits-cons c term x xs = refl
-
-pub views-cons : (start : ℕ) (l : Letter) (ls : List Letter) → views start (l ∷ ls) ≡ view_of start l ++ views start ls
-views-cons start l ls = refl
 
 -- ---- messages that say nothing
 
@@ -146,7 +129,7 @@ line-none start term ls h = flat-none (line_of start term) ls h
 pub flow-none : (start term : ℕ) (ls : List Letter) → AllByRecursion (λ l. flow_of start term l ≡ []) ls → flow start term ls ≡ []
 flow-none start term ls h = flat-none (flow_of start term) ls h
 
-pub ends-none : (start term : ℕ) (ls : List Letter) → AllByRecursion (λ l. end_of start term l ≡ []) ls → ends start term ls ≡ []
+pub ends-none : (start term : ℕ) (ls : List Letter) → AllByRecursion (λ l. end_of start term l ≡ []) ls → stream_ends_in start term ls ≡ []
 ends-none start term ls h = flat-none (end_of start term) ls h
 
 pub asks-none : (term : ℕ) (ls : List Letter) → AllByRecursion (λ l. ask_of term l ≡ []) ls → asks_in term ls ≡ []
@@ -162,20 +145,8 @@ views-none start ls h = flat-none (view_of start) ls h
 pub line-empty : (start term : ℕ) (ls : List Letter) → line start term ls ≡ [] → (l : Letter) → In l ls → line_of start term l ≡ []
 line-empty start term ls e l i = all-at (λ l. line_of start term l ≡ []) ls (flat-empty (line_of start term) ls e) l i
 
-pub flow-empty : (start term : ℕ) (ls : List Letter) → flow start term ls ≡ [] → (l : Letter) → In l ls → flow_of start term l ≡ []
-flow-empty start term ls e l i = all-at (λ l. flow_of start term l ≡ []) ls (flat-empty (flow_of start term) ls e) l i
-
-pub ends-empty : (start term : ℕ) (ls : List Letter) → ends start term ls ≡ [] → (l : Letter) → In l ls → end_of start term l ≡ []
+pub ends-empty : (start term : ℕ) (ls : List Letter) → stream_ends_in start term ls ≡ [] → (l : Letter) → In l ls → end_of start term l ≡ []
 ends-empty start term ls e l i = all-at (λ l. end_of start term l ≡ []) ls (flat-empty (end_of start term) ls e) l i
-
-pub asks-empty : (term : ℕ) (ls : List Letter) → asks_in term ls ≡ [] → (l : Letter) → In l ls → ask_of term l ≡ []
-asks-empty term ls e l i = all-at (λ l. ask_of term l ≡ []) ls (flat-empty (ask_of term) ls e) l i
-
-pub waits-empty : (c term : ℕ) (ws : List Waiting) → asks_waiting c term ws ≡ [] → (x : Waiting) → In x ws → wait_of c term x ≡ []
-waits-empty c term ws e x i = all-at (λ x. wait_of c term x ≡ []) ws (flat-empty (wait_of c term) ws e) x i
-
-pub views-empty : (start : ℕ) (ls : List Letter) → views start ls ≡ [] → (l : Letter) → In l ls → view_of start l ≡ []
-views-empty start ls e l i = all-at (λ l. view_of start l ≡ []) ls (flat-empty (view_of start) ls e) l i
 
 -- ---- for whom a message is
 
@@ -210,9 +181,6 @@ ends-other start term l n = if-false (is_for start term l) (end_in l.body) [] (f
 pub asks-here : (term : ℕ) (l : Letter) → l.term ≡ term → ask_of term l ≡ ask_in l.body
 asks-here term l t = if-true (l.term == term) (ask_in l.body) [] (eq-eqb l.term term t)
 
-pub asks-other : (term : ℕ) (l : Letter) → (l.term ≡ term → ⊥) → ask_of term l ≡ []
-asks-other term l n = if-false (l.term == term) (ask_in l.body) [] (false_from_ne_true (l.term == term) (λ e. n (eqb-true l.term term e)))
-
 pub views-here : (start : ℕ) (l : Letter) → l.start ≡ start → view_of start l ≡ view_in l.body
 views-here start l s = if-true (l.start == start) (view_in l.body) [] (eq-eqb l.start start s)
 
@@ -244,15 +212,6 @@ pub puts-cons : (es : List Entry) (e : Entry) (rest : List Line) → map Puts es
 puts-cons [] e rest k = absurd (cc)
 puts-cons (f ∷ fs) e rest k = let p = puts-first f e (map Puts fs) rest k in (fs, ap (λ x. x ∷ fs) p.0, sym p.1)
 
-pub puts-none : (es : List Entry) → map Puts es ≡ [] → es ≡ []
-puts-none [] k = refl
-puts-none (e ∷ es) k = absurd (cc)
-
-pub puts-same : (es fs : List Entry) → map Puts es ≡ map Puts fs → es ≡ fs
-puts-same [] fs k = sym (puts-none fs (sym k))
-puts-same (e ∷ es) [] k = absurd (cc)
-puts-same (e ∷ es) (f ∷ fs) k = let p = puts-first e f (map Puts es) (map Puts fs) k in λ i. p.0 i ∷ puts-same es fs p.1 i
-
 pub puts-append : (es fs : List Entry) → map Puts (es ++ fs) ≡ map Puts es ++ map Puts fs
 puts-append es fs = map-append Puts es fs
 
@@ -274,15 +233,6 @@ pub follows-cons : (es : List Entry) (e : Entry) (rest : List Flow) → map Foll
 follows-cons [] e rest k = absurd (cc)
 follows-cons (f ∷ fs) e rest k = let p = follows-first f e (map Follows fs) rest k in (fs, ap (λ x. x ∷ fs) p.0, sym p.1)
 
-pub follows-none : (es : List Entry) → map Follows es ≡ [] → es ≡ []
-follows-none [] k = refl
-follows-none (e ∷ es) k = absurd (cc)
-
-pub follows-same : (es fs : List Entry) → map Follows es ≡ map Follows fs → es ≡ fs
-follows-same [] fs k = sym (follows-none fs (sym k))
-follows-same (e ∷ es) [] k = absurd (cc)
-follows-same (e ∷ es) (f ∷ fs) k = let p = follows-first e f (map Follows es) (map Follows fs) k in λ i. p.0 i ∷ follows-same es fs p.1 i
-
 pub follows-append : (es fs : List Entry) → map Follows (es ++ fs) ≡ map Follows es ++ map Follows fs
 follows-append es fs = map-append Follows es fs
 
@@ -297,9 +247,6 @@ pub begins-same : (xs ys : List Entry) (a b : ℕ) (r q : List Flow) → Begins 
 begins-same xs ys a b r q k = (cc, cc, cc)
 
 -- ---- in the order in which a site sends
-
-abbrev pub in_order : List Letter → List Letter
-in_order ls = of_order 1 ls ++ of_order 2 ls ++ of_order 3 ls ++ of_order 4 ls
 
 module _ {A : Type 0} (f : Letter → List A) where
   -- what is said by letters of the first place alone, or of the last, is as it was
@@ -368,12 +315,6 @@ asks-place term l = elim l.body as (λ m. (order_of (record l { body = m }) == 4
   | m ↦ λ k. if-none (l.term == term)
 ]
 
-views-place : (start : ℕ) (l : Letter) → (order_of l == 4) ≡ false → view_of start l ≡ []
-views-place start l = elim l.body as (λ m. (order_of (record l { body = m }) == 4) ≡ false → view_of start (record l { body = m }) ≡ []) [
-  | msg.View w ↦ λ k. absurd (true≢false k)
-  | m ↦ λ k. if-none (l.start == start)
-]
-
 pub line-order : (start term : ℕ) (ls : List Letter) → line start term (in_order ls) ≡ line start term ls
 line-order start term ls = order-first (line_of start term) ls (all-from (λ l. (order_of l == 1) ≡ false → line_of start term l ≡ []) ls (λ l i. line-place start term l))
 
@@ -381,192 +322,80 @@ pub flow-order : (start term : ℕ) (ls : List Letter) → AllByRecursion NoStre
 flow-order start term ls h = order-first (flow_of start term) ls
     (all-mono NoStreamStart (λ l. (order_of l == 1) ≡ false → flow_of start term l ≡ []) (λ l k. flow-place start term l k) ls h)
 
-pub ends-order : (start term : ℕ) (ls : List Letter) → ends start term (in_order ls) ≡ ends start term ls
+pub ends-order : (start term : ℕ) (ls : List Letter) → stream_ends_in start term (in_order ls) ≡ stream_ends_in start term ls
 ends-order start term ls = order-last (end_of start term) ls (all-from (λ l. (order_of l == 4) ≡ false → end_of start term l ≡ []) ls (λ l i. ends-place start term l))
 
 pub asks-order : (term : ℕ) (ls : List Letter) → asks_in term (in_order ls) ≡ asks_in term ls
 asks-order term ls = order-last (ask_of term) ls (all-from (λ l. (order_of l == 4) ≡ false → ask_of term l ≡ []) ls (λ l i. asks-place term l))
 
-pub views-order : (start : ℕ) (ls : List Letter) → views start (in_order ls) ≡ views start ls
-views-order start ls = order-last (view_of start) ls (all-from (λ l. (order_of l == 4) ≡ false → view_of start l ≡ []) ls (λ l i. views-place start l))
-
--- what holds of all letters holds of them in order
-pub all-order : (P : Letter → Type 0) (ls : List Letter) → AllByRecursion P ls → AllByRecursion P (in_order ls)
-all-order P ls h =
-    all-append P (of_order 1 ls ++ of_order 2 ls ++ of_order 3 ls) (of_order 4 ls)
-    (all-append P (of_order 1 ls ++ of_order 2 ls) (of_order 3 ls) (all-append P (of_order 1 ls) (of_order 2 ls) (each 1) (each 2)) (each 3)) (each 4)
-  where
-    each : (n : ℕ) → AllByRecursion P (of_order n ls)
-    each n = all-filter P (λ l. order_of l == n) ls h
-
--- no other letters are there
-pub in-order : (l : Letter) (ls : List Letter) → In l (in_order ls) → In l ls
-in-order l ls i = all-at (λ x. In x ls) (in_order ls) (all-order (λ x. In x ls) ls (all-from (λ x. In x ls) ls (λ x k. k))) l i
-
 -- ---- what is put to a copy
 
 module _ (D : Deployment) (s : SiteState) (e : Entry) (slot : ℕ) (others : List ℕ) where
-  -- the message that it gets
-  abbrev pub put_letter : Letter
-  put_letter = letter_in (site_term s) (start_in_view D s.view slot) (msg.Put (length s.log) e s.floor)
-
-  pub put-all : (P : Letter → Type 0) → (is_in slot others ≡ true → P put_letter) → AllByRecursion P (put_to D s e slot others)
-  put-all P f = all-one P (is_in slot others) put_letter f
-
-  pub put-none : is_in slot others ≡ false → put_to D s e slot others ≡ []
-  put-none n = if-false (is_in slot others) (put_letter ∷ []) [] n
-
   pub put-line : (start term : ℕ) → is_in slot others ≡ true → start_in_view D s.view slot ≡ start → site_term s ≡ term
       → line start term (put_to D s e slot others) ≡ Puts e ∷ []
   put-line start term i a t =
-      ap (line start term) (if-true (is_in slot others) (put_letter ∷ []) [] i) ∙ append-nil (line_of start term put_letter) ∙ line-here start term put_letter a t
-
-  pub put-line-other : (start term : ℕ) → (is_in slot others ≡ true → start_in_view D s.view slot ≡ start → site_term s ≡ term → ⊥)
-      → line start term (put_to D s e slot others) ≡ []
-  put-line-other start term n = line-none start term (put_to D s e slot others) (put-all (λ l. line_of start term l ≡ []) (λ i. line-other start term put_letter (n i)))
+      ap (line start term) (if-true (is_in slot others) (put_letter D s e slot others ∷ []) [] i) ∙ append-nil (line_of start term (put_letter D s e slot others)) ∙ line-here start term (put_letter D s e slot others) a t
 
   pub put-flow : (start term : ℕ) → flow start term (put_to D s e slot others) ≡ []
-  put-flow start term = flow-none start term (put_to D s e slot others) (put-all (λ l. flow_of start term l ≡ []) (λ i. flow-plain start term put_letter refl))
-
-  pub put-ends : (start term : ℕ) → ends start term (put_to D s e slot others) ≡ []
-  put-ends start term = ends-none start term (put_to D s e slot others) (put-all (λ l. end_of start term l ≡ []) (λ i. ends-plain start term put_letter refl))
-
-  pub put-asks : (term : ℕ) → asks_in term (put_to D s e slot others) ≡ []
-  put-asks term = asks-none term (put_to D s e slot others) (put-all (λ l. ask_of term l ≡ []) (λ i. asks-plain term put_letter refl))
+  put-flow start term = flow-none start term (put_to D s e slot others) (put-all D s e slot others (λ l. flow_of start term l ≡ []) (λ i. flow-plain start term (put_letter D s e slot others) refl))
 
 -- ---- what is passed on to a joiner
 
 module _ (s : SiteState) (e : Entry) (slot : ℕ) where
-  abbrev pub task_letter : Joiner → Letter
-  task_letter j = letter_in (site_term s) j.start (msg.Task (length s.log) e)
-
-  pub tasks-all : (P : Letter → Type 0) (js : List Joiner) → ((j : Joiner) → In j js → j.slot ≡ slot → P (task_letter j)) → AllByRecursion P (tasks_to s e slot js)
-  tasks-all P js f = all-from P (tasks_to s e slot js) (λ l i.
-      let r = in-map-from task_letter l (filter (λ j. j.slot == slot) js) i in
-      let k = in-filter (λ j. j.slot == slot) r.0 js r.1 in
-      subst P r.2 (f r.0 k.0 (eqb-true r.0.slot slot k.1)))
-
   pub tasks-line : (start term : ℕ) (js : List Joiner) → line start term (tasks_to s e slot js) ≡ []
-  tasks-line start term js = line-none start term (tasks_to s e slot js) (tasks-all (λ l. line_of start term l ≡ []) js (λ j i q. line-plain start term (task_letter j) refl))
-
-  pub tasks-ends : (start term : ℕ) (js : List Joiner) → ends start term (tasks_to s e slot js) ≡ []
-  tasks-ends start term js = ends-none start term (tasks_to s e slot js) (tasks-all (λ l. end_of start term l ≡ []) js (λ j i q. ends-plain start term (task_letter j) refl))
-
-  pub tasks-asks : (term : ℕ) (js : List Joiner) → asks_in term (tasks_to s e slot js) ≡ []
-  tasks-asks term js = asks-none term (tasks_to s e slot js) (tasks-all (λ l. ask_of term l ≡ []) js (λ j i q. asks-plain term (task_letter j) refl))
-
-  -- a start that isn't counted gets none
-  pub tasks-flow-other : (start term : ℕ) (js : List Joiner) → ((j : Joiner) → In j js → j.slot ≡ slot → j.start ≡ start → site_term s ≡ term → ⊥)
-      → flow start term (tasks_to s e slot js) ≡ []
-  tasks-flow-other start term js n =
-      flow-none start term (tasks_to s e slot js) (tasks-all (λ l. flow_of start term l ≡ []) js (λ j i q. flow-other start term (task_letter j) (n j i q)))
+  tasks-line start term js = line-none start term (tasks_to s e slot js) (tasks-all s e slot (λ l. line_of start term l ≡ []) js (λ j i q. line-plain start term (task_letter s e slot j) refl))
 
   -- one that is gets one, since its slot is counted once
   pub tasks-flow : (start term : ℕ) (js : List Joiner) → Distinct (map (λ j. j.slot) js) → (j : Joiner) → In j js → j.slot ≡ slot → j.start ≡ start → site_term s ≡ term
       → flow start term (tasks_to s e slot js) ≡ Follows e ∷ []
-  tasks-flow start term js d j i q a t = ap (flow start term) (alone js d i) ∙ append-nil (flow_of start term (task_letter j)) ∙ flow-here start term (task_letter j) a t
+  tasks-flow start term js d j i q a t = ap (flow start term) (alone js d i) ∙ append-nil (flow_of start term (task_letter s e slot j)) ∙ flow-here start term (task_letter s e slot j) a t
     where
       none : (ks : List Joiner) → (In j.slot (map (λ k. k.slot) ks) → ⊥) → filter (λ k. k.slot == slot) ks ≡ []
       none ks n = in-none (filter (λ k. k.slot == slot) ks) (λ k m.
           let p = in-filter (λ k. k.slot == slot) k ks m in
           n (subst (λ x. In x (map (λ k. k.slot) ks)) (eqb-true k.slot slot p.1 ∙ sym q) (in-map (λ k. k.slot) k ks p.0)))
 
-      alone : (ks : List Joiner) → Distinct (map (λ k. k.slot) ks) → In j ks → tasks_to s e slot ks ≡ task_letter j ∷ []
+      alone : (ks : List Joiner) → Distinct (map (λ k. k.slot) ks) → In j ks → tasks_to s e slot ks ≡ task_letter s e slot j ∷ []
       alone [] d i = absurd i
       alone (k ∷ ks) d (inl p) =
-          ap (map task_letter) (if-true (k.slot == slot) (k ∷ filter (λ k. k.slot == slot) ks) (filter (λ k. k.slot == slot) ks) (eq-eqb k.slot slot (ap (λ x. x.slot) p ∙ q)))
-          ∙ ap (λ x. task_letter k ∷ map task_letter x) (none ks (λ m. d.0 (subst (λ x. In x (map (λ k. k.slot) ks)) (sym (ap (λ x. x.slot) p)) m)))
-          ∙ ap (λ x. task_letter x ∷ []) p
+          ap (map (task_letter s e slot)) (if-true (k.slot == slot) (k ∷ filter (λ k. k.slot == slot) ks) (filter (λ k. k.slot == slot) ks) (eq-eqb k.slot slot (ap (λ x. x.slot) p ∙ q)))
+          ∙ ap (λ x. task_letter s e slot k ∷ map (task_letter s e slot) x) (none ks (λ m. d.0 (subst (λ x. In x (map (λ k. k.slot) ks)) (sym (ap (λ x. x.slot) p)) m)))
+          ∙ ap (λ x. task_letter s e slot x ∷ []) p
       alone (k ∷ ks) d (inr p) =
-          ap (map task_letter) (if-false (k.slot == slot) (k ∷ filter (λ k. k.slot == slot) ks) (filter (λ k. k.slot == slot) ks)
+          ap (map (task_letter s e slot)) (if-false (k.slot == slot) (k ∷ filter (λ k. k.slot == slot) ks) (filter (λ k. k.slot == slot) ks)
           (false_from_ne_true (k.slot == slot) (λ m. d.0 (subst (λ x. In x (map (λ k. k.slot) ks)) (q ∙ sym (eqb-true k.slot slot m)) (in-map (λ k. k.slot) j ks p)))))
           ∙ alone ks d.1 p
 
 -- ---- what a copy lacks
 
 module _ (D : Deployment) (s : SiteState) (slot : ℕ) where
-  abbrev pub repair_letter : Reported → Letter
-  repair_letter r = letter_in (site_term s) (start_in_view D s.view slot) (msg.Repair r.position (drop r.position s.log))
-
-  -- by the first report of the slot, if there is one
-  pub repair-cases : (rs : List Reported)
-      → (((r : Reported) → In r rs → r.slot ≡ slot → ⊥) × (repair_to D s slot rs ≡ []))
-      ⊎ ((r : Reported) × In r rs × (r.slot ≡ slot) × (repair_to D s slot rs ≡ repair_letter r ∷ []))
-  repair-cases [] = inl ((λ r i q. i), refl)
-  repair-cases (r ∷ rs) = choice (r.slot == slot) refl (repair-cases rs)
-    where
-      choice : (b : Bool) → (r.slot == slot) ≡ b
-          → (((r : Reported) → In r rs → r.slot ≡ slot → ⊥) × (repair_to D s slot rs ≡ []))
-          ⊎ ((r : Reported) × In r rs × (r.slot ≡ slot) × (repair_to D s slot rs ≡ repair_letter r ∷ []))
-          → (((k : Reported) → In k (r ∷ rs) → k.slot ≡ slot → ⊥) × ((if b then repair_letter r ∷ [] else repair_to D s slot rs) ≡ []))
-          ⊎ ((k : Reported) × In k (r ∷ rs) × (k.slot ≡ slot) × ((if b then repair_letter r ∷ [] else repair_to D s slot rs) ≡ repair_letter k ∷ []))
-      choice true e c = inr (r, inl refl, eqb-true r.slot slot e, refl)
-      choice false e (inl c) = inl (
-        (λ k i q. elim i [
-          | inl p ↦ eqb-false r.slot slot e (ap (λ x. x.slot) p ∙ q)
-          | inr p ↦ c.0 k p q
-        ]),
-        c.1,
-      )
-      choice false e (inr c) = inr (c.0, inr c.1, c.2, c.3)
-
-  pub repair-all : (P : Letter → Type 0) (rs : List Reported) → ((r : Reported) → In r rs → r.slot ≡ slot → P (repair_letter r)) → AllByRecursion P (repair_to D s slot rs)
-  repair-all P rs f = elim (repair-cases rs) [
-    | inl c ↦ subst (AllByRecursion P) (sym c.1) tt
-    | inr c ↦ subst (AllByRecursion P) (sym c.3) (f c.0 c.1 c.2, tt)
-  ]
-
   pub repair-line : (start term : ℕ) (rs : List Reported) (r : Reported) → In r rs → r.slot ≡ slot → start_in_view D s.view slot ≡ start → site_term s ≡ term
       → (k : Reported) × In k rs × (k.slot ≡ slot) × (line start term (repair_to D s slot rs) ≡ Repairs k.position (drop k.position s.log) ∷ [])
-  repair-line start term rs r i q a t = elim (repair-cases rs) [
+  repair-line start term rs r i q a t = elim (repair-cases D s slot rs) [
     | inl c ↦ absurd (c.0 r i q)
     | inr c ↦ (
       c.0,
       c.1,
       c.2,
-      ap (line start term) c.3 ∙ append-nil (line_of start term (repair_letter c.0)) ∙ line-here start term (repair_letter c.0) a t,
+      ap (line start term) c.3 ∙ append-nil (line_of start term (repair_letter D s slot c.0)) ∙ line-here start term (repair_letter D s slot c.0) a t,
     )
   ]
 
   pub repair-line-other : (start term : ℕ) (rs : List Reported) → ((r : Reported) → In r rs → r.slot ≡ slot → start_in_view D s.view slot ≡ start → site_term s ≡ term → ⊥)
       → line start term (repair_to D s slot rs) ≡ []
   repair-line-other start term rs n =
-      line-none start term (repair_to D s slot rs) (repair-all (λ l. line_of start term l ≡ []) rs (λ r i q. line-other start term (repair_letter r) (n r i q)))
+      line-none start term (repair_to D s slot rs) (repair-all D s slot (λ l. line_of start term l ≡ []) rs (λ r i q. line-other start term (repair_letter D s slot r) (n r i q)))
 
   pub repair-flow : (start term : ℕ) (rs : List Reported) → flow start term (repair_to D s slot rs) ≡ []
-  repair-flow start term rs = flow-none start term (repair_to D s slot rs) (repair-all (λ l. flow_of start term l ≡ []) rs (λ r i q. flow-plain start term (repair_letter r) refl))
+  repair-flow start term rs = flow-none start term (repair_to D s slot rs) (repair-all D s slot (λ l. flow_of start term l ≡ []) rs (λ r i q. flow-plain start term (repair_letter D s slot r) refl))
 
-  pub repair-ends : (start term : ℕ) (rs : List Reported) → ends start term (repair_to D s slot rs) ≡ []
-  repair-ends start term rs = ends-none start term (repair_to D s slot rs) (repair-all (λ l. end_of start term l ≡ []) rs (λ r i q. ends-plain start term (repair_letter r) refl))
-
-  pub repair-asks : (term : ℕ) (rs : List Reported) → asks_in term (repair_to D s slot rs) ≡ []
-  repair-asks term rs = asks-none term (repair_to D s slot rs) (repair-all (λ l. ask_of term l ≡ []) rs (λ r i q. asks-plain term (repair_letter r) refl))
+  pub repair-ends : (start term : ℕ) (rs : List Reported) → stream_ends_in start term (repair_to D s slot rs) ≡ []
+  repair-ends start term rs = ends-none start term (repair_to D s slot rs) (repair-all D s slot (λ l. end_of start term l ≡ []) rs (λ r i q. ends-plain start term (repair_letter D s slot r) refl))
 
 -- ---- that a stream is whole
 
 module _ (s : SiteState) (slot : ℕ) where
-  abbrev pub end_letter : Joiner → Letter
-  end_letter j = letter_in (site_term s) j.start (msg.StreamEnd (unwrap_or j.count 0))
-
-  pub stream_ends-all : (P : Letter → Type 0) → ((j : Joiner) → In j s.joiners → j.slot ≡ slot → is_sent s j ≡ true → P (end_letter j)) → AllByRecursion P (stream_ends_to s slot)
-  stream_ends-all P f = all-from P (stream_ends_to s slot) (λ l i.
-      let r = in-map-from end_letter l (filter (λ j. j.slot == slot && is_sent s j) s.joiners) i in
-      let k = in-filter (λ j. j.slot == slot && is_sent s j) r.0 s.joiners r.1 in
-      let p = and_parts (r.0.slot == slot) (is_sent s r.0) k.1 in
-      subst P r.2 (f r.0 k.0 (eqb-true r.0.slot slot p.0) p.1))
-
   pub stream_ends-other : (start term : ℕ) → ((j : Joiner) → In j s.joiners → j.slot ≡ slot → j.start ≡ start → site_term s ≡ term → is_sent s j ≡ true → ⊥)
-      → ends start term (stream_ends_to s slot) ≡ []
+      → stream_ends_in start term (stream_ends_to s slot) ≡ []
   stream_ends-other start term n =
-      ends-none start term (stream_ends_to s slot) (stream_ends-all (λ l. end_of start term l ≡ []) (λ j i q c. ends-other start term (end_letter j) (λ a t. n j i q a t c)))
-
-  pub stream_ends-line : (start term : ℕ) → line start term (stream_ends_to s slot) ≡ []
-  stream_ends-line start term =
-      line-none start term (stream_ends_to s slot) (stream_ends-all (λ l. line_of start term l ≡ []) (λ j i q c. line-plain start term (end_letter j) refl))
-
-  pub stream_ends-flow : (start term : ℕ) → flow start term (stream_ends_to s slot) ≡ []
-  stream_ends-flow start term =
-      flow-none start term (stream_ends_to s slot) (stream_ends-all (λ l. flow_of start term l ≡ []) (λ j i q c. flow-plain start term (end_letter j) refl))
-
-  pub stream_ends-asks : (term : ℕ) → asks_in term (stream_ends_to s slot) ≡ []
-  stream_ends-asks term = asks-none term (stream_ends_to s slot) (stream_ends-all (λ l. ask_of term l ≡ []) (λ j i q c. asks-plain term (end_letter j) refl))
+      ends-none start term (stream_ends_to s slot) (stream_ends-all s slot (λ l. end_of start term l ≡ []) (λ j i q c. ends-other start term (end_letter s slot j) (λ a t. n j i q a t c)))

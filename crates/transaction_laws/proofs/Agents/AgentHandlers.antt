@@ -15,8 +15,8 @@ use Rattle.cluster_model.specs.Letters.{Letter, Sends, Turn, becomes, letter_to,
 use Rattle.cluster_model.specs.AgentState.{AgentState, Phase, Off, Hears, Closes, Idle, Works, Queued, Job_, Admission, RunCall, TakeSnapshot, initiates, answers_client, on_reply, stops_with_host}
 use Rattle.cluster_model.specs.Initiator.{works_queue, if_idle, queues, on_frag_done, on_finished, on_mp_state}
 use Rattle.cluster_model.specs.Agent.{to_slot, to_partition, to_initiator, hands_on, unless_down, on_call, on_closed, on_word, on_hello, takes_word, on_decided, asks_initiator, has_loaded, on_loaded, from_agent, from_site, from_director, from_client, agent_handler}
-use Rattle.word_laws.proofs.Lists.{all-mono, all-if}
-use Rattle.log_laws.specs.Histories.{LogState, Holds, IsSlot, is_for, part}
+use Rattle.cluster_steps.proofs.Lists.{all-mono, all-if}
+use Rattle.log_laws.specs.Histories.{LogState, LogsHold, IsSlot, is_for, part}
 use Rattle.log_laws.proofs.Plain.Lines.{flat-none, if-none}
 use Rattle.disk_laws.specs.Disks.{Firm}
 use Rattle.transaction_laws.specs.Transactions.{Transactions, Books, IsPart, Stood, StateOk, Initiates, PhaseOk, AnswerOk, order_in, order_of, orders}
@@ -60,33 +60,33 @@ inert-sends S n w K out none = record {
 -- ---- turns that leave the initiator's part as it is
 
 -- Rounds and ends aren't sent.
-record Leaves (a : AgentState) (t : Turn AgentState) : Type 0 where
+record LeavesInitiating (a : AgentState) (t : Turn AgentState) : Type 0 where
   pub start : t.state.start ≡ a.start
   pub decided : t.state.decided ≡ a.decided
   pub waiting : t.state.waiting ≡ a.waiting
   pub initiating : t.state.initiating ≡ a.initiating
   pub sends : (c : ℕ) → AllByRecursion NoOrder (t.sends (Site c))
 
-same-leaves : (a : AgentState) → Leaves a (becomes a)
+same-leaves : (a : AgentState) → LeavesInitiating a (becomes a)
 same-leaves a = record { start = refl; decided = refl; waiting = refl; initiating = refl; sends = λ c. tt }
 
 -- the one turn or the other
-if-leaves : (a : AgentState) (c : Bool) (x y : Turn AgentState) → Leaves a x → Leaves a y → Leaves a (if c then x else y)
+if-leaves : (a : AgentState) (c : Bool) (x y : Turn AgentState) → LeavesInitiating a x → LeavesInitiating a y → LeavesInitiating a (if c then x else y)
 if-leaves a true x y p q = p
 if-leaves a false x y p q = q
 
-reply-leaves : (D : Deployment) (a : AgentState) (call : ℕ) (e : End) → Leaves a (on_reply D a call e)
+reply-leaves : (D : Deployment) (a : AgentState) (call : ℕ) (e : End) → LeavesInitiating a (on_reply D a call e)
 reply-leaves D a call e = if-leaves a _ _ _ (same-leaves a) (client _)
   where
-    client : (o : Option ℕ) → Leaves a (answers_client a call e o)
+    client : (o : Option ℕ) → LeavesInitiating a (answers_client a call e o)
     client None = same-leaves a
     client (Some c) = record { start = refl; decided = refl; waiting = refl; initiating = refl; sends = λ c. tt }
 
-call-leaves : (D : Deployment) (a : AgentState) (w : Option Membership) (client call start : ℕ) (p : Option ℕ) (body : List ℕ) → Leaves a (on_call D a w client call start p body)
+call-leaves : (D : Deployment) (a : AgentState) (w : Option Membership) (client call start : ℕ) (p : Option ℕ) (body : List ℕ) → LeavesInitiating a (on_call D a w client call start p body)
 call-leaves D a None client call start p body = same-leaves a
 call-leaves D a (Some w) client call start p body = if-leaves a _ _ _ (unless _) (same-leaves a)
   where
-    slot : (s : ℕ) (o : Option ℕ) → Leaves a (to_slot a call client body s o)
+    slot : (s : ℕ) (o : Option ℕ) → LeavesInitiating a (to_slot a call client body s o)
     slot s None = same-leaves a
     slot s (Some to) = record {
       start = refl;
@@ -96,55 +96,55 @@ call-leaves D a (Some w) client call start p body = if-leaves a _ _ _ (unless _)
       sends = λ c. all-if NoOrder (same (Site s) (Site c)) (letter_to to (msg.SpCall call a.start body) ∷ []) [] (tt, tt) tt;
     }
 
-    partition : (o : Option ℕ) → Leaves a (to_partition D a w call client body o)
+    partition : (o : Option ℕ) → LeavesInitiating a (to_partition D a w call client body o)
     partition None = same-leaves a
     partition (Some s) = slot s _
 
-    first : (o : Option (ℕ × ℕ)) → Leaves a (to_initiator a call client body o)
+    first : (o : Option (ℕ × ℕ)) → LeavesInitiating a (to_initiator a call client body o)
     first None = same-leaves a
     first (Some m) = record { start = refl; decided = refl; waiting = refl; initiating = refl; sends = λ c. tt }
 
-    hands : (q : Option ℕ) → Leaves a (hands_on D a w client call q body)
+    hands : (q : Option ℕ) → LeavesInitiating a (hands_on D a w client call q body)
     hands (Some q) = partition _
     hands None = first _
 
-    unless : (o : Option ℕ) → Leaves a (unless_down D a w client call p body o)
+    unless : (o : Option ℕ) → LeavesInitiating a (unless_down D a w client call p body o)
     unless (Some down) = record { start = refl; decided = refl; waiting = refl; initiating = refl; sends = λ c. tt }
     unless None = hands p
 
-closed-leaves : (a : AgentState) (w : Option Membership) (start : ℕ) → Leaves a (becomes (on_closed a w start))
+closed-leaves : (a : AgentState) (w : Option Membership) (start : ℕ) → LeavesInitiating a (becomes (on_closed a w start))
 closed-leaves a None start = same-leaves a
 closed-leaves a (Some w) start = record { start = refl; decided = refl; waiting = refl; initiating = refl; sends = λ c. tt }
 
-word-leaves : (a : AgentState) (w : Option Membership) (host base : ℕ) (lost : List ℕ) (admitted : List (ℕ × ℕ)) → Leaves a (becomes (on_word a w host base lost admitted))
+word-leaves : (a : AgentState) (w : Option Membership) (host base : ℕ) (lost : List ℕ) (admitted : List (ℕ × ℕ)) → LeavesInitiating a (becomes (on_word a w host base lost admitted))
 word-leaves a None host base lost admitted = same-leaves a
 word-leaves a (Some w) host base lost admitted = choice (w.base == base)
   where
     heard : Membership
     heard = record w { lost = lost; admitted = admitted }
 
-    choice : (b : Bool) → Leaves a (becomes (if b then record a { own = Some (union heard w); said = λ h. if h == host then Some heard else a.said h } else a))
+    choice : (b : Bool) → LeavesInitiating a (becomes (if b then record a { own = Some (union heard w); said = λ h. if h == host then Some heard else a.said h } else a))
     choice true = record { start = refl; decided = refl; waiting = refl; initiating = refl; sends = λ c. tt }
     choice false = same-leaves a
 
-hello-leaves : (n : ℕ) (a : AgentState) (w : Option Membership) (host start : ℕ) → Leaves a (on_hello n a w host start)
+hello-leaves : (n : ℕ) (a : AgentState) (w : Option Membership) (host start : ℕ) → LeavesInitiating a (on_hello n a w host start)
 hello-leaves n a None host start = same-leaves a
 hello-leaves n a (Some w) host start = if-leaves a _ _ _ (record { start = refl; decided = refl; waiting = refl; initiating = refl; sends = λ c. tt }) (same-leaves a)
 
-loaded-leaves : (D : Deployment) (n : ℕ) (a : AgentState) (slot start : ℕ) → Leaves a (on_loaded D n a slot start)
+loaded-leaves : (D : Deployment) (n : ℕ) (a : AgentState) (slot start : ℕ) → LeavesInitiating a (on_loaded D n a slot start)
 loaded-leaves D n a slot start = if-leaves a (start == a.start) (has_loaded D n b a.taken) (becomes a) (loaded a.taken) (same-leaves a)
   where
     b : AgentState
     b = record a { loaded = with_number slot a.loaded }
 
-    stays : Leaves a (becomes b)
+    stays : LeavesInitiating a (becomes b)
     stays = record { start = refl; decided = refl; waiting = refl; initiating = refl; sends = λ c. tt }
 
-    asks : (w : Membership) (o : Option (ℕ × ℕ)) → Leaves a (asks_initiator n b w o)
+    asks : (w : Membership) (o : Option (ℕ × ℕ)) → LeavesInitiating a (asks_initiator n b w o)
     asks w None = stays
     asks w (Some first) = if-leaves a (first.0 == n) (becomes b) _ stays (record { start = refl; decided = refl; waiting = refl; initiating = refl; sends = λ c. tt })
 
-    loaded : (o : Option Membership) → Leaves a (has_loaded D n b o)
+    loaded : (o : Option Membership) → LeavesInitiating a (has_loaded D n b o)
     loaded None = stays
     loaded (Some w) = if-leaves a (list_all (λ s. is_in s b.loaded) (slots_of_host D n)) _ _ (asks w (initiator w)) stays
 
@@ -170,18 +170,18 @@ ForInitiator (Site c) l = elim l.body as (λ _. Type 0) [
 ForInitiator (Client c) l = ⊥
 ForInitiator (Scanner x) l = ⊥
 
-handler-leaves : (E : Database) (D : Deployment) (n stamp : ℕ) (a : AgentState) (from : Actor) (l : Letter) → (ForInitiator from l → ⊥) → Leaves a (agent_handler E D n stamp a from l)
+handler-leaves : (E : Database) (D : Deployment) (n stamp : ℕ) (a : AgentState) (from : Actor) (l : Letter) → (ForInitiator from l → ⊥) → LeavesInitiating a (agent_handler E D n stamp a from l)
 handler-leaves E D n stamp a Director l none =
-    elim l.body as (λ m. (ForInitiator Director (record l { body = m }) → ⊥) → Leaves a (from_director E D n a (record l { body = m }))) [
+    elim l.body as (λ m. (ForInitiator Director (record l { body = m }) → ⊥) → LeavesInitiating a (from_director E D n a (record l { body = m }))) [
       | msg.Snap ↦ λ k. absurd (k tt)
       | m ↦ λ k. same-leaves a
     ] none
-handler-leaves E D n stamp a (Client c) l none = elim l.body as (λ m. Leaves a (from_client D a c (record l { body = m }))) [
+handler-leaves E D n stamp a (Client c) l none = elim l.body as (λ m. LeavesInitiating a (from_client D a c (record l { body = m }))) [
   | msg.Call call start p body ↦ call-leaves D a a.decided c call start p body
   | m ↦ same-leaves a
 ]
 handler-leaves E D n stamp a (Agent g) l none =
-    elim l.body as (λ m. (ForInitiator (Agent g) (record l { body = m }) → ⊥) → Leaves a (from_agent E D n stamp a g (record l { body = m }))) [
+    elim l.body as (λ m. (ForInitiator (Agent g) (record l { body = m }) → ⊥) → LeavesInitiating a (from_agent E D n stamp a g (record l { body = m }))) [
       | msg.Closed start ↦ λ k. closed-leaves a a.own start
       | msg.Word base lost admitted ↦ λ k. word-leaves a a.own g base lost admitted
       | msg.Hello start ↦ λ k. hello-leaves n a a.decided g start
@@ -192,7 +192,7 @@ handler-leaves E D n stamp a (Agent g) l none =
       | m ↦ λ k. same-leaves a
     ] none
 handler-leaves E D n stamp a (Site c) l none =
-    elim l.body as (λ m. (ForInitiator (Site c) (record l { body = m }) → ⊥) → Leaves a (from_site E D n stamp a c (record l { body = m }))) [
+    elim l.body as (λ m. (ForInitiator (Site c) (record l { body = m }) → ⊥) → LeavesInitiating a (from_site E D n stamp a c (record l { body = m }))) [
       | msg.Reply call start e ↦ λ k. reply-leaves D a call e
       | msg.Loaded start ↦ λ k. loaded-leaves D n a c start
       | msg.FragDone m round partial ↦ λ k. absurd (k tt)
@@ -204,7 +204,7 @@ handler-leaves E D n stamp a (Scanner x) l none = same-leaves a
 
 -- ---- the handler of one that isn't an initiator
 
-takes_word-leaves : (D : Deployment) (n : ℕ) (a : AgentState) (w : Membership) → Leaves a (takes_word D n a w)
+takes_word-leaves : (D : Deployment) (n : ℕ) (a : AgentState) (w : Membership) → LeavesInitiating a (takes_word D n a w)
 takes_word-leaves D n a w = record {
   start = refl;
   decided = refl;
@@ -214,7 +214,7 @@ takes_word-leaves D n a w = record {
 }
 
 module _ (E : Database) (D : Deployment) (n stamp : ℕ) (a : AgentState) (phase : a.initiating.phase ≡ Off) (work : a.initiating.work ≡ None) (next : a.initiating.next ≡ 0) where
-  leaves-off : (t : Turn AgentState) → Leaves a t → OffGoes a t
+  leaves-off : (t : Turn AgentState) → LeavesInitiating a t → OffGoes a t
   leaves-off t k = record {
     phase = ap (λ i. i.phase) k.initiating ∙ phase;
     work = ap (λ i. i.work) k.initiating ∙ work;
@@ -291,13 +291,13 @@ phase-kept E S F K t a b (Closes m parts finished) work next k = rw (work, next)
 phase-kept E S F K t a b Idle work next k = rw (work, next) k
 phase-kept E S F K t a b Works work next k = rw (work, next) k
 
-module _ (E : Database) (S : LogState) (F : Firm) (K : Transactions) (now stamp n : ℕ) (w : Membership) (lay : LaidOut S) (H : Holds S) (B : Books E S F K now) (low : now ≤ stamp)
+module _ (E : Database) (S : LogState) (F : Firm) (K : Transactions) (now stamp n : ℕ) (w : Membership) (lay : LaidOut S) (H : LogsHold S) (B : Books E S F K now) (low : now ≤ stamp)
     (i : Initiates S n w) (phase : PhaseOk E S F K (term_of w) (S.words.agents n) (S.words.agents n).initiating.phase) where
   abbrev a : AgentState
   a = S.words.agents n
 
   -- where its part stays as it was
-  leaves-goes : (t : Turn AgentState) → Leaves a t → InitiatorGoes E S F K stamp n w a t
+  leaves-goes : (t : Turn AgentState) → LeavesInitiating a t → InitiatorGoes E S F K stamp n w a t
   leaves-goes t k = record {
     after = K;
     books = books-later E S F K now stamp low B;
@@ -372,7 +372,7 @@ module _ (E : Database) (S : LogState) (F : Firm) (K : Transactions) (now stamp 
       ]
 
 -- The handler of an initiator.
-pub handler-initiates : (E : Database) (S : LogState) (F : Firm) (K : Transactions) (now stamp n : ℕ) (w : Membership) → LaidOut S → Holds S → Books E S F K now → now ≤ stamp → Initiates S n w
+pub handler-initiates : (E : Database) (S : LogState) (F : Firm) (K : Transactions) (now stamp n : ℕ) (w : Membership) → LaidOut S → LogsHold S → Books E S F K now → now ≤ stamp → Initiates S n w
     → PhaseOk E S F K (term_of w) (S.words.agents n) (S.words.agents n).initiating.phase → (from : Actor) (l : Letter)
     → (l.term ≡ 0) ⊎ (l.term ≡ term_of w) → ((c : ℕ) → from ≡ Site c → IsSlot S c × AnswerOk E S F K (part S c) l)
     → InitiatorGoes E S F K stamp n w (S.words.agents n) (agent_handler E S.words.deployment n stamp (S.words.agents n) from l)

@@ -15,10 +15,9 @@ use Rattle.cluster_model.specs.Log.{open_in, last_done, greater, number_of}
 use Rattle.cluster_model.specs.Words.{Deployment, parts, all_parts}
 use Rattle.cluster_model.specs.Disk.{Shown, chosen, recovered, greatest_open, resolved, closed, resolved_log}
 use Rattle.cluster_model.specs.World.{greatest_done}
-use Rattle.word_laws.specs.Histories.{In}
-use Rattle.word_laws.proofs.Lists.{same-some, none-and-some, eqb-same, if-true, in-left, in-cases, in-map, in-map-from, all-at, all-from, all-append, all-mono, all-behind}
-use Rattle.log_laws.specs.Histories.{Prefix}
-use Rattle.log_laws.proofs.Plain.Prefixes.{prefix-refl, prefix-none, prefix-trans, prefix-same, prefixes-compare, prefix-drop, drop-behind}
+use Rattle.cluster_steps.specs.Lists.{In, Prefix}
+use Rattle.cluster_steps.proofs.Lists.{same-some, none-and-some, eqb-same, if-true, in-left, in-cases, in-map, in-map-from, all-at, all-from, all-append, all-mono, all-behind}
+use Rattle.cluster_steps.proofs.Prefixes.{prefix-refl, prefix-none, prefix-trans, prefix-same, prefixes-compare, prefix-drop, drop-behind}
 use Rattle.transaction_laws.specs.Machine.{WellFormed, first_stage, stage}
 use Rattle.transaction_laws.specs.Transactions.{Transactions, IsCall, OnlyCalls, OfNumber, NoRound, Aligned, point_in, since}
 use Rattle.transaction_laws.proofs.Kept.Moves.{Under}

@@ -10,10 +10,9 @@ use Rattle.volt_base.specs.declared.entry.Outcome.TheVariants.{Dropped, Kept, Ab
 use Rattle.cluster_model.specs.Engine.{Database}
 use Rattle.cluster_model.specs.Log.{last_done, outcome_if_last, first_outcome}
 use Rattle.cluster_model.specs.Words.{Deployment, parts}
-use Rattle.word_laws.specs.Histories.{In}
-use Rattle.word_laws.proofs.Lists.{same-some, none-and-some, eqb-same, if-true, in-cases, all-at, all-append}
-use Rattle.log_laws.specs.Histories.{Prefix}
-use Rattle.log_laws.proofs.Plain.Prefixes.{prefix-grows}
+use Rattle.cluster_steps.specs.Lists.{In, Prefix}
+use Rattle.cluster_steps.proofs.Lists.{same-some, none-and-some, eqb-same, if-true, in-cases, all-at, all-append}
+use Rattle.cluster_steps.proofs.Prefixes.{prefix-grows}
 use Rattle.transaction_laws.specs.Machine.{WellFormed, EndFits, first_stage, stage, point_after}
 use Rattle.transaction_laws.specs.Transactions.{Transactions, Aligned, OfNumber, point_in, since}
 use Rattle.transaction_laws.proofs.Entries.Machine.{first-sound, stage-sound, stage-append, formed-append, formed-rest, opened-point, last-in, in-last}
@@ -26,17 +25,17 @@ abbrev pub end_of : ℕ → Outcome → Option (ℕ × Outcome)
 end_of m o = Some (m, o)
 
 -- none of these is known, and so it is dropped, or the first one that is known is that of one of these
-abbrev Known : ℕ → List (Option (ℕ × Outcome)) → Type 0
-Known n lasts =
+abbrev KnownOutcome : ℕ → List (Option (ℕ × Outcome)) → Type 0
+KnownOutcome n lasts =
     (AllByRecursion (λ x. outcome_if_last n x ≡ None) lasts × (first_outcome n lasts ≡ Dropped))
     ⊎ ((last : Option (ℕ × Outcome)) × In last lasts × (outcome_if_last n last ≡ Some (first_outcome n lasts)))
 
-known-more : (n : ℕ) (x : Option (ℕ × Outcome)) (xs : List (Option (ℕ × Outcome))) → Known n xs → (o : Option Outcome) → outcome_if_last n x ≡ o → Known n (x ∷ xs)
+known-more : (n : ℕ) (x : Option (ℕ × Outcome)) (xs : List (Option (ℕ × Outcome))) → KnownOutcome n xs → (o : Option Outcome) → outcome_if_last n x ≡ o → KnownOutcome n (x ∷ xs)
 known-more n x xs k (Some o) e = inr (x, inl refl, e ∙ ap (λ z. Some (unwrap_or z (first_outcome n xs))) (sym e))
 known-more n x xs (inl (none, dropped)) None e = inl ((e, none), ap (λ z. unwrap_or z (first_outcome n xs)) e ∙ dropped)
 known-more n x xs (inr (last, i, f)) None e = inr (last, inr i, f ∙ ap (λ z. Some (unwrap_or z (first_outcome n xs))) (sym e))
 
-first-known : (n : ℕ) (lasts : List (Option (ℕ × Outcome))) → Known n lasts
+first-known : (n : ℕ) (lasts : List (Option (ℕ × Outcome))) → KnownOutcome n lasts
 first-known n [] = inl (tt, refl)
 first-known n (x ∷ xs) = known-more n x xs (first-known n xs) (outcome_if_last n x) refl
 

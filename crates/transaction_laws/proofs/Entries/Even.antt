@@ -7,8 +7,8 @@ use Rattle.volt_base.specs.declared.entry.Entry.TheVariants.{Done}
 use Rattle.volt_base.specs.declared.entry.Outcome.{Outcome}
 use Rattle.cluster_model.specs.Engine.{Database}
 use Rattle.cluster_model.specs.Words.{Deployment, parts}
-use Rattle.word_laws.specs.Histories.{In}
-use Rattle.word_laws.proofs.Lists.{same-some, in-left, in-right, in-cases, all-at}
+use Rattle.cluster_steps.specs.Lists.{In}
+use Rattle.cluster_steps.proofs.Lists.{same-some, in-left, in-right, in-cases, all-at}
 use Rattle.transaction_laws.specs.Machine.{WellFormed, first_stage, stage}
 use Rattle.transaction_laws.specs.Transactions.{Transactions, Aligned, OfNumber, point_in, since}
 use Rattle.transaction_laws.proofs.Entries.Machine.{first-sound, stage-append, formed-prefix, formed-rest, open-ends, end-number, one-end}

@@ -8,9 +8,8 @@ use Rattle.volt_base.specs.declared.entry.Outcome.{Outcome}
 use Rattle.volt_base.specs.declared.entry.Outcome.TheVariants.{Dropped, Kept, Aborted, Snapshot}
 use Rattle.cluster_model.specs.Engine.{Database}
 use Rattle.cluster_model.specs.Log.{open_in, open_behind, last_done, done_behind, number_of}
-use Rattle.word_laws.specs.Histories.{In}
-use Rattle.word_laws.proofs.Lists.{same-some, none-and-some}
-use Rattle.log_laws.specs.Histories.{Prefix}
+use Rattle.cluster_steps.specs.Lists.{In, Prefix}
+use Rattle.cluster_steps.proofs.Lists.{same-some, none-and-some}
 use Rattle.transaction_laws.specs.Machine.{Stage, first_stage, next_stage, stage_behind, stage, IsOpen, Fits, WellFormed}
 use Rattle.transaction_laws.specs.Transactions.{OnlyCalls, IsOrder, OfNumber}
 use Rattle.transaction_laws.proofs.Kept.Moves.{CallsAt}
@@ -106,13 +105,6 @@ calls-number s [] h = refl
 calls-number s (Sp call point body ∷ es) h = calls-number (record s { point = point }) es h.1
 calls-number s (Frag m round body ∷ es) h = absurd h.0
 calls-number s (Done m o ∷ es) h = absurd h.0
-
--- none fits where a transaction is open
-pub opened-no-calls : (s : Stage) (es : List Entry) (m r : ℕ) → s.opened ≡ Some (m, r) → OnlyCalls es → WellFormed s es → es ≡ []
-opened-no-calls s [] m r e h k = refl
-opened-no-calls s (Sp call point body ∷ es) m r e h k = absurd (none-and-some k.0.0 e)
-opened-no-calls s (Frag n round body ∷ es) m r e h k = absurd h.0
-opened-no-calls s (Done n o ∷ es) m r e h k = absurd h.0
 
 pub calls-formed : (s : Stage) (n : ℕ) (es : List Entry) → CallsAt n es → s.opened ≡ None → s.point ≤ n → WellFormed s es
 calls-formed s n [] h e l = tt

@@ -9,11 +9,11 @@ use Rattle.volt_base.specs.declared.entry.Entry.TheVariants.{Sp, Frag, Done}
 use Rattle.volt_base.specs.declared.entry.Outcome.{Outcome}
 use Rattle.cluster_model.specs.Engine.{Database}
 use Rattle.cluster_model.specs.Words.{Deployment, parts, all_parts}
-use Rattle.word_laws.specs.Histories.{In}
-use Rattle.word_laws.proofs.Lists.{all-at, all-mono}
+use Rattle.cluster_steps.specs.Lists.{In}
+use Rattle.cluster_steps.proofs.Lists.{all-at, all-mono}
 use Rattle.log_laws.specs.Histories.{LogState, Leadership}
 use Rattle.log_laws.proofs.Plain.Copies.{range-in, in-range}
-use Rattle.log_laws.proofs.Plain.Prefixes.{prefix-length, prefix-rest}
+use Rattle.cluster_steps.proofs.Prefixes.{prefix-length, prefix-rest}
 use Rattle.transaction_laws.specs.Machine.{Stage, WellFormed, first_stage, stage, stage_behind}
 use Rattle.transaction_laws.specs.Transactions.{Transactions, Aligned, IsCall, OnlyCalls, IsOrder, OfNumber, NoRound, DueOk, since, led_log, whole}
 use Rattle.transaction_laws.proofs.Entries.Machine.{first-sound, stage-append, formed-rest, prefix-number, calls-opened, calls-number, opened-number, only-number}

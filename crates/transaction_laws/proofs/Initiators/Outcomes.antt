@@ -9,8 +9,8 @@ use Rattle.cluster_model.specs.Engine.{Database}
 use Rattle.cluster_model.specs.Log.{first_outcome}
 use Rattle.cluster_model.specs.AgentState.{Heard, Work, Decision}
 use Rattle.cluster_model.specs.Initiator.{last_told, own_decision, closing_outcome}
-use Rattle.word_laws.specs.Histories.{In}
-use Rattle.word_laws.proofs.Lists.{not-both, if-true, in-map, in-map-from}
+use Rattle.cluster_steps.specs.Lists.{In}
+use Rattle.cluster_steps.proofs.Lists.{not-both, if-true, in-map, in-map-from}
 use Rattle.log_laws.specs.Histories.{LogState}
 use Rattle.disk_laws.specs.Disks.{Firm}
 use Rattle.transaction_laws.specs.Machine.{first_stage, stage, stage_behind}

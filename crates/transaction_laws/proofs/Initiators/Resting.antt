@@ -3,7 +3,8 @@ use Rattle.std.proofs.Common.{◌≡◌, ◌≤◌, List, length, drop}
 use Rattle.std.specs.Prelude.{ℕ, Some, None}
 use Rattle.volt_base.specs.declared.entry.Entry.{Entry}
 use Rattle.cluster_model.specs.Engine.{Database}
-use Rattle.log_laws.specs.Histories.{LogState, Prefix, Leadership}
+use Rattle.log_laws.specs.Histories.{LogState, Leadership}
+use Rattle.cluster_steps.specs.Lists.{Prefix}
 use Rattle.disk_laws.specs.Disks.{Firm}
 use Rattle.transaction_laws.specs.Machine.{stage}
 use Rattle.transaction_laws.specs.Transactions.{Transactions, Books, HeardPart, Aligned, IsPart, OnlyCalls, Everywhere, since, whole}

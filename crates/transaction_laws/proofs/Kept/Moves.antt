@@ -11,8 +11,8 @@ use Rattle.cluster_model.specs.Engine.{Database}
 use Rattle.cluster_model.specs.Words.{term_of, leader, start_of_slot}
 use Rattle.cluster_model.specs.Letters.{Letter, Sends, Turn}
 use Rattle.cluster_model.specs.AgentState.{AgentState, Off, new_agent}
-use Rattle.word_laws.specs.Histories.{In}
-use Rattle.log_laws.specs.Histories.{LogState, Logs, Leadership, Prefix, IsSlot, part}
+use Rattle.cluster_steps.specs.Lists.{In, Prefix}
+use Rattle.log_laws.specs.Histories.{LogState, Logs, Leadership, IsSlot, part}
 use Rattle.log_laws.proofs.Kept.Moves.{Onward}
 use Rattle.disk_laws.specs.Disks.{Firm, Top}
 use Rattle.transaction_laws.specs.Machine.{stage}
@@ -50,22 +50,22 @@ pub record Onto (S T : LogState) (F M : Firm) : Type 0 where
 -- ---- the turn of a site, in its effect on the log of one partition's leader in one term
 
 -- calls run behind a log, where no transaction is open
-pub record Runs (E : Database) (p stamp : ℕ) (log after : List Entry) : Type 0 where
+pub record RunsBehind (E : Database) (p stamp : ℕ) (log after : List Entry) : Type 0 where
   pub calls : List Entry
   pub is : after ≡ log ++ calls
   pub at : CallsAt stamp calls
   pub room : (calls ≡ []) ⊎ ((stage E p log).opened ≡ None)
 
 -- The term stays as it was, or it begins, or its leader takes what was due to it and runs calls.
-pub record Begins (E : Database) (F G : Logs) (due next : List Entry) (stamp p t : ℕ) : Type 0 where
+pub record BeginsTerm (E : Database) (F G : Logs) (due next : List Entry) (stamp p t : ℕ) : Type 0 where
   pub none : F.leadership p t ≡ None
   pub leadership : Leadership
   pub led : G.leadership p t ≡ Some leadership
   pub before : due ≡ []
   pub after : next ≡ []
-  pub runs : Runs E p stamp leadership.begun leadership.log
+  pub runs : RunsBehind E p stamp leadership.begun leadership.log
 
-pub record Goes (E : Database) (F G : Logs) (due next : List Entry) (stamp p t : ℕ) : Type 0 where
+pub record GoesOnTerm (E : Database) (F G : Logs) (due next : List Entry) (stamp p t : ℕ) : Type 0 where
   pub old : Leadership
   pub was : F.leadership p t ≡ Some old
   pub new : Leadership
@@ -73,13 +73,13 @@ pub record Goes (E : Database) (F G : Logs) (due next : List Entry) (stamp p t :
   pub begun : new.begun ≡ old.begun
   pub taken : List Entry
   pub due_is : due ≡ taken ++ next
-  pub runs : Runs E p stamp (old.log ++ taken) new.log
+  pub runs : RunsBehind E p stamp (old.log ++ taken) new.log
 
 abbrev pub Moved : Database → Logs → Logs → (ℕ → ℕ → List Entry) → (ℕ → ℕ → List Entry) → ℕ → ℕ → ℕ → Type 0
 Moved E F G due next stamp p t =
     ((G.leadership p t ≡ F.leadership p t) × (next p t ≡ due p t))
-    ⊎ Begins E F G (due p t) (next p t) stamp p t
-    ⊎ Goes E F G (due p t) (next p t) stamp p t
+    ⊎ BeginsTerm E F G (due p t) (next p t) stamp p t
+    ⊎ GoesOnTerm E F G (due p t) (next p t) stamp p t
 
 -- with what is due by then
 abbrev pub with_due : Transactions → (ℕ → ℕ → List Entry) → Transactions

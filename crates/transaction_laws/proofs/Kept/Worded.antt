@@ -9,10 +9,11 @@ use Rattle.cluster_model.specs.Words.{Deployment}
 use Rattle.cluster_model.specs.Letters.{Letter}
 use Rattle.cluster_model.specs.AgentState.{AgentState, Phase, Off, Hears, Closes, Idle, Works, Work, Decision}
 use Rattle.cluster_model.specs.Disk.{Shown}
-use Rattle.word_laws.specs.Histories.{In, History}
-use Rattle.word_laws.proofs.Lists.{all-mono}
+use Rattle.cluster_steps.specs.Lists.{In}
+use Rattle.word_laws.specs.Histories.{History}
+use Rattle.cluster_steps.proofs.Lists.{all-mono}
 use Rattle.log_laws.specs.Histories.{LogState}
-use Rattle.log_laws.proofs.Plain.Prefixes.{prefix-refl}
+use Rattle.cluster_steps.proofs.Prefixes.{prefix-refl}
 use Rattle.log_laws.proofs.Agents.Views.{worded}
 use Rattle.disk_laws.specs.Disks.{Firm, Shows}
 use Rattle.transaction_laws.specs.Transactions.{Transactions, Settled, Fed, AtHand, PhaseOk, Aligned}

@@ -2,7 +2,6 @@
 use Rattle.std.proofs.Common.{◌≡◌, ◌<◌, Bool, true, false, List, [], ◌∷◌, ◌++◌, length, length-append, refl, sym, subst, ap, ◌∙◌, ◌==◌, ◌+◌, arith}
 use Rattle.std.proofs.lemmas.Bool.{and_parts}
 use Rattle.std.specs.Prelude.{ℕ, ◌&&◌, not, nat_lt, if◌then◌else◌, Some, None}
-use Rattle.std.specs.List.{AllByRecursion}
 use Rattle.volt_wire.specs.declared.actor.Actor.{Actor}
 use Rattle.volt_wire.specs.declared.actor.Actor.TheVariants.{Director, Client, Agent, Site, Scanner}
 use Rattle.volt_wire.specs.declared.event.Event.{Event}
@@ -14,14 +13,15 @@ use Rattle.cluster_model.specs.SiteState.{SiteState, no_site, member_site}
 use Rattle.cluster_model.specs.Agent.{agent_turn}
 use Rattle.cluster_model.specs.Sync.{may_sync, site_turn, sync_turn}
 use Rattle.cluster_model.specs.Environment.{Environment, NoFault, DiskFails, NoMemory, DisksShow}
-use Rattle.cluster_model.specs.World.{World, Stopped, Input, first_world, stamp_of, took, with_site, stops_with, new_word, start_from}
+use Rattle.cluster_model.specs.World.{World, Stopped, Input, IsInput, first_world, stamp_of, took, with_site, stops_with, new_word, start_from}
 use Rattle.cluster_model.specs.Recover.{new_base, new_log, new_site, starts_anew, stays_stopped}
 use Rattle.cluster_model.specs.Events.{is_actor, is_some_letter, is_shown, is_slot_or_none, may_recover, can, allows, delivered, recovered_with, may_do, happens, step}
-use Rattle.cluster_model.specs.Runs.{Happening, IsRun, has_failed, may_happen, run}
+use Rattle.cluster_model.specs.Runs.{Happening, Reached, has_failed, may_happen}
+use Rattle.cluster_model.proofs.Runs.{reached-kept}
 use Rattle.word_laws.specs.Histories as word
-use Rattle.word_laws.proofs.Lists.{if-false, set-both, all-mono}
+use Rattle.cluster_steps.proofs.Lists.{if-false, set-both}
 use Rattle.word_laws.proofs.Worlds.{actor-host, host-apart, memory-runs}
-use Rattle.log_laws.specs.Histories.{Logs, LogState, Holds, WaitingOk}
+use Rattle.log_laws.specs.Histories.{Logs, LogState, LogsHold}
 use Rattle.log_laws.specs.Copies.{log_state, HasLogs}
 use Rattle.log_laws.proofs.Kept.Moves.{Grown}
 use Rattle.log_laws.proofs.Runs.Boots.{first-logs, anew-logs}
@@ -34,10 +34,10 @@ use Rattle.disk_laws.proofs.Syncs.{sync-disks, sync-runs}
 use Rattle.disk_laws.proofs.Recoveries.{stopped-hold}
 use Rattle.disk_laws.proofs.Boots.{firm_in, first-disks, anew-disks}
 use Rattle.disk_laws.proofs.Others.{disks-plain, disks-agent}
-use Rattle.disk_laws.proofs.Handlers.{PlainWaiting, waiting-plain}
+use Rattle.reply_laws.proofs.Turns.{waits-plain}
 use Rattle.disk_laws.proofs.SiteTurns.{site_turn-kept}
 use Rattle.transaction_laws.specs.Transactions.{Transactions, CallsHold}
-use Rattle.transaction_laws.specs.Worlds.{IsLaidOut}
+use Rattle.cluster_model.specs.Words.{IsLaidOut}
 use Rattle.transaction_laws.proofs.Runs.Blank.{Blank, turn-blank, sync-blank}
 use Rattle.transaction_laws.proofs.Kept.Others.{calls-plain}
 use Rattle.transaction_laws.proofs.Agents.AgentEvents.{agent-calls}
@@ -88,7 +88,7 @@ module _ (E : Database) (now : ℕ) (w : World) (d : HasCalls E now w) where
   plain-known : (next : ℕ) (ch : Actor → Actor → List Letter) (owner : ℕ → ℕ)
       → ((i c : ℕ) → ch (Site i) (Site c) ≡ w.channel (Site i) (Site c)) → ((h c : ℕ) → ch (Agent h) (Site c) ≡ w.channel (Agent h) (Site c))
       → ((c h : ℕ) → ch (Site c) (Agent h) ≡ w.channel (Site c) (Agent h))
-      → Holds (record S { words = record S.words { next = next; channel = ch; owner = owner } })
+      → LogsHold (record S { words = record S.words { next = next; channel = ch; owner = owner } })
       → Known E (now + 1) (record S { words = record S.words { next = next; channel = ch; owner = owner } }) (firm_in w) d.halted
   plain-known next ch owner between down up h = record {
     disks = disks-plain S (firm_in w) d.halted d.disks next ch owner between;
@@ -97,9 +97,9 @@ module _ (E : Database) (now : ℕ) (w : World) (d : HasCalls E now w) where
   }
 
 -- with the same histories of words and logs
-kept-holds : (w v : World) (k : HasLogs w) (n : Keeps w k v) → Holds (log_state v n.next.owner k.history k.logs)
+kept-holds : (w v : World) (k : HasLogs w) (n : Keeps w k v) → LogsHold (log_state v n.next.owner k.history k.logs)
 kept-holds w v k n =
-    subst (λ h. Holds (log_state v n.next.owner h k.logs)) n.history (subst (λ G. Holds (log_state v n.next.owner n.next.history G)) n.logs n.next.holds)
+    subst (λ h. LogsHold (log_state v n.next.owner h k.logs)) n.history (subst (λ G. LogsHold (log_state v n.next.owner n.next.history G)) n.logs n.next.holds)
 
 keeps-calls : (E : Database) (now : ℕ) (w v : World) (k : HasLogs w) (n : Keeps w k v) (halted : Bool) → IsLaidOut v.deployment → ((i : ℕ) → Blank (v.sites i))
     → Known E now (log_state v n.next.owner k.history k.logs) (firm_in v) halted → HasCalls E now v
@@ -191,7 +191,7 @@ module _ (E : Database) (w : World) (d : HasCalls E (length w.trace) w) (channel
   abbrev after-turn : World
   after-turn = with_site (record w { channel = channel; stops = stops }) i t
 
-  site-known : (G : Logs) (H : Holds (log_state after-turn d.logs.owner d.logs.history G)) → Grown w.deployment i t.state d.logs.logs G
+  site-known : (G : Logs) (H : LogsHold (log_state after-turn d.logs.owner d.logs.history G)) → Grown w.deployment i t.state d.logs.logs G
       → Known E (length w.trace + 1) (log_state after-turn d.logs.owner d.logs.history G) (firm_in after-turn) d.halted → Blank t.state → HasCalls E (length w.trace + 1) after-turn
   site-known G H grown known blank =
       let k = d.logs in
@@ -201,12 +201,6 @@ module _ (E : Database) (w : World) (d : HasCalls E (length w.trace) w) (channel
       known-has E (length w.trace + 1) after-turn d.halted d.laid r.next
       (subst (λ x. Are x r.next.history r.next.logs) (sym e.0) (subst (λ h. Are k.owner h r.next.logs) (sym e.1) (subst (Are k.owner k.history) (sym e.2) known)))
       (set-both (λ c s. Blank s) w.sites i t.state blank (λ c n. d.blank c))
-
--- what waits at a site is plain
-waits-plain : (w : World) (k : HasLogs w) (i : ℕ) → 0 < (w.sites i).start → AllByRecursion PlainWaiting (w.sites i).waiting
-waits-plain w k i up =
-    let S = log_state w k.owner k.history k.logs in
-    all-mono (WaitingOk S i) PlainWaiting (waiting-plain S i) (w.sites i).waiting ((k.holds.sites i).keeps up).waiting
 
 to_site-calls : (E : Database) (w : World) (i : ℕ) (from : Actor) (ls : List Letter) (o : Environment) → HasCalls E (length w.trace) w → w.channel from (Site i) ≡ ls
     → nat_lt i (slots w.deployment) ≡ true → HasCalls E (length w.trace + 1) (delivered E w (Site i) from ls o)
@@ -223,7 +217,7 @@ to_site-calls E w i from (l ∷ ls) o d is slot =
     let go = site_turn-kept S k.holds (firm_in w) d.halted d.disks i slot E (stamp_of w) from l ls o is M r.0 r.1 r.2 raised in
     let c = site-calls E S k.holds (firm_in w) d.halted d.transactions (length w.trace) d.calls d.laid i slot d.disks from l ls is o r.0 M r.1 r.2 r.3 r.4 go raised in
     site-known E w d channel stops i t r.0 r.1 r.2 (record { disks = go.disks; transactions = _; calls = c.1 })
-    (turn-blank E w.deployment (stamp_of w) i (w.sites i) (d.blank i) (waits-plain w k i) from l o)
+    (turn-blank E w.deployment (stamp_of w) i (w.sites i) (d.blank i) (waits-plain S k.holds i) from l o)
 
 site-syncs : (E : Database) (w : World) (i : ℕ) (o : Environment) → HasCalls E (length w.trace) w → nat_lt i (slots w.deployment) ≡ true → may_sync (w.sites i) ≡ true
     → HasCalls E (length w.trace + 1) (happens E w (event.Sync i) o)
@@ -349,11 +343,7 @@ step-calls E w e may d =
     let same : length w.trace + 1 ≡ length (v.trace ++ e.0 ∷ []) = sym (length-append v.trace (e.0 ∷ []) ∙ ap (λ t. length t + 1) (happens-trace E w e.0 e.1)) in
     subst (λ n. HasCalls E n (step E w e)) same (noted E (length w.trace + 1) v (v.trace ++ e.0 ∷ []) (happens-calls E w e.0 e.1 d inner.1 outer.1))
 
--- ---- runs
-
-run-calls : (E : Database) (es : List Happening) (w : World) → IsRun E es w → HasCalls E (length w.trace) w → HasCalls E (length (run E es w).trace) (run E es w)
-run-calls E [] w r d = d
-run-calls E (e ∷ es) w r d = run-calls E es (step E w e) r.1 (step-calls E w e r.0 d)
+-- ---- reached worlds
 
 -- no site of the first world is blank but where there is no slot
 first-blank : (E : Database) (I : Input) (i : ℕ) → Blank ((first_world E I).sites i)
@@ -363,15 +353,17 @@ first-blank E I i = choice (nat_lt i (slots I.deployment))
     choice true z = absurd (omega (arith, z))
     choice false z = refl
 
--- All holds in each world of a run.
-pub calls-agree : (E : Database) (I : Input) (es : List Happening) → IsLaidOut I.deployment → 0 < I.base → IsRun E es (first_world E I)
-    → HasCalls E (length (run E es (first_world E I)).trace) (run E es (first_world E I))
-calls-agree E I es laid some r = run-calls E es (first_world E I) r (record {
-  laid = laid;
-  logs = first-logs E I some;
-  halted = false;
-  disks = first-disks E I some;
-  transactions = _;
-  calls = first-calls E I some laid 0;
-  blank = first-blank E I;
-})
+-- All holds in each world that is reached.
+pub calls-agree : (E : Database) (I : Input) (w : World) → Reached E I w → HasCalls E (length w.trace) w
+calls-agree E I w r = reached-kept E (λ v. HasCalls E (length v.trace) v) (step-calls E) I w first r
+  where
+    first : IsInput I → HasCalls E 0 (first_world E I)
+    first is = record {
+      laid = is.deployment.layout;
+      logs = first-logs E I is.base;
+      halted = false;
+      disks = first-disks E I is.base;
+      transactions = _;
+      calls = first-calls E I is.base is.deployment.layout 0;
+      blank = first-blank E I;
+    }

@@ -13,12 +13,13 @@ use Rattle.cluster_model.specs.Words.{Deployment, term_of, term_in, start_of_slo
 use Rattle.cluster_model.specs.Letters.{Letter, Sends}
 use Rattle.cluster_model.specs.SiteState.{SiteState, Reported, site_term, leads}
 use Rattle.cluster_model.specs.Site.{longest, lacks}
-use Rattle.word_laws.specs.Histories.{In}
-use Rattle.word_laws.proofs.Lists.{all-at, all-behind, eqb-same, if-false, if-true, is_none-none, none-and-some, same-some}
-use Rattle.log_laws.specs.Histories.{LogState, Logs, Entered, Leadership, Prefix, WordOf, Holds, IsSlot, LeadsIn, MemberOk, ReportOk, part, start_at, log_at, term_at}
-use Rattle.log_laws.proofs.Plain.Copies.{leader-is, leads-from}
-use Rattle.log_laws.proofs.Plain.Prefixes.{prefix-length, prefixes-order}
-use Rattle.log_laws.proofs.Kept.Moves.{Enters, Grown, Heads, after}
+use Rattle.cluster_steps.specs.Lists.{In, Prefix}
+use Rattle.cluster_steps.proofs.Lists.{all-at, all-behind, eqb-same, if-false, if-true, is_none-none, none-and-some, same-some}
+use Rattle.log_laws.specs.Histories.{LogState, Logs, Entered, Leadership, WordOf, LogsHold, IsSlot, LeadsIn, MemberOk, ReportOk, part, site_start, log_at, term_at}
+use Rattle.log_laws.proofs.Plain.Copies.{leader-is}
+use Rattle.cluster_steps.proofs.Leaders.{leads-from}
+use Rattle.cluster_steps.proofs.Prefixes.{prefix-length, prefixes-order}
+use Rattle.log_laws.proofs.Kept.Moves.{Enters, Grown, Heads, after_site}
 use Rattle.log_laws.proofs.Kept.Plumbing.{here}
 use Rattle.log_laws.proofs.Kept.Terms.{entered-start, leadership-entered, running-slot, same-word}
 use Rattle.log_laws.proofs.Entries.Leads.{Leading, leading}
@@ -26,9 +27,9 @@ use Rattle.log_laws.proofs.NewTerms.Beginning.{longest-cases}
 use Rattle.log_laws.proofs.Runs.Leading.{heads-authoritative, leads-runs}
 use Rattle.transaction_laws.specs.Machine.{first_stage, stage}
 use Rattle.transaction_laws.specs.Transactions.{Transactions, DueOk}
-use Rattle.transaction_laws.proofs.Kept.Moves.{IsCallAt, CallsAt, Runs, Moved}
+use Rattle.transaction_laws.proofs.Kept.Moves.{IsCallAt, CallsAt, RunsBehind, Moved}
 use Rattle.transaction_laws.proofs.Entries.Machine.{calls-only, calls-opened, open_in-stage, stage-append}
-use Rattle.transaction_laws.proofs.Sites.SiteLogs.{Steady, Started, repaired_log}
+use Rattle.transaction_laws.proofs.Sites.SiteLogs.{SteadyLog, Started, repaired_log}
 
 -- ---- logs
 
@@ -47,7 +48,7 @@ nothing-opened E p log e = go (stage E p log).opened (sym (open_in-stage E p log
 
 -- Behind this log stand calls, and it is a prefix of what a term began with: so calls stand behind that.
 runs-behind : (E : Database) (p stamp : ℕ) (low begun log more : List Entry) → log ≡ low ++ more → Prefix low begun → Prefix begun log → CallsAt stamp more
-    → (more ≡ []) ⊎ (nothing_open low ≡ true) → Runs E p stamp begun log
+    → (more ≡ []) ⊎ (nothing_open low ≡ true) → RunsBehind E p stamp begun log
 runs-behind E p stamp low begun log more is (a, f) (b, g) at room = record {
   calls = b;
   is = g;
@@ -83,10 +84,10 @@ repaired-short s reports n low each = elim (longest-cases (length s.log) None re
       omega (arith, low, e, f, g, a, b, longer, k.2, k.3)
 ]
 
--- ---- a site that leads after a turn
+-- ---- a site that leads after_site a turn
 
--- Slot i has this site after its turn, with what it sent, and these channels before that.
-module _ (S : LogState) (H : Holds S) (i : ℕ) (ch : Actor → Actor → List Letter) (u : SiteState) (out : Sends) (G : Logs) where
+-- Slot i has this site after_site its turn, with what it sent, and these channels before that.
+module _ (S : LogState) (H : LogsHold S) (i : ℕ) (ch : Actor → Actor → List Letter) (u : SiteState) (out : Sends) (G : Logs) where
   abbrev D : Deployment
   D = S.words.deployment
 
@@ -94,16 +95,16 @@ module _ (S : LogState) (H : Holds S) (i : ℕ) (ch : Actor → Actor → List L
   s = S.sites i
 
   abbrev pub next : LogState
-  next = after (record S { words = record S.words { channel = ch } }) i u out G
+  next = after_site (record S { words = record S.words { channel = ch } }) i u out G
 
   -- In a term that it heads, and that is led, it leads.
-  pub heads-own : Holds next → (p t : ℕ) (g : Leadership) → G.leadership p t ≡ Some g → Heads D i u p t → (leads D i u ≡ true) × (p ≡ part S i) × (t ≡ site_term u)
+  pub heads-own : LogsHold next → (p t : ℕ) (g : Leadership) → G.leadership p t ≡ Some g → Heads D i u p t → (leads D i u ≡ true) × (p ≡ part S i) × (t ≡ site_term u)
   heads-own J p t g is heads =
       let there = here (record S { words = record S.words { channel = ch } }) i u out G in
       let authoritative = heads-authoritative next J i p t g (subst (λ x. Heads D i x p t) (sym there) heads) is in
       (ap (leads D i) (sym there) ∙ authoritative, sym heads.part_is, sym heads.term_is ∙ ap term_in (sym heads.view))
 
-  module _ (J : Holds next) (enters : Enters i (length (log_at S i)) S.logs G) (on : (u.start ≡ start_at S i) ⊎ (u.view ≡ None)) (authoritative : leads D i u ≡ true) where
+  module _ (J : LogsHold next) (enters : Enters i (length (log_at S i)) S.logs G) (on : (u.start ≡ site_start S i) ⊎ (u.view ≡ None)) (authoritative : leads D i u ≡ true) where
     site : next.sites i ≡ u
     site = here (record S { words = record S.words { channel = ch } }) i u out G
 
@@ -124,14 +125,14 @@ module _ (S : LogState) (H : Holds S) (i : ℕ) (ch : Actor → Actor → List L
     log = ap (λ x. x.log) (sym site) ∙ k.log
 
     -- it goes on with its start
-    pub start : start_at next i ≡ start_at S i
+    pub start : site_start next i ≡ site_start S i
     start = ap (λ x. x.start) site ∙ go on
       where
-        go : (u.start ≡ start_at S i) ⊎ (u.view ≡ None) → u.start ≡ start_at S i
+        go : (u.start ≡ site_start S i) ⊎ (u.view ≡ None) → u.start ≡ site_start S i
         go (inl e) = e
         go (inr e) = absurd (none-and-some e view)
 
-    pub runs : 0 < start_at S i
+    pub runs : 0 < site_start S i
     runs = subst (λ n. 0 < n) start (leads-runs next J i authoritative-there)
 
     slot : IsSlot S i
@@ -140,13 +141,13 @@ module _ (S : LogState) (H : Holds S) (i : ℕ) (ch : Actor → Actor → List L
     word : WordOf S (term_of k.word) k.word
     word = record { decided = k.member.decided; term_is = refl }
 
-    member-start : start_of_slot D k.word i ≡ Some (start_at S i)
+    member-start : start_of_slot D k.word i ≡ Some (site_start S i)
     member-start = k.member.start_is ∙ ap Some start
 
     -- ---- what it was before
 
     -- It had entered the term with this start: so it was in it, with this word.
-    in-term : (e : Entered) → S.logs.entered i (term_of k.word) ≡ Some e → e.start ≡ start_at S i
+    in-term : (e : Entered) → S.logs.entered i (term_of k.word) ≡ Some e → e.start ≡ site_start S i
         → (s.joining ≡ None) × (s.view ≡ Some k.word) × MemberOk S i k.word
     in-term e is own =
         let r = (H.entered i (term_of k.word) e is).running (sym own) in
@@ -160,7 +161,7 @@ module _ (S : LogState) (H : Holds S) (i : ℕ) (ch : Actor → Actor → List L
     pub led-before : (g : Leadership) → S.logs.leadership (part S i) (term_of k.word) ≡ Some g
         → (leads D i s ≡ true) × (s.view ≡ Some k.word) × (log_at S i ≡ g.log)
     led-before g is =
-        let e = leadership-entered S H (part S i) (term_of k.word) g is k.word word i (start_at S i) slot refl member-start in
+        let e = leadership-entered S H (part S i) (term_of k.word) g is k.word word i (site_start S i) slot refl member-start in
         let m = in-term e.0 e.1 e.2 in
         let l = subst (LeadsIn s) is (m.2.leading k.first) in
         (leads-from D i s (leader-is D i s k.word m.1 m.0 k.first) l.0, m.1, l.1)
@@ -168,7 +169,7 @@ module _ (S : LogState) (H : Holds S) (i : ℕ) (ch : Actor → Actor → List L
     -- The term wasn't led: what it begins with has all that its log had.
     own-low : S.logs.leadership (part S i) (term_of k.word) ≡ None → length (log_at S i) ≤ length k.leadership.begun
     own-low none =
-        let r = leadership-entered next J (part S i) (term_of k.word) k.leadership k.led k.word (record { decided = k.member.decided; term_is = refl }) i (start_at next i) slot refl k.member.start_is in
+        let r = leadership-entered next J (part S i) (term_of k.word) k.leadership k.led k.word (record { decided = k.member.decided; term_is = refl }) i (site_start next i) slot refl k.member.start_is in
         let low = prefix-length r.0.log k.leadership.begun r.3 in
         elim (enters.now (term_of k.word) r.0 r.1) [
           | inl old ↦
@@ -196,7 +197,7 @@ module _ (S : LogState) (H : Holds S) (i : ℕ) (ch : Actor → Actor → List L
 
     -- So it begins with the longest of these logs, and perhaps some of the calls that ran then: calls stand behind what it begins with.
     begins-runs : (E : Database) (stamp : ℕ) → S.logs.leadership (part S i) (term_of k.word) ≡ None → Started D stamp i s u Reports
-        → Runs E (part S i) stamp k.leadership.begun k.leadership.log
+        → RunsBehind E (part S i) stamp k.leadership.begun k.leadership.log
     begins-runs E stamp none st =
         let is : k.leadership.log ≡ repaired_log s st.reports ++ st.more = sym log ∙ st.log_is in
         let begun = (J.leaderships (part S i) (term_of k.word) k.leadership k.led).grown in
@@ -205,7 +206,7 @@ module _ (S : LogState) (H : Holds S) (i : ℕ) (ch : Actor → Actor → List L
         (prefixes-order (repaired_log s st.reports) k.leadership.begun k.leadership.log (st.more, is) begun short) begun st.at st.room
 
     -- It goes on with what it took, and calls.
-    goes-runs : (E : Database) (stamp : ℕ) (taken : List Entry) (g : Leadership) → log_at S i ≡ g.log → Steady stamp s u taken → Runs E (part S i) stamp (g.log ++ taken) k.leadership.log
+    goes-runs : (E : Database) (stamp : ℕ) (taken : List Entry) (g : Leadership) → log_at S i ≡ g.log → SteadyLog stamp s u taken → RunsBehind E (part S i) stamp (g.log ++ taken) k.leadership.log
     goes-runs E stamp taken g is st = record {
       calls = st.more;
       is = sym log ∙ st.log_is ∙ ap (λ xs. (xs ++ taken) ++ st.more) is;
@@ -216,7 +217,7 @@ module _ (S : LogState) (H : Holds S) (i : ℕ) (ch : Actor → Actor → List L
       ];
     }
 
--- ---- what is due after the turn
+-- ---- what is due after_site the turn
 
 -- whether it leads on in its term
 abbrev pub leads_on : LogState → ℕ → SiteState → Bool
@@ -274,12 +275,12 @@ taken-first : (due taken : List Entry) → (taken ≡ []) ⊎ (due ≡ taken) �
 taken-first due taken (inl e) = rw e
 taken-first due taken (inr e) = rw e (sym (ap (λ xs. taken ++ xs) (drop_all (length taken) taken (omega arith)) ∙ append-nil taken))
 
-module _ (E : Database) (S : LogState) (H : Holds S) (K : Transactions) (due : (p t : ℕ) → DueOk S K p t) (stamp i : ℕ) (ch : Actor → Actor → List Letter) (u : SiteState) (out : Sends)
-    (G : Logs) (J : Holds (next S H i ch u out G)) (grown : Grown S.words.deployment i u S.logs G) (enters : Enters i (length (log_at S i)) S.logs G)
-    (on : (u.start ≡ start_at S i) ⊎ (u.view ≡ None)) (taken : List Entry) where
+module _ (E : Database) (S : LogState) (H : LogsHold S) (K : Transactions) (due : (p t : ℕ) → DueOk S K p t) (stamp i : ℕ) (ch : Actor → Actor → List Letter) (u : SiteState) (out : Sends)
+    (G : Logs) (J : LogsHold (next S H i ch u out G)) (grown : Grown S.words.deployment i u S.logs G) (enters : Enters i (length (log_at S i)) S.logs G)
+    (on : (u.start ≡ site_start S i) ⊎ (u.view ≡ None)) (taken : List Entry) where
   -- What must be so of the site's own turn.
   pub record OwnTurn : Type 0 where
-    pub steady : leads S.words.deployment i (S.sites i) ≡ true → leads S.words.deployment i u ≡ true → u.view ≡ (S.sites i).view → Steady stamp (S.sites i) u taken
+    pub steady : leads S.words.deployment i (S.sites i) ≡ true → leads S.words.deployment i u ≡ true → u.view ≡ (S.sites i).view → SteadyLog stamp (S.sites i) u taken
     pub starts : leads S.words.deployment i u ≡ true → (leads S.words.deployment i (S.sites i) ≡ true → u.view ≡ (S.sites i).view → ⊥)
         → Started S.words.deployment stamp i (S.sites i) u (λ r. ReportOk S (part S i) r.slot (site_term u) r.position r.floor r.tail)
     -- what it took was due
@@ -293,8 +294,8 @@ module _ (E : Database) (S : LogState) (H : Holds S) (K : Transactions) (due : (
     abbrev after-due : ℕ → ℕ → List Entry
     after-due = due_after S K i u taken
 
-    abbrev Moves : ℕ → ℕ → Type 0
-    Moves p t = Moved E S.logs G K.due after-due stamp p t
+    abbrev MovedHere : ℕ → ℕ → Type 0
+    MovedHere p t = Moved E S.logs G K.due after-due stamp p t
 
     module _ (authoritative : leads S.words.deployment i u ≡ true) where
       abbrev l : Leading (next S H i ch u out G) i
@@ -304,7 +305,7 @@ module _ (E : Database) (S : LogState) (H : Holds S) (K : Transactions) (due : (
       term-is = ap term_in (view S H i ch u out G J enters on authoritative)
 
       -- its term goes on
-      here-goes : (g : Leadership) → S.logs.leadership (part S i) (term_of l.word) ≡ Some g → Moves (part S i) (term_of l.word)
+      here-goes : (g : Leadership) → S.logs.leadership (part S i) (term_of l.word) ≡ Some g → MovedHere (part S i) (term_of l.word)
       here-goes g is =
           let b = led-before S H i ch u out G J enters on authoritative g is in
           let same = view S H i ch u out G J enters on authoritative ∙ sym b.1 in
@@ -323,7 +324,7 @@ module _ (E : Database) (S : LogState) (H : Holds S) (K : Transactions) (due : (
           }))
 
       -- or it begins
-      here-begins : S.logs.leadership (part S i) (term_of l.word) ≡ None → Moves (part S i) (term_of l.word)
+      here-begins : S.logs.leadership (part S i) (term_of l.word) ≡ None → MovedHere (part S i) (term_of l.word)
       here-begins none = inr (inl (record {
         none = none;
         leadership = l.leadership;
@@ -341,31 +342,31 @@ module _ (E : Database) (S : LogState) (H : Holds S) (K : Transactions) (due : (
               let e = same-some (sym b.view ∙ sym same ∙ view S H i ch u out G J enters on authoritative) in
               none-and-some none (subst (λ w. S.logs.leadership (part S i) (term_of w) ≡ Some b.leadership) e b.led)
 
-      here-moves : Moves (part S i) (term_of l.word)
+      here-moves : MovedHere (part S i) (term_of l.word)
       here-moves = go (S.logs.leadership (part S i) (term_of l.word)) refl
         where
-          go : (o : Option Leadership) → S.logs.leadership (part S i) (term_of l.word) ≡ o → Moves (part S i) (term_of l.word)
+          go : (o : Option Leadership) → S.logs.leadership (part S i) (term_of l.word) ≡ o → MovedHere (part S i) (term_of l.word)
           go None e = here-begins e
           go (Some g) e = here-goes g e
 
-      at-moves : (p t : ℕ) → p ≡ part S i → t ≡ term_of l.word → Moves p t
-      at-moves p t e f = subst (λ q. Moves q t) (sym e) (subst (Moves (part S i)) (sym f) here-moves)
+      at-moves : (p t : ℕ) → p ≡ part S i → t ≡ term_of l.word → MovedHere p t
+      at-moves p t e f = subst (λ q. MovedHere q t) (sym e) (subst (MovedHere (part S i)) (sym f) here-moves)
 
     -- Each term stays as it was, or goes on or begins in this way.
-    pub all-moved : (p t : ℕ) → Moves p t
+    pub all-moved : (p t : ℕ) → MovedHere p t
     all-moved p t = go (G.leadership p t) refl
       where
         -- no other term is led, or with a longer log
-        still : (h : Leadership) → G.leadership p t ≡ Some h → S.logs.leadership p t ≡ Some h → Moves p t
+        still : (h : Leadership) → G.leadership p t ≡ Some h → S.logs.leadership p t ≡ Some h → MovedHere p t
         still h is old = elim (cases_Bool (test S K i u taken p t)) [
           | inl e ↦ let r = test-parts S K i u taken p t e in at-moves r.2 p t r.0 (r.1 ∙ sym r.3 ∙ term-is r.2)
           | inr e ↦ inl (is ∙ sym old, due-there S K i u taken p t e)
         ]
 
-        leads-there : (h : Leadership) → G.leadership p t ≡ Some h → Heads S.words.deployment i u p t → Moves p t
+        leads-there : (h : Leadership) → G.leadership p t ≡ Some h → Heads S.words.deployment i u p t → MovedHere p t
         leads-there h is heads = let r = heads-own S H i ch u out G J p t h is heads in at-moves r.0 p t r.1 (r.2 ∙ term-is r.0)
 
-        go : (o : Option Leadership) → G.leadership p t ≡ o → Moves p t
+        go : (o : Option Leadership) → G.leadership p t ≡ o → MovedHere p t
         go (Some h) e = elim (grown.led p t h e) [
           | inl old ↦ still h e old
           | inr new ↦ leads-there h e new

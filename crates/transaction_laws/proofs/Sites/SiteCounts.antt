@@ -14,15 +14,17 @@ use Rattle.cluster_model.specs.Letters.{Letter, becomes, arrival, Taken}
 use Rattle.cluster_model.specs.SiteState.{SiteState, Joining, Joiner, is_leader, leads, other_copies, site_term}
 use Rattle.cluster_model.specs.Site.{acked_in, own_ack, copy_acks, lesser, least, least_of, firm_now, floor_now, sends_firm, counts, takes_asks, in_new_term}
 use Rattle.cluster_model.specs.Environment.{Environment, NoFault, DiskFails, NoMemory, DisksShow}
-use Rattle.cluster_model.specs.Disk.{after_parts}
-use Rattle.cluster_model.specs.Sync.{after_sync, parts_of_sync, site_turn, syncs, sync_turn}
-use Rattle.word_laws.proofs.Lists.{if-true, all-append, not-both, none-and-some, same-some}
-use Rattle.log_laws.proofs.Plain.Copies.{leader-view, leads-parts, leads-from}
-use Rattle.log_laws.proofs.Plain.Least.{least_of-below}
-use Rattle.disk_laws.proofs.SiteHandlers.{stays_joiner}
+use Rattle.cluster_model.specs.Sync.{after_sync, site_turn, syncs, sync_turn}
+use Rattle.cluster_steps.proofs.Lists.{if-true, all-append, not-both, none-and-some, same-some}
+use Rattle.cluster_steps.proofs.Leaders.{leader-view, leads-parts, leads-from}
+use Rattle.cluster_steps.proofs.Least.{least_of-below}
+use Rattle.cluster_steps.proofs.SiteTurns.{stays_joiner}
 use Rattle.transaction_laws.specs.Transactions.{acknowledged}
-use Rattle.transaction_laws.proofs.Sites.SiteWalk.{Comes, WaitsQuietly, with_rest, begins_at, Settles, Steps, AnyReport, any-report, any-reports, settled, settled-walk, after_sync-walk}
-use Rattle.transaction_laws.proofs.Sites.SiteWalked.{takes-asks, asks-view, Walked, Ends, Same, Stays, Views, walked, Wrote, wrote, written_site}
+use Rattle.cluster_steps.proofs.StateSteps.{Comes, Over, StateSaying, StateSteps, over-moves, over-settles, over-tells, with_others}
+use Rattle.transaction_laws.proofs.Sites.SiteWalk.{WaitsQuietly, AnyReport, any-report, any-reports, asks-taken, asks-view, Walked, StopsOrBegins, NothingSeen, GoesOnSame, GoesOnNew, walked}
+use Rattle.cluster_steps.proofs.Frames.{begins_at}
+use Rattle.cluster_steps.proofs.SiteWalk.{settled_turn, settled-walk, after_sync-walk}
+use Rattle.cluster_steps.proofs.SiteTurns.{Wrote, wrote, written_site}
 use Rattle.transaction_laws.proofs.Sites.SiteLogs.{stopped-not-leads, sync-steady}
 
 -- ---- what is shown
@@ -111,7 +113,7 @@ module _ (D : Deployment) (i : ℕ) where
     counted = λ authoritative x c. k.counted (h.same ∙ authoritative) (h.marked authoritative x) (h.counted authoritative x c);
   }
 
-  reckons-rest : (s u : SiteState) → Reckons D i s (with_rest s u)
+  reckons-rest : (s u : SiteState) → Reckons D i s (with_others s u)
   reckons-rest s u = record { same = refl; view = refl; joiners = refl; repaired = λ e. e; marked = λ authoritative x. x; counted = λ authoritative x c. c }
 
   -- the same positions of joiners
@@ -120,7 +122,7 @@ module _ (D : Deployment) (i : ℕ) where
   same-positions f n p [] = (refl, refl)
   same-positions f n p (j ∷ js) = let r = same-positions f n p js in (rw (n j, r.0), rw (n j, p j, r.1))
 
-  reckons-settles : Settles D i (Reckons D i)
+  reckons-settles : StateSaying D i (Reckons D i)
   reckons-settles = record {
     first = λ s. reckons-rest s s;
     next = reckons-then;
@@ -151,7 +153,7 @@ module _ (D : Deployment) (i : ℕ) where
     };
   }
 
-  reckons-steps : (stamp : ℕ) → Steps D stamp i AnyReport (Reckons D i)
+  reckons-steps : (stamp : ℕ) → StateSteps D stamp i AnyReport (Reckons D i)
   reckons-steps stamp = record {
     settles = reckons-settles;
     called = λ s authoritative clear call body. record { same = refl; view = refl; joiners = refl; repaired = λ e. e; marked = λ _ x. x; counted = λ _ x c. c };
@@ -191,7 +193,7 @@ module _ (E : Database) (D : Deployment) (i : ℕ) (v : SiteState) where
   last = (takes_asks E D i v).state
 
   asks-leader : is_leader D i last ≡ is_leader D i v
-  asks-leader = elim (takes-asks E D i v) [
+  asks-leader = elim (asks-taken E D i v) [
     | inl e ↦ ap (is_leader D i) e
     | inr k ↦ ap (is_leader D i) k.is
   ]
@@ -210,13 +212,13 @@ module _ (E : Database) (D : Deployment) (i : ℕ) (v : SiteState) where
       omega (arith, k, l)
 
   asks-counted : Counted D i v → Counted D i last
-  asks-counted c = elim (takes-asks E D i v) [
+  asks-counted c = elim (asks-taken E D i v) [
     | inl e ↦ subst (Counted D i) (sym e) c
     | inr k ↦ subst (Counted D i) (sym k.is) (more-counted k.new c)
   ]
 
   asks-joined : (low : ℕ) → low ≤ length last.log → AllByRecursion (λ j. low ≤ j.stream_start) v.joiners → AllByRecursion (λ j. low ≤ j.stream_start) last.joiners
-  asks-joined low long h = elim (takes-asks E D i v) [
+  asks-joined low long h = elim (asks-taken E D i v) [
     | inl e ↦ subst (λ s. AllByRecursion (λ j. low ≤ j.stream_start) s.joiners) (sym e) h
     | inr k ↦
         let same : length last.log ≡ length v.log = ap (λ s. length s.log) k.is in
@@ -226,7 +228,7 @@ module _ (E : Database) (D : Deployment) (i : ℕ) (v : SiteState) where
   ]
 
   asks-unrepaired : Unrepaired v → Unrepaired last
-  asks-unrepaired h = elim (takes-asks E D i v) [
+  asks-unrepaired h = elim (asks-taken E D i v) [
     | inl e ↦ subst Unrepaired (sym e) h
     | inr k ↦ λ un. absurd (not-both v.repaired (leads-parts D i v k.leads).1 (sym (ap (λ s. s.repaired) k.is) ∙ un))
   ]
@@ -277,14 +279,14 @@ module _ (E : Database) (D : Deployment) (stamp i : ℕ) (s : SiteState) (from :
       from-state b v k is authoritative m c = subst (Counted D i) (sym is) (asks-counted E D i v (k.counted authoritative m c))
 
       go : Walked E D i (Reckons D i) s from l u → Counted D i u
-      go (Ends view joiners) = absurd (stopped-not-leads D i u view led)
-      go (Same none is) = subst (Counted D i) (sym is) (counted (sym (ap (leads D i) is) ∙ led))
-      go (Stays a log leading other v view k is) =
+      go (StopsOrBegins view joiners) = absurd (stopped-not-leads D i u view led)
+      go (NothingSeen none is) = subst (Counted D i) (sym is) (counted (sym (ap (leads D i) is) ∙ led))
+      go (GoesOnSame a log leading other v view k is) =
           let b = record s { log = log } in
           let authoritative : is_leader D i s ≡ true = led-before b v k is led in
           let m : Marked s = marked (leader-view D i s authoritative).0 in
           from-state b v k is authoritative m (leader-counted D i s authoritative counted m)
-      go (Views a h w sender body joining enters v view k is) =
+      go (GoesOnNew a h w sender body joining enters v view k is) =
           let b = record (in_new_term s w) { joining = joining } in
           let authoritative : is_leader D i b ≡ true = led-before b v k is led in
           let low : s.mark < term_of w = above-mark D i s from l h w sender body (above a) (enters (leader-view D i b authoritative).0) in
@@ -300,13 +302,13 @@ module _ (E : Database) (D : Deployment) (stamp i : ℕ) (s : SiteState) (from :
           (asks-joined E D i v low (subst (λ x. low ≤ length x.log) is long) (same-begins low v.joiners b.joiners k.joiners h))
 
       go : Walked E D i (Reckons D i) s from l u → AllByRecursion (λ j. low ≤ j.stream_start) u.joiners
-      go (Ends view joiners) = absurd (stopped-not-leads D i u view led)
-      go (Same none is) = subst (λ x. AllByRecursion (λ j. low ≤ j.stream_start) x.joiners) (sym is) (held (sym (ap (leads D i) is) ∙ led) (ap (λ x. x.view) is))
-      go (Stays a log leading other v view k is) =
+      go (StopsOrBegins view joiners) = absurd (stopped-not-leads D i u view led)
+      go (NothingSeen none is) = subst (λ x. AllByRecursion (λ j. low ≤ j.stream_start) x.joiners) (sym is) (held (sym (ap (leads D i) is) ∙ led) (ap (λ x. x.view) is))
+      go (GoesOnSame a log leading other v view k is) =
           let b = record s { log = log } in
           from-state b v k is (leader-joined D i s low (led-before b v k is led)
           (λ authoritative. held authoritative (ap (λ x. x.view) is ∙ asks-view E D i v ∙ view)) unrepaired)
-      go (Views a h w sender body joining enters v view k is) = from-state (record (in_new_term s w) { joining = joining }) v k is tt
+      go (GoesOnNew a h w sender body joining enters v view k is) = from-state (record (in_new_term s w) { joining = joining }) v k is tt
 
   pub site-unrepaired : (arrival s.start (site_term s) l ≡ Taken → Comes D i s from l) → AllByRecursion WaitsQuietly s.waiting → Unrepaired s → Unrepaired u
   site-unrepaired comes waiting h = go (goes comes waiting)
@@ -315,10 +317,10 @@ module _ (E : Database) (D : Deployment) (stamp i : ℕ) (s : SiteState) (from :
       from-state b v k is f = subst Unrepaired (sym is) (asks-unrepaired E D i v (λ un. none-begins v.joiners (k.joiners ∙ ap begins_at (f (k.repaired un)))))
 
       go : Walked E D i (Reckons D i) s from l u → Unrepaired u
-      go (Ends view joiners) = λ un. joiners
-      go (Same none is) = subst Unrepaired (sym is) h
-      go (Stays a log leading other v view k is) = from-state (record s { log = log }) v k is h
-      go (Views a h w sender body joining enters v view k is) = from-state (record (in_new_term s w) { joining = joining }) v k is (λ un. refl)
+      go (StopsOrBegins view joiners) = λ un. joiners
+      go (NothingSeen none is) = subst Unrepaired (sym is) h
+      go (GoesOnSame a log leading other v view k is) = from-state (record s { log = log }) v k is h
+      go (GoesOnNew a h w sender body joining enters v view k is) = from-state (record (in_new_term s w) { joining = joining }) v k is (λ un. refl)
 
 -- ---- a Sync
 
@@ -331,16 +333,16 @@ module _ (E : Database) (D : Deployment) (i : ℕ) (s : SiteState) where
   m = (after_sync D i b b.joining).state
 
   abbrev v : SiteState
-  v = settled E D i m
+  v = (settled_turn E D i m).state
 
   said : Reckons D i b m
-  said = after_sync-walk E D i (Reckons D i) (reckons-settles D i) b
+  said = after_sync-walk D i (Over (Reckons D i)) (over-settles D i (Reckons D i) (reckons-settles D i)) b
 
   then : Reckons D i m v
-  then = settled-walk E D i (Reckons D i) (reckons-settles D i) m
+  then = settled-walk E D i (Over (Reckons D i)) (over-moves D i (Reckons D i) (reckons-settles D i)) (over-tells D i (Reckons D i) (reckons-settles D i) E) m
 
-  is-written : Wrote D i s b
-  is-written = wrote D i s (after_parts s.contents (parts_of_sync s s.joining))
+  is-written : Wrote s b
+  is-written = wrote s
 
   -- A leader counts.
   says-counted : (j : Option Joining) → b.joining ≡ j → leads D i b ≡ true → Counted D i (after_sync D i b j).state

@@ -1,9 +1,8 @@
--- A site takes a message, or syncs: all that holds of transactions holds after it.
-use Rattle.std.proofs.Common.{◌≡◌, ◌<◌, Bool, true, List, [], ◌∷◌, ◌++◌, append-nil, refl, sym, subst, ◌∙◌, ◌⊎◌, inl, ◌+◌}
-use Rattle.std.specs.Prelude.{ℕ, length, Option, Some, None}
+-- A site takes a message, or syncs: all that holds of transactions holds after_site it.
+use Rattle.std.proofs.Common.{◌≡◌, ◌<◌, Bool, true, List, [], ◌∷◌, ◌++◌, append-nil, refl, sym, ◌∙◌, ◌⊎◌, inl, ◌+◌}
+use Rattle.std.specs.Prelude.{ℕ, length, None}
 use Rattle.std.specs.List.{AllByRecursion}
 use Rattle.volt_base.specs.declared.entry.Entry.{Entry}
-use Rattle.volt_wire.specs.Word.{Membership}
 use Rattle.volt_wire.specs.declared.actor.Actor.{Actor}
 use Rattle.volt_wire.specs.declared.actor.Actor.TheVariants.{Agent, Site}
 use Rattle.cluster_model.specs.Engine.{Database}
@@ -11,47 +10,40 @@ use Rattle.cluster_model.specs.Letters.{Letter}
 use Rattle.cluster_model.specs.Environment.{Environment}
 use Rattle.cluster_model.specs.SiteState.{SiteState, leads}
 use Rattle.cluster_model.specs.Sync.{site_turn, sync_turn}
-use Rattle.word_laws.proofs.Lists.{all-mono}
-use Rattle.log_laws.specs.Histories.{LogState, Logs, Holds, IsSlot, StreamIn, ViewIn, WaitingOk, start_at, log_at}
-use Rattle.log_laws.proofs.Kept.Moves.{Enters, Grown, after, popped}
+use Rattle.cluster_steps.proofs.Lists.{all-at, all-from, all-mono}
+use Rattle.cluster_steps.proofs.SiteTurns.{NoWord, PlainWaiting, plain-word, sync-waits, turn-waits}
+use Rattle.log_laws.specs.Histories.{LogState, Logs, LogsHold, IsSlot, part, site_start, log_at}
+use Rattle.log_laws.proofs.Kept.Moves.{Enters, Grown, after_site, site_popped}
 use Rattle.log_laws.proofs.Kept.Terms.{some-start}
 use Rattle.log_laws.proofs.Entries.Leads.{Leading, leading}
 use Rattle.disk_laws.specs.Disks.{DisksHold, Firm}
-use Rattle.disk_laws.proofs.Handlers.{PlainWaiting, waiting-plain}
+use Rattle.reply_laws.proofs.Turns.{no-log, site_turn-answers, sync_turn-answers, waits-plain}
 use Rattle.disk_laws.proofs.SiteDisks.{Raised}
 use Rattle.disk_laws.proofs.Turning.{DisksGo, fewer}
-use Rattle.transaction_laws.specs.Transactions.{Transactions, CallsHold, SiteCalls, ToSiteOk}
+use Rattle.transaction_laws.specs.Transactions.{Transactions, CallsHold, SiteCalls, ToOrders, ToSiteOk, WaitsPlain}
 use Rattle.transaction_laws.proofs.Kept.Moves.{with_due}
 use Rattle.transaction_laws.proofs.Initiators.Orders.{LaidOut}
 use Rattle.transaction_laws.proofs.Sites.Leaderships.{OwnTurn, due_after, runs}
-use Rattle.transaction_laws.proofs.Sites.SiteAnswers.{NoLog, site_turn-answers, sync_turn-answers}
+use Rattle.transaction_laws.proofs.Sites.Answers.{orders-fit}
 use Rattle.transaction_laws.proofs.Sites.SiteCounts.{sync-counted, sync-joined, sync-unrepaired}
 use Rattle.transaction_laws.proofs.Sites.SiteGiven.{given-counted, given-joined, given-starts, given-steady, given-unrepaired}
 use Rattle.transaction_laws.proofs.Sites.SiteLogs.{sync-steady}
-use Rattle.transaction_laws.proofs.Sites.SiteOrders.{head-ok, left-orders, own-orders, popped-there, taken-due, waits-none}
+use Rattle.transaction_laws.proofs.Sites.SiteOrders.{head-ok, left-orders, own-orders, popped-there, taken-due, order-waits-none}
 use Rattle.transaction_laws.proofs.Sites.SiteTurned.{OwnFacts, turned-calls}
 use Rattle.transaction_laws.proofs.Sites.SiteWalk.{taken_by}
 
--- what may be so of a joiner without a stream
-no-log : (S : LogState) → Holds S → (i : ℕ) → NoLog (S.sites i)
-no-log S H i j joins none = go (S.sites i).view refl ((H.sites i).joiner j joins).view
-  where
-    go : (o : Option Membership) → (S.sites i).view ≡ o → ViewIn S i j (S.sites i).view → log_at S i ≡ []
-    go None e k = (subst (ViewIn S i j) e k).empty
-    go (Some w) e k = (subst (StreamIn S i w j) none (subst (ViewIn S i j) e k).stream).empty
-
-module _ (E : Database) (S : LogState) (H : Holds S) (F : Firm) (halted : Bool) (K : Transactions) (now : ℕ) (C : CallsHold E S F halted K now) (lay : LaidOut S) (i : ℕ)
+module _ (E : Database) (S : LogState) (H : LogsHold S) (F : Firm) (halted : Bool) (K : Transactions) (now : ℕ) (C : CallsHold E S F halted K now) (lay : LaidOut S) (i : ℕ)
     (slot : IsSlot S i) (disks : DisksHold S F halted) where
   -- what was so of the site
-  before : 0 < start_at S i → SiteCalls S K i
+  before : 0 < site_start S i → SiteCalls S K i
   before up = C.sites i slot up
 
   under-way : (h : ℕ) → AllByRecursion (ToSiteOk S h i) (S.words.channel (Agent h) (Site i))
   under-way h = C.to_sites h i slot
 
   -- a leader runs
-  leading-runs : Leading S i → 0 < start_at S i
-  leading-runs k = some-start S H k.word i (start_at S i) k.member.decided k.member.start_is
+  leading-runs : Leading S i → 0 < site_start S i
+  leading-runs k = some-start S H k.word i (site_start S i) k.member.decided k.member.start_is
 
   -- ---- it takes a message
 
@@ -63,12 +55,12 @@ module _ (E : Database) (S : LogState) (H : Holds S) (F : Firm) (halted : Bool) 
     out = (site_turn E S.words.deployment (now + 1) i (S.sites i) from l o).sends
 
     abbrev T : LogState
-    T = after (popped S from i) i u out G
+    T = after_site (site_popped S from i) i u out G
 
-    module _ (J : Holds T) (grown : Grown S.words.deployment i u S.logs G) (enters : Enters i (length (log_at S i)) S.logs G) (on : (u.start ≡ start_at S i) ⊎ (u.view ≡ None))
+    module _ (J : LogsHold T) (grown : Grown S.words.deployment i u S.logs G) (enters : Enters i (length (log_at S i)) S.logs G) (on : (u.start ≡ site_start S i) ⊎ (u.view ≡ None))
         (go : DisksGo S T M halted) (raised : Raised S.words.deployment i u F M) where
       abbrev ch : Actor → Actor → List Letter
-      ch = (popped S from i).words.channel
+      ch = (site_popped S from i).words.channel
 
       abbrev taken : List Entry
       taken = taken_by (S.sites i) from l
@@ -84,11 +76,10 @@ module _ (E : Database) (S : LogState) (H : Holds S) (F : Firm) (halted : Bool) 
       facts : OwnFacts E S H F M halted K now C lay i slot ch u out G J grown enters on go.disks raised go.tops taken
       facts = record {
         own = own;
-        answers = site_turn-answers E S.words.deployment (now + 1) i (S.sites i) from l o
-            (λ up. all-mono (WaitingOk S i) PlainWaiting (waiting-plain S i) (S.sites i).waiting ((H.sites i).keeps up).waiting)
-            (no-log S H i)
-            (λ up. waits-none S H i slot from l (head-ok S i under-way from l ls is))
-            (λ up. (before up).waiting) (λ up. (before up).held);
+        answers = site_turn-answers E S.words.deployment i ToOrders (orders-fit E (part S i)) (S.sites i) (now + 1) from l o (waits-plain S H i) (no-log S H i) (λ up. (before up).held);
+        waiting = turn-waits E S.words.deployment (now + 1) i (S.sites i) from l o (λ x. WaitsPlain x.from x.letter)
+            (λ up. all-mono PlainWaiting (λ x. NoWord x.from x.letter) plain-word (S.sites i).waiting (waits-plain S H i up)) (λ up. (before up).waiting)
+            (λ up. order-waits-none S H i slot from l (head-ok S i under-way from l ls is));
         counted = λ authoritative. let up = runs S H i ch u out G J enters on authoritative in
             given-counted E (now + 1) S H i slot up from l ls is (before up).waiting o F halted disks (λ was. ((before up).counts was).counted) authoritative;
         joined = λ low old authoritative. let up = runs S H i ch u out G J enters on authoritative in
@@ -99,7 +90,7 @@ module _ (E : Database) (S : LogState) (H : Holds S) (F : Firm) (halted : Bool) 
         there = λ h c n. popped-there S from (Agent h) i c n;
       }
 
-      -- All that holds of transactions holds after it.
+      -- All that holds of transactions holds after_site it.
       pub site-calls : (due : ℕ → ℕ → List Entry) × CallsHold E T M halted (with_due K due) (now + 1)
       site-calls = (
         due_after S K i u taken,
@@ -108,7 +99,7 @@ module _ (E : Database) (S : LogState) (H : Holds S) (F : Firm) (halted : Bool) 
 
   -- ---- it syncs
 
-  module _ (up : 0 < start_at S i) (o : Environment) (G : Logs) (M : Firm) where
+  module _ (up : 0 < site_start S i) (o : Environment) (G : Logs) (M : Firm) where
     abbrev synced : SiteState
     synced = (sync_turn E S.words.deployment i (S.sites i) o).state
 
@@ -116,10 +107,10 @@ module _ (E : Database) (S : LogState) (H : Holds S) (F : Firm) (halted : Bool) 
     says = (sync_turn E S.words.deployment i (S.sites i) o).sends
 
     abbrev later : LogState
-    later = after S i synced says G
+    later = after_site S i synced says G
 
-    module _ (J : Holds later) (grown : Grown S.words.deployment i synced S.logs G) (enters : Enters i (length (log_at S i)) S.logs G)
-        (on : (synced.start ≡ start_at S i) ⊎ (synced.view ≡ None)) (go : DisksGo S later M halted) (raised : Raised S.words.deployment i synced F M) where
+    module _ (J : LogsHold later) (grown : Grown S.words.deployment i synced S.logs G) (enters : Enters i (length (log_at S i)) S.logs G)
+        (on : (synced.start ≡ site_start S i) ⊎ (synced.view ≡ None)) (go : DisksGo S later M halted) (raised : Raised S.words.deployment i synced F M) where
       still-leads : leads S.words.deployment i synced ≡ true → (synced.log ≡ log_at S i) × (synced.view ≡ (S.sites i).view) × (leads S.words.deployment i (S.sites i) ≡ true)
       still-leads = sync-steady E S.words.deployment i (S.sites i) o
 
@@ -138,7 +129,9 @@ module _ (E : Database) (S : LogState) (H : Holds S) (F : Firm) (halted : Bool) 
       sync-facts : OwnFacts E S H F M halted K now C lay i slot S.words.channel synced says G J grown enters on go.disks raised go.tops []
       sync-facts = record {
         own = sync-own;
-        answers = sync_turn-answers E S.words.deployment i (S.sites i) o up (before up).waiting (before up).held;
+        answers = sync_turn-answers E S.words.deployment i ToOrders (orders-fit E (part S i)) (S.sites i) o up (before up).held;
+        waiting = λ _. all-from (λ x. WaitsPlain x.from x.letter) synced.waiting
+            (λ x m. all-at (λ x. WaitsPlain x.from x.letter) (S.sites i).waiting (before up).waiting x (sync-waits E S.words.deployment i (S.sites i) o x m));
         counted = sync-counted E S.words.deployment i (S.sites i) o;
         joined = λ low old authoritative. sync-joined E S.words.deployment i (S.sites i) o low (λ was. old was (still-leads authoritative).1) authoritative;
         unrepaired = λ _. sync-unrepaired E S.words.deployment i (S.sites i) o (before up).unrepaired;
@@ -147,7 +140,7 @@ module _ (E : Database) (S : LogState) (H : Holds S) (F : Firm) (halted : Bool) 
         there = λ h c n. refl;
       }
 
-      -- All that holds of transactions holds after it.
+      -- All that holds of transactions holds after_site it.
       pub sync-calls : (due : ℕ → ℕ → List Entry) × CallsHold E later M halted (with_due K due) (now + 1)
       sync-calls = (
         due_after S K i synced [],

@@ -12,18 +12,19 @@ use Rattle.cluster_model.specs.Letters.{Letter, arrival, Taken}
 use Rattle.cluster_model.specs.SiteState.{SiteState, Reported, is_leader, leads, other_copies, site_term}
 use Rattle.cluster_model.specs.Site.{longest, lacks, takes_asks, in_new_term}
 use Rattle.cluster_model.specs.Environment.{Environment, NoFault, DiskFails, NoMemory, DisksShow}
-use Rattle.cluster_model.specs.Sync.{after_sync, parts_of_sync, site_turn, syncs, sync_turn}
-use Rattle.cluster_model.specs.Disk.{after_parts}
-use Rattle.word_laws.proofs.Lists.{all-append, not-both, none-and-some}
-use Rattle.log_laws.proofs.Plain.Copies.{leader-view, leads-parts, leads-from}
+use Rattle.cluster_model.specs.Sync.{after_sync, site_turn, syncs, sync_turn}
+use Rattle.cluster_steps.proofs.Lists.{all-append, not-both, none-and-some}
+use Rattle.cluster_steps.proofs.Leaders.{leader-view, leads-parts, leads-from}
 use Rattle.transaction_laws.proofs.Kept.Moves.{CallsAt, IsCallAt}
-use Rattle.transaction_laws.proofs.Sites.SiteWalk.{Comes, WaitsQuietly, ReportOf, WaitsReport, taken_at, taken_by, with_rest, Settles, Steps, AnyReport, any-report, any-reports, settled, settled-walk, after_sync-walk}
-use Rattle.transaction_laws.proofs.Sites.SiteWalked.{takes-asks, asks-view, Walked, Ends, Same, Stays, Views, walked, comes-view, wrote, wrote-leader, written_site}
+use Rattle.cluster_steps.proofs.StateSteps.{Comes, Over, ReportOf, StateSaying, StateSteps, over-moves, over-settles, over-tells, with_others}
+use Rattle.transaction_laws.proofs.Sites.SiteWalk.{WaitsQuietly, WaitsReport, taken_at, taken_by, AnyReport, any-report, any-reports, asks-taken, asks-view, Walked, StopsOrBegins, NothingSeen, GoesOnSame, GoesOnNew, walked, comes-view, wrote-leader}
+use Rattle.cluster_steps.proofs.SiteWalk.{settled_turn, settled-walk, after_sync-walk}
+use Rattle.cluster_steps.proofs.SiteTurns.{wrote, written_site}
 
 -- ---- what is shown
 
 -- A site that leads takes this, and calls run behind it, where no transaction is open.
-pub record Steady (stamp : ℕ) (s u : SiteState) (taken : List Entry) : Type 0 where
+pub record SteadyLog (stamp : ℕ) (s u : SiteState) (taken : List Entry) : Type 0 where
   pub more : List Entry
   pub log_is : u.log ≡ (s.log ++ taken) ++ more
   pub at : CallsAt stamp more
@@ -45,16 +46,16 @@ pub record Started (D : Deployment) (stamp i : ℕ) (s u : SiteState) (P : Repor
 
 -- ---- calls behind a log
 
-record Runs (stamp : ℕ) (log after : List Entry) : Type 0 where
+record CallsRun (stamp : ℕ) (log after : List Entry) : Type 0 where
   more : List Entry
   is : after ≡ log ++ more
   at : CallsAt stamp more
   room : (more ≡ []) ⊎ (nothing_open log ≡ true)
 
-none-runs : (stamp : ℕ) (log : List Entry) → Runs stamp log log
+none-runs : (stamp : ℕ) (log : List Entry) → CallsRun stamp log log
 none-runs stamp log = record { more = []; is = sym (append-nil log); at = tt; room = inl refl }
 
-runs-then : (stamp : ℕ) (log middle after : List Entry) → Runs stamp log middle → Runs stamp middle after → Runs stamp log after
+runs-then : (stamp : ℕ) (log middle after : List Entry) → CallsRun stamp log middle → CallsRun stamp middle after → CallsRun stamp log after
 runs-then stamp log middle after h k = record {
   more = h.more ++ k.more;
   is = k.is ∙ ap (λ x. x ++ k.more) h.is ∙ append_assoc log h.more k.more;
@@ -67,7 +68,7 @@ runs-then stamp log middle after h k = record {
     room (inl none) (inl later) = inl (ap (λ x. x ++ k.more) none ∙ later)
     room (inl none) (inr clear) = inr (subst (λ x. nothing_open x ≡ true) (h.is ∙ ap (λ x. log ++ x) none ∙ append-nil log) clear)
 
-started-then : (D : Deployment) (stamp i : ℕ) (s m u : SiteState) (P : Reported → Type 0) → Started D stamp i s m P → u.view ≡ m.view → Runs stamp m.log u.log
+started-then : (D : Deployment) (stamp i : ℕ) (s m u : SiteState) (P : Reported → Type 0) → Started D stamp i s m P → u.view ≡ m.view → CallsRun stamp m.log u.log
     → Started D stamp i s u P
 started-then D stamp i s m u P k view runs =
     let r = runs-then stamp (repaired_log s k.reports) m.log u.log (record { more = k.more; is = k.log_is; at = k.at; room = k.room }) runs in
@@ -95,25 +96,25 @@ started-from D stamp i s m u P same k = record {
 -- ---- what goes on over each step of a turn
 
 -- Once it leads, only calls run.
-record Logs (D : Deployment) (stamp i : ℕ) (P : Reported → Type 0) (s u : SiteState) : Type 0 where
+record LogGoes (D : Deployment) (stamp i : ℕ) (P : Reported → Type 0) (s u : SiteState) : Type 0 where
   same : is_leader D i u ≡ is_leader D i s
   view : u.view ≡ s.view
-  steady : is_leader D i s ≡ true → s.repaired ≡ true → (u.repaired ≡ true) × Runs stamp s.log u.log
+  steady : is_leader D i s ≡ true → s.repaired ≡ true → (u.repaired ≡ true) × CallsRun stamp s.log u.log
   begins : is_leader D i s ≡ true → s.repaired ≡ false → AllByRecursion P s.reports
       → ((u.repaired ≡ false) × (u.log ≡ s.log) × AllByRecursion P u.reports) ⊎ ((u.repaired ≡ true) × Started D stamp i s u P)
 
 module _ (D : Deployment) (stamp i : ℕ) (P : Reported → Type 0) where
   -- with the same log and reports
   logs-same : (s u : SiteState) → is_leader D i u ≡ is_leader D i s → u.view ≡ s.view → u.repaired ≡ s.repaired → u.log ≡ s.log → u.reports ≡ s.reports
-      → Logs D stamp i P s u
+      → LogGoes D stamp i P s u
   logs-same s u same view repaired log reports = record {
     same = same;
     view = view;
-    steady = λ authoritative ready. (repaired ∙ ready, subst (Runs stamp s.log) (sym log) (none-runs stamp s.log));
+    steady = λ authoritative ready. (repaired ∙ ready, subst (CallsRun stamp s.log) (sym log) (none-runs stamp s.log));
     begins = λ authoritative un ok. inl (repaired ∙ un, log, subst (AllByRecursion P) (sym reports) ok);
   }
 
-  logs-then : (s m u : SiteState) → Logs D stamp i P s m → Logs D stamp i P m u → Logs D stamp i P s u
+  logs-then : (s m u : SiteState) → LogGoes D stamp i P s m → LogGoes D stamp i P m u → LogGoes D stamp i P s u
   logs-then s m u h k = record {
     same = k.same ∙ h.same;
     view = k.view ∙ h.view;
@@ -127,11 +128,11 @@ module _ (D : Deployment) (stamp i : ℕ) (P : Reported → Type 0) where
     ];
   }
 
-  logs-settles : Settles D i (Logs D stamp i P)
+  logs-settles : StateSaying D i (LogGoes D stamp i P)
   logs-settles = record {
     first = λ s. logs-same s s refl refl refl refl refl;
     next = logs-then;
-    rest = λ s u. logs-same s (with_rest s u) refl refl refl refl refl;
+    rest = λ s u. logs-same s (with_others s u) refl refl refl refl refl;
     apart = λ s u a. record {
       same = a.after ∙ sym a.before;
       view = a.view;
@@ -142,7 +143,7 @@ module _ (D : Deployment) (stamp i : ℕ) (P : Reported → Type 0) where
     joiners = λ s f n p. logs-same s _ refl refl refl refl refl;
   }
 
-  logs-steps : Steps D stamp i P (Logs D stamp i P)
+  logs-steps : StateSteps D stamp i P (LogGoes D stamp i P)
   logs-steps = record {
     settles = logs-settles;
     called = λ s authoritative clear call body. record {
@@ -178,10 +179,10 @@ module _ (D : Deployment) (stamp i : ℕ) (P : Reported → Type 0) where
   }
 
   -- a joiner that is taken changes no log
-  asks-logs : (E : Database) (v : SiteState) → Logs D stamp i P v (takes_asks E D i v).state
-  asks-logs E v = elim (takes-asks E D i v) [
-    | inl e ↦ subst (Logs D stamp i P v) (sym e) (logs-same v v refl refl refl refl refl)
-    | inr k ↦ subst (Logs D stamp i P v) (sym k.is) (logs-same v _ refl refl refl refl refl)
+  asks-logs : (E : Database) (v : SiteState) → LogGoes D stamp i P v (takes_asks E D i v).state
+  asks-logs E v = elim (asks-taken E D i v) [
+    | inl e ↦ subst (LogGoes D stamp i P v) (sym e) (logs-same v v refl refl refl refl refl)
+    | inr k ↦ subst (LogGoes D stamp i P v) (sym k.is) (logs-same v _ refl refl refl refl refl)
   ]
 
 -- ---- a site that leads, and goes on to do so
@@ -191,7 +192,7 @@ pub stopped-not-leads : (D : Deployment) (i : ℕ) (s : SiteState) → s.view �
 stopped-not-leads D i s e authoritative = none-and-some e (leader-view D i s (leads-parts D i s authoritative).0).1.1
 
 -- where no call runs
-steady-none : (stamp : ℕ) (s u : SiteState) (taken : List Entry) → taken ≡ [] → u.log ≡ s.log → Steady stamp s u taken
+steady-none : (stamp : ℕ) (s u : SiteState) (taken : List Entry) → taken ≡ [] → u.log ≡ s.log → SteadyLog stamp s u taken
 steady-none stamp s u taken none log = record {
   more = [];
   log_is = log ∙ sym (ap (λ x. (s.log ++ x) ++ []) none ∙ append-nil (s.log ++ []) ∙ append-nil s.log);
@@ -199,7 +200,7 @@ steady-none stamp s u taken none log = record {
   room = inl refl;
 }
 
-steady-runs : (stamp : ℕ) (s u : SiteState) (taken log : List Entry) → log ≡ s.log ++ taken → Runs stamp log u.log → Steady stamp s u taken
+steady-runs : (stamp : ℕ) (s u : SiteState) (taken log : List Entry) → log ≡ s.log ++ taken → CallsRun stamp log u.log → SteadyLog stamp s u taken
 steady-runs stamp s u taken log is k = record {
   more = k.more;
   log_is = k.is ∙ ap (λ x. x ++ k.more) is;
@@ -212,22 +213,22 @@ module _ (E : Database) (D : Deployment) (stamp i : ℕ) (s : SiteState) (from :
   u = (site_turn E D stamp i s from l o).state
 
   pub site-steady : 0 < s.start → (arrival s.start (site_term s) l ≡ Taken → Comes D i s from l) → AllByRecursion WaitsQuietly s.waiting
-      → leads D i s ≡ true → leads D i u ≡ true → u.view ≡ s.view → Steady stamp s u (taken_by s from l)
+      → leads D i s ≡ true → leads D i u ≡ true → u.view ≡ s.view → SteadyLog stamp s u (taken_by s from l)
   site-steady up comes waiting authoritative led same =
-      go (walked E D stamp i AnyReport (Logs D stamp i AnyReport) (logs-steps D stamp i AnyReport) (λ s ws. logs-same D stamp i AnyReport s _ refl refl refl refl refl) s waiting from l o
+      go (walked E D stamp i AnyReport (LogGoes D stamp i AnyReport) (logs-steps D stamp i AnyReport) (λ s ws. logs-same D stamp i AnyReport s _ refl refl refl refl refl) s waiting from l o
       comes (λ _. any-report from l) (any-reports (site_term u) s.waiting))
     where
       parts : (is_leader D i s ≡ true) × (s.repaired ≡ true)
       parts = leads-parts D i s authoritative
 
-      go : Walked E D i (Logs D stamp i AnyReport) s from l u → Steady stamp s u (taken_by s from l)
-      go (Ends view joiners) = absurd (stopped-not-leads D i u view led)
-      go (Same none is) = steady-none stamp s u (taken_by s from l) (none up) (ap (λ x. x.log) is)
-      go (Stays a log leading other v view k is) =
+      go : Walked E D i (LogGoes D stamp i AnyReport) s from l u → SteadyLog stamp s u (taken_by s from l)
+      go (StopsOrBegins view joiners) = absurd (stopped-not-leads D i u view led)
+      go (NothingSeen none is) = steady-none stamp s u (taken_by s from l) (none up) (ap (λ x. x.log) is)
+      go (GoesOnSame a log leading other v view k is) =
           let b = record s { log = log } in
           let r = (logs-then D stamp i AnyReport b v (takes_asks E D i v).state k (asks-logs D stamp i AnyReport E v)).steady parts.0 parts.1 in
-          steady-runs stamp s u (taken_by s from l) log (leading authoritative ∙ ap (λ x. s.log ++ taken_at x from l) (sym a)) (subst (λ x. Runs stamp log x.log) (sym is) r.1)
-      go (Views a h w sender body joining enters v view k is) =
+          steady-runs stamp s u (taken_by s from l) log (leading authoritative ∙ ap (λ x. s.log ++ taken_at x from l) (sym a)) (subst (λ x. CallsRun stamp log x.log) (sym is) r.1)
+      go (GoesOnNew a h w sender body joining enters v view k is) =
           let later : site_term s < term_of w = comes-view D i s from l h w sender body (comes a) in
           let here : s.view ≡ Some w = sym same ∙ ap (λ x. x.view) is ∙ asks-view E D i v ∙ view in
           let term : site_term s ≡ term_of w = ap term_in here in
@@ -236,7 +237,7 @@ module _ (E : Database) (D : Deployment) (stamp i : ℕ) (s : SiteState) (from :
   -- ---- one that comes to lead
 
   module _ (P : Reported → Type 0) where
-    begins-term : (b : SiteState) → b.log ≡ s.log → b.repaired ≡ false → AllByRecursion P b.reports → Logs D stamp i P b u → leads D i u ≡ true → Started D stamp i s u P
+    begins-term : (b : SiteState) → b.log ≡ s.log → b.repaired ≡ false → AllByRecursion P b.reports → LogGoes D stamp i P b u → leads D i u ≡ true → Started D stamp i s u P
     begins-term b log un ok k led =
         let p = leads-parts D i u led in
         elim (k.begins (sym k.same ∙ p.0) un ok) [
@@ -248,26 +249,26 @@ module _ (E : Database) (D : Deployment) (stamp i : ℕ) (s : SiteState) (from :
         → leads D i u ≡ true → (leads D i s ≡ true → u.view ≡ s.view → ⊥) → (u.view ≡ s.view → AllByRecursion P s.reports)
         → (arrival s.start (site_term s) l ≡ Taken → ReportOf P from l) → AllByRecursion (WaitsReport P (site_term u)) s.waiting → Started D stamp i s u P
     site-starts up comes waiting led anew held report reports =
-        go (walked E D stamp i P (Logs D stamp i P) (logs-steps D stamp i P) (λ s ws. logs-same D stamp i P s _ refl refl refl refl refl) s waiting from l o comes report reports)
+        go (walked E D stamp i P (LogGoes D stamp i P) (logs-steps D stamp i P) (λ s ws. logs-same D stamp i P s _ refl refl refl refl refl) s waiting from l o comes report reports)
       where
         -- to the end of the turn
-        on : (b v : SiteState) → Logs D stamp i P b v → u ≡ (takes_asks E D i v).state → Logs D stamp i P b u
-        on b v k is = subst (Logs D stamp i P b) (sym is) (logs-then D stamp i P b v (takes_asks E D i v).state k (asks-logs D stamp i P E v))
+        on : (b v : SiteState) → LogGoes D stamp i P b v → u ≡ (takes_asks E D i v).state → LogGoes D stamp i P b u
+        on b v k is = subst (LogGoes D stamp i P b) (sym is) (logs-then D stamp i P b v (takes_asks E D i v).state k (asks-logs D stamp i P E v))
 
         -- in its word it was a leader that hadn't begun
         unrepaired : is_leader D i s ≡ true → leads D i s ≡ false → s.repaired ≡ false
         unrepaired authoritative idle = false_from_ne_true s.repaired (λ r. not-both (leads D i s) (leads-from D i s authoritative r) idle)
 
-        stays : (c : Bool) → leads D i s ≡ c → (log : List Entry) → (leads D i s ≡ false → log ≡ s.log) → Logs D stamp i P (record s { log = log }) u → Started D stamp i s u P
+        stays : (c : Bool) → leads D i s ≡ c → (log : List Entry) → (leads D i s ≡ false → log ≡ s.log) → LogGoes D stamp i P (record s { log = log }) u → Started D stamp i s u P
         stays true e log other k = absurd (anew e k.view)
         stays false e log other k =
             begins-term (record s { log = log }) (other e) (unrepaired (sym k.same ∙ (leads-parts D i u led).0) e) (held k.view) k led
 
-        go : Walked E D i (Logs D stamp i P) s from l u → Started D stamp i s u P
-        go (Ends view joiners) = absurd (stopped-not-leads D i u view led)
-        go (Same none is) = absurd (anew (sym (ap (leads D i) is) ∙ led) (ap (λ x. x.view) is))
-        go (Stays a log leading other v view k is) = stays (leads D i s) refl log other (on (record s { log = log }) v k is)
-        go (Views a h w sender body joining enters v view k is) =
+        go : Walked E D i (LogGoes D stamp i P) s from l u → Started D stamp i s u P
+        go (StopsOrBegins view joiners) = absurd (stopped-not-leads D i u view led)
+        go (NothingSeen none is) = absurd (anew (sym (ap (leads D i) is) ∙ led) (ap (λ x. x.view) is))
+        go (GoesOnSame a log leading other v view k is) = stays (leads D i s) refl log other (on (record s { log = log }) v k is)
+        go (GoesOnNew a h w sender body joining enters v view k is) =
             let b = record (in_new_term s w) { joining = joining } in
             begins-term b refl refl tt (on b v k is) led
 
@@ -279,7 +280,7 @@ record Still (D : Deployment) (i : ℕ) (s u : SiteState) : Type 0 where
   view : u.view ≡ s.view
   leads : is_leader D i s ≡ true → (u.repaired ≡ s.repaired) × (u.log ≡ s.log)
 
-still-settles : (D : Deployment) (i : ℕ) → Settles D i (Still D i)
+still-settles : (D : Deployment) (i : ℕ) → StateSaying D i (Still D i)
 still-settles D i = record {
   first = λ s. record { same = refl; view = refl; leads = λ _. (refl, refl) };
   next = λ s m u h k. record {
@@ -294,7 +295,7 @@ still-settles D i = record {
 }
 
 asks-still : (E : Database) (D : Deployment) (i : ℕ) (v : SiteState) → Still D i v (takes_asks E D i v).state
-asks-still E D i v = elim (takes-asks E D i v) [
+asks-still E D i v = elim (asks-taken E D i v) [
   | inl e ↦ subst (Still D i v) (sym e) (record { same = refl; view = refl; leads = λ _. (refl, refl) })
   | inr k ↦ subst (Still D i v) (sym k.is) (record { same = refl; view = refl; leads = λ _. (refl, refl) })
 ]
@@ -305,18 +306,19 @@ syncs-still E D i s =
     let K = still-settles D i in
     let b = written_site s in
     let m = (after_sync D i b b.joining).state in
-    let v = settled E D i m in
-    K.next b v (takes_asks E D i v).state (K.next b m v (after_sync-walk E D i (Still D i) K b) (settled-walk E D i (Still D i) K m)) (asks-still E D i v)
+    let v = (settled_turn E D i m).state in
+    K.next b v (takes_asks E D i v).state (K.next b m v (after_sync-walk D i (Over (Still D i)) (over-settles D i (Still D i) K) b)
+    (settled-walk E D i (Over (Still D i)) (over-moves D i (Still D i) K) (over-tells D i (Still D i) K E) m)) (asks-still E D i v)
 
 syncs-steady : (E : Database) (D : Deployment) (i : ℕ) (s : SiteState) → leads D i (syncs E D i s).state ≡ true
     → ((syncs E D i s).state.log ≡ s.log) × ((syncs E D i s).state.view ≡ s.view) × (leads D i s ≡ true)
 syncs-steady E D i s led =
     let k = syncs-still E D i s in
-    let w = wrote D i s (after_parts s.contents (parts_of_sync s s.joining)) in
+    let w = wrote s in
     let p = leads-parts D i (syncs E D i s).state led in
     let authoritative : is_leader D i (written_site s) ≡ true = sym k.same ∙ p.0 in
     let r = k.leads authoritative in
-    (r.1 ∙ w.log, k.view ∙ w.view, leads-from D i s (wrote-leader D i s (written_site s) w authoritative) (sym w.repaired ∙ sym r.0 ∙ p.1))
+    (r.1 ∙ w.log, k.view ∙ w.view, leads-from D i s (wrote-leader D i s (written_site s) w authoritative (leader-view D i (written_site s) authoritative).0) (sym w.repaired ∙ sym r.0 ∙ p.1))
 
 pub sync-steady : (E : Database) (D : Deployment) (i : ℕ) (s : SiteState) (o : Environment) → leads D i (sync_turn E D i s o).state ≡ true
     → ((sync_turn E D i s o).state.log ≡ s.log) × ((sync_turn E D i s o).state.view ≡ s.view) × (leads D i s ≡ true)

@@ -13,17 +13,19 @@ use Rattle.cluster_model.specs.Words.{Deployment, term_of, term_in, is_some_of}
 use Rattle.cluster_model.specs.Letters.{Letter}
 use Rattle.cluster_model.specs.SiteState.{SiteState, Joiner, site_term, leads, other_copies}
 use Rattle.cluster_model.specs.Site.{acked_in, copy_acks, has_all_on_disk, least, lesser, own_ack, standing}
-use Rattle.word_laws.proofs.Lists.{all-append, none-and-some}
+use Rattle.cluster_steps.proofs.Lists.{all-append, none-and-some}
 use Rattle.word_laws.proofs.Members.{is_some_of-is}
-use Rattle.log_laws.specs.Histories.{LogState, Prefix, Holds, IsSlot, part, start_at}
-use Rattle.log_laws.proofs.Plain.Prefixes.{prefix-length, prefix-rest}
+use Rattle.log_laws.specs.Histories.{LogState, LogsHold, IsSlot, part, site_start}
+use Rattle.cluster_steps.specs.Lists.{Prefix}
+use Rattle.cluster_steps.proofs.Prefixes.{prefix-length, prefix-rest}
 use Rattle.log_laws.proofs.Kept.Terms.{some-term}
 use Rattle.log_laws.proofs.Entries.Leads.{Leading, leading}
 use Rattle.log_laws.proofs.Runs.Leading.{leads-runs}
 use Rattle.disk_laws.specs.Disks.{DisksHold, Firm, MemberDisk, Top}
 use Rattle.transaction_laws.specs.Machine.{first_stage, stage}
-use Rattle.transaction_laws.specs.Transactions.{Transactions, AnswerOk, Books, CountsOk, Everywhere, IsPart, OnlyCalls, StandsAt, StateOk, Stood, acknowledged}
-use Rattle.transaction_laws.proofs.Sites.Answers.{AnswersFirm, SentAnswer}
+use Rattle.transaction_laws.specs.Transactions.{Transactions, ToOrders, AnswerOk, Books, CountsOk, Everywhere, IsPart, OnlyCalls, EntryAt, StateOk, Stood, acknowledged}
+use Rattle.reply_laws.specs.Answers.{SentAnswer}
+use Rattle.transaction_laws.proofs.Sites.Answers.{AnswersFirm, answers-firm}
 use Rattle.transaction_laws.proofs.Entries.Machine.{calls-done, calls-opened, done-append, open_in-stage, stage-append}
 
 -- ---- the least of what was acknowledged
@@ -81,7 +83,7 @@ standing-calls E p prefix log f calls = ap (λ o. standing o (last_done E p pref
 
 -- ---- a site that leads
 
-module _ (E : Database) (T : LogState) (J : Holds T) (M : Firm) (halted : Bool) (disks : DisksHold T M halted) (L : Transactions) (now : ℕ) (books : Books E T M L now) (i : ℕ)
+module _ (E : Database) (T : LogState) (J : LogsHold T) (M : Firm) (halted : Bool) (disks : DisksHold T M halted) (L : Transactions) (now : ℕ) (books : Books E T M L now) (i : ℕ)
     (slot : IsSlot T i) (inside : IsPart T (part T i)) (counts : leads T.words.deployment i (T.sites i) ≡ true → CountsOk T i) where
   abbrev D : Deployment
   D = T.words.deployment
@@ -90,7 +92,7 @@ module _ (E : Database) (T : LogState) (J : Holds T) (M : Firm) (halted : Bool) 
   s = T.sites i
 
   module _ (authoritative : leads D i s ≡ true) where
-    up : 0 < start_at T i
+    up : 0 < site_start T i
     up = leads-runs T J i authoritative
 
     abbrev k : Leading T i
@@ -120,7 +122,7 @@ module _ (E : Database) (T : LogState) (J : Holds T) (M : Firm) (halted : Bool) 
         leadership = k.leadership;
         led = k.led;
         position = a.position;
-        stands = subst (λ xs. StandsAt xs a.position e) k.log a.stands;
+        stands = subst (λ xs. EntryAt xs a.position e) k.log a.stands;
         everywhere = everywhere a.position a.firm;
       }),
     )
@@ -173,11 +175,15 @@ module _ (E : Database) (T : LogState) (J : Holds T) (M : Firm) (halted : Bool) 
       }
 
   -- What it says is so.
-  pub answers-ok : (l : Letter) → SentAnswer E D i s l → AnswerOk E T M L (part T i) l
-  answers-ok l = elim l.body as (λ b. SentAnswer E D i s (record l { body = b }) → AnswerOk E T M L (part T i) (record l { body = b })) [
-    | msg.FragDone m round partial ↦ λ a. let r = answer-stood a.1.leads l.term (Frag m round a.0) a.1 in (r.0, (a.0, r.1))
-    | msg.Finished m ↦ λ a. let r = answer-stood a.1.leads l.term (Done m a.0) a.1 in (r.0, (a.0, r.1))
-    | msg.MpState m is_open outcome ↦ λ a. (
+  pub answers-ok : (l : Letter) → SentAnswer E D i ToOrders s l → AnswerOk E T M L (part T i) l
+  answers-ok l = elim l.body as (λ b. SentAnswer E D i ToOrders s (record l { body = b }) → AnswerOk E T M L (part T i) (record l { body = b })) [
+    | msg.FragDone m round partial ↦ λ a.
+        let k = a.answered refl in let c = k.stands.here.claim in let e = Frag m round c.0 in
+        let r = answer-stood k.leads l.term e (answers-firm D i s (ToOrders (msg.FragDone m round partial)) l.term e a.to_initiator k c.1) in (r.0, (c.0, r.1))
+    | msg.Finished m ↦ λ a.
+        let k = a.answered refl in let c = k.stands.here.claim in let e = Done m c.0 in
+        let r = answer-stood k.leads l.term e (answers-firm D i s (ToOrders (msg.Finished m)) l.term e a.to_initiator k c.1) in (r.0, (c.0, r.1))
+    | msg.MpState m is_open outcome ↦ λ sent. let a = sent.to_initiator in (
       some a.leads l.term a.term_is,
       λ above. let e = a.term_is ∙ term-is a.leads in
           subst (λ t. StateOk E T M (part T i) t m is_open outcome) (sym e) (told-state a.leads a.on_disk m is_open outcome a.told (omega (arith, above, e))),

@@ -12,11 +12,12 @@ use Rattle.cluster_model.specs.Words.{Deployment, term_of, term_in, leader, init
 use Rattle.cluster_model.specs.Disk.{Shown, chosen}
 use Rattle.cluster_model.specs.Letters.{Letter, Sends, Waiting}
 use Rattle.cluster_model.specs.SiteState.{SiteState, site_term, leads}
-use Rattle.word_laws.specs.Histories.{In}
-use Rattle.word_laws.proofs.Lists.{all-append, all-at, all-from, all-mono, in-none, none-and-some, same-some}
-use Rattle.log_laws.specs.Histories.{LogState, Logs, LeadsIn, Leadership, Holds, IsSlot, part, start_at, log_at, term_at}
-use Rattle.log_laws.proofs.Plain.Copies.{leader-is, leader-view, leads-from}
-use Rattle.log_laws.proofs.Plain.Prefixes.{prefix-length}
+use Rattle.cluster_steps.specs.Lists.{In}
+use Rattle.cluster_steps.proofs.Lists.{all-append, all-at, all-from, all-mono, in-none, none-and-some, same-some}
+use Rattle.log_laws.specs.Histories.{LogState, Logs, LeadsIn, Leadership, LogsHold, IsSlot, part, site_start, log_at, term_at}
+use Rattle.log_laws.proofs.Plain.Copies.{leader-is}
+use Rattle.cluster_steps.proofs.Leaders.{leader-view, leads-from}
+use Rattle.cluster_steps.proofs.Prefixes.{prefix-length}
 use Rattle.log_laws.proofs.Kept.Moves.{Enters, Grown}
 use Rattle.log_laws.proofs.Kept.Plumbing.{here, sent-either, there}
 use Rattle.log_laws.proofs.Kept.Terms.{same-word}
@@ -24,20 +25,21 @@ use Rattle.log_laws.proofs.Entries.Leads.{Leading, leading}
 use Rattle.log_laws.proofs.Runs.Leading.{leads-runs}
 use Rattle.disk_laws.specs.Disks.{DisksHold, Firm, Shows, Top, shown_at}
 use Rattle.disk_laws.proofs.SiteDisks.{Raised}
-use Rattle.transaction_laws.specs.Transactions.{Transactions, Aligned, Books, CallsHold, CountsOk, HeldAnswer, AgentCalls, AnswerOk, InitiatingOk, IsPart, SiteCalls, ToSiteOk, WaitingAnswer, orders}
+use Rattle.transaction_laws.specs.Transactions.{Transactions, Aligned, Books, CallsHold, CountsOk, ToOrders, AgentCalls, AnswerOk, InitiatingOk, IsPart, SiteCalls, ToSiteOk, WaitingAnswer, orders}
 use Rattle.transaction_laws.proofs.Kept.Moves.{Moved, Onto, with_due}
 use Rattle.transaction_laws.proofs.Kept.Worded.{aligned-later}
 use Rattle.transaction_laws.proofs.Kept.Later.{answer-on, books-moved, phase-moved, to_site-on}
 use Rattle.transaction_laws.proofs.Initiators.Orders.{LaidOut, slot-part}
-use Rattle.transaction_laws.proofs.Sites.Answers.{SentAnswer, TurnAnswers}
+use Rattle.reply_laws.specs.Answers.{HoldsAnswers, SentAnswer, TurnAnswers}
+use Rattle.transaction_laws.proofs.Sites.Answers.{NoOrderWaits}
 use Rattle.transaction_laws.proofs.Sites.SiteSends.{answers-ok}
 use Rattle.transaction_laws.proofs.Sites.Leaderships.{OwnTurn, all-moved, due-here, due-none, due-unless, due_after, heads-own, authoritative-on, led-before, next, runs, start, unled-due}
 use Rattle.transaction_laws.proofs.Sites.SiteOrders.{none-under-way}
 use Rattle.transaction_laws.proofs.Sites.SiteCounts.{Counted, Unrepaired}
 
-module _ (E : Database) (S : LogState) (H : Holds S) (F M : Firm) (halted : Bool) (K : Transactions) (now : ℕ) (C : CallsHold E S F halted K now) (lay : LaidOut S) (i : ℕ)
-    (slot : IsSlot S i) (ch : Actor → Actor → List Letter) (u : SiteState) (out : Sends) (G : Logs) (J : Holds (next S H i ch u out G)) (grown : Grown S.words.deployment i u S.logs G)
-    (enters : Enters i (length (log_at S i)) S.logs G) (on : (u.start ≡ start_at S i) ⊎ (u.view ≡ None)) (disks : DisksHold (next S H i ch u out G) M halted)
+module _ (E : Database) (S : LogState) (H : LogsHold S) (F M : Firm) (halted : Bool) (K : Transactions) (now : ℕ) (C : CallsHold E S F halted K now) (lay : LaidOut S) (i : ℕ)
+    (slot : IsSlot S i) (ch : Actor → Actor → List Letter) (u : SiteState) (out : Sends) (G : Logs) (J : LogsHold (next S H i ch u out G)) (grown : Grown S.words.deployment i u S.logs G)
+    (enters : Enters i (length (log_at S i)) S.logs G) (on : (u.start ≡ site_start S i) ⊎ (u.view ≡ None)) (disks : DisksHold (next S H i ch u out G) M halted)
     (raised : Raised S.words.deployment i u F M) (tops : (p m n : ℕ) → Top S p m n → Top (next S H i ch u out G) p m n) (taken : List Entry) where
   abbrev D : Deployment
   D = S.words.deployment
@@ -48,14 +50,15 @@ module _ (E : Database) (S : LogState) (H : Holds S) (F M : Firm) (halted : Bool
   -- What must be so of the site's own turn, and of the channels before what it sent.
   pub record OwnFacts : Type 0 where
     pub own : OwnTurn E S H K C.books.due (now + 1) i ch u out G J grown enters on taken
-    pub answers : TurnAnswers E D i (record { state = u; sends = out })
+    pub answers : TurnAnswers E D i ToOrders (record { state = u; sends = out })
+    pub waiting : 0 < u.start → NoOrderWaits u
     pub counted : leads D i u ≡ true → Counted D i u
     pub joined : (low : ℕ) → (leads D i (S.sites i) ≡ true → u.view ≡ (S.sites i).view → AllByRecursion (λ j. low ≤ j.stream_start) (S.sites i).joiners) → leads D i u ≡ true
         → low ≤ length u.log → AllByRecursion (λ j. low ≤ j.stream_start) u.joiners
-    pub unrepaired : 0 < start_at S i → Unrepaired u
+    pub unrepaired : 0 < site_start S i → Unrepaired u
     -- what is due to it then is under way
     pub left : (k : Leading S i) (h a : ℕ) → initiator k.word ≡ Some (h, a)
-        → orders (start_at S i) (term_at S i) (ch (Agent h) (Site i)) ≡ drop (length taken) (K.due (part S i) (term_at S i))
+        → orders (site_start S i) (term_at S i) (ch (Agent h) (Site i)) ≡ drop (length taken) (K.due (part S i) (term_at S i))
     -- no more was under way than before, and to other sites the same
     pub less : (a b : Actor) (l : Letter) → In l (ch a b) → In l (S.words.channel a b)
     pub there : (h c : ℕ) → (c ≡ i → ⊥) → ch (Agent h) (Site c) ≡ S.words.channel (Agent h) (Site c)
@@ -152,15 +155,15 @@ module _ (E : Database) (S : LogState) (H : Holds S) (F M : Firm) (halted : Bool
         | inr heads ↦ let r = heads-own S H i ch u out G J (part S c) (term_of w) g is heads in absurd (not-both-lead c n w decided first r.1 r.0 r.2)
       ]
 
-    other-site : (c : ℕ) → (c ≡ i → ⊥) → 0 < start_at S c → SiteCalls S K c → SiteCalls T L c
+    other-site : (c : ℕ) → (c ≡ i → ⊥) → 0 < site_start S c → SiteCalls S K c → SiteCalls T L c
     other-site c n up k = record {
       waiting = rw same k.waiting;
-      held = subst (λ x. AllByRecursion (HeldAnswer x (site_term x)) x.held) (sym same) k.held;
+      held = subst (HoldsAnswers ToOrders) (sym same) k.held;
       orders = λ w joins view first h a init.
           let joined = ap (λ x. x.joining) (sym same) ∙ joins in
           let viewed = ap (λ x. x.view) (sym same) ∙ view in
           ap (λ x. orders x.start (term_of w) (ch (Agent h) (Site c))) same
-          ∙ ap (orders (start_at S c) (term_of w)) (facts.there h c n)
+          ∙ ap (orders (site_start S c) (term_of w)) (facts.there h c n)
           ∙ k.orders w joined viewed first h a init
           ∙ sym (due-other c n w (decided-at w joined viewed) first);
       counts = λ authoritative. counts-kept (leading S c H up (ap (leads D c) (sym same) ∙ authoritative)) (k.counts (ap (leads D c) (sym same) ∙ authoritative));
@@ -187,7 +190,7 @@ module _ (E : Database) (S : LogState) (H : Holds S) (F M : Firm) (halted : Bool
     mine : T.sites i ≡ u
     mine = here (record S { words = record S.words { channel = ch } }) i u out G
 
-    module _ (calls : 0 < start_at S i → SiteCalls S K i) where
+    module _ (calls : 0 < site_start S i → SiteCalls S K i) where
       -- as the leader of a term
       module _ (authoritative : leads D i u ≡ true) where
         abbrev k : Leading T i
@@ -196,7 +199,7 @@ module _ (E : Database) (S : LogState) (H : Holds S) (F M : Firm) (halted : Bool
         term-is : site_term u ≡ term_of k.word
         term-is = ap site_term (sym mine) ∙ ap term_in k.view
 
-        up : 0 < start_at S i
+        up : 0 < site_start S i
         up = runs S H i ch u out G J enters on authoritative
 
         -- no stream began before what its term began with
@@ -243,7 +246,7 @@ module _ (E : Database) (S : LogState) (H : Holds S) (F M : Firm) (halted : Bool
               let t : term_at S i ≡ term_of w = ap term_in b.1 ∙ ap term_of (sym same) in
               let v = same-some (sym m.view ∙ b.1 ∙ ap Some (sym same)) in
               ap (λ n. orders n (term_of w) (ch (Agent h) (Site i))) (ap (λ x. x.start) (sym mine) ∙ start S H i ch u out G J enters on y)
-              ∙ subst (λ n. orders (start_at S i) n (ch (Agent h) (Site i)) ≡ due (part S i) n) t
+              ∙ subst (λ n. orders (site_start S i) n (ch (Agent h) (Site i)) ≡ due (part S i) n) t
               (facts.left m h a (ap initiator v ∙ init) ∙ sym (due-here S K i u taken y (ap term_in view ∙ sym t)))
 
           go : (o : Option Leadership) → S.logs.leadership (part S i) (term_of w) ≡ o → orders u.start (term_of w) (ch (Agent h) (Site i)) ≡ due (part S i) (term_of w)
@@ -253,7 +256,7 @@ module _ (E : Database) (S : LogState) (H : Holds S) (F M : Firm) (halted : Bool
           go (Some g) e = led g e
 
       -- one that has just begun counts none
-      unrepaired-here : 0 < u.start → (u.start ≡ start_at S i) ⊎ (u.view ≡ None) → Unrepaired u
+      unrepaired-here : 0 < u.start → (u.start ≡ site_start S i) ⊎ (u.view ≡ None) → Unrepaired u
       unrepaired-here some (inl e) = facts.unrepaired (omega (arith, some, e))
       unrepaired-here some (inr none) = λ _. elim ((J.sites i).keeps (subst (λ x. 0 < x.start) (sym mine) some)).leads [
         | inl e ↦ ap (λ x. x.joiners) (sym mine) ∙ e
@@ -262,8 +265,8 @@ module _ (E : Database) (S : LogState) (H : Holds S) (F M : Firm) (halted : Bool
 
       own-site : 0 < u.start → SiteCalls T L i
       own-site some = record {
-        waiting = rw mine (facts.answers.waiting some);
-        held = subst (λ x. AllByRecursion (HeldAnswer x (site_term x)) x.held) (sym mine) (facts.answers.held some);
+        waiting = rw mine (facts.waiting some);
+        held = subst (HoldsAnswers ToOrders) (sym mine) (facts.answers.held some);
         orders = λ w joins view first h a init.
             ap (λ x. orders x.start (term_of w) (ch (Agent h) (Site i))) mine
             ∙ orders-here w (ap (λ x. x.joining) (sym mine) ∙ joins) (ap (λ x. x.view) (sym mine) ∙ view) first some h a init;
@@ -276,9 +279,9 @@ module _ (E : Database) (S : LogState) (H : Holds S) (F M : Firm) (halted : Bool
 
       -- ---- all sites, and what they say
 
-      sites : (c : ℕ) → IsSlot S c → 0 < start_at T c → SiteCalls T L c
+      sites : (c : ℕ) → IsSlot S c → 0 < site_start T c → SiteCalls T L c
       sites c is some = elim (cases_eq c i) [
-        | inl e ↦ subst (SiteCalls T L) (sym e) (own-site (subst (λ x. 0 < x.start) mine (subst (λ z. 0 < start_at T z) e some)))
+        | inl e ↦ subst (SiteCalls T L) (sym e) (own-site (subst (λ x. 0 < x.start) mine (subst (λ z. 0 < site_start T z) e some)))
         | inr n ↦
             let was = subst (λ x. 0 < x.start) (there (record S { words = record S.words { channel = ch } }) i u out G c n) some in
             other-site c n was (C.sites c is was)
@@ -288,8 +291,8 @@ module _ (E : Database) (S : LogState) (H : Holds S) (F M : Firm) (halted : Bool
       counts-here authoritative = (own-site (subst (λ x. 0 < x.start) mine (leads-runs T J i authoritative))).counts authoritative
 
       said : (h : ℕ) → AllByRecursion (AnswerOk E T M L (part S i)) (out (Agent h))
-      said h = all-mono (SentAnswer E D i u) (AnswerOk E T M L (part S i)) (λ l a.
-          answers-ok E T J M halted disks L (now + 1) books i slot (slot-part S lay i slot) counts-here l (subst (λ x. SentAnswer E D i x l) (sym mine) a))
+      said h = all-mono (SentAnswer E D i ToOrders u) (AnswerOk E T M L (part S i)) (λ l a.
+          answers-ok E T J M halted disks L (now + 1) books i slot (slot-part S lay i slot) counts-here l (subst (λ x. SentAnswer E D i ToOrders x l) (sym mine) a))
           (out (Agent h)) (facts.answers.sends h)
 
       to_agents : (c h : ℕ) → IsSlot S c → AllByRecursion (AnswerOk E T M L (part S c)) (T.words.channel (Site c) (Agent h))

@@ -1,0 +1,108 @@
+-- What is under way behind a turn: what was sent, and what was taken.
+use Rattle.std.proofs.Common.{◌≡◌, Bool, true, false, List, [], ◌∷◌, ◌++◌, append_assoc, refl, sym, ap, ◌∙◌, ◌==◌, arith, append-nil}
+use Rattle.std.proofs.lemmas.Bool.{and_parts, eqb-true}
+use Rattle.std.proofs.lemmas.Bool.Decides.{nat_tests}
+use Rattle.std.proofs.Math.Path.{fun_ext}
+use Rattle.std.specs.Prelude.{ℕ, ◌&&◌, if◌then◌else◌}
+use Rattle.std.specs.List.{AllByRecursion}
+use Rattle.volt_wire.specs.declared.actor.Actor.{Actor}
+use Rattle.volt_wire.specs.declared.actor.Actor.TheVariants.{Director, Agent}
+use Rattle.volt_wire.specs.declared.message.Msg.TheVariants as msg
+use Rattle.cluster_model.specs.Words.{Deployment, is_host}
+use Rattle.cluster_model.specs.Letters.{same, Letter, Sends, open_letter, no_sends}
+use Rattle.cluster_model.specs.World.{took, sent, rest}
+use Rattle.cluster_model.specs.Director.{stops_host, stops_all}
+use Rattle.cluster_model.specs.Laws.{RiseFrom, starts_in, start_in_letter}
+use Rattle.cluster_steps.proofs.Lists.{all-if, all-rest, all-behind, rise-behind}
+
+-- ---- channels behind a turn
+
+-- of a channel of the agent that sent, and of another's
+pub sent-both : (P : List Letter → Type 0) (ch : Actor → Actor → List Letter) (n : ℕ) (out : Sends) (h : ℕ) (b : Actor)
+    → (n ≡ h → P (ch (Agent h) b ++ out b)) → ((n ≡ h → ⊥) → P (ch (Agent h) b)) → P (sent ch (Agent n) out (Agent h) b)
+sent-both P ch n out h b here other = choice (n == h) refl
+  where
+    choice : (c : Bool) → (n == h) ≡ c → P (if c then ch (Agent h) b ++ out b else ch (Agent h) b)
+    choice true q = here (eqb-true n h q)
+    choice false q = other (λ e. grind (arith, nat_tests, q, e))
+
+-- of each channel, where it is kept by what comes behind
+pub sent-keep : (P : List Letter → Type 0) → ((xs ys : List Letter) → P xs → P (xs ++ ys)) → (ch : Actor → Actor → List Letter) (n : ℕ) (out : Sends) (h : ℕ) (b : Actor) → P (ch (Agent h) b) → P (sent ch (Agent n) out (Agent h) b)
+sent-keep P more ch n out h b k = sent-both P ch n out h b (λ e. more (ch (Agent h) b) (out b) k) (λ d. k)
+
+-- all of them, where nothing is sent, and where more is sent behind it
+pub sent-nothing : (ch : Actor → Actor → List Letter) (from : Actor) → sent ch from no_sends ≡ ch
+sent-nothing ch from = fun_ext (λ a. fun_ext (λ b. choice (same from a) a b))
+  where
+    choice : (c : Bool) (a b : Actor) → (if c then ch a b ++ [] else ch a b) ≡ ch a b
+    choice true a b = append-nil (ch a b)
+    choice false a b = refl
+
+pub sent-twice : (ch : Actor → Actor → List Letter) (from : Actor) (out more : Sends) → sent (sent ch from out) from more ≡ sent ch from (λ x. out x ++ more x)
+sent-twice ch from out more = fun_ext (λ x. fun_ext (λ y. letters (same from x) (ch x y) (out y) (more y)))
+  where
+    letters : (c : Bool) (xs ys zs : List Letter) → (if c then (if c then xs ++ ys else xs) ++ zs else (if c then xs ++ ys else xs)) ≡ (if c then xs ++ (ys ++ zs) else xs)
+    letters true xs ys zs = append_assoc xs ys zs
+    letters false xs ys zs = refl
+
+-- ---- channels from which a message was taken
+
+-- of the channel itself, and of others
+pub taken-both : (P : List Letter → Type 0) (ch : Actor → Actor → List Letter) (k n h g : ℕ)
+    → (k ≡ h → n ≡ g → P (rest (ch (Agent h) (Agent g)))) → P (ch (Agent h) (Agent g)) → P (took ch (Agent k) (Agent n) (Agent h) (Agent g))
+taken-both P ch k n h g here other = choice (n == g && k == h) refl
+  where
+    choice : (c : Bool) → (n == g && k == h) ≡ c → P (if c then rest (ch (Agent h) (Agent g)) else ch (Agent h) (Agent g))
+    choice true q = let e = and_parts (n == g) (k == h) q in here (eqb-true k h e.1) (eqb-true n g e.0)
+    choice false q = other
+
+pub took-all : (P : Letter → Type 0) (ch : Actor → Actor → List Letter) (from to a b : Actor) → AllByRecursion P (ch a b) → AllByRecursion P (took ch from to a b)
+took-all P ch from to a b h = all-if P (same to b && same from a) (rest (ch a b)) (ch a b) (all-rest P (ch a b) h) h
+
+-- the starts under way to a host
+pub took-starts : (ch : Actor → Actor → List Letter) (k n h : ℕ) → starts_in (took ch (Agent k) (Agent n) Director (Agent h)) ≡ starts_in (ch Director (Agent h))
+took-starts ch k n h = choice (n == h)
+  where
+    choice : (c : Bool) → starts_in (if c && false then rest (ch Director (Agent h)) else ch Director (Agent h)) ≡ starts_in (ch Director (Agent h))
+    choice true = refl
+    choice false = refl
+
+-- ---- starts under way
+
+-- those of messages and of others behind them
+pub starts-append : (xs ys : List Letter) → starts_in (xs ++ ys) ≡ starts_in xs ++ starts_in ys
+starts-append [] ys = refl
+starts-append (x ∷ xs) ys = ap (λ zs. start_in_letter x ++ zs) (starts-append xs ys) ∙ sym (append_assoc (start_in_letter x) (starts_in xs) (starts_in ys))
+
+-- where there are none
+pub starts-if : (c : Bool) (xs : List Letter) → starts_in xs ≡ [] → starts_in (if c then xs else []) ≡ []
+starts-if true xs h = h
+starts-if false xs h = refl
+
+-- the director's Stop isn't a Start
+pub stops_all-starts : (D : Deployment) (last : ℕ → ℕ) (g : ℕ) → starts_in (stops_all D last (Agent g)) ≡ []
+stops_all-starts D last g = starts-if (is_host D g) (stops_host D last g (Agent g)) (starts-if (g == g) (open_letter (msg.Stop (last g)) ∷ []) refl)
+
+-- those that are left once a message was taken
+pub starts-all : (P : ℕ → Type 0) (ch : Actor → Actor → List Letter) (from to : Actor) (g : ℕ) → AllByRecursion P (starts_in (ch Director (Agent g)))
+    → AllByRecursion P (starts_in (took ch from to Director (Agent g)))
+starts-all P ch from to g h = choice (same to (Agent g) && same from Director)
+  where
+    left : (ls : List Letter) → AllByRecursion P (starts_in ls) → AllByRecursion P (starts_in (rest ls))
+    left [] h = h
+    left (l ∷ ls) h = all-behind P (start_in_letter l) (starts_in ls) h
+
+    choice : (c : Bool) → AllByRecursion P (starts_in (if c then rest (ch Director (Agent g)) else ch Director (Agent g)))
+    choice true = left (ch Director (Agent g)) h
+    choice false = h
+
+pub starts-rise : (ch : Actor → Actor → List Letter) (from to : Actor) (g : ℕ) → RiseFrom 0 (starts_in (ch Director (Agent g))) → RiseFrom 0 (starts_in (took ch from to Director (Agent g)))
+starts-rise ch from to g h = choice (same to (Agent g) && same from Director)
+  where
+    left : (ls : List Letter) → RiseFrom 0 (starts_in ls) → RiseFrom 0 (starts_in (rest ls))
+    left [] h = h
+    left (l ∷ ls) h = rise-behind 0 (start_in_letter l) (starts_in ls) h
+
+    choice : (c : Bool) → RiseFrom 0 (starts_in (if c then rest (ch Director (Agent g)) else ch Director (Agent g)))
+    choice true = left (ch Director (Agent g)) h
+    choice false = h

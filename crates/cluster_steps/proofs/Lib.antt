@@ -1,0 +1,12 @@
+pub mod Lists
+pub mod Channels
+pub mod Prefixes
+pub mod Least
+pub mod Leaders
+pub mod Frames
+pub mod Appends
+pub mod Sends
+pub mod Steps
+pub mod SiteWalk
+pub mod SiteTurns
+pub mod StateSteps

@@ -1,0 +1,157 @@
+-- Relations of a site's states alone, whatever it sends: the steps over which they go on, and that they so go on over a turn.
+use Rattle.std.proofs.Common.{◌≡◌, ◌<◌, true, false, List, [], ◌∷◌, ◌++◌, refl, ap, ◌==◌}
+use Rattle.std.proofs.lemmas.Bool.{false_from_ne_true}
+use Rattle.std.specs.Prelude.{ℕ, ◌&&◌, map, filter, length, nat_lt, not, Some, None, is_some}
+use Rattle.std.specs.List.{list_any, list_all}
+use Rattle.volt_base.specs.declared.entry.Entry.TheVariants.{Sp}
+use Rattle.volt_wire.specs.declared.actor.Actor.{Actor}
+use Rattle.volt_wire.specs.declared.actor.Actor.TheVariants.{Agent, Site}
+use Rattle.volt_wire.specs.declared.message.Msg.TheVariants as msg
+use Rattle.cluster_model.specs.Engine.{Database}
+use Rattle.cluster_model.specs.Log.{nothing_open}
+use Rattle.cluster_model.specs.Words.{Deployment, part_of_slot, is_some_of, term_of}
+use Rattle.cluster_model.specs.Letters.{Letter, Turn}
+use Rattle.cluster_model.specs.SiteState.{SiteState, Joining, Reported, Joiner, is_leader, leads, leader_in, other_copies, site_term}
+use Rattle.cluster_model.specs.Site.{holds, firm_now, floor_now, longest, lacks}
+use Rattle.cluster_steps.proofs.Frames.{begins_at, with_rest}
+use Rattle.cluster_steps.proofs.Steps.{SmallSteps, SayingSteps, HandlerSteps, MayBeTold, reply_to, with_acks, with_entry, with_repair, with_reported, with_stream}
+
+-- ---- messages
+
+-- Of a message that a site takes: no leader gets Put or Repair, and a word that comes is of a later term.
+abbrev pub Comes : Deployment → ℕ → SiteState → Actor → Letter → Type 0
+Comes D i s (Site slot) l = elim l.body as (λ _. Type 0) [
+  | msg.Put position e floor ↦ is_leader D i s ≡ true → ⊥
+  | msg.Repair from entries ↦ is_leader D i s ≡ true → ⊥
+  | _ ↦ Unit {0}
+]
+Comes D i s (Agent h) l = elim l.body as (λ _. Type 0) [
+  | msg.View w ↦ site_term s < term_of w
+  | _ ↦ Unit {0}
+]
+Comes D i s from l = Unit {0}
+
+-- P of what a Report says
+abbrev pub ReportOf : (Reported → Type 0) → Actor → Letter → Type 0
+ReportOf P (Site slot) l = elim l.body as (λ _. Type 0) [
+  | msg.Report position floor tail ↦ P (record { slot = slot; position = position; floor = floor; tail = tail })
+  | _ ↦ Unit {0}
+]
+ReportOf P from l = Unit {0}
+
+-- neither a word, nor a round or an end
+abbrev pub Plainly : Actor → Letter → Type 0
+Plainly (Agent h) l = elim l.body as (λ _. Type 0) [
+  | msg.View w ↦ ⊥
+  | msg.Frag m round body ↦ ⊥
+  | msg.Done m o ↦ ⊥
+  | _ ↦ Unit {0}
+]
+Plainly from l = Unit {0}
+
+abbrev pub ComesPlainly : Deployment → ℕ → (Reported → Type 0) → SiteState → Actor → Letter → Type 0
+ComesPlainly D i P s from l = Plainly from l × Comes D i s from l × ReportOf P from l
+
+-- ---- the steps
+
+-- the first site with what no relation of states goes by of the second one
+abbrev pub with_others : SiteState → SiteState → SiteState
+with_others s u = record (with_rest s u) {
+  stop = u.stop;
+  greatest = u.greatest;
+  earlier = u.earlier;
+  base = u.base;
+  owes = u.owes;
+  held = u.held;
+  contents = u.contents;
+  plans = u.plans;
+}
+
+-- Of a site that isn't a leader, and stays so.
+pub record Apart (D : Deployment) (i : ℕ) (s u : SiteState) : Type 0 where
+  pub before : is_leader D i s ≡ false
+  pub after : is_leader D i u ≡ false
+  pub view : u.view ≡ s.view
+  pub joiners : u.joiners ≡ s.joiners
+  pub waiting : u.waiting ≡ s.waiting
+  pub repaired : u.repaired ≡ false → s.repaired ≡ false
+
+-- A goes on over the steps that follow the handler of a message.
+pub record StateSaying (D : Deployment) (i : ℕ) (A : SiteState → SiteState → Type 0) : Type 0 where
+  pub first : (s : SiteState) → A s s
+  pub next : (s m u : SiteState) → A s m → A m u → A s u
+  pub rest : (s u : SiteState) → A s (with_others s u)
+  pub apart : (s u : SiteState) → Apart D i s u → A s u
+  -- a leader counts, with these acknowledgements
+  pub counted : (s : SiteState) → leads D i s ≡ true → (acks : List (ℕ × ℕ)) (joiners : List Joiner) → begins_at joiners ≡ begins_at s.joiners
+      → A s (let m = with_acks s acks joiners in record m { firm = firm_now D i m })
+  pub joiners : (s : SiteState) (f : Joiner → Joiner) → ((j : Joiner) → (f j).stream_start ≡ j.stream_start) → ((j : Joiner) → (f j).position ≡ j.position)
+      → A s (record s { joiners = map f s.joiners })
+
+-- So it does over those of a handler, with P of each report that comes.
+pub record StateSteps (D : Deployment) (stamp i : ℕ) (P : Reported → Type 0) (A : SiteState → SiteState → Type 0) : Type 0 where
+  pub settles : StateSaying D i A
+  -- a call runs
+  pub called : (s : SiteState) → leads D i s ≡ true → nothing_open s.log ≡ true → (call : ℕ) (body : List ℕ) → A s (with_entry s (Sp call stamp body))
+  -- a leader that has all reports begins its term
+  pub begun : (s : SiteState) → is_leader D i s ≡ true → s.repaired ≡ false → list_all (λ c. list_any (λ r. r.slot == c) s.reports) (other_copies D i s) ≡ true
+      → A s (record s { log = s.log ++ lacks (length s.log) (longest (length s.log) None s.reports); repaired = true; reports = [] })
+  pub reported : (s : SiteState) (r : Reported) → P r → A s (record s { reports = s.reports ++ r ∷ [] })
+  -- one that hasn't begun its term notes an acknowledgement
+  pub noted : (s : SiteState) → leads D i s ≡ false → (acks : List (ℕ × ℕ)) (joiners : List Joiner) → begins_at joiners ≡ begins_at s.joiners → A s (with_acks s acks joiners)
+
+-- ---- as relations of turns
+
+abbrev pub Over : (SiteState → SiteState → Type 0) → SiteState → Turn SiteState → Type 0
+Over A s t = A s t.state
+
+-- a joiner isn't a leader
+pub joiner-apart : (D : Deployment) (i : ℕ) (s : SiteState) (j : Joining) → s.joining ≡ Some j → is_leader D i s ≡ false
+joiner-apart D i s j e = ap (λ o. not (is_some o) && is_some_of (leader_in D s.view (part_of_slot D i)) i) e
+
+module _ (D : Deployment) (i : ℕ) (A : SiteState → SiteState → Type 0) (W : StateSaying D i A) where
+  pub over-moves : SmallSteps (Over A)
+  over-moves = record {
+    first = W.first;
+    next = λ s t f h k. W.next s t.state (f t.state).state h k;
+    rest = λ s u. W.rest s (with_rest s u);
+    says = λ s out inert. W.first s;
+    joiners = λ s f same. W.joiners s f (λ j. (same j).stream_start) (λ j. (same j).position);
+  }
+
+  pub over-tells : (E : Database) → MayBeTold E D i (Over A)
+  over-tells E s may first = W.rest s (record s { has_told = true })
+
+  pub over-settles : SayingSteps D i (Over A)
+  over-settles = record {
+    moves = over-moves;
+    joins = λ s j k log is stream based more. W.apart s _
+        (record { before = joiner-apart D i s j is; after = refl; view = refl; joiners = refl; waiting = refl; repaired = λ e. e });
+    counted = λ s authoritative acks joiners same.
+        let m = with_acks s acks joiners in
+        let n = record m { firm = firm_now D i m } in
+        let u = record n { floor = floor_now D i m; held = filter (λ d. nat_lt n.firm d.position) s.held } in
+        W.next s n u (W.counted s authoritative acks joiners same.begins) (W.rest n u);
+  }
+
+pub over-steps : (E : Database) (D : Deployment) (stamp i : ℕ) (P : Reported → Type 0) (A : SiteState → SiteState → Type 0) → StateSteps D stamp i P A
+    → HandlerSteps E D stamp i (ComesPlainly D i P) (Over A)
+over-steps E D stamp i P A W = let S = W.settles in record {
+  settles = over-settles D i A S;
+  called = λ s authoritative clear c. let h = holds s (Agent c.host) (reply_to E D i stamp c s) in
+      S.next s h (with_entry h (Sp c.call stamp c.body)) (S.rest s h) (W.called h authoritative clear c.call c.body);
+  round = λ s h l m round body k authoritative. absurd k.0;
+  ended = λ s h l m o k authoritative. absurd k.0;
+  word = λ s h l w k. k.0;
+  begun = λ s authoritative un all.
+      let m = record s { log = s.log ++ lacks (length s.log) (longest (length s.log) None s.reports); repaired = true; reports = [] } in
+      S.next s m (with_reported s) (W.begun s authoritative un all) (S.rest m (with_reported s));
+  reported = λ s slot l position floor tail k. W.reported s _ k.2;
+  noted = λ s idle acks joiners same. W.noted s idle acks joiners same.begins;
+  put = λ s slot l position e floor k. let n = false_from_ne_true (is_leader D i s) k.1 in
+      S.apart s (with_entry s e) (record { before = n; after = n; view = refl; joiners = refl; waiting = refl; repaired = λ r. r });
+  repair = λ s slot l from entries k. let n = false_from_ne_true (is_leader D i s) k.1 in
+      S.apart s (with_repair s from entries) (record { before = n; after = n; view = refl; joiners = refl; waiting = refl; repaired = λ r. absurd (cc) });
+  stream = λ s slot l head j k is may.
+      S.apart s (with_stream s j l head) (record { before = joiner-apart D i s j is; after = refl; view = refl; joiners = refl; waiting = refl; repaired = λ r. r });
+}
