@@ -3,6 +3,7 @@
 #![tactic(auto)]
 
 pub mod buffer;
+mod history;
 pub mod memory;
 pub mod sink;
 pub mod source;
