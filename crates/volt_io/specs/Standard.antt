@@ -4,27 +4,27 @@ use Rattle.volt_base.specs.Faults.{one_more}
 use Rattle.volt_io.specs.Passed.{Passed, nothing_passed, then_passed}
 use Rattle.volt_io.specs.States.{SourceState, SinkState}
 
-pub record Stream : Type 0 where
+pub record Traffic : Type 0 where
   -- what the reader gave, or what the writer took
   pub passed : Passed
   -- how many calls failed; past the greatest u64 it stays there
   pub faults : ℕ
 
--- a stream before its first call
-abbrev pub new_stream : Stream
-new_stream = record { passed = nothing_passed; faults = 0 }
+-- before the first call
+abbrev pub no_traffic : Traffic
+no_traffic = record { passed = nothing_passed; faults = 0 }
 
--- the stream after a call that moved these bytes
-abbrev pub after_moving : Stream → List ℕ → Stream
+-- after a call that moved these bytes
+abbrev pub after_moving : Traffic → List ℕ → Traffic
 after_moving s bytes = record s { passed = then_passed s.passed bytes }
 
--- the stream after a call that failed
-abbrev pub after_failing : Stream → Stream
+-- after a call that failed
+abbrev pub after_failing : Traffic → Traffic
 after_failing s = record s { faults = one_more s.faults }
 
 -- what is seen of it, as a source and as a sink. It doesn't tell what the reader will give.
-abbrev pub as_source : Stream → SourceState
+abbrev pub as_source : Traffic → SourceState
 as_source s = record { given = s.passed.bytes; ended = s.passed.ended; rest = None; faults = s.faults }
 
-abbrev pub as_sink : Stream → SinkState
+abbrev pub as_sink : Traffic → SinkState
 as_sink s = record { taken = s.passed.bytes; faults = s.faults }

@@ -22,28 +22,28 @@ pub record SinkState : Type 0 where
 -- ---- reading
 
 -- told bytes begin with these, and are told again without them
-abbrev pub TakesPrefix : Option (List ℕ) → Option (List ℕ) → List ℕ → Type 0
-TakesPrefix None after prefix = Unit {0}
-TakesPrefix (Some bytes) None prefix = ⊥
-TakesPrefix (Some bytes) (Some now) prefix = bytes ≡ prefix ++ now
+abbrev pub LosesPrefix : Option (List ℕ) → Option (List ℕ) → List ℕ → Type 0
+LosesPrefix None after prefix = Unit {0}
+LosesPrefix (Some bytes) None prefix = ⊥
+LosesPrefix (Some bytes) (Some now) prefix = bytes ≡ prefix ++ now
 
 -- the source gave these bytes, and no others
-pub record Gives (before after : SourceState) (bytes : List ℕ) : Type 0 where
+pub record SourceGives (before after : SourceState) (bytes : List ℕ) : Type 0 where
   pub given : after.given ≡ before.given ++ bytes
-  pub told : TakesPrefix before.rest after.rest bytes
+  pub told : LosesPrefix before.rest after.rest bytes
 
 -- it gave so many bytes at most
-abbrev pub GivesAtMost : SourceState → SourceState → ℕ → Type 0
-GivesAtMost before after most = (bytes : List ℕ) × (length bytes ≤ most) × Gives before after bytes
+abbrev pub SourceGivesAtMost : SourceState → SourceState → ℕ → Type 0
+SourceGivesAtMost before after most = (bytes : List ℕ) × (length bytes ≤ most) × SourceGives before after bytes
 
 -- it gave some bytes, which moved to the end of a list
-abbrev pub GivesTo : SourceState → SourceState → List ℕ → List ℕ → Type 0
-GivesTo before after old new = (bytes : List ℕ) × Gives before after bytes × (new ≡ old ++ bytes)
+abbrev pub SourceGivesTo : SourceState → SourceState → List ℕ → List ℕ → Type 0
+SourceGivesTo before after old new = (bytes : List ℕ) × SourceGives before after bytes × (new ≡ old ++ bytes)
 
 -- ---- writing
 
 -- the sink took these bytes, and no others
-pub record Takes (before after : SinkState) (bytes : List ℕ) : Type 0 where
+pub record SinkTakes (before after : SinkState) (bytes : List ℕ) : Type 0 where
   pub taken : after.taken ≡ before.taken ++ bytes
 
 -- a list begins with another
@@ -51,9 +51,9 @@ abbrev pub IsPrefixOf : List ℕ → List ℕ → Type 0
 IsPrefixOf prefix whole = (others : List ℕ) × (whole ≡ prefix ++ others)
 
 -- it took some prefix of these
-abbrev pub TakesPrefixOf : SinkState → SinkState → List ℕ → Type 0
-TakesPrefixOf before after text = (prefix : List ℕ) × IsPrefixOf prefix text × Takes before after prefix
+abbrev pub SinkTakesPrefixOf : SinkState → SinkState → List ℕ → Type 0
+SinkTakesPrefixOf before after text = (prefix : List ℕ) × IsPrefixOf prefix text × SinkTakes before after prefix
 
 -- it took all of these but the last ones
-abbrev pub TakesAllBut : SinkState → SinkState → List ℕ → List ℕ → Type 0
-TakesAllBut before after text last = (prefix : List ℕ) × (text ≡ prefix ++ last) × Takes before after prefix
+abbrev pub SinkTakesAllBut : SinkState → SinkState → List ℕ → List ℕ → Type 0
+SinkTakesAllBut before after text last = (prefix : List ℕ) × (text ≡ prefix ++ last) × SinkTakes before after prefix

@@ -2,7 +2,7 @@
 ghost use Rattle.std.specs.Prelude.{◌≡◌, ◌≤◌, [], ◌++◌, IsOk, OnOk, OnErr};
 ghost use Rattle.volt_io.specs.Buffer.{HasRoom};
 ghost use Rattle.volt_base.specs.Faults.{Increased};
-ghost use Rattle.volt_io.specs.States.{Takes, TakesPrefixOf, TakesAllBut};
+ghost use Rattle.volt_io.specs.States.{SinkTakes, SinkTakesPrefixOf, SinkTakesAllBut};
 
 use crate::sink::{Sink, WriteFailed};
 use crate::transfer::write_all;
@@ -50,9 +50,9 @@ impl WriteBuffer {
         ensures succeeds { HasRoom self.old text.now → IsOk result }
 
         // What is written, and what is held.
-        ensures kept { OnOk result (TakesAllBut (K.state sink.old) (K.state sink.new)
+        ensures kept { OnOk result (SinkTakesAllBut (K.state sink.old) (K.state sink.new)
             (self.old ++ text.now) self.new) }
-        ensures partly { OnErr result (TakesPrefixOf (K.state sink.old) (K.state sink.new)
+        ensures partly { OnErr result (SinkTakesPrefixOf (K.state sink.old) (K.state sink.new)
             (self.old ++ text.now)) }
         ensures lost { OnErr result (self.new ≡ []) }
 
@@ -74,8 +74,8 @@ impl WriteBuffer {
     /// of them was written.
     pub fn flush<K: Sink>(&mut self, sink: &mut K) -> Result<(), WriteFailed>
         // What is written, and what is held.
-        ensures written { OnOk result (Takes (K.state sink.old) (K.state sink.new) self.old) }
-        ensures partly { OnErr result (TakesPrefixOf (K.state sink.old) (K.state sink.new) self.old) }
+        ensures written { OnOk result (SinkTakes (K.state sink.old) (K.state sink.new) self.old) }
+        ensures partly { OnErr result (SinkTakesPrefixOf (K.state sink.old) (K.state sink.new) self.old) }
         ensures empty { self.new ≡ [] }
 
         // The sink's faults.

@@ -1,7 +1,7 @@
 //! Where bytes go.
 ghost use Rattle.std.specs.Prelude.{◌≡◌, ◌<◌, ◌≤◌, length, take, Some, codes, IfOk, OnErr};
 ghost use Rattle.volt_base.specs.Faults.{Increased};
-ghost use Rattle.volt_io.specs.States.{SinkState, Takes};
+ghost use Rattle.volt_io.specs.States.{SinkState, SinkTakes};
 
 use std::error::Error;
 use std::fmt;
@@ -29,14 +29,14 @@ pub trait Sink {
     /// What is seen of the sink.
     ghost state: { Self → SinkState };
 
-    /// Takes bytes from the beginning of `piece`, at least one, and says how many.
+    /// SinkTakes bytes from the beginning of `piece`, at least one, and says how many.
     fn write(&mut self, piece: &[u8]) -> Result<usize, WriteFailed>
         requires { 0 < length piece.now }
 
         // The bytes that were taken.
         ensures some { IfOk result (λ n. 0 < n) }
         ensures within { IfOk result (λ n. n ≤ length piece.now) }
-        ensures takes { IfOk result (λ n. Takes (state self.old) (state self.new) (take n piece.now)) }
+        ensures takes { IfOk result (λ n. SinkTakes (state self.old) (state self.new) (take n piece.now)) }
 
         // A failure.
         ensures kept { OnErr result ((state self.new).taken ≡ (state self.old).taken) }

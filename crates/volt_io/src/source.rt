@@ -1,7 +1,7 @@
 //! Where bytes come from.
 ghost use Rattle.std.specs.Prelude.{◌≡◌, ◌==◌, ◌<◌, ◌≤◌, ◌↔◌, [], length, take, Some, codes, IfOk, IfSome, OnErr};
 ghost use Rattle.volt_base.specs.Faults.{Increased};
-ghost use Rattle.volt_io.specs.States.{SourceState, Gives};
+ghost use Rattle.volt_io.specs.States.{SourceState, SourceGives};
 
 use std::error::Error;
 use std::fmt;
@@ -30,20 +30,20 @@ pub trait Source {
     /// What is seen of the source.
     ghost state: { Self → SourceState };
 
-    /// Gives the next bytes to the beginning of `into` and says how many they are. What stands in
+    /// SourceGives the next bytes to the beginning of `into` and says how many they are. What stands in
     /// `into` behind them is free.
     fn read(&mut self, into: &mut [u8]) -> Result<usize, ReadFailed>
         requires { 0 < length into.old }
 
         // The bytes that were given.
         ensures within { IfOk result (λ n. n ≤ length into.new) }
-        ensures gives { IfOk result (λ n. Gives (state self.old) (state self.new) (take n into.new)) }
+        ensures gives { IfOk result (λ n. SourceGives (state self.old) (state self.new) (take n into.new)) }
         ensures ends { IfOk result (λ n. (state self.new).ended ≡ (n == 0)) }
         ensures told_end { IfOk result (λ n. IfSome (state self.old).rest
             (λ left. (n ≡ 0) ↔ (left ≡ []))) }
 
         // A failure.
-        ensures kept { OnErr result (Gives (state self.old) (state self.new) []) }
+        ensures kept { OnErr result (SourceGives (state self.old) (state self.new) []) }
         ensures rises { OnErr result (Increased (state self.old).faults (state self.new).faults) }
         ensures never_falls { (state self.old).faults ≤ (state self.new).faults };
 

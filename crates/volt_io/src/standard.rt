@@ -3,12 +3,12 @@
 //! a file, a pipe or a terminal has.
 ghost use Rattle.std.specs.Prelude.{◌≡◌, ◌==◌, ◌<◌, ◌≤◌, [], length, take, IfSome, IfOk, OnErr};
 ghost use Rattle.volt_base.specs.Faults.{Increased};
-ghost use Rattle.volt_io.specs.States.{Gives, Takes};
-ghost use Rattle.volt_io.specs.Standard.{new_stream, after_moving, after_failing, as_source, as_sink};
+ghost use Rattle.volt_io.specs.States.{SourceGives, SinkTakes};
+ghost use Rattle.volt_io.specs.Standard.{no_traffic, after_moving, after_failing, as_source, as_sink};
 
-use crate::history::History;
 use crate::sink::{Sink, WriteFailed};
 use crate::source::{ReadFailed, Source};
+use crate::trail::Trail;
 use std::io::{ErrorKind, Read, Write};
 use std::marker::Model;
 
@@ -23,26 +23,26 @@ const TRIES: usize = 1_000;
 pub struct StdSource<R: Read + Drop> {
     reader: R,
     faults: u64,
-    history: History,
+    trail: Trail,
 }
 
 impl<R: Read + Drop> Model for StdSource<R> {
-    ghost use Rattle.volt_io.specs.Standard.{Stream};
+    ghost use Rattle.volt_io.specs.Standard.{Traffic};
 
-    ghost Value = { Stream };
+    ghost Value = { Traffic };
 
-    ghost view = { λ s. record { passed = s.history.passed; faults = s.faults } };
+    ghost view = { λ s. record { passed = s.trail.passed; faults = s.faults } };
 }
 
 impl<R: Read + Drop> StdSource<R> {
     /// A source that gives what the reader gives.
     pub fn new(reader: R) -> StdSource<R>
-        ensures { result ≡ new_stream }
+        ensures { result ≡ no_traffic }
     {
         StdSource {
             reader,
             faults: 0,
-            history: History::new(),
+            trail: Trail::new(),
         }
     }
 }
@@ -58,15 +58,15 @@ impl<R: Read + Drop> Source for StdSource<R> {
 
         // As each source.
         ensures within { IfOk result (λ n. n ≤ length into.new) }
-        ensures gives { IfOk result (λ n. Gives (as_source self.old) (as_source self.new) (take n into.new)) }
+        ensures gives { IfOk result (λ n. SourceGives (as_source self.old) (as_source self.new) (take n into.new)) }
         ensures ends { IfOk result (λ n. self.new.passed.ended ≡ (n == 0)) }
-        ensures kept { OnErr result (Gives (as_source self.old) (as_source self.new) []) }
+        ensures kept { OnErr result (SourceGives (as_source self.old) (as_source self.new) []) }
         ensures rises { OnErr result (Increased self.old.faults self.new.faults) }
         ensures never_falls { self.old.faults ≤ self.new.faults }
     {
         match read_some(&mut self.reader, into) {
             Some(count) => {
-                self.history.note(&into[..count]);
+                self.trail.note(&into[..count]);
                 Ok(count)
             }
             None => {
@@ -107,26 +107,26 @@ fn read_some<R: Read>(reader: &mut R, into: &mut [u8]) -> Option<usize>
 pub struct StdSink<W: Write + Drop> {
     writer: W,
     faults: u64,
-    history: History,
+    trail: Trail,
 }
 
 impl<W: Write + Drop> Model for StdSink<W> {
-    ghost use Rattle.volt_io.specs.Standard.{Stream};
+    ghost use Rattle.volt_io.specs.Standard.{Traffic};
 
-    ghost Value = { Stream };
+    ghost Value = { Traffic };
 
-    ghost view = { λ s. record { passed = s.history.passed; faults = s.faults } };
+    ghost view = { λ s. record { passed = s.trail.passed; faults = s.faults } };
 }
 
 impl<W: Write + Drop> StdSink<W> {
     /// A sink that passes its bytes on to the writer.
     pub fn new(writer: W) -> StdSink<W>
-        ensures { result ≡ new_stream }
+        ensures { result ≡ no_traffic }
     {
         StdSink {
             writer,
             faults: 0,
-            history: History::new(),
+            trail: Trail::new(),
         }
     }
 }
@@ -143,13 +143,13 @@ impl<W: Write + Drop> Sink for StdSink<W> {
         // As each sink.
         ensures some { IfOk result (λ n. 0 < n) }
         ensures within { IfOk result (λ n. n ≤ length piece.now) }
-        ensures takes { IfOk result (λ n. Takes (as_sink self.old) (as_sink self.new) (take n piece.now)) }
+        ensures takes { IfOk result (λ n. SinkTakes (as_sink self.old) (as_sink self.new) (take n piece.now)) }
         ensures rises { OnErr result (Increased self.old.faults self.new.faults) }
         ensures never_falls { self.old.faults ≤ self.new.faults }
     {
         match write_some(&mut self.writer, piece) {
             Some(count) => {
-                self.history.note(&piece[..count]);
+                self.trail.note(&piece[..count]);
                 Ok(count)
             }
             None => {

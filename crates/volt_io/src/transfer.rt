@@ -1,7 +1,7 @@
 //! All of a source into memory, and all of a text into a sink.
 ghost use Rattle.std.specs.Prelude.{◌≡◌, true, [], ◌+◌, ◌^◌, ◌<◌, ◌≤◌, length, take, vec_len, IfOk, IfSome, OnOk, OnErr};
 ghost use Rattle.volt_base.specs.Faults.{Increased};
-ghost use Rattle.volt_io.specs.States.{Gives, GivesAtMost, GivesTo, Takes, TakesPrefixOf};
+ghost use Rattle.volt_io.specs.States.{SourceGives, SourceGivesAtMost, SourceGivesTo, SinkTakes, SinkTakesPrefixOf};
 
 use crate::sink::{Sink, WriteFailed};
 use crate::source::{ReadFailed, Source};
@@ -73,7 +73,7 @@ pub fn read_to_end<S: Source>(
 
     // The bytes are all that the source gave, up to its end or the limit.
     ensures within { IfOk result (λ bytes. vec_len bytes ≤ limit + 1) }
-    ensures gives { IfOk result (λ bytes. Gives (S.state source.old) (S.state source.new) bytes.items) }
+    ensures gives { IfOk result (λ bytes. SourceGives (S.state source.old) (S.state source.new) bytes.items) }
     ensures to_end { IfOk result (λ bytes. vec_len bytes ≤ limit → (S.state source.new).ended ≡ true) }
 
     // Where the source tells its bytes, they are these.
@@ -83,7 +83,7 @@ pub fn read_to_end<S: Source>(
         (λ left. vec_len bytes ≤ limit → bytes.items ≡ left)) }
 
     // A failure.
-    ensures loses { OnErr result (GivesAtMost (S.state source.old) (S.state source.new) (limit + 1)) }
+    ensures loses { OnErr result (SourceGivesAtMost (S.state source.old) (S.state source.new) (limit + 1)) }
     ensures rises { result ≡ Err ReadFault.Failed
         → Increased (S.state source.old).faults (S.state source.new).faults }
     ensures never_falls { (S.state source.old).faults ≤ (S.state source.new).faults }
@@ -109,13 +109,13 @@ fn read_piece<S: Source>(
 
     ensures within { IfOk result (λ n. n ≤ length piece.old) }
     ensures grows { IfOk result (λ n. vec_len bytes.new ≡ vec_len bytes.old + n) }
-    ensures moves { OnOk result (GivesTo (S.state source.old) (S.state source.new)
+    ensures moves { OnOk result (SourceGivesTo (S.state source.old) (S.state source.new)
         bytes.old.items bytes.new.items) }
     ensures ends { IfOk result (λ n. n ≡ 0 → (S.state source.new).ended ≡ true) }
     ensures told_end { IfOk result (λ n. n ≡ 0 → IfSome (S.state source.old).rest (λ left. left ≡ [])) }
     ensures same { IfOk result (λ n. n ≡ 0 → bytes.new.items ≡ bytes.old.items) }
 
-    ensures loses { OnErr result (GivesAtMost (S.state source.old) (S.state source.new) (length piece.old)) }
+    ensures loses { OnErr result (SourceGivesAtMost (S.state source.old) (S.state source.new) (length piece.old)) }
     ensures rises { result ≡ Err ReadFault.Failed
         → Increased (S.state source.old).faults (S.state source.new).faults }
     ensures never_falls { (S.state source.old).faults ≤ (S.state source.new).faults }
@@ -137,8 +137,8 @@ fn zeros(alloc: Global, len: usize) -> Result<Vec<u8>, AllocError>
 /// After an `Err` some prefix of `text` was written.
 pub fn write_all<K: Sink>(sink: &mut K, text: &[u8]) -> Result<(), WriteFailed>
     // What is written.
-    ensures written { OnOk result (Takes (K.state sink.old) (K.state sink.new) text.now) }
-    ensures partly { OnErr result (TakesPrefixOf (K.state sink.old) (K.state sink.new) text.now) }
+    ensures written { OnOk result (SinkTakes (K.state sink.old) (K.state sink.new) text.now) }
+    ensures partly { OnErr result (SinkTakesPrefixOf (K.state sink.old) (K.state sink.new) text.now) }
 
     // The sink's faults.
     ensures rises { OnErr result (Increased (K.state sink.old).faults (K.state sink.new).faults) }

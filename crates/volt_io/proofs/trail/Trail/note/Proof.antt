@@ -29,26 +29,26 @@ use denote.Triple.Spec.{Meets, triple_of}
 use denote.Triple.Table.{entered}
 use denote.Triple.Walked.{says, Stays, stay_ref, stay_none_slice, walk_of, AllGo, Goes-ref, Goes-none_slice, Walks, ends_at, walked, walk_Meets}
 use Rattle.volt_io.specs.Passed.{then_passed}
-use Rattle.volt_io.specs.declared.history.History.{History}
-use Rattle.volt_io.specs.contracts.history.History as T
-use Rattle.volt_io.specs.contracts.history.History.note.Key.{name as #it}
-use Rattle.volt_io.specs.contracts.history.History.note as it
-use Rattle.volt_io.proofs.history.History.note.Statement as stated
-use Rattle.volt_io.proofs.history.History.note.Code as code
+use Rattle.volt_io.specs.declared.trail.Trail.{Trail}
+use Rattle.volt_io.specs.contracts.trail.Trail as T
+use Rattle.volt_io.specs.contracts.trail.Trail.note.Key.{name as #it}
+use Rattle.volt_io.specs.contracts.trail.Trail.note as it
+use Rattle.volt_io.proofs.trail.Trail.note.Statement as stated
+use Rattle.volt_io.proofs.trail.Trail.note.Code as code
 
 abbrev Arg : Type 0
-Arg = MutBor History × (Bor (List ℕ) × Unit {0})
+Arg = MutBor Trail × (Bor (List ℕ) × Unit {0})
 
 abbrev stayed : Stays (it.ended).signature.params (it.ended).kept
 stayed = (stay_ref (0 ∷ []) tt (plain (λ _. T.the_row)), (stay_none_slice (1 ∷ []) tt (plain (λ _. u8)) yes, tt))
 
-module _ {M : Type 1} {𝓤 : Ura M} (𝓛 : Logic 𝓤) (at_mem : Memory → SProp 𝓤) (run : Routine → Fun 𝓤) (κ κ' : Lft) (q q' : Share) (b o : ℕ) (γ : GName) (h : History) (s : Bor (List ℕ)) where
+module _ {M : Type 1} {𝓤 : Ura M} (𝓛 : Logic 𝓤) (at_mem : Memory → SProp 𝓤) (run : Routine → Fun 𝓤) (κ κ' : Lft) (q q' : Share) (b o : ℕ) (γ : GName) (h : Trail) (s : Bor (List ℕ)) where
   open 𝓛 use {H, A}
 
   abbrev x : Arg
   x = (record { ref_ptr = (b, o); ghost_name = γ; now = h }, (s, tt))
 
-  abbrev h' : History
+  abbrev h' : Trail
   h' = record { passed = then_passed h.passed s.now }
 
   abbrev at : List Val × (List Val × Unit {0})

@@ -1,4 +1,4 @@
--- `new` makes a value of no bytes, at the empty history.
+-- `new` makes a value of no bytes, at the empty trail.
 use mathlib.Core.Path.{refl}
 use mathlib.Core.List.{[], ◌∷◌}
 use seplogic.Ra.Ura.{Ura}
@@ -22,17 +22,17 @@ use denote.Triple.Spec.{Meets, triple_of}
 use denote.Triple.Table.{entered}
 use denote.Triple.Walked.{says, ends_at, walked, walk_Meets}
 use Rattle.volt_io.specs.Passed.{nothing_passed}
-use Rattle.volt_io.specs.declared.history.History.{History}
-use Rattle.volt_io.specs.contracts.history.History as T
-use Rattle.volt_io.specs.contracts.history.History.new.Key.{name as #it}
-use Rattle.volt_io.specs.contracts.history.History.new as it
-use Rattle.volt_io.proofs.history.History.new.Statement as stated
-use Rattle.volt_io.proofs.history.History.new.Code as code
+use Rattle.volt_io.specs.declared.trail.Trail.{Trail}
+use Rattle.volt_io.specs.contracts.trail.Trail as T
+use Rattle.volt_io.specs.contracts.trail.Trail.new.Key.{name as #it}
+use Rattle.volt_io.specs.contracts.trail.Trail.new as it
+use Rattle.volt_io.proofs.trail.Trail.new.Statement as stated
+use Rattle.volt_io.proofs.trail.Trail.new.Code as code
 
 abbrev v : Val
 v = vstruct vnil
 
-abbrev r : History
+abbrev r : Trail
 r = record { passed = nothing_passed }
 
 meets : {M : Type 1} {𝓤 : Ura M} (𝓛 : Logic 𝓤) → (at_mem : Memory → SProp 𝓤) (run : Routine → Fun 𝓤) (𝓣 : Tables 𝓤 𝓛.H)
