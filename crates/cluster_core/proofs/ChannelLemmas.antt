@@ -170,8 +170,3 @@ some-pushed (x ∷ ms) m = refl
 pub some-nonempty : (ms : List Msg) → (length ms == 0) ≡ false → is_some_message ms ≡ true
 some-nonempty [] e = absurd (false≢true (sym e))
 some-nonempty (m ∷ ms) e = refl
-
--- the first route
-pub first-route : (es : Entries) → slice_get (routes (shown es)) 0 ≡ option_map (λ (e : Route × VecDeque Msg Global). e.0) (slice_get es 0)
-first-route [] = refl
-first-route (e ∷ es) = refl

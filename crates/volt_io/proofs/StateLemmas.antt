@@ -1,34 +1,10 @@
--- One call after another, on what is seen of a source or a sink and on a count of faults.
+-- One write after another, on what is seen of a sink.
 use Rattle.std.proofs.Common.{◌≡◌, ℕ, ◌+◌, ◌-◌, ◌≤◌, List, [], ◌∷◌, ◌++◌, length, take, drop, Option, None, Some, sym, ap, ◌∙◌, inl, inr, append-nil, append_assoc, length-append, arith}
 use Rattle.std.proofs.lemmas.List.{take-append-drop, take_rest}
 use Rattle.std.proofs.Math.Seq.{take-add}
 use Rattle.std.proofs.lemmas.Bool.{cases_lt}
 use Rattle.volt_base.specs.Faults.{Increased}
 use Rattle.volt_io.specs.States.{SourceState, SinkState, LosesPrefix, SourceGives, SourceGivesAtMost, SinkTakes, SinkTakesPrefixOf, SinkTakesAllBut}
-
--- ---- sources
-
--- a second prefix is taken after a first
-LosesPrefix-then : (a b c : Option (List ℕ)) (x y : List ℕ) → LosesPrefix a b x → LosesPrefix b c y → LosesPrefix a c (x ++ y)
-LosesPrefix-then None b c x y p q = tt
-LosesPrefix-then (Some xs) None c x y p q = absurd p
-LosesPrefix-then (Some xs) (Some ys) None x y p q = absurd q
-LosesPrefix-then (Some xs) (Some ys) (Some zs) x y p q =
-    p ∙ (ap (λ l. x ++ l) q ∙ sym (append_assoc x y zs))
-
--- the bytes of a second call are given after those of a first
-pub SourceGives-then : (a b c : SourceState) (x y : List ℕ) → SourceGives a b x → SourceGives b c y → SourceGives a c (x ++ y)
-SourceGives-then a b c x y p q = record {
-  given = q.given ∙ (ap (λ l. l ++ y) p.given ∙ append_assoc a.given x y);
-  told = LosesPrefix-then a.rest b.rest c.rest x y p.told q.told;
-}
-
--- and so many of them at most
-pub SourceGivesAtMost-then : (a b c : SourceState) (x : List ℕ) (most : ℕ) → SourceGives a b x → length x ≤ most → SourceGivesAtMost b c (most - length x) → SourceGivesAtMost a c most
-SourceGivesAtMost-then a b c x most p few q =
-    (x ++ q.0, omega (arith, length-append x q.0, few, q.1), SourceGives-then a b c x q.0 p q.2)
-
--- ---- sinks
 
 -- a second text is written after a first
 pub SinkTakes-then : (a b c : SinkState) (x y : List ℕ) → SinkTakes a b x → SinkTakes b c y → SinkTakes a c (x ++ y)
@@ -76,8 +52,3 @@ SinkTakesAllBut-prefix a b c text left next others p split q =
     rw p.1 (SinkTakesPrefixOf-then a b c p.0 left p.2 (rw split (SinkTakesPrefixOf-longer b c next others q)))
 
 -- ---- counts of faults
-
--- a count that increased in a later call increased over all the calls
-pub Increased-from_later : (a b c : ℕ) → a ≤ b → b ≤ c → Increased b c → Increased a c
-Increased-from_later a b c low high increased =
-    elim increased [ inl more ↦ inl (omega arith) | inr full ↦ elim (cases_lt a c) [ inl more ↦ inl more | inr same ↦ inr (omega arith) ] ]

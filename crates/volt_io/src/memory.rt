@@ -71,6 +71,7 @@ impl MemSource {
 impl Source for MemSource {
     ghost state = { λ s. record { given = s.given; ended = s.ended; rest = Some s.left; faults = s.faults } };
 
+    #[tactic(auto, using(crate::proofs::SupplyLemmas::reads))]
     fn read(&mut self, into: &mut [u8]) -> Result<usize, ReadFailed>
         requires { 0 < length into.old }
 
