@@ -17,11 +17,6 @@ pub delivered_some : (S : Semantics) (stamp : ℕ) (w : World) (to from : Actor)
 delivered_some S stamp w to from m [] e = absurd cc
 delivered_some S stamp w to from m (x ∷ ms) e = ap (received S stamp w to from) (let f : Some x ≡ Some m = sym e in cc)
 
--- where there is none, nothing happens
-pub delivered_none : (S : Semantics) (stamp : ℕ) (w : World) (to from : Actor) (ms : List Msg) → None ≡ first_message ms → delivered S stamp w to from ms ≡ w
-delivered_none S stamp w to from [] e = refl
-delivered_none S stamp w to from (x ∷ ms) e = absurd cc
-
 took_one : (t : Bool) (xs ys : List Msg) → xs ≡ ys → (if t then rest xs else xs) ≡ (if t then rest ys else ys)
 took_one t xs ys e = ap (λ (zs : List Msg). if t then rest zs else zs) e
 
@@ -61,14 +56,3 @@ pub taken_and_sent : (queue popped posted channel : Actor → Actor → List Msg
     → (f t : Actor) → posted f t ≡ sent (took channel from to) to sends f t
 taken_and_sent queue popped posted channel from to out sends h p q s f t =
     q f t ∙ sent_same popped (took channel from to) to out sends (λ a b. p a b ∙ took_same queue channel from to h a b) s f t
-
--- the channels of an event that takes a message and sends nothing
-pub only_taken : (queue popped posted channel : Actor → Actor → List Msg) (from to : Actor) (out : List (Actor × Msg))
-    → ((f t : Actor) → queue f t ≡ channel f t)
-    → ((f t : Actor) → popped f t ≡ took queue from to f t)
-    → ((f t : Actor) → posted f t ≡ sent popped to (λ b. sent_to b out) f t)
-    → out ≡ []
-    → (f t : Actor) → posted f t ≡ took channel from to f t
-only_taken queue popped posted channel from to out h p q e f t =
-    taken_and_sent queue popped posted channel from to out (λ b. []) h p q (λ b. ap (sent_to b) e) f t
-    ∙ post_none (took channel from to) to f t

@@ -12,9 +12,9 @@ use Rattle.one_host_model.specs.Actors.{same}
 use Rattle.one_host_model.specs.World.{World, can, is_some_message}
 use Rattle.one_host_model.specs.Runs.{is_one_of_them, enabled, head}
 use Rattle.cluster_core.specs.declared.route.Route.{Route}
-use Rattle.cluster_core.specs.Channels.{queue_of, routes, delivery, AreFull, IsInOrder}
+use Rattle.cluster_core.specs.Channels.{queue_of, routes, delivery, AreAllRoutes, IsInOrder}
 use Rattle.cluster_core.specs.World.{HasThemAlone, if_it_may}
-use Rattle.cluster_core.proofs.ReadyLemmas.{enabled_is, is_some_message-queue_of}
+use Rattle.cluster_core.proofs.ReadyLemmas.{enabled_is}
 
 -- a route among others
 abbrev among : Route → List Route → Bool
@@ -64,9 +64,9 @@ head_listed [] false true = refl
 head_listed [] false false = refl
 head_listed (r ∷ rs) a b = refl
 
-module _ (v : List (Route × List Msg)) (w : World) (channels : (from to : Actor) → queue_of v from to ≡ w.channel from to) (ordered : IsInOrder (routes v)) (full : AreFull v) (alone : HasThemAlone w) (owes may : Bool) (sync : owes ≡ can w (Sync 0)) (submit : may ≡ can w (Submit 1)) where
+module _ (v : List (Route × List Msg)) (w : World) (channels : (from to : Actor) → queue_of v from to ≡ w.channel from to) (ordered : IsInOrder (routes v)) (all : AreAllRoutes v) (alone : HasThemAlone w) (owes may : Bool) (sync : owes ≡ can w (Sync 0)) (submit : may ≡ can w (Submit 1)) where
   tells : (from to : Actor) → is_some_message (w.channel from to) ≡ list_any (λ r. same to r.to && same from r.from) (routes v)
-  tells from to = ap is_some_message (sym (channels from to)) ∙ is_some_message-queue_of v full from to
+  tells from to = ap is_some_message (sym (channels from to)) ∙ all from to
 
   own_events : filter (can w) (Sync 0 ∷ Submit 1 ∷ []) ≡ if_it_may owes (Sync 0) ++ if_it_may may (Submit 1)
   own_events =

@@ -3,8 +3,6 @@ use Rattle.std.proofs.Common.{◌≡◌, ◌&&◌, ◌||◌, Bool, true, false, 
 use Rattle.std.specs.List.{flat_map, list_any, list_all, AllByRecursion}
 use Rattle.std.specs.List.Sorted.{IsStrictlySortedBy}
 use Rattle.std.specs.Ordering.{is_lt}
-use Rattle.std.specs.Prelude.{MatchOption, slice_get}
-use Rattle.std.specs.Option.{option_copied}
 use Rattle.std.specs.BTreeMap.{is_at}
 use Rattle.std.specs.Global.{Global}
 use Rattle.std.specs.Map.{keys_of}
@@ -28,7 +26,7 @@ use Rattle.one_host_model.proofs.Sorted.{sorted_is_filter}
 use Rattle.cluster_core.specs.declared.route.Route.{Route}
 use Rattle.cluster_core.specs.contracts.route.RouteOrd.TheImpl.{cmp-value}
 use Rattle.cluster_core.specs.contracts.route.RouteOrd.TheImpl.Laws.{total-law}
-use Rattle.cluster_core.specs.Channels.{queue_of, shown, delivery, routes, IsInOrder}
+use Rattle.cluster_core.specs.Channels.{queue_of, shown, delivery, routes, IsInOrder, AreAllRoutes}
 use Rattle.cluster_core.proofs.RouteLemmas.{route_at}
 use Rattle.cluster_core.proofs.ChannelLemmas.{route}
 
@@ -129,30 +127,69 @@ enabled_is w keys sorted tells them =
     filter-append (can w) deliveries (Sync 0 ∷ Submit 1 ∷ [])
     ∙ ap (λ es. es ++ filter (can w) (Sync 0 ∷ Submit 1 ∷ [])) (sym (ready keys (can w) sorted tells them))
 
--- Where no queue is empty, a message is under way exactly on the routes that have one.
-pub is_some_message-queue_of : (es : List (Route × List Msg)) → AllByRecursion (λ e. is_some_message e.1 ≡ true) es → (from to : Actor) → is_some_message (queue_of es from to) ≡ list_any (λ r. same to r.to && same from r.from) (map (λ e. e.0) es)
-is_some_message-queue_of [] h from to = refl
-is_some_message-queue_of (e ∷ es) h from to = first (same to e.0.to && same from e.0.from) (is_some_message-queue_of es h.1 from to)
+-- ---- the routes that have a message, among all routes of a map
+
+abbrev key_of : Route × List Msg → Route
+key_of e = e.0
+
+-- what a route is less than, it is less than where it has a message
+below_routes : (r : Route) (es : List (Route × List Msg)) → AllByRecursion (λ s. cmp-value.it r s ≡ Less) (map key_of es) → AllByRecursion (λ s. cmp-value.it r s ≡ Less) (routes es)
+below_routes r [] h = tt
+below_routes r (e ∷ es) h = chosen (is_some_message e.1) (below_routes r es h.1)
+  where
+    chosen : (some : Bool) → AllByRecursion (λ s. cmp-value.it r s ≡ Less) (routes es) → AllByRecursion (λ s. cmp-value.it r s ≡ Less) (cond some (e.0 ∷ routes es) (routes es))
+    chosen true later = (h.0, later)
+    chosen false later = later
+
+-- they are in order, as all are
+routes_in_order : (es : List (Route × List Msg)) → IsStrictlySortedBy cmp-value.it (map key_of es) → IsInOrder (routes es)
+unfolding IsStrictlySortedBy
+routes_in_order [] h = tt
+routes_in_order (e ∷ es) h = chosen (is_some_message e.1) (routes_in_order es h.1)
+  where
+    chosen : (some : Bool) → IsInOrder (routes es) → IsInOrder (cond some (e.0 ∷ routes es) (routes es))
+    chosen true later = (below_routes e.0 es h.0, later)
+    chosen false later = later
+
+-- no other route of them has the two actors of one that is less than each of them
+no_other : (r : Route) (to from : Actor) (rs : List Route) → same to r.to && same from r.from ≡ true → AllByRecursion (λ s. cmp-value.it r s ≡ Less) rs → list_any (λ s. same to s.to && same from s.from) rs ≡ false
+no_other r to from [] is h = refl
+no_other r to from (s ∷ rs) is h =
+    let both = and_parts (same to r.to) (same from r.from) is in
+    let here : same to s.to && same from s.from ≡ false =
+    ap (λ (x : Actor). same x s.to && same from s.from) (same-true to r.to both.0)
+    ∙ ap (λ (x : Actor). same r.to s.to && same x s.from) (same-true from r.from both.1)
+    ∙ sym (route_at r s) ∙ ap is_eq h.0 in
+    ap (λ (b : Bool). b || list_any (λ x. same to x.to && same from x.from) rs) here ∙ no_other r to from rs is h.1
+
+-- a message is under way exactly on the routes that have one
+routes_are_all : (es : List (Route × List Msg)) → IsStrictlySortedBy cmp-value.it (map key_of es) → AreAllRoutes es
+unfolding IsStrictlySortedBy
+routes_are_all [] h from to = refl
+routes_are_all (e ∷ es) h from to = step (same to e.0.to && same from e.0.from) (is_some_message e.1) refl refl (routes_are_all es h.1 from to)
   where
     later : Bool
-    later = list_any (λ r. same to r.to && same from r.from) (map (λ x. x.0) es)
+    later = list_any (λ r. same to r.to && same from r.from) (routes es)
 
-    first : (b : Bool) → is_some_message (queue_of es from to) ≡ later → is_some_message (cond b e.1 (queue_of es from to)) ≡ (b || later)
-    first true i = h.0
-    first false i = i
+    step : (here some : Bool) → same to e.0.to && same from e.0.from ≡ here → is_some_message e.1 ≡ some → is_some_message (queue_of es from to) ≡ later
+        → is_some_message (cond here e.1 (queue_of es from to)) ≡ list_any (λ r. same to r.to && same from r.from) (cond some (e.0 ∷ routes es) (routes es))
+    step true true here some i = some ∙ sym (ap (λ (b : Bool). b || later) here)
+    step true false here some i = some ∙ sym (no_other e.0 to from (routes es) here (below_routes e.0 es h.0))
+    step false true here some i = i ∙ sym (ap (λ (b : Bool). b || later) here)
+    step false false here some i = i
 
 -- the keys of a map of queues, as the list of their routes
 pub keys-shown : (es : List (Route × VecDeque Msg Global)) → map (λ e. e.0) (shown es) ≡ keys_of es
 keys-shown [] = refl
 keys-shown (e ∷ es) = ap (λ ks. e.0 ∷ ks) (keys-shown es)
 
--- the routes of a map of queues are in order, as its keys are
-pub IsInOrder-shown : (es : List (Route × VecDeque Msg Global)) (v : List (Route × List Msg)) → shown es ≡ v → IsStrictlySortedBy cmp-value.it (keys_of es) → IsInOrder (routes v)
-IsInOrder-shown es v is h =
-    let P : List Route → Type 0 = λ ks. IsStrictlySortedBy cmp-value.it ks in
-    subst P (sym (keys-shown es) ∙ ap routes is) h
+-- so it is with a map of queues, whose keys are in order
+module _ (es : List (Route × VecDeque Msg Global)) (h : IsStrictlySortedBy cmp-value.it (keys_of es)) where
+  in_order : IsStrictlySortedBy cmp-value.it (map key_of (shown es))
+  in_order = let P : List Route → Type 0 = λ ks. IsStrictlySortedBy cmp-value.it ks in subst P (sym (keys-shown es)) h
 
--- what an iterator over keys gives first
-pub first_key : (ks left : List Route) (o : Option (Bor Route)) → MatchOption o ((ks ≡ []) × (left ≡ [])) (λ k. ks ≡ k.now ∷ left) → option_copied o ≡ slice_get ks 0
-first_key ks left None h = rw h.0 refl
-first_key ks left (Some k) h = rw h refl
+  pub IsInOrder-shown : (v : List (Route × List Msg)) → shown es ≡ v → IsInOrder (routes v)
+  IsInOrder-shown v is = subst (λ (w : List (Route × List Msg)). IsInOrder (routes w)) is (routes_in_order (shown es) in_order)
+
+  pub AreAllRoutes-shown : (v : List (Route × List Msg)) → shown es ≡ v → AreAllRoutes v
+  AreAllRoutes-shown v is = subst AreAllRoutes is (routes_are_all (shown es) in_order)

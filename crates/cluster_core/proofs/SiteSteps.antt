@@ -34,11 +34,3 @@ stands_called S slot stamp old new before after w body s h end disk waiting stat
   waits = waiting ∙ ap (λ (ws : List Waiting). ws ++ w ∷ []) h.waits ∙ ap (λ (r : List ℕ). s.waiting ++ record { reply = r; call = w.call; start = w.start; host = w.host } ∷ []) (reply ∙ ap (λ (t : S.State). S.answer t (Sp w.call stamp body)) h.replayed);
   replayed = state ∙ ap (λ (t : S.State). S.after t (Sp w.call stamp body)) h.replayed ∙ sym (replay-append S (S.opening slot) s.log (Sp w.call stamp body ∷ []));
 }
-
--- one reply more is sent
-pub sends_reply : (start old new : List (Actor × Msg)) (done : Actor → List Msg) (w : Waiting) (later : List Waiting)
-    → ((b : Actor) → sent_to b old ++ replies (w ∷ later) b ≡ sent_to b start ++ done b)
-    → SendsMore old new (only (Agent w.host) (msg.Reply w.call w.start w.reply))
-    → (b : Actor) → sent_to b new ++ replies later b ≡ sent_to b start ++ done b
-sends_reply start old new done w later h p b =
-    ap (λ (ms : List Msg). ms ++ replies later b) (p b) ∙ append_assoc (sent_to b old) (only (Agent w.host) (msg.Reply w.call w.start w.reply) b) (replies later b) ∙ h b

@@ -1,6 +1,6 @@
--- The messages under way, as a list of routes with their queues.
-use Rattle.std.specs.Prelude.{◌≡◌, ◌&&◌, true, if◌then◌else◌, List, [], ◌∷◌, map, Option, Some, None}
-use Rattle.std.specs.List.{AllByRecursion}
+-- The messages under way, as a list of routes with their queues. A queue may be empty.
+use Rattle.std.specs.Prelude.{◌≡◌, ◌&&◌, if◌then◌else◌, List, [], ◌∷◌, map, Option, Some, None}
+use Rattle.std.specs.List.{list_any}
 use Rattle.std.specs.List.Sorted.{IsStrictlySortedBy}
 use Rattle.std.specs.Global.{Global}
 use Rattle.std.specs.declared.collections.VecDeque.{VecDeque}
@@ -22,21 +22,19 @@ queue_of (e ∷ es) from to = if same to e.0.to && same from e.0.from then e.1 e
 abbrev pub shown : List (Route × VecDeque Msg Global) → List (Route × List Msg)
 shown es = map (λ e. (e.0, e.1.items)) es
 
--- the channels with this queue on one route
-abbrev pub with_queue : (Actor → Actor → List Msg) → Route → List Msg → Actor → Actor → List Msg
-with_queue channel route queue from to = if same route.to to && same route.from from then queue else channel from to
-
+-- the oldest message of a queue
 abbrev pub first_message : List Msg → Option Msg
 first_message [] = None
 first_message (m ∷ ms) = Some m
 
 -- the routes that have a message, in their order
 abbrev pub routes : List (Route × List Msg) → List Route
-routes es = map (λ e. e.0) es
+routes [] = []
+routes (e ∷ es) = if is_some_message e.1 then e.0 ∷ routes es else routes es
 
--- no queue is empty
-abbrev pub AreFull : List (Route × List Msg) → Type 0
-AreFull es = AllByRecursion (λ e. is_some_message e.1 ≡ true) es
+-- they are all the routes that have one
+abbrev pub AreAllRoutes : List (Route × List Msg) → Type 0
+AreAllRoutes es = (from to : Actor) → is_some_message (queue_of es from to) ≡ list_any (λ r. same to r.to && same from r.from) (routes es)
 
 -- the delivery of the first message of a route
 abbrev pub delivery : Route → Event

@@ -205,7 +205,7 @@ impl<M: MakeEngine> World<M> {
             → StandsFor M.E.meaning M.E.state self.old w
             → StandsFor M.E.meaning M.E.state self.new (model.happens M.E.meaning stamp w (Event.Deliver Actor.Director from))) }
     {
-        if let Some(msg) = self.channels.pop(from, Actor::Director)? {
+        if let Some(msg) = self.channels.pop(from, Actor::Director) {
             self.director.take(msg)?;
         }
         Ok(())
@@ -216,7 +216,7 @@ impl<M: MakeEngine> World<M> {
             → StandsFor M.E.meaning M.E.state self.old w
             → StandsFor M.E.meaning M.E.state self.new (model.happens M.E.meaning stamp w (Event.Deliver (Actor.Client 1) from))) }
     {
-        if let Some(msg) = self.channels.pop(from, Actor::Client(1))? {
+        if let Some(msg) = self.channels.pop(from, Actor::Client(1)) {
             self.client.take(1, stamp, msg)?;
         }
         Ok(())
@@ -227,7 +227,7 @@ impl<M: MakeEngine> World<M> {
             → StandsFor M.E.meaning M.E.state self.old w
             → StandsFor M.E.meaning M.E.state self.new (model.happens M.E.meaning stamp w (Event.Deliver (Actor.Agent 0) from))) }
     {
-        let Some(msg) = self.channels.pop(from, Actor::Agent(0))? else {
+        let Some(msg) = self.channels.pop(from, Actor::Agent(0)) else {
             return Ok(());
         };
         self.agent.take(from, msg, &mut self.outbox)?;
@@ -240,7 +240,7 @@ impl<M: MakeEngine> World<M> {
             → StandsFor M.E.meaning M.E.state self.old w
             → StandsFor M.E.meaning M.E.state self.new (model.happens M.E.meaning stamp w (Event.Deliver (Actor.Site 0) from))) }
     {
-        if let Some(msg) = self.channels.pop(from, Actor::Site(0))? {
+        if let Some(msg) = self.channels.pop(from, Actor::Site(0)) {
             self.site.take(self.alloc, stamp, from, msg)?;
         }
         Ok(())

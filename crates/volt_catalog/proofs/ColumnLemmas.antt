@@ -34,9 +34,6 @@ may_follow-nothing names = rw (are_new-nothing names) refl
 pub may_follow-new : (kept names : List (List ℕ)) (name : List ℕ) → list_any (bytes_eq (lower name)) kept ≡ false → may_follow kept (name ∷ names) ≡ may_follow (kept ++ lower name ∷ []) names
 may_follow-new kept names name new = grind (arith, are_new-push kept names name)
 
-pub may_follow-old : (kept names : List (List ℕ)) (name : List ℕ) → list_any (bytes_eq (lower name)) kept ≡ true → may_follow kept (name ∷ names) ≡ false
-may_follow-old kept names name old = rw old refl
-
 -- what is left of the columns, from one of them on
 pub from_here : (columns : List Column) (i : ℕ) (column : Column) → i < length columns → column ≡ get_or columns i column
     → map (λ column. column.name) (drop i columns) ≡ column.name ∷ map (λ column. column.name) (drop (i + 1) columns)

@@ -39,7 +39,7 @@ has_part_in_key table = not (lack_part table.key table.part)
 abbrev pub is_table : Table → Bool
 is_table table = differ (map (λ column. column.name) table.columns) && has_columns table.columns table.key && not (length table.key == 0) && within_limits table.columns && has_part_in_key table
 
--- an index is of columns of a table; a unique one of a partitioned table has the partitioning column
+-- an index is of one or more columns of a table; a unique one of a partitioned table has the partitioning column
 abbrev pub is_index : List Table → IndexDef → Bool
 is_index tables index =
     let table = slice_get tables index.table in

@@ -62,7 +62,7 @@ within_limits columns = nat_le (length columns) most_columns && list_all (λ col
 abbrev pub has_table : Contents → List ℕ → Bool
 has_table catalog name = list_any (λ table. same_name name table.name) catalog.tables
 
--- each number is that of a column
+-- Each number is that of a column. No rule is against a number that is there twice, in a key or in an index.
 abbrev pub has_columns : List Column → List ℕ → Bool
 has_columns columns numbers = list_all (λ number. nat_lt number (length columns)) numbers
 
@@ -88,10 +88,10 @@ fault_of_table catalog table = first_fault (
 abbrev pub has_index : Contents → List ℕ → Bool
 has_index catalog name = list_any (λ index. same_name name index.name) catalog.indexes
 
--- the table is there, and has columns of these numbers
+-- the table is there, and these are numbers of columns of it, one or more
 abbrev pub is_table_with : List ℕ → Option Table → Bool
 is_table_with numbers None = false
-is_table_with numbers (Some table) = has_columns table.columns numbers
+is_table_with numbers (Some table) = not (length numbers == 0) && has_columns table.columns numbers
 
 -- these columns are without the partitioning column, where there is one
 abbrev pub lack_part : List ℕ → Option ℕ → Bool

@@ -154,12 +154,12 @@ impl Catalog {
         self.index_names.number(name.as_str()).is_some()
     }
 
-    /// Whether a table is there, and has columns of these numbers.
+    /// Whether a table is there, and these are numbers of columns of it, one or more.
     fn is_table_with(&self, table: u16, numbers: &[u8]) -> bool
         ensures { result ≡ rules.is_table_with numbers.now (slice_get self.now.tables table) }
     {
         match self.tables.get(table as usize) {
-            Some(table) => has_columns(table.columns.as_slice(), numbers),
+            Some(table) => !numbers.is_empty() && has_columns(table.columns.as_slice(), numbers),
             None => false,
         }
     }
@@ -194,8 +194,8 @@ impl Catalog {
     /// Adds an index behind the others, and answers its number.
     ///
     /// It is refused, and the catalog stays as it was, for the first of these: `DuplicateName` where
-    /// there is an index of its name; `NoSuchName` where its table isn't there, or has no column of
-    /// one of its numbers; `KeyLacksPartitionColumn` where it is unique and without the partitioning
+    /// there is an index of its name; `NoSuchName` where its table isn't there, it has no column, or
+    /// its table has none of one of its numbers; `KeyLacksPartitionColumn` where it is unique and without the partitioning
     /// column of its table, which is partitioned; `TooMany` where there are 64 indexes. `NoMemory`
     /// is free.
     pub fn add_index(&mut self, i: IndexDef) -> Result<u16, CatalogFault>

@@ -8,7 +8,7 @@ pub enum CatalogFault {
     /// A table or an index of that name is there, a column has the name of an earlier one of its
     /// table, or a table that is partitioned is to be partitioned again.
     DuplicateName,
-    /// There is no table or no column of that number.
+    /// There is no table or no column of that number, or an index has no column.
     NoSuchName,
     /// The table has no primary key.
     NoPrimaryKey,

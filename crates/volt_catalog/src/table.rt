@@ -18,7 +18,7 @@ pub struct Table {
     pub name: Text,
     /// Its columns in their order, numbered from 0.
     pub columns: Columns,
-    /// The columns of its primary key in the key's order.
+    /// The columns of its primary key in the key's order. A column may be there twice.
     pub key: ColumnNos,
     /// The partitioning column. `None` for a table of which each partition has all rows.
     pub part: Option<u8>,
@@ -31,7 +31,7 @@ pub struct IndexDef {
     pub name: Text,
     /// The number of its table.
     pub table: u16,
-    /// Its columns in the index's order.
+    /// Its columns in the index's order, one at least. A column may be there twice.
     pub columns: ColumnNos,
     /// Whether no two rows may agree on its columns.
     pub unique: bool,

@@ -260,12 +260,14 @@ fn indexes_are_refused(rt: HostRuntime) -> Result<(), Fail> {
         (Call::Index("I", 0, &[0], false), DUPLICATE),
         (Call::Index("j", 1, &[0], false), NONE),
         (Call::Index("j", 0, &[1, 2], false), NONE),
+        (Call::Index("j", 0, &[], false), NONE),
         (Call::Index("j", 0, &[1], true), LACKING),
         (Call::Index("j", 0, &[1], false), Ok(1)),
+        (Call::Index("k", 0, &[0, 1, 0], true), Ok(2)),
     ];
     let mut catalog = Catalog::new(alloc);
     assert_eq!(rt; first_wrong(&mut catalog, alloc, &calls), None);
-    assert_eq!(rt; catalog.indexes().len(), 2);
+    assert_eq!(rt; catalog.indexes().len(), 3);
     Ok(())
 }
 

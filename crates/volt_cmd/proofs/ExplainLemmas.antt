@@ -93,5 +93,7 @@ module _ (calls : List ValidCall) (o : Outcomes) (ran : Ran calls o) (give : (li
     report = reported.report;
     sound = reported.sound;
     tied = tied;
+    every_call = reported.every_call;
+    answered = reported.answered;
     spelled = spelled reported.report prints;
   }

@@ -5,6 +5,7 @@ use Rattle.std.proofs.lemmas.Int.{ints}
 use Rattle.std.proofs.lemmas.List.{length-take}
 use Rattle.std.proofs.lemmas.List.Elements.{All-from_recursion, recursion_from_All}
 use Rattle.std.specs.List.{AllByRecursion}
+use Rattle.volt_io.specs.States.{SourceState, SourceGives}
 use Rattle.volt_form.specs.declared.call.ScriptCall.{ScriptCall}
 use Rattle.volt_form.specs.declared.call.ScriptCall.TheVariants as script
 use Rattle.volt_form.specs.Form.{longest_input, most_calls, IsBigint, HasBigints, calls_of_text, first_wrong_line}
@@ -14,6 +15,7 @@ use Rattle.account_engine.specs.declared.call.AccountCall.TheVariants as account
 use Rattle.account_engine.specs.Calls.{ValidCall, is_value, is_valid}
 use Rattle.account_engine.specs.Spelling.{body_bytes}
 use Rattle.volt_cmd.specs.Script.{Asks, IsAsked, given, written}
+use Rattle.volt_cmd.specs.Headline.{ReadsAll, IsWrongAt}
 
 -- Texts that are longer than they may be
 
@@ -27,12 +29,53 @@ long : (text : List ℕ) → longest_input < length text → first_wrong_line te
 unfolding first_wrong_line
 long text h = grind (arith, nat_tests)
 
--- the calls of what was read are those of all
-calls_of_rest : (rest : Option (List ℕ)) (text : List ℕ) (calls : List ScriptCall)
-    → IfSome rest (λ left. length text ≤ longest_input → text ≡ left)
-    → calls_of_text text ≡ Some calls → IfSome rest (λ left. calls_of_text left ≡ Some calls)
-calls_of_rest None text calls whole is = tt
-calls_of_rest (Some left) text calls whole is = subst (λ (t : List ℕ). calls_of_text t ≡ Some calls) (whole (short text calls is)) is
+-- what was read: all that there is, or one byte more than there may be
+pub record IsRead (before after : SourceState) (text : List ℕ) : Type 0 where
+  pub gives : SourceGives before after text
+  pub to_end : length text ≤ longest_input → after.ended ≡ true
+  pub prefix : IfSome before.rest (λ left. text ≡ take (longest_input + 1) left)
+  pub whole : IfSome before.rest (λ left. length text ≤ longest_input → text ≡ left)
+
+-- and so it is where the length is known by another name
+prefix_of : (rest : Option (List ℕ)) (text read : List ℕ) → text ≡ read
+    → IfSome rest (λ left. read ≡ take (longest_input + 1) left) → IfSome rest (λ left. text ≡ take (longest_input + 1) left)
+prefix_of None text read same prefix = tt
+prefix_of (Some left) text read same prefix = same ∙ prefix
+
+whole_of : (rest : Option (List ℕ)) (text read : List ℕ) (size : ℕ) → text ≡ read → length text ≡ size
+    → IfSome rest (λ left. size ≤ longest_input → read ≡ left) → IfSome rest (λ left. length text ≤ longest_input → text ≡ left)
+whole_of None text read size same len whole = tt
+whole_of (Some left) text read size same len whole = λ h. same ∙ whole (omega arith)
+
+pub is_read : (before after : SourceState) (text read : List ℕ) (size : ℕ) → text ≡ read → length text ≡ size
+    → SourceGives before after read
+    → (size ≤ longest_input → after.ended ≡ true)
+    → IfSome before.rest (λ left. read ≡ take (longest_input + 1) left)
+    → IfSome before.rest (λ left. size ≤ longest_input → read ≡ left) → IsRead before after text
+is_read before after text read size same len gives to_end prefix whole = record {
+  gives = subst (λ (t : List ℕ). SourceGives before after t) (sym same) gives;
+  to_end = λ h. to_end (omega arith);
+  prefix = prefix_of before.rest text read same prefix;
+  whole = whole_of before.rest text read size same len whole;
+}
+
+-- where it is short enough it is all
+all_of : (rest : Option (List ℕ)) (text : List ℕ) → length text ≤ longest_input
+    → IfSome rest (λ left. length text ≤ longest_input → text ≡ left) → IfSome rest (λ left. text ≡ left)
+all_of None text few whole = tt
+all_of (Some left) text few whole = whole few
+
+-- a text of the form that was read is all
+pub reads_all : (before after : SourceState) (text : List ℕ) (calls : List ScriptCall) → IsRead before after text
+    → calls_of_text text ≡ Some calls → ReadsAll before after text
+reads_all before after text calls read is =
+    let few = short text calls is in record { gives = read.gives; to_end = read.to_end few; told = all_of before.rest text few read.whole }
+
+pub calls_read : {A E : Type 0} (items : A → List ScriptCall) (before after : SourceState) (text : List ℕ) → IsRead before after text
+    → (r : Result A E) → IfOk r (λ a. calls_of_text text ≡ Some (items a))
+    → IfOk r (λ a. (bytes : List ℕ) × ReadsAll before after bytes × (calls_of_text bytes ≡ Some (items a)))
+calls_read items before after text read (Ok a) is = (text, reads_all before after text (items a) read is, is)
+calls_read items before after text read (Err e) is = tt
 
 -- the first wrong line of what was read is that of all
 wrong_by : (left text : List ℕ) (line : ℕ)
@@ -52,28 +95,15 @@ wrong_of_rest : (rest : Option (List ℕ)) (text : List ℕ) (line : ℕ)
 wrong_of_rest None text line prefix whole is = tt
 wrong_of_rest (Some left) text line prefix whole is = wrong_by left text line prefix whole is (nat_le (length text) longest_input) refl
 
--- what was read of a source that tells what is left: all of it, or one byte more than there may be
-pub record IsRead (rest : Option (List ℕ)) (text : List ℕ) : Type 0 where
-  pub prefix : IfSome rest (λ left. text ≡ take (longest_input + 1) left)
-  pub whole : IfSome rest (λ left. length text ≤ longest_input → text ≡ left)
-
--- and so it is where the length is known by another name
-pub is_read : (rest : Option (List ℕ)) (text read : List ℕ) (size : ℕ) → text ≡ read → length text ≡ size
-    → IfSome rest (λ left. read ≡ take (longest_input + 1) left)
-    → IfSome rest (λ left. size ≤ longest_input → read ≡ left) → IsRead rest text
-is_read None text read size same len prefix whole = record { prefix = tt; whole = tt }
-is_read (Some left) text read size same len prefix whole = record { prefix = same ∙ prefix; whole = λ h. same ∙ whole (omega arith) }
-
--- the calls of what was read, where there are any, are those of all
-pub calls_read : {A E : Type 0} (items : A → List ScriptCall) (rest : Option (List ℕ)) (text : List ℕ) → IsRead rest text
-    → (r : Result A E) → IfOk r (λ a. calls_of_text text ≡ Some (items a)) → IfOk r (λ a. IfSome rest (λ left. calls_of_text left ≡ Some (items a)))
-calls_read items rest text read (Ok a) is = calls_of_rest rest text (items a) read.whole is
-calls_read items rest text read (Err e) is = tt
-
--- and so is the first wrong line
-pub wrong_read : (rest : Option (List ℕ)) (text : List ℕ) (line : ℕ) → IsRead rest text
-    → first_wrong_line text ≡ Some line → IfSome rest (λ left. first_wrong_line left ≡ Some line)
-wrong_read rest text line read is = wrong_of_rest rest text line read.prefix read.whole is
+pub wrong_read : (before after : SourceState) (text : List ℕ) (line : ℕ) → IsRead before after text
+    → first_wrong_line text ≡ Some line → IsWrongAt before after line
+wrong_read before after text line read is = record {
+  bytes = text;
+  gives = read.gives;
+  enough = read.to_end;
+  wrong = is;
+  told = wrong_of_rest before.rest text line read.prefix read.whole is;
+}
 
 -- Calls within bounds
 

@@ -3,10 +3,10 @@ use Rattle.std.specs.Prelude.{ℕ}
 use Rattle.volt_cmd.specs.declared.status.Status.{Status}
 use Rattle.volt_cmd.specs.declared.status.Status.TheVariants.{Ok, BadUse, ReadFault, WriteFault, NoMemory, NotBuilt}
 
-abbrev pub number_of : Status → ℕ
-number_of Ok = 0
-number_of BadUse = 1
-number_of ReadFault = 3
-number_of WriteFault = 4
-number_of NoMemory = 7
-number_of (NotBuilt line) = 10
+abbrev pub exit_number : Status → ℕ
+exit_number Ok = 0
+exit_number BadUse = 1
+exit_number ReadFault = 3
+exit_number WriteFault = 4
+exit_number NoMemory = 7
+exit_number (NotBuilt line) = 10

@@ -1,11 +1,13 @@
 //! From the bytes that are read to what the world is given.
 
-ghost use Rattle.std.specs.Prelude.{◌≡◌, ◌≢◌, ◌≤◌, ℕ, true, List, All, Option, Some, IfOk, IfSome, Result, Err};
+ghost use Rattle.std.specs.Prelude.{◌≡◌, ◌≢◌, ◌+◌, ◌≤◌, ℕ, true, List, All, Some, IfOk};
 ghost use Rattle.volt_base.specs.Faults.{Increased};
-ghost use Rattle.volt_form.specs.Form.{calls_of_text, first_wrong_line};
+ghost use Rattle.volt_io.specs.States.{SourceGivesAtMost};
+ghost use Rattle.volt_form.specs.Form.{longest_input, calls_of_text, first_wrong_line};
 ghost use Rattle.account_engine.specs.Calls.{ValidCall, is_valid};
 ghost use Rattle.account_engine.specs.Spelling.{body_bytes};
 ghost use Rattle.volt_cmd.specs.Script.{Asks, IsAsked, given, written};
+ghost use Rattle.volt_cmd.specs.Headline.{ReadsAll, IsWrongAt};
 
 use account_engine::AccountCall;
 use one_host_model::{WorldCall, WorldInput};
@@ -30,14 +32,14 @@ pub enum InputFault {
 ///
 /// A text that is longer than `LONGEST_INPUT` isn't read to its end, and its line 1 is wrong.
 pub fn read_calls<S: Source>(alloc: Global, source: &mut S) -> Result<Vec<ScriptCall>, InputFault>
-    ensures calls { IfOk result (λ calls. IfSome (S.rest source.old)
-        (λ bytes. calls_of_text bytes ≡ Some calls.items)) }
+    ensures calls { IfOk result (λ calls. (bytes : List ℕ)
+        × ReadsAll (S.state source.old) (S.state source.new) bytes × (calls_of_text bytes ≡ Some calls.items)) }
     ensures asked { IfOk result (λ calls. IsAsked calls.items) }
     ensures wrong { (line : ℕ) → result ≡ Err (InputFault.NotOfForm line)
-        → IfSome (S.rest source.old) (λ bytes. first_wrong_line bytes ≡ Some line) }
+        → IsWrongAt (S.state source.old) (S.state source.new) line }
     ensures failed { result ≡ Err InputFault.ReadFailed
-        → Increased (S.count source.old) (S.count source.new) }
-    ensures never_falls { S.count source.old ≤ S.count source.new }
+        → Increased (S.state source.old).faults (S.state source.new).faults }
+    ensures at_most { SourceGivesAtMost (S.state source.old) (S.state source.new) (longest_input + 1) }
 {
     match read_to_end(alloc, source, LONGEST_INPUT) {
         Ok(text) => calls_of(alloc, text.as_slice()),

@@ -1,5 +1,5 @@
 ghost use Rattle.std.specs.Prelude.{◌≡◌};
-ghost use Rattle.volt_cmd.specs.Status.{number_of};
+ghost use Rattle.volt_cmd.specs.Status.{exit_number};
 
 /// How a call of the product ended.
 #[derive(Clone, Copy, Debug, PartialEq, Eq)]
@@ -22,7 +22,7 @@ pub enum Status {
 impl Status {
     /// The exit status of the program.
     pub fn number(self) -> u8
-        ensures { result ≡ number_of self }
+        ensures { result ≡ exit_number self }
     {
         match self {
             Status::Ok => 0,

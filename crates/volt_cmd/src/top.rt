@@ -1,12 +1,11 @@
 //! The top call.
 
-ghost use Rattle.std.specs.Prelude.{◌≡◌, ◌≤◌, ℕ, decimal, true, false, List, map, Some, None, string_bytes, OnOk, OnErr, IfOk, IfErr, IfSome};
+ghost use Rattle.std.specs.Prelude.{◌≡◌, ◌+◌, ◌≤◌, ◌↔◌, ℕ, decimal, true, false, List, map, Some, string_bytes, OnOk, OnErr, IfOk, IfErr};
 ghost use Rattle.volt_base.specs.Faults.{Increased};
-ghost use Rattle.volt_io.specs.Told.{Appends, AppendsPrefixOf};
-ghost use Rattle.volt_form.specs.declared.call.ScriptCall.{ScriptCall};
-ghost use Rattle.volt_form.specs.Form.{calls_of_text, first_wrong_line};
+ghost use Rattle.volt_io.specs.States.{SourceGivesAtMost, SinkTakes, SinkTakesPrefixOf};
+ghost use Rattle.volt_form.specs.Form.{longest_input, calls_of_text};
 ghost use Rattle.volt_cmd.specs.Script.{IsAsked};
-ghost use Rattle.volt_cmd.specs.Headline.{Explains, IsOfForm, Refuses, fault_line, is_command, is_ok_or_no_memory, is_refusal};
+ghost use Rattle.volt_cmd.specs.Headline.{Explains, IsOfForm, IsWrongAt, ReadsAll, Reports, ReportsPartly, fault_line, is_command, is_ok_or_no_memory, is_refusal};
 ghost use Rattle.volt_cmd.specs.Prints.{printed_text};
 
 use crate::input::{InputFault, read_calls, world_input};
@@ -32,30 +31,40 @@ pub fn volt<R: Threads + Sync, S: Source, K: Sink>(
     source: &mut S,
     sink: &mut K,
 ) -> Status
-    // The headline. With Ok what is written is the spelling of one report that is sound for the
-    // input and tied to a run of it; with WriteFault it is a prefix of that.
-    ensures sound { result ≡ Status.Ok → IfSome (S.rest source.old)
-        (λ bytes. (text : List ℕ) × Explains bytes text × Appends (K.contents sink.old) (K.contents sink.new) text) }
-    ensures partly { result ≡ Status.WriteFault → IfSome (S.rest source.old)
-        (λ bytes. (text : List ℕ) × Explains bytes text × AppendsPrefixOf (K.contents sink.old) (K.contents sink.new) text) }
-    ensures command { result ≡ Status.Ok → is_command (map string_bytes words.now) ≡ true }
+    // The headline. With Ok the source's bytes have a meaning, and what was written is the spelling of
+    // one report that is sound for it and tied to a run of it; with WriteFault it is a prefix of that.
+    ensures sound { result ≡ Status.Ok
+        → Reports (S.state source.old) (S.state source.new) (K.state sink.old) (K.state sink.new) }
+    ensures partly { result ≡ Status.WriteFault
+        → ReportsPartly (S.state source.old) (S.state source.new) (K.state sink.old) (K.state sink.new) }
 
-    // The causes.
-    ensures write_fault { result ≡ Status.WriteFault → Increased (K.count sink.old) (K.count sink.new) }
-    ensures cause { is_refusal result ≡ true
-        → Refuses (map string_bytes words.now) (S.rest source.old) (S.count source.old) (S.count source.new) result }
-    ensures bad_use { is_command (map string_bytes words.now) ≡ false → result ≡ Status.BadUse }
+    // The causes of the other statuses. NoMemory is free.
+    ensures bad_use { (result ≡ Status.BadUse) ↔ (is_command (map string_bytes words.now) ≡ false) }
+    ensures read_fault { result ≡ Status.ReadFault
+        → Increased (S.state source.old).faults (S.state source.new).faults }
+    ensures write_fault { result ≡ Status.WriteFault
+        → Increased (K.state sink.old).faults (K.state sink.new).faults }
+    ensures not_built { (line : ℕ) → result ≡ Status.NotBuilt line
+        → IsWrongAt (S.state source.old) (S.state source.new) line }
 
     // Completeness: a command whose input is of the form ends so where no count of faults increased.
-    ensures complete { is_command (map string_bytes words.now) ≡ true → IsOfForm (S.rest source.old)
-        → (Increased (S.count source.old) (S.count source.new) → ⊥) → (Increased (K.count sink.old) (K.count sink.new) → ⊥)
+    ensures complete { is_command (map string_bytes words.now) ≡ true
+        → IsOfForm (S.state source.old) (S.state source.new)
+        → ¬ Increased (S.state source.old).faults (S.state source.new).faults
+        → ¬ Increased (K.state sink.old).faults (K.state sink.new).faults
         → is_ok_or_no_memory result ≡ true }
 
-    // The line of a fault. A failure to write it leaves the status as it is.
+    // The line of a refusal. A failure to write it leaves the status as it is.
     ensures line { is_refusal result ≡ true
-        → AppendsPrefixOf (K.contents sink.old) (K.contents sink.new) (fault_line result) }
-    ensures whole_line { is_refusal result ≡ true → (Increased (K.count sink.old) (K.count sink.new) → ⊥)
-        → Appends (K.contents sink.old) (K.contents sink.new) (fault_line result) }
+        → SinkTakesPrefixOf (K.state sink.old) (K.state sink.new) (fault_line result) }
+    ensures whole_line { is_refusal result ≡ true
+        → ¬ Increased (K.state sink.old).faults (K.state sink.new).faults
+        → SinkTakes (K.state sink.old) (K.state sink.new) (fault_line result) }
+
+    // What is taken of the source: nothing where the words are no command, and never more than shows
+    // that an input is too long.
+    ensures untouched { result ≡ Status.BadUse → source.new ≡ source.old }
+    ensures at_most { SourceGivesAtMost (S.state source.old) (S.state source.new) (longest_input + 1) }
 {
     match read_and_run(alloc, words, source) {
         Ok(report) => match write_report(sink, report) {
@@ -75,13 +84,16 @@ fn read_and_run<S: Source>(
     words: &[String],
     source: &mut S,
 ) -> Result<Printed, Status>
-    ensures command { OnOk result (is_command (map string_bytes words.now) ≡ true) }
-    ensures explained { IfOk result (λ report. IfSome (S.rest source.old)
-        (λ bytes. Explains bytes (printed_text report))) }
+    ensures explained { IfOk result (λ report. (bytes : List ℕ)
+        × ReadsAll (S.state source.old) (S.state source.new) bytes × Explains bytes (printed_text report)) }
     ensures refused { IfErr result (λ status. is_refusal status ≡ true) }
-    ensures cause { IfErr result (λ status.
-        Refuses (map string_bytes words.now) (S.rest source.old) (S.count source.old) (S.count source.new) status) }
-    ensures bad_use { is_command (map string_bytes words.now) ≡ false → result ≡ Err Status.BadUse }
+    ensures bad_use { (result ≡ Err Status.BadUse) ↔ (is_command (map string_bytes words.now) ≡ false) }
+    ensures untouched { result ≡ Err Status.BadUse → source.new ≡ source.old }
+    ensures read_fault { result ≡ Err Status.ReadFault
+        → Increased (S.state source.old).faults (S.state source.new).faults }
+    ensures not_built { (line : ℕ) → result ≡ Err (Status.NotBuilt line)
+        → IsWrongAt (S.state source.old) (S.state source.new) line }
+    ensures at_most { SourceGivesAtMost (S.state source.old) (S.state source.new) (longest_input + 1) }
 {
     if !is_command(words) {
         return Err(Status::BadUse);
@@ -122,9 +134,9 @@ fn report_of(alloc: Global, calls: Vec<ScriptCall>) -> Result<Printed, AllocErro
 
 /// Writes the line of a refusal.
 fn write_fault<K: Sink>(sink: &mut K, status: Status) -> Result<(), WriteFailed>
-    ensures whole { OnOk result (Appends (K.contents sink.old) (K.contents sink.new) (fault_line status)) }
-    ensures prefix { AppendsPrefixOf (K.contents sink.old) (K.contents sink.new) (fault_line status) }
-    ensures rises { OnErr result (Increased (K.count sink.old) (K.count sink.new)) }
+    ensures whole { OnOk result (SinkTakes (K.state sink.old) (K.state sink.new) (fault_line status)) }
+    ensures prefix { SinkTakesPrefixOf (K.state sink.old) (K.state sink.new) (fault_line status) }
+    ensures rises { OnErr result (Increased (K.state sink.old).faults (K.state sink.new).faults) }
 {
     match status {
         Status::BadUse => write_all(sink, b"fault BadUse\n"),
@@ -135,9 +147,9 @@ fn write_fault<K: Sink>(sink: &mut K, status: Status) -> Result<(), WriteFailed>
 }
 
 fn write_not_built<K: Sink>(sink: &mut K, line: u32) -> Result<(), WriteFailed>
-    ensures whole { OnOk result (Appends (K.contents sink.old) (K.contents sink.new) (fault_line (Status.NotBuilt line))) }
-    ensures prefix { AppendsPrefixOf (K.contents sink.old) (K.contents sink.new) (fault_line (Status.NotBuilt line)) }
-    ensures rises { OnErr result (Increased (K.count sink.old) (K.count sink.new)) }
+    ensures whole { OnOk result (SinkTakes (K.state sink.old) (K.state sink.new) (fault_line (Status.NotBuilt line))) }
+    ensures prefix { SinkTakesPrefixOf (K.state sink.old) (K.state sink.new) (fault_line (Status.NotBuilt line)) }
+    ensures rises { OnErr result (Increased (K.state sink.old).faults (K.state sink.new).faults) }
 {
     write_all(sink, b"fault NotBuilt ")?;
     write_number(sink, line)?;
@@ -146,10 +158,10 @@ fn write_not_built<K: Sink>(sink: &mut K, line: u32) -> Result<(), WriteFailed>
 }
 
 fn write_number<K: Sink>(sink: &mut K, number: u32) -> Result<(), WriteFailed>
-    ensures written { OnOk result (Appends (K.contents sink.old) (K.contents sink.new) (decimal number)) }
-    ensures partly { OnErr result (AppendsPrefixOf (K.contents sink.old) (K.contents sink.new) (decimal number)) }
-    ensures rises { OnErr result (Increased (K.count sink.old) (K.count sink.new)) }
-    ensures never_falls { K.count sink.old ≤ K.count sink.new }
+    ensures written { OnOk result (SinkTakes (K.state sink.old) (K.state sink.new) (decimal number)) }
+    ensures partly { OnErr result (SinkTakesPrefixOf (K.state sink.old) (K.state sink.new) (decimal number)) }
+    ensures rises { OnErr result (Increased (K.state sink.old).faults (K.state sink.new).faults) }
+    ensures never_falls { (K.state sink.old).faults ≤ (K.state sink.new).faults }
 {
     let mut buffer = Buffer::new();
     write_all(sink, buffer.format(number).as_bytes())

@@ -2,7 +2,7 @@
 
 ghost use Rattle.std.specs.Prelude.{◌≤◌, OnOk, OnErr};
 ghost use Rattle.volt_base.specs.Faults.{Increased};
-ghost use Rattle.volt_io.specs.Told.{Appends, AppendsPrefixOf};
+ghost use Rattle.volt_io.specs.States.{SinkTakes, SinkTakesPrefixOf};
 ghost use Rattle.volt_cmd.specs.Prints.{last_lines, printed_text};
 
 use crate::printing::Printed;
@@ -14,10 +14,10 @@ use volt_wire::Event;
 
 /// Writes a report, and lets its bytes go before the first event.
 pub fn write_report<K: Sink>(sink: &mut K, report: Printed) -> Result<(), WriteFailed>
-    ensures written { OnOk result (Appends (K.contents sink.old) (K.contents sink.new) (printed_text report)) }
-    ensures partly { OnErr result (AppendsPrefixOf (K.contents sink.old) (K.contents sink.new) (printed_text report)) }
-    ensures rises { OnErr result (Increased (K.count sink.old) (K.count sink.new)) }
-    ensures never_falls { K.count sink.old ≤ K.count sink.new }
+    ensures written { OnOk result (SinkTakes (K.state sink.old) (K.state sink.new) (printed_text report)) }
+    ensures partly { OnErr result (SinkTakesPrefixOf (K.state sink.old) (K.state sink.new) (printed_text report)) }
+    ensures rises { OnErr result (Increased (K.state sink.old).faults (K.state sink.new).faults) }
+    ensures never_falls { (K.state sink.old).faults ≤ (K.state sink.new).faults }
 {
     let Printed { prefix, trace } = report;
     write_all(sink, &prefix)?;
@@ -27,10 +27,10 @@ pub fn write_report<K: Sink>(sink: &mut K, report: Printed) -> Result<(), WriteF
 
 // The lines of the events, each made as it is written, and the last line.
 fn write_last_lines<K: Sink>(sink: &mut K, trace: &[Event]) -> Result<(), WriteFailed>
-    ensures written { OnOk result (Appends (K.contents sink.old) (K.contents sink.new) (last_lines trace.now)) }
-    ensures partly { OnErr result (AppendsPrefixOf (K.contents sink.old) (K.contents sink.new) (last_lines trace.now)) }
-    ensures rises { OnErr result (Increased (K.count sink.old) (K.count sink.new)) }
-    ensures never_falls { K.count sink.old ≤ K.count sink.new }
+    ensures written { OnOk result (SinkTakes (K.state sink.old) (K.state sink.new) (last_lines trace.now)) }
+    ensures partly { OnErr result (SinkTakesPrefixOf (K.state sink.old) (K.state sink.new) (last_lines trace.now)) }
+    ensures rises { OnErr result (Increased (K.state sink.old).faults (K.state sink.new).faults) }
+    ensures never_falls { (K.state sink.old).faults ≤ (K.state sink.new).faults }
 {
     let mut buffer = WriteBuffer::new();
     for event in trace {

@@ -1,4 +1,6 @@
-pub mod Told
+pub mod States
+pub mod Passed
+pub mod Standard
 pub mod Supply
 pub mod Store
 pub mod Words

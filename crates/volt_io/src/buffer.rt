@@ -2,7 +2,7 @@
 ghost use Rattle.std.specs.Prelude.{◌≡◌, ◌≤◌, [], ◌++◌, IsOk, OnOk, OnErr};
 ghost use Rattle.volt_io.specs.Buffer.{HasRoom};
 ghost use Rattle.volt_base.specs.Faults.{Increased};
-ghost use Rattle.volt_io.specs.Told.{Appends, AppendsPrefixOf, AppendsAllBut};
+ghost use Rattle.volt_io.specs.States.{SinkTakes, SinkTakesPrefixOf, SinkTakesAllBut};
 
 use crate::sink::{Sink, WriteFailed};
 use crate::transfer::write_all;
@@ -50,15 +50,15 @@ impl WriteBuffer {
         ensures succeeds { HasRoom self.old text.now → IsOk result }
 
         // What is written, and what is held.
-        ensures kept { OnOk result (AppendsAllBut (K.contents sink.old) (K.contents sink.new)
+        ensures kept { OnOk result (SinkTakesAllBut (K.state sink.old) (K.state sink.new)
             (self.old ++ text.now) self.new) }
-        ensures partly { OnErr result (AppendsPrefixOf (K.contents sink.old) (K.contents sink.new)
+        ensures partly { OnErr result (SinkTakesPrefixOf (K.state sink.old) (K.state sink.new)
             (self.old ++ text.now)) }
         ensures lost { OnErr result (self.new ≡ []) }
 
         // The sink's faults.
-        ensures rises { OnErr result (Increased (K.count sink.old) (K.count sink.new)) }
-        ensures never_falls { K.count sink.old ≤ K.count sink.new }
+        ensures rises { OnErr result (Increased (K.state sink.old).faults (K.state sink.new).faults) }
+        ensures never_falls { (K.state sink.old).faults ≤ (K.state sink.new).faults }
     {
         if self.held.try_extend_from_slice(text).is_ok() {
             return Ok(());
@@ -74,13 +74,13 @@ impl WriteBuffer {
     /// of them was written.
     pub fn flush<K: Sink>(&mut self, sink: &mut K) -> Result<(), WriteFailed>
         // What is written, and what is held.
-        ensures written { OnOk result (Appends (K.contents sink.old) (K.contents sink.new) self.old) }
-        ensures partly { OnErr result (AppendsPrefixOf (K.contents sink.old) (K.contents sink.new) self.old) }
+        ensures written { OnOk result (SinkTakes (K.state sink.old) (K.state sink.new) self.old) }
+        ensures partly { OnErr result (SinkTakesPrefixOf (K.state sink.old) (K.state sink.new) self.old) }
         ensures empty { self.new ≡ [] }
 
         // The sink's faults.
-        ensures rises { OnErr result (Increased (K.count sink.old) (K.count sink.new)) }
-        ensures never_falls { K.count sink.old ≤ K.count sink.new }
+        ensures rises { OnErr result (Increased (K.state sink.old).faults (K.state sink.new).faults) }
+        ensures never_falls { (K.state sink.old).faults ≤ (K.state sink.new).faults }
     {
         let written = write_all(sink, self.held.as_slice());
         self.held.clear();

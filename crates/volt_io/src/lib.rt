@@ -1,5 +1,5 @@
-//! How bytes come in and go out: a source, a sink, both over memory and over std's readers and
-//! writers, the two loops that all callers share, and a buffer before a sink.
+//! How bytes come in and go out: sources and sinks, over memory and over std's readers and writers,
+//! the two loops that all callers share, and a buffer before a sink. Begin with `source` and `sink`.
 #![tactic(auto)]
 
 pub mod buffer;
@@ -7,4 +7,5 @@ pub mod memory;
 pub mod sink;
 pub mod source;
 pub mod standard;
+mod trail;
 pub mod transfer;

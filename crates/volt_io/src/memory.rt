@@ -1,4 +1,4 @@
-//! A source and a sink over memory. They tell their bytes, and fail as they are told to.
+//! A source and a sink over memory. The source tells its bytes, and both fail as they are told to.
 ghost use Rattle.std.specs.Prelude.{◌≡◌, ◌-◌, ◌^◌, ◌<◌, ◌≤◌, ◌↔◌, [], ◌++◌, Some, Contains, drop, length, take, IsErr, IfOk, OnErr};
 ghost use Rattle.volt_base.specs.Faults.{Increased};
 ghost use Rattle.volt_io.specs.Supply.{supply_of, given_len, after_giving, after_failed_read};
@@ -20,15 +20,19 @@ pub struct MemSource {
     piece: usize,
     call: u64,
     faults: u64,
+    /// Whether the last read that worked gave none.
+    ended: bool,
 }
 
 impl Model for MemSource {
-    ghost use Rattle.std.specs.Prelude.{◌<◌, ◌≤◌, drop, vec_len};
+    ghost use Rattle.std.specs.Prelude.{◌<◌, ◌≤◌, take, drop, vec_len};
     ghost use Rattle.volt_io.specs.Supply.{Supply};
 
     ghost Value = { Supply };
 
     ghost view = { λ s. record {
+      given = take s.next s.bytes.items;
+      ended = s.ended;
       left = drop s.next s.bytes.items;
       fail = s.fail.items;
       piece = s.piece;
@@ -59,15 +63,15 @@ impl MemSource {
             piece,
             call: 1,
             faults: 0,
+            ended: false,
         }
     }
 }
 
 impl Source for MemSource {
-    ghost rest = { λ s. Some s.left };
+    ghost state = { λ s. record { given = s.given; ended = s.ended; rest = Some s.left; faults = s.faults } };
 
-    ghost count = { λ s. s.faults };
-
+    #[tactic(auto, using(crate::proofs::SupplyLemmas::reads))]
     fn read(&mut self, into: &mut [u8]) -> Result<usize, ReadFailed>
         requires { 0 < length into.old }
 
@@ -95,6 +99,7 @@ impl Source for MemSource {
         let count = into.len().min(self.piece).min(left);
         into[..count].copy_from_slice(&self.bytes[self.next..self.next + count]);
         self.next += count;
+        self.ended = count == 0;
         Ok(count)
     }
 
@@ -172,9 +177,7 @@ impl MemSink {
 }
 
 impl Sink for MemSink {
-    ghost contents = { λ s. Some s.written };
-
-    ghost count = { λ s. s.faults };
+    ghost state = { λ s. record { taken = s.written; faults = s.faults } };
 
     fn write(&mut self, piece: &[u8]) -> Result<usize, WriteFailed>
         requires { 0 < length piece.now }

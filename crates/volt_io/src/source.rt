@@ -1,7 +1,7 @@
 //! Where bytes come from.
-ghost use Rattle.std.specs.Prelude.{◌≡◌, ℕ, ◌<◌, ◌≤◌, ◌↔◌, List, [], length, take, Option, Some, codes, IfOk, IfSome, OnErr};
+ghost use Rattle.std.specs.Prelude.{◌≡◌, ◌==◌, ◌<◌, ◌≤◌, ◌↔◌, [], length, take, Some, codes, IfOk, IfSome, OnErr};
 ghost use Rattle.volt_base.specs.Faults.{Increased};
-ghost use Rattle.volt_io.specs.Told.{Keeps, TakesPrefix};
+ghost use Rattle.volt_io.specs.States.{SourceState, SourceGives};
 
 use std::error::Error;
 use std::fmt;
@@ -22,32 +22,32 @@ impl Error for ReadFailed {}
 
 /// Where bytes come from, and how often it failed to give them.
 ///
-/// A source that knows its bytes tells what is left of them (`rest`), and one that doesn't tells
-/// nothing. Each source counts its faults, and a read fails only where that count increased. A count
-/// that stands at the greatest `u64` is taken as risen, since it can't rise further.
+/// Of each source it is known what its reads gave. One that knows its bytes tells besides what is
+/// left of them (`rest`), and one that doesn't tells nothing of that. Each source counts its faults,
+/// and a read fails only where that count increased. A count that stands at the greatest `u64` is
+/// taken as increased, since it can't increase further.
 pub trait Source {
-    /// The bytes that reads will give from here on, where the source tells them.
-    ghost rest: { Self → Option (List ℕ) };
+    /// What is seen of the source.
+    ghost state: { Self → SourceState };
 
-    /// How many faults there were.
-    ghost count: { Self → ℕ };
-
-    /// Gives the next bytes to the beginning of `into` and says how many they are. What stands in
+    /// SourceGives the next bytes to the beginning of `into` and says how many they are. What stands in
     /// `into` behind them is free.
     fn read(&mut self, into: &mut [u8]) -> Result<usize, ReadFailed>
         requires { 0 < length into.old }
 
         // The bytes that were given.
         ensures within { IfOk result (λ n. n ≤ length into.new) }
-        ensures prefix { IfOk result (λ n. TakesPrefix (rest self.old) (rest self.new) (take n into.new)) }
-        ensures ends { IfOk result (λ n. IfSome (rest self.old) (λ left. (n ≡ 0) ↔ (left ≡ []))) }
+        ensures gives { IfOk result (λ n. SourceGives (state self.old) (state self.new) (take n into.new)) }
+        ensures ends { IfOk result (λ n. (state self.new).ended ≡ (n == 0)) }
+        ensures told_end { IfOk result (λ n. IfSome (state self.old).rest
+            (λ left. (n ≡ 0) ↔ (left ≡ []))) }
 
         // A failure.
-        ensures rises { OnErr result (Increased (count self.old) (count self.new)) }
-        ensures kept { OnErr result (Keeps (rest self.old) (rest self.new)) }
-        ensures never_falls { count self.old ≤ count self.new };
+        ensures kept { OnErr result (SourceGives (state self.old) (state self.new) []) }
+        ensures rises { OnErr result (Increased (state self.old).faults (state self.new).faults) }
+        ensures never_falls { (state self.old).faults ≤ (state self.new).faults };
 
     /// How many faults there were so far.
     fn faults(&self) -> u64
-        ensures { result ≡ count self.now };
+        ensures { result ≡ (state self.now).faults };
 }

@@ -1,10 +1,14 @@
 //! A source over any reader of std, and a sink over any writer. They are the edge to the environment:
-//! they tell no bytes, and no clause says what a file, a pipe or a terminal gives or takes.
-ghost use Rattle.std.specs.Prelude.{◌≡◌, ◌<◌, ◌≤◌, length, None, IfSome, IfOk, OnOk, OnErr};
-ghost use Rattle.volt_base.specs.Faults.{Increased, one_more};
+//! it is known what a reader answered and what a writer took by its answers, and no clause says what
+//! a file, a pipe or a terminal has.
+ghost use Rattle.std.specs.Prelude.{◌≡◌, ◌==◌, ◌<◌, ◌≤◌, [], length, take, IfSome, IfOk, OnErr};
+ghost use Rattle.volt_base.specs.Faults.{Increased};
+ghost use Rattle.volt_io.specs.States.{SourceGives, SinkTakes};
+ghost use Rattle.volt_io.specs.Standard.{no_traffic, after_moving, after_failing, as_source, as_sink};
 
 use crate::sink::{Sink, WriteFailed};
 use crate::source::{ReadFailed, Source};
+use crate::trail::Trail;
 use std::io::{ErrorKind, Read, Write};
 use std::marker::Model;
 
@@ -14,48 +18,57 @@ const TRIES: usize = 1_000;
 /// A source over a reader. A call that a signal interrupts is made again, up to 1,000 calls in a
 /// row; any other error, or the 1,000th interruption, is a fault.
 ///
-/// A clause sees the count of its faults alone.
+/// A clause sees what the reader answered, and the count of its faults.
 #[derive(Drop)]
 pub struct StdSource<R: Read + Drop> {
     reader: R,
     faults: u64,
+    trail: Trail,
 }
 
 impl<R: Read + Drop> Model for StdSource<R> {
-    ghost use Rattle.std.specs.Prelude.{ℕ};
+    ghost use Rattle.volt_io.specs.Standard.{Traffic};
 
-    ghost Value = { ℕ };
+    ghost Value = { Traffic };
 
-    ghost view = { λ s. s.faults };
+    ghost view = { λ s. record { passed = s.trail.passed; faults = s.faults } };
 }
 
 impl<R: Read + Drop> StdSource<R> {
     /// A source that gives what the reader gives.
     pub fn new(reader: R) -> StdSource<R>
-        ensures { result ≡ 0 }
+        ensures { result ≡ no_traffic }
     {
-        StdSource { reader, faults: 0 }
+        StdSource {
+            reader,
+            faults: 0,
+            trail: Trail::new(),
+        }
     }
 }
 
 impl<R: Read + Drop> Source for StdSource<R> {
-    ghost rest = { λ _. None };
-
-    ghost count = { λ s. s };
+    ghost state = { as_source };
 
     fn read(&mut self, into: &mut [u8]) -> Result<usize, ReadFailed>
         requires { 0 < length into.old }
 
-        ensures good { OnOk result (self.new ≡ self.old) }
-        ensures failed { OnErr result (self.new ≡ one_more self.old) }
+        ensures given { IfOk result (λ n. self.new ≡ after_moving self.old (take n into.new)) }
+        ensures failed { OnErr result (self.new ≡ after_failing self.old) }
 
         // As each source.
         ensures within { IfOk result (λ n. n ≤ length into.new) }
-        ensures rises { OnErr result (Increased self.old self.new) }
-        ensures never_falls { self.old ≤ self.new }
+        ensures gives { IfOk result (λ n. SourceGives (as_source self.old) (as_source self.new) (take n into.new)) }
+        ensures ends { IfOk result (λ n. self.new.passed.ended ≡ (n == 0)) }
+        ensures kept { OnErr result (SourceGives (as_source self.old) (as_source self.new) []) }
+        ensures rises { OnErr result (Increased self.old.faults self.new.faults) }
+        ensures never_falls { self.old.faults ≤ self.new.faults }
     {
         match read_some(&mut self.reader, into) {
-            Some(count) => Ok(count),
+            Some(count) => {
+                self.trail.note(&into[..count]);
+                Ok(count)
+            }
             None => {
                 self.faults = self.faults.saturating_add(1);
                 Err(ReadFailed)
@@ -88,50 +101,57 @@ fn read_some<R: Read>(reader: &mut R, into: &mut [u8]) -> Option<usize>
 /// A sink over a writer. A call that a signal interrupts is made again, up to 1,000 calls in a
 /// row; any other error, the 1,000th interruption, or a writer that takes no byte, is a fault.
 ///
-/// A clause sees the count of its faults alone. To flush a writer that holds bytes back, pass it
-/// by `&mut`, and flush it once the sink is gone.
+/// A clause sees what the writer took by its answers, and the count of its faults. To flush a writer
+/// that holds bytes back, pass it by `&mut`, and flush it once the sink is gone.
 #[derive(Drop)]
 pub struct StdSink<W: Write + Drop> {
     writer: W,
     faults: u64,
+    trail: Trail,
 }
 
 impl<W: Write + Drop> Model for StdSink<W> {
-    ghost use Rattle.std.specs.Prelude.{ℕ};
+    ghost use Rattle.volt_io.specs.Standard.{Traffic};
 
-    ghost Value = { ℕ };
+    ghost Value = { Traffic };
 
-    ghost view = { λ s. s.faults };
+    ghost view = { λ s. record { passed = s.trail.passed; faults = s.faults } };
 }
 
 impl<W: Write + Drop> StdSink<W> {
     /// A sink that passes its bytes on to the writer.
     pub fn new(writer: W) -> StdSink<W>
-        ensures { result ≡ 0 }
+        ensures { result ≡ no_traffic }
     {
-        StdSink { writer, faults: 0 }
+        StdSink {
+            writer,
+            faults: 0,
+            trail: Trail::new(),
+        }
     }
 }
 
 impl<W: Write + Drop> Sink for StdSink<W> {
-    ghost contents = { λ _. None };
-
-    ghost count = { λ s. s };
+    ghost state = { as_sink };
 
     fn write(&mut self, piece: &[u8]) -> Result<usize, WriteFailed>
         requires { 0 < length piece.now }
 
-        ensures good { OnOk result (self.new ≡ self.old) }
-        ensures failed { OnErr result (self.new ≡ one_more self.old) }
+        ensures taken { IfOk result (λ n. self.new ≡ after_moving self.old (take n piece.now)) }
+        ensures failed { OnErr result (self.new ≡ after_failing self.old) }
 
         // As each sink.
         ensures some { IfOk result (λ n. 0 < n) }
         ensures within { IfOk result (λ n. n ≤ length piece.now) }
-        ensures rises { OnErr result (Increased self.old self.new) }
-        ensures never_falls { self.old ≤ self.new }
+        ensures takes { IfOk result (λ n. SinkTakes (as_sink self.old) (as_sink self.new) (take n piece.now)) }
+        ensures rises { OnErr result (Increased self.old.faults self.new.faults) }
+        ensures never_falls { self.old.faults ≤ self.new.faults }
     {
         match write_some(&mut self.writer, piece) {
-            Some(count) => Ok(count),
+            Some(count) => {
+                self.trail.note(&piece[..count]);
+                Ok(count)
+            }
             None => {
                 self.faults = self.faults.saturating_add(1);
                 Err(WriteFailed)

@@ -1,7 +1,7 @@
 //! All of a source into memory, and all of a text into a sink.
-ghost use Rattle.std.specs.Prelude.{◌≡◌, [], ◌+◌, ◌^◌, ◌<◌, ◌≤◌, length, take, vec_len, IfOk, IfSome, MatchResult, OnOk, OnErr};
+ghost use Rattle.std.specs.Prelude.{◌≡◌, true, [], ◌+◌, ◌^◌, ◌<◌, ◌≤◌, length, take, vec_len, IfOk, IfSome, OnOk, OnErr};
 ghost use Rattle.volt_base.specs.Faults.{Increased};
-ghost use Rattle.volt_io.specs.Told.{TakesPrefix, LosesPrefix, MovesPrefix, Appends, AppendsPrefixOf};
+ghost use Rattle.volt_io.specs.States.{SourceGives, SourceGivesAtMost, SourceGivesTo, SinkTakes, SinkTakesPrefixOf};
 
 use crate::sink::{Sink, WriteFailed};
 use crate::source::{ReadFailed, Source};
@@ -59,9 +59,9 @@ impl From<AllocError> for ReadFault {
 /// The most bytes that are asked of a source at once.
 const PIECE: usize = 65_536;
 
-/// Reads until nothing is left, or until more than `limit` bytes are there: it holds `limit + 1`
-/// of them then, and the caller knows that the input is too long. It takes time in proportion to
-/// the bytes, and memory in proportion to them beside one buffer of 64 KiB.
+/// Reads until the source is at its end, or until more than `limit` bytes are there: it holds
+/// `limit + 1` of them then, and the caller knows that the input is too long. It takes time in
+/// proportion to the bytes, and memory in proportion to them beside one buffer of 64 KiB.
 ///
 /// After an `Err` the bytes that were read before it are lost.
 pub fn read_to_end<S: Source>(
@@ -71,21 +71,22 @@ pub fn read_to_end<S: Source>(
 ) -> Result<Vec<u8>, ReadFault>
     requires { limit < 2 ^ 62 }
 
-    // The bytes.
+    // The bytes are all that the source gave, up to its end or the limit.
     ensures within { IfOk result (λ bytes. vec_len bytes ≤ limit + 1) }
-    ensures prefix { IfOk result (λ bytes. IfSome (S.rest source.old)
+    ensures gives { IfOk result (λ bytes. SourceGives (S.state source.old) (S.state source.new) bytes.items) }
+    ensures to_end { IfOk result (λ bytes. vec_len bytes ≤ limit → (S.state source.new).ended ≡ true) }
+
+    // Where the source tells its bytes, they are these.
+    ensures prefix { IfOk result (λ bytes. IfSome (S.state source.old).rest
         (λ left. bytes.items ≡ take (limit + 1) left)) }
-    ensures whole { IfOk result (λ bytes. IfSome (S.rest source.old)
+    ensures whole { IfOk result (λ bytes. IfSome (S.state source.old).rest
         (λ left. vec_len bytes ≤ limit → bytes.items ≡ left)) }
 
-    // What is left in the source.
-    ensures rest { MatchResult result
-        (λ bytes. TakesPrefix (S.rest source.old) (S.rest source.new) bytes.items)
-        (λ _. LosesPrefix (S.rest source.old) (S.rest source.new)) }
-
-    // Its faults.
-    ensures rises { result ≡ Err ReadFault.Failed → Increased (S.count source.old) (S.count source.new) }
-    ensures never_falls { S.count source.old ≤ S.count source.new }
+    // A failure.
+    ensures loses { OnErr result (SourceGivesAtMost (S.state source.old) (S.state source.new) (limit + 1)) }
+    ensures rises { result ≡ Err ReadFault.Failed
+        → Increased (S.state source.old).faults (S.state source.new).faults }
+    ensures never_falls { (S.state source.old).faults ≤ (S.state source.new).faults }
 {
     let mut piece = zeros(alloc, PIECE)?;
     let mut bytes = Vec::new(alloc);
@@ -108,14 +109,16 @@ fn read_piece<S: Source>(
 
     ensures within { IfOk result (λ n. n ≤ length piece.old) }
     ensures grows { IfOk result (λ n. vec_len bytes.new ≡ vec_len bytes.old + n) }
-    ensures moves { OnOk result (MovesPrefix (S.rest source.old) (S.rest source.new)
+    ensures moves { OnOk result (SourceGivesTo (S.state source.old) (S.state source.new)
         bytes.old.items bytes.new.items) }
-    ensures ends { IfOk result (λ n. n ≡ 0 → IfSome (S.rest source.old) (λ left. left ≡ [])) }
+    ensures ends { IfOk result (λ n. n ≡ 0 → (S.state source.new).ended ≡ true) }
+    ensures told_end { IfOk result (λ n. n ≡ 0 → IfSome (S.state source.old).rest (λ left. left ≡ [])) }
     ensures same { IfOk result (λ n. n ≡ 0 → bytes.new.items ≡ bytes.old.items) }
 
-    ensures loses { OnErr result (LosesPrefix (S.rest source.old) (S.rest source.new)) }
-    ensures rises { result ≡ Err ReadFault.Failed → Increased (S.count source.old) (S.count source.new) }
-    ensures never_falls { S.count source.old ≤ S.count source.new }
+    ensures loses { OnErr result (SourceGivesAtMost (S.state source.old) (S.state source.new) (length piece.old)) }
+    ensures rises { result ≡ Err ReadFault.Failed
+        → Increased (S.state source.old).faults (S.state source.new).faults }
+    ensures never_falls { (S.state source.old).faults ≤ (S.state source.new).faults }
 {
     let count = source.read(piece)?;
     bytes.extend_from_slice(&piece[..count])?;
@@ -134,12 +137,12 @@ fn zeros(alloc: Global, len: usize) -> Result<Vec<u8>, AllocError>
 /// After an `Err` some prefix of `text` was written.
 pub fn write_all<K: Sink>(sink: &mut K, text: &[u8]) -> Result<(), WriteFailed>
     // What is written.
-    ensures written { OnOk result (Appends (K.contents sink.old) (K.contents sink.new) text.now) }
-    ensures partly { OnErr result (AppendsPrefixOf (K.contents sink.old) (K.contents sink.new) text.now) }
+    ensures written { OnOk result (SinkTakes (K.state sink.old) (K.state sink.new) text.now) }
+    ensures partly { OnErr result (SinkTakesPrefixOf (K.state sink.old) (K.state sink.new) text.now) }
 
     // The sink's faults.
-    ensures rises { OnErr result (Increased (K.count sink.old) (K.count sink.new)) }
-    ensures never_falls { K.count sink.old ≤ K.count sink.new }
+    ensures rises { OnErr result (Increased (K.state sink.old).faults (K.state sink.new).faults) }
+    ensures never_falls { (K.state sink.old).faults ≤ (K.state sink.new).faults }
 {
     let mut at = 0;
     while at < text.len() {

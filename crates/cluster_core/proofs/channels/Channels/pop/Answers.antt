@@ -1,27 +1,33 @@
-use Rattle.std.proofs.Common.{◌≡◌, drop, ap, ◌∙◌, arith}
-use Rattle.std.proofs.lemmas.Bool.Decides.{nat_tests}
+use Rattle.std.proofs.Common.{◌≡◌, List, Some, None, IsSome, drop, refl, sym, ap, subst, ◌∙◌}
+use Rattle.std.specs.declared.collections.VecDeque.{VecDeque}
+use Rattle.std.specs.Global.{Global}
 use Rattle.one_host_model.specs.declared.message.Msg.{Msg}
-use Rattle.cluster_core.specs.Channels.{queue_of, shown}
-use Rattle.cluster_core.proofs.ChannelLemmas.{popped_back, popped_out, some-nonempty}
+use Rattle.one_host_model.specs.World.{rest}
+use Rattle.cluster_core.specs.Channels.{queue_of, shown, first_message}
+use Rattle.cluster_core.proofs.Delivered.{took_nothing}
+use Rattle.cluster_core.proofs.ChannelLemmas.{route, with_queue, queue_of-shown, items_of, with_queue-shown, popped_is_took, drop-one, first_of-pop}
 use Rattle.cluster_core.proofs.channels.Channels.pop.Goals as goal
-use Rattle.cluster_core.proofs.channels.Channels.pop.Goals.{then-not-is_empty+in_ok-put_queue, else-not-is_empty}
+use Rattle.cluster_core.proofs.channels.Channels.pop.Goals.{in-Some, in-None}
 
-pub returns-clause-others : goal.returns-clause-others
-returns-clause-others c =
-    let taken = c.take_queue-queue.ensures in
-    let left : c.pop_front-first.new.self.items ≡ drop 1 (queue_of (shown c.self.inside.queues.entries) c.args.from c.args.to) =
-    c.pop_front-first.ensures.rest ∙ ap (drop {A = Msg} 1) taken.queue in
+pub returns-clause-first : goal.returns-clause-first
+returns-clause-first c =
+    let here = queue_of-shown c.self.inside.queues.entries c.args.from c.args.to in
     rw (← c.self.view_is)
-    (elim c.if-not-is_empty.branch [
-      | then-not-is_empty+in_ok-put_queue w ↦ rw w.self-is (popped_back (queue_of (shown c.self.inside.queues.entries)) (queue_of (shown c.take_queue-queue.new.queues.entries)) _ c.args.from c.args.to _ left taken.others w.in_ok-put_queue.ensures.queue)
-      | else-not-is_empty w ↦ rw w.self-is (popped_out (queue_of (shown c.self.inside.queues.entries)) _ c.args.from c.args.to _ left (grind (arith, nat_tests)) taken.others)
+    (elim c.match-get_mut.branch [
+      | in-Some w ↦ w.result-is ∙ first_of-pop _ _ _ w.pop_front.ensures.items w.pop_front.ensures.rest ∙ ap (λ q. first_message (items_of q)) w.in-Some.ensures.value ∙ ap first_message (sym here)
+      | in-None w ↦ w.result-is ∙ ap (λ q. first_message (items_of q)) w.in-None.ensures.value ∙ ap first_message (sym here)
     ])
 
-pub invariant_of-self : goal.invariant_of-self
-invariant_of-self c = c.put_queue.ensures.full (c.take_queue-queue.ensures.full c.self.invariant) (some-nonempty c.pop_front-first.new.self.items (grind (arith, nat_tests)))
-
-pub invariant_of-self-in_err-put_queue : goal.invariant_of-self-in_err-put_queue
-invariant_of-self-in_err-put_queue c = c.put_queue.ensures.full (c.take_queue-queue.ensures.full c.self.invariant) (some-nonempty c.pop_front-first.new.self.items (grind (arith, nat_tests)))
-
-pub invariant_of-self-else-not-is_empty : goal.invariant_of-self-else-not-is_empty
-invariant_of-self-else-not-is_empty c = c.take_queue-queue.ensures.full c.self.invariant
+pub returns-clause-others : goal.returns-clause-others
+returns-clause-others c = λ f t.
+    let before = queue_of (shown c.self.inside.queues.entries) in
+    let r = route c.args.to c.args.from in
+    let here = queue_of-shown c.self.inside.queues.entries c.args.from c.args.to in
+    rw (← c.self.view_is)
+    (elim c.match-get_mut.branch [
+      | in-Some w ↦
+          let put = (c.get_mut.follows.holds w.pop_front.new.self).3 (subst IsSome w.in-Some.ensures.value refl) in
+          let left = w.pop_front.ensures.rest ∙ drop-one w.in-Some.queue.now.items ∙ ap (λ q. rest (items_of q)) w.in-Some.ensures.value ∙ ap (rest {A = Msg}) (sym here) in
+          rw w.self-inside-is (with_queue-shown c.self.inside.queues.entries _ r (Some w.pop_front.new.self) put.0 f t ∙ ap (λ (xs : List Msg). with_queue before r xs f t) left ∙ popped_is_took before c.args.from c.args.to f t)
+      | in-None w ↦ rw (w.self-inside-is, c.get_mut.follows.holds-at-none) (sym (took_nothing before c.args.from c.args.to (ap (λ q. first_message (items_of q)) w.in-None.ensures.value ∙ ap first_message (sym here)) f t))
+    ])

@@ -10,7 +10,7 @@ use Rattle.cluster_core.proofs.world.World.deliver_to_agent.Goals as goal
 
 pub returns : goal.returns
 returns g c = λ w h.
-    let first : Some c.in-Some.msg ≡ first_message (w.channel c.args.from (Agent 0)) = sym c.in-Some.is ∙ c.in_ok-msg.ensures.first ∙ ap first_message (h.channels c.args.from (Agent 0)) in
+    let first : Some c.in-Some.msg ≡ first_message (w.channel c.args.from (Agent 0)) = sym c.in-Some.is ∙ c.pop.ensures.first ∙ ap first_message (h.channels c.args.from (Agent 0)) in
     let sends : (b : Actor) → sent_to b c.take.new.out ≡ agent_sends (w.agents 0) c.args.from c.in-Some.msg b =
     λ b. c.in_ok-take.ensures.sends b
     ∙ ap (λ (out : List (Actor × Msg)). sent_to b out ++ agent_sends c.args.self.now.agent c.args.from c.in-Some.msg b) h.outbox
@@ -22,7 +22,7 @@ returns g c = λ w h.
       agent = c.in_ok-take.ensures.agent ∙ ap (λ (a : AgentState). agent_after a c.args.from c.in-Some.msg) h.agent;
       slot = h.slot;
       site = h.site;
-      channels = taken_and_sent (queue_of c.args.self.now.channels) (queue_of c.pop.new.self) (queue_of c.post.new.channels) w.channel c.args.from (Agent 0) c.take.new.out (agent_sends (w.agents 0) c.args.from c.in-Some.msg) h.channels c.in_ok-msg.ensures.others c.in_ok-post.ensures.sent sends;
+      channels = taken_and_sent (queue_of c.args.self.now.channels) (queue_of c.pop.new.self) (queue_of c.post.new.channels) w.channel c.args.from (Agent 0) c.take.new.out (agent_sends (w.agents 0) c.args.from c.in-Some.msg) h.channels c.pop.ensures.others c.in_ok-post.ensures.sent sends;
       outbox = c.in_ok-post.ensures.empty;
       trace = h.trace;
     })

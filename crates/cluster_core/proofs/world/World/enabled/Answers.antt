@@ -17,4 +17,4 @@ returns g c = λ w h alone.
     let may : c.may_submit.result ≡ can w (Submit 1) = c.may_submit.ensures ∙ ap (λ (x : ClientState). may_submit x.left x.pending) h.client in
     c.in_ok-add_if-2.ensures
     ∙ ap (λ (es : List Event). es ++ if_it_may c.may_submit.result (Submit 1)) (c.in_ok-add_if.ensures ∙ ap (λ (es : List Event). es ++ if_it_may c.owes.result (Sync 0)) (c.in_ok-add_deliveries.ensures.added ∙ ap (λ (es : List Event). es ++ map delivery (routes code.channels)) c.clear.ensures.items))
-    ∙ sym (enabled_listed code.channels w h.channels c.in_ok-add_deliveries.ensures.ordered c.in_ok-add_deliveries.ensures.full alone c.owes.result c.may_submit.result owes may)
+    ∙ sym (enabled_listed code.channels w h.channels c.in_ok-add_deliveries.ensures.ordered c.in_ok-add_deliveries.ensures.all alone c.owes.result c.may_submit.result owes may)

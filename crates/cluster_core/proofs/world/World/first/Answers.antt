@@ -10,7 +10,7 @@ use Rattle.cluster_core.proofs.world.World.first.Goals as goal
 pub returns-in-Some : goal.returns-in-Some
 returns-in-Some g c = λ w h alone.
     ap (λ (o : Option Route). first_of o (can w (Sync 0)) (can w (Submit 1))) c.in-Some.ensures.first
-    ∙ sym (first_listed c.args.self.now.channels w h.channels c.in-Some.ensures.ordered c.in-Some.ensures.full alone (can w (Sync 0)) (can w (Submit 1)) refl refl)
+    ∙ sym (first_listed c.args.self.now.channels w h.channels c.in-Some.ensures.ordered c.in-Some.ensures.all alone (can w (Sync 0)) (can w (Submit 1)) refl refl)
 
 pub returns-then-owes : goal.returns-then-owes
 returns-then-owes g c = λ w h alone.
@@ -18,7 +18,7 @@ returns-then-owes g c = λ w h alone.
     let owes : true ≡ can w (Sync 0) =
     sym c.if-owes.true ∙ c.owes.ensures (w.sites 0) (subst (λ (n : ℕ). StandsForSite g.M.E.Engine.meaning n code.site.log (g.M.E.Engine.state code.site.engine) (w.sites 0)) (sym h.slot) h.site) in
     ap (λ (o : Option Route). first_of o true (can w (Submit 1))) (sym c.in_default.is ∙ c.first.ensures.first)
-    ∙ sym (first_listed code.channels w h.channels c.first.ensures.ordered c.first.ensures.full alone true (can w (Submit 1)) owes refl)
+    ∙ sym (first_listed code.channels w h.channels c.first.ensures.ordered c.first.ensures.all alone true (can w (Submit 1)) owes refl)
 
 pub returns-then-may_submit : goal.returns-then-may_submit
 returns-then-may_submit g c = λ w h alone.
@@ -27,7 +27,7 @@ returns-then-may_submit g c = λ w h alone.
     sym c.if-owes.false ∙ c.owes.ensures (w.sites 0) (subst (λ (n : ℕ). StandsForSite g.M.E.Engine.meaning n code.site.log (g.M.E.Engine.state code.site.engine) (w.sites 0)) (sym h.slot) h.site) in
     let may : true ≡ can w (Submit 1) = sym c.if-may_submit.true ∙ c.may_submit.ensures ∙ ap (λ (x : ClientState). may_submit x.left x.pending) h.client in
     ap (λ (o : Option Route). first_of o false true) (sym c.in_default.is ∙ c.first.ensures.first)
-    ∙ sym (first_listed code.channels w h.channels c.first.ensures.ordered c.first.ensures.full alone false true owes may)
+    ∙ sym (first_listed code.channels w h.channels c.first.ensures.ordered c.first.ensures.all alone false true owes may)
 
 pub returns : goal.returns
 returns g c = λ w h alone.
@@ -36,4 +36,4 @@ returns g c = λ w h alone.
     sym c.if-owes.false ∙ c.owes.ensures (w.sites 0) (subst (λ (n : ℕ). StandsForSite g.M.E.Engine.meaning n code.site.log (g.M.E.Engine.state code.site.engine) (w.sites 0)) (sym h.slot) h.site) in
     let may : false ≡ can w (Submit 1) = sym c.if-may_submit.false ∙ c.may_submit.ensures ∙ ap (λ (x : ClientState). may_submit x.left x.pending) h.client in
     ap (λ (o : Option Route). first_of o false false) (sym c.in_default.is ∙ c.first.ensures.first)
-    ∙ sym (first_listed code.channels w h.channels c.first.ensures.ordered c.first.ensures.full alone false false owes may)
+    ∙ sym (first_listed code.channels w h.channels c.first.ensures.ordered c.first.ensures.all alone false false owes may)
