@@ -50,15 +50,15 @@ written at tuple bytes = take at bytes ++ tuple ++ drop (at + length tuple) byte
 
 taken-written : (at : ℕ) (tuple bytes : List ℕ) → at ≤ length bytes → take (length tuple) (drop at (written at tuple bytes)) ≡ tuple
 taken-written at tuple bytes within =
-    let front = length-take-le at bytes within in
-    rw (append_assoc (take at bytes) tuple (drop (at + length tuple) bytes), drop_at (take at bytes) (tuple ++ drop (at + length tuple) bytes) at front)
+    let prefix = length-take-le at bytes within in
+    rw (append_assoc (take at bytes) tuple (drop (at + length tuple) bytes), drop_at (take at bytes) (tuple ++ drop (at + length tuple) bytes) at prefix)
     (take_at tuple (drop (at + length tuple) bytes) (length tuple) refl)
 
 -- what lies before the write
 taken-written_before : (at : ℕ) (tuple bytes : List ℕ) (from len : ℕ) → at ≤ length bytes → from + len ≤ at
     → take len (drop from (written at tuple bytes)) ≡ take len (drop from bytes)
 taken-written_before at tuple bytes from len within before =
-    let front = length-take-le at bytes within in
+    let prefix = length-take-le at bytes within in
     let rest = tuple ++ drop (at + length tuple) bytes in
     sym (drop-take from len (written at tuple bytes))
     ∙ (ap (drop from) (ap (take (from + len)) (append_assoc (take at bytes) tuple (drop (at + length tuple) bytes))
@@ -70,7 +70,7 @@ taken-written_before at tuple bytes from len within before =
 taken-written_behind : (at : ℕ) (tuple bytes : List ℕ) (from len : ℕ) → at + length tuple ≤ length bytes → at + length tuple ≤ from
     → take len (drop from (written at tuple bytes)) ≡ take len (drop from bytes)
 taken-written_behind at tuple bytes from len within behind =
-    let front = length-take-le at bytes (omega arith) in
+    let prefix = length-take-le at bytes (omega arith) in
     ap (take len) (drop-append-drop (at + length tuple) bytes (take at bytes ++ tuple) from behind (omega (arith, length-append (take at bytes) tuple)))
 
 -- the bytes of a tuple at another place
