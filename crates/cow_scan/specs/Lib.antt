@@ -1,0 +1,3 @@
+pub mod Cow
+pub mod Lending
+pub mod State
