@@ -29,7 +29,7 @@ use Rattle.log_laws.proofs.Kept.Keeps.{SiteStays, still-same, Uncounted, counted
 use Rattle.log_laws.proofs.Kept.KeepsViews.{foreign-later, first_views-later, views-keeps}
 use Rattle.log_laws.proofs.Kept.Plumbing.{words-later, goes-same, here, popped-here, popped-after, first-after}
 use Rattle.log_laws.proofs.Messages.Pops.{pops-kind, pops-stopped}
-use Rattle.log_laws.proofs.Kept.InertTurns.{Silent, Unwatched, unwatched, inert-after}
+use Rattle.log_laws.proofs.Kept.InertTurns.{Silent, Unwatched, inert-after}
 
 -- a site that is as it was goes on
 pub stays-same : (S T : LogState) (c : ℕ) → T.sites c ≡ S.sites c → Stays S T c
@@ -172,7 +172,7 @@ pub renewed-sends : (S : LogState) (i : ℕ) (s : SiteState) (ran : ℕ → List
 renewed-sends S i s ran out H silent =
     subst (λ f. LogsHold (record S { words = record S.words { channel = sent S.words.channel (Site i) out }; sites = f; logs = record S.logs { ran = ran } }))
     (set-twice S.sites i s s)
-    (inert-after (site_renewed S i s ran) i s out H (subst (λ z. Unwatched z s) (sym (set-here S.sites i s)) (unwatched s s (λ k. k))) silent)
+    (inert-after (site_renewed S i s ran) i s out H (subst (λ z. Unwatched z s) (sym (set-here S.sites i s)) (record { same = refl; held = λ k. k })) silent)
 
 -- ---- a site that stops
 
@@ -481,7 +481,7 @@ on_stop-after S H from i l ls a is none = choice (nat_le (S.sites i).start a)
     )
     choice false = (
       S.logs,
-      inert-after (site_popped S from i) i noted no_sends (pops-kind S H from i (record l { body = msg.Stop a }) ls is tt) (unwatched (S.sites i) noted (λ k. k)) (λ b. tt),
+      inert-after (site_popped S from i) i noted no_sends (pops-kind S H from i (record l { body = msg.Stop a }) ls is tt) (record { same = refl; held = λ k. k }) (λ b. tt),
       grown-same S.words.deployment i noted S.logs,
       enters-same i (length (log_at S i)) S.logs S.logs refl,
       inl refl,
