@@ -20,7 +20,7 @@ use Rattle.cluster_model.specs.Laws.{starts_in}
 use Rattle.cluster_steps.specs.Lists.{In}
 use Rattle.cluster_steps.proofs.Lists.{all-if, all-mono, not-both, same-some, set-both, set-here, set-there, set-twice}
 use Rattle.log_laws.specs.Histories.{LogState, Logs, Entered, Streaming, LogsHold, IsCounted, SiteLetterOk, ForeignOk, IsSlot, SiteOk, KeepsOk, ViewsOk, JoinerOk, FirstViews, Starting, part, site_start, log_at, term_at, between, agent_to_site, views, asks_in, asks_waiting, asks_of_term}
-use Rattle.log_laws.proofs.Kept.Moves.{Grown, Enters, after_site, site_popped, LogsLater, SiteLater, Stays, SameLeaderships, JoinsOn}
+use Rattle.log_laws.proofs.Kept.Moves.{SiteRises, site-stays, Grown, Enters, after_site, site_popped, LogsLater, SiteLater, Stays, SameLeaderships, JoinsOn}
 use Rattle.log_laws.proofs.Kept.Grown.{grown-same, grown-reach, enters-same}
 use Rattle.log_laws.proofs.Kept.Laters.{stays, same-leaderships, ask-later-on, letter-later-with, end-later-if, loads-later, entered-later, streamed-later, leaderships-later}
 use Rattle.log_laws.proofs.Plain.Lines.{if-none}
@@ -33,14 +33,7 @@ use Rattle.log_laws.proofs.Kept.InertTurns.{Silent, Unwatched, inert-after}
 
 -- a site that is as it was goes on
 pub stays-same : (S T : LogState) (c : ℕ) → T.sites c ≡ S.sites c → Stays S T c
-stays-same S T c e = record {
-  start = ap (λ x. x.start) e;
-  earlier = ap (λ x. x.earlier) e;
-  log = rw (ap (λ x. length x.log) e) (omega arith);
-  term = rw (ap site_term e) (omega arith);
-  member = λ z. ap (λ x. x.joining) e ∙ z;
-  loaded = λ k z. (k, ap (λ x. x.joining) (sym e) ∙ z, λ y. y);
-}
+stays-same S T c e = subst (SiteRises (S.sites c)) (sym e) (site-stays (S.sites c))
 
 -- ---- a site of another start, or none
 
