@@ -199,20 +199,20 @@ on_loaded-start D h a slot start = kept-if a.start _ _ _ (has_loaded-start D h (
 -- ---- an agent goes on, or it stops and says Closed last
 
 -- it is as one that never ran, and what it sent to each other agent ends with Closed
-pub record Stopped (D : Deployment) (h : ℕ) (start : ℕ) (t : Turn AgentState) : Type 0 where
+pub record ClosedLast (D : Deployment) (h : ℕ) (start : ℕ) (t : Turn AgentState) : Type 0 where
   pub state : t.state ≡ new_agent 0
   pub says : (g : ℕ) → is_host D g ≡ true → (g == h) ≡ false → EndsWith (open_letter (msg.Closed start)) (t.sends (Agent g))
 
 abbrev pub Over : Deployment → ℕ → ℕ → Turn AgentState → Type 0
-Over D h start t = (t.state.start ≡ start) ⊎ Stopped D h start t
+Over D h start t = (t.state.start ≡ start) ⊎ ClosedLast D h start t
 
-stops-over : (D : Deployment) (h start : ℕ) → Stopped D h start (stops D h start)
+stops-over : (D : Deployment) (h start : ℕ) → ClosedLast D h start (stops D h start)
 stops-over D h start = record {
   state = refl;
   says = λ g is other. ([], rw (is, other) refl);
 }
 
-stops_with_host-over : (D : Deployment) (h start : ℕ) → Stopped D h start (stops_with_host D h start)
+stops_with_host-over : (D : Deployment) (h start : ℕ) → ClosedLast D h start (stops_with_host D h start)
 stops_with_host-over D h start = record {
   state = refl;
   says = λ g is other. ([], rw (is, other) refl);
@@ -220,8 +220,8 @@ stops_with_host-over D h start = record {
 
 -- what follows sends nothing behind it
 then-nothing : (D : Deployment) (h start : ℕ) (t : Turn AgentState) (f : AgentState → Turn AgentState)
-    → Stopped D h start t → (f (new_agent 0)).state ≡ new_agent 0 → ((g : ℕ) → (f (new_agent 0)).sends (Agent g) ≡ [])
-    → Stopped D h start (t ▸ f)
+    → ClosedLast D h start t → (f (new_agent 0)).state ≡ new_agent 0 → ((g : ℕ) → (f (new_agent 0)).sends (Agent g) ≡ [])
+    → ClosedLast D h start (t ▸ f)
 then-nothing D h start t f s same quiet = record {
   state = ap (λ x. (f x).state) s.state ∙ same;
   says = λ g is other. let e = s.says g is other in
@@ -230,7 +230,7 @@ then-nothing D h start t f s same quiet = record {
 
 -- what came before doesn't matter
 after-other : (D : Deployment) (h start : ℕ) (t : Turn AgentState) (f : AgentState → Turn AgentState)
-    → Stopped D h start (f t.state) → Stopped D h start (t ▸ f)
+    → ClosedLast D h start (f t.state) → ClosedLast D h start (t ▸ f)
 after-other D h start t f s = record {
   state = s.state;
   says = λ g is other. let e = s.says g is other in
@@ -337,7 +337,7 @@ takes_each-over E D h stamp (w ∷ ws) a = elim (unless-over (a.start == 0)) [
   | inl q ↦ elim (takes_each-over E D h stamp ws (unless_stopped E D h stamp a w.from w.letter).state) [
     | inl p ↦ inl (p ∙ q)
     | inr s ↦ inr (after-other D h a.start (unless_stopped E D h stamp a w.from w.letter) (takes_each E D h stamp ws)
-        (subst (λ k. Stopped D h k (takes_each E D h stamp ws (unless_stopped E D h stamp a w.from w.letter).state)) q s))
+        (subst (λ k. ClosedLast D h k (takes_each E D h stamp ws (unless_stopped E D h stamp a w.from w.letter).state)) q s))
   ]
   | inr s ↦ let n = takes_each-nothing E D h stamp ws in
       inr (then-nothing D h a.start (unless_stopped E D h stamp a w.from w.letter) (takes_each E D h stamp ws) s n.0 n.1)
@@ -361,7 +361,7 @@ taken-over E D h stamp a from l = elim (handler_and_word-over E D h stamp a from
   | inl q ↦ elim (takes_waiting-over E D h stamp (handler_and_word E D h stamp a from l).state) [
     | inl p ↦ inl (p ∙ q)
     | inr s ↦ inr (after-other D h a.start (handler_and_word E D h stamp a from l) (takes_waiting E D h stamp)
-        (subst (λ k. Stopped D h k (takes_waiting E D h stamp (handler_and_word E D h stamp a from l).state)) q s))
+        (subst (λ k. ClosedLast D h k (takes_waiting E D h stamp (handler_and_word E D h stamp a from l).state)) q s))
   ]
   | inr s ↦ let n = takes_waiting-nothing E D h stamp in
       inr (then-nothing D h a.start (handler_and_word E D h stamp a from l) (takes_waiting E D h stamp) s n.0 n.1)
@@ -411,12 +411,12 @@ start_after-same a from l runs = elim l.body as (λ m. start_after a from (recor
   | _ ↦ refl
 ]
 
-turn-over : (E : Database) (D : Deployment) (h stamp : ℕ) (a : AgentState) (from : Actor) (l : Letter) (o : Environment) → (a.start == 0) ≡ false → Over D h a.start (agent_turn E D h stamp a from l o)
+pub turn-over : (E : Database) (D : Deployment) (h stamp : ℕ) (a : AgentState) (from : Actor) (l : Letter) (o : Environment) → (a.start == 0) ≡ false → Over D h a.start (agent_turn E D h stamp a from l o)
 turn-over E D h stamp a from l NoFault runs = takes-over E D h stamp a from l runs
 turn-over E D h stamp a from l (DiskFails answered) runs = takes-over E D h stamp a from l runs
 turn-over E D h stamp a from l (NoMemory answered) runs =
     over-start D h a.start a.start (agent_turn E D h stamp a from l (NoMemory answered)) refl
-    (inr (subst (λ k. Stopped D h a.start (stops_with_host D h k)) (sym (start_after-same a from l runs)) (stops_with_host-over D h a.start)))
+    (inr (subst (λ k. ClosedLast D h a.start (stops_with_host D h k)) (sym (start_after-same a from l runs)) (stops_with_host-over D h a.start)))
 turn-over E D h stamp a from l (DisksShow shown failed) runs = takes-over E D h stamp a from l runs
 
 -- ---- in the world

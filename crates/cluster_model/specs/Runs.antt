@@ -1,6 +1,6 @@
 -- Runs of the world, how a schedule chooses their events, and what a report shows of the last world.
-use Rattle.std.specs.Prelude.{ℕ, zero, suc, ◌≡◌, ◌+◌, ◌*◌, ◌/◌, ◌%◌, ◌^◌, ◌==◌, ◌&&◌, not, Bool, true, false, nat_lt, if◌then◌else◌, List, [], ◌∷◌, map, filter, flat_map, length, slice_get, Option, Some, None, is_some}
-use Rattle.std.specs.List.{list_any, range_with_len}
+use Rattle.std.specs.Prelude.{ℕ, zero, suc, ◌≡◌, ◌+◌, ◌*◌, ◌/◌, ◌%◌, ◌^◌, ◌==◌, ◌&&◌, not, Bool, true, false, nat_lt, if◌then◌else◌, List, [], ◌∷◌, map, filter, flat_map, length, slice_get, Option, Some, None, is_some, is_none}
+use Rattle.std.specs.List.{AllByRecursion, list_any, range_with_len}
 use Rattle.volt_base.specs.declared.entry.Applied.{Applied}
 use Rattle.volt_wire.specs.declared.event.Event.{Event}
 use Rattle.volt_wire.specs.declared.event.Event.TheVariants as event
@@ -10,7 +10,7 @@ use Rattle.cluster_model.specs.Words.{slots, part_of_slot}
 use Rattle.cluster_model.specs.Client.{Ended}
 use Rattle.cluster_model.specs.Director.{Seen}
 use Rattle.cluster_model.specs.SiteState.{is_member_site}
-use Rattle.cluster_model.specs.World.{World, Recovery}
+use Rattle.cluster_model.specs.World.{World, Recovery, Input, IsInput, first_world}
 use Rattle.cluster_model.specs.Environment.{Environment, NoFault, DisksShow}
 use Rattle.cluster_model.specs.Events.{can, allows, events, enabled, serves, step}
 
@@ -39,6 +39,42 @@ may_happen w e = not (has_failed w) && can w e.0 && allows w e.0 e.1
 abbrev pub IsRun : Database → List Happening → World → Type 0
 IsRun E [] w = Unit {0}
 IsRun E (e ∷ es) w = (may_happen w e ≡ true) × IsRun E es (step E w e)
+
+-- a recovery that works begins a new epoch
+abbrev pub renews_by : Environment → Bool
+renews_by (DisksShow shown failed) = is_none failed
+renews_by o = false
+
+abbrev pub renews_at : Event → Environment → Bool
+renews_at event.Recover o = renews_by o
+renews_at e o = false
+
+abbrev pub renews : Happening → Bool
+renews e = renews_at e.0 e.1
+
+-- in these events no recovery works
+abbrev pub IsOneEpoch : List Happening → Type 0
+IsOneEpoch es = AllByRecursion (λ e. renews e ≡ false) es
+
+-- ---- which worlds come
+
+-- A run leads from the first world to the second one.
+pub record RunsTo (E : Database) (v w : World) : Type 0 where
+  pub happenings : List Happening
+  pub is_run : IsRun E happenings v
+  pub comes : run E happenings v ≡ w
+
+-- So does one in which no recovery works.
+pub record RunsInEpoch (E : Database) (v w : World) : Type 0 where
+  pub happenings : List Happening
+  pub is_run : IsRun E happenings v
+  pub comes : run E happenings v ≡ w
+  pub one_epoch : IsOneEpoch happenings
+
+-- A world that comes of this input, which is one: a run leads to it from the first world.
+pub record Reached (E : Database) (I : Input) (w : World) : Type 0 where
+  pub input : IsInput I
+  pub runs : RunsTo E (first_world E I) w
 
 -- no event but Idle may happen
 abbrev pub IsQuiescent : World → Type 0

@@ -75,9 +75,13 @@ stampless o =
 abbrev pub deployed : ℕ → ℕ → ℕ → ℕ → Deployment
 deployed hosts sites k clients = record { layout = record { hosts = hosts; sites = sites; k = k }; clients = clients }
 
--- the first world of a deployment on blank disks, with these calls and items
-abbrev pub begins : Deployment → List AskedFor → List TimedItem → World
-begins D calls items = first_world toy (record { deployment = D; calls = calls; items = items; base = 1 })
+-- the input of a deployment on blank disks, with these calls and items
+abbrev pub blank : Deployment → List AskedFor → List TimedItem → Input
+blank D calls items = record { deployment = D; calls = calls; items = items; base = 1 }
+
+-- its first world
+abbrev pub begins : Input → World
+begins I = first_world toy I
 
 -- a call of a client on one partition, or on all
 abbrev pub calls_on : ℕ → ℕ → List ℕ → AskedFor

@@ -1,7 +1,7 @@
 -- Words: which hosts are members, and what follows from it for the partitions.
-use Rattle.std.specs.Prelude.{ℕ, ◌+◌, ◌==◌, ◌&&◌, ◌||◌, Bool, true, false, not, nat_lt, nat_le, if◌then◌else◌, List, [], ◌∷◌, ◌++◌, map, filter, find, length, Option, Some, None, is_some}
+use Rattle.std.specs.Prelude.{ℕ, ◌≤◌, ◌+◌, ◌==◌, ◌&&◌, ◌||◌, Bool, true, false, not, nat_lt, nat_le, if◌then◌else◌, List, [], ◌∷◌, ◌++◌, map, filter, find, length, Option, Some, None, is_some}
 use Rattle.std.specs.List.{list_any, list_all, range_with_len}
-use Rattle.partition_ring.specs.Placement.{slots_of, parts_of, part_of, host_of, start_in, copies_of}
+use Rattle.partition_ring.specs.Placement.{IsLayout, slots_of, parts_of, part_of, host_of, start_in, copies_of}
 use Rattle.partition_ring.specs.declared.layout.Layout.{Layout}
 use Rattle.volt_wire.specs.Word.{Membership}
 
@@ -30,6 +30,16 @@ is_host D host = nat_lt host D.layout.hosts
 
 abbrev pub is_client : Deployment → ℕ → Bool
 is_client D n = nat_lt 0 n && nat_le n D.clients
+
+-- a layout that isn't refused
+abbrev pub IsLaidOut : Deployment → Type 0
+IsLaidOut D = IsLayout D.layout.hosts D.layout.sites D.layout.k
+
+-- A deployment that isn't refused: its layout isn't, and it serves 1 to 16 clients.
+pub record IsDeployment (D : Deployment) : Type 0 where
+  pub layout : IsLaidOut D
+  pub some_client : 1 ≤ D.clients
+  pub few_clients : D.clients ≤ 16
 
 -- whether a slot is one of a host's
 abbrev pub is_slot_of : Deployment → ℕ → ℕ → Bool
@@ -130,7 +140,7 @@ abbrev pub first_of : {A : Type 0} → List A → Option A
 first_of [] = None
 first_of (x ∷ xs) = Some x
 
--- The initiator is the member with the least start: its host, and that start.
+-- The initiator is the first of the members: its host, and its start.
 abbrev pub initiator : Membership → Option (ℕ × ℕ)
 initiator w = first_of (members w)
 

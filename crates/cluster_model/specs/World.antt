@@ -1,13 +1,16 @@
 -- The world: a state for each actor, the messages under way, and its history.
-use Rattle.std.specs.Prelude.{ℕ, zero, suc, ◌+◌, ◌-◌, ◌%◌, ◌==◌, ◌&&◌, Bool, true, false, nat_lt, nat_le, if◌then◌else◌, max, List, [], ◌∷◌, ◌++◌, length, Option, Some, None}
+use Rattle.std.specs.Prelude.{ℕ, zero, suc, ◌≡◌, ◌<◌, ◌+◌, ◌-◌, ◌%◌, ◌==◌, ◌&&◌, Bool, true, false, nat_lt, nat_le, if◌then◌else◌, max, List, [], ◌∷◌, ◌++◌, length, Option, Some, None}
+use Rattle.std.specs.List.{list_all}
 use Rattle.volt_base.specs.declared.entry.Entry.{Entry}
 use Rattle.volt_wire.specs.Word.{Membership}
 use Rattle.volt_wire.specs.declared.actor.Actor.{Actor}
 use Rattle.volt_wire.specs.declared.actor.Actor.TheVariants.{Director, Client, Agent, Site, Scanner}
 use Rattle.volt_wire.specs.declared.event.Event.{Event}
+use Rattle.volt_wire.specs.declared.item.Item.{Item}
+use Rattle.volt_wire.specs.declared.item.Item.TheVariants as item
 use Rattle.volt_wire.specs.declared.item.TimedItem.{TimedItem}
 use Rattle.cluster_model.specs.Engine.{Database}
-use Rattle.cluster_model.specs.Words.{Deployment, slots, parts, part_of_slot, host_of_slot, is_host}
+use Rattle.cluster_model.specs.Words.{Deployment, IsDeployment, slots, parts, part_of_slot, host_of_slot, is_host, is_client}
 use Rattle.cluster_model.specs.Letters.{same, Letter, Sends, Turn}
 use Rattle.cluster_model.specs.Log.{last_done, number_of}
 use Rattle.cluster_model.specs.Director.{DirectorState}
@@ -139,7 +142,7 @@ abbrev pub greatest_done : Database → (ℕ → List Entry) → ℕ → ℕ
 greatest_done E logs zero = 0
 greatest_done E logs (suc p) = max (number_of (last_done E p (logs p))) (greatest_done E logs p)
 
--- the agent of the member with the least start, host 0, is the initiator and idle
+-- the agent of the first member, host 0, is the initiator and idle
 abbrev pub first_initiating : ℕ → ℕ → Initiating
 first_initiating zero next = record no_initiator { phase = Idle; next = next }
 first_initiating (suc h) next = no_initiator
@@ -164,6 +167,30 @@ pub record Input : Type 0 where
   pub items : List TimedItem
   -- the base term: one above the greatest mark that the disks showed
   pub base : ℕ
+
+-- a call is one of a client, and on one partition or on all
+abbrev pub is_part_or_all : Deployment → Option ℕ → Bool
+is_part_or_all D None = true
+is_part_or_all D (Some part) = nat_lt part (parts D)
+
+abbrev pub is_call_for : Deployment → AskedFor → Bool
+is_call_for D c = is_client D c.client && is_part_or_all D c.part
+
+-- an item is of a host or a slot, and a cut of power is at a call of a disk, counted from 1
+abbrev pub is_item_for : Deployment → Item → Bool
+is_item_for D (item.Lose host) = is_host D host
+is_item_for D (item.Rejoin host) = is_host D host
+is_item_for D (item.Power slot call choice) = nat_lt slot (slots D) && nat_lt 0 call
+is_item_for D (item.Look slot) = nat_lt slot (slots D)
+is_item_for D _ = true
+
+-- What an input has to be: its deployment isn't refused, its calls and items speak of what is there, and its base term isn't
+-- 0, which would mean no term.
+pub record IsInput (I : Input) : Type 0 where
+  pub deployment : IsDeployment I.deployment
+  pub calls : list_all (is_call_for I.deployment) I.calls ≡ true
+  pub items : list_all (λ i. is_item_for I.deployment i.item) I.items ≡ true
+  pub base : 0 < I.base
 
 -- the calls of client n among these, the first of which has this number
 abbrev pub due : ℕ → ℕ → List AskedFor → List Due

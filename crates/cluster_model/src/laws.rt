@@ -11,10 +11,10 @@ ghost use Rattle.volt_wire.specs.declared.item.TimedItem.{TimedItem};
 ghost use Rattle.cluster_model.specs.Engine.{Database};
 ghost use Rattle.cluster_model.specs.Words.{is_host};
 ghost use Rattle.cluster_model.specs.Letters.{open_letter};
-ghost use Rattle.cluster_model.specs.World.{World, stamp_of};
+ghost use Rattle.cluster_model.specs.World.{World, Input, IsInput, first_world, stamp_of};
 ghost use Rattle.cluster_model.specs.Environment.{Environment};
 ghost use Rattle.cluster_model.specs.Events.{allows, can, is_quiet_item, may_do, step};
-ghost use Rattle.cluster_model.specs.Runs.{Happening, run};
+ghost use Rattle.cluster_model.specs.Runs.{Happening, IsOneEpoch, IsRun, Reached, RunsInEpoch, RunsTo, run};
 ghost use Rattle.cluster_model.specs.Laws.{ChangesOne, EndsWith, RiseFrom, is_one_actors, actor_of, drawn_in, left_by, starts_in};
 
 /// A database that stands for any.
@@ -54,6 +54,29 @@ pub fn own_events_may_happen_by_own_state()
 pub fn stamps_rise_by_one<B: AnyDatabase>()
     ensures trace { (w : World) (e : Happening) → (step B.database w e).trace ≡ w.trace ++ e.0 ∷ [] }
     ensures stamp { (w : World) (e : Happening) → stamp_of (step B.database w e) ≡ stamp_of w + 1 }
+{}
+
+/// A world is reached by an input exactly where a run leads to it from the input's first world. So what
+/// holds of all reached worlds holds behind each run, and the other way round.
+pub fn runs_reach_worlds<B: AnyDatabase>()
+    ensures each { (input : Input) (es : List Happening) → IsInput input → IsRun B.database es (first_world B.database input)
+        → Reached B.database input (run B.database es (first_world B.database input)) }
+    ensures only { (input : Input) (w : World) → Reached B.database input w
+        → IsInput input × ((es : List Happening)
+        × IsRun B.database es (first_world B.database input) × (run B.database es (first_world B.database input) ≡ w)) }
+{}
+
+/// So it is with two worlds of a run, in one epoch or not: a run leads from the one to the other exactly
+/// where the two stand in one run from there on.
+pub fn runs_lead_on<B: AnyDatabase>()
+    ensures on { (w : World) (es more : List Happening) → IsRun B.database (es ++ more) w
+        → RunsTo B.database w (run B.database es w)
+        × RunsTo B.database (run B.database es w) (run B.database (es ++ more) w) }
+    ensures in_epoch { (w : World) (es more : List Happening) → IsRun B.database (es ++ more) w → IsOneEpoch more
+        → RunsInEpoch B.database (run B.database es w) (run B.database (es ++ more) w) }
+    ensures reached { (input : Input) (v w : World) → Reached B.database input v → RunsTo B.database v w
+        → Reached B.database input w }
+    ensures any { (v w : World) → RunsInEpoch B.database v w → RunsTo B.database v w }
 {}
 
 /// The starts that hosts get in a run, by an item or in a recovery, rise from the next one of its

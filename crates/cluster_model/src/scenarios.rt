@@ -4,6 +4,7 @@
 ghost use Rattle.std.specs.Prelude.{◌≡◌, true, false, [], ◌∷◌, map, Some};
 ghost use Rattle.volt_wire.specs.declared.actor.Actor.TheVariants.{Agent, Client, Site};
 ghost use Rattle.volt_wire.specs.declared.event.Event.TheVariants.{Deliver};
+ghost use Rattle.cluster_model.specs.World.{IsInput};
 ghost use Rattle.cluster_model.specs.Runs.{IsRun, may_happen, run};
 ghost use Rattle.cluster_model.specs.Events.{can, may_recover};
 ghost use Rattle.cluster_model.specs.Toy.{toy};
@@ -26,6 +27,7 @@ ghost use Rattle.cluster_model.specs.Scenarios.StartBelowTheInitiators as below;
 
 /// One host: a call puts an account, and the next one reads it.
 pub fn put_and_get()
+    ensures input { IsInput put_and_get.input }
     ensures events { put_and_get.last.trace ≡ put_and_get.events }
     ensures shown { outline put_and_get.last ≡ put_and_get.shown }
 {}
@@ -37,12 +39,14 @@ pub fn nothing_to_deliver()
 
 /// One host: a call that would take away more than there is aborts, and stands in the serial list.
 pub fn below_zero()
+    ensures input { IsInput below_zero.input }
     ensures shown { outline below_zero.last ≡ below_zero.shown }
 {}
 
 /// Two hosts with a copy each: the leader is lost when the call has reached the copy. Its end is
 /// unknown, and it is applied.
 pub fn leader_lost_behind_put()
+    ensures input { IsInput behind_put.input }
     ensures given { IsRun toy behind_put.given_run behind_put.start }
     ensures events { behind_put.last.trace ≡ behind_put.events }
     ensures shown { outline behind_put.last ≡ behind_put.shown }
@@ -50,6 +54,7 @@ pub fn leader_lost_behind_put()
 
 /// The same, where what the leader sent to the copy comes in a later term. The call isn't applied.
 pub fn leader_lost_before_put()
+    ensures input { IsInput before_put.input }
     ensures given { IsRun toy before_put.given_run before_put.start }
     ensures events { before_put.last.trace ≡ before_put.events }
     ensures shown { outline before_put.last ≡ before_put.shown }
@@ -58,12 +63,14 @@ pub fn leader_lost_before_put()
 /// A call on three partitions whose initiator is lost when its decision has reached one leader. The
 /// next initiator hears of it, and the call is applied in all partitions.
 pub fn initiator_lost_behind_done()
+    ensures input { IsInput behind_done.input }
     ensures run { IsRun toy behind_done.events behind_done.start }
     ensures shown { stampless (outline behind_done.last) ≡ behind_done.shown }
 {}
 
 /// The same, where the initiator is lost before it decides. The call is applied in none.
 pub fn initiator_lost_before_decision()
+    ensures input { IsInput before_decision.input }
     ensures run { IsRun toy before_decision.events before_decision.start }
     ensures shown { stampless (outline before_decision.last) ≡ before_decision.shown }
 {}
@@ -71,6 +78,7 @@ pub fn initiator_lost_before_decision()
 /// A disk loses power inside the batch of a call. It shows the batch or not, and the recovery goes
 /// on with what it shows.
 pub fn power_cut()
+    ensures input { IsInput power_cut.input }
     ensures contents { (power_cut.cut.sites 0).contents ≡ power_cut.contents }
     ensures cut { may_happen power_cut.applied power_cut.failing ≡ true }
     ensures recovery { IsRun toy (power_cut.recovery 1) power_cut.cut }
@@ -83,6 +91,7 @@ pub fn power_cut()
 /// A leader whose disk alone has an entry sends no reply. The disk with the later mark is chosen in a
 /// recovery, and not the one with the longer log.
 pub fn mark_before_length()
+    ensures input { IsInput mark.input }
     ensures given { IsRun toy mark.given_run mark.start }
     // The leader's disk has the entry and the copy's hasn't: the leader has sent no reply.
     ensures unanswered { can (run toy mark.given_run mark.start) (Deliver (Agent 1) (Site 0)) ≡ false }
@@ -94,6 +103,7 @@ pub fn mark_before_length()
 /// A host is lost and comes back while calls are served: it has a new start, and its copy is the
 /// leader's.
 pub fn lost_and_rejoined()
+    ensures input { IsInput rejoined.input }
     ensures shown { stampless (outline rejoined.last) ≡ rejoined.shown }
     ensures start { (rejoined.last.agents 0).start ≡ 3 }
     // When it runs again its disk still shows what it showed when it stopped.
@@ -103,12 +113,14 @@ pub fn lost_and_rejoined()
 /// A host without spare copies is lost: a call is answered that its partition is down, and all hosts
 /// are recovered.
 pub fn partition_down()
+    ensures input { IsInput down.input }
     ensures shown { stampless (outline down.last) ≡ down.shown }
 {}
 
 /// A leader of an old term, whose host is lost, streams its tables to a joiner whose disk alone has
 /// the newest entry. The joiner doesn't take the stream, and its disk stays as it is.
 pub fn stream_of_an_old_term()
+    ensures input { IsInput stale.input }
     ensures run { IsRun toy stale.events stale.start }
     ensures kept { (stale.last.sites 1).contents ≡ stale.contents }
 {}
@@ -116,6 +128,7 @@ pub fn stream_of_an_old_term()
 /// A joiner hears that the initiator is lost before the members do. It doesn't tell them: no message
 /// of it is under way to the others.
 pub fn joiner_hears_of_a_loss()
+    ensures input { IsInput joiner.input }
     ensures run { IsRun toy joiner.events joiner.start }
     ensures silent { map (λ h. can joiner.last (Deliver (Agent h) (Agent 5))) (1 ∷ 2 ∷ 4 ∷ [])
         ≡ false ∷ false ∷ false ∷ [] }
@@ -124,6 +137,7 @@ pub fn joiner_hears_of_a_loss()
 /// A second Stop reaches a site before the Start that was sent between the two. The site stays
 /// stopped.
 pub fn stop_overtakes_start()
+    ensures input { IsInput overtaken.input }
     ensures run { IsRun toy overtaken.events overtaken.start }
     ensures stopped { (overtaken.last.sites 0).start ≡ 0 }
 {}
@@ -132,6 +146,7 @@ pub fn stop_overtakes_start()
 /// later term without the call that this leader has. The leader still counts the first joiner, and so
 /// doesn't answer the call.
 pub fn second_joiner_of_a_slot()
+    ensures input { IsInput second.input }
     ensures run { IsRun toy second.events second.start }
     ensures counted { map (λ j. j.start) (second.last.sites 0).joiners ≡ 5 ∷ [] }
     ensures unanswered { can second.last (Deliver (Agent 2) (Site 0)) ≡ false }
@@ -142,6 +157,7 @@ pub fn second_joiner_of_a_slot()
 /// A start that was drawn before that of the initiator asks to be admitted. It would be the initiator
 /// in the place of one that runs, so it isn't admitted.
 pub fn start_below_the_initiators()
+    ensures input { IsInput below.input }
     ensures run { IsRun toy below.events below.start }
     ensures comes { (below.last.agents 1).start ≡ 4 }
     ensures initiator { below.initiator_of (below.last.agents 2).decided ≡ Some (2, 5) }

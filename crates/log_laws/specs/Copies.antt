@@ -8,7 +8,7 @@ use Rattle.cluster_model.specs.World.{World, AuthoritativeLog}
 use Rattle.word_laws.specs.Histories as word
 use Rattle.word_laws.specs.Chain.{state_of}
 use Rattle.cluster_steps.specs.Lists.{Prefix}
-use Rattle.log_laws.specs.Histories.{Leadership, Logs, LogState, Holds}
+use Rattle.log_laws.specs.Histories.{Leadership, Logs, LogState, LogsHold}
 
 -- ---- copies of a partition
 
@@ -99,7 +99,7 @@ pub record HasLogs (w : World) : Type 0 where
   pub owner : ℕ → ℕ
   pub history : word.History
   pub logs : Logs
-  pub holds : Holds (log_state w owner history logs)
+  pub holds : LogsHold (log_state w owner history logs)
   pub strangers : (h : ℕ) → is_host w.deployment h ≡ false → w.agents h ≡ new_agent 0
   pub authoritative : (p : ℕ) → AuthoritativeOk logs p (w.authoritative p)
   pub counted : CountedIn w

@@ -62,8 +62,8 @@ deployment S = S.words.deployment
 abbrev pub part : LogState → ℕ → ℕ
 part S c = part_of_slot S.words.deployment c
 
-abbrev pub start_at : LogState → ℕ → ℕ
-start_at S c = (S.sites c).start
+abbrev pub site_start : LogState → ℕ → ℕ
+site_start S c = (S.sites c).start
 
 abbrev pub log_at : LogState → ℕ → List Entry
 log_at S c = (S.sites c).log
@@ -75,16 +75,16 @@ term_at S c = site_term (S.sites c)
 abbrev pub IsSlot : LogState → ℕ → Type 0
 IsSlot S c = nat_lt c (slots S.words.deployment) ≡ true
 
-abbrev pub base_of : LogState → ℕ
-base_of S = S.words.history.first.base
+abbrev pub epoch_base : LogState → ℕ
+epoch_base S = S.words.history.first.base
 
 -- the messages from one slot's site to another's
 abbrev pub between : LogState → ℕ → ℕ → List Letter
 between S i c = S.words.channel (Site i) (Site c)
 
 -- those from its own host's agent to a slot's site
-abbrev pub from_agent : LogState → ℕ → List Letter
-from_agent S c = S.words.channel (Agent (host_of_slot S.words.deployment c)) (Site c)
+abbrev pub agent_to_site : LogState → ℕ → List Letter
+agent_to_site S c = S.words.channel (Agent (host_of_slot S.words.deployment c)) (Site c)
 
 -- a decided word of the epoch, and its term
 pub record WordOf (S : LogState) (t : ℕ) (w : Membership) : Type 0 where
@@ -162,8 +162,8 @@ end_in m = elim m as (λ _. List ℕ) [
 abbrev pub end_of : ℕ → ℕ → Letter → List ℕ
 end_of start term l = if is_for start term l then end_in l.body else []
 
-abbrev pub ends : ℕ → ℕ → List Letter → List ℕ
-ends start term ls = flat_map (end_of start term) ls
+abbrev pub stream_ends_in : ℕ → ℕ → List Letter → List ℕ
+stream_ends_in start term ls = flat_map (end_of start term) ls
 
 -- ---- who asks to join
 
@@ -205,14 +205,14 @@ pub record HasBeen (S : LogState) (c t a : ℕ) : Type 0 where
   pub some : 0 < a
   pub ran : In a (S.logs.ran c)
   pub greatest : t ≤ (S.sites c).greatest
-  pub others : 0 < start_at S c → (start_at S c ≡ a → ⊥) → t ≤ (S.sites c).earlier
+  pub others : 0 < site_start S c → (site_start S c ≡ a → ⊥) → t ≤ (S.sites c).earlier
 
 -- A slot acknowledged n in term t: with the start that was in that term its log is no shorter, now and in later terms.
 pub record AckOk (S : LogState) (c t n : ℕ) : Type 0 where
   pub start : ℕ
   pub some : 0 < start
   pub was : WasIn S c t start
-  pub now : start_at S c ≡ start → n ≤ length (log_at S c)
+  pub now : site_start S c ≡ start → n ≤ length (log_at S c)
   pub later : (u : ℕ) (e : Entered) → t < u → S.logs.entered c u ≡ Some e → e.start ≡ start → n ≤ length e.log
 
 -- A slot of partition p reported in term t what it entered that term with.
@@ -233,25 +233,25 @@ abbrev pub JoinsIn : LogState → ℕ → Membership → Type 0
 JoinsIn S c w = (j : Joining) × ((S.sites c).joining ≡ Some j) × ((S.sites c).view ≡ Some w)
 
 -- A start of a slot of partition p asked to join in term t. If it runs, it is a joiner in that term.
-pub record AskOk (S : LogState) (p c t a : ℕ) : Type 0 where
+pub record AsksToJoin (S : LogState) (p c t a : ℕ) : Type 0 where
   pub been : HasBeen S c t a
   pub part_is : part S c ≡ p
-  pub joins : start_at S c ≡ a → (w : Membership) × JoinsIn S c w × (term_of w ≡ t)
+  pub joins : site_start S c ≡ a → (w : Membership) × JoinsIn S c w × (term_of w ≡ t)
 
 -- A joiner that the leader of a term counts.
 pub record CountedOk (S : LogState) (p t : ℕ) (j : Joiner) : Type 0 where
   pub been : HasBeen S j.slot t j.start
   pub part_is : part S j.slot ≡ p
-  pub reached : start_at S j.slot ≡ j.start → t ≤ term_at S j.slot
+  pub reached : site_start S j.slot ≡ j.start → t ≤ term_at S j.slot
   -- once it is a copy, what it acknowledged was in the log with which it entered a term
   pub later : (x : Streaming) → S.logs.streamed j.slot t ≡ Some x → x.start ≡ j.start
       → (u : ℕ) (e : Entered) → t < u → S.logs.entered j.slot u ≡ Some e → e.start ≡ j.start → j.position ≤ max j.stream_start (length e.log)
-  pub position : start_at S j.slot ≡ j.start → (S.sites j.slot).earlier < t → j.position ≤ max j.stream_start (length (log_at S j.slot))
+  pub position : site_start S j.slot ≡ j.start → (S.sites j.slot).earlier < t → j.position ≤ max j.stream_start (length (log_at S j.slot))
 
 -- The leader of this word, while it is in its term, counts this start of a slot, from this position on.
 abbrev pub IsCounted : LogState → ℕ → ℕ → ℕ → Membership → Type 0
 IsCounted S c a stream_start w =
-    (l : ℕ) → leader S.words.deployment w (part S c) ≡ Some l → 0 < start_at S l → (S.sites l).joining ≡ None → (S.sites l).view ≡ Some w
+    (l : ℕ) → leader S.words.deployment w (part S c) ≡ Some l → 0 < site_start S l → (S.sites l).joining ≡ None → (S.sites l).view ≡ Some w
     → (j : Joiner) × In j (S.sites l).joiners × (j.slot ≡ c) × (j.start ≡ a) × (j.stream_start ≡ stream_start)
 
 -- The position at which a stream begins: it isn't told yet that this is everywhere.
@@ -263,29 +263,29 @@ BeginsAt n (Follows e) = Unit {0}
 pub record EndOk (S : LogState) (i c : ℕ) (l : Letter) : Type 0 where
   pub stream_start : ℕ
   pub everywhere : stream_start ≤ S.logs.reach (part S c) l.term
-  pub begun : (j : Joining) → (S.sites c).joining ≡ Some j → start_at S c ≡ l.start → term_at S c ≡ l.term → (S.sites c).earlier < l.term
+  pub begun : (j : Joining) → (S.sites c).joining ≡ Some j → site_start S c ≡ l.start → term_at S c ≡ l.term → (S.sites c).earlier < l.term
       → AllByRecursion (BeginsAt stream_start) (flow l.start l.term (between S i c))
-  pub taken : start_at S c ≡ l.start → term_at S c ≡ l.term → (x : Streaming) → S.logs.streamed c l.term ≡ Some x → x.start ≡ l.start → x.stream_start ≡ stream_start
+  pub taken : site_start S c ≡ l.start → term_at S c ≡ l.term → (x : Streaming) → S.logs.streamed c l.term ≡ Some x → x.start ≡ l.start → x.stream_start ≡ stream_start
 
 -- for a start and of a term
 abbrev pub Addressed : Letter → Type 0
 Addressed l = (0 < l.start) × (0 < l.term)
 
 -- The receiver ran with the start that is meant, and has been in the letter's term, if it still does.
-abbrev pub Reached : LogState → ℕ → Letter → Type 0
-Reached S c l = Addressed l × In l.start (S.logs.ran c) × (start_at S c ≡ l.start → l.term ≤ term_at S c)
+abbrev pub MeantFor : LogState → ℕ → Letter → Type 0
+MeantFor S c l = Addressed l × In l.start (S.logs.ran c) × (site_start S c ≡ l.start → l.term ≤ term_at S c)
 
 -- of a message from the site of slot i to that of slot c
 abbrev pub SiteLetterOk : LogState → ℕ → ℕ → Letter → Type 0
 SiteLetterOk S i c l = elim l.body as (λ _. Type 0) [
-  | msg.Put position e floor ↦ Reached S c l × (floor ≤ S.logs.reach (part S c) l.term)
-  | msg.Repair from entries ↦ Reached S c l
-  | msg.Task position e ↦ Reached S c l
-  | msg.StreamStart head ↦ Reached S c l
-  | msg.StreamEnd count ↦ Reached S c l × EndOk S i c l
+  | msg.Put position e floor ↦ MeantFor S c l × (floor ≤ S.logs.reach (part S c) l.term)
+  | msg.Repair from entries ↦ MeantFor S c l
+  | msg.Task position e ↦ MeantFor S c l
+  | msg.StreamStart head ↦ MeantFor S c l
+  | msg.StreamEnd count ↦ MeantFor S c l × EndOk S i c l
   | msg.Ack n ↦ Addressed l × AckOk S i l.term n
   | msg.Report position floor tail ↦ Addressed l × ReportOk S (part S c) i l.term position floor tail
-  | msg.JoinAsk a slot ↦ Addressed l × (slot ≡ i) × AskOk S (part S c) i l.term a
+  | msg.JoinAsk a slot ↦ Addressed l × (slot ≡ i) × AsksToJoin S (part S c) i l.term a
   | msg.Start a ↦ ⊥
   | _ ↦ Unit {0}
 ]
@@ -313,10 +313,10 @@ LeadsIn s (Some g) = (s.repaired ≡ true) × (s.log ≡ g.log)
 -- has begun for it, it stays as it was.
 pub record MemberOk (S : LogState) (c : ℕ) (w : Membership) : Type 0 where
   pub decided : In w S.words.history.decided
-  pub start_is : start_of_slot S.words.deployment w c ≡ Some (start_at S c)
+  pub start_is : start_of_slot S.words.deployment w c ≡ Some (site_start S c)
   pub entered : Entered
   pub is_entered : S.logs.entered c (term_of w) ≡ Some entered
-  pub since : entered.start ≡ start_at S c
+  pub since : entered.start ≡ site_start S c
   pub earlier : (S.sites c).earlier ≤ term_of w
   pub grown : Prefix entered.log (log_at S c)
   pub still : (S.sites c).repaired ≡ false → (log_at S c ≡ entered.log) × ((S.sites c).floor ≡ entered.floor) × ((S.sites c).firm ≡ entered.firm)
@@ -324,8 +324,8 @@ pub record MemberOk (S : LogState) (c : ℕ) (w : Membership) : Type 0 where
   pub firm : (S.sites c).firm ≤ S.logs.reach (part S c) (term_of w)
   pub leading : leader S.words.deployment w (part S c) ≡ Some c → LeadsIn (S.sites c) (S.logs.leadership (part S c) (term_of w))
   pub following : (l : ℕ) → follows S.words.deployment w c l ≡ true
-      → FollowsIn (S.sites c) (line (start_at S c) (term_of w) (between S l c)) (S.logs.leadership (part S c) (term_of w))
-  pub others : (l : ℕ) → follows S.words.deployment w c l ≡ false → line (start_at S c) (term_of w) (between S l c) ≡ []
+      → FollowsIn (S.sites c) (line (site_start S c) (term_of w) (between S l c)) (S.logs.leadership (part S c) (term_of w))
+  pub others : (l : ℕ) → follows S.words.deployment w c l ≡ false → line (site_start S c) (term_of w) (between S l c) ≡ []
 
 -- A stream is under way to a joiner: the log that it begins with, and the entries behind that.
 pub record Coming (S : LogState) (c : ℕ) (w : Membership) (fl : List Flow) : Type 0 where
@@ -337,7 +337,7 @@ pub record Coming (S : LogState) (c : ℕ) (w : Membership) (fl : List Flow) : T
   pub whole : past ++ more ≡ leadership.log
   pub behind : length leadership.begun ≤ length past
   pub reach : S.logs.reach (part S c) (term_of w) ≤ length past
-  pub counted : IsCounted S c (start_at S c) (length past) w
+  pub counted : IsCounted S c (site_start S c) (length past) w
 
 -- A joiner has taken its stream.
 pub record Took (S : LogState) (c : ℕ) (w : Membership) (j : Joining) (stream_start : ℕ) : Type 0 where
@@ -346,9 +346,9 @@ pub record Took (S : LogState) (c : ℕ) (w : Membership) (j : Joining) (stream_
   pub more : List Entry
   pub leadership : Leadership
   pub led : S.logs.leadership (part S c) (term_of w) ≡ Some leadership
-  pub flow_is : flow (start_at S c) (term_of w) (between S from c) ≡ map Follows more
+  pub flow_is : flow (site_start S c) (term_of w) (between S from c) ≡ map Follows more
   pub whole : log_at S c ++ j.tasks ++ more ≡ leadership.log
-  pub streamed : S.logs.streamed c (term_of w) ≡ Some (record { start = start_at S c; stream_start = stream_start })
+  pub streamed : S.logs.streamed c (term_of w) ≡ Some (record { start = site_start S c; stream_start = stream_start })
   pub loading : j.is_loaded ≡ false → length (log_at S c) ≡ stream_start
   pub loaded : j.is_loaded ≡ true → j.tasks ≡ []
   pub ends : j.is_loaded ≡ true ⊎ is_some j.count ≡ true → stream_start ≤ S.logs.reach (part S c) (term_of w)
@@ -357,14 +357,14 @@ pub record Took (S : LogState) (c : ℕ) (w : Membership) (j : Joining) (stream_
 
 -- Nothing is under way to a joiner from its leader, which doesn't count it. It may have asked.
 pub record Inert (S : LogState) (c : ℕ) (w : Membership) (l : ℕ) : Type 0 where
-  pub flow_is : flow (start_at S c) (term_of w) (between S l c) ≡ []
-  pub ends_are : ends (start_at S c) (term_of w) (between S l c) ≡ []
-  pub uncounted : (j : Joiner) → In j (S.sites l).joiners → j.slot ≡ c → j.start ≡ start_at S c → ⊥
-  pub asks : IsSlot S l → (asked S c l (term_of w) ≡ []) ⊎ (asked S c l (term_of w) ≡ start_at S c ∷ [])
+  pub flow_is : flow (site_start S c) (term_of w) (between S l c) ≡ []
+  pub ends_are : stream_ends_in (site_start S c) (term_of w) (between S l c) ≡ []
+  pub uncounted : (j : Joiner) → In j (S.sites l).joiners → j.slot ≡ c → j.start ≡ site_start S c → ⊥
+  pub asks : IsSlot S l → (asked S c l (term_of w) ≡ []) ⊎ (asked S c l (term_of w) ≡ site_start S c ∷ [])
 
 -- its start took no stream
 abbrev pub NoStream : LogState → ℕ → Type 0
-NoStream S c = (t : ℕ) (x : Streaming) → S.logs.streamed c t ≡ Some x → x.start ≡ start_at S c → ⊥
+NoStream S c = (t : ℕ) (x : Streaming) → S.logs.streamed c t ≡ Some x → x.start ≡ site_start S c → ⊥
 
 -- It hasn't. With a term above those of its slot's earlier starts it may.
 pub record Untaken (S : LogState) (c : ℕ) (w : Membership) (j : Joining) : Type 0 where
@@ -375,7 +375,7 @@ pub record Untaken (S : LogState) (c : ℕ) (w : Membership) (j : Joining) : Typ
   pub floor : (S.sites c).floor ≡ 0
   pub never : NoStream S c
   pub comes : (l : ℕ) → follows S.words.deployment w c l ≡ true → (S.sites c).earlier < term_of w
-      → Inert S c w l ⊎ (Coming S c w (flow (start_at S c) (term_of w) (between S l c)) × (asked S c l (term_of w) ≡ []))
+      → Inert S c w l ⊎ (Coming S c w (flow (site_start S c) (term_of w) (between S l c)) × (asked S c l (term_of w) ≡ []))
 
 abbrev pub StreamIn : LogState → ℕ → Membership → Joining → Option Streamed → Type 0
 StreamIn S c w j None = Untaken S c w j
@@ -383,10 +383,10 @@ StreamIn S c w j (Some st) = Took S c w j st.stream_start
 
 -- Of a joiner with the word that it took.
 pub record InWord (S : LogState) (c : ℕ) (w : Membership) (j : Joining) : Type 0 where
-  pub took : S.words.history.took (start_at S c) ≡ Some w
-  pub lines : (l : ℕ) → line (start_at S c) (term_of w) (between S l c) ≡ []
+  pub took : S.words.history.took (site_start S c) ≡ Some w
+  pub lines : (l : ℕ) → line (site_start S c) (term_of w) (between S l c) ≡ []
   pub others : (l : ℕ) → follows S.words.deployment w c l ≡ false
-      → (flow (start_at S c) (term_of w) (between S l c) ≡ []) × (ends (start_at S c) (term_of w) (between S l c) ≡ [])
+      → (flow (site_start S c) (term_of w) (between S l c) ≡ []) × (stream_ends_in (site_start S c) (term_of w) (between S l c) ≡ [])
       × (IsSlot S l → (S.sites c).earlier < term_of w → asked S c l (term_of w) ≡ [])
   pub stream : StreamIn S c w j j.stream
 
@@ -405,8 +405,8 @@ ViewIn S c j None = Wordless S c j
 ViewIn S c j (Some w) = InWord S c w j
 
 pub record JoinerOk (S : LogState) (c : ℕ) (j : Joining) : Type 0 where
-  pub runs : 0 < start_at S c
-  pub unentered : (t : ℕ) (e : Entered) → S.logs.entered c t ≡ Some e → e.start ≡ start_at S c → ⊥
+  pub runs : 0 < site_start S c
+  pub unentered : (t : ℕ) (e : Entered) → S.logs.entered c t ≡ Some e → e.start ≡ site_start S c → ⊥
   pub told : j.has_told ≡ true → j.is_loaded ≡ true
   pub based : j.is_based ≡ true → j.is_loaded ≡ true
   pub firm : (S.sites c).firm ≡ 0
@@ -415,8 +415,8 @@ pub record JoinerOk (S : LogState) (c : ℕ) (j : Joining) : Type 0 where
 -- ---- what a site keeps
 
 -- what waits for a higher term
-abbrev pub WaitingFrom : LogState → ℕ → Actor → Letter → Type 0
-WaitingFrom S c (Site i) l = elim l.body as (λ _. Type 0) [
+abbrev pub SiteWaitingFrom : LogState → ℕ → Actor → Letter → Type 0
+SiteWaitingFrom S c (Site i) l = elim l.body as (λ _. Type 0) [
   | msg.Put position e floor ↦ ⊥
   | msg.Repair from entries ↦ ⊥
   | msg.Task position e ↦ ⊥
@@ -424,14 +424,14 @@ WaitingFrom S c (Site i) l = elim l.body as (λ _. Type 0) [
   | msg.StreamEnd count ↦ ⊥
   | m ↦ SiteLetterOk S i c l
 ]
-WaitingFrom S c (Agent h) l = elim l.body as (λ _. Type 0) [
+SiteWaitingFrom S c (Agent h) l = elim l.body as (λ _. Type 0) [
   | msg.View w ↦ ⊥
   | _ ↦ Unit {0}
 ]
-WaitingFrom S c from l = Unit {0}
+SiteWaitingFrom S c from l = Unit {0}
 
-abbrev pub WaitingOk : LogState → ℕ → Waiting → Type 0
-WaitingOk S c x = ((x.letter.start ≡ 0) ⊎ (x.letter.start ≡ start_at S c)) × WaitingFrom S c x.from x.letter
+abbrev pub SiteWaitingOk : LogState → ℕ → Waiting → Type 0
+SiteWaitingOk S c x = ((x.letter.start ≡ 0) ⊎ (x.letter.start ≡ site_start S c)) × SiteWaitingFrom S c x.from x.letter
 
 -- An answer that is held goes to an agent, and isn't that its site has loaded.
 abbrev pub HeldFor : Actor → Letter → Type 0
@@ -451,24 +451,24 @@ pub record KeepsOk (S : LogState) (c : ℕ) : Type 0 where
   pub joiners : AllByRecursion (CountedOk S (part S c) (term_at S c)) (S.sites c).joiners
   pub alone : Distinct (map (λ j. j.slot) (S.sites c).joiners)
   pub leads : ((S.sites c).joiners ≡ []) ⊎ (is_leader S.words.deployment c (S.sites c) ≡ true)
-  pub asks : AllByRecursion (λ a. AskOk S (part S c) a.slot (term_at S c) a.start) (S.sites c).asks
-  pub waiting : AllByRecursion (WaitingOk S c) (S.sites c).waiting
-  pub pending : AllByRecursion (WaitingOk S c) (S.pending c)
+  pub asks : AllByRecursion (λ a. AsksToJoin S (part S c) a.slot (term_at S c) a.start) (S.sites c).asks
+  pub waiting : AllByRecursion (SiteWaitingOk S c) (S.sites c).waiting
+  pub pending : AllByRecursion (SiteWaitingOk S c) (S.pending c)
   pub on_disk : (S.sites c).on_disk ≤ length (log_at S c)
   pub held : AllByRecursion HeldOk (S.sites c).held
 
 pub record SiteOk (S : LogState) (c : ℕ) : Type 0 where
-  pub environment : nat_lt c (slots S.words.deployment) ≡ false → start_at S c ≡ 0
-  pub ran : 0 < start_at S c → (before : List ℕ) × (S.logs.ran c ≡ start_at S c ∷ before)
+  pub environment : nat_lt c (slots S.words.deployment) ≡ false → site_start S c ≡ 0
+  pub ran : 0 < site_start S c → (before : List ℕ) × (S.logs.ran c ≡ site_start S c ∷ before)
   pub term : term_at S c ≤ (S.sites c).greatest
   pub earlier : (S.sites c).earlier ≤ (S.sites c).greatest
-  pub member : 0 < start_at S c → (S.sites c).joining ≡ None → (w : Membership) × ((S.sites c).view ≡ Some w) × MemberOk S c w
+  pub member : 0 < site_start S c → (S.sites c).joining ≡ None → (w : Membership) × ((S.sites c).view ≡ Some w) × MemberOk S c w
   pub joiner : (j : Joining) → (S.sites c).joining ≡ Some j → JoinerOk S c j
-  pub keeps : 0 < start_at S c → KeepsOk S c
+  pub keeps : 0 < site_start S c → KeepsOk S c
   -- one that isn't running keeps nothing
-  pub stopped : start_at S c ≡ 0 → ((S.sites c).waiting ≡ []) × ((S.sites c).asks ≡ []) × ((S.sites c).joiners ≡ []) × (S.pending c ≡ [])
+  pub stopped : site_start S c ≡ 0 → ((S.sites c).waiting ≡ []) × ((S.sites c).asks ≡ []) × ((S.sites c).joiners ≡ []) × (S.pending c ≡ [])
   -- nor has it a word
-  pub blank : start_at S c ≡ 0 → (S.sites c).view ≡ None
+  pub blank : site_start S c ≡ 0 → (S.sites c).view ≡ None
 
 -- ---- an agent's own sites
 
@@ -500,8 +500,8 @@ pub record FirstViews (S : LogState) (c start : ℕ) (ws : List Membership) : Ty
   pub members : MemberViews S c start (term_of first + 1) later
 
 abbrev pub RunViews : LogState → ℕ → Option Membership → List Membership → Type 0
-RunViews S c None ws = FirstViews S c (start_at S c) ws
-RunViews S c (Some w) ws = MemberViews S c (start_at S c) (term_of w + 1) ws
+RunViews S c None ws = FirstViews S c (site_start S c) ws
+RunViews S c (Some w) ws = MemberViews S c (site_start S c) (term_of w + 1) ws
 
 -- A start is under way, and its words come behind it.
 abbrev pub Starting : ℕ → List Letter → Type 0
@@ -519,22 +519,22 @@ sent_term a = elim a.decided as (λ _. ℕ) [
 
 -- Between a slot's site and its host's agent.
 pub record ViewsOk (S : LogState) (c : ℕ) : Type 0 where
-  pub plain : AllByRecursion (λ l. elim l.body as (λ _. Type 0) [ msg.View w ↦ (l.term ≡ 0) × (0 < l.start) | _ ↦ Unit {0} ]) (from_agent S c)
+  pub plain : AllByRecursion (λ l. elim l.body as (λ _. Type 0) [ msg.View w ↦ (l.term ≡ 0) × (0 < l.start) | _ ↦ Unit {0} ]) (agent_to_site S c)
   -- starts that were under way or ran have begun
-  pub began : (s : ℕ) → In s (starts_in (from_agent S c)) ⊎ In s (S.logs.ran c) ⊎ ((w : Membership) × In w (views s (from_agent S c)))
+  pub began : (s : ℕ) → In s (starts_in (agent_to_site S c)) ⊎ In s (S.logs.ran c) ⊎ ((w : Membership) × In w (views s (agent_to_site S c)))
       → In s (S.words.history.began (host_of_slot S.words.deployment c))
-  pub running : 0 < start_at S c → RunViews S c (S.sites c).view (views (start_at S c) (from_agent S c))
-  pub starting : (s : ℕ) → In s (starts_in (from_agent S c))
-      → (In s (S.logs.ran c) → ⊥) × Starting s (from_agent S c) × FirstViews S c s (views s (from_agent S c))
+  pub running : 0 < site_start S c → RunViews S c (S.sites c).view (views (site_start S c) (agent_to_site S c))
+  pub starting : (s : ℕ) → In s (starts_in (agent_to_site S c))
+      → (In s (S.logs.ran c) → ⊥) × Starting s (agent_to_site S c) × FirstViews S c s (views s (agent_to_site S c))
   -- nothing was sent by a start of the agent that has no word
   pub wordless : let a = S.words.agents (host_of_slot S.words.deployment c) in
       0 < a.start → a.taken ≡ None → a.decided ≡ None
-      → (In a.start (starts_in (from_agent S c)) → ⊥) × (In a.start (S.logs.ran c) → ⊥) × (views a.start (from_agent S c) ≡ [])
+      → (In a.start (starts_in (agent_to_site S c)) → ⊥) × (In a.start (S.logs.ran c) → ⊥) × (views a.start (agent_to_site S c) ≡ [])
   -- what was sent by the start that runs isn't of a higher term than its agent's word
   pub below : let a = S.words.agents (host_of_slot S.words.deployment c) in
       0 < a.start
-      → AllByRecursion (λ w. term_of w ≤ sent_term a) (views a.start (from_agent S c))
-      × (start_at S c ≡ a.start → term_at S c ≤ sent_term a)
+      → AllByRecursion (λ w. term_of w ≤ sent_term a) (views a.start (agent_to_site S c))
+      × (site_start S c ≡ a.start → term_at S c ≤ sent_term a)
 
 -- Others send a site no start, and no agent of another host a word. A stream comes from a site.
 abbrev pub ForeignOk : LogState → ℕ → Actor → Letter → Type 0
@@ -558,7 +558,7 @@ ForeignOk S c from l = elim l.body as (λ _. Type 0) [
 
 -- The slot's site ran with this start, and if it does so now, it is a joiner whose base is on disk, or a member.
 abbrev pub LoadedOk : LogState → ℕ → ℕ → Type 0
-LoadedOk S c a = In a (S.logs.ran c) × (0 < start_at S c → start_at S c ≡ a → (j : Joining) → (S.sites c).joining ≡ Some j → j.is_based ≡ true)
+LoadedOk S c a = In a (S.logs.ran c) × (0 < site_start S c → site_start S c ≡ a → (j : Joining) → (S.sites c).joining ≡ Some j → j.is_based ≡ true)
 
 -- so it is with all sites of a host
 abbrev pub AllLoaded : LogState → ℕ → ℕ → Type 0
@@ -579,9 +579,9 @@ AskedOk S (Agent h) l = elim l.body as (λ _. Type 0) [
 AskedOk S (Site c) l = ToldOk S c l
 AskedOk S from l = Unit {0}
 
-abbrev pub QueuedOk : LogState → Queued → Type 0
-QueuedOk S (Job_ job) = Unit {0}
-QueuedOk S (Admission a h term) = AllLoaded S h a
+abbrev pub QueuedLoadedOk : LogState → Queued → Type 0
+QueuedLoadedOk S (Job_ job) = Unit {0}
+QueuedLoadedOk S (Admission a h term) = AllLoaded S h a
 
 -- Who asks to be admitted has loaded all, and has it on disk.
 pub record LoadsOk (S : LogState) : Type 0 where
@@ -589,7 +589,7 @@ pub record LoadsOk (S : LogState) : Type 0 where
   pub heard : (h c : ℕ) → 0 < (S.words.agents h).start → is_in c (S.words.agents h).loaded ≡ true → LoadedOk S c (S.words.agents h).start
   pub asked : (h g : ℕ) → AllByRecursion (AskedOk S (Agent h)) (S.words.channel (Agent h) (Agent g))
   pub waiting : (h : ℕ) → AllByRecursion (λ x. AskedOk S x.from x.letter) (S.words.agents h).waiting
-  pub queued : (h : ℕ) → AllByRecursion (QueuedOk S) (S.words.agents h).initiating.queue
+  pub queued : (h : ℕ) → AllByRecursion (QueuedLoadedOk S) (S.words.agents h).initiating.queue
   pub admitted : (x : Admitted) → In x S.words.history.admitted → AllLoaded S (S.words.owner x.start) x.start
 
 -- ---- terms
@@ -619,7 +619,7 @@ pub record EnteredOk (S : LogState) (c t : ℕ) (e : Entered) : Type 0 where
       → (e.log ≡ f.log) × (known e ≡ known f)
   -- All that was taken to be everywhere in an earlier term that was led was in its log.
   pub since : (v : ℕ) (g : Leadership) → S.logs.leadership (part S c) v ≡ Some g → v < t → S.logs.reach (part S c) v ≤ length e.log
-  pub running : start_at S c ≡ e.start
+  pub running : site_start S c ≡ e.start
       → ((S.sites c).joining ≡ None) × (t ≤ term_at S c) × (S.logs.reach (part S c) t ≤ length (log_at S c))
 
 -- Of a slot that took the stream of a term.
@@ -633,7 +633,7 @@ pub record StreamedOk (S : LogState) (c t : ℕ) (x : Streaming) : Type 0 where
   pub led : S.logs.leadership (part S c) t ≡ Some leadership
   pub behind : length leadership.begun ≤ x.stream_start
   pub been : HasBeen S c t x.start
-  pub running : start_at S c ≡ x.start
+  pub running : site_start S c ≡ x.start
       → ((S.sites c).earlier < t) × (t ≤ term_at S c) × (S.logs.reach (part S c) t ≤ length (log_at S c)) × (x.stream_start ≤ length (log_at S c))
   -- The leader counts it for the whole of its term, whether it still runs or not.
   pub counted : IsCounted S c x.start x.stream_start word
@@ -648,7 +648,7 @@ pub record LeadershipOk (S : LogState) (p t : ℕ) (g : Leadership) : Type 0 whe
   pub entered : (c a : ℕ) → IsSlot S c → part S c ≡ p → start_of_slot S.words.deployment word c ≡ Some a
       → (e : Entered) × (S.logs.entered c t ≡ Some e) × (e.start ≡ a) × Prefix e.log g.begun
   -- but for the first term, it is the log of a copy that entered it
-  pub begun_by : base_of S < t → (c : ℕ) × (e : Entered) × IsSlot S c × (part S c ≡ p) × (S.logs.entered c t ≡ Some e) × (e.log ≡ g.begun)
+  pub begun_by : epoch_base S < t → (c : ℕ) × (e : Entered) × IsSlot S c × (part S c ≡ p) × (S.logs.entered c t ≡ Some e) × (e.log ≡ g.begun)
 
 -- Of one that no leader began: what is taken to be everywhere is so by one that entered it.
 abbrev pub UnledOk : LogState → ℕ → ℕ → Type 0
@@ -657,8 +657,8 @@ UnledOk S p t =
     ⊎ ((c : ℕ) × (e : Entered) × (part S c ≡ p) × (S.logs.entered c t ≡ Some e) × (S.logs.reach p t ≡ known e))
 
 -- What holds in every run.
-pub record Holds (S : LogState) : Type 0 where
-  pub words : word.Holds S.words
+pub record LogsHold (S : LogState) : Type 0 where
+  pub words : word.WordsHold S.words
   pub sites : (c : ℕ) → SiteOk S c
   pub views : (c : ℕ) → ViewsOk S c
   pub letters : (i c : ℕ) → IsSlot S c → AllByRecursion (SiteLetterOk S i c) (between S i c)
@@ -668,5 +668,5 @@ pub record Holds (S : LogState) : Type 0 where
   pub streamed : (c t : ℕ) (x : Streaming) → S.logs.streamed c t ≡ Some x → StreamedOk S c t x
   pub leaderships : (p t : ℕ) (g : Leadership) → S.logs.leadership p t ≡ Some g → LeadershipOk S p t g
   pub unled : (p t : ℕ) → S.logs.leadership p t ≡ None → UnledOk S p t
-  pub some : 0 < base_of S
-  pub first : (p : ℕ) → (g : Leadership) × (S.logs.leadership p (base_of S) ≡ Some g)
+  pub some : 0 < epoch_base S
+  pub first : (p : ℕ) → (g : Leadership) × (S.logs.leadership p (epoch_base S) ≡ Some g)

@@ -9,10 +9,10 @@ use Rattle.volt_wire.specs.declared.message.Msg.TheVariants as msg
 use Rattle.cluster_model.specs.Words.{is_in, initiator, term_of, same_word, with_admitted}
 use Rattle.cluster_model.specs.Letters.{Letter, Sends}
 use Rattle.cluster_steps.specs.Lists.{In}
-use Rattle.word_laws.specs.Histories.{State, Admitted, Within, Alike, names, start_at, Begun, Runs, Gone, Distinct, Earlier, Falls, GoodWord, ClosesFrom, CameOk, OwnOk, AdmittedOk, IsClosed, Closing, Holds}
+use Rattle.word_laws.specs.Histories.{State, Admitted, Within, Alike, names, agent_start, Begun, IsRunning, Gone, Distinct, Earlier, Falls, GoodWord, ClosesFrom, CameOk, OwnOk, AdmittedOk, IsClosed, ClosedUnderWay, WordsHold}
 use Rattle.cluster_steps.proofs.Lists.{some-here, not-both, eqb-same, same-some, all-at}
 use Rattle.word_laws.proofs.Algebra.{within-refl, within-with_admitted, with_admitted-admits, names-within, names-admits, same_word-is}
-use Rattle.word_laws.proofs.Moves.{Later}
+use Rattle.word_laws.proofs.Moves.{WordsLater}
 use Rattle.word_laws.proofs.Agreement.{term-same, at-good, alike-same, member-of, running-member, runs-not-lost}
 use Rattle.word_laws.proofs.Laters.{admitted_ok-later}
 use Rattle.word_laws.proofs.Steps.{later-after, last-not-earlier}
@@ -26,7 +26,7 @@ not-earlier-self j (x ∷ xs) d (inl e) = d.0 (subst (λ z. In z xs) (sym e.0) e
 not-earlier-self j (x ∷ xs) d (inr e) = not-earlier-self j xs d.1 e
 
 -- no Closed of an earlier start is under way
-pub not-closing : (began : List ℕ) (j o : ℕ) (ls : List Letter) → AllByRecursion (ClosesFrom began j) ls → Earlier o j began → Closing o ls → ⊥
+pub not-closing : (began : List ℕ) (j o : ℕ) (ls : List Letter) → AllByRecursion (ClosesFrom began j) ls → Earlier o j began → ClosedUnderWay o ls → ⊥
 not-closing began j o [] h e c = c
 not-closing began j o (l ∷ ls) h e (inr c) = not-closing began j o ls h.1 e c
 not-closing began j o (l ∷ ls) h e (inl c) = (elim l.body as (λ m. ClosesFrom began j (record l { body = m }) → IsClosed o (record l { body = m }) → ⊥) [
@@ -34,12 +34,12 @@ not-closing began j o (l ∷ ls) h e (inl c) = (elim l.body as (λ m. ClosesFrom
   | m ↦ λ k q. q
 ]) h.0 c
 
-module _ (S : State) (H : Holds S) (n : ℕ) (W V : Membership) (j h term : ℕ) (out : Sends)
-    (up : 0 < start_at S n) (own : (S.agents n).own ≡ Some W) (decided : (S.agents n).decided ≡ Some V) (same : same_word W V ≡ true)
-    (init : initiator V ≡ Some (n, start_at S n)) (came : CameOk S h n term j) (term_is : term_of W ≡ term) (over : start_at S n < j)
-    (sends : (g : ℕ) → out (Agent g) ≡ said_to n (start_at S n) (with_admitted j h W) g) where
+module _ (S : State) (H : WordsHold S) (n : ℕ) (W V : Membership) (j h term : ℕ) (out : Sends)
+    (up : 0 < agent_start S n) (own : (S.agents n).own ≡ Some W) (decided : (S.agents n).decided ≡ Some V) (same : same_word W V ≡ true)
+    (init : initiator V ≡ Some (n, agent_start S n)) (came : CameOk S h n term j) (term_is : term_of W ≡ term) (over : agent_start S n < j)
+    (sends : (g : ℕ) → out (Agent g) ≡ said_to n (agent_start S n) (with_admitted j h W) g) where
   abbrev s : ℕ
-  s = start_at S n
+  s = agent_start S n
 
   -- the word with the start
   abbrev X : Membership
@@ -48,8 +48,8 @@ module _ (S : State) (H : Holds S) (n : ℕ) (W V : Membership) (j h term : ℕ)
   owned : S.owner s ≡ n
   owned = ((H.hosts n).running up).0
 
-  runs : Runs S s
-  runs = ap (start_at S) owned
+  runs : IsRunning S s
+  runs = ap (agent_start S) owned
 
   own-ok : OwnOk S s W
   own-ok = some-here (OwnOk S s) (S.agents n).own W own (H.agents n).own
@@ -117,7 +117,7 @@ module _ (S : State) (H : Holds S) (n : ℕ) (W V : Membership) (j h term : ℕ)
   one-host r m e = elim (H.heard n r up gone apart) [
     | inl c ↦ absurd (not-closing (S.history.began h) j r (S.channel (Agent h) (Agent n)) came.1
         (subst (λ z. Earlier r j (S.history.began z)) came.0.owned (earlier r m e))
-        (subst (λ z. Closing r (S.channel (Agent z) (Agent n))) (e ∙ came.0.owned) c))
+        (subst (λ z. ClosedUnderWay r (S.channel (Agent z) (Agent n))) (e ∙ came.0.owned) c))
     | inr k ↦ elim k [
       | inl l ↦ subst (λ z. is_in r z.lost ≡ true) (same-some (sym l.1 ∙ own)) l.2
       | inr f ↦ elim (cases_Bool (is_in r W.lost)) [
@@ -134,7 +134,7 @@ module _ (S : State) (H : Holds S) (n : ℕ) (W V : Membership) (j h term : ℕ)
       gone : Gone S r
       gone = (
         begun,
-        λ runs. let up : 0 < start_at S (S.owner r) = subst (λ z. 0 < z) (sym runs) begun.some in
+        λ runs. let up : 0 < agent_start S (S.owner r) = subst (λ z. 0 < z) (sym runs) begun.some in
             let l = (H.hosts (S.owner r)).last up in
             let d : Distinct (r ∷ l.0) = subst (λ z. Distinct (z ∷ l.0)) runs (subst Distinct l.1 (H.hosts (S.owner r)).distinct) in
             last-not-earlier r j l.0 d (subst (λ z. Earlier r j (z ∷ l.0)) runs (subst (Earlier r j) l.1 (subst (λ z. Earlier r j (S.history.began z)) (sym e) (earlier r m e)))),
@@ -153,7 +153,7 @@ module _ (S : State) (H : Holds S) (n : ℕ) (W V : Membership) (j h term : ℕ)
   abbrev T : State
   T = spoken S n X (S.agents n).said out A
 
-  later : Later S T
+  later : WordsLater S T
   later = later-after S n (record (S.agents n) { own = Some X; said = (S.agents n).said }) out
       (record S.history { said = said_more S.history.said s X; admitted = A })
       (inl refl) refl refl
@@ -181,7 +181,7 @@ module _ (S : State) (H : Holds S) (n : ℕ) (W V : Membership) (j h term : ℕ)
   }
 
   -- The initiator admits a start, and says so.
-  pub admits-holds : Holds T
+  pub admits-holds : WordsHold T
   admits-holds =
       says-holds S H n W X (S.agents n).said out A up own (within-with_admitted j h W)
       (names-within W X s refl (within-with_admitted j h W) own-names)

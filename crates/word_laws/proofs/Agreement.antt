@@ -6,7 +6,7 @@ use Rattle.std.specs.List.{list_any}
 use Rattle.volt_wire.specs.Word.{Membership}
 use Rattle.cluster_model.specs.Words.{is_in, term_of, start_of, admits, with_admitted}
 use Rattle.cluster_steps.specs.Lists.{In}
-use Rattle.word_laws.specs.Histories.{State, Within, Alike, Comparable, Admitted, Runs, names, Recorded, GoodWord, Falls, HistoryOk}
+use Rattle.word_laws.specs.Histories.{State, Within, Alike, Comparable, Admitted, IsRunning, names, Recorded, GoodWord, Falls, HistoryOk}
 use Rattle.cluster_steps.proofs.Lists.{not-both, all-at}
 use Rattle.word_laws.proofs.Algebra.{HostsOwned, within-cases, within-refl, within-trans, names-first, names-admits, names-cases, names-within, admits-fresh, within-with_admitted-back, with_admitted-admits, alike-is, within-of-term}
 use Rattle.word_laws.proofs.Members.{start_of-named, start_of-greatest, initiator-member, best-within, least-elsewhere}
@@ -107,13 +107,13 @@ module _ (S : State) (H : HistoryOk S) where
   member-is w h s g p = start_of-named S.owner w h s (hosts-of w g) g.owned p
 
   -- a start that runs is lost in no good word, so it is a member where it is named
-  pub runs-not-lost : (w : Membership) (s : ℕ) → GoodWord S w → Runs S s → is_in s w.lost ≡ false
+  pub runs-not-lost : (w : Membership) (s : ℕ) → GoodWord S w → IsRunning S s → is_in s w.lost ≡ false
   runs-not-lost w s g r = elim (cases_Bool (is_in s w.lost)) [
     | inl p ↦ absurd ((g.lost_gone s p).1 r)
     | inr p ↦ p
   ]
 
-  pub running-member : (w : Membership) (s : ℕ) → GoodWord S w → names w s ≡ true → Runs S s → start_of w (S.owner s) ≡ Some s
+  pub running-member : (w : Membership) (s : ℕ) → GoodWord S w → names w s ≡ true → IsRunning S s → start_of w (S.owner s) ≡ Some s
   running-member w s g n r = member-of w s g n (runs-not-lost w s g r)
 
   -- a start that isn't recorded and isn't of the first hosts is named in no word

@@ -14,8 +14,8 @@ use Rattle.cluster_model.specs.Letters.{Blocks, Letter, becomes, ◌▸◌, in_t
 use Rattle.cluster_model.specs.AgentState.{AgentState, stops, stops_with_host}
 use Rattle.cluster_model.specs.Agent.{handler_and_word, unless_stopped, takes_waiting, on_start, agent_runs, agent_takes, takes_start, agent_turn}
 use Rattle.cluster_model.proofs.Closing.{start_after-same}
-use Rattle.word_laws.specs.Histories.{State, WaitingFrom}
-use Rattle.word_laws.proofs.Moves.{BringsWord}
+use Rattle.word_laws.specs.Histories.{State, AgentWaitingFrom}
+use Rattle.word_laws.proofs.Calm.{BringsWord}
 
 -- ---- whether a message is taken
 
@@ -93,14 +93,14 @@ takes-start E D n stamp a from l s runs is = rw is (ignored from)
     ignored (Scanner x) = refl
 
 -- The one or the other, whatever the message.
-pub data Takes (E : Database) (D : Deployment) (n stamp : ℕ) (a : AgentState) (from : Actor) (l : Letter) : Type 0 where
-  Stops_ : agent_takes E D n stamp a from l ≡ stops D n a.start → Takes E D n stamp a from l
-  Ignores : agent_takes E D n stamp a from l ≡ becomes a → Commands l → Takes E D n stamp a from l
-  Runs_ : agent_takes E D n stamp a from l ≡ agent_runs E D n stamp a from l → (Commands l → ⊥) → Takes E D n stamp a from l
+pub data AgentTakes (E : Database) (D : Deployment) (n stamp : ℕ) (a : AgentState) (from : Actor) (l : Letter) : Type 0 where
+  Stops_ : agent_takes E D n stamp a from l ≡ stops D n a.start → AgentTakes E D n stamp a from l
+  Ignores : agent_takes E D n stamp a from l ≡ becomes a → Commands l → AgentTakes E D n stamp a from l
+  Runs_ : agent_takes E D n stamp a from l ≡ agent_runs E D n stamp a from l → (Commands l → ⊥) → AgentTakes E D n stamp a from l
 
 -- one of the three holds of each message
-pub takes-cases : (E : Database) (D : Deployment) (n stamp : ℕ) (a : AgentState) (from : Actor) (l : Letter) → (a.start == 0) ≡ false → Takes E D n stamp a from l
-takes-cases E D n stamp a from l runs = elim l.body as (λ m. Takes E D n stamp a from (record l { body = m })) [
+pub takes-cases : (E : Database) (D : Deployment) (n stamp : ℕ) (a : AgentState) (from : Actor) (l : Letter) → (a.start == 0) ≡ false → AgentTakes E D n stamp a from l
+takes-cases E D n stamp a from l runs = elim l.body as (λ m. AgentTakes E D n stamp a from (record l { body = m })) [
   | msg.Start start ↦ Ignores (takes-start E D n stamp a from (record l { body = msg.Start start }) start runs refl) tt
   | msg.Stop start ↦ elim (takes-stop E D n stamp a from (record l { body = msg.Stop start }) start runs refl) [
     | inl e ↦ Stops_ e
@@ -158,10 +158,10 @@ pub unless-running : (E : Database) (D : Deployment) (n stamp : ℕ) (a : AgentS
 unless-running E D n stamp a from l runs = rw runs refl
 
 -- what waits brings none
-pub waiting-brings : (S : State) (n : ℕ) (from : Actor) (l : Letter) → WaitingFrom S n from l → BringsWord from l → ⊥
+pub waiting-brings : (S : State) (n : ℕ) (from : Actor) (l : Letter) → AgentWaitingFrom S n from l → BringsWord from l → ⊥
 waiting-brings S n Director l w = λ k. k
 waiting-brings S n (Client c) l w = λ k. k
-waiting-brings S n (Agent g) l w = elim l.body as (λ m. WaitingFrom S n (Agent g) (record l { body = m }) → BringsWord (Agent g) (record l { body = m }) → ⊥) [
+waiting-brings S n (Agent g) l w = elim l.body as (λ m. AgentWaitingFrom S n (Agent g) (record l { body = m }) → BringsWord (Agent g) (record l { body = m }) → ⊥) [
   | msg.Word base lost admitted ↦ λ v k. v
   | msg.Decided x ↦ λ v k. v
   | msg.Closed o ↦ λ v k. v

@@ -1,23 +1,25 @@
 -- Decided words of an epoch form a chain, and what follows.
-use Rattle.std.proofs.Common.{◌≡◌, true, false, List, ◌++◌, sym, subst, ◌∙◌, inl, inr}
+use Rattle.std.proofs.Common.{◌≡◌, true, false, sym, ◌∙◌, inl, inr}
 use Rattle.std.specs.Prelude.{ℕ, Some}
 use Rattle.volt_wire.specs.Word.{Membership}
 use Rattle.cluster_model.specs.Engine.{Database}
 use Rattle.cluster_model.specs.Words.{is_in, term_of, not_lost}
-use Rattle.cluster_model.specs.World.{World, Input, first_world}
-use Rattle.cluster_model.specs.Runs.{Happening, IsRun, run}
+use Rattle.cluster_model.specs.World.{World, Input}
+use Rattle.cluster_model.specs.Runs.{Happening, Reached, RunsInEpoch, may_happen, renews}
+use Rattle.cluster_model.specs.Events.{step}
+use Rattle.cluster_model.proofs.Runs.{reached-kept, in-epoch-kept}
 use Rattle.cluster_steps.specs.Lists.{In}
 use Rattle.word_laws.specs.Histories.{State, Comparable, GoodWord, OwnOk, SaidBy, HistoryOk, names}
-use Rattle.word_laws.specs.Chain.{state_of, InEpoch, IsOneEpoch, HasDecided, HasWord, OneStartPerHost}
+use Rattle.word_laws.specs.Chain.{state_of, InEpoch, HasDecided, HasWord, OneStartPerHost}
 use Rattle.cluster_steps.proofs.Lists.{some-here}
 use Rattle.word_laws.proofs.Members.{in-not_lost}
 use Rattle.word_laws.proofs.Moves.{Grows}
 use Rattle.word_laws.proofs.Agreement.{said-good, term-same, one-start, hosts-of}
-use Rattle.word_laws.proofs.Worlds.{first-holds, run-holds, run-grows, run-append, run-first, run-second}
+use Rattle.word_laws.proofs.Worlds.{first-holds, step-holds, step-grows, grows-same, grows-then}
 
--- Each world of a run is in an epoch, of which all holds.
-pub words-agree : (E : Database) (input : Input) (es : List Happening) → IsRun E es (first_world E input) → InEpoch (run E es (first_world E input))
-words-agree E input es r = run-holds E es (first_world E input) r (first-holds E input)
+-- Each world that is reached is in an epoch, of which all holds.
+pub words-agree : (E : Database) (input : Input) (w : World) → Reached E input w → InEpoch w
+words-agree E input w r = reached-kept E InEpoch (step-holds E) input w (λ is. first-holds E input) r
 
 -- a decided word of a world is one of its epoch's history
 pub decided-in : (w : World) (k : InEpoch w) (m : Membership) → HasDecided w m → In m k.history.decided
@@ -32,13 +34,14 @@ pub record OfOneEpoch (w v : World) : Type 0 where
   pub later : InEpoch v
   pub grows : Grows earlier.history later.history
 
--- so are the worlds of a run between which no recovery works
-pub of-one-epoch : (E : Database) (input : Input) (es fs : List Happening) → IsRun E (es ++ fs) (first_world E input) → IsOneEpoch fs
-    → OfOneEpoch (run E es (first_world E input)) (run E (es ++ fs) (first_world E input))
-of-one-epoch E input es fs r one =
-    let k = words-agree E input es (run-first E es fs (first_world E input) r) in
-    let n = run-grows E fs (run E es (first_world E input)) (run-second E es fs (first_world E input) r) one k in
-    subst (OfOneEpoch (run E es (first_world E input))) (sym (run-append E es fs (first_world E input))) (record { earlier = k; later = n.0; grows = n.1 })
+-- so are those of a run in which no recovery works
+pub of-one-epoch : (E : Database) (v w : World) → RunsInEpoch E v w → InEpoch v → OfOneEpoch v w
+of-one-epoch E v w r k = in-epoch-kept E (OfOneEpoch v) goes-on v w r (record { earlier = k; later = k; grows = grows-same k.history })
+  where
+    goes-on : (u : World) (e : Happening) → may_happen u e ≡ true → renews e ≡ false → OfOneEpoch v u → OfOneEpoch v (step E u e)
+    goes-on u e may same o =
+        let n = step-grows E u e may same o.later in
+        record { earlier = o.earlier; later = n.0; grows = grows-then o.earlier.history o.later.history n.0.history o.grows n.1 }
 
 -- Of two words that were decided in one epoch, one is within the other; of one term, they are one.
 pub chained : (w v : World) → OfOneEpoch w v → (m n : Membership) → HasDecided w m → HasDecided v n → Comparable m n

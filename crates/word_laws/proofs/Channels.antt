@@ -5,7 +5,7 @@ use Rattle.std.specs.List.{AllByRecursion}
 use Rattle.volt_wire.specs.declared.message.Msg.TheVariants as msg
 use Rattle.cluster_model.specs.Letters.{Letter}
 use Rattle.cluster_model.specs.World.{rest}
-use Rattle.word_laws.specs.Histories.{ClosesFrom, InOrder, Tells, IsClosed, Telling, Closing}
+use Rattle.word_laws.specs.Histories.{ClosesFrom, InOrder, TellsAdmission, IsClosed, Telling, ClosedUnderWay}
 use Rattle.cluster_steps.proofs.Lists.{all-append}
 
 -- ---- messages behind others
@@ -17,17 +17,17 @@ telling-left c j i (x ∷ xs) ys (inl k) = inl k
 telling-left c j i (x ∷ xs) ys (inr k) = inr (k.0, telling-left c j i xs ys k.1)
 
 -- and so does a new message, where no Closed of the initiator is ahead of it
-pub telling-end : (c j i : ℕ) (ls : List Letter) (l : Letter) → AllByRecursion (λ x. IsClosed i x → ⊥) ls → Tells c j l → Telling c j i (ls ++ l ∷ [])
+pub telling-end : (c j i : ℕ) (ls : List Letter) (l : Letter) → AllByRecursion (λ x. IsClosed i x → ⊥) ls → TellsAdmission c j l → Telling c j i (ls ++ l ∷ [])
 telling-end c j i [] l n t = inl t
 telling-end c j i (x ∷ xs) l n t = inr (n.0, telling-end c j i xs l n.1 t)
 
 -- a Closed is still there
-pub closing-left : (o : ℕ) (xs ys : List Letter) → Closing o xs → Closing o (xs ++ ys)
+pub closing-left : (o : ℕ) (xs ys : List Letter) → ClosedUnderWay o xs → ClosedUnderWay o (xs ++ ys)
 closing-left o [] ys t = absurd t
 closing-left o (x ∷ xs) ys (inl k) = inl k
 closing-left o (x ∷ xs) ys (inr k) = inr (closing-left o xs ys k)
 
-pub closing-right : (o : ℕ) (xs ys : List Letter) → Closing o ys → Closing o (xs ++ ys)
+pub closing-right : (o : ℕ) (xs ys : List Letter) → ClosedUnderWay o ys → ClosedUnderWay o (xs ++ ys)
 closing-right o [] ys t = t
 closing-right o (x ∷ xs) ys t = inr (closing-right o xs ys t)
 

@@ -9,12 +9,12 @@ use Rattle.cluster_model.specs.Words.{start_of, admits}
 use Rattle.cluster_model.specs.Letters.{Letter, Sends, open_letter}
 use Rattle.cluster_model.specs.AgentState.{AgentState, initiates}
 use Rattle.cluster_steps.specs.Lists.{In, OnSome}
-use Rattle.word_laws.specs.Histories.{State, History, Within, Comparable, names, start_at, GoodWord, SaidBy, LetterOk, ClosesFrom, InOrder, QueuedOk, WaitingOk, OwnOk, AgentOk, HistoryOk, Telling, OwnIs, Holds}
+use Rattle.word_laws.specs.Histories.{State, History, Within, Comparable, names, agent_start, GoodWord, SaidBy, LetterOk, ClosesFrom, InOrder, QueuedAdmissionOk, AgentWaitingOk, OwnOk, AgentOk, HistoryOk, Telling, OwnIs, WordsHold}
 use Rattle.cluster_steps.proofs.Lists.{all-mono, some-here, set-both, none-and-some}
 use Rattle.word_laws.proofs.Channels.{telling-left}
 use Rattle.cluster_steps.proofs.Channels.{sent-keep}
 use Rattle.word_laws.proofs.Algebra.{within-refl}
-use Rattle.word_laws.proofs.Moves.{after, Later}
+use Rattle.word_laws.proofs.Moves.{after_agent, WordsLater}
 use Rattle.word_laws.proofs.Agreement.{agrees-with, between-said, running-member}
 use Rattle.word_laws.proofs.Laters.{good-later, admitted_ok-later}
 use Rattle.word_laws.proofs.Turns.{Decides}
@@ -23,8 +23,8 @@ use Rattle.word_laws.proofs.Continues.{continues-holds}
 
 -- ---- a member decides
 
-module _ (S : State) (H : Holds S) (n : ℕ) (v : Membership) (a : AgentState) (out : Sends)
-    (up : 0 < start_at S n) (own : (S.agents n).own ≡ Some v) (member : names v (start_at S n) ≡ true)
+module _ (S : State) (H : WordsHold S) (n : ℕ) (v : Membership) (a : AgentState) (out : Sends)
+    (up : 0 < agent_start S n) (own : (S.agents n).own ≡ Some v) (member : names v (agent_start S n) ≡ true)
     (others : (h r : ℕ) → start_of v h ≡ Some r → In v (S.history.said r))
     (d : Decides n (S.agents n) v a)
     (sends : (g : ℕ) → AllByRecursion (λ l. l ≡ open_letter (msg.Decided v)) (out (Agent g))) where
@@ -33,22 +33,22 @@ module _ (S : State) (H : Holds S) (n : ℕ) (v : Membership) (a : AgentState) (
 
   -- the state after it
   abbrev T : State
-  T = after S n a out G
+  T = after_agent S n a out G
 
-  owned : S.owner (start_at S n) ≡ n
+  owned : S.owner (agent_start S n) ≡ n
   owned = ((H.hosts n).running up).0
 
   good : GoodWord S v
-  good = (some-here (OwnOk S (start_at S n)) (S.agents n).own v own (H.agents n).own).good
+  good = (some-here (OwnOk S (agent_start S n)) (S.agents n).own v own (H.agents n).own).good
 
-  mine : start_of v n ≡ Some (start_at S n)
-  mine = subst (λ z. start_of v z ≡ Some (start_at S n)) owned (running-member S H.history v (start_at S n) good member (ap (start_at S) owned))
+  mine : start_of v n ≡ Some (agent_start S n)
+  mine = subst (λ z. start_of v z ≡ Some (agent_start S n)) owned (running-member S H.history v (agent_start S n) good member (ap (agent_start S) owned))
 
-  later : Later S T
+  later : WordsLater S T
   later = later-after S n a out G (inl d.start) refl refl (λ r u i. i) (λ r u e. e) (λ u i. inr i) (λ x i. i)
 
   comparable : (u : Membership) → In u S.history.decided → Comparable u v
-  comparable u i = agrees-with S H.history v good others n (start_at S n) mine u i
+  comparable u i = agrees-with S H.history v good others n (agent_start S n) mine u i
 
   turned : (u w : Membership) → Comparable u w → Comparable w u
   turned u w (inl p) = inr p
@@ -71,7 +71,7 @@ module _ (S : State) (H : Holds S) (n : ℕ) (v : Membership) (a : AgentState) (
       | inr j ↦ H.history.members_said u j h r m
     ];
     has_member = λ u i. elim i [
-      | inl e ↦ inr (n, start_at S n, subst (λ z. start_of z n ≡ Some (start_at S n)) e mine)
+      | inl e ↦ inr (n, agent_start S n, subst (λ z. start_of z n ≡ Some (agent_start S n)) e mine)
       | inr j ↦ H.history.has_member u j
     ];
     chain = λ u w i j. elim i [
@@ -89,7 +89,7 @@ module _ (S : State) (H : Holds S) (n : ℕ) (v : Membership) (a : AgentState) (
     once = H.history.once;
     one_each = H.history.one_each;
     nothing_between = λ u i x k p q. elim i [
-      | inl e ↦ subst (λ z. admits z x.start ≡ true) e (between-said S H.history v good others n (start_at S n) mine x k
+      | inl e ↦ subst (λ z. admits z x.start ≡ true) e (between-said S H.history v good others n (agent_start S n) mine x k
           (subst (λ z. Within x.at z) (sym e) p) (λ r. q (subst (λ z. Within z x.at) e r)))
       | inr j ↦ H.history.nothing_between u j x k p q
     ];
@@ -114,17 +114,17 @@ module _ (S : State) (H : Holds S) (n : ℕ) (v : Membership) (a : AgentState) (
 
   this-agent : AgentOk T n a
   this-agent = let k = kept-agent in record {
-    own = subst (λ z. OnSome (OwnOk T z) a.own) (sym d.start) (subst (λ z. OnSome (OwnOk T (start_at S n)) z) (sym d.own) k.own);
+    own = subst (λ z. OnSome (OwnOk T z) a.own) (sym d.start) (subst (λ z. OnSome (OwnOk T (agent_start S n)) z) (sym d.own) k.own);
     alone = λ u none. absurd (none-and-some (sym d.own ∙ none) own);
     decided = subst (λ z. OnSome (λ w. In w (v ∷ S.history.decided) × (names w a.start ≡ true)) z) (sym d.decided) (inl refl, subst (λ z. names v z ≡ true) (sym d.start) member);
     taken = subst (λ z. OnSome (λ w. (S.history.took z ≡ Some w) × In w (v ∷ S.history.decided)) a.taken) (sym d.start)
-        (subst (λ z. OnSome (λ w. (S.history.took (start_at S n) ≡ Some w) × In w (v ∷ S.history.decided)) z) (sym d.taken) k.taken);
+        (subst (λ z. OnSome (λ w. (S.history.took (agent_start S n) ≡ Some w) × In w (v ∷ S.history.decided)) z) (sym d.taken) k.taken);
     untaken = λ u e. ap S.history.took d.start ∙ k.untaken (subst (λ z. 0 < z) d.start u) (sym d.taken ∙ e);
     wordless = λ none. absurd (none-and-some (sym d.own ∙ none) own);
     joins = λ none. absurd (none-and-some (sym d.decided ∙ none) refl);
     heard = λ g. subst (λ z. OnSome (SaidBy T g) (z g)) (sym d.said) (k.heard g);
-    waiting = subst (λ z. AllByRecursion (WaitingOk T n) z) (sym d.waiting) k.waiting;
-    queue = subst (λ z. AllByRecursion (QueuedOk T n) z) (sym d.queue) k.queue;
+    waiting = subst (λ z. AllByRecursion (AgentWaitingOk T n) z) (sym d.waiting) k.waiting;
+    queue = subst (λ z. AllByRecursion (QueuedAdmissionOk T n) z) (sym d.queue) k.queue;
     initiates = elim d.phase [ inl p ↦ inl p | inr p ↦ inr (subst (λ z. initiates n a z ≡ true) (sym d.decided) p) ];
   }
 
@@ -135,7 +135,7 @@ module _ (S : State) (H : Holds S) (n : ℕ) (v : Membership) (a : AgentState) (
   own-is P h o = (o.0, same-own h ∙ o.1, o.2)
 
   -- A member decides its word.
-  pub decides-holds : Holds T
+  pub decides-holds : WordsHold T
   decides-holds = continues-holds S H n a out G (record {
     up = up;
     start = d.start;

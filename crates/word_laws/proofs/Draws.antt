@@ -14,10 +14,10 @@ use Rattle.cluster_model.specs.AgentState.{AgentState}
 use Rattle.cluster_model.specs.World.{set_at, took, sent}
 use Rattle.cluster_model.specs.Laws.{RiseFrom, starts_in}
 use Rattle.cluster_steps.specs.Lists.{In}
-use Rattle.word_laws.specs.Histories.{names, Admitted, State, start_at, Begun, Runs, Gone, HostOk, GoodWord, Unnamed, AskOk, LetterOk, CameOk, QueuedOk, WaitingOk, OwnOk, AgentOk, AdmittedOk, HistoryOk, Told, Heard, Holds}
+use Rattle.word_laws.specs.Histories.{names, Admitted, State, agent_start, Begun, IsRunning, Gone, HostOk, GoodWord, Unnamed, AsksAdmission, LetterOk, CameOk, QueuedAdmissionOk, AgentWaitingOk, OwnOk, AgentOk, AdmittedOk, HistoryOk, Told, HearsClosed, WordsHold}
 use Rattle.cluster_steps.proofs.Lists.{all-mono, all-append, set-here, set-there, and-false, all-at, some-mono, rise-append, eqb-same, all-from, all-both, list_any-in}
 use Rattle.cluster_steps.proofs.Channels.{starts-append, starts-all, starts-rise}
-use Rattle.word_laws.proofs.Moves.{popped}
+use Rattle.word_laws.proofs.Moves.{agent_popped}
 use Rattle.word_laws.proofs.Laters.{waiting-later, queued-later}
 
 -- ---- a start is drawn
@@ -58,7 +58,7 @@ director-took channel n = fun_ext (λ a. fun_ext (λ b. each a b))
     each (Scanner k) b = let e : (same (Agent n) b && false) ≡ false = and-false (same (Agent n) b) in rw e
 
 -- What holds is kept, where starts that were drawn keep their hosts, and the starts under way to each host are as they should be.
-module _ (S : State) (next : ℕ) (owner : ℕ → ℕ) (director : Actor → List Letter) (h : Holds S) (up : S.next ≤ next) (same_owner : (x : ℕ) → x < S.next → owner x ≡ S.owner x)
+module _ (S : State) (next : ℕ) (owner : ℕ → ℕ) (director : Actor → List Letter) (h : WordsHold S) (up : S.next ≤ next) (same_owner : (x : ℕ) → x < S.next → owner x ≡ S.owner x)
     (hosts : (g : ℕ) → HostOk (directed S next owner director) g) where
   abbrev U : State
   U = directed S next owner director
@@ -106,7 +106,7 @@ module _ (S : State) (next : ℕ) (owner : ℕ → ℕ) (director : Actor → Li
     recorded = λ s e. let r = g.recorded s e in record { entry = r.entry; is_one = r.is_one; same = r.same; within = r.within };
   }
 
-  ask-to : (f g term j : ℕ) → AskOk S f g term j → AskOk U f g term j
+  ask-to : (f g term j : ℕ) → AsksAdmission S f g term j → AsksAdmission U f g term j
   ask-to f g term j k = record {
     owned = same_owner j k.begun.below ∙ k.owned;
     begun = begun-to j k.begun;
@@ -122,6 +122,7 @@ module _ (S : State) (next : ℕ) (owner : ℕ → ℕ) (director : Actor → Li
     | msg.Decided w ↦ λ k. k
     | msg.Closed o ↦ λ k. (k.0, k.1, gone-to o k.2, same_owner o k.2.0.below ∙ k.3)
     | msg.Admit j ↦ λ k. ask-to f g l.term j k
+    | msg.View w ↦ λ k. k
     | m ↦ λ k. tt
   ] p
 
@@ -141,8 +142,8 @@ module _ (S : State) (next : ℕ) (owner : ℕ → ℕ) (director : Actor → Li
     wordless = k.wordless;
     joins = k.joins;
     heard = k.heard;
-    waiting = all-mono (WaitingOk S g) (WaitingOk U g) (λ x p. waiting-later S U g (λ f term j q. came-to f g term j q) x.from x.letter p) a.waiting k.waiting;
-    queue = all-mono (QueuedOk S g) (QueuedOk U g) (λ x p. queued-later S U g (λ f term j q. came-to f g term j q) x p) a.initiating.queue k.queue;
+    waiting = all-mono (AgentWaitingOk S g) (AgentWaitingOk U g) (λ x p. waiting-later S U g (λ f term j q. came-to f g term j q) x.from x.letter p) a.waiting k.waiting;
+    queue = all-mono (QueuedAdmissionOk S g) (QueuedAdmissionOk U g) (λ x p. queued-later S U g (λ f term j q. came-to f g term j q) x p) a.initiating.queue k.queue;
     initiates = k.initiates;
   }
 
@@ -201,7 +202,7 @@ module _ (S : State) (next : ℕ) (owner : ℕ → ℕ) (director : Actor → Li
     nothing_between = o.nothing_between;
   }
 
-  told-to : (x : Admitted) → In x S.history.admitted → (y : ℕ) → names x.at y ≡ true → (y ≡ x.by → ⊥) → Runs U y → Told U x y
+  told-to : (x : Admitted) → In x S.history.admitted → (y : ℕ) → names x.at y ≡ true → (y ≡ x.by → ⊥) → IsRunning U y → Told U x y
   told-to x i y m other r =
       let k = h.history.admitted_ok x i in
       let e = named-to x.at k.decided y m in
@@ -209,13 +210,13 @@ module _ (S : State) (next : ℕ) (owner : ℕ → ℕ) (director : Actor → Li
       let t : Told S x y = h.told x i y m other (rw e at r) in
       rw (e, f) t
 
-  heard-to : (g o : ℕ) → 0 < start_at S g → Gone U o → (owner o ≡ g → ⊥) → Heard U g o
+  heard-to : (g o : ℕ) → 0 < agent_start S g → Gone U o → (owner o ≡ g → ⊥) → HearsClosed U g o
   heard-to g o u k other =
       let b = gone-back o k in
       let e = same_owner o b.0.below in
       rw e (h.heard g o u b (λ q. other (e ∙ q)))
 
-  directed-holds : Holds U
+  directed-holds : WordsHold U
   directed-holds = record {
     some = omega (arith, h.some, up);
     hosts = hosts;
@@ -246,7 +247,7 @@ host-widened S next owner out g some k up same_owner drawn rise =
     let kept : (x : ℕ) → Own x → Owned x = λ x o. (same_owner x o.2 ∙ o.0, o.1, omega (arith, o.2, up)) in
     record {
       environment = k.environment;
-      running = λ u. let r = k.running u in (same_owner (start_at S g) r.1 ∙ r.0, omega (arith, r.1, up));
+      running = λ u. let r = k.running u in (same_owner (agent_start S g) r.1 ∙ r.0, omega (arith, r.1, up));
       last = k.last;
       began = all-mono Own Owned kept (S.history.began g) k.began;
       distinct = k.distinct;
@@ -259,21 +260,21 @@ host-widened S next owner out g some k up same_owner drawn rise =
     }
 
 -- The director sends: the starts among it are drawn in order, each for the host to which it goes.
-pub director-holds : (S : State) (next : ℕ) (owner : ℕ → ℕ) (out : Sends) → Holds S → S.next ≤ next → ((x : ℕ) → x < S.next → owner x ≡ S.owner x)
+pub director-holds : (S : State) (next : ℕ) (owner : ℕ → ℕ) (out : Sends) → WordsHold S → S.next ≤ next → ((x : ℕ) → x < S.next → owner x ≡ S.owner x)
     → ((g : ℕ) → AllByRecursion (Drawn S.next next owner g) (starts_in (out (Agent g)))) → ((g : ℕ) → RiseFrom S.next (starts_in (out (Agent g))))
-    → Holds (widened S next owner out)
+    → WordsHold (widened S next owner out)
 director-holds S next owner out h up same_owner drawn rise =
-    subst (λ ch. Holds (record S { next = next; channel = ch; owner = owner })) (director-sent S.channel out)
+    subst (λ ch. WordsHold (record S { next = next; channel = ch; owner = owner })) (director-sent S.channel out)
     (directed-holds S next owner (λ b. S.channel Director b ++ out b) h up same_owner (λ g. host-widened S next owner out g h.some (h.hosts g) up same_owner (drawn g) (rise g)))
 
 -- It sends no start.
-pub director-inert-holds : (S : State) (out : Sends) → Holds S → ((g : ℕ) → starts_in (out (Agent g)) ≡ []) → Holds (widened S S.next S.owner out)
+pub director-inert-holds : (S : State) (out : Sends) → WordsHold S → ((g : ℕ) → starts_in (out (Agent g)) ≡ []) → WordsHold (widened S S.next S.owner out)
 director-inert-holds S out h none =
     director-holds S S.next S.owner out h (omega arith) (λ x l. refl)
     (λ g. subst (λ xs. AllByRecursion (Drawn S.next S.next S.owner g) xs) (sym (none g)) tt) (λ g. subst (λ xs. RiseFrom S.next xs) (sym (none g)) tt)
 
 -- It draws the next start for host k.
-pub draws-holds : (S : State) (k : ℕ) → Holds S → Holds (widened S (S.next + 1) (set_at S.owner S.next k) (only (Agent k) (open_letter (msg.Start S.next))))
+pub draws-holds : (S : State) (k : ℕ) → WordsHold S → WordsHold (widened S (S.next + 1) (set_at S.owner S.next k) (only (Agent k) (open_letter (msg.Start S.next))))
 draws-holds S k h =
     director-holds S (S.next + 1) (set_at S.owner S.next k) (only (Agent k) (open_letter (msg.Start S.next))) h (omega arith)
     (λ x l. set-there S.owner S.next k x (λ e. omega (arith, e, l)))
@@ -305,7 +306,7 @@ host-dropped S n g k = record {
   rising = starts-rise S.channel Director (Agent n) g k.rising;
 }
 
-pub director-drops-holds : (S : State) (n : ℕ) → Holds S → Holds (popped S Director n)
+pub director-drops-holds : (S : State) (n : ℕ) → WordsHold S → WordsHold (agent_popped S Director n)
 director-drops-holds S n h =
-    subst (λ ch. Holds (record S { channel = ch })) (director-took S.channel n)
+    subst (λ ch. WordsHold (record S { channel = ch })) (director-took S.channel n)
     (directed-holds S S.next S.owner (λ b. took S.channel Director (Agent n) Director b) h (omega arith) (λ x l. refl) (λ g. host-dropped S n g (h.hosts g)))

@@ -15,7 +15,7 @@ use Rattle.cluster_model.specs.Words.{Deployment, is_host, is_in, not_lost, memb
 use Rattle.cluster_model.specs.World.{hosts_from, new_word, first_initiating, member_agent}
 use Rattle.cluster_model.specs.Recover.{new_channels}
 use Rattle.cluster_steps.specs.Lists.{In}
-use Rattle.word_laws.specs.Histories.{names, Within, Comparable, History, State, start_at, starts_to, Begun, Gone, HostOk, GoodWord, LetterOk, InOrder, ChannelOk, QueuedOk, IsOff, AgentOk, Falls, HistoryOk, Holds}
+use Rattle.word_laws.specs.Histories.{names, Within, Comparable, History, State, agent_start, starts_to, Begun, Gone, HostOk, GoodWord, LetterOk, InOrder, ChannelOk, QueuedAdmissionOk, IsOff, AgentOk, Falls, HistoryOk, WordsHold}
 use Rattle.cluster_steps.proofs.Lists.{all-mono, if-true, if-false, or-false, in-one, only-one, all-one, of-only, all-from, list_all-all, filter-all}
 use Rattle.word_laws.proofs.Steps.{new_agent-known}
 
@@ -146,7 +146,7 @@ new_history D w start = record {
 
 -- What is so as it begins: hosts run with new starts, all others are stopped; what agents said is gone, and of starts older ones
 -- alone are under way.
-pub record Begins (D : Deployment) (base start number next : ℕ) (agents : ℕ → AgentState) (channel : Actor → Actor → List Letter) (owner : ℕ → ℕ) : Type 0 where
+pub record EpochBegins (D : Deployment) (base start number next : ℕ) (agents : ℕ → AgentState) (channel : Actor → Actor → List Letter) (owner : ℕ → ℕ) : Type 0 where
   pub positive : 0 < start
   pub room : start + D.layout.hosts ≤ next
   pub hosts : (h : ℕ) → is_host D h ≡ true → agents h ≡ member_agent (new_word D base start) number start h
@@ -178,7 +178,7 @@ initiates-first start i e = rw e (grind (arith, nat_tests))
 -- ---- what holds as an epoch begins
 
 module _ (D : Deployment) (base start number next : ℕ) (agents : ℕ → AgentState) (channel : Actor → Actor → List Letter) (owner : ℕ → ℕ)
-    (b : Begins D base start number next agents channel owner) where
+    (b : EpochBegins D base start number next agents channel owner) where
   abbrev T : State
   T = epoch_state D base start next agents channel owner
 
@@ -188,10 +188,10 @@ module _ (D : Deployment) (base start number next : ℕ) (agents : ℕ → Agent
   abbrev names_first : ℕ → Bool
   names_first s = list_any (λ m. m.1 == s) (hosts_from D.layout.hosts 0 start)
 
-  run-start : (h : ℕ) → is_host D h ≡ true → start_at T h ≡ start + h
+  run-start : (h : ℕ) → is_host D h ≡ true → agent_start T h ≡ start + h
   run-start h e = ap (λ a. a.start) (b.hosts h e)
 
-  rest-start : (h : ℕ) → is_host D h ≡ false → start_at T h ≡ 0
+  rest-start : (h : ℕ) → is_host D h ≡ false → agent_start T h ≡ 0
   rest-start h e = ap (λ a. a.start) (b.others h e)
 
   host-below : (h : ℕ) → is_host D h ≡ true → start + h < next
@@ -309,7 +309,7 @@ module _ (D : Deployment) (base start number next : ℕ) (agents : ℕ → Agent
   begins-or-off zero q = inr (initiates-first start (initiator W) (initiator-first D base start q))
   begins-or-off (suc h) q = inl tt
 
-  queue-ok : (h : ℕ) → AllByRecursion (QueuedOk T h) (first_initiating h number).queue
+  queue-ok : (h : ℕ) → AllByRecursion (QueuedAdmissionOk T h) (first_initiating h number).queue
   queue-ok zero = tt
   queue-ok (suc h) = tt
 
@@ -351,7 +351,7 @@ module _ (D : Deployment) (base start number next : ℕ) (agents : ℕ → Agent
       k.1 (run-start (owner o) i.0 ∙ i.1)
 
   -- All holds as an epoch begins.
-  pub epoch-holds : Holds T
+  pub epoch-holds : WordsHold T
   epoch-holds = record {
     some = omega (arith, b.positive, b.room);
     hosts = λ h. host-ok h (is_host D h) refl;
@@ -383,7 +383,7 @@ new_owner-old start owner s l = let e : nat_le start s ≡ false = grind (arith,
 
 -- The first world.
 pub boot-holds : (D : Deployment) (base number : ℕ)
-    → Holds (epoch_state D base 1 (D.layout.hosts + 1) (epoch_agents D base 1 number (λ h. new_agent 0)) (λ a b. []) (new_owner 1 (λ s. 0)))
+    → WordsHold (epoch_state D base 1 (D.layout.hosts + 1) (epoch_agents D base 1 number (λ h. new_agent 0)) (λ a b. []) (new_owner 1 (λ s. 0)))
 boot-holds D base number =
     epoch-holds D base 1 number (D.layout.hosts + 1) (epoch_agents D base 1 number (λ h. new_agent 0)) (λ a b. []) (new_owner 1 (λ s. 0)) (record {
       positive = omega arith;
@@ -397,8 +397,8 @@ boot-holds D base number =
     })
 
 -- A recovery that works, where agents of others than hosts never ran.
-pub recovery-holds : (S : State) (base number : ℕ) → Holds S → ((h : ℕ) → is_host S.deployment h ≡ false → S.agents h ≡ new_agent 0)
-    → Holds (epoch_state S.deployment base S.next (S.next + S.deployment.layout.hosts) (epoch_agents S.deployment base S.next number S.agents)
+pub recovery-holds : (S : State) (base number : ℕ) → WordsHold S → ((h : ℕ) → is_host S.deployment h ≡ false → S.agents h ≡ new_agent 0)
+    → WordsHold (epoch_state S.deployment base S.next (S.next + S.deployment.layout.hosts) (epoch_agents S.deployment base S.next number S.agents)
     (new_channels S.deployment S.next S.channel) (new_owner S.next S.owner))
 recovery-holds S base number h others =
     let D = S.deployment in

@@ -6,7 +6,7 @@ use Rattle.cluster_model.specs.Words.{union, with_lost, with_admitted}
 use Rattle.cluster_steps.specs.Lists.{In}
 use Rattle.word_laws.specs.Histories.{State, Admitted, Within, Begun, Gone, Recorded, GoodWord}
 use Rattle.word_laws.proofs.Algebra.{within-trans, within-with_lost, within-with_admitted, within-union-left, within-union-right, in-with_lost, with_lost-rises, admits-with_admitted, with_admitted-rises, with_admitted-owned, lost-union, admits-union, union-lost-rises, union-admitted-rises, union-owned, names-first, names-admits, names-cases}
-use Rattle.word_laws.proofs.Moves.{Later}
+use Rattle.word_laws.proofs.Moves.{WordsLater}
 use Rattle.word_laws.proofs.Laters.{good-later}
 
 -- what was admitted at a word within v was so at one within w
@@ -55,7 +55,7 @@ good-union S v w g k = record {
 }
 
 -- The admission is in the history of the later state.
-pub good-admitted : (S T : State) (later : Later S T) (x : Admitted) (w : Membership) → GoodWord S w → Begun S x.start → In x T.history.admitted → x.at ≡ w → GoodWord T (with_admitted x.start (S.owner x.start) w)
+pub good-admitted : (S T : State) (later : WordsLater S T) (x : Admitted) (w : Membership) → GoodWord S w → Begun S x.start → In x T.history.admitted → x.at ≡ w → GoodWord T (with_admitted x.start (S.owner x.start) w)
 good-admitted S T later x w good begun i at = record {
   base = g.base;
   first = g.first;

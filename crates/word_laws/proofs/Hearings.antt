@@ -2,21 +2,22 @@
 use Rattle.std.proofs.Common.{◌≡◌, ◌<◌, Bool, true, false, List, [], ◌∷◌, ◌++◌, append-nil, append_assoc, refl, sym, subst, ap, ◌∙◌, ◌⊎◌, inl, inr, ◌==◌, arith}
 use Rattle.std.proofs.lemmas.Bool.{cases_Bool, eqb-true}
 use Rattle.std.proofs.Math.Path.{fun_ext}
-use Rattle.std.specs.Prelude.{ℕ, ◌||◌, if◌then◌else◌, Option, Some, None}
-use Rattle.std.specs.List.{list_all}
+use Rattle.std.specs.Prelude.{ℕ, ◌||◌, if◌then◌else◌, Option, Some, None, ◌&&◌, not, filter, is_none}
+use Rattle.std.specs.List.{list_all, AllByRecursion}
 use Rattle.volt_wire.specs.Word.{Membership}
-use Rattle.volt_wire.specs.declared.actor.Actor.TheVariants.{Agent}
-use Rattle.cluster_model.specs.Words.{Deployment, start_of, is_member, members, initiator, with_admitted}
-use Rattle.cluster_model.specs.Letters.{same, Letter, Sends, Turn, becomes, ◌▸◌}
+use Rattle.volt_wire.specs.declared.actor.Actor.TheVariants.{Agent, Client, Site, Scanner, Director}
+use Rattle.cluster_model.specs.Words.{Deployment, start_of, is_member, members, initiator, with_admitted, is_slot_of, is_down, is_client, term_of, is_in}
+use Rattle.cluster_model.specs.Letters.{same, Letter, Sends, Turn, becomes, ◌▸◌, letter_to, open_letter}
 use Rattle.cluster_model.specs.AgentState.{AgentState, Queued, Admission, new_agent, initiates}
-use Rattle.cluster_model.specs.Agent.{is_other_word, says, is_word, may_decide, decides_word}
+use Rattle.cluster_model.specs.Agent.{is_other_word, says, is_word, may_decide, decides_word, decided_sends, unknown_ends}
 use Rattle.cluster_model.specs.World.{set_at}
 use Rattle.cluster_steps.specs.Lists.{In, OnSome}
-use Rattle.word_laws.specs.Histories.{State, History, Admitted, names, start_at, GoodWord, SaidBy, ClosesFrom, CameOk, QueuedOk, OwnOk, Holds}
-use Rattle.cluster_steps.proofs.Lists.{all-mono, all-at, in-cases, some-here, not-both, eqb-same, same-some, set-same}
+use Rattle.word_laws.specs.Histories.{State, History, Admitted, names, agent_start, GoodWord, SaidBy, ClosesFrom, CameOk, QueuedAdmissionOk, OwnOk, WordsHold}
+use Rattle.cluster_steps.proofs.Lists.{all-mono, all-at, in-cases, some-here, not-both, eqb-same, same-some, set-same, all-append, all-from, all-if, all-map}
 use Rattle.word_laws.proofs.Algebra.{same_word-refl, same_word-is, with_admitted-admits, names-admits}
 use Rattle.word_laws.proofs.Members.{members-all, is_member-start, initiates-is}
-use Rattle.word_laws.proofs.Moves.{Nobody, after, Later, Plain, Calm, AdmitsNow, Grows}
+use Rattle.word_laws.proofs.Moves.{Nobody, after_agent, WordsLater, Grows, ShownOk, TellsKnown}
+use Rattle.word_laws.proofs.Calm.{SaysNoWord, Calm, AdmitsNow}
 use Rattle.word_laws.proofs.Agreement.{member-is, said-good}
 use Rattle.word_laws.proofs.Turns.{Decides, tells, concludes, tells-same, tells-other, concludes-not, concludes-is, decides-state, decides-sends, may_decide-cases, is_other_word-equal}
 use Rattle.word_laws.proofs.Steps.{later-after, calm-holds, after-after, came-turn, plain-closes}
@@ -24,15 +25,19 @@ use Rattle.word_laws.proofs.OwnWords.{said_more, said-both, said_to}
 use Rattle.word_laws.proofs.Decisions.{decides-holds}
 use Rattle.word_laws.proofs.Admissions.{admits-holds, fresh}
 use Rattle.cluster_steps.proofs.Channels.{sent-nothing}
+use Rattle.word_laws.proofs.Laters.{shown-later}
+use Rattle.volt_wire.specs.declared.actor.Actor.{Actor}
+use Rattle.volt_wire.specs.declared.message.Msg.TheVariants as msg
+use Rattle.volt_wire.specs.declared.end.End.TheVariants as end
 
 -- ---- turns, one behind the other
 
 -- it runs on with its start, or it has stopped
 abbrev pub Going : State → ℕ → AgentState → Type 0
-Going P n a = ((a.start ≡ start_at P n) × (0 < start_at P n)) ⊎ (a ≡ new_agent 0)
+Going P n a = ((a.start ≡ agent_start P n) × (0 < agent_start P n)) ⊎ (a ≡ new_agent 0)
 
 -- A turn of the agent of host n, from a state: the agent goes on or has stopped, and what holds of the state after it.
-pub record Handler (M : ℕ → ℕ → Type 0) (P : State) (n : ℕ) (t : Turn AgentState) : Type 0 where
+pub record WordsTurn (M : ℕ → ℕ → Type 0) (P : State) (n : ℕ) (t : Turn AgentState) : Type 0 where
   pub history : History
   pub goes : Going P n t.state
   pub first : history.first ≡ P.history.first
@@ -44,11 +49,12 @@ pub record Handler (M : ℕ → ℕ → Type 0) (P : State) (n : ℕ) (t : Turn 
   -- of each start that it admits, and of its host, this holds
   pub admits : (x : Admitted) → In x history.admitted → In x P.history.admitted ⊎ M x.start (P.owner x.start)
   -- it is the one that admits them
-  pub by : (x : Admitted) → In x history.admitted → In x P.history.admitted ⊎ ((x.by ≡ start_at P n) × (0 < start_at P n))
-  pub holds : Holds (after P n t.state t.sends history)
+  pub by : (x : Admitted) → In x history.admitted → In x P.history.admitted ⊎ ((x.by ≡ agent_start P n) × (0 < agent_start P n))
+  pub holds : WordsHold (after_agent P n t.state t.sends history)
+  pub shown : (b : Actor) → AllByRecursion (ShownOk (after_agent P n t.state t.sends history) b) (t.sends b)
 
 -- such a turn only adds to the history
-pub handler-grows : {M : ℕ → ℕ → Type 0} {P : State} {n : ℕ} {t : Turn AgentState} (r : Handler M P n t) → Grows P.history r.history
+pub handler-grows : {M : ℕ → ℕ → Type 0} {P : State} {n : ℕ} {t : Turn AgentState} (r : WordsTurn M P n t) → Grows P.history r.history
 handler-grows r = record {
   first = r.first;
   began = λ h s i. rw r.began i;
@@ -59,11 +65,11 @@ handler-grows r = record {
 }
 
 -- and to the state
-pub handler-later : {M : ℕ → ℕ → Type 0} (P : State) (n : ℕ) (t : Turn AgentState) (r : Handler M P n t) → Later P (after P n t.state t.sends r.history)
+pub handler-later : {M : ℕ → ℕ → Type 0} (P : State) (n : ℕ) (t : Turn AgentState) (r : WordsTurn M P n t) → WordsLater P (after_agent P n t.state t.sends r.history)
 handler-later P n t r = later-after P n t.state t.sends r.history (elim r.goes [ inl e ↦ inl e.0 | inr e ↦ inr (ap (λ x. x.start) e) ]) r.first r.began r.said r.took_word r.decided r.admitted
 
 -- where nobody is admitted, this holds of all who are
-pub none-handler : {M : ℕ → ℕ → Type 0} {P : State} {n : ℕ} {t : Turn AgentState} → Handler Nobody P n t → Handler M P n t
+pub none-handler : {M : ℕ → ℕ → Type 0} {P : State} {n : ℕ} {t : Turn AgentState} → WordsTurn Nobody P n t → WordsTurn M P n t
 none-handler r = record {
   history = r.history;
   goes = r.goes;
@@ -79,11 +85,13 @@ none-handler r = record {
   ];
   by = r.by;
   holds = r.holds;
+  shown = r.shown;
 }
 
 -- a turn in which the history stays
-pub handler-plain : {M : ℕ → ℕ → Type 0} (P : State) (n : ℕ) (t : Turn AgentState) → Going P n t.state → Holds (after P n t.state t.sends P.history) → Handler M P n t
-handler-plain P n t g h = record {
+pub handler-plain : {M : ℕ → ℕ → Type 0} (P : State) (n : ℕ) (t : Turn AgentState) → Going P n t.state → WordsHold (after_agent P n t.state t.sends P.history)
+    → ((b : Actor) → AllByRecursion (ShownOk (after_agent P n t.state t.sends P.history) b) (t.sends b)) → WordsTurn M P n t
+handler-plain P n t g h shown = record {
   history = P.history;
   goes = g;
   first = refl;
@@ -95,15 +103,16 @@ handler-plain P n t g h = record {
   admits = λ x i. inl i;
   by = λ x i. inl i;
   holds = h;
+  shown = shown;
 }
 
 -- the agent is what the turn made of it
-pub agent-there : (P : State) (n : ℕ) (a : AgentState) (out : Sends) (H : History) → (after P n a out H).agents n ≡ a
+pub agent-there : (P : State) (n : ℕ) (a : AgentState) (out : Sends) (H : History) → (after_agent P n a out H).agents n ≡ a
 agent-there P n a out H = rw (eqb-same n) refl
 
 -- and what comes to it from others is as it was
 pub others-after : (P : State) (n : ℕ) (a : AgentState) (out : Sends) (H : History) (h : ℕ) → (h == n) ≡ false
-    → (after P n a out H).channel (Agent h) (Agent n) ≡ P.channel (Agent h) (Agent n)
+    → (after_agent P n a out H).channel (Agent h) (Agent n) ≡ P.channel (Agent h) (Agent n)
 others-after P n a out H h e = choice (n == h) refl
   where
     choice : (b : Bool) → (n == h) ≡ b → (if b then P.channel (Agent h) (Agent n) ++ out (Agent n) else P.channel (Agent h) (Agent n)) ≡ P.channel (Agent h) (Agent n)
@@ -111,8 +120,8 @@ others-after P n a out H h e = choice (n == h) refl
     choice false q = refl
 
 -- One turn, and then another one from the state after it, with the history that this one leaves.
-pub after-handler : {M : ℕ → ℕ → Type 0} (P : State) (n : ℕ) (t : Turn AgentState) (f : AgentState → Turn AgentState) (r : Handler M P n t)
-    → (q : Handler M (after P n t.state t.sends r.history) n (f t.state)) → (both : Handler M P n (t ▸ f)) × (both.history ≡ q.history)
+pub after-handler : {M : ℕ → ℕ → Type 0} (P : State) (n : ℕ) (t : Turn AgentState) (f : AgentState → Turn AgentState) (r : WordsTurn M P n t)
+    → (q : WordsTurn M (after_agent P n t.state t.sends r.history) n (f t.state)) → (both : WordsTurn M P n (t ▸ f)) × (both.history ≡ q.history)
 after-handler P n t f r q = (
   record {
     history = q.history;
@@ -134,12 +143,20 @@ after-handler P n t f r q = (
       | inl k ↦ r.by x k
       | inr k ↦ inr (ran (k.0 ∙ ap (λ a. a.start) here) (subst (λ a. 0 < a.start) here k.1))
     ];
-    holds = subst Holds (after-after P n t.state (f t.state).state t.sends (f t.state).sends r.history q.history) q.holds;
+    holds = subst WordsHold one q.holds;
+    shown = λ b. subst (λ Z. AllByRecursion (ShownOk Z b) (t.sends b ++ (f t.state).sends b)) one (all-append (ShownOk U b) (t.sends b) ((f t.state).sends b)
+        (shown-later (after_agent P n t.state t.sends r.history) U (handler-later (after_agent P n t.state t.sends r.history) n (f t.state) q) b (t.sends b) (r.shown b)) (q.shown b));
   },
   refl,
 )
   where
-    here : (after P n t.state t.sends r.history).agents n ≡ t.state
+    U : State
+    U = after_agent (after_agent P n t.state t.sends r.history) n (f t.state).state (f t.state).sends q.history
+
+    one : U ≡ after_agent P n (f t.state).state (λ b. t.sends b ++ (f t.state).sends b) q.history
+    one = after-after P n t.state (f t.state).state t.sends (f t.state).sends r.history q.history
+
+    here : (after_agent P n t.state t.sends r.history).agents n ≡ t.state
     here = agent-there P n t.state t.sends r.history
 
     there : (f t.state).state.start ≡ t.state.start → 0 < t.state.start → Going P n (f t.state).state
@@ -148,19 +165,19 @@ after-handler P n t f r q = (
       | inr d ↦ let z : t.state.start ≡ 0 = ap (λ x. x.start) d in absurd (omega (arith, up, z))
     ]
 
-    ran : {x : ℕ} → x ≡ t.state.start → 0 < t.state.start → (x ≡ start_at P n) × (0 < start_at P n)
+    ran : {x : ℕ} → x ≡ t.state.start → 0 < t.state.start → (x ≡ agent_start P n) × (0 < agent_start P n)
     ran e up = elim r.goes [
       | inl d ↦ (e ∙ d.0, d.1)
       | inr d ↦ let z : t.state.start ≡ 0 = ap (λ x. x.start) d in absurd (omega (arith, up, z))
     ]
 
 -- from whatever state that is
-pub then-handler : {M : ℕ → ℕ → Type 0} (P : State) (n : ℕ) (t : Turn AgentState) (f : AgentState → Turn AgentState) → Handler M P n t
-    → ((T : State) → T.agents n ≡ t.state → T.deployment ≡ P.deployment → Later P T
-    → ((h : ℕ) → (h == n) ≡ false → T.channel (Agent h) (Agent n) ≡ P.channel (Agent h) (Agent n)) → Holds T
-    → Handler M T n (f t.state)) → Handler M P n (t ▸ f)
+pub then-handler : {M : ℕ → ℕ → Type 0} (P : State) (n : ℕ) (t : Turn AgentState) (f : AgentState → Turn AgentState) → WordsTurn M P n t
+    → ((T : State) → T.agents n ≡ t.state → T.deployment ≡ P.deployment → WordsLater P T
+    → ((h : ℕ) → (h == n) ≡ false → T.channel (Agent h) (Agent n) ≡ P.channel (Agent h) (Agent n)) → WordsHold T
+    → WordsTurn M T n (f t.state)) → WordsTurn M P n (t ▸ f)
 then-handler P n t f r g = (after-handler P n t f r
-    (g (after P n t.state t.sends r.history) (agent-there P n t.state t.sends r.history) refl (handler-later P n t r) (others-after P n t.state t.sends r.history) r.holds)).0
+    (g (after_agent P n t.state t.sends r.history) (agent-there P n t.state t.sends r.history) refl (handler-later P n t r) (others-after P n t.state t.sends r.history) r.holds)).0
 
 -- ---- turns that are one
 
@@ -179,18 +196,18 @@ other-self (Some w) = rw (same_word-refl w) refl
 
 -- ---- nothing changes
 
-pub after-same : (P : State) (n : ℕ) → after P n (P.agents n) (λ b. []) P.history ≡ P
+pub after-same : (P : State) (n : ℕ) → after_agent P n (P.agents n) (λ b. []) P.history ≡ P
 after-same P n = ap (λ c. record P { agents = set_at P.agents n (P.agents n); channel = c }) (sent-nothing P.channel (Agent n))
     ∙ ap (λ f. record P { agents = f }) (set-same P.agents n)
 
 -- a turn of an agent that stays as it is
-pub stay-handler : {M : ℕ → ℕ → Type 0} (P : State) (n : ℕ) → Going P n (P.agents n) → Holds P → Handler M P n (becomes (P.agents n))
-stay-handler P n g h = handler-plain P n (becomes (P.agents n)) g (subst Holds (sym (after-same P n)) h)
+pub stay-handler : {M : ℕ → ℕ → Type 0} (P : State) (n : ℕ) → Going P n (P.agents n) → WordsHold P → WordsTurn M P n (becomes (P.agents n))
+stay-handler P n g h = handler-plain P n (becomes (P.agents n)) g (subst WordsHold (sym (after-same P n)) h) (λ b. tt)
 
 -- ---- a word is decided, where it may be
 
-module _ {M : ℕ → ℕ → Type 0} (T : State) (H : Holds T) (n : ℕ) (D : Deployment) (up : 0 < start_at T n) where
-  pub decides-handler : (v : Membership) → (T.agents n).own ≡ Some v → may_decide n (T.agents n) (Some v) ≡ true → Handler M T n (decides_word D n (T.agents n) (Some v))
+module _ {M : ℕ → ℕ → Type 0} (T : State) (H : WordsHold T) (n : ℕ) (D : Deployment) (up : 0 < agent_start T n) where
+  pub decides-handler : (v : Membership) → (T.agents n).own ≡ Some v → may_decide n (T.agents n) (Some v) ≡ true → WordsTurn M T n (decides_word D n (T.agents n) (Some v))
   decides-handler v own may = record {
     history = record T.history { decided = v ∷ T.history.decided };
     goes = inl (d.start, up);
@@ -203,26 +220,43 @@ module _ {M : ℕ → ℕ → Type 0} (T : State) (H : Holds T) (n : ℕ) (D : D
     admits = λ x i. inl i;
     by = λ x i. inl i;
     holds = decides-holds T H n v (decides_word D n (T.agents n) (Some v)).state (decides_word D n (T.agents n) (Some v)).sends up own
-        (member-is T H.history v n (start_at T n) good mine).0 others d (decides-sends D n (T.agents n) v);
+        (member-is T H.history v n (agent_start T n) good mine).0 others d (decides-sends D n (T.agents n) v);
+    shown = shows;
   }
     where
+      U : State
+      U = after_agent T n (decides_word D n (T.agents n) (Some v)).state (decides_word D n (T.agents n) (Some v)).sends (record T.history { decided = v ∷ T.history.decided })
+
+      -- it shows the word to its sites; the clients get answers
+      shows : (b : Actor) → AllByRecursion (ShownOk U b) (decided_sends D n (T.agents n) v b)
+      shows (Site c) = all-if (ShownOk U (Site c)) (is_slot_of D n c && not (is_down D v)) (letter_to (T.agents n).start (msg.View v) ∷ []) [] (inl refl, tt) tt
+      shows (Client c) =
+          let opened = if is_none (T.agents n).decided then open_letter (msg.Opened (T.agents n).start) ∷ [] else [] in
+          all-if (ShownOk U (Client c)) (is_client D c) (opened ++ unknown_ends v (T.agents n).pending c) []
+          (all-append (ShownOk U (Client c)) opened (unknown_ends v (T.agents n).pending c) (all-if (ShownOk U (Client c)) (is_none (T.agents n).decided) _ [] (tt, tt) tt)
+          (all-map (ShownOk U (Client c)) (λ p. open_letter (msg.Answer p.call (end.Unknown p.target (term_of v)))) (λ p. tt)
+          (filter (λ p. p.client == c && is_in p.target v.lost) (T.agents n).pending))) tt
+      shows (Agent g) = all-from (ShownOk U (Agent g)) (decided_sends D n (T.agents n) v (Agent g)) (λ l i. tt)
+      shows Director = tt
+      shows (Scanner c) = tt
+
       d : Decides n (T.agents n) v (decides_word D n (T.agents n) (Some v)).state
       d = decides-state D n (T.agents n) v
 
-      own-ok : OwnOk T (start_at T n) v
-      own-ok = some-here (OwnOk T (start_at T n)) (T.agents n).own v own (H.agents n).own
+      own-ok : OwnOk T (agent_start T n) v
+      own-ok = some-here (OwnOk T (agent_start T n)) (T.agents n).own v own (H.agents n).own
 
       good : GoodWord T v
       good = own-ok.good
 
-      both : (is_member v n (start_at T n) ≡ true) × (list_all (λ m. m.0 == n || is_word v ((T.agents n).said m.0)) (members v) ≡ true)
+      both : (is_member v n (agent_start T n) ≡ true) × (list_all (λ m. m.0 == n || is_word v ((T.agents n).said m.0)) (members v) ≡ true)
       both = may_decide-cases n (T.agents n) v may
 
-      mine : start_of v n ≡ Some (start_at T n)
-      mine = is_member-start v n (start_at T n) both.0
+      mine : start_of v n ≡ Some (agent_start T n)
+      mine = is_member-start v n (agent_start T n) both.0
 
-      said-here : In v (T.history.said (start_at T n))
-      said-here = let m = own-ok.member (member-is T H.history v n (start_at T n) good mine).0 in subst (λ z. In v z) (sym m.1) (inl refl)
+      said-here : In v (T.history.said (agent_start T n))
+      said-here = let m = own-ok.member (member-is T H.history v n (agent_start T n) good mine).0 in subst (λ z. In v z) (sym m.1) (inl refl)
 
       heard-from : (h r : ℕ) (o : Option Membership) → start_of v h ≡ Some r → OnSome (SaidBy T h) o → is_word v o ≡ true → In v (T.history.said r)
       heard-from h r None e k i = absurd (cc)
@@ -236,38 +270,67 @@ module _ {M : ℕ → ℕ → Type 0} (T : State) (H : Holds T) (n : ℕ) (D : D
         where
           choice : (b : Bool) → (h == n) ≡ b → (b || is_word v ((T.agents n).said h)) ≡ true → In v (T.history.said r)
           choice true q i =
-              let start : start_at T n ≡ r = same-some (sym mine ∙ ap (start_of v) (sym (eqb-true h n q)) ∙ e) in
+              let start : agent_start T n ≡ r = same-some (sym mine ∙ ap (start_of v) (sym (eqb-true h n q)) ∙ e) in
               subst (λ z. In v (T.history.said z)) start said-here
           choice false q i = heard-from h r ((T.agents n).said h) e ((H.agents n).heard h) i
 
   -- It decides its word, or goes on as it was.
-  pub concludes-handler : Handler M T n (concludes D n (T.agents n))
+  pub concludes-handler : WordsTurn M T n (concludes D n (T.agents n))
   concludes-handler = go (T.agents n).own refl
     where
-      go : (o : Option Membership) → (T.agents n).own ≡ o → Handler M T n (concludes D n (T.agents n))
-      go None e = subst (Handler M T n) (sym (concludes-not D n (T.agents n) (ap (λ z. may_decide n (T.agents n) z) e))) (stay-handler T n (inl (refl, up)) H)
+      go : (o : Option Membership) → (T.agents n).own ≡ o → WordsTurn M T n (concludes D n (T.agents n))
+      go None e = subst (WordsTurn M T n) (sym (concludes-not D n (T.agents n) (ap (λ z. may_decide n (T.agents n) z) e))) (stay-handler T n (inl (refl, up)) H)
       go (Some v) e = elim (cases_Bool (may_decide n (T.agents n) (Some v))) [
-        | inl m ↦ subst (Handler M T n) (sym (concludes-is D n (T.agents n) (ap (λ z. may_decide n (T.agents n) z) e ∙ m) ∙ ap (decides_word D n (T.agents n)) e)) (decides-handler v e m)
-        | inr m ↦ subst (Handler M T n) (sym (concludes-not D n (T.agents n) (ap (λ z. may_decide n (T.agents n) z) e ∙ m))) (stay-handler T n (inl (refl, up)) H)
+        | inl m ↦ subst (WordsTurn M T n) (sym (concludes-is D n (T.agents n) (ap (λ z. may_decide n (T.agents n) z) e ∙ m) ∙ ap (decides_word D n (T.agents n)) e)) (decides-handler v e m)
+        | inr m ↦ subst (WordsTurn M T n) (sym (concludes-not D n (T.agents n) (ap (λ z. may_decide n (T.agents n) z) e ∙ m))) (stay-handler T n (inl (refl, up)) H)
       ]
 
 -- ---- a message that brings no word
+
+-- what a turn that brings no word shows, and a word that is said: to others than agents none
+pub calm-shown : (S T : State) (D : Deployment) (n : ℕ) (loaded : List ℕ) → WordsHold S → WordsLater S T → (b : Actor) (ls : List Letter)
+    → AllByRecursion (SaysNoWord D n (S.agents n) loaded b) ls → AllByRecursion (ShownOk T b) ls
+calm-shown S T D n loaded h f b ls p = shown-later S T f b ls (all-mono (SaysNoWord D n (S.agents n) loaded b) (ShownOk S b) (one b) ls p)
+  where
+    told : (b : Actor) (l : Letter) → SaysNoWord D n (S.agents n) loaded b l → TellsKnown S l
+    told b l p = elim l.body as (λ m. SaysNoWord D n (S.agents n) loaded b (record l { body = m }) → TellsKnown S (record l { body = m })) [
+      | msg.Word base lost admitted ↦ λ k. k
+      | msg.Decided w ↦ λ k. (some-here (λ v. In v S.history.decided × (names v (agent_start S n) ≡ true)) (S.agents n).decided w k.1 (h.agents n).decided).0
+      | msg.View w ↦ λ k. absurd k
+      | msg.Closed o ↦ λ k. absurd k
+      | m ↦ λ k. tt
+    ] p
+
+    one : (b : Actor) (l : Letter) → SaysNoWord D n (S.agents n) loaded b l → ShownOk S b l
+    one (Agent g) l p = tt
+    one Director l p = told Director l p
+    one (Client g) l p = told (Client g) l p
+    one (Site g) l p = told (Site g) l p
+    one (Scanner g) l p = told (Scanner g) l p
+
+pub says-shown : (T : State) (n : ℕ) (x : AgentState) (v : Membership) (b : Actor) → AllByRecursion (ShownOk T b) ((says n x (Some v)).sends b)
+says-shown T n x v (Agent g) = all-from (ShownOk T (Agent g)) ((says n x (Some v)).sends (Agent g)) (λ l i. tt)
+says-shown T n x v Director = tt
+says-shown T n x v (Client g) = tt
+says-shown T n x v (Site g) = tt
+says-shown T n x v (Scanner g) = tt
 
 -- it says the word that it has just got, which is another one
 pub says-word : (n : ℕ) (x : AgentState) (before : Option Membership) (v : Membership) → x.own ≡ Some v → is_other_word before (Some v) ≡ true → tells n before x ≡ says n x (Some v)
 says-word n x before v e o = tells-other n before x (ap (is_other_word before) e ∙ o) ∙ ap (says n x) e
 
-module _ {M : ℕ → ℕ → Type 0} (P : State) (H : Holds P) (n : ℕ) (came : List Queued) (t : Turn AgentState) (up : 0 < start_at P n) (c : Calm n (P.agents n) came t)
-    (new : (j h term : ℕ) → In (Admission j h term) came → QueuedOk P n (Admission j h term))
+module _ {M : ℕ → ℕ → Type 0} (P : State) (H : WordsHold P) (D : Deployment) (n : ℕ) (came : List Queued) (loaded : List ℕ) (t : Turn AgentState)
+    (up : 0 < agent_start P n) (c : Calm D n (P.agents n) came loaded t)
+    (new : (j h term : ℕ) → In (Admission j h term) came → QueuedAdmissionOk P n (Admission j h term))
     (may : (j h term : ℕ) → In (Admission j h term) ((P.agents n).initiating.queue ++ came) → M j h) where
   -- it admits a start
-  admits-handler : AdmitsNow (P.agents n) came t.state.own → Handler M P n (t ▸ tells n (P.agents n).own)
+  admits-handler : AdmitsNow (P.agents n) came t.state.own → WordsTurn M P n (t ▸ tells n (P.agents n).own)
   admits-handler m = record {
     history = G;
     goes = inl (ap (λ u. u.state.start) turn-is ∙ c.start, up);
     first = refl;
     began = refl;
-    said = λ r u i. said-both (λ k us. (u : Membership) → In u (P.history.said k) → In u us) P.history.said (start_at S1 n) v (λ y i. inr i) (λ k d y i. i) r u i;
+    said = λ r u i. said-both (λ k us. (u : Membership) → In u (P.history.said k) → In u us) P.history.said (agent_start S1 n) v (λ y i. inr i) (λ k d y i. i) r u i;
     took_word = λ s w e. e;
     decided = λ w i. i;
     admitted = λ x i. inr i;
@@ -279,10 +342,12 @@ module _ {M : ℕ → ℕ → Type 0} (P : State) (H : Holds P) (n : ℕ) (came 
       | inl e ↦ inr (sym (ap (λ y. y.by) e) ∙ start1, up)
       | inr k ↦ inl k
     ];
-    holds = subst (λ u. Holds (after P n u.state u.sends G)) (sym turn-is)
-        (subst Holds (ap (λ z. after S1 n z out G) state-is
+    holds = subst (λ u. WordsHold (after_agent P n u.state u.sends G)) (sym turn-is)
+        (subst WordsHold (ap (λ z. after_agent S1 n z out G) state-is
         ∙ after-after P n t0 t.state t.sends out P.history G)
         (admits-holds S1 H1 n m.word m.decided m.start m.host m.term out up1 own1 decided1 m.same init came1 m.term_is over1 sends));
+    shown = λ b. subst (λ u. AllByRecursion (ShownOk (after_agent P n u.state u.sends G) b) (u.sends b)) (sym turn-is)
+        (all-append (ShownOk T b) (t.sends b) (out b) (calm-shown P T D n loaded H later b (t.sends b) (c.sends b)) (says-shown T n t.state v b));
   }
     where
       -- first the turn without the new word, and then the word
@@ -295,35 +360,38 @@ module _ {M : ℕ → ℕ → Type 0} (P : State) (H : Holds P) (n : ℕ) (came 
       out : Sends
       out = (says n t.state (Some v)).sends
 
-      c0 : Calm n (P.agents n) came (record { state = t0; sends = t.sends })
+      c0 : Calm D n (P.agents n) came loaded (record { state = t0; sends = t.sends })
       c0 = record {
-        start = c.start;
-        decided = c.decided;
-        taken = c.taken;
-        said = c.said;
-        waiting = c.waiting;
-        own = inl refl;
-        queue = c.queue;
-        phase = c.phase;
+        at = record {
+          start = c.start;
+          decided = c.decided;
+          taken = c.taken;
+          said = c.said;
+          waiting = c.waiting;
+          loads = c.loads;
+          own = inl refl;
+          queue = c.queue;
+          phase = c.phase;
+        };
         sends = c.sends;
       }
 
       S1 : State
-      S1 = after P n t0 t.sends P.history
+      S1 = after_agent P n t0 t.sends P.history
 
       G : History
-      G = record P.history { said = said_more P.history.said (start_at S1 n) v; admitted = record { start = m.start; by = start_at S1 n; at = m.word } ∷ P.history.admitted }
+      G = record P.history { said = said_more P.history.said (agent_start S1 n) v; admitted = record { start = m.start; by = agent_start S1 n; at = m.word } ∷ P.history.admitted }
 
-      H1 : Holds S1
-      H1 = calm-holds P n came (record { state = t0; sends = t.sends }) up c0 refl new H
+      H1 : WordsHold S1
+      H1 = calm-holds P D n came loaded (record { state = t0; sends = t.sends }) up c0 refl new H
 
       here : S1.agents n ≡ t0
       here = agent-there P n t0 t.sends P.history
 
-      start1 : start_at S1 n ≡ start_at P n
+      start1 : agent_start S1 n ≡ agent_start P n
       start1 = ap (λ x. x.start) here ∙ c.start
 
-      up1 : 0 < start_at S1 n
+      up1 : 0 < agent_start S1 n
       up1 = subst (λ z. 0 < z) (sym start1) up
 
       own1 : (S1.agents n).own ≡ Some m.word
@@ -332,7 +400,7 @@ module _ {M : ℕ → ℕ → Type 0} (P : State) (H : Holds P) (n : ℕ) (came 
       decided1 : (S1.agents n).decided ≡ Some m.decided
       decided1 = ap (λ x. x.decided) here ∙ c.decided ∙ m.is_decided
 
-      init : initiator m.decided ≡ Some (n, start_at S1 n)
+      init : initiator m.decided ≡ Some (n, agent_start S1 n)
       init = elim (H.agents n).initiates [
         | inl off ↦ absurd (m.works off)
         | inr i ↦ initiates-is n (P.agents n) m.decided (ap (λ z. initiates n (P.agents n) z) (sym m.is_decided) ∙ i) ∙ ap (λ z. Some (n, z)) (sym start1)
@@ -340,20 +408,21 @@ module _ {M : ℕ → ℕ → Type 0} (P : State) (H : Holds P) (n : ℕ) (came 
 
       came0 : CameOk P m.host n m.term m.start
       came0 = elim (in-cases (Admission m.start m.host m.term) (P.agents n).initiating.queue came m.queued) [
-        | inl i ↦ all-at (QueuedOk P n) (P.agents n).initiating.queue (H.agents n).queue (Admission m.start m.host m.term) i
+        | inl i ↦ all-at (QueuedAdmissionOk P n) (P.agents n).initiating.queue (H.agents n).queue (Admission m.start m.host m.term) i
         | inr i ↦ new m.start m.host m.term i
       ]
 
       came1 : CameOk S1 m.host n m.term m.start
       came1 = came-turn P n t0 t.sends (inl c.start)
-          (λ g j. all-mono (Plain n (P.agents n) g) (ClosesFrom (P.history.began n) j) (λ l p. plain-closes n (P.agents n) g (P.history.began n) j l p) (t.sends (Agent g)) (c.sends g))
+          (λ g j. all-mono (SaysNoWord D n (P.agents n) loaded (Agent g)) (ClosesFrom (P.history.began n) j)
+          (λ l p. plain-closes D n (P.agents n) loaded g (P.history.began n) j l p) (t.sends (Agent g)) (c.sends (Agent g)))
           n m.host m.term m.start came0
 
-      over1 : start_at S1 n < m.start
+      over1 : agent_start S1 n < m.start
       over1 = subst (λ s. s < m.start) (sym start1) m.above
 
       sends : (g : ℕ) → (says n t.state (Some v)).sends (Agent g)
-          ≡ said_to n (start_at S1 n) v g
+          ≡ said_to n (agent_start S1 n) v g
       sends g = ap {A = ℕ} {B = List Letter} (λ z. said_to n z v g) (c.start ∙ sym start1)
 
       state-is : record (S1.agents n) { own = Some v } ≡ t.state
@@ -370,31 +439,41 @@ module _ {M : ℕ → ℕ → Type 0} (P : State) (H : Holds P) (n : ℕ) (came 
             (fresh S1 H1 n m.word m.decided m.start m.host m.term out up1 own1 decided1 m.same init came1 m.term_is over1 sends))
       ]
 
+      T : State
+      T = after_agent P n t.state (λ b. t.sends b ++ out b) G
+
+      later : WordsLater P T
+      later = later-after P n t.state (λ b. t.sends b ++ out b) G (inl c.start) refl refl
+          (λ r u i. said-both (λ k us. (u : Membership) → In u (P.history.said k) → In u us) P.history.said (agent_start S1 n) v (λ y i. inr i) (λ k d y i. i) r u i)
+          (λ s w e. e) (λ w i. i) (λ x i. inr i)
+
       turn-is : t ▸ tells n (P.agents n).own ≡ record { state = t.state; sends = λ b. t.sends b ++ (says n t.state (Some v)).sends b }
       turn-is = ap (λ u. record { state = u.state; sends = λ b. t.sends b ++ u.sends b }) (says-word n t.state (P.agents n).own v m.becomes other)
 
   -- A turn that brings no word, and what the agent says then.
-  pub calm-handler : Handler M P n (t ▸ tells n (P.agents n).own)
+  pub calm-handler : WordsTurn M P n (t ▸ tells n (P.agents n).own)
   calm-handler = elim c.own [
-    | inl same ↦ subst (Handler M P n) (sym (then-inert t (tells n (P.agents n).own)
+    | inl same ↦ subst (WordsTurn M P n) (sym (then-inert t (tells n (P.agents n).own)
         (tells-same n (P.agents n).own t.state (ap (is_other_word (P.agents n).own) same ∙ other-self (P.agents n).own))))
-        (handler-plain P n t (inl (c.start, up)) (calm-holds P n came t up c same new H))
+        (handler-plain P n t (inl (c.start, up)) (calm-holds P D n came loaded t up c same new H)
+        (λ b. calm-shown P (after_agent P n t.state t.sends P.history) D n loaded H
+        (later-after P n t.state t.sends P.history (inl c.start) refl refl (λ s w i. i) (λ s w e. e) (λ w i. i) (λ x i. i)) b (t.sends b) (c.sends b)))
     | inr m ↦ admits-handler m
   ]
 
 -- One turn, and then another one of an agent that goes on. One that has stopped does nothing then.
-pub on-handler : {M : ℕ → ℕ → Type 0} (P : State) (n : ℕ) (t : Turn AgentState) (f : AgentState → Turn AgentState) → Handler M P n t → f (new_agent 0) ≡ becomes (new_agent 0)
-    → ((T : State) → T.agents n ≡ t.state → T.deployment ≡ P.deployment → Later P T
-    → ((h : ℕ) → (h == n) ≡ false → T.channel (Agent h) (Agent n) ≡ P.channel (Agent h) (Agent n)) → Holds T
-    → 0 < start_at T n → Handler M T n (f (T.agents n))) → Handler M P n (t ▸ f)
+pub on-handler : {M : ℕ → ℕ → Type 0} (P : State) (n : ℕ) (t : Turn AgentState) (f : AgentState → Turn AgentState) → WordsTurn M P n t → f (new_agent 0) ≡ becomes (new_agent 0)
+    → ((T : State) → T.agents n ≡ t.state → T.deployment ≡ P.deployment → WordsLater P T
+    → ((h : ℕ) → (h == n) ≡ false → T.channel (Agent h) (Agent n) ≡ P.channel (Agent h) (Agent n)) → WordsHold T
+    → 0 < agent_start T n → WordsTurn M T n (f (T.agents n))) → WordsTurn M P n (t ▸ f)
 on-handler {M = M} P n t f r silent g = then-handler P n t f r (λ T e d k o h. elim r.goes [
-  | inl q ↦ subst (λ z. Handler M T n (f z)) e (g T e d k o h (subst (λ z. 0 < z) (sym (ap (λ x. x.start) e ∙ q.0)) q.1))
-  | inr z ↦ subst (λ u. Handler M T n u) (sym (ap f z ∙ silent)) (subst (λ u. Handler M T n (becomes u)) (e ∙ z) (stay-handler T n (inr (e ∙ z)) h))
+  | inl q ↦ subst (λ z. WordsTurn M T n (f z)) e (g T e d k o h (subst (λ z. 0 < z) (sym (ap (λ x. x.start) e ∙ q.0)) q.1))
+  | inr z ↦ subst (λ u. WordsTurn M T n u) (sym (ap f z ∙ silent)) (subst (λ u. WordsTurn M T n (becomes u)) (e ∙ z) (stay-handler T n (inr (e ∙ z)) h))
 ])
 
 pub concludes-none : (D : Deployment) (n : ℕ) → concludes D n (new_agent 0) ≡ becomes (new_agent 0)
 concludes-none D n = refl
 
 -- what follows a handler, when the agent has said its word
-pub concluded-handler : {M : ℕ → ℕ → Type 0} (P : State) (n : ℕ) (D : Deployment) (t : Turn AgentState) → Handler M P n t → Handler M P n (t ▸ concludes D n)
+pub concluded-handler : {M : ℕ → ℕ → Type 0} (P : State) (n : ℕ) (D : Deployment) (t : Turn AgentState) → WordsTurn M P n t → WordsTurn M P n (t ▸ concludes D n)
 concluded-handler P n D t r = on-handler P n t (concludes D n) r (concludes-none D n) (λ T e d k o h up. concludes-handler T h n D up)

@@ -4,6 +4,7 @@ pub mod Members
 pub mod Moves
 pub mod Agreement
 pub mod Laters
+pub mod Calm
 pub mod Turns
 pub mod Arrivals
 pub mod Steps

@@ -1,30 +1,30 @@
 -- Of what the proofs speak: the state after a turn, what is kept in a later one, turns that bring no word, and events of agents.
-use Rattle.std.proofs.Common.{◌≡◌, ◌<◌, true, false, List, [], ◌∷◌, ◌++◌, ◌⊎◌, ◌==◌}
-use Rattle.std.specs.Prelude.{ℕ, Option, Some, None}
+use Rattle.std.proofs.Common.{◌≡◌, ◌<◌, true, false, ◌⊎◌, ◌==◌}
+use Rattle.std.specs.Prelude.{ℕ, Some, None}
 use Rattle.std.specs.List.{AllByRecursion, list_any}
 use Rattle.volt_wire.specs.Word.{Membership}
 use Rattle.volt_wire.specs.declared.actor.Actor.{Actor}
 use Rattle.volt_wire.specs.declared.actor.Actor.TheVariants.{Agent}
 use Rattle.volt_wire.specs.declared.message.Msg.TheVariants as msg
-use Rattle.cluster_model.specs.Words.{is_in, term_of, same_word, admits, with_admitted}
+use Rattle.cluster_model.specs.Words.{is_in, admits}
 use Rattle.cluster_model.specs.Letters.{Letter, Sends, Turn}
-use Rattle.cluster_model.specs.AgentState.{AgentState, Queued, Admission}
+use Rattle.cluster_model.specs.AgentState.{AgentState}
 use Rattle.cluster_model.specs.World.{took, sent, set_at}
 use Rattle.cluster_steps.specs.Lists.{In}
-use Rattle.word_laws.specs.Histories.{State, History, Admitted, Begun, Gone, IsOff, OwnIs, Earlier, Holds, start_at, names}
+use Rattle.word_laws.specs.Histories.{State, History, Admitted, Begun, Gone, OwnIs, Earlier, WordsHold, agent_start, names}
 
 -- ---- states
 
 -- the state after a turn of the agent of host n
-abbrev pub after : State → ℕ → AgentState → Sends → History → State
-after S n a out H = record S { agents = set_at S.agents n a; channel = sent S.channel (Agent n) out; history = H }
+abbrev pub after_agent : State → ℕ → AgentState → Sends → History → State
+after_agent S n a out H = record S { agents = set_at S.agents n a; channel = sent S.channel (Agent n) out; history = H }
 
 -- the state once the agent of host n took the first message from this actor
-abbrev pub popped : State → Actor → ℕ → State
-popped S from n = record S { channel = took S.channel from (Agent n) }
+abbrev pub agent_popped : State → Actor → ℕ → State
+agent_popped S from n = record S { channel = took S.channel from (Agent n) }
 
 -- What is so in S is so in T, for what only grows.
-pub record Later (S T : State) : Type 0 where
+pub record WordsLater (S T : State) : Type 0 where
   pub deployment : T.deployment ≡ S.deployment
   pub owner : T.owner ≡ S.owner
   pub first : T.history.first ≡ S.history.first
@@ -37,64 +37,6 @@ pub record Later (S T : State) : Type 0 where
   pub took_word : (s : ℕ) (w : Membership) → S.history.took s ≡ Some w → T.history.took s ≡ Some w
   pub decided : (w : Membership) → In w S.history.decided → In w T.history.decided
   pub admitted : (x : Admitted) → In x S.history.admitted → In x T.history.admitted
-
--- ---- a turn that brings no word
-
--- what an agent says to that of host g in such a turn
-abbrev pub Plain : ℕ → AgentState → ℕ → Letter → Type 0
-Plain n a g l = elim l.body as (λ _. Type 0) [
-  | msg.Word base lost admitted ↦ ⊥
-  | msg.Decided w ↦ (l.term ≡ 0) × (a.decided ≡ Some w)
-  | msg.Closed o ↦ ⊥
-  | msg.Admit j ↦ (j ≡ a.start) × ((n == g) ≡ false) × ((w : Membership) × (a.taken ≡ Some w) × (term_of w ≡ l.term))
-  | _ ↦ Unit {0}
-]
-
--- The initiator admitted a start that waited in its queue or came just now.
-pub record AdmitsNow (a : AgentState) (came : List Queued) (own : Option Membership) : Type 0 where
-  pub start : ℕ
-  pub host : ℕ
-  pub term : ℕ
-  pub word : Membership
-  pub decided : Membership
-  pub queued : In (Admission start host term) (a.initiating.queue ++ came)
-  pub is_own : a.own ≡ Some word
-  pub is_decided : a.decided ≡ Some decided
-  pub same : same_word word decided ≡ true
-  pub term_is : term_of word ≡ term
-  pub becomes : own ≡ Some (with_admitted start host word)
-  pub above : a.start < start
-  pub works : IsOff a.initiating.phase → ⊥
-
--- Of a turn in which the agent hears no word: it goes on, and at most admits a start.
-pub record Calm (n : ℕ) (a : AgentState) (came : List Queued) (t : Turn AgentState) : Type 0 where
-  pub start : t.state.start ≡ a.start
-  pub decided : t.state.decided ≡ a.decided
-  pub taken : t.state.taken ≡ a.taken
-  pub said : t.state.said ≡ a.said
-  pub waiting : t.state.waiting ≡ a.waiting
-  pub own : (t.state.own ≡ a.own) ⊎ AdmitsNow a came t.state.own
-  pub queue : (j h term : ℕ) → In (Admission j h term) t.state.initiating.queue → In (Admission j h term) (a.initiating.queue ++ came)
-  pub phase : IsOff t.state.initiating.phase ⊎ (IsOff a.initiating.phase → ⊥)
-  pub sends : (g : ℕ) → AllByRecursion (Plain n a g) (t.sends (Agent g))
-
--- the admission that a message asks for
-abbrev pub asked_by : Actor → Letter → List Queued
-asked_by (Agent g) l = elim l.body as (λ _. List Queued) [
-  | msg.Admit start ↦ Admission start g l.term ∷ []
-  | _ ↦ []
-]
-asked_by from l = []
-
--- the messages that bring words
-abbrev pub BringsWord : Actor → Letter → Type 0
-BringsWord (Agent g) l = elim l.body as (λ _. Type 0) [
-  | msg.Word base lost admitted ↦ Unit {0}
-  | msg.Decided w ↦ Unit {0}
-  | msg.Closed o ↦ Unit {0}
-  | _ ↦ ⊥
-]
-BringsWord from l = ⊥
 
 -- ---- what an agent's own word says
 
@@ -112,11 +54,11 @@ OwnAdmits j a = OwnIs (λ w. admits w j ≡ true) a
 abbrev pub Heeded : State → ℕ → Letter → Type 0
 Heeded S n l = elim l.body as (λ _. Type 0) [
   | msg.Word base lost admitted ↦
-      0 < start_at S n → l.start ≡ start_at S n
+      0 < agent_start S n → l.start ≡ agent_start S n
       → ((S.agents n).own ≡ None) ⊎ ((j : ℕ) → list_any (λ a. a.0 == j) admitted ≡ true → OwnAdmits j (S.agents n))
   | msg.Closed o ↦
-      0 < start_at S n
-      → OwnLost o (S.agents n) ⊎ ((w : Membership) → In w (S.history.said o) → names w (start_at S n) ≡ false)
+      0 < agent_start S n
+      → OwnLost o (S.agents n) ⊎ ((w : Membership) → In w (S.history.said o) → names w (agent_start S n) ≡ false)
   | _ ↦ Unit {0}
 ]
 
@@ -131,6 +73,21 @@ pub record Grows (G H : History) : Type 0 where
   pub decided : (w : Membership) → In w G.decided → In w H.decided
   pub admitted : (x : Admitted) → In x G.admitted → In x H.admitted
 
+-- A message tells of decided words alone, and of starts that have stopped.
+abbrev pub TellsKnown : State → Letter → Type 0
+TellsKnown S l = elim l.body as (λ _. Type 0) [
+  | msg.Word base lost admitted ↦ ⊥
+  | msg.Decided w ↦ In w S.history.decided
+  | msg.View w ↦ In w S.history.decided
+  | msg.Closed o ↦ Gone S o
+  | _ ↦ Unit {0}
+]
+
+-- so does what an agent says to others than agents
+abbrev pub ShownOk : State → Actor → Letter → Type 0
+ShownOk S (Agent g) l = Unit {0}
+ShownOk S b l = TellsKnown S l
+
 -- no start is admitted, and any may be
 abbrev pub Nobody : ℕ → ℕ → Type 0
 Nobody j h = ⊥
@@ -140,7 +97,8 @@ Anyone j h = Unit {0}
 
 -- The agent of host n took the first message from this actor, and that is its turn: what holds, holds after it, with a history
 -- that grew.
-pub record Goes (S : State) (n : ℕ) (from : Actor) (t : Turn AgentState) : Type 0 where
+pub record WordsGo (S : State) (n : ℕ) (from : Actor) (t : Turn AgentState) : Type 0 where
   pub history : History
   pub grows : Grows S.history history
-  pub holds : Holds (after (popped S from n) n t.state t.sends history)
+  pub holds : WordsHold (after_agent (agent_popped S from n) n t.state t.sends history)
+  pub shown : (b : Actor) → AllByRecursion (ShownOk (after_agent (agent_popped S from n) n t.state t.sends history) b) (t.sends b)

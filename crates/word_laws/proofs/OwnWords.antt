@@ -11,13 +11,13 @@ use Rattle.cluster_model.specs.Letters.{Letter, Sends, letter_to}
 use Rattle.cluster_model.specs.AgentState.{AgentState}
 use Rattle.cluster_model.specs.Agent.{word_to}
 use Rattle.cluster_steps.specs.Lists.{In, OnSome}
-use Rattle.word_laws.specs.Histories.{State, History, Admitted, Within, Alike, names, start_at, Runs, GoodWord, SaidBy, LetterOk, ClosesFrom, InOrder, CameOk, QueuedOk, WaitingOk, OwnOk, AgentOk, Falls, AdmittedOk, HistoryOk, IsClosed, Telling, OwnIs, Told, Holds}
+use Rattle.word_laws.specs.Histories.{State, History, Admitted, Within, Alike, names, agent_start, IsRunning, GoodWord, SaidBy, LetterOk, ClosesFrom, InOrder, CameOk, QueuedAdmissionOk, AgentWaitingOk, OwnOk, AgentOk, Falls, AdmittedOk, HistoryOk, IsClosed, Telling, OwnIs, Told, WordsHold}
 use Rattle.cluster_steps.proofs.Lists.{all-mono, some-here, some-mono, not-both, eqb-same, same-some, none-and-some, set-both}
 use Rattle.word_laws.proofs.Channels.{telling-left, telling-end}
 use Rattle.cluster_steps.proofs.Channels.{sent-keep}
 use Rattle.word_laws.proofs.Algebra.{within-trans, names-within}
 use Rattle.word_laws.proofs.Members.{start-is_member}
-use Rattle.word_laws.proofs.Moves.{after, Later}
+use Rattle.word_laws.proofs.Moves.{after_agent, WordsLater}
 use Rattle.word_laws.proofs.Agreement.{said-good, runs-not-lost, running-member, at-good}
 use Rattle.word_laws.proofs.Laters.{good-later, said_by-later, waiting-later, queued-later}
 use Rattle.word_laws.proofs.Steps.{later-after, came-after}
@@ -49,11 +49,11 @@ said_more said s v r = if r == s then v ∷ said s else said r
 -- the state once the agent of host n has this word, and has said it
 abbrev pub spoken : State → ℕ → Membership → (ℕ → Option Membership) → Sends → List Admitted → State
 spoken S n v heard out A =
-    after S n (record (S.agents n) { own = Some v; said = heard }) out (record S.history { said = said_more S.history.said (start_at S n) v; admitted = A })
+    after_agent S n (record (S.agents n) { own = Some v; said = heard }) out (record S.history { said = said_more S.history.said (agent_start S n) v; admitted = A })
 
 -- of the admissions after it, one that wasn't there before
 pub record NewHere (S : State) (n : ℕ) (v : Membership) (x : Admitted) : Type 0 where
-  pub by : x.by ≡ start_at S n
+  pub by : x.by ≡ agent_start S n
   pub within : Within x.at v
   pub holds : admits v x.start ≡ true
   pub word : Membership
@@ -63,10 +63,10 @@ pub record NewHere (S : State) (n : ℕ) (v : Membership) (x : Admitted) : Type 
 pub said-both : (P : ℕ → List Membership → Type 0) (said : ℕ → List Membership) (s : ℕ) (v : Membership) → P s (v ∷ said s) → ((r : ℕ) → (r ≡ s → ⊥) → P r (said r)) → (r : ℕ) → P r (said_more said s v r)
 said-both P said s v = set-both P said s (v ∷ said s)
 
-module _ (S : State) (H : Holds S) (n : ℕ) (w v : Membership) (heard : ℕ → Option Membership) (out : Sends) (A : List Admitted)
-    (up : 0 < start_at S n) (own : (S.agents n).own ≡ Some w) (low : Within w v) (member : names v (start_at S n) ≡ true)
+module _ (S : State) (H : WordsHold S) (n : ℕ) (w v : Membership) (heard : ℕ → Option Membership) (out : Sends) (A : List Admitted)
+    (up : 0 < agent_start S n) (own : (S.agents n).own ≡ Some w) (low : Within w v) (member : names v (agent_start S n) ≡ true)
     (hears : (k : ℕ) → OnSome (SaidBy S k) (heard k))
-    (sends : (g : ℕ) → out (Agent g) ≡ said_to n (start_at S n) v g)
+    (sends : (g : ℕ) → out (Agent g) ≡ said_to n (agent_start S n) v g)
     (grows : (x : Admitted) → In x S.history.admitted → In x A)
     (new : (x : Admitted) → In x A → In x S.history.admitted ⊎ NewHere S n v x)
     (good : GoodWord (spoken S n v heard out A) v)
@@ -76,7 +76,7 @@ module _ (S : State) (H : Holds S) (n : ℕ) (w v : Membership) (heard : ℕ →
     (between : (u : Membership) → In u S.history.decided → (x : Admitted) → In x A → Within x.at u → (Within u x.at → ⊥) → admits u x.start ≡ true)
     (knows : (x : Admitted) → In x A → is_in x.by v.lost ≡ true → admits v x.start ≡ true) where
   abbrev s : ℕ
-  s = start_at S n
+  s = agent_start S n
 
   abbrev a : AgentState
   a = record (S.agents n) { own = Some v; said = heard }
@@ -91,16 +91,16 @@ module _ (S : State) (H : Holds S) (n : ℕ) (w v : Membership) (heard : ℕ →
   owned : S.owner s ≡ n
   owned = ((H.hosts n).running up).0
 
-  starts : (h : ℕ) → start_at T h ≡ start_at S h
+  starts : (h : ℕ) → agent_start T h ≡ agent_start S h
   starts h = starts-on S n a out G refl h
 
-  runs-before : (r : ℕ) → Runs T r → Runs S r
+  runs-before : (r : ℕ) → IsRunning T r → IsRunning S r
   runs-before r e = sym (starts (S.owner r)) ∙ e
 
-  runs-here : Runs S s
-  runs-here = ap (start_at S) owned
+  runs-here : IsRunning S s
+  runs-here = ap (agent_start S) owned
 
-  later : Later S T
+  later : WordsLater S T
   later = later-after S n a out G (inl refl) refl refl
       (λ r u i. said-both (λ k us. (u : Membership) → In u (S.history.said k) → In u us) S.history.said s v (λ x j. inr j) (λ k d x j. j) r u i)
       (λ r u e. e) (λ u i. i) grows
@@ -212,7 +212,7 @@ module _ (S : State) (H : Holds S) (n : ℕ) (w v : Membership) (heard : ℕ →
   same-said r d = said-both (λ k us. (k ≡ s → ⊥) → us ≡ S.history.said k) S.history.said s v (λ e. absurd (e refl)) (λ k e f. refl) r d
 
   -- one that has no word isn't admitted
-  not-new : (h : ℕ) → 0 < start_at S h → (S.agents h).own ≡ None → (x : Admitted) → In x A → x.start ≡ start_at S h → ⊥
+  not-new : (h : ℕ) → 0 < agent_start S h → (S.agents h).own ≡ None → (x : Admitted) → In x A → x.start ≡ agent_start S h → ⊥
   not-new h u none x i e = elim (new x i) [
     | inl o ↦ ((H.agents h).alone u none).0.not_admitted x o e
     | inr b ↦ absurd (none-and-some ((H.agents h).untaken u ((H.agents h).wordless none)) (subst (λ z. S.history.took z ≡ Some b.word) e b.took))
@@ -238,8 +238,8 @@ module _ (S : State) (H : Holds S) (n : ℕ) (w v : Membership) (heard : ℕ →
     wordless = λ none. absurd (none-and-some none refl);
     joins = λ d t. absurd (none-and-some (k.joins d t) own);
     heard = λ g. some-mono (SaidBy S g) (SaidBy T g) (said_by-later S T later g) (heard g) (hears g);
-    waiting = all-mono (WaitingOk S n) (WaitingOk T n) (λ x. waiting-later S T n came x.from x.letter) (S.agents n).waiting k.waiting;
-    queue = all-mono (QueuedOk S n) (QueuedOk T n) (queued-later S T n came) (S.agents n).initiating.queue k.queue;
+    waiting = all-mono (AgentWaitingOk S n) (AgentWaitingOk T n) (λ x. waiting-later S T n came x.from x.letter) (S.agents n).waiting k.waiting;
+    queue = all-mono (QueuedAdmissionOk S n) (QueuedAdmissionOk T n) (queued-later S T n came) (S.agents n).initiating.queue k.queue;
     initiates = k.initiates;
   }
 
@@ -300,16 +300,16 @@ module _ (S : State) (H : Holds S) (n : ℕ) (w v : Membership) (heard : ℕ →
     where
       open-letter : (l : Letter) → LetterOk S h g l → IsClosed s l → ⊥
       open-letter l k = elim l.body as (λ m. LetterOk S h g (record l { body = m }) → IsClosed s (record l { body = m }) → ⊥) [
-        | msg.Closed o ↦ λ k e. k.2.1 (subst (Runs S) (sym e) runs-here)
+        | msg.Closed o ↦ λ k e. k.2.1 (subst (IsRunning S) (sym e) runs-here)
         | m ↦ λ k e. e
       ] k
 
-  told-new : (x : Admitted) → In x A → NewHere S n v x → (c : ℕ) → names x.at c ≡ true → (c ≡ x.by → ⊥) → Runs T c → Told T x c
+  told-new : (x : Admitted) → In x A → NewHere S n v x → (c : ℕ) → names x.at c ≡ true → (c ≡ x.by → ⊥) → IsRunning T c → Told T x c
   told-new x i b c named other runs = inr (telling, not-lost-there)
     where
       far : (S.owner c == n) ≡ false
       far = elim (cases_Bool (S.owner c == n)) [
-        | inl e ↦ absurd (other (sym (runs-before c runs) ∙ ap (start_at S) (eqb-true (S.owner c) n e) ∙ sym b.by))
+        | inl e ↦ absurd (other (sym (runs-before c runs) ∙ ap (agent_start S) (eqb-true (S.owner c) n e) ∙ sym b.by))
         | inr e ↦ e
       ]
 
@@ -342,11 +342,11 @@ module _ (S : State) (H : Holds S) (n : ℕ) (w v : Membership) (heard : ℕ →
       not-lost-there : (u : Membership) → (T.agents (S.owner c)).own ≡ Some u → is_in x.by u.lost ≡ true → ⊥
       not-lost-there u o l = not-both (is_in x.by u.lost) l
           (runs-not-lost T history u x.by
-          (some-here (OwnOk T (start_at T (S.owner c))) (T.agents (S.owner c)).own u o (continues-agents S H n a out G goes-on (S.owner c)).own).good
-          (subst (Runs T) (sym b.by) (starts (S.owner s) ∙ runs-here)))
+          (some-here (OwnOk T (agent_start T (S.owner c))) (T.agents (S.owner c)).own u o (continues-agents S H n a out G goes-on (S.owner c)).own).good
+          (subst (IsRunning T) (sym b.by) (starts (S.owner s) ∙ runs-here)))
 
   -- A member says its new word.
-  pub says-holds : Holds T
+  pub says-holds : WordsHold T
   says-holds = continues-holds S H n a out G goes-on (λ x i c named other runs. elim (new x i) [
     | inl o ↦ told-old x i c (H.told x o c named other runs)
     | inr b ↦ told-new x i b c named other (starts (S.owner c) ∙ runs)

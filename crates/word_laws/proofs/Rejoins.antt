@@ -5,7 +5,7 @@ use Rattle.std.proofs.lemmas.Bool.Decides.{nat_tests}
 use Rattle.std.specs.Prelude.{ℕ, ◌&&◌, ◌||◌, not, if◌then◌else◌, Option, Some, None}
 use Rattle.std.specs.List.{AllByRecursion, list_any}
 use Rattle.volt_wire.specs.Word.{Membership}
-use Rattle.volt_wire.specs.declared.actor.Actor.TheVariants.{Director, Agent}
+use Rattle.volt_wire.specs.declared.actor.Actor.TheVariants.{Director, Agent, Client, Site, Scanner}
 use Rattle.volt_wire.specs.declared.message.Msg.TheVariants as msg
 use Rattle.cluster_model.specs.Words.{Deployment, is_host, admits}
 use Rattle.cluster_model.specs.Letters.{Letter, Sends, open_letter}
@@ -14,12 +14,14 @@ use Rattle.cluster_model.specs.Agent.{on_start}
 use Rattle.cluster_model.specs.World.{set_at, took, rest}
 use Rattle.cluster_model.specs.Laws.{RiseFrom, starts_in}
 use Rattle.cluster_steps.specs.Lists.{In}
-use Rattle.word_laws.specs.Histories.{names, Admitted, History, State, start_at, starts_to, Begun, Runs, Gone, Earlier, HostOk, GoodWord, Unnamed, LetterOk, ClosesFrom, InOrder, ChannelOk, CameOk, AgentOk, HistoryOk, Telling, Closing, Told, Heard, Holds}
-use Rattle.cluster_steps.proofs.Lists.{all-mono, all-append, all-if, all-at, and-false, set-here, set-there, set-both, rise-lower, in-none, all-both, rise-above}
+use Rattle.word_laws.specs.Histories.{names, Admitted, History, State, agent_start, starts_to, Begun, IsRunning, Gone, Earlier, HostOk, GoodWord, Unnamed, LetterOk, ClosesFrom, InOrder, ChannelOk, CameOk, AgentOk, HistoryOk, Telling, ClosedUnderWay, Told, HearsClosed, WordsHold}
+use Rattle.cluster_steps.proofs.Lists.{all-mono, all-append, all-if, all-at, and-false, set-here, set-there, set-both, rise-lower, in-none, all-both, rise-above, all-from}
 use Rattle.word_laws.proofs.Channels.{telling-left, closing-left}
-use Rattle.word_laws.proofs.Moves.{OwnLost, OwnAdmits, Later, Grows, Goes, after, popped}
+use Rattle.word_laws.proofs.Moves.{OwnLost, OwnAdmits, WordsLater, Grows, WordsGo, after_agent, agent_popped, ShownOk}
 use Rattle.word_laws.proofs.Laters.{letter-later, came-later, closes-later, ask-began, order-later}
 use Rattle.word_laws.proofs.Steps.{history-renewed, agent-later, earlier-in}
+use Rattle.volt_wire.specs.declared.actor.Actor.{Actor}
+use Rattle.word_laws.proofs.Turns.{stops-shown, stops_with_host-say}
 
 -- ---- channels
 
@@ -58,7 +60,7 @@ first-order s k began (l ∷ ls) h = (
 
 -- The first start under way to a stopped agent, which then has it, or has stopped at once.
 pub record TakesStart (S : State) (n s k : ℕ) (out : Sends) : Type 0 where
-  pub stopped : start_at S n ≡ 0
+  pub stopped : agent_start S n ≡ 0
   pub host : is_host S.deployment n ≡ true
   pub comes : starts_to S n ≡ s ∷ starts_in (rest (S.channel Director (Agent n)))
   pub goes : (k ≡ s) ⊎ (k ≡ 0)
@@ -68,9 +70,9 @@ pub record TakesStart (S : State) (n s k : ℕ) (out : Sends) : Type 0 where
 abbrev pub with_began : History → ℕ → ℕ → History
 with_began H n s = record H { began = set_at H.began n (s ∷ H.began n) }
 
-module _ (S : State) (n s k : ℕ) (out : Sends) (h : Holds S) (c : TakesStart S n s k out) where
+module _ (S : State) (n s k : ℕ) (out : Sends) (h : WordsHold S) (c : TakesStart S n s k out) where
   abbrev T : State
-  T = after (popped S Director n) n (new_agent k) out (with_began S.history n s)
+  T = after_agent (agent_popped S Director n) n (new_agent k) out (with_began S.history n s)
 
   drawn : (S.owner s ≡ n) × (0 < s) × (s < S.next)
   drawn = let a = subst (λ xs. AllByRecursion (λ x. (S.owner x ≡ n) × (0 < x) × (x < S.next)) xs) c.comes (h.hosts n).owned in a.0
@@ -118,16 +120,16 @@ module _ (S : State) (n s k : ℕ) (out : Sends) (h : Holds S) (c : TakesStart S
 
   -- ---- later
 
-  run-here : start_at T n ≡ k
+  run-here : agent_start T n ≡ k
   run-here = ap (λ a. a.start) (set-here S.agents n (new_agent k))
 
   run-there : (g : ℕ) → (g ≡ n → ⊥) → T.agents g ≡ S.agents g
   run-there g d = set-there S.agents n (new_agent k) g d
 
   -- of a start that began before, only the agent of another host runs with it
-  runs-before : (x : ℕ) → Begun S x → Runs T x → (S.owner x ≡ n → ⊥) × Runs S x
+  runs-before : (x : ℕ) → Begun S x → IsRunning T x → (S.owner x ≡ n → ⊥) × IsRunning S x
   runs-before x b r = elim (cases_eq (S.owner x) n) [
-    | inl e ↦ let f : k ≡ x = sym run-here ∙ ap (λ y. start_at T y) (sym e) ∙ r in elim c.goes [
+    | inl e ↦ let f : k ≡ x = sym run-here ∙ ap (λ y. agent_start T y) (sym e) ∙ r in elim c.goes [
       | inl q ↦ absurd (not-begun (subst (λ y. Begun S y) (sym f ∙ q) b))
       | inr z ↦ absurd (omega (arith, f, z, b.some))
     ]
@@ -137,7 +139,7 @@ module _ (S : State) (n s k : ℕ) (out : Sends) (h : Holds S) (c : TakesStart S
   begun-later : (x : ℕ) → Begun S x → Begun T x
   begun-later x b = record { some = b.some; below = b.below; host = b.host; began = began-keeps (S.owner x) x b.began }
 
-  later : Later S T
+  later : WordsLater S T
   later = record {
     deployment = refl;
     owner = refl;
@@ -222,8 +224,8 @@ module _ (S : State) (n s k : ℕ) (out : Sends) (h : Holds S) (c : TakesStart S
       let o = subst (λ xs. AllByRecursion (λ x. (S.owner x ≡ n) × (0 < x) × (x < S.next)) xs) c.comes (h.hosts n).owned in
       record {
         environment = λ e. absurd (cc (c.host, e));
-        running = λ u. let e : start_at T n ≡ s = run-here ∙ goes-on (subst (λ x. 0 < x) run-here u) in rw e (drawn.0, drawn.2);
-        last = λ u. let e : start_at T n ≡ s = run-here ∙ goes-on (subst (λ x. 0 < x) run-here u) in (S.history.began n, rw e began-here);
+        running = λ u. let e : agent_start T n ≡ s = run-here ∙ goes-on (subst (λ x. 0 < x) run-here u) in rw e (drawn.0, drawn.2);
+        last = λ u. let e : agent_start T n ≡ s = run-here ∙ goes-on (subst (λ x. 0 < x) run-here u) in (S.history.began n, rw e began-here);
         began = rw began-here (drawn, (h.hosts n).began);
         distinct = rw began-here (unbegun, (h.hosts n).distinct);
         owned = rw starts-here o.1;
@@ -233,7 +235,7 @@ module _ (S : State) (n s k : ℕ) (out : Sends) (h : Holds S) (c : TakesStart S
 
   host-there : (g : ℕ) → (g ≡ n → ⊥) → HostOk T g
   host-there g d =
-      let e : start_at T g ≡ start_at S g = ap (λ a. a.start) (run-there g d) in
+      let e : agent_start T g ≡ agent_start S g = ap (λ a. a.start) (run-there g d) in
       let k = h.hosts g in
       record {
         environment = λ o. e ∙ k.environment o;
@@ -264,8 +266,8 @@ module _ (S : State) (n s k : ℕ) (out : Sends) (h : Holds S) (c : TakesStart S
         | m ↦ λ q. tt
       ] p
 
-  not-running : k ≡ 0 → Runs T s → ⊥
-  not-running z r = let e : k ≡ s = sym run-here ∙ ap (λ y. start_at T y) (sym drawn.0) ∙ r in absurd (omega (arith, e, z, drawn.1))
+  not-running : k ≡ 0 → IsRunning T s → ⊥
+  not-running z r = let e : k ≡ s = sym run-here ∙ ap (λ y. agent_start T y) (sym drawn.0) ∙ r in absurd (omega (arith, e, z, drawn.1))
 
   first-letters : (g f : ℕ) → g ≡ n → (ls : List Letter) → AllByRecursion (FirstSays s k) ls → AllByRecursion (LetterOk T g f) ls
   first-letters g f e ls a = all-mono (FirstSays s k) (LetterOk T g f) (λ l p. one l p) ls a
@@ -275,6 +277,7 @@ module _ (S : State) (n s k : ℕ) (out : Sends) (h : Holds S) (c : TakesStart S
         | msg.Word base lost admitted ↦ λ q. absurd q
         | msg.Decided w ↦ λ q. absurd q
         | msg.Admit j ↦ λ q. absurd q
+        | msg.View w ↦ λ q. absurd q
         | msg.Closed o ↦ λ q. (q.0, q.1, subst (λ x. Gone T x) (sym q.2) (begun-new, λ r. not-running q.3 r), ap S.owner q.2 ∙ drawn.0 ∙ sym e)
         | m ↦ λ q. tt
       ] p
@@ -381,15 +384,15 @@ module _ (S : State) (n s k : ℕ) (out : Sends) (h : Holds S) (c : TakesStart S
     )
   ]
 
-  told : (x : Admitted) → In x S.history.admitted → (y : ℕ) → names x.at y ≡ true → (y ≡ x.by → ⊥) → Runs T y → Told T x y
+  told : (x : Admitted) → In x S.history.admitted → (y : ℕ) → names x.at y ≡ true → (y ≡ x.by → ⊥) → IsRunning T y → Told T x y
   told x i y m other r =
       let b = (h.history.decided_good x.at (h.history.admitted_ok x i).decided).named_begun y m in
       let q = runs-before y b r in
       told-later x y q.0 (h.told x i y m other q.1)
 
-  heard-later : (g o : ℕ) → (g ≡ n → ⊥) → Heard S g o → Heard T g o
+  heard-later : (g o : ℕ) → (g ≡ n → ⊥) → HearsClosed S g o → HearsClosed T g o
   heard-later g o d t = elim t [
-    | inl p ↦ inl (let r = grows (S.owner o) g in subst (λ ls. Closing o ls) (sym r.ends) (closing-left o (S.channel (Agent (S.owner o)) (Agent g)) r.more p))
+    | inl p ↦ inl (let r = grows (S.owner o) g in subst (λ ls. ClosedUnderWay o ls) (sym r.ends) (closing-left o (S.channel (Agent (S.owner o)) (Agent g)) r.more p))
     | inr p ↦ elim p [
       | inl q ↦ inr (inl (subst (λ a. OwnLost o a) (sym (run-there g d)) q))
       | inr q ↦ inr (inr (λ w i. rw (ap (λ a. a.start) (run-there g d)) (q w i)))
@@ -397,28 +400,28 @@ module _ (S : State) (n s k : ℕ) (out : Sends) (h : Holds S) (c : TakesStart S
   ]
 
   -- one that began before, and doesn't run now, had stopped
-  gone-before : (o : ℕ) → Begun S o → (Runs T o → ⊥) → Gone S o
+  gone-before : (o : ℕ) → Begun S o → (IsRunning T o → ⊥) → Gone S o
   gone-before o b d = (
     b,
     λ r. elim (cases_eq (S.owner o) n) [
-      | inl e ↦ absurd (omega (arith, b.some, sym r ∙ ap (λ x. start_at S x) e ∙ c.stopped))
+      | inl e ↦ absurd (omega (arith, b.some, sym r ∙ ap (λ x. agent_start S x) e ∙ c.stopped))
       | inr f ↦ d (ap (λ a. a.start) (run-there (S.owner o) f) ∙ r)
     ],
   )
 
-  heard : (g o : ℕ) → 0 < start_at T g → Gone T o → (S.owner o ≡ g → ⊥) → Heard T g o
+  heard : (g o : ℕ) → 0 < agent_start T g → Gone T o → (S.owner o ≡ g → ⊥) → HearsClosed T g o
   heard g o u q other = elim (begun-cases o q.0) [
     | inl e ↦ inr (inr (λ w i. absurd (nothing-said w (subst (λ x. In w (S.history.said x)) e i))))
     | inr b ↦ elim (cases_eq g n) [
       | inl e ↦ inr (inr (λ w i.
-          let v : start_at T g ≡ s = ap (λ x. start_at T x) e ∙ run-here ∙ goes-on (subst (λ x. 0 < x) (ap (λ x. start_at T x) e ∙ run-here) u) in
+          let v : agent_start T g ≡ s = ap (λ x. agent_start T x) e ∙ run-here ∙ goes-on (subst (λ x. 0 < x) (ap (λ x. agent_start T x) e ∙ run-here) u) in
           rw v (not-named w (all-at (GoodWord S) (S.history.said o) (h.history.said_good o) w i))))
       | inr d ↦ heard-later g o d (h.heard g o (subst (λ x. 0 < x) (ap (λ a. a.start) (run-there g d)) u) (gone-before o b q.1) other)
     ]
   ]
 
   -- What holds, holds once the agent took it.
-  pub takes_start-holds : Holds T
+  pub takes_start-holds : WordsHold T
   takes_start-holds = record {
     some = h.some;
     hosts = host-ok;
@@ -440,9 +443,9 @@ closed-says D n s g =
     (all-if (FirstSays s 0) (g == n) [] (open_letter (msg.Closed s) ∷ []) tt ((refl, refl, refl, refl), tt)) tt
 
 -- The stopped agent of host n takes start s.
-pub start-holds : (S : State) (n s : ℕ) → Holds S → start_at S n ≡ 0 → is_host S.deployment n ≡ true
+pub start-holds : (S : State) (n s : ℕ) → WordsHold S → agent_start S n ≡ 0 → is_host S.deployment n ≡ true
     → starts_to S n ≡ s ∷ starts_in (rest (S.channel Director (Agent n)))
-    → Holds (after (popped S Director n) n (on_start S.deployment n s).state (on_start S.deployment n s).sends (with_began S.history n s))
+    → WordsHold (after_agent (agent_popped S Director n) n (on_start S.deployment n s).state (on_start S.deployment n s).sends (with_began S.history n s))
 start-holds S n s h stopped host comes = takes_start-holds S n s s (on_start S.deployment n s).sends h (record {
   stopped = stopped;
   host = host;
@@ -452,9 +455,9 @@ start-holds S n s h stopped host comes = takes_start-holds S n s s (on_start S.d
 })
 
 -- It takes start s, finds no memory and stops with its host.
-pub start-stops-holds : (S : State) (n s : ℕ) → Holds S → start_at S n ≡ 0 → is_host S.deployment n ≡ true
+pub start-stops-holds : (S : State) (n s : ℕ) → WordsHold S → agent_start S n ≡ 0 → is_host S.deployment n ≡ true
     → starts_to S n ≡ s ∷ starts_in (rest (S.channel Director (Agent n)))
-    → Holds (after (popped S Director n) n (stops_with_host S.deployment n s).state (stops_with_host S.deployment n s).sends (with_began S.history n s))
+    → WordsHold (after_agent (agent_popped S Director n) n (stops_with_host S.deployment n s).state (stops_with_host S.deployment n s).sends (with_began S.history n s))
 start-stops-holds S n s h stopped host comes = takes_start-holds S n s 0 (stops_with_host S.deployment n s).sends h (record {
   stopped = stopped;
   host = host;
@@ -475,19 +478,48 @@ start-grows H n s = record {
 }
 
 -- it runs
-pub start-goes : (S : State) (n s : ℕ) → Holds S → start_at S n ≡ 0 → is_host S.deployment n ≡ true
-    → starts_to S n ≡ s ∷ starts_in (rest (S.channel Director (Agent n))) → Goes S n Director (on_start S.deployment n s)
+pub start-goes : (S : State) (n s : ℕ) → WordsHold S → agent_start S n ≡ 0 → is_host S.deployment n ≡ true
+    → starts_to S n ≡ s ∷ starts_in (rest (S.channel Director (Agent n))) → WordsGo S n Director (on_start S.deployment n s)
 start-goes S n s h stopped host comes = record {
   history = with_began S.history n s;
   grows = start-grows S.history n s;
   holds = start-holds S n s h stopped host comes;
+  shown = shows;
 }
+  where
+    T : State
+    T = after_agent (agent_popped S Director n) n (new_agent s) (on_start S.deployment n s).sends (with_began S.history n s)
+
+    shows : (b : Actor) → AllByRecursion (ShownOk T b) ((on_start S.deployment n s).sends b)
+    shows (Agent g) = all-from (ShownOk T (Agent g)) _ (λ l i. tt)
+    shows Director = tt
+    shows (Client c) = tt
+    shows (Site c) = tt
+    shows (Scanner c) = tt
 
 -- it has stopped at once
-pub start-stops-goes : (S : State) (n s : ℕ) → Holds S → start_at S n ≡ 0 → is_host S.deployment n ≡ true
-    → starts_to S n ≡ s ∷ starts_in (rest (S.channel Director (Agent n))) → Goes S n Director (stops_with_host S.deployment n s)
+pub start-stops-goes : (S : State) (n s : ℕ) → WordsHold S → agent_start S n ≡ 0 → is_host S.deployment n ≡ true
+    → starts_to S n ≡ s ∷ starts_in (rest (S.channel Director (Agent n))) → WordsGo S n Director (stops_with_host S.deployment n s)
 start-stops-goes S n s h stopped host comes = record {
   history = with_began S.history n s;
   grows = start-grows S.history n s;
   holds = start-stops-holds S n s h stopped host comes;
+  shown = λ b. stops-shown T s gone b ((stops_with_host S.deployment n s).sends b) (stops_with_host-say S.deployment n s b);
 }
+  where
+    T : State
+    T = after_agent (agent_popped S Director n) n (new_agent 0) (stops_with_host S.deployment n s).sends (with_began S.history n s)
+
+    drawn : (S.owner s ≡ n) × (0 < s) × (s < S.next)
+    drawn = (subst (AllByRecursion (λ x. (S.owner x ≡ n) × (0 < x) × (x < S.next))) comes (h.hosts n).owned).0
+
+    gone : Gone T s
+    gone = (
+      record {
+        some = drawn.1;
+        below = drawn.2;
+        host = ap (is_host S.deployment) drawn.0 ∙ host;
+        began = subst (λ z. In s (set_at S.history.began n (s ∷ S.history.began n) z)) (sym drawn.0) (subst (In s) (sym (set-here S.history.began n (s ∷ S.history.began n))) (inl refl));
+      },
+      λ r. absurd (omega (arith, drawn.1, sym (ap (λ x. x.start) (subst (λ z. set_at S.agents n (new_agent 0) z ≡ new_agent 0) (sym drawn.0) (set-here S.agents n (new_agent 0)))) ∙ r)),
+    )

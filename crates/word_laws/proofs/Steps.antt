@@ -9,17 +9,18 @@ use Rattle.volt_wire.specs.Word.{Membership}
 use Rattle.volt_wire.specs.declared.actor.Actor.{Actor}
 use Rattle.volt_wire.specs.declared.actor.Actor.TheVariants.{Director, Client, Agent, Site, Scanner}
 use Rattle.volt_wire.specs.declared.message.Msg.TheVariants as msg
-use Rattle.cluster_model.specs.Words.{is_in, is_host, admits, initiator}
+use Rattle.cluster_model.specs.Words.{is_in, is_host, admits, initiator, Deployment}
 use Rattle.cluster_model.specs.Letters.{same, Letter, Sends, Turn, Waiting, open_letter}
 use Rattle.cluster_model.specs.AgentState.{AgentState, Queued, Job_, Admission, initiates, is_initiator_in, new_agent}
 use Rattle.cluster_model.specs.World.{took, sent, rest, set_at}
 use Rattle.cluster_model.specs.Laws.{RiseFrom, starts_in}
 use Rattle.cluster_steps.specs.Lists.{In, OnSome}
-use Rattle.word_laws.specs.Histories.{State, History, Admitted, Begun, Runs, Gone, Earlier, Distinct, HostOk, GoodWord, SaidBy, Unnamed, LetterOk, ClosesFrom, InOrder, CameOk, QueuedOk, WaitingFrom, WaitingOk, IsOff, OwnOk, AgentOk, HistoryOk, Tells, IsClosed, Telling, Closing, OwnIs, Told, Heard, Holds, names, start_at, starts_to}
+use Rattle.word_laws.specs.Histories.{State, History, Admitted, Begun, IsRunning, Gone, Earlier, Distinct, HostOk, GoodWord, SaidBy, Unnamed, LetterOk, ClosesFrom, InOrder, CameOk, QueuedAdmissionOk, AgentWaitingFrom, AgentWaitingOk, IsOff, OwnOk, AgentOk, HistoryOk, TellsAdmission, IsClosed, Telling, ClosedUnderWay, OwnIs, Told, HearsClosed, WordsHold, names, agent_start, starts_to}
 use Rattle.cluster_steps.proofs.Lists.{all-append, all-mono, all-at, all-from, in-cases, some-here, some-mono, all-filter, set-twice}
 use Rattle.word_laws.proofs.Channels.{telling-left, closing-left, closing-right, order-append, order-rest}
 use Rattle.cluster_steps.proofs.Channels.{sent-both, sent-keep, taken-both, took-starts, took-all, sent-twice}
-use Rattle.word_laws.proofs.Moves.{OwnLost, OwnAdmits, Later, after, popped, Plain, Calm, Heeded}
+use Rattle.word_laws.proofs.Moves.{OwnLost, OwnAdmits, WordsLater, after_agent, agent_popped, Heeded}
+use Rattle.word_laws.proofs.Calm.{SaysNoWord, Calm}
 use Rattle.word_laws.proofs.Laters.{good-later, letter-later, own-later, said_by-later, admitted_ok-later, unnamed-later, came-later, waiting-later, queued-later}
 
 -- actors that the model takes for the same are
@@ -34,29 +35,29 @@ same-true _ _ e = absurd (false≢true e)
 -- ---- an agent's start after its turn
 
 -- it keeps its start, or has stopped
-abbrev pub GoesOn : State → ℕ → AgentState → Type 0
-GoesOn S n a = (a.start ≡ start_at S n) ⊎ (a.start ≡ 0)
+abbrev pub StartGoesOn : State → ℕ → AgentState → Type 0
+StartGoesOn S n a = (a.start ≡ agent_start S n) ⊎ (a.start ≡ 0)
 
 -- so does the agent of each host
-pub starts-after : (S : State) (n : ℕ) (a : AgentState) (out : Sends) (H : History) → GoesOn S n a
-    → (h : ℕ) → (start_at (after S n a out H) h ≡ start_at S h) ⊎ (start_at (after S n a out H) h ≡ 0)
+pub starts-after : (S : State) (n : ℕ) (a : AgentState) (out : Sends) (H : History) → StartGoesOn S n a
+    → (h : ℕ) → (agent_start (after_agent S n a out H) h ≡ agent_start S h) ⊎ (agent_start (after_agent S n a out H) h ≡ 0)
 starts-after S n a out H e h = choice (h == n) refl
   where
-    choice : (c : Bool) → (h == n) ≡ c → ((if c then a else S.agents h).start ≡ start_at S h) ⊎ ((if c then a else S.agents h).start ≡ 0)
+    choice : (c : Bool) → (h == n) ≡ c → ((if c then a else S.agents h).start ≡ agent_start S h) ⊎ ((if c then a else S.agents h).start ≡ 0)
     choice false q = inl refl
     choice true q = elim e [
-      | inl x ↦ inl (x ∙ ap (λ k. start_at S k) (sym (eqb-true h n q)))
+      | inl x ↦ inl (x ∙ ap (λ k. agent_start S k) (sym (eqb-true h n q)))
       | inr x ↦ inr x
     ]
 
 -- starts that began, where the lists of them only grow
 pub begun-after : (S : State) (n : ℕ) (a : AgentState) (out : Sends) (H : History) → ((h s : ℕ) → In s (S.history.began h) → In s (H.began h))
-    → (s : ℕ) → Begun S s → Begun (after S n a out H) s
+    → (s : ℕ) → Begun S s → Begun (after_agent S n a out H) s
 begun-after S n a out H keeps s b = record { some = b.some; below = b.below; host = b.host; began = keeps (S.owner s) s b.began }
 
 -- starts that have stopped stay so
-pub gone-after : (S : State) (n : ℕ) (a : AgentState) (out : Sends) (H : History) → ((h s : ℕ) → In s (S.history.began h) → In s (H.began h)) → GoesOn S n a
-    → (s : ℕ) → Gone S s → Gone (after S n a out H) s
+pub gone-after : (S : State) (n : ℕ) (a : AgentState) (out : Sends) (H : History) → ((h s : ℕ) → In s (S.history.began h) → In s (H.began h)) → StartGoesOn S n a
+    → (s : ℕ) → Gone S s → Gone (after_agent S n a out H) s
 gone-after S n a out H keeps e s g = (
   begun-after S n a out H keeps s g.0,
   λ r. elim (starts-after S n a out H e (S.owner s)) [
@@ -66,12 +67,12 @@ gone-after S n a out H keeps e s g = (
 )
 
 -- where the starts that began stay, and the rest of the history only grows
-pub later-after : (S : State) (n : ℕ) (a : AgentState) (out : Sends) (H : History) → GoesOn S n a → H.first ≡ S.history.first → H.began ≡ S.history.began
+pub later-after : (S : State) (n : ℕ) (a : AgentState) (out : Sends) (H : History) → StartGoesOn S n a → H.first ≡ S.history.first → H.began ≡ S.history.began
     → ((s : ℕ) (w : Membership) → In w (S.history.said s) → In w (H.said s))
     → ((s : ℕ) (w : Membership) → S.history.took s ≡ Some w → H.took s ≡ Some w)
     → ((w : Membership) → In w S.history.decided → In w H.decided)
     → ((x : Admitted) → In x S.history.admitted → In x H.admitted)
-    → Later S (after S n a out H)
+    → WordsLater S (after_agent S n a out H)
 later-after S n a out H e first began said took_word decided admitted = record {
   deployment = refl;
   owner = refl;
@@ -90,7 +91,7 @@ later-after S n a out H e first began said took_word decided admitted = record {
     keeps h s i = subst (λ f. In s (f h)) (sym began) i
 
 -- what holds of a host, where the starts that began stay
-pub host-after : (S : State) (n : ℕ) (a : AgentState) (out : Sends) (H : History) → GoesOn S n a → H.began ≡ S.history.began → (h : ℕ) → HostOk S h → HostOk (after S n a out H) h
+pub host-after : (S : State) (n : ℕ) (a : AgentState) (out : Sends) (H : History) → StartGoesOn S n a → H.began ≡ S.history.began → (h : ℕ) → HostOk S h → HostOk (after_agent S n a out H) h
 host-after S n a out H e began h k = record {
   environment = λ o. elim runs [ inl q ↦ q ∙ k.environment o | inr z ↦ z ];
   running = λ up. subst (λ x. (S.owner x ≡ h) × (x < S.next)) (sym (same-start up)) (k.running (subst (λ x. 0 < x) (same-start up) up));
@@ -102,27 +103,27 @@ host-after S n a out H e began h k = record {
   rising = k.rising;
 }
   where
-    runs : (start_at (after S n a out H) h ≡ start_at S h) ⊎ (start_at (after S n a out H) h ≡ 0)
+    runs : (agent_start (after_agent S n a out H) h ≡ agent_start S h) ⊎ (agent_start (after_agent S n a out H) h ≡ 0)
     runs = starts-after S n a out H e h
 
-    same-start : 0 < start_at (after S n a out H) h → start_at (after S n a out H) h ≡ start_at S h
+    same-start : 0 < agent_start (after_agent S n a out H) h → agent_start (after_agent S n a out H) h ≡ agent_start S h
     same-start up = elim runs [ inl q ↦ q | inr z ↦ absurd (omega (arith, z, up)) ]
 
 -- ---- where the history stays
 
 -- other agents and other channels, with the history as it was
-abbrev pub moved : State → (ℕ → AgentState) → (Actor → Actor → List Letter) → State
-moved S agents channel = record S { agents = agents; channel = channel }
+abbrev pub words_moved : State → (ℕ → AgentState) → (Actor → Actor → List Letter) → State
+words_moved S agents channel = record S { agents = agents; channel = channel }
 
-pub begun-moved : (S : State) (agents : ℕ → AgentState) (channel : Actor → Actor → List Letter) (s : ℕ) → Begun S s → Begun (moved S agents channel) s
+pub begun-moved : (S : State) (agents : ℕ → AgentState) (channel : Actor → Actor → List Letter) (s : ℕ) → Begun S s → Begun (words_moved S agents channel) s
 begun-moved S agents channel s b = record { some = b.some; below = b.below; host = b.host; began = b.began }
 
 -- what began behind it began before
-pub begun-back : (S : State) (agents : ℕ → AgentState) (channel : Actor → Actor → List Letter) (s : ℕ) → Begun (moved S agents channel) s → Begun S s
+pub begun-back : (S : State) (agents : ℕ → AgentState) (channel : Actor → Actor → List Letter) (s : ℕ) → Begun (words_moved S agents channel) s → Begun S s
 begun-back S agents channel s b = record { some = b.some; below = b.below; host = b.host; began = b.began }
 
 -- where what runs ran before
-pub later-moved : (S : State) (agents : ℕ → AgentState) (channel : Actor → Actor → List Letter) → ((s : ℕ) → Begun S s → (agents (S.owner s)).start ≡ s → Runs S s) → Later S (moved S agents channel)
+pub later-moved : (S : State) (agents : ℕ → AgentState) (channel : Actor → Actor → List Letter) → ((s : ℕ) → Begun S s → (agents (S.owner s)).start ≡ s → IsRunning S s) → WordsLater S (words_moved S agents channel)
 later-moved S agents channel runs = record {
   deployment = refl;
   owner = refl;
@@ -138,14 +139,14 @@ later-moved S agents channel runs = record {
 }
 
 -- where at most more starts began, or took a word
-abbrev pub renewed : State → (ℕ → AgentState) → (Actor → Actor → List Letter) → (ℕ → List ℕ) → (ℕ → Option Membership) → State
-renewed S agents channel began took_word = record S { agents = agents; channel = channel; history = record S.history { began = began; took = took_word } }
+abbrev pub words_renewed : State → (ℕ → AgentState) → (Actor → Actor → List Letter) → (ℕ → List ℕ) → (ℕ → Option Membership) → State
+words_renewed S agents channel began took_word = record S { agents = agents; channel = channel; history = record S.history { began = began; took = took_word } }
 
 -- what holds of the history, if it holds of the words that starts took
-pub history-renewed : (S : State) (agents : ℕ → AgentState) (channel : Actor → Actor → List Letter) (began : ℕ → List ℕ) (K : ℕ → Option Membership) → Later S (renewed S agents channel began K)
-    → ((j : ℕ) (w : Membership) → K j ≡ Some w → In w S.history.decided × Begun (renewed S agents channel began K) j × ((s : ℕ) → names w s ≡ true → S.owner s ≡ S.owner j → Earlier s j (began (S.owner j))) × (is_in j w.lost ≡ false))
-    → HistoryOk S → HistoryOk (renewed S agents channel began K)
-history-renewed S agents channel began K f took_ok h = let T = renewed S agents channel began K in record {
+pub history-renewed : (S : State) (agents : ℕ → AgentState) (channel : Actor → Actor → List Letter) (began : ℕ → List ℕ) (K : ℕ → Option Membership) → WordsLater S (words_renewed S agents channel began K)
+    → ((j : ℕ) (w : Membership) → K j ≡ Some w → In w S.history.decided × Begun (words_renewed S agents channel began K) j × ((s : ℕ) → names w s ≡ true → S.owner s ≡ S.owner j → Earlier s j (began (S.owner j))) × (is_in j w.lost ≡ false))
+    → HistoryOk S → HistoryOk (words_renewed S agents channel began K)
+history-renewed S agents channel began K f took_ok h = let T = words_renewed S agents channel began K in record {
   first_owned = h.first_owned;
   first_one = h.first_one;
   first_plain = h.first_plain;
@@ -166,11 +167,11 @@ history-renewed S agents channel began K f took_ok h = let T = renewed S agents 
   nothing_between = h.nothing_between;
 }
 
-pub history-moved : (S : State) (agents : ℕ → AgentState) (channel : Actor → Actor → List Letter) → Later S (moved S agents channel) → HistoryOk S → HistoryOk (moved S agents channel)
+pub history-moved : (S : State) (agents : ℕ → AgentState) (channel : Actor → Actor → List Letter) → WordsLater S (words_moved S agents channel) → HistoryOk S → HistoryOk (words_moved S agents channel)
 history-moved S agents channel f h = history-renewed S agents channel S.history.began S.history.took f (λ j w e. let k = h.took_ok j w e in (k.0, f.begun j k.1, k.2, k.3)) h
 
 -- an agent of which nothing changes, and whose start said and took nothing
-pub agent-later : (S T : State) → Later S T → (h : ℕ) (a : AgentState) → T.history.said a.start ≡ S.history.said a.start → T.history.took a.start ≡ S.history.took a.start
+pub agent-later : (S T : State) → WordsLater S T → (h : ℕ) (a : AgentState) → T.history.said a.start ≡ S.history.said a.start → T.history.took a.start ≡ S.history.took a.start
     → (0 < a.start → a.own ≡ None → (x : Admitted) → In x T.history.admitted → x.start ≡ a.start → In x S.history.admitted)
     → ((k term j : ℕ) → CameOk S k h term j → CameOk T k h term j) → AgentOk S h a → AgentOk T h a
 agent-later S T f h a said took_word admitted came k = record {
@@ -182,14 +183,14 @@ agent-later S T f h a said took_word admitted came k = record {
   wordless = k.wordless;
   joins = k.joins;
   heard = λ g. some-mono (SaidBy S g) (SaidBy T g) (said_by-later S T f g) (a.said g) (k.heard g);
-  waiting = all-mono (WaitingOk S h) (WaitingOk T h) (λ x p. waiting-later S T h came x.from x.letter p) a.waiting k.waiting;
-  queue = all-mono (QueuedOk S h) (QueuedOk T h) (queued-later S T h came) a.initiating.queue k.queue;
+  waiting = all-mono (AgentWaitingOk S h) (AgentWaitingOk T h) (λ x p. waiting-later S T h came x.from x.letter p) a.waiting k.waiting;
+  queue = all-mono (QueuedAdmissionOk S h) (QueuedAdmissionOk T h) (queued-later S T h came) a.initiating.queue k.queue;
   initiates = k.initiates;
 }
 
 -- an agent that differs in its queue and phase alone, as far as words go
 pub agent-same : (S : State) (h : ℕ) (a b : AgentState) → b.start ≡ a.start → b.own ≡ a.own → b.decided ≡ a.decided → b.taken ≡ a.taken → b.said ≡ a.said
-    → AllByRecursion (WaitingOk S h) b.waiting → AllByRecursion (QueuedOk S h) b.initiating.queue → IsOff b.initiating.phase ⊎ (initiates h b b.decided ≡ true) → AgentOk S h a → AgentOk S h b
+    → AllByRecursion (AgentWaitingOk S h) b.waiting → AllByRecursion (QueuedAdmissionOk S h) b.initiating.queue → IsOff b.initiating.phase ⊎ (initiates h b b.decided ≡ true) → AgentOk S h a → AgentOk S h b
 agent-same S h a b start own decided taken said waiting queue phase k = record {
   own = subst (λ s. OnSome (OwnOk S s) b.own) (sym start) (subst (λ o. OnSome (OwnOk S a.start) o) (sym own) k.own);
   alone = λ up e. subst (λ s. Unnamed S s × (S.history.said s ≡ [])) (sym start) (k.alone (subst (λ s. 0 < s) start up) (sym own ∙ e));
@@ -213,9 +214,9 @@ own_is-keep P a b e k = (k.0, e ∙ k.1, k.2)
 pub channel-moves : (S : State) (ch : Actor → Actor → List Letter) → ((h : ℕ) → starts_in (ch Director (Agent h)) ≡ starts_to S h)
     → ((P : Letter → Type 0) (h g : ℕ) → AllByRecursion P (S.channel (Agent h) (Agent g)) → AllByRecursion P (ch (Agent h) (Agent g)))
     → ((began : List ℕ) (h g : ℕ) → InOrder began (S.channel (Agent h) (Agent g)) → InOrder began (ch (Agent h) (Agent g)))
-    → ((x : Admitted) → In x S.history.admitted → (c : ℕ) → names x.at c ≡ true → Runs S c → Told S x c → Told (record S { channel = ch }) x c)
-    → ((g o : ℕ) → 0 < start_at S g → Heard S g o → Heard (record S { channel = ch }) g o)
-    → Holds S → Holds (record S { channel = ch })
+    → ((x : Admitted) → In x S.history.admitted → (c : ℕ) → names x.at c ≡ true → IsRunning S c → Told S x c → Told (record S { channel = ch }) x c)
+    → ((g o : ℕ) → 0 < agent_start S g → HearsClosed S g o → HearsClosed (record S { channel = ch }) g o)
+    → WordsHold S → WordsHold (record S { channel = ch })
 channel-moves S ch starts all order told heard h = record {
   some = h.some;
   hosts = λ g. let k = h.hosts g in record {
@@ -242,7 +243,7 @@ channel-moves S ch starts all order told heard h = record {
     T : State
     T = record S { channel = ch }
 
-    f : Later S T
+    f : WordsLater S T
     f = later-moved S S.agents ch (λ s b r. r)
 
 -- who knows of an admission, where what tells it of that is still under way, or it knows of it itself
@@ -258,25 +259,25 @@ told-channel S ch x c f (inr k) = elim (f k.0) [
 
 -- who knows of a start that stopped, likewise
 pub heard-channel : (S : State) (ch : Actor → Actor → List Letter) (g o : ℕ)
-    → (Closing o (S.channel (Agent (S.owner o)) (Agent g))
-    → Closing o (ch (Agent (S.owner o)) (Agent g)) ⊎ OwnLost o (S.agents g) ⊎ ((w : Membership) → In w (S.history.said o) → names w (start_at S g) ≡ false))
-    → Heard S g o → Heard (record S { channel = ch }) g o
+    → (ClosedUnderWay o (S.channel (Agent (S.owner o)) (Agent g))
+    → ClosedUnderWay o (ch (Agent (S.owner o)) (Agent g)) ⊎ OwnLost o (S.agents g) ⊎ ((w : Membership) → In w (S.history.said o) → names w (agent_start S g) ≡ false))
+    → HearsClosed S g o → HearsClosed (record S { channel = ch }) g o
 heard-channel S ch g o f (inl k) = f k
 heard-channel S ch g o f (inr k) = inr k
 
 -- the channels between agents stay, and the starts under way
 pub channel-holds : (S : State) (ch : Actor → Actor → List Letter) → ((h g : ℕ) → ch (Agent h) (Agent g) ≡ S.channel (Agent h) (Agent g))
-    → ((h : ℕ) → starts_in (ch Director (Agent h)) ≡ starts_to S h) → Holds S → Holds (record S { channel = ch })
+    → ((h : ℕ) → starts_in (ch Director (Agent h)) ≡ starts_to S h) → WordsHold S → WordsHold (record S { channel = ch })
 channel-holds S ch stays starts h = channel-moves S ch starts
     (λ P k g p. subst (λ x. AllByRecursion P x) (sym (stays k g)) p)
     (λ began k g p. subst (λ x. InOrder began x) (sym (stays k g)) p)
     (λ x i c m r. told-channel S ch x c (λ t. inr (subst (λ y. Telling c x.start x.by y) (sym (stays (S.owner x.by) (S.owner c))) t)))
-    (λ g o up. heard-channel S ch g o (λ t. inl (subst (λ y. Closing o y) (sym (stays (S.owner o) g)) t)))
+    (λ g o up. heard-channel S ch g o (λ t. inl (subst (λ y. ClosedUnderWay o y) (sym (stays (S.owner o) g)) t)))
     h
 
 -- A message from no agent, which is no Start.
 pub pops-other : (S : State) (from : Actor) (n : ℕ) → ((h : ℕ) → same from (Agent h) ≡ false)
-    → (same from Director ≡ true → starts_in (rest (S.channel Director (Agent n))) ≡ starts_to S n) → Holds S → Holds (popped S from n)
+    → (same from Director ≡ true → starts_in (rest (S.channel Director (Agent n))) ≡ starts_to S n) → WordsHold S → WordsHold (agent_popped S from n)
 pops-other S from n apart starts h = channel-holds S (took S.channel from (Agent n))
     (λ k g. elsewhere (n == g) (same from (Agent k)) (rest (S.channel (Agent k) (Agent g))) (S.channel (Agent k) (Agent g)) (apart k))
     (λ g. choice g (n == g) (same from Director) refl refl) h
@@ -306,8 +307,8 @@ unnamed-not S c w good named u = elim (cases_Bool (admits w c)) [
     first false false e q z = absurd (cc)
 
 -- a message that told a start of an admission, and that it heeded, is in its word
-pub tells-own : (S : State) (n : ℕ) (l : Letter) (c j : ℕ) → Heeded S n l → start_at S n ≡ c → 0 < c → ((S.agents n).own ≡ None → ⊥) → Tells c j l → OwnAdmits j (S.agents n)
-tells-own S n l c j heeded is up known tells = elim l.body as (λ m. Heeded S n (record l { body = m }) → Tells c j (record l { body = m }) → OwnAdmits j (S.agents n)) [
+pub tells-own : (S : State) (n : ℕ) (l : Letter) (c j : ℕ) → Heeded S n l → agent_start S n ≡ c → 0 < c → ((S.agents n).own ≡ None → ⊥) → TellsAdmission c j l → OwnAdmits j (S.agents n)
+tells-own S n l c j heeded is up known tells = elim l.body as (λ m. Heeded S n (record l { body = m }) → TellsAdmission c j (record l { body = m }) → OwnAdmits j (S.agents n)) [
   | msg.Word base lost admitted ↦ λ f t. elim (f (subst (λ x. 0 < x) (sym is) up) (t.0 ∙ sym is)) [
     | inl none ↦ absurd (known none)
     | inr k ↦ k j t.1
@@ -316,29 +317,29 @@ tells-own S n l c j heeded is up known tells = elim l.body as (λ m. Heeded S n 
 ] heeded tells
 
 -- a Closed that it heeded is in its word, or its start is in no word of the start that stopped
-pub closed-own : (S : State) (n : ℕ) (l : Letter) (o : ℕ) → Heeded S n l → 0 < start_at S n → IsClosed o l
-    → OwnLost o (S.agents n) ⊎ ((w : Membership) → In w (S.history.said o) → names w (start_at S n) ≡ false)
+pub closed-own : (S : State) (n : ℕ) (l : Letter) (o : ℕ) → Heeded S n l → 0 < agent_start S n → IsClosed o l
+    → OwnLost o (S.agents n) ⊎ ((w : Membership) → In w (S.history.said o) → names w (agent_start S n) ≡ false)
 closed-own S n l o heeded up closed = elim l.body as (λ m. Heeded S n (record l { body = m }) → IsClosed o (record l { body = m })
-    → OwnLost o (S.agents n) ⊎ ((w : Membership) → In w (S.history.said o) → names w (start_at S n) ≡ false)) [
-      | msg.Closed s ↦ λ f e. subst (λ y. OwnLost y (S.agents n) ⊎ ((w : Membership) → In w (S.history.said y) → names w (start_at S n) ≡ false)) e (f up)
+    → OwnLost o (S.agents n) ⊎ ((w : Membership) → In w (S.history.said o) → names w (agent_start S n) ≡ false)) [
+      | msg.Closed s ↦ λ f e. subst (λ y. OwnLost y (S.agents n) ⊎ ((w : Membership) → In w (S.history.said y) → names w (agent_start S n) ≡ false)) e (f up)
       | m ↦ λ f e. absurd e
     ] heeded closed
 
 -- an agent that a decided word names knows a word
-pub named-knows : (S : State) → Holds S → (x : Admitted) → In x S.history.admitted → (c : ℕ) → names x.at c ≡ true → Runs S c → (S.agents (S.owner c)).own ≡ None → ⊥
+pub named-knows : (S : State) → WordsHold S → (x : Admitted) → In x S.history.admitted → (c : ℕ) → names x.at c ≡ true → IsRunning S c → (S.agents (S.owner c)).own ≡ None → ⊥
 named-knows S h x i c m r none =
     let good = h.history.decided_good x.at (h.history.admitted_ok x i).decided in
-    let up : 0 < start_at S (S.owner c) = subst (λ y. 0 < y) (sym r) (good.named_begun c m).some in
+    let up : 0 < agent_start S (S.owner c) = subst (λ y. 0 < y) (sym r) (good.named_begun c m).some in
     unnamed-not S c x.at good m (subst (λ y. Unnamed S y) r ((h.agents (S.owner c)).alone up none).0)
 
 -- A message between agents that the other has heeded may leave its channel.
-pub pops : (S : State) (k n : ℕ) (l : Letter) (ls : List Letter) → S.channel (Agent k) (Agent n) ≡ l ∷ ls → Heeded S n l → Holds S → Holds (popped S (Agent k) n)
+pub pops : (S : State) (k n : ℕ) (l : Letter) (ls : List Letter) → S.channel (Agent k) (Agent n) ≡ l ∷ ls → Heeded S n l → WordsHold S → WordsHold (agent_popped S (Agent k) n)
 pops S k n l ls is heeded h = channel-moves S ch (took-starts S.channel k n)
     (λ P a b. took-all P S.channel (Agent k) (Agent n) (Agent a) (Agent b))
     (λ began a b p. taken-both (λ x. InOrder began x) S.channel k n a b (λ ea eb. order-rest began (S.channel (Agent a) (Agent b)) p) p)
     (λ x i c m r. told-channel S ch x c (λ t. taken-both (λ y. OwnAdmits x.start (S.agents (S.owner c)) ⊎ Telling c x.start x.by y) S.channel k n (S.owner x.by) (S.owner c)
     (λ ea eb. told-rest x i c m r ea eb t) (inr t)))
-    (λ g o up. heard-channel S ch g o (λ t. taken-both (λ y. Closing o y ⊎ OwnLost o (S.agents g) ⊎ ((w : Membership) → In w (S.history.said o) → names w (start_at S g) ≡ false))
+    (λ g o up. heard-channel S ch g o (λ t. taken-both (λ y. ClosedUnderWay o y ⊎ OwnLost o (S.agents g) ⊎ ((w : Membership) → In w (S.history.said o) → names w (agent_start S g) ≡ false))
     S.channel k n (S.owner o) g (λ ea eb. heard-rest g o up ea eb t) (inl t)))
     h
   where
@@ -348,7 +349,7 @@ pops S k n l ls is heeded h = channel-moves S ch (took-starts S.channel k n)
     first : (a b : ℕ) → k ≡ a → n ≡ b → S.channel (Agent a) (Agent b) ≡ l ∷ ls
     first a b ea eb = subst (λ y. S.channel (Agent y) (Agent b) ≡ l ∷ ls) ea (subst (λ y. S.channel (Agent k) (Agent y) ≡ l ∷ ls) eb is)
 
-    told-rest : (x : Admitted) → In x S.history.admitted → (c : ℕ) → names x.at c ≡ true → Runs S c → k ≡ S.owner x.by → n ≡ S.owner c
+    told-rest : (x : Admitted) → In x S.history.admitted → (c : ℕ) → names x.at c ≡ true → IsRunning S c → k ≡ S.owner x.by → n ≡ S.owner c
         → Telling c x.start x.by (S.channel (Agent (S.owner x.by)) (Agent (S.owner c)))
         → OwnAdmits x.start (S.agents (S.owner c)) ⊎ Telling c x.start x.by (rest (S.channel (Agent (S.owner x.by)) (Agent (S.owner c))))
     told-rest x i c m r ea eb t =
@@ -360,12 +361,12 @@ pops S k n l ls is heeded h = channel-moves S ch (took-starts S.channel k n)
           | inr later ↦ inr later.1
         ])
 
-    heard-rest : (g o : ℕ) → 0 < start_at S g → k ≡ S.owner o → n ≡ g → Closing o (S.channel (Agent (S.owner o)) (Agent g))
-        → Closing o (rest (S.channel (Agent (S.owner o)) (Agent g))) ⊎ OwnLost o (S.agents g) ⊎ ((w : Membership) → In w (S.history.said o) → names w (start_at S g) ≡ false)
+    heard-rest : (g o : ℕ) → 0 < agent_start S g → k ≡ S.owner o → n ≡ g → ClosedUnderWay o (S.channel (Agent (S.owner o)) (Agent g))
+        → ClosedUnderWay o (rest (S.channel (Agent (S.owner o)) (Agent g))) ⊎ OwnLost o (S.agents g) ⊎ ((w : Membership) → In w (S.history.said o) → names w (agent_start S g) ≡ false)
     heard-rest g o up ea eb t =
         let e = first (S.owner o) g ea eb in
-        subst (λ y. Closing o (rest y) ⊎ OwnLost o (S.agents g) ⊎ ((w : Membership) → In w (S.history.said o) → names w (start_at S g) ≡ false)) (sym e)
-        (elim (subst (λ y. Closing o y) e t) [
+        subst (λ y. ClosedUnderWay o (rest y) ⊎ OwnLost o (S.agents g) ⊎ ((w : Membership) → In w (S.history.said o) → names w (agent_start S g) ≡ false)) (sym e)
+        (elim (subst (λ y. ClosedUnderWay o y) e t) [
           | inl closed ↦ inr (closed-own S g l o (subst (λ y. Heeded S y l) eb heeded) up closed)
           | inr later ↦ inl later
         ])
@@ -375,21 +376,21 @@ pops S k n l ls is heeded h = channel-moves S ch (took-starts S.channel k n)
 -- The agent goes on with its word, or it stops and says to each that runs that it has closed.
 abbrev pub Ends : State → ℕ → AgentState → Sends → Type 0
 Ends S n a out =
-    ((a.start ≡ start_at S n) × (a.own ≡ (S.agents n).own))
-    ⊎ ((a.start ≡ 0) × ((g : ℕ) → 0 < start_at S g → (g ≡ n → ⊥) → Closing (start_at S n) (out (Agent g))))
+    ((a.start ≡ agent_start S n) × (a.own ≡ (S.agents n).own))
+    ⊎ ((a.start ≡ 0) × ((g : ℕ) → 0 < agent_start S g → (g ≡ n → ⊥) → ClosedUnderWay (agent_start S n) (out (Agent g))))
 
-pub ends-goes : (S : State) (n : ℕ) (a : AgentState) (out : Sends) → Ends S n a out → GoesOn S n a
+pub ends-goes : (S : State) (n : ℕ) (a : AgentState) (out : Sends) → Ends S n a out → StartGoesOn S n a
 ends-goes S n a out (inl k) = inl k.0
 ends-goes S n a out (inr k) = inr k.0
 
 -- such a turn only adds to the state
-pub later-turn : (S : State) (n : ℕ) (a : AgentState) (out : Sends) → GoesOn S n a → Later S (after S n a out S.history)
+pub later-turn : (S : State) (n : ℕ) (a : AgentState) (out : Sends) → StartGoesOn S n a → WordsLater S (after_agent S n a out S.history)
 later-turn S n a out e = later-after S n a out S.history e refl refl (λ s w i. i) (λ s w i. i) (λ w i. i) (λ x i. i)
 
 -- an Admit that came, after a turn that closes no earlier start
-pub came-after : (S : State) (n : ℕ) (a : AgentState) (out : Sends) (H : History) → Later S (after S n a out H) → H.began ≡ S.history.began
-    → ((g j : ℕ) → AllByRecursion (ClosesFrom (S.history.began n) j) (out (Agent g))) → (g h term j : ℕ) → CameOk S h g term j → CameOk (after S n a out H) h g term j
-came-after S n a out H f began closes g h term j k = came-later S (after S n a out H) f h g term j
+pub came-after : (S : State) (n : ℕ) (a : AgentState) (out : Sends) (H : History) → WordsLater S (after_agent S n a out H) → H.began ≡ S.history.began
+    → ((g j : ℕ) → AllByRecursion (ClosesFrom (S.history.began n) j) (out (Agent g))) → (g h term j : ℕ) → CameOk S h g term j → CameOk (after_agent S n a out H) h g term j
+came-after S n a out H f began closes g h term j k = came-later S (after_agent S n a out H) f h g term j
     (subst (λ b. AllByRecursion (ClosesFrom (b h) j) (sent S.channel (Agent n) out (Agent h) (Agent g))) (sym began)
     (sent-both (λ x. AllByRecursion (ClosesFrom (S.history.began h) j) x) S.channel n out h (Agent g)
     (λ q. all-append (ClosesFrom (S.history.began h) j) (S.channel (Agent h) (Agent g)) (out (Agent g)) k.1
@@ -398,41 +399,41 @@ came-after S n a out H f began closes g h term j k = came-later S (after S n a o
     k
 
 -- and an Admit that came is still ahead of all Closed of earlier starts
-pub came-turn : (S : State) (n : ℕ) (a : AgentState) (out : Sends) → GoesOn S n a → ((g j : ℕ) → AllByRecursion (ClosesFrom (S.history.began n) j) (out (Agent g)))
-    → (g h term j : ℕ) → CameOk S h g term j → CameOk (after S n a out S.history) h g term j
+pub came-turn : (S : State) (n : ℕ) (a : AgentState) (out : Sends) → StartGoesOn S n a → ((g j : ℕ) → AllByRecursion (ClosesFrom (S.history.began n) j) (out (Agent g)))
+    → (g h term j : ℕ) → CameOk S h g term j → CameOk (after_agent S n a out S.history) h g term j
 came-turn S n a out e closes = came-after S n a out S.history (later-turn S n a out e) refl closes
 
 -- any agent as it was before
-pub agent-turn : (S : State) (n : ℕ) (a : AgentState) (out : Sends) → GoesOn S n a → ((g j : ℕ) → AllByRecursion (ClosesFrom (S.history.began n) j) (out (Agent g)))
-    → (h : ℕ) (b : AgentState) → AgentOk S h b → AgentOk (after S n a out S.history) h b
-agent-turn S n a out e closes h b k = agent-later S (after S n a out S.history) (later-turn S n a out e) h b refl refl (λ up q x i z. i) (came-turn S n a out e closes h) k
+pub agent-turn : (S : State) (n : ℕ) (a : AgentState) (out : Sends) → StartGoesOn S n a → ((g j : ℕ) → AllByRecursion (ClosesFrom (S.history.began n) j) (out (Agent g)))
+    → (h : ℕ) (b : AgentState) → AgentOk S h b → AgentOk (after_agent S n a out S.history) h b
+agent-turn S n a out e closes h b k = agent-later S (after_agent S n a out S.history) (later-turn S n a out e) h b refl refl (λ up q x i z. i) (came-turn S n a out e closes h) k
 
 -- who runs after the turn ran before it, with the same word
-pub alive-same : (S : State) (n : ℕ) (a : AgentState) (out : Sends) → Ends S n a out → (g : ℕ) → 0 < start_at (after S n a out S.history) g
-    → (start_at (after S n a out S.history) g ≡ start_at S g) × (((after S n a out S.history).agents g).own ≡ (S.agents g).own)
+pub alive-same : (S : State) (n : ℕ) (a : AgentState) (out : Sends) → Ends S n a out → (g : ℕ) → 0 < agent_start (after_agent S n a out S.history) g
+    → (agent_start (after_agent S n a out S.history) g ≡ agent_start S g) × (((after_agent S n a out S.history).agents g).own ≡ (S.agents g).own)
 alive-same S n a out e g up = choice (g == n) refl up
   where
-    choice : (c : Bool) → (g == n) ≡ c → 0 < (if c then a else S.agents g).start → ((if c then a else S.agents g).start ≡ start_at S g) × ((if c then a else S.agents g).own ≡ (S.agents g).own)
+    choice : (c : Bool) → (g == n) ≡ c → 0 < (if c then a else S.agents g).start → ((if c then a else S.agents g).start ≡ agent_start S g) × ((if c then a else S.agents g).own ≡ (S.agents g).own)
     choice false q u = (refl, refl)
     choice true q u = let r = eqb-true g n q in elim e [
-      | inl k ↦ (k.0 ∙ ap (λ x. start_at S x) (sym r), k.1 ∙ ap (λ x. (S.agents x).own) (sym r))
+      | inl k ↦ (k.0 ∙ ap (λ x. agent_start S x) (sym r), k.1 ∙ ap (λ x. (S.agents x).own) (sym r))
       | inr k ↦ absurd (omega (arith, k.0, u))
     ]
 
 -- who ran runs, unless it is the agent itself and it stopped
-pub runs-still : (S : State) (n : ℕ) (a : AgentState) (out : Sends) (o : ℕ) → (n ≡ S.owner o → a.start ≡ start_at S n) → Runs S o → Runs (after S n a out S.history) o
+pub runs-still : (S : State) (n : ℕ) (a : AgentState) (out : Sends) (o : ℕ) → (n ≡ S.owner o → a.start ≡ agent_start S n) → IsRunning S o → IsRunning (after_agent S n a out S.history) o
 runs-still S n a out o e r = choice (S.owner o == n) refl
   where
     choice : (c : Bool) → (S.owner o == n) ≡ c → (if c then a else S.agents (S.owner o)).start ≡ o
-    choice true q = let z = eqb-true (S.owner o) n q in e (sym z) ∙ ap (λ y. start_at S y) (sym z) ∙ r
+    choice true q = let z = eqb-true (S.owner o) n q in e (sym z) ∙ ap (λ y. agent_start S y) (sym z) ∙ r
     choice false q = r
 
 -- What must hold of such a turn, so that what holds, holds after it.
-pub turn-holds : (S : State) (n : ℕ) (a : AgentState) (out : Sends) → Ends S n a out → AgentOk (after S n a out S.history) n a
-    → ((g : ℕ) → AllByRecursion (LetterOk (after S n a out S.history) n g) (out (Agent g)))
+pub turn-holds : (S : State) (n : ℕ) (a : AgentState) (out : Sends) → Ends S n a out → AgentOk (after_agent S n a out S.history) n a
+    → ((g : ℕ) → AllByRecursion (LetterOk (after_agent S n a out S.history) n g) (out (Agent g)))
     → ((g : ℕ) → InOrder (S.history.began n) (out (Agent g)))
     → ((g j : ℕ) → AllByRecursion (ClosesFrom (S.history.began n) j) (out (Agent g)))
-    → Holds S → Holds (after S n a out S.history)
+    → WordsHold S → WordsHold (after_agent S n a out S.history)
 turn-holds S n a out e own letters order closes h = record {
   some = h.some;
   hosts = λ g. host-after S n a out S.history goes refl g (h.hosts g);
@@ -449,19 +450,19 @@ turn-holds S n a out e own letters order closes h = record {
   };
   history = history-moved S T.agents T.channel f h.history;
   told = λ x i c m ne r.
-      let up : 0 < start_at T (S.owner c) = subst (λ y. 0 < y) (sym r) ((h.history.decided_good x.at (h.history.admitted_ok x i).decided).named_begun c m).some in
+      let up : 0 < agent_start T (S.owner c) = subst (λ y. 0 < y) (sym r) ((h.history.decided_good x.at (h.history.admitted_ok x i).decided).named_begun c m).some in
       let alive = alive-same S n a out e (S.owner c) up in
       told x c (T.agents (S.owner c)) alive.1 (h.told x i c m ne (sym alive.0 ∙ r));
-  heard = λ g o up gone ne. heard g o up gone ne (cases_Bool (start_at S (S.owner o) == o));
+  heard = λ g o up gone ne. heard g o up gone ne (cases_Bool (agent_start S (S.owner o) == o));
 }
   where
     T : State
-    T = after S n a out S.history
+    T = after_agent S n a out S.history
 
-    goes : GoesOn S n a
+    goes : StartGoesOn S n a
     goes = ends-goes S n a out e
 
-    f : Later S T
+    f : WordsLater S T
     f = later-turn S n a out goes
 
     old : (k g : ℕ) → AllByRecursion (LetterOk T k g) (S.channel (Agent k) (Agent g))
@@ -480,17 +481,17 @@ turn-holds S n a out e own letters order closes h = record {
       λ w z. k.1 w (sym q ∙ z),
     )
 
-    keeps : (g o : ℕ) → 0 < start_at T g → Heard S g o → Heard T g o
-    keeps g o up (inl k) = inl (sent-keep (λ y. Closing o y) (closing-left o) S.channel n out (S.owner o) (Agent g) k)
+    keeps : (g o : ℕ) → 0 < agent_start T g → HearsClosed S g o → HearsClosed T g o
+    keeps g o up (inl k) = inl (sent-keep (λ y. ClosedUnderWay o y) (closing-left o) S.channel n out (S.owner o) (Agent g) k)
     keeps g o up (inr (inl k)) = inr (inl (own_is-keep (λ w. is_in o w.lost ≡ true) (S.agents g) (T.agents g) (alive-same S n a out e g up).1 k))
     keeps g o up (inr (inr k)) = inr (inr (λ w i. subst (λ s. names w s ≡ false) (sym (alive-same S n a out e g up).0) (k w i)))
 
     -- a start that stopped just now
-    stopped : (g o : ℕ) → 0 < start_at T g → (S.owner o ≡ g → ⊥) → Runs S o → (Runs T o → ⊥) → (n ≡ S.owner o) ⊎ (n ≡ S.owner o → ⊥) → Closing o (T.channel (Agent (S.owner o)) (Agent g))
+    stopped : (g o : ℕ) → 0 < agent_start T g → (S.owner o ≡ g → ⊥) → IsRunning S o → (IsRunning T o → ⊥) → (n ≡ S.owner o) ⊎ (n ≡ S.owner o → ⊥) → ClosedUnderWay o (T.channel (Agent (S.owner o)) (Agent g))
     stopped g o up ne r not (inl q) = let alive = alive-same S n a out e g up in elim e [
       | inl k ↦ absurd (not (runs-still S n a out o (λ z. k.0) r))
-      | inr k ↦ sent-both (λ y. Closing o y) S.channel n out (S.owner o) (Agent g)
-          (λ z. closing-right o (S.channel (Agent (S.owner o)) (Agent g)) (out (Agent g)) (subst (λ y. Closing y (out (Agent g))) (ap (λ y. start_at S y) q ∙ r)
+      | inr k ↦ sent-both (λ y. ClosedUnderWay o y) S.channel n out (S.owner o) (Agent g)
+          (λ z. closing-right o (S.channel (Agent (S.owner o)) (Agent g)) (out (Agent g)) (subst (λ y. ClosedUnderWay y (out (Agent g))) (ap (λ y. agent_start S y) q ∙ r)
           (k.1 g (subst (λ y. 0 < y) alive.0 up) (λ y. ne (sym q ∙ sym y)))))
           (λ z. absurd (z q))
     ]
@@ -502,8 +503,8 @@ turn-holds S n a out e own letters order closes h = record {
       | inr c ↦ inr (λ z. grind (arith, nat_tests, c, z))
     ]
 
-    heard : (g o : ℕ) → 0 < start_at T g → Gone T o → (S.owner o ≡ g → ⊥) → ((start_at S (S.owner o) == o) ≡ true) ⊎ ((start_at S (S.owner o) == o) ≡ false) → Heard T g o
-    heard g o up gone ne (inl q) = inl (stopped g o up ne (eqb-true (start_at S (S.owner o)) o q) gone.1 (is-n (S.owner o)))
+    heard : (g o : ℕ) → 0 < agent_start T g → Gone T o → (S.owner o ≡ g → ⊥) → ((agent_start S (S.owner o) == o) ≡ true) ⊎ ((agent_start S (S.owner o) == o) ≡ false) → HearsClosed T g o
+    heard g o up gone ne (inl q) = inl (stopped g o up ne (eqb-true (agent_start S (S.owner o)) o q) gone.1 (is-n (S.owner o)))
     heard g o up gone ne (inr q) = keeps g o up
         (h.heard g o (subst (λ y. 0 < y) (alive-same S n a out e g up).0 up) (begun-back S T.agents T.channel o gone.0, λ r. grind (arith, nat_tests, q, r)) ne)
 
@@ -527,11 +528,11 @@ sent-took ch from to out l ls is = fun_ext (λ x. fun_ext (λ y. one x y))
         ap (λ k. ch k y) (sym (same-true from x e.1)) ∙ ap (λ k. ch from k) (sym (same-true to y e.0)) ∙ is)
 
 pub took-sent : (S : State) (from : Actor) (n : ℕ) (a : AgentState) (out : Sends) (H : History) (l : Letter) (ls : List Letter) → S.channel from (Agent n) ≡ l ∷ ls
-    → after (popped S from n) n a out H ≡ popped (after S n a out H) from n
+    → after_agent (agent_popped S from n) n a out H ≡ agent_popped (after_agent S n a out H) from n
 took-sent S from n a out H l ls is = ap (λ c. record S { agents = set_at S.agents n a; channel = c; history = H }) (sent-took S.channel from (Agent n) out l ls is)
 
 -- one turn after another is one turn
-pub after-after : (S : State) (n : ℕ) (a b : AgentState) (out out' : Sends) (H H' : History) → after (after S n a out H) n b out' H' ≡ after S n b (λ x. out x ++ out' x) H'
+pub after-after : (S : State) (n : ℕ) (a b : AgentState) (out out' : Sends) (H H' : History) → after_agent (after_agent S n a out H) n b out' H' ≡ after_agent S n b (λ x. out x ++ out' x) H'
 after-after S n a b out out' H H' =
     ap (λ g. record S { agents = g; channel = sent (sent S.channel (Agent n) out) (Agent n) out'; history = H' }) (set-twice S.agents n a b)
     ∙ ap (λ c. record S { agents = set_at S.agents n b; channel = c; history = H' }) (sent-twice S.channel (Agent n) out out')
@@ -539,12 +540,12 @@ after-after S n a b out out' H H' =
 -- ---- a turn that brings no word
 
 -- a start that runs has begun
-pub begun-running : (S : State) (n : ℕ) → Holds S → 0 < start_at S n → Begun S (start_at S n)
+pub begun-running : (S : State) (n : ℕ) → WordsHold S → 0 < agent_start S n → Begun S (agent_start S n)
 begun-running S n h up = record {
   some = up;
   below = (k.running up).1;
   host = ap (λ x. is_host S.deployment x) (k.running up).0 ∙ is-host (is_host S.deployment n) refl;
-  began = subst (λ x. In (start_at S n) (S.history.began x)) (sym (k.running up).0) (let l = k.last up in subst (λ x. In (start_at S n) x) (sym l.1) (inl refl));
+  began = subst (λ x. In (agent_start S n) (S.history.began x)) (sym (k.running up).0) (let l = k.last up in subst (λ x. In (agent_start S n) x) (sym l.1) (inl refl));
 }
   where
     k : HostOk S n
@@ -555,38 +556,39 @@ begun-running S n h up = record {
     is-host false q = let z = k.environment q in absurd (omega (arith, z, up))
 
 -- what an agent sends in a turn that brings no word may be sent
-pub plain-ok : (S : State) (n g : ℕ) → Holds S → 0 < start_at S n → (l : Letter) → Plain n (S.agents n) g l → LetterOk S n g l
-plain-ok S n g h up l p = elim l.body as (λ m. Plain n (S.agents n) g (record l { body = m }) → LetterOk S n g (record l { body = m })) [
+pub plain-ok : (S : State) (D : Deployment) (n : ℕ) (loaded : List ℕ) (g : ℕ) → WordsHold S → 0 < agent_start S n → (l : Letter) → SaysNoWord D n (S.agents n) loaded (Agent g) l → LetterOk S n g l
+plain-ok S D n loaded g h up l p = elim l.body as (λ m. SaysNoWord D n (S.agents n) loaded (Agent g) (record l { body = m }) → LetterOk S n g (record l { body = m })) [
   | msg.Word base lost admitted ↦ λ k. absurd k
-  | msg.Decided w ↦ λ k. (k.0, (some-here (λ v. In v S.history.decided × (names v (start_at S n) ≡ true)) (S.agents n).decided w k.1 (h.agents n).decided).0)
+  | msg.Decided w ↦ λ k. (k.0, (some-here (λ v. In v S.history.decided × (names v (agent_start S n) ≡ true)) (S.agents n).decided w k.1 (h.agents n).decided).0)
   | msg.Closed o ↦ λ k. absurd k
   | msg.Admit j ↦ λ k. record {
     owned = ap (λ x. S.owner x) k.0 ∙ ((h.hosts n).running up).0;
     begun = subst (λ x. Begun S x) (sym k.0) (begun-running S n h up);
     other = k.1;
     word = k.2.0;
-    took = ap (λ x. S.history.took x) k.0 ∙ (some-here (λ v. (S.history.took (start_at S n) ≡ Some v) × In v S.history.decided) (S.agents n).taken k.2.0 k.2.1 (h.agents n).taken).0;
+    took = ap (λ x. S.history.took x) k.0 ∙ (some-here (λ v. (S.history.took (agent_start S n) ≡ Some v) × In v S.history.decided) (S.agents n).taken k.2.0 k.2.1 (h.agents n).taken).0;
     term_is = k.2.2;
   }
+  | msg.View w ↦ λ k. absurd k
   | m ↦ λ k. tt
 ] p
 
 -- it closes no start
-pub plain-closes : (n : ℕ) (a : AgentState) (g : ℕ) (began : List ℕ) (j : ℕ) (l : Letter) → Plain n a g l → ClosesFrom began j l
-plain-closes n a g began j l p = elim l.body as (λ m. Plain n a g (record l { body = m }) → ClosesFrom began j (record l { body = m })) [
+pub plain-closes : (D : Deployment) (n : ℕ) (a : AgentState) (loaded : List ℕ) (g : ℕ) (began : List ℕ) (j : ℕ) (l : Letter) → SaysNoWord D n a loaded (Agent g) l → ClosesFrom began j l
+plain-closes D n a loaded g began j l p = elim l.body as (λ m. SaysNoWord D n a loaded (Agent g) (record l { body = m }) → ClosesFrom began j (record l { body = m })) [
   | msg.Closed o ↦ λ k. absurd k
   | m ↦ λ k. tt
 ] p
 
 -- and all of it is in order
-pub plain-order : (n : ℕ) (a : AgentState) (g : ℕ) (began : List ℕ) (ls : List Letter) → AllByRecursion (Plain n a g) ls → InOrder began ls
-plain-order n a g began [] p = tt
-plain-order n a g began (l ∷ ls) p = (
+pub plain-order : (D : Deployment) (n : ℕ) (a : AgentState) (loaded : List ℕ) (g : ℕ) (began : List ℕ) (ls : List Letter) → AllByRecursion (SaysNoWord D n a loaded (Agent g)) ls → InOrder began ls
+plain-order D n a loaded g began [] p = tt
+plain-order D n a loaded g began (l ∷ ls) p = (
   (elim l.body as (λ m. (elim m as (λ _. Type 0) [ msg.Admit j ↦ AllByRecursion (ClosesFrom began j) ls | _ ↦ Unit {0} ])) [
-    | msg.Admit j ↦ all-mono (Plain n a g) (ClosesFrom began j) (plain-closes n a g began j) ls p.1
+    | msg.Admit j ↦ all-mono (SaysNoWord D n a loaded (Agent g)) (ClosesFrom began j) (plain-closes D n a loaded g began j) ls p.1
     | m ↦ tt
   ]),
-  plain-order n a g began ls p.1,
+  plain-order D n a loaded g began ls p.1,
 )
 
 -- only the start and the decided word say who initiates
@@ -598,38 +600,38 @@ initiates-same n a b start decided = ap (λ o. initiates n b o) decided ∙ one 
     one (Some w) = ap (λ s. is_initiator_in n s (initiator w)) start
 
 -- what is queued behind a turn was queued before, or has just come
-pub queue-later : (S T : State) (n : ℕ) → ((h term j : ℕ) → CameOk S h n term j → CameOk T h n term j) → (q came more : List Queued) → AllByRecursion (QueuedOk S n) q
-    → ((j h term : ℕ) → In (Admission j h term) came → QueuedOk S n (Admission j h term)) → ((j h term : ℕ) → In (Admission j h term) more → In (Admission j h term) (q ++ came))
-    → AllByRecursion (QueuedOk T n) more
-queue-later S T n up q came more k new from = all-from (QueuedOk T n) more one
+pub queue-later : (S T : State) (n : ℕ) → ((h term j : ℕ) → CameOk S h n term j → CameOk T h n term j) → (q came more : List Queued) → AllByRecursion (QueuedAdmissionOk S n) q
+    → ((j h term : ℕ) → In (Admission j h term) came → QueuedAdmissionOk S n (Admission j h term)) → ((j h term : ℕ) → In (Admission j h term) more → In (Admission j h term) (q ++ came))
+    → AllByRecursion (QueuedAdmissionOk T n) more
+queue-later S T n up q came more k new from = all-from (QueuedAdmissionOk T n) more one
   where
-    one : (x : Queued) → In x more → QueuedOk T n x
+    one : (x : Queued) → In x more → QueuedAdmissionOk T n x
     one (Job_ job) i = tt
     one (Admission j h term) i = elim (in-cases (Admission j h term) q came (from j h term i)) [
-      | inl z ↦ up h term j (all-at (QueuedOk S n) q k (Admission j h term) z)
+      | inl z ↦ up h term j (all-at (QueuedAdmissionOk S n) q k (Admission j h term) z)
       | inr z ↦ up h term j (new j h term z)
     ]
 
 -- A turn that brings no word and admits no start.
-pub calm-holds : (S : State) (n : ℕ) (came : List Queued) (t : Turn AgentState) → 0 < start_at S n → Calm n (S.agents n) came t → (t.state.own ≡ (S.agents n).own)
-    → ((j h term : ℕ) → In (Admission j h term) came → QueuedOk S n (Admission j h term)) → Holds S → Holds (after S n t.state t.sends S.history)
-calm-holds S n came t up c own new h = turn-holds S n t.state t.sends (inl (c.start, own))
-    (agent-same T n (S.agents n) t.state c.start own c.decided c.taken c.said (subst (λ x. AllByRecursion (WaitingOk T n) x) (sym c.waiting) k.waiting)
+pub calm-holds : (S : State) (D : Deployment) (n : ℕ) (came : List Queued) (loaded : List ℕ) (t : Turn AgentState) → 0 < agent_start S n → Calm D n (S.agents n) came loaded t → (t.state.own ≡ (S.agents n).own)
+    → ((j h term : ℕ) → In (Admission j h term) came → QueuedAdmissionOk S n (Admission j h term)) → WordsHold S → WordsHold (after_agent S n t.state t.sends S.history)
+calm-holds S D n came loaded t up c own new h = turn-holds S n t.state t.sends (inl (c.start, own))
+    (agent-same T n (S.agents n) t.state c.start own c.decided c.taken c.said (subst (λ x. AllByRecursion (AgentWaitingOk T n) x) (sym c.waiting) k.waiting)
     (queue-later S T n (came-turn S n t.state t.sends (inl c.start) closes n) (S.agents n).initiating.queue came t.state.initiating.queue (h.agents n).queue new c.queue)
     phase k)
-    (λ g. all-mono (Plain n (S.agents n) g) (LetterOk T n g) (λ l p. letter-later S T f n g l (plain-ok S n g h up l p)) (t.sends (Agent g)) (c.sends g))
-    (λ g. plain-order n (S.agents n) g (S.history.began n) (t.sends (Agent g)) (c.sends g))
+    (λ g. all-mono (SaysNoWord D n (S.agents n) loaded (Agent g)) (LetterOk T n g) (λ l p. letter-later S T f n g l (plain-ok S D n loaded g h up l p)) (t.sends (Agent g)) (c.sends (Agent g)))
+    (λ g. plain-order D n (S.agents n) loaded g (S.history.began n) (t.sends (Agent g)) (c.sends (Agent g)))
     closes
     h
   where
     T : State
-    T = after S n t.state t.sends S.history
+    T = after_agent S n t.state t.sends S.history
 
-    f : Later S T
+    f : WordsLater S T
     f = later-turn S n t.state t.sends (inl c.start)
 
     closes : (g j : ℕ) → AllByRecursion (ClosesFrom (S.history.began n) j) (t.sends (Agent g))
-    closes g j = all-mono (Plain n (S.agents n) g) (ClosesFrom (S.history.began n) j) (plain-closes n (S.agents n) g (S.history.began n) j) (t.sends (Agent g)) (c.sends g)
+    closes g j = all-mono (SaysNoWord D n (S.agents n) loaded (Agent g)) (ClosesFrom (S.history.began n) j) (plain-closes D n (S.agents n) loaded g (S.history.began n) j) (t.sends (Agent g)) (c.sends (Agent g))
 
     k : AgentOk T n (S.agents n)
     k = agent-turn S n t.state t.sends (inl c.start) closes n (S.agents n) (h.agents n)
@@ -646,10 +648,10 @@ calm-holds S n came t up c own new h = turn-holds S n t.state t.sends (inl (c.st
 -- ---- messages that wait
 
 -- an agent that differs in what waits alone
-pub waiting-holds : (S : State) (n : ℕ) (ws : List Waiting) → AllByRecursion (WaitingOk S n) ws → Holds S → Holds (after S n (record (S.agents n) { waiting = ws }) (λ b. []) S.history)
+pub waiting-holds : (S : State) (n : ℕ) (ws : List Waiting) → AllByRecursion (AgentWaitingOk S n) ws → WordsHold S → WordsHold (after_agent S n (record (S.agents n) { waiting = ws }) (λ b. []) S.history)
 waiting-holds S n ws ok h = turn-holds S n a (λ b. []) (inl (refl, refl))
     (agent-same T n (S.agents n) a refl refl refl refl refl
-    (all-mono (WaitingOk S n) (WaitingOk T n) (λ x p. waiting-later S T n (came-turn S n a (λ b. []) (inl refl) (λ g j. tt) n) x.from x.letter p) ws ok)
+    (all-mono (AgentWaitingOk S n) (AgentWaitingOk T n) (λ x p. waiting-later S T n (came-turn S n a (λ b. []) (inl refl) (λ g j. tt) n) x.from x.letter p) ws ok)
     k.queue phase k)
     (λ g. tt) (λ g. tt) (λ g j. tt) h
   where
@@ -657,7 +659,7 @@ waiting-holds S n ws ok h = turn-holds S n a (λ b. []) (inl (refl, refl))
     a = record (S.agents n) { waiting = ws }
 
     T : State
-    T = after S n a (λ b. []) S.history
+    T = after_agent S n a (λ b. []) S.history
 
     k : AgentOk T n (S.agents n)
     k = agent-turn S n a (λ b. []) (inl refl) (λ g j. tt) n (S.agents n) (h.agents n)
@@ -669,15 +671,15 @@ waiting-holds S n ws ok h = turn-holds S n a (λ b. []) (inl (refl, refl))
     ]
 
 -- a message of any actor that waits
-pub waits-holds : (S : State) (from : Actor) (n : ℕ) (l : Letter) → WaitingFrom S n from l → Holds S
-    → Holds (after S n (record (S.agents n) { waiting = (S.agents n).waiting ++ record { from = from; letter = l } ∷ [] }) (λ b. []) S.history)
+pub waits-holds : (S : State) (from : Actor) (n : ℕ) (l : Letter) → AgentWaitingFrom S n from l → WordsHold S
+    → WordsHold (after_agent S n (record (S.agents n) { waiting = (S.agents n).waiting ++ record { from = from; letter = l } ∷ [] }) (λ b. []) S.history)
 waits-holds S from n l p h = waiting-holds S n ((S.agents n).waiting ++ record { from = from; letter = l } ∷ [])
-    (all-append (WaitingOk S n) (S.agents n).waiting (record { from = from; letter = l } ∷ []) (h.agents n).waiting (p, tt)) h
+    (all-append (AgentWaitingOk S n) (S.agents n).waiting (record { from = from; letter = l } ∷ []) (h.agents n).waiting (p, tt)) h
 
 -- of those that wait, the ones that pass a test
-pub waiting-shrinks : (S : State) (n : ℕ) (test : Waiting → Bool) → Holds S
-    → Holds (after S n (record (S.agents n) { waiting = filter test (S.agents n).waiting }) (λ b. []) S.history)
-waiting-shrinks S n test h = waiting-holds S n (filter test (S.agents n).waiting) (all-filter (WaitingOk S n) test (S.agents n).waiting (h.agents n).waiting) h
+pub waiting-shrinks : (S : State) (n : ℕ) (test : Waiting → Bool) → WordsHold S
+    → WordsHold (after_agent S n (record (S.agents n) { waiting = filter test (S.agents n).waiting }) (λ b. []) S.history)
+waiting-shrinks S n test h = waiting-holds S n (filter test (S.agents n).waiting) (all-filter (AgentWaitingOk S n) test (S.agents n).waiting (h.agents n).waiting) h
 
 -- ---- an agent that stops
 
@@ -709,10 +711,10 @@ new_agent-known S h = record {
 }
 
 -- An agent that stops says so to all others.
-pub stops-holds : (S : State) (n : ℕ) (t : Turn AgentState) → 0 < start_at S n → t.state ≡ new_agent 0
-    → ((g : ℕ) → is_host S.deployment g ≡ true → (g == n) ≡ false → t.sends (Agent g) ≡ open_letter (msg.Closed (start_at S n)) ∷ [])
+pub stops-holds : (S : State) (n : ℕ) (t : Turn AgentState) → 0 < agent_start S n → t.state ≡ new_agent 0
+    → ((g : ℕ) → is_host S.deployment g ≡ true → (g == n) ≡ false → t.sends (Agent g) ≡ open_letter (msg.Closed (agent_start S n)) ∷ [])
     → ((g : ℕ) → ((is_host S.deployment g ≡ false) ⊎ ((g == n) ≡ true)) → t.sends (Agent g) ≡ [])
-    → Holds S → Holds (after S n t.state t.sends S.history)
+    → WordsHold S → WordsHold (after_agent S n t.state t.sends S.history)
 stops-holds S n t up e says silent h = turn-holds S n t.state t.sends (inr (zero-start, closing))
     (subst (λ x. AgentOk T n x) (sym e) (new_agent-known T n))
     (λ g. on-sends (λ ls. AllByRecursion (LetterOk T n g) ls) g ((refl, refl, gone, owner), tt) tt)
@@ -721,10 +723,10 @@ stops-holds S n t up e says silent h = turn-holds S n t.state t.sends (inr (zero
     h
   where
     T : State
-    T = after S n t.state t.sends S.history
+    T = after_agent S n t.state t.sends S.history
 
     s : ℕ
-    s = start_at S n
+    s = agent_start S n
 
     owner : S.owner s ≡ n
     owner = ((h.hosts n).running up).0
@@ -740,11 +742,11 @@ stops-holds S n t up e says silent h = turn-holds S n t.state t.sends (inr (zero
         choice false c x y = subst P (sym (silent g (inl x))) q
         choice true true x y = subst P (sym (silent g (inr y))) q
 
-    closing : (g : ℕ) → 0 < start_at S g → (g ≡ n → ⊥) → Closing s (t.sends (Agent g))
+    closing : (g : ℕ) → 0 < agent_start S g → (g ≡ n → ⊥) → ClosedUnderWay s (t.sends (Agent g))
     closing g runs ne = choice (is_host S.deployment g) (g == n) refl refl
       where
-        choice : (b c : Bool) → is_host S.deployment g ≡ b → (g == n) ≡ c → Closing s (t.sends (Agent g))
-        choice true false x y = subst (λ ls. Closing s ls) (sym (says g x y)) (inl refl)
+        choice : (b c : Bool) → is_host S.deployment g ≡ b → (g == n) ≡ c → ClosedUnderWay s (t.sends (Agent g))
+        choice true false x y = subst (λ ls. ClosedUnderWay s ls) (sym (says g x y)) (inl refl)
         choice false c x y = let z = (h.hosts g).environment x in absurd (omega (arith, z, runs))
         choice true true x y = absurd (ne (eqb-true g n y))
 

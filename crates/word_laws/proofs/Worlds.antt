@@ -4,7 +4,7 @@ use Rattle.std.proofs.lemmas.Bool.{and_parts, eqb-true, false≢true, or_cases}
 use Rattle.std.proofs.lemmas.Bool.Decides.{nat_tests}
 use Rattle.std.proofs.lemmas.List.Folds.{list_any-append}
 use Rattle.std.specs.Prelude.{ℕ, ◌&&◌, ◌||◌, not, nat_lt, nat_le, map, Option, Some, None, is_none}
-use Rattle.std.specs.List.{AllByRecursion, list_any, range_with_len}
+use Rattle.std.specs.List.{list_any, range_with_len, AllByRecursion}
 use Rattle.volt_wire.specs.declared.actor.Actor.{Actor}
 use Rattle.volt_wire.specs.declared.actor.Actor.TheVariants.{Director, Client, Agent, Site, Scanner}
 use Rattle.volt_wire.specs.declared.event.Event.{Event}
@@ -15,7 +15,7 @@ use Rattle.volt_wire.specs.declared.item.TimedItem.{TimedItem}
 use Rattle.volt_wire.specs.declared.message.Msg.TheVariants as msg
 use Rattle.cluster_model.specs.Engine.{Database}
 use Rattle.cluster_model.specs.Words.{Deployment, is_host, parts, slots}
-use Rattle.cluster_model.specs.Letters.{same, Letter, Turn, open_letter}
+use Rattle.cluster_model.specs.Letters.{same, Letter, Turn, open_letter, Sends}
 use Rattle.cluster_model.specs.Director.{DirectorState, does, does_next}
 use Rattle.cluster_model.specs.Environment.{Environment, NoFault, DiskFails, NoMemory, DisksShow}
 use Rattle.cluster_model.specs.AgentState.{new_agent}
@@ -23,14 +23,14 @@ use Rattle.cluster_model.specs.Agent.{agent_turn, start_after}
 use Rattle.cluster_model.specs.World.{World, Input, first_world, set_at, sent, stamp_of, with_director, member_agent, new_word, greatest_done}
 use Rattle.cluster_model.specs.Recover.{recovers, starts_anew, stays_stopped, new_base, new_log}
 use Rattle.cluster_model.specs.Events.{is_actor, is_some_letter, can, allows, delivered, recovered_with, may_do, happens, step}
-use Rattle.cluster_model.specs.Runs.{Happening, IsRun, has_failed, may_happen, run}
+use Rattle.cluster_model.specs.Runs.{Happening, has_failed, may_happen, renews_by, renews_at, renews}
 use Rattle.cluster_model.specs.Laws.{starts_in}
 use Rattle.cluster_model.proofs.Starts.{takes-next}
-use Rattle.word_laws.specs.Histories.{History, Holds}
-use Rattle.word_laws.specs.Chain.{state_of, InEpoch, renews_by, renews_at, renews}
+use Rattle.word_laws.specs.Histories.{History, WordsHold}
+use Rattle.word_laws.specs.Chain.{state_of, InEpoch}
 use Rattle.cluster_steps.proofs.Lists.{if-false}
 use Rattle.cluster_steps.proofs.Channels.{starts-if, stops_all-starts}
-use Rattle.word_laws.proofs.Moves.{Grows}
+use Rattle.word_laws.proofs.Moves.{Grows, ShownOk}
 use Rattle.word_laws.proofs.Steps.{channel-holds}
 use Rattle.word_laws.proofs.Epochs.{new_history, new_owner, boot-holds, recovery-holds}
 use Rattle.word_laws.proofs.Draws.{director-inert-holds, draws-holds}
@@ -98,19 +98,19 @@ grows-then F G H p q = record {
 }
 
 -- a later world: in the same epoch, unless one begins anew
-pub record Reaches (G : History) (anew : Bool) (v : World) : Type 0 where
+pub record WordsReach (G : History) (anew : Bool) (v : World) : Type 0 where
   pub next : InEpoch v
   pub grows : anew ≡ false → Grows G next.history
 
-still : (w : World) (c : Bool) (k : InEpoch w) → Reaches k.history c w
+still : (w : World) (c : Bool) (k : InEpoch w) → WordsReach k.history c w
 still w c k = record { next = k; grows = λ e. grows-same k.history }
 
 -- where the history stays
-keeps : (w v : World) (c : Bool) (k : InEpoch w) (owner : ℕ → ℕ) → Holds (state_of v owner k.history) → ((h : ℕ) → is_host v.deployment h ≡ false → v.agents h ≡ new_agent 0) → Reaches k.history c v
+keeps : (w v : World) (c : Bool) (k : InEpoch w) (owner : ℕ → ℕ) → WordsHold (state_of v owner k.history) → ((h : ℕ) → is_host v.deployment h ≡ false → v.agents h ≡ new_agent 0) → WordsReach k.history c v
 keeps w v c k owner holds strangers = record { next = record { owner = owner; history = k.history; holds = holds; strangers = strangers }; grows = λ e. grows-same k.history }
 
 -- the event is noted in the trace
-noted : (G : History) (c : Bool) (v : World) (trace : List Event) → Reaches G c v → Reaches G c (record v { trace = trace })
+noted : (G : History) (c : Bool) (v : World) (trace : List Event) → WordsReach G c v → WordsReach G c (record v { trace = trace })
 noted G c v trace r = record {
   next = record { owner = r.next.owner; history = r.next.history; holds = r.next.holds; strangers = r.next.strangers };
   grows = r.grows;
@@ -119,40 +119,40 @@ noted G c v trace r = record {
 -- ---- another actor takes a message
 
 others-hold : (w : World) (k : InEpoch w) (ch : Actor → Actor → List Letter) → ((h g : ℕ) → ch (Agent h) (Agent g) ≡ w.channel (Agent h) (Agent g))
-    → ((h : ℕ) → starts_in (ch Director (Agent h)) ≡ starts_in (w.channel Director (Agent h))) → Holds (record (state_of w k.owner k.history) { channel = ch })
+    → ((h : ℕ) → starts_in (ch Director (Agent h)) ≡ starts_in (w.channel Director (Agent h))) → WordsHold (record (state_of w k.owner k.history) { channel = ch })
 others-hold w k ch stays starts = channel-holds (state_of w k.owner k.history) ch stays starts k.holds
 
-to_site-reaches : (E : Database) (w : World) (i : ℕ) (from : Actor) (ls : List Letter) (o : Environment) (c : Bool) (k : InEpoch w) → Reaches k.history c (delivered E w (Site i) from ls o)
+to_site-reaches : (E : Database) (w : World) (i : ℕ) (from : Actor) (ls : List Letter) (o : Environment) (c : Bool) (k : InEpoch w) → WordsReach k.history c (delivered E w (Site i) from ls o)
 to_site-reaches E w i from [] o c k = still w c k
 to_site-reaches E w i from (l ∷ ls) o c k = keeps w (delivered E w (Site i) from (l ∷ ls) o) c k k.owner
     (others-hold w k (delivered E w (Site i) from (l ∷ ls) o).channel (λ h g. refl) (λ h. refl)) k.strangers
 
-to_client-reaches : (E : Database) (w : World) (n : ℕ) (from : Actor) (ls : List Letter) (o : Environment) (c : Bool) (k : InEpoch w) → Reaches k.history c (delivered E w (Client n) from ls o)
+to_client-reaches : (E : Database) (w : World) (n : ℕ) (from : Actor) (ls : List Letter) (o : Environment) (c : Bool) (k : InEpoch w) → WordsReach k.history c (delivered E w (Client n) from ls o)
 to_client-reaches E w n from [] o c k = still w c k
 to_client-reaches E w n from (l ∷ ls) o c k = keeps w (delivered E w (Client n) from (l ∷ ls) o) c k k.owner
     (others-hold w k (delivered E w (Client n) from (l ∷ ls) o).channel (λ h g. refl) (λ h. refl)) k.strangers
 
-to_scanner-reaches : (E : Database) (w : World) (i : ℕ) (from : Actor) (ls : List Letter) (o : Environment) (c : Bool) (k : InEpoch w) → Reaches k.history c (delivered E w (Scanner i) from ls o)
+to_scanner-reaches : (E : Database) (w : World) (i : ℕ) (from : Actor) (ls : List Letter) (o : Environment) (c : Bool) (k : InEpoch w) → WordsReach k.history c (delivered E w (Scanner i) from ls o)
 to_scanner-reaches E w i from [] o c k = still w c k
 to_scanner-reaches E w i from (l ∷ ls) o c k = keeps w (delivered E w (Scanner i) from (l ∷ ls) o) c k k.owner
     (others-hold w k (delivered E w (Scanner i) from (l ∷ ls) o).channel (λ h g. refl) (λ h. refl)) k.strangers
 
-to_director-reaches : (E : Database) (w : World) (from : Actor) (ls : List Letter) (o : Environment) (c : Bool) (k : InEpoch w) → Reaches k.history c (delivered E w Director from ls o)
+to_director-reaches : (E : Database) (w : World) (from : Actor) (ls : List Letter) (o : Environment) (c : Bool) (k : InEpoch w) → WordsReach k.history c (delivered E w Director from ls o)
 to_director-reaches E w from [] o c k = still w c k
 to_director-reaches E w from (l ∷ ls) o c k = keeps w (delivered E w Director from (l ∷ ls) o) c k k.owner
-    (subst (λ n. Holds (record (state_of w k.owner k.history) { next = n; channel = (delivered E w Director from (l ∷ ls) o).channel })) (takes-next w.director from l)
+    (subst (λ n. WordsHold (record (state_of w k.owner k.history) { next = n; channel = (delivered E w Director from (l ∷ ls) o).channel })) (takes-next w.director from l)
     (others-hold w k (delivered E w Director from (l ∷ ls) o).channel (λ h g. refl) (λ h. ap starts_in (append-nil (w.channel Director (Agent h)))))) k.strangers
 
 -- ---- the director does an item
 
 -- one in which no start is drawn
 plain-reaches : (w : World) (t : Turn DirectorState) (c : Bool) (k : InEpoch w) → w.director.next_start ≡ t.state.next_start → ((g : ℕ) → starts_in (t.sends (Agent g)) ≡ [])
-    → Reaches k.history c (with_director w t)
+    → WordsReach k.history c (with_director w t)
 plain-reaches w t c k same none = keeps w (with_director w t) c k k.owner
-    (subst (λ n. Holds (record (state_of w k.owner k.history) { next = n; channel = sent w.channel Director t.sends })) same
+    (subst (λ n. WordsHold (record (state_of w k.owner k.history) { next = n; channel = sent w.channel Director t.sends })) same
     (director-inert-holds (state_of w k.owner k.history) t.sends k.holds none)) k.strangers
 
-item-reaches : (w : World) (left : List TimedItem) (i : Item) (c : Bool) (k : InEpoch w) → Reaches k.history c (with_director w (does w.deployment (record w.director { items = left }) i))
+item-reaches : (w : World) (left : List TimedItem) (i : Item) (c : Bool) (k : InEpoch w) → WordsReach k.history c (with_director w (does w.deployment (record w.director { items = left }) i))
 item-reaches w left (item.Lose host) c k = plain-reaches w (does w.deployment (record w.director { items = left }) (item.Lose host)) c k refl
     (λ g. starts-if (g == host) (open_letter (msg.Stop (w.director.last_start host)) ∷ []) refl)
 item-reaches w left (item.Rejoin host) c k = keeps w (with_director w (does w.deployment (record w.director { items = left }) (item.Rejoin host))) c k (set_at k.owner w.director.next_start host)
@@ -165,7 +165,7 @@ item-reaches w left item.Halt c k = plain-reaches w (does w.deployment (record w
 item-reaches w left item.Recover c k = plain-reaches w (does w.deployment (record w.director { items = left }) item.Recover) c k refl (λ g. stops_all-starts w.deployment w.director.last_start g)
 item-reaches w left item.Quiet c k = plain-reaches w (does w.deployment (record w.director { items = left }) item.Quiet) c k refl (λ g. refl)
 
-next-reaches : (w : World) (may : Bool) (items : List TimedItem) (c : Bool) (k : InEpoch w) → Reaches k.history c (with_director w (does_next w.deployment may w.director items))
+next-reaches : (w : World) (may : Bool) (items : List TimedItem) (c : Bool) (k : InEpoch w) → WordsReach k.history c (with_director w (does_next w.deployment may w.director items))
 next-reaches w true (next ∷ left) c k = item-reaches w left next.item c k
 next-reaches w true [] c k = plain-reaches w (does_next w.deployment true w.director []) c k refl (λ g. stops_all-starts w.deployment w.director.last_start g)
 next-reaches w false items c k = plain-reaches w (does_next w.deployment false w.director items) c k refl (λ g. stops_all-starts w.deployment w.director.last_start g)
@@ -183,7 +183,7 @@ first-holds E I =
       strangers = λ h e. if-false (is_host D h) (member_agent (new_word D I.base 1) number 1 h) (new_agent 0) e;
     }
 
-anew-reaches : (E : Database) (w : World) (shown : List ℕ) (k : InEpoch w) → Reaches k.history true (starts_anew E w shown)
+anew-reaches : (E : Database) (w : World) (shown : List ℕ) (k : InEpoch w) → WordsReach k.history true (starts_anew E w shown)
 anew-reaches E w shown k =
     let D = w.deployment in
     let start = w.director.next_start in
@@ -199,11 +199,11 @@ anew-reaches E w shown k =
       grows = λ e. absurd (false≢true (sym e));
     }
 
-recovers-reaches : (E : Database) (w : World) (shown : List ℕ) (failed : Option (ℕ × Bool)) (k : InEpoch w) → Reaches k.history (is_none failed) (recovers E w shown failed)
+recovers-reaches : (E : Database) (w : World) (shown : List ℕ) (failed : Option (ℕ × Bool)) (k : InEpoch w) → WordsReach k.history (is_none failed) (recovers E w shown failed)
 recovers-reaches E w shown None k = anew-reaches E w shown k
 recovers-reaches E w shown (Some failed) k = keeps w (stays_stopped E w shown failed) false k k.owner k.holds k.strangers
 
-recovery-reaches : (E : Database) (w : World) (o : Environment) (k : InEpoch w) → Reaches k.history (renews_by o) (recovered_with E w o)
+recovery-reaches : (E : Database) (w : World) (o : Environment) (k : InEpoch w) → WordsReach k.history (renews_by o) (recovered_with E w o)
 recovery-reaches E w NoFault k = still w false k
 recovery-reaches E w (DiskFails answered) k = still w false k
 recovery-reaches E w (NoMemory answered) k = still w false k
@@ -220,12 +220,17 @@ memory-runs w n answered from l ls o is may e =
     let some : (nat_lt 0 (start_after (w.agents n) from l) && nat_le answered 0) ≡ true = rw is at out in
     (and_parts (nat_lt 0 (start_after (w.agents n) from l)) (nat_le answered 0) some).0
 
-to_agent-reaches : (E : Database) (w : World) (n : ℕ) (from : Actor) (ls : List Letter) (o : Environment) (c : Bool) (k : InEpoch w) → w.channel from (Agent n) ≡ ls
-    → is_host w.deployment n ≡ true → allows w (event.Deliver (Agent n) from) o ≡ true → Reaches k.history c (delivered E w (Agent n) from ls o)
-to_agent-reaches E w n from [] o c k is host may = still w c k
-to_agent-reaches E w n from (l ∷ ls) o c k is host may =
-    let S = state_of w k.owner k.history in
-    let g = agent-event E S n (stamp_of w) from l ls o is host (λ answered e. memory-runs w n answered from l ls o is may e) k.holds in
+-- It is in the same epoch then, and others than agents are shown what is known.
+pub record AgentReach (G : History) (v : World) (sends : Sends) : Type 0 where
+  pub next : InEpoch v
+  pub grows : Grows G next.history
+  pub shown : (b : Actor) → AllByRecursion (ShownOk (state_of v next.owner next.history) b) (sends b)
+
+pub agent-reach : (E : Database) (w : World) (n : ℕ) (from : Actor) (l : Letter) (ls : List Letter) (o : Environment) (k : InEpoch w) → w.channel from (Agent n) ≡ l ∷ ls
+    → is_host w.deployment n ≡ true → allows w (event.Deliver (Agent n) from) o ≡ true
+    → AgentReach k.history (delivered E w (Agent n) from (l ∷ ls) o) (agent_turn E w.deployment n (stamp_of w) (w.agents n) from l o).sends
+agent-reach E w n from l ls o k is host may =
+    let g = agent-event E (state_of w k.owner k.history) n (stamp_of w) from l ls o is host (λ answered e. memory-runs w n answered from l ls o is may e) k.holds in
     record {
       next = record {
         owner = k.owner;
@@ -233,20 +238,26 @@ to_agent-reaches E w n from (l ∷ ls) o c k is host may =
         holds = g.holds;
         strangers = λ h e. if-false (h == n) (agent_turn E w.deployment n (stamp_of w) (w.agents n) from l o).state (w.agents h) (host-apart w.deployment n h host e) ∙ k.strangers h e;
       };
-      grows = λ e. g.grows;
+      grows = g.grows;
+      shown = g.shown;
     }
+
+to_agent-reaches : (E : Database) (w : World) (n : ℕ) (from : Actor) (ls : List Letter) (o : Environment) (c : Bool) (k : InEpoch w) → w.channel from (Agent n) ≡ ls
+    → is_host w.deployment n ≡ true → allows w (event.Deliver (Agent n) from) o ≡ true → WordsReach k.history c (delivered E w (Agent n) from ls o)
+to_agent-reaches E w n from [] o c k is host may = still w c k
+to_agent-reaches E w n from (l ∷ ls) o c k is host may = let r = agent-reach E w n from l ls o k is host may in record { next = r.next; grows = λ e. r.grows }
 
 -- ---- events
 
 delivered-reaches : (E : Database) (w : World) (to from : Actor) (o : Environment) (k : InEpoch w) → is_actor w.deployment to ≡ true → allows w (event.Deliver to from) o ≡ true
-    → Reaches k.history false (delivered E w to from (w.channel from to) o)
+    → WordsReach k.history false (delivered E w to from (w.channel from to) o)
 delivered-reaches E w Director from o k there may = to_director-reaches E w from (w.channel from Director) o false k
 delivered-reaches E w (Client n) from o k there may = to_client-reaches E w n from (w.channel from (Client n)) o false k
 delivered-reaches E w (Agent n) from o k there may = to_agent-reaches E w n from (w.channel from (Agent n)) o false k refl (actor-host w.deployment n there) may
 delivered-reaches E w (Site i) from o k there may = to_site-reaches E w i from (w.channel from (Site i)) o false k
 delivered-reaches E w (Scanner i) from o k there may = to_scanner-reaches E w i from (w.channel from (Scanner i)) o false k
 
-happens-reaches : (E : Database) (w : World) (e : Event) (o : Environment) (k : InEpoch w) → can w e ≡ true → allows w e o ≡ true → Reaches k.history (renews_at e o) (happens E w e o)
+pub happens-reaches : (E : Database) (w : World) (e : Event) (o : Environment) (k : InEpoch w) → can w e ≡ true → allows w e o ≡ true → WordsReach k.history (renews_at e o) (happens E w e o)
 happens-reaches E w (event.Deliver to from) o k may environment = delivered-reaches E w to from o k (and_parts (is_some_letter (w.channel from to)) (is_actor w.deployment to) may).1 environment
 happens-reaches E w (event.Sync i) o k may environment = keeps w (happens E w (event.Sync i) o) false k k.owner (others-hold w k (happens E w (event.Sync i) o).channel (λ h g. refl) (λ h. refl)) k.strangers
 happens-reaches E w (event.Scan i) o k may environment = keeps w (happens E w (event.Scan i) o) false k k.owner (others-hold w k (happens E w (event.Scan i) o).channel (λ h g. refl) (λ h. refl)) k.strangers
@@ -255,7 +266,7 @@ happens-reaches E w event.Item o k may environment = next-reaches w (may_do w w.
 happens-reaches E w (event.Submit n) o k may environment = keeps w (happens E w (event.Submit n) o) false k k.owner (others-hold w k (happens E w (event.Submit n) o).channel (λ h g. refl) (λ h. refl)) k.strangers
 happens-reaches E w (event.Idle a) o k may environment = still w false k
 
-step-reaches : (E : Database) (w : World) (e : Happening) → may_happen w e ≡ true → (k : InEpoch w) → Reaches k.history (renews e) (step E w e)
+step-reaches : (E : Database) (w : World) (e : Happening) → may_happen w e ≡ true → (k : InEpoch w) → WordsReach k.history (renews e) (step E w e)
 step-reaches E w e may k =
     let outer = and_parts (not (has_failed w) && can w e.0) (allows w e.0 e.1) may in
     let inner = and_parts (not (has_failed w)) (can w e.0) outer.0 in
@@ -269,33 +280,3 @@ step-holds E w e may k = (step-reaches E w e may k).next
 -- It is the same one, unless a recovery works.
 pub step-grows : (E : Database) (w : World) (e : Happening) → may_happen w e ≡ true → renews e ≡ false → (k : InEpoch w) → (next : InEpoch (step E w e)) × Grows k.history next.history
 step-grows E w e may same k = let r = step-reaches E w e may k in (r.next, r.grows same)
-
--- ---- runs
-
--- Each world of a run is in an epoch, if the first one is.
-pub run-holds : (E : Database) (es : List Happening) (w : World) → IsRun E es w → InEpoch w → InEpoch (run E es w)
-run-holds E [] w r k = k
-run-holds E (e ∷ es) w r k = run-holds E es (step E w e) r.1 (step-holds E w e r.0 k)
-
--- Where no recovery works on the way, it is the same one.
-pub run-grows : (E : Database) (es : List Happening) (w : World) → IsRun E es w → AllByRecursion (λ e. renews e ≡ false) es → (k : InEpoch w)
-    → (n : InEpoch (run E es w)) × Grows k.history n.history
-run-grows E [] w r same k = (k, grows-same k.history)
-run-grows E (e ∷ es) w r same k =
-    let s = step-grows E w e r.0 same.0 k in
-    let n = run-grows E es (step E w e) r.1 same.1 s.0 in
-    (n.0, grows-then k.history s.0.history n.0.history s.1 n.1)
-
--- ---- runs that go on
-
-pub run-append : (E : Database) (es fs : List Happening) (w : World) → run E (es ++ fs) w ≡ run E fs (run E es w)
-run-append E [] fs w = refl
-run-append E (e ∷ es) fs w = run-append E es fs (step E w e)
-
-pub run-first : (E : Database) (es fs : List Happening) (w : World) → IsRun E (es ++ fs) w → IsRun E es w
-run-first E [] fs w r = tt
-run-first E (e ∷ es) fs w r = (r.0, run-first E es fs (step E w e) r.1)
-
-pub run-second : (E : Database) (es fs : List Happening) (w : World) → IsRun E (es ++ fs) w → IsRun E fs (run E es w)
-run-second E [] fs w r = r
-run-second E (e ∷ es) fs w r = run-second E es fs (step E w e) r.1

@@ -1,16 +1,11 @@
 -- What the laws of words say of a world: the epoch that it is in, and the words that its agents have.
-use Rattle.std.specs.Prelude.{ℕ, ◌≡◌, ◌⊎◌, Bool, false, List, Some, is_none}
-use Rattle.std.specs.List.{AllByRecursion}
+use Rattle.std.specs.Prelude.{ℕ, ◌≡◌, ◌⊎◌, false, Some}
 use Rattle.volt_wire.specs.Word.{Membership}
-use Rattle.volt_wire.specs.declared.event.Event.{Event}
-use Rattle.volt_wire.specs.declared.event.Event.TheVariants as event
 use Rattle.cluster_model.specs.Words.{is_host, not_lost}
 use Rattle.cluster_model.specs.AgentState.{new_agent}
-use Rattle.cluster_model.specs.Environment.{Environment, DisksShow}
 use Rattle.cluster_model.specs.World.{World}
-use Rattle.cluster_model.specs.Runs.{Happening}
 use Rattle.cluster_steps.specs.Lists.{In}
-use Rattle.word_laws.specs.Histories.{State, History, Holds}
+use Rattle.word_laws.specs.Histories.{State, History, WordsHold}
 
 -- ---- epochs
 
@@ -30,24 +25,8 @@ state_of w owner history = record {
 pub record InEpoch (w : World) : Type 0 where
   pub owner : ℕ → ℕ
   pub history : History
-  pub holds : Holds (state_of w owner history)
+  pub holds : WordsHold (state_of w owner history)
   pub strangers : (h : ℕ) → is_host w.deployment h ≡ false → w.agents h ≡ new_agent 0
-
--- a recovery that works begins a new epoch
-abbrev pub renews_by : Environment → Bool
-renews_by (DisksShow shown failed) = is_none failed
-renews_by o = false
-
-abbrev pub renews_at : Event → Environment → Bool
-renews_at event.Recover o = renews_by o
-renews_at e o = false
-
-abbrev pub renews : Happening → Bool
-renews e = renews_at e.0 e.1
-
--- in these events no recovery works
-abbrev pub IsOneEpoch : List Happening → Type 0
-IsOneEpoch es = AllByRecursion (λ e. renews e ≡ false) es
 
 -- ---- words of a world
 

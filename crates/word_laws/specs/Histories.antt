@@ -63,8 +63,8 @@ pub record State : Type 0 where
 
 -- ---- starts
 
-abbrev pub start_at : State → ℕ → ℕ
-start_at S h = (S.agents h).start
+abbrev pub agent_start : State → ℕ → ℕ
+agent_start S h = (S.agents h).start
 
 -- the starts under way to a host
 abbrev pub starts_to : State → ℕ → List ℕ
@@ -78,12 +78,12 @@ pub record Begun (S : State) (s : ℕ) : Type 0 where
   pub began : In s (S.history.began (S.owner s))
 
 -- its agent runs
-abbrev pub Runs : State → ℕ → Type 0
-Runs S s = start_at S (S.owner s) ≡ s
+abbrev pub IsRunning : State → ℕ → Type 0
+IsRunning S s = agent_start S (S.owner s) ≡ s
 
 -- its agent ran and has stopped
 abbrev pub Gone : State → ℕ → Type 0
-Gone S s = Begun S s × (Runs S s → ⊥)
+Gone S s = Begun S s × (IsRunning S s → ⊥)
 
 -- none of these is there twice
 abbrev pub Distinct : List ℕ → Type 0
@@ -97,9 +97,9 @@ Earlier r s (x ∷ xs) = ((x ≡ s) × In r xs) ⊎ Earlier r s xs
 
 -- Of one host: the start that runs is the last one that began. Those under way are its own and haven't begun.
 pub record HostOk (S : State) (h : ℕ) : Type 0 where
-  pub environment : is_host S.deployment h ≡ false → start_at S h ≡ 0
-  pub running : 0 < start_at S h → (S.owner (start_at S h) ≡ h) × (start_at S h < S.next)
-  pub last : 0 < start_at S h → (before : List ℕ) × (S.history.began h ≡ start_at S h ∷ before)
+  pub environment : is_host S.deployment h ≡ false → agent_start S h ≡ 0
+  pub running : 0 < agent_start S h → (S.owner (agent_start S h) ≡ h) × (agent_start S h < S.next)
+  pub last : 0 < agent_start S h → (before : List ℕ) × (S.history.began h ≡ agent_start S h ∷ before)
   pub began : AllByRecursion (λ x. (S.owner x ≡ h) × (0 < x) × (x < S.next)) (S.history.began h)
   pub distinct : Distinct (S.history.began h)
   pub owned : AllByRecursion (λ x. (S.owner x ≡ h) × (0 < x) × (x < S.next)) (starts_to S h)
@@ -138,7 +138,7 @@ pub record Unnamed (S : State) (s : ℕ) : Type 0 where
 -- ---- messages between agents
 
 -- start j of host h asks the agent of host g to be admitted, in the term of the word that it took
-pub record AskOk (S : State) (h g term j : ℕ) : Type 0 where
+pub record AsksAdmission (S : State) (h g term j : ℕ) : Type 0 where
   pub owned : S.owner j ≡ h
   pub begun : Begun S j
   pub other : (h == g) ≡ false
@@ -155,7 +155,8 @@ LetterOk S h g l = elim l.body as (λ _. Type 0) [
       × (start_of (record S.history.first { lost = lost; admitted = admitted }) g ≡ Some l.start)
   | msg.Decided w ↦ (l.term ≡ 0) × In w S.history.decided
   | msg.Closed o ↦ (l.term ≡ 0) × (l.start ≡ 0) × Gone S o × (S.owner o ≡ h)
-  | msg.Admit j ↦ AskOk S h g l.term j
+  | msg.View w ↦ ⊥
+  | msg.Admit j ↦ AsksAdmission S h g l.term j
   | _ ↦ Unit {0}
 ]
 
@@ -184,25 +185,26 @@ pub record ChannelOk (S : State) (h g : ℕ) : Type 0 where
 
 -- An Admit that came: no Closed of an earlier start of its host is under way.
 abbrev pub CameOk : State → ℕ → ℕ → ℕ → ℕ → Type 0
-CameOk S h g term j = AskOk S h g term j × AllByRecursion (ClosesFrom (S.history.began h) j) (S.channel (Agent h) (Agent g))
+CameOk S h g term j = AsksAdmission S h g term j × AllByRecursion (ClosesFrom (S.history.began h) j) (S.channel (Agent h) (Agent g))
 
-abbrev pub QueuedOk : State → ℕ → Queued → Type 0
-QueuedOk S g (Job_ job) = Unit {0}
-QueuedOk S g (Admission j h term) = CameOk S h g term j
+abbrev pub QueuedAdmissionOk : State → ℕ → Queued → Type 0
+QueuedAdmissionOk S g (Job_ job) = Unit {0}
+QueuedAdmissionOk S g (Admission j h term) = CameOk S h g term j
 
 -- Of what agents say, only Admit may wait.
-abbrev pub WaitingFrom : State → ℕ → Actor → Letter → Type 0
-WaitingFrom S g (Agent h) l = elim l.body as (λ _. Type 0) [
+abbrev pub AgentWaitingFrom : State → ℕ → Actor → Letter → Type 0
+AgentWaitingFrom S g (Agent h) l = elim l.body as (λ _. Type 0) [
   | msg.Word base lost admitted ↦ ⊥
   | msg.Decided w ↦ ⊥
   | msg.Closed o ↦ ⊥
+  | msg.View w ↦ ⊥
   | msg.Admit j ↦ CameOk S h g l.term j
   | _ ↦ Unit {0}
 ]
-WaitingFrom S g from l = Unit {0}
+AgentWaitingFrom S g from l = Unit {0}
 
-abbrev pub WaitingOk : State → ℕ → Waiting → Type 0
-WaitingOk S g x = WaitingFrom S g x.from x.letter
+abbrev pub AgentWaitingOk : State → ℕ → Waiting → Type 0
+AgentWaitingOk S g x = AgentWaitingFrom S g x.from x.letter
 
 abbrev pub IsOff : Phase → Type 0
 IsOff Off = Unit {0}
@@ -227,8 +229,8 @@ pub record AgentOk (S : State) (h : ℕ) (a : AgentState) : Type 0 where
   pub wordless : a.own ≡ None → a.taken ≡ None
   pub joins : a.decided ≡ None → a.taken ≡ None → a.own ≡ None
   pub heard : (k : ℕ) → OnSome (SaidBy S k) (a.said k)
-  pub waiting : AllByRecursion (WaitingOk S h) a.waiting
-  pub queue : AllByRecursion (QueuedOk S h) a.initiating.queue
+  pub waiting : AllByRecursion (AgentWaitingOk S h) a.waiting
+  pub queue : AllByRecursion (QueuedAdmissionOk S h) a.initiating.queue
   pub initiates : IsOff a.initiating.phase ⊎ (initiates h a a.decided ≡ true)
 
 -- ---- what was said, decided and admitted
@@ -291,8 +293,8 @@ pub record HistoryOk (S : State) : Type 0 where
 -- ---- what is under way
 
 -- a Word to start c that admits j
-abbrev pub Tells : ℕ → ℕ → Letter → Type 0
-Tells c j l = elim l.body as (λ _. Type 0) [
+abbrev pub TellsAdmission : ℕ → ℕ → Letter → Type 0
+TellsAdmission c j l = elim l.body as (λ _. Type 0) [
   | msg.Word base lost admitted ↦ (l.start ≡ c) × (list_any (λ a. a.0 == j) admitted ≡ true)
   | _ ↦ ⊥
 ]
@@ -306,12 +308,12 @@ IsClosed o l = elim l.body as (λ _. Type 0) [
 -- there is such a Word, and no Closed of i comes before it
 abbrev pub Telling : ℕ → ℕ → ℕ → List Letter → Type 0
 Telling c j i [] = ⊥
-Telling c j i (l ∷ ls) = Tells c j l ⊎ ((IsClosed i l → ⊥) × Telling c j i ls)
+Telling c j i (l ∷ ls) = TellsAdmission c j l ⊎ ((IsClosed i l → ⊥) × Telling c j i ls)
 
 -- Closed of o is under way
-abbrev pub Closing : ℕ → List Letter → Type 0
-Closing o [] = ⊥
-Closing o (l ∷ ls) = IsClosed o l ⊎ Closing o ls
+abbrev pub ClosedUnderWay : ℕ → List Letter → Type 0
+ClosedUnderWay o [] = ⊥
+ClosedUnderWay o (l ∷ ls) = IsClosed o l ⊎ ClosedUnderWay o ls
 
 -- this holds of the agent's own word, and there is one
 abbrev pub OwnIs : (Membership → Type 0) → AgentState → Type 0
@@ -326,19 +328,19 @@ Told S x c =
 
 -- Of a start o that has stopped: the agent of host g is going to hear it, or its word has it lost, or o has said no word that
 -- names the agent's start.
-abbrev pub Heard : State → ℕ → ℕ → Type 0
-Heard S g o =
-    Closing o (S.channel (Agent (S.owner o)) (Agent g))
+abbrev pub HearsClosed : State → ℕ → ℕ → Type 0
+HearsClosed S g o =
+    ClosedUnderWay o (S.channel (Agent (S.owner o)) (Agent g))
     ⊎ OwnIs (λ w. is_in o w.lost ≡ true) (S.agents g)
-    ⊎ ((w : Membership) → In w (S.history.said o) → names w (start_at S g) ≡ false)
+    ⊎ ((w : Membership) → In w (S.history.said o) → names w (agent_start S g) ≡ false)
 
 -- What holds in every run.
-pub record Holds (S : State) : Type 0 where
+pub record WordsHold (S : State) : Type 0 where
   pub some : 0 < S.next
   pub hosts : (h : ℕ) → HostOk S h
   pub agents : (h : ℕ) → AgentOk S h (S.agents h)
   pub channels : (h g : ℕ) → ChannelOk S h g
   pub history : HistoryOk S
   -- Told in order; Closed is last.
-  pub told : (x : Admitted) → In x S.history.admitted → (c : ℕ) → names x.at c ≡ true → (c ≡ x.by → ⊥) → Runs S c → Told S x c
-  pub heard : (g o : ℕ) → 0 < start_at S g → Gone S o → (S.owner o ≡ g → ⊥) → Heard S g o
+  pub told : (x : Admitted) → In x S.history.admitted → (c : ℕ) → names x.at c ≡ true → (c ≡ x.by → ⊥) → IsRunning S c → Told S x c
+  pub heard : (g o : ℕ) → 0 < agent_start S g → Gone S o → (S.owner o ≡ g → ⊥) → HearsClosed S g o

@@ -1,13 +1,16 @@
 -- One host: a call puts an account, the next one would take away more than there is.
 use Rattle.std.specs.Prelude.{true, [], ◌∷◌}
 use Rattle.volt_wire.specs.declared.end.End.TheVariants as end
-use Rattle.cluster_model.specs.World.{World}
+use Rattle.cluster_model.specs.World.{World, Input}
 use Rattle.cluster_model.specs.Runs.{by_first}
 use Rattle.cluster_model.specs.Toy.{toy, put, take_away, gives, is_refused}
-use Rattle.cluster_model.specs.Scenarios.{Outline, deployed, begins, calls_on, ends_so, point, shows}
+use Rattle.cluster_model.specs.Scenarios.{Outline, deployed, blank, begins, calls_on, ends_so, point, shows}
+
+abbrev pub input : Input
+input = blank (deployed 1 1 0 1) (calls_on 1 0 (put 1 10) ∷ calls_on 1 0 (take_away 1 11) ∷ []) []
 
 abbrev pub start : World
-start = begins (deployed 1 1 0 1) (calls_on 1 0 (put 1 10) ∷ calls_on 1 0 (take_away 1 11) ∷ []) []
+start = begins input
 
 abbrev pub last : World
 last = by_first toy 14 start

@@ -5,17 +5,20 @@ use Rattle.volt_wire.specs.declared.end.End.TheVariants as end
 use Rattle.volt_wire.specs.declared.event.Event.{Event}
 use Rattle.volt_wire.specs.declared.event.Event.TheVariants.{Deliver, Sync, Submit, Item}
 use Rattle.volt_wire.specs.declared.item.Item.TheVariants as item
-use Rattle.cluster_model.specs.World.{World}
+use Rattle.cluster_model.specs.World.{World, Input}
 use Rattle.cluster_model.specs.Runs.{run, no_fault, Happening}
 use Rattle.cluster_model.specs.Toy.{toy, put, move, gives}
-use Rattle.cluster_model.specs.Scenarios.{Stampless, deployed, begins, calls_on, calls_all, shows, after_calls}
+use Rattle.cluster_model.specs.Scenarios.{Stampless, deployed, blank, begins, calls_on, calls_all, shows, after_calls}
 
 -- Three hosts, three partitions with two copies each. Account 1 lies in partition 1, account 2 in partition 2.
-abbrev pub start : World
-start =
-    begins (deployed 3 2 1 2)
+abbrev pub input : Input
+input =
+    blank (deployed 3 2 1 2)
     (calls_on 2 1 (put 1 10) ∷ calls_on 2 2 (put 2 5) ∷ calls_all 2 (move 1 2 4) ∷ [])
     (after_calls 3 (item.Lose 0) ∷ [])
+
+abbrev pub start : World
+start = begins input
 
 -- both accounts are put
 abbrev pub puts : List Event

@@ -1,21 +1,22 @@
 -- A joiner hears that the initiator is lost before the members do.
-use Rattle.std.specs.Prelude.{ℕ, Some, List, [], ◌∷◌, ◌++◌}
-use Rattle.volt_base.specs.declared.entry.Entry.TheVariants.{Sp}
+use Rattle.std.specs.Prelude.{List, [], ◌∷◌, ◌++◌}
 use Rattle.volt_wire.specs.declared.actor.Actor.TheVariants.{Director, Client, Agent, Site, Scanner}
 use Rattle.volt_wire.specs.declared.event.Event.{Event}
-use Rattle.volt_wire.specs.declared.event.Event.TheVariants.{Deliver, Sync, Scan, Submit, Item}
+use Rattle.volt_wire.specs.declared.event.Event.TheVariants.{Deliver, Sync, Scan, Item}
 use Rattle.volt_wire.specs.declared.item.Item.TheVariants as item
-use Rattle.cluster_model.specs.Disk.{Shown}
-use Rattle.cluster_model.specs.World.{World}
+use Rattle.cluster_model.specs.World.{World, Input}
 use Rattle.cluster_model.specs.Runs.{run, no_fault, Happening}
-use Rattle.cluster_model.specs.Toy.{toy, put, add}
-use Rattle.cluster_model.specs.Scenarios.{deployed, begins, calls_on, at_once}
+use Rattle.cluster_model.specs.Toy.{toy, put}
+use Rattle.cluster_model.specs.Scenarios.{deployed, blank, begins, calls_on, at_once}
 
-abbrev pub start : World
-start =
-    begins (deployed 6 1 1 3) (calls_on 3 1 (put 1 10) ∷ [])
+abbrev pub input : Input
+input =
+    blank (deployed 6 1 1 3) (calls_on 3 1 (put 1 10) ∷ [])
     (at_once (item.Lose 3) ∷ at_once (item.Lose 5) ∷ at_once (item.Rejoin 3) ∷ at_once (item.Rejoin 5)
     ∷ at_once (item.Lose 0) ∷ at_once (item.Lose 2) ∷ [])
+
+abbrev pub start : World
+start = begins input
 
 -- hosts 3 and 5 are lost
 abbrev pub lost : List Event

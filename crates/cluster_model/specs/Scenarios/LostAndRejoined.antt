@@ -4,16 +4,19 @@ use Rattle.volt_base.specs.declared.entry.Entry.TheVariants.{Sp}
 use Rattle.volt_wire.specs.declared.end.End.TheVariants as end
 use Rattle.volt_wire.specs.declared.item.Item.TheVariants as item
 use Rattle.cluster_model.specs.Disk.{Shown}
-use Rattle.cluster_model.specs.World.{World}
+use Rattle.cluster_model.specs.World.{World, Input}
 use Rattle.cluster_model.specs.Runs.{by_first}
 use Rattle.cluster_model.specs.Toy.{toy, put, gives}
 use Rattle.cluster_model.specs.SiteState.{is_joiner}
-use Rattle.cluster_model.specs.Scenarios.{until, Stampless, deployed, begins, calls_on, shows, at_once, after_calls}
+use Rattle.cluster_model.specs.Scenarios.{until, Stampless, deployed, blank, begins, calls_on, shows, at_once, after_calls}
+
+abbrev pub input : Input
+input =
+    blank (deployed 2 1 1 2) (calls_on 2 0 (put 1 10) ∷ calls_on 2 0 (put 2 20) ∷ [])
+    (after_calls 1 (item.Lose 0) ∷ at_once (item.Rejoin 0) ∷ after_calls 2 (item.Look 0) ∷ [])
 
 abbrev pub start : World
-start =
-    begins (deployed 2 1 1 2) (calls_on 2 0 (put 1 10) ∷ calls_on 2 0 (put 2 20) ∷ [])
-    (after_calls 1 (item.Lose 0) ∷ at_once (item.Rejoin 0) ∷ after_calls 2 (item.Look 0) ∷ [])
+start = begins input
 
 abbrev pub last : World
 last = by_first toy 90 start

@@ -7,15 +7,18 @@ use Rattle.volt_wire.specs.declared.event.Event.{Event}
 use Rattle.volt_wire.specs.declared.event.Event.TheVariants.{Deliver, Sync, Submit, Item}
 use Rattle.volt_wire.specs.declared.item.Item.TheVariants as item
 use Rattle.cluster_model.specs.Disk.{Shown}
-use Rattle.cluster_model.specs.World.{World}
+use Rattle.cluster_model.specs.World.{World, Input}
 use Rattle.cluster_model.specs.Runs.{by_first, run, no_fault, Happening}
 use Rattle.cluster_model.specs.Toy.{toy, put}
-use Rattle.cluster_model.specs.Scenarios.{Outline, deployed, begins, calls_on, ends_so, shows, at_once, after_calls}
+use Rattle.cluster_model.specs.Scenarios.{Outline, deployed, blank, begins, calls_on, ends_so, shows, at_once, after_calls}
+
+abbrev pub input : Input
+input =
+    blank (deployed 2 1 1 2) (calls_on 2 0 (put 1 10) ∷ [])
+    (after_calls 1 (item.Lose 0) ∷ at_once item.Quiet ∷ at_once item.Halt ∷ at_once item.Recover ∷ [])
 
 abbrev pub start : World
-start =
-    begins (deployed 2 1 1 2) (calls_on 2 0 (put 1 10) ∷ [])
-    (after_calls 1 (item.Lose 0) ∷ at_once item.Quiet ∷ at_once item.Halt ∷ at_once item.Recover ∷ [])
+start = begins input
 
 abbrev pub given : List Event
 given =

@@ -7,15 +7,18 @@ use Rattle.volt_wire.specs.declared.event.Event.{Event}
 use Rattle.volt_wire.specs.declared.event.Event.TheVariants.{Deliver, Sync, Submit, Recover, Item}
 use Rattle.volt_wire.specs.declared.item.Item.TheVariants as item
 use Rattle.cluster_model.specs.Disk.{Shown}
-use Rattle.cluster_model.specs.World.{World}
+use Rattle.cluster_model.specs.World.{World, Input}
 use Rattle.cluster_model.specs.Events.{step}
 use Rattle.cluster_model.specs.Environment.{DiskFails, DisksShow}
 use Rattle.cluster_model.specs.Runs.{by_first, run, Happening}
 use Rattle.cluster_model.specs.Toy.{toy, put}
-use Rattle.cluster_model.specs.Scenarios.{Outline, deployed, begins, calls_on, ends_so, point, shows, at_once}
+use Rattle.cluster_model.specs.Scenarios.{Outline, deployed, blank, begins, calls_on, ends_so, point, shows, at_once}
+
+abbrev pub input : Input
+input = blank (deployed 1 1 0 1) (calls_on 1 0 (put 1 10) ∷ []) (at_once (item.Power 0 4 1) ∷ [])
 
 abbrev pub start : World
-start = begins (deployed 1 1 0 1) (calls_on 1 0 (put 1 10) ∷ []) (at_once (item.Power 0 4 1) ∷ [])
+start = begins input
 
 -- the site has applied the call and owes it to its disk
 abbrev pub applied : World

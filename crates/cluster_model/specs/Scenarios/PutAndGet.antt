@@ -4,13 +4,16 @@ use Rattle.volt_wire.specs.declared.actor.Actor.TheVariants.{Director, Client, A
 use Rattle.volt_wire.specs.declared.end.End.TheVariants.{Ok}
 use Rattle.volt_wire.specs.declared.event.Event.{Event}
 use Rattle.volt_wire.specs.declared.event.Event.TheVariants.{Deliver, Sync, Submit}
-use Rattle.cluster_model.specs.World.{World}
+use Rattle.cluster_model.specs.World.{World, Input}
 use Rattle.cluster_model.specs.Runs.{by_first}
 use Rattle.cluster_model.specs.Toy.{toy, put, get, gives}
-use Rattle.cluster_model.specs.Scenarios.{Outline, deployed, begins, calls_on, ends_so, point, shows}
+use Rattle.cluster_model.specs.Scenarios.{Outline, deployed, blank, begins, calls_on, ends_so, point, shows}
+
+abbrev pub input : Input
+input = blank (deployed 1 1 0 1) (calls_on 1 0 (put 1 10) ∷ calls_on 1 0 (get 1) ∷ []) []
 
 abbrev pub start : World
-start = begins (deployed 1 1 0 1) (calls_on 1 0 (put 1 10) ∷ calls_on 1 0 (get 1) ∷ []) []
+start = begins input
 
 abbrev pub events : List Event
 events =

@@ -6,16 +6,19 @@ use Rattle.volt_wire.specs.declared.event.Event.{Event}
 use Rattle.volt_wire.specs.declared.event.Event.TheVariants.{Deliver, Sync, Scan, Submit, Item}
 use Rattle.volt_wire.specs.declared.item.Item.TheVariants as item
 use Rattle.cluster_model.specs.Disk.{Shown}
-use Rattle.cluster_model.specs.World.{World, AuthoritativeLog}
+use Rattle.cluster_model.specs.World.{World, AuthoritativeLog, Input}
 use Rattle.cluster_model.specs.Runs.{run, no_fault, Happening}
 use Rattle.cluster_model.specs.Toy.{toy, put}
-use Rattle.cluster_model.specs.Scenarios.{deployed, begins, calls_on, at_once}
+use Rattle.cluster_model.specs.Scenarios.{deployed, blank, begins, calls_on, at_once}
 
-abbrev pub start : World
-start =
-    begins (deployed 4 1 1 3) (calls_on 3 0 (put 1 10) ∷ [])
+abbrev pub input : Input
+input =
+    blank (deployed 4 1 1 3) (calls_on 3 0 (put 1 10) ∷ [])
     (at_once (item.Lose 1) ∷ at_once (item.Rejoin 1) ∷ at_once (item.Lose 0) ∷ at_once (item.Lose 1)
     ∷ at_once (item.Rejoin 1) ∷ [])
+
+abbrev pub start : World
+start = begins input
 
 -- host 1 is lost: host 0 leads partition 0 alone, and all partitions have told how they stand
 abbrev pub lost : List Event

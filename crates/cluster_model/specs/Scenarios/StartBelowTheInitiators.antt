@@ -6,15 +6,18 @@ use Rattle.volt_wire.specs.declared.event.Event.{Event}
 use Rattle.volt_wire.specs.declared.event.Event.TheVariants.{Deliver, Sync, Scan, Item}
 use Rattle.volt_wire.specs.declared.item.Item.TheVariants as item
 use Rattle.cluster_model.specs.Words.{initiator}
-use Rattle.cluster_model.specs.World.{World}
+use Rattle.cluster_model.specs.World.{World, Input}
 use Rattle.cluster_model.specs.Runs.{run, no_fault, Happening}
 use Rattle.cluster_model.specs.Toy.{toy}
-use Rattle.cluster_model.specs.Scenarios.{deployed, begins, at_once}
+use Rattle.cluster_model.specs.Scenarios.{deployed, blank, begins, at_once}
+
+abbrev pub input : Input
+input =
+    blank (deployed 3 1 2 1) []
+    (at_once (item.Lose 1) ∷ at_once (item.Lose 2) ∷ at_once (item.Rejoin 1) ∷ at_once (item.Rejoin 2) ∷ at_once (item.Lose 0) ∷ [])
 
 abbrev pub start : World
-start =
-    begins (deployed 3 1 2 1) []
-    (at_once (item.Lose 1) ∷ at_once (item.Lose 2) ∷ at_once (item.Rejoin 1) ∷ at_once (item.Rejoin 2) ∷ at_once (item.Lose 0) ∷ [])
+start = begins input
 
 -- the hosts 1 and 2 are lost: host 0 leads alone
 abbrev pub lost : List Event

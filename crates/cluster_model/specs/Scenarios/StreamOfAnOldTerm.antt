@@ -1,20 +1,23 @@
 -- A leader of an old term, whose host is lost, streams its tables to a joiner. The joiner's disk alone has the newest entry.
-use Rattle.std.specs.Prelude.{ℕ, Some, List, [], ◌∷◌, ◌++◌}
+use Rattle.std.specs.Prelude.{Some, List, [], ◌∷◌, ◌++◌}
 use Rattle.volt_base.specs.declared.entry.Entry.TheVariants.{Sp}
 use Rattle.volt_wire.specs.declared.actor.Actor.TheVariants.{Director, Client, Agent, Site, Scanner}
 use Rattle.volt_wire.specs.declared.event.Event.{Event}
-use Rattle.volt_wire.specs.declared.event.Event.TheVariants.{Deliver, Sync, Scan, Submit, Item}
+use Rattle.volt_wire.specs.declared.event.Event.TheVariants.{Deliver, Sync, Submit, Item}
 use Rattle.volt_wire.specs.declared.item.Item.TheVariants as item
 use Rattle.cluster_model.specs.Disk.{Shown}
-use Rattle.cluster_model.specs.World.{World}
+use Rattle.cluster_model.specs.World.{World, Input}
 use Rattle.cluster_model.specs.Runs.{run, no_fault, Happening}
-use Rattle.cluster_model.specs.Toy.{toy, put, add}
-use Rattle.cluster_model.specs.Scenarios.{deployed, begins, calls_on, at_once}
+use Rattle.cluster_model.specs.Toy.{toy, put}
+use Rattle.cluster_model.specs.Scenarios.{deployed, blank, begins, calls_on, at_once}
+
+abbrev pub input : Input
+input =
+    blank (deployed 4 1 1 2) (calls_on 2 0 (put 1 10) ∷ [])
+    (at_once (item.Lose 0) ∷ at_once (item.Lose 1) ∷ at_once (item.Rejoin 1) ∷ [])
 
 abbrev pub start : World
-start =
-    begins (deployed 4 1 1 2) (calls_on 2 0 (put 1 10) ∷ [])
-    (at_once (item.Lose 0) ∷ at_once (item.Lose 1) ∷ at_once (item.Rejoin 1) ∷ [])
+start = begins input
 
 -- host 0 is lost, but for its site; host 1 leads alone and answers the call
 abbrev pub served : List Event

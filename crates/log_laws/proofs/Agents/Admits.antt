@@ -1,28 +1,25 @@
 -- Who asks to be admitted has loaded all, and has it on disk: what holds of that, holds after an agent's turns.
-use Rattle.std.proofs.Common.{◌≡◌, ◌+◌, ◌<◌, Bool, true, false, List, [], ◌∷◌, refl, sym, subst, ◌⊎◌, inl, inr, ◌==◌, arith}
-use Rattle.std.proofs.lemmas.Bool.{and_parts, eqb-true}
+use Rattle.std.proofs.Common.{◌≡◌, ◌+◌, ◌<◌, Bool, true, List, subst, inl, inr, ◌==◌, arith}
+use Rattle.std.proofs.lemmas.Bool.{and_parts}
 use Rattle.std.proofs.lemmas.Bool.Decides.{nat_tests}
-use Rattle.std.specs.Prelude.{ℕ, if◌then◌else◌, nat_lt, Option, Some, None}
+use Rattle.std.specs.Prelude.{ℕ, nat_lt}
 use Rattle.std.specs.List.{AllByRecursion, list_all, range_with_len}
-use Rattle.volt_wire.specs.Word.{Membership}
 use Rattle.volt_wire.specs.declared.actor.Actor.{Actor}
 use Rattle.volt_wire.specs.declared.actor.Actor.TheVariants.{Director, Client, Agent, Site, Scanner}
 use Rattle.volt_wire.specs.declared.message.Msg.TheVariants as msg
-use Rattle.cluster_model.specs.Words.{Deployment, slots, host_of_slot, is_slot_of, slots_of_host, is_in, with_number, term_of, initiator}
-use Rattle.cluster_model.specs.Letters.{same, Letter, Sends, Turn, becomes, sending, letter_in, only}
+use Rattle.cluster_model.specs.Words.{Deployment, slots, host_of_slot, is_slot_of, slots_of_host, is_in}
+use Rattle.cluster_model.specs.Letters.{Letter, Sends}
 use Rattle.cluster_model.specs.AgentState.{AgentState, Queued, Job_, Admission}
-use Rattle.cluster_model.specs.Agent.{asks_initiator, has_loaded, on_loaded}
 use Rattle.cluster_model.specs.World.{took}
 use Rattle.cluster_steps.specs.Lists.{In}
 use Rattle.word_laws.specs.Histories.{History, Admitted}
-use Rattle.cluster_steps.proofs.Lists.{all-mono, all-append, all-if, list_all-at, filter-in, set-both}
-use Rattle.word_laws.proofs.Algebra.{in-with_number}
+use Rattle.cluster_steps.proofs.Lists.{all-mono, all-append, list_all-at, filter-in, set-both}
 use Rattle.cluster_steps.proofs.Channels.{sent-both, took-all}
 use Rattle.word_laws.proofs.Moves as word
-use Rattle.word_laws.proofs.Moves.{asked_by}
-use Rattle.log_laws.specs.Histories.{LogState, LoadedOk, AllLoaded, ToldOk, AskedOk, QueuedOk, LoadsOk}
-use Rattle.log_laws.proofs.Agents.AgentSends.{NoView, NoAdmit}
-use Rattle.log_laws.proofs.Agents.Views.{worded, turned}
+use Rattle.word_laws.proofs.Calm.{asked_by}
+use Rattle.log_laws.specs.Histories.{LogState, LoadedOk, AllLoaded, ToldOk, AskedOk, QueuedLoadedOk, LoadsOk}
+use Rattle.log_laws.proofs.Agents.AgentSends.{NoAdmit}
+use Rattle.log_laws.proofs.Agents.Views.{worded, agent_turned}
 use Rattle.log_laws.proofs.Plain.Copies.{range-in}
 
 -- ---- what is asked, in another state of words
@@ -35,7 +32,7 @@ module _ (S : LogState) (agents : ℕ → AgentState) (channel : Actor → Actor
   asked-worded (Client n) l k = tt
   asked-worded (Scanner x) l k = tt
 
-  pub queued-worded : (q : Queued) → QueuedOk S q → QueuedOk (worded S agents channel G) q
+  pub queued-worded : (q : Queued) → QueuedLoadedOk S q → QueuedLoadedOk (worded S agents channel G) q
   queued-worded (Job_ job) k = tt
   queued-worded (Admission a h term) k = k
 
@@ -51,7 +48,7 @@ pub asked-admission : (S : LogState) (from : Actor) (l : Letter) → AskedOk S f
 asked-admission S (Agent g) l p j h term i = (elim l.body as
     (λ m. AskedOk S (Agent g) (record l { body = m }) → In (Admission j h term) (asked_by (Agent g) (record l { body = m })) → AllLoaded S h j) [
       | msg.Admit s ↦ λ k q. elim q [
-        | inl e ↦ subst (QueuedOk S) e k
+        | inl e ↦ subst (QueuedLoadedOk S) e k
         | inr e ↦ absurd e
       ]
       | m ↦ λ k q. absurd q
@@ -64,81 +61,16 @@ asked-admission S (Scanner x) l p j h term i = absurd i
 -- ---- a host's slots
 
 -- of which all pass a test
-all-slots : (D : Deployment) (n c : ℕ) (test : ℕ → Bool) → list_all test (slots_of_host D n) ≡ true → is_slot_of D n c ≡ true → test c ≡ true
+pub all-slots : (D : Deployment) (n c : ℕ) (test : ℕ → Bool) → list_all test (slots_of_host D n) ≡ true → is_slot_of D n c ≡ true → test c ≡ true
 all-slots D n c test all s = list_all-at test (slots_of_host D n) c all (filter-in (is_slot_of D n) c (range_with_len 0 (slots D)) (range-in c 0 (slots D) (omega arith) below) s)
   where
     below : c < 0 + slots D
     below = grind (arith, nat_tests, (and_parts (nat_lt c (slots D)) (host_of_slot D c == n) s).0)
 
--- ---- Loaded
-
--- what an agent does with it: it has one site more that has loaded, and asks to be admitted once all have
-pub record Loads (D : Deployment) (n : ℕ) (a : AgentState) (slot start : ℕ) (t : Turn AgentState) : Type 0 where
-  pub loaded : (c : ℕ) → is_in c t.state.loaded ≡ true → (is_in c a.loaded ≡ true) ⊎ ((start ≡ a.start) × (slot ≡ c))
-  pub sites : (c : ℕ) → AllByRecursion NoView (t.sends (Site c))
-  pub asks : (g : ℕ) → AllByRecursion NoAdmit (t.sends (Agent g))
-      ⊎ (((c : ℕ) → is_slot_of D n c ≡ true → is_in c t.state.loaded ≡ true) × AllByRecursion (λ l. l.body ≡ msg.Admit a.start) (t.sends (Agent g)))
-
-pub on_loaded-loads : (D : Deployment) (n : ℕ) (a : AgentState) (slot start : ℕ) → Loads D n a slot start (on_loaded D n a slot start)
-on_loaded-loads D n a slot start = choice (start == a.start) refl
-  where
-    b : AgentState
-    b = record a { loaded = with_number slot a.loaded }
-
-    more : start ≡ a.start → (c : ℕ) → is_in c b.loaded ≡ true → (is_in c a.loaded ≡ true) ⊎ ((start ≡ a.start) × (slot ≡ c))
-    more e c i = elim (in-with_number slot c a.loaded i) [
-      | inl q ↦ inr (e, q)
-      | inr q ↦ inl q
-    ]
-
-    quietly : start ≡ a.start → Loads D n a slot start (becomes b)
-    quietly e = record { loaded = more e; sites = λ c. tt; asks = λ g. inl tt }
-
-    asks : start ≡ a.start → (w : Membership) (first : Option (ℕ × ℕ)) → list_all (λ s. is_in s b.loaded) (slots_of_host D n) ≡ true
-        → Loads D n a slot start (asks_initiator n b w first)
-    asks e w None all = quietly e
-    asks e w (Some first) all = other (first.0 == n)
-      where
-        asked : Turn AgentState
-        asked = sending b (only (Agent first.0) (letter_in (term_of w) first.1 (msg.Admit a.start)))
-
-        other : (c : Bool) → Loads D n a slot start (if c then becomes b else asked)
-        other true = quietly e
-        other false = record {
-          loaded = more e;
-          sites = λ c. tt;
-          asks = λ g. inr (
-            λ c s. all-slots D n c (λ s. is_in s b.loaded) all s,
-            all-if (λ l. l.body ≡ msg.Admit a.start) (same (Agent first.0) (Agent g)) (letter_in (term_of w) first.1 (msg.Admit a.start) ∷ []) [] (refl, tt) tt,
-          );
-        }
-
-    loaded-all : start ≡ a.start → (w : Option Membership) → Loads D n a slot start (has_loaded D n b w)
-    loaded-all e None = quietly e
-    loaded-all e (Some w) = all (list_all (λ s. is_in s b.loaded) (slots_of_host D n)) refl
-      where
-        all : (c : Bool) → list_all (λ s. is_in s b.loaded) (slots_of_host D n) ≡ c → Loads D n a slot start (if c then asks_initiator n b w (initiator w) else becomes b)
-        all true q = asks e w (initiator w) q
-        all false q = quietly e
-
-    choice : (c : Bool) → (start == a.start) ≡ c → Loads D n a slot start (if c then has_loaded D n b a.taken else becomes a)
-    choice true e = loaded-all (eqb-true start a.start e) a.taken
-    choice false e = record { loaded = λ c i. inl i; sites = λ c. tt; asks = λ g. inl tt }
-
--- so all its sites have loaded when it asks
-pub loads-asked : (S : LogState) (n slot start : ℕ) (a : AgentState) (t : Turn AgentState) → Loads S.words.deployment n a slot start t
-    → ((c : ℕ) → is_in c t.state.loaded ≡ true → LoadedOk S c a.start)
-    → (g : ℕ) → AllByRecursion (AskedOk S (Agent n)) (t.sends (Agent g))
-loads-asked S n slot start a t k heard g = elim (k.asks g) [
-  | inl none ↦ all-mono NoAdmit (AskedOk S (Agent n)) (none-asked S n) (t.sends (Agent g)) none
-  | inr all ↦ all-mono (λ l. l.body ≡ msg.Admit a.start) (AskedOk S (Agent n))
-      (λ l e. subst (λ m. AskedOk S (Agent n) (record l { body = m })) (sym e) (λ c s. heard c (all.0 c s))) (t.sends (Agent g)) all.1
-]
-
 -- ---- the whole of it
 
 -- a message to an agent is taken
-pub loads-popped : (S : LogState) (from : Actor) (n : ℕ) → LoadsOk S → LoadsOk (record S { words = word.popped S.words from n })
+pub loads-popped : (S : LogState) (from : Actor) (n : ℕ) → LoadsOk S → LoadsOk (record S { words = word.agent_popped S.words from n })
 loads-popped S from n k = record {
   told = λ c h. took-all (ToldOk S c) S.words.channel from (Agent n) (Site c) (Agent h) (k.told c h);
   heard = k.heard;
@@ -156,10 +88,10 @@ pub record LoadsTurn (S : LogState) (n : ℕ) (a : AgentState) (out : Sends) (G 
   pub heard : 0 < a.start → (c : ℕ) → is_in c a.loaded ≡ true → LoadedOk S c a.start
   pub asked : (g : ℕ) → AllByRecursion (AskedOk S (Agent n)) (out (Agent g))
   pub waiting : AllByRecursion (λ x. AskedOk S x.from x.letter) a.waiting
-  pub queued : AllByRecursion (QueuedOk S) a.initiating.queue
+  pub queued : AllByRecursion (QueuedLoadedOk S) a.initiating.queue
   pub admitted : (x : Admitted) → In x G.admitted → AllLoaded S (S.words.owner x.start) x.start
 
-pub loads-turned : (S : LogState) (n : ℕ) (a : AgentState) (out : Sends) (G : History) → LoadsOk S → LoadsTurn S n a out G → LoadsOk (turned S n a out G)
+pub loads-turned : (S : LogState) (n : ℕ) (a : AgentState) (out : Sends) (G : History) → LoadsOk S → LoadsTurn S n a out G → LoadsOk (agent_turned S n a out G)
 loads-turned S n a out G k t = record {
   told = k.told;
   heard = λ h c. set-both (λ h x. 0 < x.start → is_in c x.loaded ≡ true → LoadedOk S c x.start) S.words.agents n a (λ u i. t.heard u c i) (λ h d u i. k.heard h c u i) h;
@@ -170,9 +102,9 @@ loads-turned S n a out G k t = record {
   waiting = λ h. all-mono _ _ (λ x p. asked-worded S T.words.agents T.words.channel G x.from x.letter p) (T.words.agents h).waiting
       (set-both (λ h x. AllByRecursion (λ y. AskedOk S y.from y.letter) x.waiting) S.words.agents n a t.waiting (λ h d. k.waiting h) h);
   queued = λ h. all-mono _ _ (λ q p. queued-worded S T.words.agents T.words.channel G q p) (T.words.agents h).initiating.queue
-      (set-both (λ h x. AllByRecursion (QueuedOk S) x.initiating.queue) S.words.agents n a t.queued (λ h d. k.queued h) h);
+      (set-both (λ h x. AllByRecursion (QueuedLoadedOk S) x.initiating.queue) S.words.agents n a t.queued (λ h d. k.queued h) h);
   admitted = t.admitted;
 }
   where
     T : LogState
-    T = turned S n a out G
+    T = agent_turned S n a out G

@@ -17,30 +17,30 @@ use Rattle.cluster_model.specs.Laws.{start_in_letter, starts_in}
 use Rattle.cluster_model.specs.Environment.{Environment, NoFault, DiskFails, NoMemory, DisksShow}
 use Rattle.word_laws.specs.Histories as word
 use Rattle.cluster_steps.specs.Lists.{In}
-use Rattle.word_laws.specs.Histories.{History, Admitted, CameOk, WaitingFrom, WaitingOk}
+use Rattle.word_laws.specs.Histories.{History, Admitted, CameOk, AgentWaitingFrom, AgentWaitingOk}
 use Rattle.cluster_steps.proofs.Lists.{all-mono, all-append, all-filter, all-if}
 use Rattle.word_laws.proofs.Moves as word_moves
 use Rattle.word_laws.proofs.Moves.{Grows}
 use Rattle.word_laws.proofs.Laters.{waiting-later}
 use Rattle.word_laws.proofs.Worlds.{grows-same}
-use Rattle.word_laws.proofs.Turns.{tells, concludes}
-use Rattle.word_laws.proofs.Arrivals.{Takes, Stops_, Ignores, Runs_, takes-cases, runs-taken, runs-waits, runs-refused, turn-cases, stopped-cases, unless-running, waiting-brings}
+use Rattle.word_laws.proofs.Turns.{tells, concludes, StopsSay, stops-say, stops_with_host-say}
+use Rattle.word_laws.proofs.Arrivals.{AgentTakes, Stops_, Ignores, Runs_, takes-cases, runs-taken, runs-waits, runs-refused, turn-cases, stopped-cases, unless-running, waiting-brings}
 use Rattle.word_laws.proofs.Steps.{pops, waiting-shrinks}
 use Rattle.word_laws.proofs.Rejoins.{with_began, start-grows, start-holds, start-stops-holds}
-use Rattle.word_laws.proofs.Hearings.{Handler, none-handler, handler-grows, handler-plain, handler-later, others-after, then-assoc, concludes-none}
+use Rattle.word_laws.proofs.Hearings.{WordsTurn, none-handler, handler-grows, handler-plain, handler-later, others-after, then-assoc, concludes-none}
 use Rattle.word_laws.proofs.AgentEvents.{calm-event, handler-event, asked-waiting, came-still, none-taken, none-waited, waits-event, refused-event, ignored-event, stop-pops, stays-holds, comes-first, start-of-body}
-use Rattle.log_laws.specs.Histories.{LogState, AskedOk, Holds}
-use Rattle.log_laws.proofs.Agents.AgentSends.{NoView, NoAdmit, stops-plain, stops-none, stops_with_host-plain}
-use Rattle.log_laws.proofs.Agents.Views.{turned}
+use Rattle.log_laws.specs.Histories.{LogState, AskedOk, LogsHold}
+use Rattle.log_laws.proofs.Agents.AgentSends.{NoView, NoAdmit, stops-plain, stops-none}
+use Rattle.log_laws.proofs.Agents.Views.{agent_turned}
 use Rattle.log_laws.proofs.Agents.Admits.{asked-worded}
-use Rattle.log_laws.proofs.Agents.AgentTurns.{Rest, rest-of, holds-of, heard, rest-heard, MayJoin, AgentHandler, plain-rest, plain-agent, stay-plain, stay-agent, stopped-agent, then-agent}
+use Rattle.log_laws.proofs.Agents.AgentTurns.{Rest, rest-of, holds-of, agent_heard, rest-heard, MayJoin, AgentHandler, plain-rest, plain-agent, stay-plain, stay-agent, stopped-agent, then-agent}
 use Rattle.log_laws.proofs.Agents.AgentWords.{concludes-agent, begins-rest}
 use Rattle.log_laws.proofs.Agents.AgentHandlers.{BringsDecided, may-join, first-agent}
 
 -- ---- a message that comes
 
 -- what a first message asks
-pub first-asks : (S : LogState) (from : Actor) (n : ℕ) (l : Letter) (ls : List Letter) → Rest S → S.words.channel from (Agent n) ≡ l ∷ ls → AskedOk (heard S from n) from l
+pub first-asks : (S : LogState) (from : Actor) (n : ℕ) (l : Letter) (ls : List Letter) → Rest S → S.words.channel from (Agent n) ≡ l ∷ ls → AskedOk (agent_heard S from n) from l
 first-asks S (Agent h) n l ls r is = (subst (AllByRecursion (AskedOk S (Agent h))) is (r.loads.asked h n)).0
 first-asks S (Site c) n l ls r is = (subst (AllByRecursion (AskedOk S (Site c))) is (r.loads.told c n)).0
 first-asks S Director n l ls r is = tt
@@ -48,10 +48,10 @@ first-asks S (Client c) n l ls r is = tt
 first-asks S (Scanner x) n l ls r is = tt
 
 -- a message that brings a word may leave its place at once
-pub decided-pops : (S : LogState) (from : Actor) (n : ℕ) (l : Letter) (ls : List Letter) → word.Holds S.words → S.words.channel from (Agent n) ≡ l ∷ ls → BringsDecided from l
-    → word.Holds (heard S from n).words
+pub decided-pops : (S : LogState) (from : Actor) (n : ℕ) (l : Letter) (ls : List Letter) → word.WordsHold S.words → S.words.channel from (Agent n) ≡ l ∷ ls → BringsDecided from l
+    → word.WordsHold (agent_heard S from n).words
 decided-pops S (Agent k) n l ls h is b = (elim l.body as (λ m. S.words.channel (Agent k) (Agent n) ≡ record l { body = m } ∷ ls → BringsDecided (Agent k) (record l { body = m })
-    → word.Holds (heard S (Agent k) n).words) [
+    → word.WordsHold (agent_heard S (Agent k) n).words) [
       | msg.Decided w ↦ λ e b. pops S.words k n (record l { body = msg.Decided w }) ls e tt h
       | m ↦ λ e b. absurd b
     ]) is b
@@ -63,12 +63,12 @@ decided-pops S (Scanner x) n l ls h is b = absurd b
 -- what follows a handler, when the agent has said its word
 concluded-agent : (S : LogState) (n : ℕ) (t : Turn AgentState) → AgentHandler S n t → AgentHandler S n (t ▸ concludes S.words.deployment n)
 concluded-agent S n t r =
-    then-agent S n t (concludes S.words.deployment n) r (concludes-none S.words.deployment n) (concludes-agent (turned S n t.state t.sends r.handler.history) n)
+    then-agent S n t (concludes S.words.deployment n) r (concludes-none S.words.deployment n) (concludes-agent (agent_turned S n t.state t.sends r.handler.history) n)
 
 -- ---- messages that waited
 
-handler-waited : (E : Database) (S : LogState) (n stamp : ℕ) (from : Actor) (l : Letter) → word.Holds S.words → Rest S → 0 < word.start_at S.words n
-    → WaitingFrom S.words n from l → AskedOk S from l
+handler-waited : (E : Database) (S : LogState) (n stamp : ℕ) (from : Actor) (l : Letter) → word.WordsHold S.words → Rest S → 0 < word.agent_start S.words n
+    → AgentWaitingFrom S.words n from l → AskedOk S from l
     → AgentHandler S n (unless_stopped E S.words.deployment n stamp (S.words.agents n) from l)
 handler-waited E S n stamp from l h r up w asked =
     let D = S.words.deployment in
@@ -85,9 +85,9 @@ handler-waited E S n stamp from l h r up w asked =
 -- what waits and what it asks stay as they are behind a turn
 module _ (S : LogState) (n : ℕ) (t : Turn AgentState) (r : AgentHandler S n t) where
   abbrev V : LogState
-  V = turned S n t.state t.sends r.handler.history
+  V = agent_turned S n t.state t.sends r.handler.history
 
-  pub waits-on : (ws : List Waiting) → AllByRecursion (λ x. WaitingFrom S.words n x.from x.letter) ws → AllByRecursion (λ x. WaitingFrom V.words n x.from x.letter) ws
+  pub waits-on : (ws : List Waiting) → AllByRecursion (λ x. AgentWaitingFrom S.words n x.from x.letter) ws → AllByRecursion (λ x. AgentWaitingFrom V.words n x.from x.letter) ws
   waits-on ws k = all-mono _ _ (λ x p. waiting-later S.words V.words n came x.from x.letter p) ws k
     where
       came : (h term j : ℕ) → CameOk S.words h n term j → CameOk V.words h n term j
@@ -96,8 +96,8 @@ module _ (S : LogState) (n : ℕ) (t : Turn AgentState) (r : AgentHandler S n t)
   pub asks-on : (ws : List Waiting) → AllByRecursion (λ x. AskedOk S x.from x.letter) ws → AllByRecursion (λ x. AskedOk V x.from x.letter) ws
   asks-on ws k = all-mono _ _ (λ x p. asked-worded S V.words.agents V.words.channel r.handler.history x.from x.letter p) ws k
 
-waited-each : (E : Database) (n stamp : ℕ) (ws : List Waiting) (S : LogState) → word.Holds S.words → Rest S → 0 < word.start_at S.words n
-    → AllByRecursion (λ x. WaitingFrom S.words n x.from x.letter) ws → AllByRecursion (λ x. AskedOk S x.from x.letter) ws
+waited-each : (E : Database) (n stamp : ℕ) (ws : List Waiting) (S : LogState) → word.WordsHold S.words → Rest S → 0 < word.agent_start S.words n
+    → AllByRecursion (λ x. AgentWaitingFrom S.words n x.from x.letter) ws → AllByRecursion (λ x. AskedOk S x.from x.letter) ws
     → AgentHandler S n (takes_each E S.words.deployment n stamp ws (S.words.agents n))
 waited-each E n stamp [] S h r up w asked = stay-agent S n h r up
 waited-each E n stamp (x ∷ xs) S h r up w asked = then-agent S n t (takes_each E S.words.deployment n stamp xs) first (none-taken E S.words.deployment n stamp xs)
@@ -110,11 +110,11 @@ waited-each E n stamp (x ∷ xs) S h r up w asked = then-agent S n t (takes_each
     first = handler-waited E S n stamp x.from x.letter h r up w.0 asked.0
 
 -- those of the term that the agent has come to
-waited-agent : (E : Database) (S : LogState) (n stamp : ℕ) → word.Holds S.words → Rest S → 0 < word.start_at S.words n
+waited-agent : (E : Database) (S : LogState) (n stamp : ℕ) → word.WordsHold S.words → Rest S → 0 < word.agent_start S.words n
     → AgentHandler S n (takes_waiting E S.words.deployment n stamp (S.words.agents n))
 waited-agent E S n stamp h r up = then-agent S n t (takes_each E S.words.deployment n stamp ws) first (none-taken E S.words.deployment n stamp ws)
     (λ k q u. waited-each E n stamp ws (V S n t first) k q u
-    (waits-on S n t first ws (all-filter (WaitingOk S.words n) (λ w. w.letter.term == term) (S.words.agents n).waiting (h.agents n).waiting))
+    (waits-on S n t first ws (all-filter (AgentWaitingOk S.words n) (λ w. w.letter.term == term) (S.words.agents n).waiting (h.agents n).waiting))
     (asks-on S n t first ws (all-filter (λ x. AskedOk S x.from x.letter) (λ w. w.letter.term == term) (S.words.agents n).waiting (r.loads.waiting n))))
   where
     term : ℕ
@@ -127,7 +127,7 @@ waited-agent E S n stamp h r up = then-agent S n t (takes_each E S.words.deploym
     t = becomes (record (S.words.agents n) { waiting = above_term term (S.words.agents n).waiting })
 
     first : AgentHandler S n t
-    first = plain-agent S n t r (handler-plain S.words n t (inl (refl, up)) (waiting-shrinks S.words n (λ w. nat_lt term w.letter.term) h)) (record {
+    first = plain-agent S n t r (handler-plain S.words n t (inl (refl, up)) (waiting-shrinks S.words n (λ w. nat_lt term w.letter.term) h) (λ b. tt)) (record {
       start = refl;
       decided = refl;
       taken = refl;
@@ -140,14 +140,14 @@ waited-agent E S n stamp h r up = then-agent S n t (takes_each E S.words.deploym
 
 -- ---- a message of a running agent
 
-module _ (E : Database) (S : LogState) (n stamp : ℕ) (from : Actor) (l : Letter) (ls : List Letter) (H : Holds S) (up : 0 < word.start_at S.words n)
+module _ (E : Database) (S : LogState) (n stamp : ℕ) (from : Actor) (l : Letter) (ls : List Letter) (H : LogsHold S) (up : 0 < word.agent_start S.words n)
     (is : S.words.channel from (Agent n) ≡ l ∷ ls) where
   abbrev a : AgentState
   a = S.words.agents n
 
   -- the state without the message
   abbrev P : LogState
-  P = heard S from n
+  P = agent_heard S from n
 
   left : Rest P
   left = rest-heard S from n (rest-of S H)
@@ -158,7 +158,7 @@ module _ (E : Database) (S : LogState) (n stamp : ℕ) (from : Actor) (l : Lette
   -- it is taken, and then those that waited for the term
   taken-agent : arrival a.start (term_in a.decided) l ≡ Taken → AgentHandler P n (handler_and_word E S.words.deployment n stamp a from l ▸ takes_waiting E S.words.deployment n stamp)
   taken-agent e = then-agent P n (handler_and_word E S.words.deployment n stamp a from l) (takes_waiting E S.words.deployment n stamp) first (none-waited E S.words.deployment n stamp)
-      (waited-agent E (turned P n t.state t.sends first.handler.history) n stamp)
+      (waited-agent E (agent_turned P n t.state t.sends first.handler.history) n stamp)
     where
       t : Turn AgentState
       t = handler_and_word E S.words.deployment n stamp a from l
@@ -184,7 +184,7 @@ module _ (E : Database) (S : LogState) (n stamp : ℕ) (from : Actor) (l : Lette
       })
 
   -- it is dropped
-  dropped-agent : Handler (MayJoin P) P.words n (becomes a) → AgentHandler P n (becomes a)
+  dropped-agent : WordsTurn (MayJoin P) P.words n (becomes a) → AgentHandler P n (becomes a)
   dropped-agent handler = plain-agent P n (becomes a) left handler (stay-plain P n left)
 
   runs-agent : (x : Arrival) → arrival a.start (term_in a.decided) l ≡ x → AgentHandler P n (agent_runs E S.words.deployment n stamp a from l)
@@ -194,19 +194,19 @@ module _ (E : Database) (S : LogState) (n stamp : ℕ) (from : Actor) (l : Lette
 
   -- it stops
   stops-agent : (t : Turn AgentState) → t.state ≡ new_agent 0 → ((g : ℕ) → t.sends (Agent g) ≡ (stops S.words.deployment n a.start).sends (Agent g))
-      → ((c : ℕ) → AllByRecursion NoView (t.sends (Site c))) → AgentHandler P n t
-  stops-agent t z sends sites = stopped-agent P n t left (none-handler (stop-pops S.words from n l ls t is H.words up z sends)) z sites
-      (λ g. subst (AllByRecursion NoAdmit) (sym (sends g)) (stops-none S.words.deployment n a.start g))
+      → ((b : Actor) → AllByRecursion (StopsSay a.start) (t.sends b)) → AgentHandler P n t
+  stops-agent t z sends says = stopped-agent P n t left (none-handler (stop-pops S.words from n l ls t is H.words up z sends says)) z
+      (λ c. stops-plain a.start (t.sends (Site c)) (says (Site c))) (λ g. stops-none a.start (t.sends (Agent g)) (says (Agent g)))
 
-  takes-agent : Takes E S.words.deployment n stamp a from l → AgentHandler P n (agent_takes E S.words.deployment n stamp a from l)
-  takes-agent (Stops_ e) = subst (AgentHandler P n) (sym e) (stops-agent (stops S.words.deployment n a.start) refl (λ g. refl) (stops-plain S.words.deployment n a.start))
+  takes-agent : AgentTakes E S.words.deployment n stamp a from l → AgentHandler P n (agent_takes E S.words.deployment n stamp a from l)
+  takes-agent (Stops_ e) = subst (AgentHandler P n) (sym e) (stops-agent (stops S.words.deployment n a.start) refl (λ g. refl) (stops-say S.words.deployment n a.start))
   takes-agent (Ignores e c) = subst (AgentHandler P n) (sym e) (dropped-agent (ignored-event S.words n from l ls H.words up is c))
   takes-agent (Runs_ e c) = subst (AgentHandler P n) (sym e) (runs-agent (arrival a.start (term_in a.decided) l) refl)
 
   running-agent : (o : Environment) → AgentHandler P n (agent_turn E S.words.deployment n stamp a from l o)
   running-agent o = elim (turn-cases E S.words.deployment n stamp a from l o running) [
     | inl e ↦ subst (AgentHandler P n) (sym e)
-        (stops-agent (stops_with_host S.words.deployment n a.start) refl (λ g. refl) (stops_with_host-plain S.words.deployment n a.start))
+        (stops-agent (stops_with_host S.words.deployment n a.start) refl (λ g. refl) (stops_with_host-say S.words.deployment n a.start))
     | inr e ↦ subst (AgentHandler P n) (sym e) (takes-agent (takes-cases E S.words.deployment n stamp a from l running))
   ]
     where
@@ -220,11 +220,11 @@ module _ (E : Database) (S : LogState) (n stamp : ℕ) (from : Actor) (l : Lette
 pub record AgentGoes (S : LogState) (n : ℕ) (from : Actor) (t : Turn AgentState) : Type 0 where
   pub history : History
   pub grows : Grows S.words.history history
-  pub goes : (t.state.start ≡ word.start_at S.words n) ⊎ (t.state.own ≡ None)
-  pub by : (x : Admitted) → In x history.admitted → In x S.words.history.admitted ⊎ ((x.by ≡ word.start_at S.words n) × (0 < word.start_at S.words n))
-  pub holds : Holds (record S { words = word_moves.after (word_moves.popped S.words from n) n t.state t.sends history })
+  pub goes : (t.state.start ≡ word.agent_start S.words n) ⊎ (t.state.own ≡ None)
+  pub by : (x : Admitted) → In x history.admitted → In x S.words.history.admitted ⊎ ((x.by ≡ word.agent_start S.words n) × (0 < word.agent_start S.words n))
+  pub holds : LogsHold (record S { words = word_moves.after_agent (word_moves.agent_popped S.words from n) n t.state t.sends history })
 
-handler-goes : (S : LogState) (n : ℕ) (from : Actor) (t : Turn AgentState) → AgentHandler (heard S from n) n t → AgentGoes S n from t
+handler-goes : (S : LogState) (n : ℕ) (from : Actor) (t : Turn AgentState) → AgentHandler (agent_heard S from n) n t → AgentGoes S n from t
 handler-goes S n from t r = record {
   history = r.handler.history;
   grows = handler-grows r.handler;
@@ -233,27 +233,27 @@ handler-goes S n from t r = record {
     | inr z ↦ inr (ap (λ a. a.own) z)
   ];
   by = r.handler.by;
-  holds = holds-of (turned (heard S from n) n t.state t.sends r.handler.history) r.handler.holds r.rest;
+  holds = holds-of (agent_turned (agent_heard S from n) n t.state t.sends r.handler.history) r.handler.holds r.rest;
 }
 
 -- one that is stopped, and stays so
-stays-goes : (S : LogState) (n : ℕ) (from : Actor) (l : Letter) (ls : List Letter) → Holds S → S.words.channel from (Agent n) ≡ l ∷ ls → word.start_at S.words n ≡ 0
+stays-goes : (S : LogState) (n : ℕ) (from : Actor) (l : Letter) (ls : List Letter) → LogsHold S → S.words.channel from (Agent n) ≡ l ∷ ls → word.agent_start S.words n ≡ 0
     → AgentGoes S n from (becomes (S.words.agents n))
 stays-goes S n from l ls h is z = let r = rest-heard S from n (rest-of S h) in record {
   history = S.words.history;
   grows = grows-same S.words.history;
   goes = inl refl;
   by = λ x i. inl i;
-  holds = holds-of (turned (heard S from n) n (S.words.agents n) (λ b. []) S.words.history) (stays-holds S.words n from l ls h.words is z)
-      (plain-rest (heard S from n) n (becomes (S.words.agents n)) S.words.history r (grows-same S.words.history) r.loads.admitted (stay-plain (heard S from n) n r));
+  holds = holds-of (agent_turned (agent_heard S from n) n (S.words.agents n) (λ b. []) S.words.history) (stays-holds S.words n from l ls h.words is z)
+      (plain-rest (agent_heard S from n) n (becomes (S.words.agents n)) S.words.history r (grows-same S.words.history) r.loads.admitted (stay-plain (agent_heard S from n) n r));
 }
 
 -- the start that comes to it hasn't begun
-module _ (S : LogState) (n s : ℕ) (H : Holds S) (z : word.start_at S.words n ≡ 0) (host : is_host S.words.deployment n ≡ true)
+module _ (S : LogState) (n s : ℕ) (H : LogsHold S) (z : word.agent_start S.words n ≡ 0) (host : is_host S.words.deployment n ≡ true)
     (comes : word.starts_to S.words n ≡ s ∷ starts_in (rest (S.words.channel Director (Agent n)))) where
   begun-rest : (k : ℕ) (out : Sends) → (k ≡ s) ⊎ (k ≡ 0) → ((c : ℕ) → AllByRecursion NoView (out (Site c))) → ((g : ℕ) → AllByRecursion NoAdmit (out (Agent g)))
-      → Rest (turned (heard S Director n) n (new_agent k) out (with_began S.words.history n s))
-  begun-rest k out = begins-rest (heard S Director n) n s k out (rest-heard S Director n (rest-of S H)) some fresh
+      → Rest (agent_turned (agent_heard S Director n) n (new_agent k) out (with_began S.words.history n s))
+  begun-rest k out = begins-rest (agent_heard S Director n) n s k out (rest-heard S Director n (rest-of S H)) some fresh
     where
       some : 0 < s
       some = (subst (AllByRecursion (λ x. (S.words.owner x ≡ n) × (0 < x) × (x < S.words.next))) comes (H.words.hosts n).owned).0.1
@@ -268,7 +268,7 @@ module _ (S : LogState) (n s : ℕ) (H : Holds S) (z : word.start_at S.words n �
     grows = start-grows S.words.history n s;
     goes = inr refl;
     by = λ x i. inl i;
-    holds = holds-of (turned (heard S Director n) n (new_agent s) (on_start S.words.deployment n s).sends (with_began S.words.history n s))
+    holds = holds-of (agent_turned (agent_heard S Director n) n (new_agent s) (on_start S.words.deployment n s).sends (with_began S.words.history n s))
         (start-holds S.words n s H.words z host comes)
         (begun-rest s (on_start S.words.deployment n s).sends (inl refl) (λ c. tt)
         (λ g. all-if NoAdmit (is_host S.words.deployment g && not (g == n)) (open_letter (msg.Hello s) ∷ []) [] (tt, tt) tt));
@@ -281,12 +281,13 @@ module _ (S : LogState) (n s : ℕ) (H : Holds S) (z : word.start_at S.words n �
     grows = start-grows S.words.history n s;
     goes = inr refl;
     by = λ x i. inl i;
-    holds = holds-of (turned (heard S Director n) n (new_agent 0) (stops_with_host S.words.deployment n s).sends (with_began S.words.history n s))
+    holds = holds-of (agent_turned (agent_heard S Director n) n (new_agent 0) (stops_with_host S.words.deployment n s).sends (with_began S.words.history n s))
         (start-stops-holds S.words n s H.words z host comes)
-        (begun-rest 0 (stops_with_host S.words.deployment n s).sends (inr refl) (stops_with_host-plain S.words.deployment n s) (stops-none S.words.deployment n s));
+        (begun-rest 0 (stops_with_host S.words.deployment n s).sends (inr refl)
+        (λ c. stops-plain s _ (stops_with_host-say S.words.deployment n s (Site c))) (λ g. stops-none s _ (stops_with_host-say S.words.deployment n s (Agent g))));
   }
 
-stopped-takes : (E : Database) (S : LogState) (n stamp : ℕ) (from : Actor) (l : Letter) (ls : List Letter) → Holds S → word.start_at S.words n ≡ 0
+stopped-takes : (E : Database) (S : LogState) (n stamp : ℕ) (from : Actor) (l : Letter) (ls : List Letter) → LogsHold S → word.agent_start S.words n ≡ 0
     → is_host S.words.deployment n ≡ true
     → S.words.channel from (Agent n) ≡ l ∷ ls → AgentGoes S n from (agent_takes E S.words.deployment n stamp (S.words.agents n) from l)
 stopped-takes E S n stamp from l ls h z host is = elim (stopped-cases E S.words.deployment n stamp (S.words.agents n) from l (subst (λ x. (x == 0) ≡ true) (sym z) refl)) [
@@ -296,7 +297,7 @@ stopped-takes E S n stamp from l ls h z host is = elim (stopped-cases E S.words.
 ]
 
 -- it finds no memory for a Start
-stopped-memory : (S : LogState) (n : ℕ) (from : Actor) (l : Letter) (ls : List Letter) → Holds S → word.start_at S.words n ≡ 0 → is_host S.words.deployment n ≡ true
+stopped-memory : (S : LogState) (n : ℕ) (from : Actor) (l : Letter) (ls : List Letter) → LogsHold S → word.agent_start S.words n ≡ 0 → is_host S.words.deployment n ≡ true
     → S.words.channel from (Agent n) ≡ l ∷ ls → nat_lt 0 (start_after (S.words.agents n) from l) ≡ true
     → AgentGoes S n from (stops_with_host S.words.deployment n (start_after (S.words.agents n) from l))
 stopped-memory S n from l ls h z host is some =
@@ -306,7 +307,7 @@ stopped-memory S n from l ls h z host is some =
       | m ↦ λ e u. absurd (not-some u)
     ]) is some
   where
-    not-some : nat_lt 0 (word.start_at S.words n) ≡ true → ⊥
+    not-some : nat_lt 0 (word.agent_start S.words n) ≡ true → ⊥
     not-some u = let v = subst (λ x. nat_lt 0 x ≡ true) z u in absurd (cc)
 
     started : (from : Actor) (s : ℕ) (l : Letter) → S.words.channel from (Agent n) ≡ l ∷ ls → start_in_letter l ≡ s ∷ [] → nat_lt 0 (start_taken (S.words.agents n) from s) ≡ true
@@ -323,14 +324,14 @@ stopped-memory S n from l ls h z host is some =
 
 -- A message of an agent that is there, with any share of the environment's: what holds, holds after its turn.
 pub agent-event : (E : Database) (S : LogState) (n stamp : ℕ) (from : Actor) (l : Letter) (ls : List Letter) (o : Environment) → S.words.channel from (Agent n) ≡ l ∷ ls
-    → is_host S.words.deployment n ≡ true → ((answered : ℕ) → o ≡ NoMemory answered → nat_lt 0 (start_after (S.words.agents n) from l) ≡ true) → Holds S
+    → is_host S.words.deployment n ≡ true → ((answered : ℕ) → o ≡ NoMemory answered → nat_lt 0 (start_after (S.words.agents n) from l) ≡ true) → LogsHold S
     → AgentGoes S n from (agent_turn E S.words.deployment n stamp (S.words.agents n) from l o)
-agent-event E S n stamp from l ls o is host memory h = elim (cases_eq (word.start_at S.words n) 0) [
+agent-event E S n stamp from l ls o is host memory h = elim (cases_eq (word.agent_start S.words n) 0) [
   | inl z ↦ stopped o z memory
   | inr r ↦ handler-goes S n from (agent_turn E S.words.deployment n stamp (S.words.agents n) from l o) (running-agent E S n stamp from l ls h (omega (arith, r)) is o)
 ]
   where
-    stopped : (o : Environment) → word.start_at S.words n ≡ 0 → ((answered : ℕ) → o ≡ NoMemory answered → nat_lt 0 (start_after (S.words.agents n) from l) ≡ true)
+    stopped : (o : Environment) → word.agent_start S.words n ≡ 0 → ((answered : ℕ) → o ≡ NoMemory answered → nat_lt 0 (start_after (S.words.agents n) from l) ≡ true)
         → AgentGoes S n from (agent_turn E S.words.deployment n stamp (S.words.agents n) from l o)
     stopped NoFault z m = stopped-takes E S n stamp from l ls h z host is
     stopped (DiskFails answered) z m = stopped-takes E S n stamp from l ls h z host is

@@ -19,11 +19,11 @@ use Rattle.word_laws.proofs.Moves.{Grows}
 use Rattle.word_laws.proofs.Worlds.{grows-same}
 use Rattle.word_laws.proofs.Turns.{tells, tells-state}
 use Rattle.word_laws.proofs.Steps.{after-after}
-use Rattle.word_laws.proofs.Hearings.{Handler, handler-grows, stay-handler, agent-there, after-handler, then-inert}
-use Rattle.log_laws.specs.Histories.{LogState, LoadedOk, AllLoaded, AskedOk, QueuedOk, ForeignOk, LoadsOk, ViewsOk, Holds, sent_term, from_agent}
+use Rattle.word_laws.proofs.Hearings.{WordsTurn, handler-grows, stay-handler, agent-there, after-handler, then-inert}
+use Rattle.log_laws.specs.Histories.{LogState, LoadedOk, AllLoaded, AskedOk, QueuedLoadedOk, ForeignOk, LoadsOk, ViewsOk, LogsHold, sent_term, agent_to_site}
 use Rattle.log_laws.proofs.Agents.Words.{SitesHold, sites-hold, sites-kept}
-use Rattle.log_laws.proofs.Agents.AgentSends.{NoView, NoAdmit, Calls, tells-calls}
-use Rattle.log_laws.proofs.Agents.Views.{worded, turned, Unsent, SentUpTo, ViewsIn, views-in, views-of, views-later, views-turned, views-plainly}
+use Rattle.log_laws.proofs.Agents.AgentSends.{NoView, NoAdmit, Tells, tells-says}
+use Rattle.log_laws.proofs.Agents.Views.{worded, agent_turned, Unsent, SentUpTo, ViewsIn, views-in, views-of, views-later, views-turned, views-plainly}
 use Rattle.log_laws.proofs.Agents.Admits.{none-asked, LoadsTurn, loads-popped, loads-turned}
 
 -- What holds besides that of words.
@@ -33,10 +33,10 @@ pub record Rest (S : LogState) : Type 0 where
   pub foreign : (from : Actor) (c : ℕ) → AllByRecursion (ForeignOk S c from) (S.words.channel from (Site c))
   pub loads : LoadsOk S
 
-pub rest-of : (S : LogState) → Holds S → Rest S
+pub rest-of : (S : LogState) → LogsHold S → Rest S
 rest-of S h = record { sites = sites-hold S h; views = h.views; foreign = h.foreign; loads = h.loads }
 
-pub holds-of : (S : LogState) → word.Holds S.words → Rest S → Holds S
+pub holds-of : (S : LogState) → word.WordsHold S.words → Rest S → LogsHold S
 holds-of S w r = record {
   words = w;
   sites = r.sites.sites;
@@ -63,30 +63,30 @@ foreign-worded S agents channel G c (Site i) l k = k
 foreign-worded S agents channel G c (Scanner x) l k = k
 
 -- the agent of host n has taken the first message from this actor
-abbrev pub heard : LogState → Actor → ℕ → LogState
-heard S from n = record S { words = word_moves.popped S.words from n }
+abbrev pub agent_heard : LogState → Actor → ℕ → LogState
+agent_heard S from n = record S { words = word_moves.agent_popped S.words from n }
 
-pub rest-heard : (S : LogState) (from : Actor) (n : ℕ) → Rest S → Rest (heard S from n)
+pub rest-heard : (S : LogState) (from : Actor) (n : ℕ) → Rest S → Rest (agent_heard S from n)
 rest-heard S from n r = record {
   sites = sites-kept S W (λ c. (S.sites c).contents) (record { deployment = refl; between = λ i c. refl; grows = grows-same S.words.history }) r.sites;
   views = λ c. let h = host_of_slot S.words.deployment c in let i = views-in S c h refl (r.views c) in
-      views-of (heard S from n) c h (S.words.agents h) (from_agent S c) refl refl refl
-      (views-later S S.words.agents W.channel S.words.history (grows-same S.words.history) c h (S.words.agents h) (S.words.agents h) (from_agent S c) i i.wordless i.below);
+      views-of (agent_heard S from n) c h (S.words.agents h) (agent_to_site S c) refl refl refl
+      (views-later S S.words.agents W.channel S.words.history (grows-same S.words.history) c h (S.words.agents h) (S.words.agents h) (agent_to_site S c) i i.wordless i.below);
   foreign = λ a c. all-mono _ _ (λ l k. foreign-worded S S.words.agents W.channel S.words.history c a l k) (S.words.channel a (Site c)) (r.foreign a c);
   loads = loads-popped S from n r.loads;
 }
   where
     W : word.State
-    W = word_moves.popped S.words from n
+    W = word_moves.agent_popped S.words from n
 
 -- What an agent has after its turn, and what it says.
 pub record AgentTurn (S : LogState) (n : ℕ) (a : AgentState) (out : Sends) (G : History) : Type 0 where
   pub grows : Grows S.words.history G
-  pub views : (c : ℕ) → host_of_slot S.words.deployment c ≡ n → ViewsIn (turned S n a out G) c n a (S.words.channel (Agent n) (Site c) ++ out (Site c))
+  pub views : (c : ℕ) → host_of_slot S.words.deployment c ≡ n → ViewsIn (agent_turned S n a out G) c n a (S.words.channel (Agent n) (Site c) ++ out (Site c))
   pub foreign : (c : ℕ) → AllByRecursion (ForeignOk S c (Agent n)) (out (Site c))
   pub loads : LoadsTurn S n a out G
 
-pub rest-turned : (S : LogState) (n : ℕ) (a : AgentState) (out : Sends) (G : History) → Rest S → AgentTurn S n a out G → Rest (turned S n a out G)
+pub rest-turned : (S : LogState) (n : ℕ) (a : AgentState) (out : Sends) (G : History) → Rest S → AgentTurn S n a out G → Rest (agent_turned S n a out G)
 rest-turned S n a out G r t = record {
   sites = sites-kept S T.words (λ c. (S.sites c).contents) (record { deployment = refl; between = λ i c. refl; grows = t.grows }) r.sites;
   views = λ c. views-turned S n a out G t.grows c (r.views c) (t.views c);
@@ -95,7 +95,7 @@ rest-turned S n a out G r t = record {
 }
   where
     T : LogState
-    T = turned S n a out G
+    T = agent_turned S n a out G
 
     sent-by : (from : Actor) (c : ℕ) → AllByRecursion (ForeignOk S c from) (T.words.channel from (Site c))
     sent-by (Agent g) c = sent-both (AllByRecursion (ForeignOk S c (Agent g))) S.words.channel n out g (Site c)
@@ -115,11 +115,11 @@ MayJoin S j h = AllLoaded S h j
 
 -- A turn of an agent that goes on or has stopped: what holds of words, and the rest.
 pub record AgentHandler (S : LogState) (n : ℕ) (t : Turn AgentState) : Type 0 where
-  pub handler : Handler (MayJoin S) S.words n t
-  pub rest : Rest (turned S n t.state t.sends handler.history)
+  pub handler : WordsTurn (MayJoin S) S.words n t
+  pub rest : Rest (agent_turned S n t.state t.sends handler.history)
 
 -- who is admitted in it
-pub handler-admits : (S : LogState) (n : ℕ) (t : Turn AgentState) → Rest S → (r : Handler (MayJoin S) S.words n t) → (x : Admitted) → In x r.history.admitted
+pub handler-admits : (S : LogState) (n : ℕ) (t : Turn AgentState) → Rest S → (r : WordsTurn (MayJoin S) S.words n t) → (x : Admitted) → In x r.history.admitted
     → AllLoaded S (S.words.owner x.start) x.start
 handler-admits S n t r handler x i = elim (handler.admits x i) [
   | inl k ↦ r.loads.admitted x k
@@ -148,7 +148,7 @@ pub record PlainTurn (S : LogState) (n : ℕ) (t : Turn AgentState) : Type 0 whe
   pub asked : (g : ℕ) → AllByRecursion (AskedOk S (Agent n)) (t.sends (Agent g))
   pub heard : 0 < (S.words.agents n).start → (c : ℕ) → is_in c t.state.loaded ≡ true → LoadedOk S c (S.words.agents n).start
   pub waiting : AllByRecursion (λ x. AskedOk S x.from x.letter) t.state.waiting
-  pub queued : AllByRecursion (QueuedOk S) t.state.initiating.queue
+  pub queued : AllByRecursion (QueuedLoadedOk S) t.state.initiating.queue
 
 sent_term-same : (a b : AgentState) → b.decided ≡ a.decided → b.taken ≡ a.taken → sent_term b ≡ sent_term a
 sent_term-same a b d t = ap (λ x. top x b.taken) d ∙ ap (top a.decided) t
@@ -161,7 +161,7 @@ sent_term-same a b d t = ap (λ x. top x b.taken) d ∙ ap (top a.decided) t
 
 pub plain-rest : (S : LogState) (n : ℕ) (t : Turn AgentState) (G : History) → Rest S → Grows S.words.history G
     → ((x : Admitted) → In x G.admitted → AllLoaded S (S.words.owner x.start) x.start)
-    → PlainTurn S n t → Rest (turned S n t.state t.sends G)
+    → PlainTurn S n t → Rest (agent_turned S n t.state t.sends G)
 plain-rest S n t G r g admitted p = rest-turned S n t.state t.sends G r (record {
   grows = g;
   views = λ c e. views-plainly T c n t.state (S.words.channel (Agent n) (Site c))
@@ -178,7 +178,7 @@ plain-rest S n t G r g admitted p = rest-turned S n t.state t.sends G r (record 
 })
   where
     T : LogState
-    T = turned S n t.state t.sends G
+    T = agent_turned S n t.state t.sends G
 
     was : (c : ℕ) → host_of_slot S.words.deployment c ≡ n → ViewsIn S c n (S.words.agents n) (S.words.channel (Agent n) (Site c))
     was c e = views-in S c n e (r.views c)
@@ -191,12 +191,12 @@ plain-rest S n t G r g admitted p = rest-turned S n t.state t.sends G r (record 
     sent : (c : ℕ) → host_of_slot S.words.deployment c ≡ n → 0 < t.state.start → SentUpTo S c t.state.start (sent_term t.state) (S.words.channel (Agent n) (Site c))
     sent c e u = rw (p.start, sent_term-same (S.words.agents n) t.state p.decided p.taken) ((was c e).below (subst (λ s. 0 < s) p.start u))
 
-pub plain-agent : (S : LogState) (n : ℕ) (t : Turn AgentState) → Rest S → Handler (MayJoin S) S.words n t → PlainTurn S n t → AgentHandler S n t
+pub plain-agent : (S : LogState) (n : ℕ) (t : Turn AgentState) → Rest S → WordsTurn (MayJoin S) S.words n t → PlainTurn S n t → AgentHandler S n t
 plain-agent S n t r handler p = record { handler = handler; rest = plain-rest S n t handler.history r (handler-grows handler) (handler-admits S n t r handler) p }
 
 -- ---- one in which it stops
 
-pub stopped-agent : (S : LogState) (n : ℕ) (t : Turn AgentState) → Rest S → Handler (MayJoin S) S.words n t → t.state ≡ new_agent 0
+pub stopped-agent : (S : LogState) (n : ℕ) (t : Turn AgentState) → Rest S → WordsTurn (MayJoin S) S.words n t → t.state ≡ new_agent 0
     → ((c : ℕ) → AllByRecursion NoView (t.sends (Site c))) → ((g : ℕ) → AllByRecursion NoAdmit (t.sends (Agent g))) → AgentHandler S n t
 stopped-agent S n t r handler z sites agents = record {
   handler = handler;
@@ -218,7 +218,7 @@ stopped-agent S n t r handler z sites agents = record {
 }
   where
     T : LogState
-    T = turned S n t.state t.sends handler.history
+    T = agent_turned S n t.state t.sends handler.history
 
     off : 0 < t.state.start → ⊥
     off u = let e : t.state.start ≡ 0 = ap (λ a. a.start) z in absurd (omega (arith, u, e))
@@ -238,7 +238,7 @@ stay-plain S n r = record {
   queued = r.loads.queued n;
 }
 
-pub stay-agent : (S : LogState) (n : ℕ) → word.Holds S.words → Rest S → 0 < word.start_at S.words n → AgentHandler S n (becomes (S.words.agents n))
+pub stay-agent : (S : LogState) (n : ℕ) → word.WordsHold S.words → Rest S → 0 < word.agent_start S.words n → AgentHandler S n (becomes (S.words.agents n))
 stay-agent S n h r up = plain-agent S n (becomes (S.words.agents n)) r (stay-handler S.words n (inl (refl, up)) h) (stay-plain S n r)
 
 -- it says its word to the others
@@ -258,19 +258,19 @@ tells-plain S n t before p = record {
     same : (tells n before t.state).state ≡ t.state
     same = tells-state n before t.state
 
-    calls : Calls t.state.loaded (tells n before t.state)
-    calls = tells-calls n before t.state
+    calls : Tells t.state.loaded (tells n before t.state)
+    calls = tells-says n before t.state
 
 -- One turn, and then another one of an agent that goes on. One that has stopped does nothing then.
 pub then-agent : (S : LogState) (n : ℕ) (t : Turn AgentState) (f : AgentState → Turn AgentState) (r : AgentHandler S n t) → f (new_agent 0) ≡ becomes (new_agent 0)
-    → (let T = turned S n t.state t.sends r.handler.history in word.Holds T.words → Rest T → 0 < word.start_at T.words n → AgentHandler T n (f (T.words.agents n))) → AgentHandler S n (t ▸ f)
+    → (let T = agent_turned S n t.state t.sends r.handler.history in word.WordsHold T.words → Rest T → 0 < word.agent_start T.words n → AgentHandler T n (f (T.words.agents n))) → AgentHandler S n (t ▸ f)
 then-agent S n t f r silent g = elim r.handler.goes [
   | inl q ↦ both (subst (λ z. AgentHandler T n (f z)) here (g r.handler.holds r.rest (subst (λ x. 0 < x) (sym (ap (λ x. x.start) here ∙ q.0)) q.1)))
   | inr z ↦ subst (AgentHandler S n) (sym (then-inert t f (ap f z ∙ silent ∙ ap becomes (sym z)))) r
 ]
   where
     T : LogState
-    T = turned S n t.state t.sends r.handler.history
+    T = agent_turned S n t.state t.sends r.handler.history
 
     here : T.words.agents n ≡ t.state
     here = agent-there S.words n t.state t.sends r.handler.history
@@ -278,6 +278,6 @@ then-agent S n t f r silent g = elim r.handler.goes [
     both : AgentHandler T n (f t.state) → AgentHandler S n (t ▸ f)
     both q = let k = after-handler S.words n t f r.handler q.handler in record {
       handler = k.0;
-      rest = subst (λ G. Rest (turned S n (f t.state).state (λ b. t.sends b ++ (f t.state).sends b) G)) (sym k.1)
+      rest = subst (λ G. Rest (agent_turned S n (f t.state).state (λ b. t.sends b ++ (f t.state).sends b) G)) (sym k.1)
           (subst (λ w. Rest (record S { words = w })) (after-after S.words n t.state (f t.state).state t.sends (f t.state).sends r.handler.history q.handler.history) q.rest);
     }

@@ -16,13 +16,13 @@ use Rattle.cluster_steps.specs.Lists.{In}
 use Rattle.word_laws.specs.Histories.{names}
 use Rattle.cluster_steps.proofs.Lists.{all-mono, all-append, some-here, none-and-some, in-none}
 use Rattle.word_laws.proofs.Members.{is_member-start}
-use Rattle.word_laws.proofs.Hearings.{Handler, handler-grows, agent-there, decides-handler}
+use Rattle.word_laws.proofs.Hearings.{WordsTurn, handler-grows, agent-there, decides-handler}
 use Rattle.word_laws.proofs.Rejoins.{with_began, start-grows}
 use Rattle.word_laws.proofs.Turns.{Decides, decides-state, decides-sends, may_decide-cases, tells, tells-state, concludes, concludes-not, concludes-is}
-use Rattle.log_laws.specs.Histories.{LogState, LoadedOk, AskedOk, ForeignOk, sent_term, start_at, views}
-use Rattle.log_laws.proofs.Agents.AgentSends.{NoView, NoAdmit, Calls, tells-calls}
+use Rattle.log_laws.specs.Histories.{LogState, LoadedOk, AskedOk, ForeignOk, sent_term, site_start, views}
+use Rattle.log_laws.proofs.Agents.AgentSends.{NoView, NoAdmit, Tells, tells-says}
 use Rattle.log_laws.proofs.Agents.Decided.{decides-above}
-use Rattle.log_laws.proofs.Agents.Views.{turned, Unsent, SentUpTo, ViewsIn, views-in, views-later, views-plainly, views-start, views-next}
+use Rattle.log_laws.proofs.Agents.Views.{agent_turned, Unsent, SentUpTo, ViewsIn, views-in, views-later, views-plainly, views-start, views-next}
 use Rattle.log_laws.proofs.Agents.Admits.{none-asked}
 use Rattle.log_laws.proofs.Agents.AgentTurns.{Rest, MayJoin, AgentHandler, rest-turned, plain-foreign, handler-admits, stay-agent}
 
@@ -31,20 +31,20 @@ slot-host : (S : LogState) (n c : ℕ) → is_slot_of S.words.deployment n c ≡
 slot-host S n c e = eqb-true (host_of_slot S.words.deployment c) n (and_parts (nat_lt c (slots S.words.deployment)) (host_of_slot S.words.deployment c == n) e).1
 
 -- a site that runs with a start has run with it
-ran-with : (S : LogState) (c s : ℕ) → Rest S → 0 < s → start_at S c ≡ s → In s (S.logs.ran c)
+ran-with : (S : LogState) (c s : ℕ) → Rest S → 0 < s → site_start S c ≡ s → In s (S.logs.ran c)
 ran-with S c s r up e = let k = (r.sites.sites c).ran (subst (λ x. 0 < x) (sym e) up) in subst (In s) (sym k.1) (inl e)
 
 -- the start that runs has begun
-has-begun : (S : LogState) (n : ℕ) → word.Holds S.words → 0 < word.start_at S.words n → In (word.start_at S.words n) (S.words.history.began n)
-has-begun S n h up = let k = (h.hosts n).last up in subst (In (word.start_at S.words n)) (sym k.1) (inl refl)
+has-begun : (S : LogState) (n : ℕ) → word.WordsHold S.words → 0 < word.agent_start S.words n → In (word.agent_start S.words n) (S.words.history.began n)
+has-begun S n h up = let k = (h.hosts n).last up in subst (In (word.agent_start S.words n)) (sym k.1) (inl refl)
 
 -- what is known of the agent after its turn
-agent-ok : (S : LogState) (n : ℕ) (t : Turn AgentState) (handler : Handler (MayJoin S) S.words n t) → word.AgentOk (turned S n t.state t.sends handler.history).words n t.state
-agent-ok S n t handler = subst (word.AgentOk (turned S n t.state t.sends handler.history).words n) (agent-there S.words n t.state t.sends handler.history) (handler.holds.agents n)
+agent-ok : (S : LogState) (n : ℕ) (t : Turn AgentState) (handler : WordsTurn (MayJoin S) S.words n t) → word.AgentOk (agent_turned S n t.state t.sends handler.history).words n t.state
+agent-ok S n t handler = subst (word.AgentOk (agent_turned S n t.state t.sends handler.history).words n) (agent-there S.words n t.state t.sends handler.history) (handler.holds.agents n)
 
 -- ---- a joiner takes its first word
 
-module _ (S : LogState) (n : ℕ) (w : Membership) (h : word.Holds S.words) (r : Rest S) (up : 0 < word.start_at S.words n)
+module _ (S : LogState) (n : ℕ) (w : Membership) (h : word.WordsHold S.words) (r : Rest S) (up : 0 < word.agent_start S.words n)
     (decided : (S.words.agents n).decided ≡ None) (taken : (S.words.agents n).taken ≡ None) where
   abbrev a : AgentState
   a = S.words.agents n
@@ -59,8 +59,8 @@ module _ (S : LogState) (n : ℕ) (w : Membership) (h : word.Holds S.words) (r :
   takes-is : takes_word S.words.deployment n a w ▸ tells n a.own ≡ takes
   takes-is = ap {A = AgentState} {B = Turn AgentState} (λ x. record { state = x; sends = takes.sends }) (tells-state n a.own joiner)
 
-  calls : Calls a.loaded (tells n a.own joiner)
-  calls = tells-calls n a.own joiner
+  calls : Tells a.loaded (tells n a.own joiner)
+  calls = tells-says n a.own joiner
 
   abbrev ls : ℕ → List Letter
   ls c = S.words.channel (Agent n) (Site c)
@@ -76,12 +76,12 @@ module _ (S : LogState) (n : ℕ) (w : Membership) (h : word.Holds S.words) (r :
   none : (c : ℕ) → host_of_slot S.words.deployment c ≡ n → Unsent S c a.start (ls c)
   none c e = (views-in S c n e (r.views c)).wordless up taken decided
 
-  other : (c : ℕ) → host_of_slot S.words.deployment c ≡ n → start_at S c ≡ a.start → ⊥
+  other : (c : ℕ) → host_of_slot S.words.deployment c ≡ n → site_start S c ≡ a.start → ⊥
   other c e q = (none c e).1 (ran-with S c a.start r up q)
 
-  module _ (handler : Handler (MayJoin S) S.words n takes) where
+  module _ (handler : WordsTurn (MayJoin S) S.words n takes) where
     abbrev T : LogState
-    T = turned S n joiner takes.sends handler.history
+    T = agent_turned S n joiner takes.sends handler.history
 
     before : (c : ℕ) → host_of_slot S.words.deployment c ≡ n → ViewsIn T c n joiner (ls c)
     before c e = views-later S T.words.agents T.words.channel handler.history (handler-grows handler) c n a joiner (ls c) (views-in S c n e (r.views c))
@@ -111,12 +111,12 @@ module _ (S : LogState) (n : ℕ) (w : Membership) (h : word.Holds S.words) (r :
       };
     })
 
-  pub takes-agent : Handler (MayJoin S) S.words n (takes_word S.words.deployment n a w ▸ tells n a.own) → AgentHandler S n (takes_word S.words.deployment n a w ▸ tells n a.own)
-  takes-agent handler = let k = subst (Handler (MayJoin S) S.words n) takes-is handler in subst (AgentHandler S n) (sym takes-is) (record { handler = k; rest = rest k })
+  pub takes-agent : WordsTurn (MayJoin S) S.words n (takes_word S.words.deployment n a w ▸ tells n a.own) → AgentHandler S n (takes_word S.words.deployment n a w ▸ tells n a.own)
+  takes-agent handler = let k = subst (WordsTurn (MayJoin S) S.words n) takes-is handler in subst (AgentHandler S n) (sym takes-is) (record { handler = k; rest = rest k })
 
 -- ---- a member decides its word
 
-module _ (S : LogState) (n : ℕ) (v : Membership) (h : word.Holds S.words) (r : Rest S) (up : 0 < word.start_at S.words n)
+module _ (S : LogState) (n : ℕ) (v : Membership) (h : word.WordsHold S.words) (r : Rest S) (up : 0 < word.agent_start S.words n)
     (own : (S.words.agents n).own ≡ Some v) (may : may_decide n (S.words.agents n) (Some v) ≡ true) where
   abbrev was : AgentState
   was = S.words.agents n
@@ -146,9 +146,9 @@ module _ (S : LogState) (n : ℕ) (v : Membership) (h : word.Holds S.words) (r :
   to-site c true e = (sym (slot-host S n c (and_parts (is_slot_of S.words.deployment n c) (not (is_down S.words.deployment v)) e).0), tt)
   to-site c false e = tt
 
-  module _ (handler : Handler (MayJoin S) S.words n decides) where
+  module _ (handler : WordsTurn (MayJoin S) S.words n decides) where
     abbrev U : LogState
-    U = turned S n decides.state decides.sends handler.history
+    U = agent_turned S n decides.state decides.sends handler.history
 
     is : In v U.words.history.decided
     is = (some-here (λ x. In x U.words.history.decided × (names x decides.state.start ≡ true)) decides.state.decided v state.decided (agent-ok S n decides handler).decided).0
@@ -197,7 +197,7 @@ module _ (S : LogState) (n : ℕ) (v : Membership) (h : word.Holds S.words) (r :
     })
 
 -- It decides its word, or goes on as it was.
-pub concludes-agent : (S : LogState) (n : ℕ) → word.Holds S.words → Rest S → 0 < word.start_at S.words n → AgentHandler S n (concludes S.words.deployment n (S.words.agents n))
+pub concludes-agent : (S : LogState) (n : ℕ) → word.WordsHold S.words → Rest S → 0 < word.agent_start S.words n → AgentHandler S n (concludes S.words.deployment n (S.words.agents n))
 concludes-agent S n h r up = go (S.words.agents n).own refl
   where
     stays : concludes S.words.deployment n (S.words.agents n) ≡ becomes (S.words.agents n) → AgentHandler S n (concludes S.words.deployment n (S.words.agents n))
@@ -222,7 +222,7 @@ module _ (S : LogState) (n s k : ℕ) (out : Sends) (r : Rest S) (some : 0 < s) 
     (sites : (c : ℕ) → AllByRecursion NoView (out (Site c))) (agents : (g : ℕ) → AllByRecursion NoAdmit (out (Agent g))) where
   -- the state after it
   abbrev V : LogState
-  V = turned S n (new_agent k) out (with_began S.words.history n s)
+  V = agent_turned S n (new_agent k) out (with_began S.words.history n s)
 
   goes-on : 0 < k → k ≡ s
   goes-on u = elim goes [

@@ -8,7 +8,7 @@ use Rattle.volt_wire.specs.Word.{Membership}
 use Rattle.cluster_model.specs.Words.{term_of, members, is_member}
 use Rattle.cluster_model.specs.Agent.{is_word, may_decide}
 use Rattle.cluster_steps.specs.Lists.{In}
-use Rattle.word_laws.specs.Histories.{State, Within, Falls, GoodWord, OwnOk, HistoryOk, Holds, start_at, names}
+use Rattle.word_laws.specs.Histories.{State, Within, Falls, GoodWord, OwnOk, HistoryOk, WordsHold, agent_start, names}
 use Rattle.cluster_steps.proofs.Lists.{some-here, all-at, not-both, none-and-some}
 use Rattle.word_laws.proofs.Algebra.{firsts, subset-length, within-refl, within-of-term, same_word-refl, names-within, admits-firsts}
 use Rattle.word_laws.proofs.Members.{is_member-start}
@@ -30,11 +30,11 @@ below-term S H v w g k h d =
     ]
 
 -- T comes after S, in which the agent of host n may decide v; there that is decided
-module _ (S T : State) (H : Holds S) (K : Holds T) (n : ℕ) (v : Membership) (up : 0 < start_at S n) (own : (S.agents n).own ≡ Some v)
+module _ (S T : State) (H : WordsHold S) (K : WordsHold T) (n : ℕ) (v : Membership) (up : 0 < agent_start S n) (own : (S.agents n).own ≡ Some v)
     (may : may_decide n (S.agents n) (Some v) ≡ true) (is : In v T.history.decided) (decided : (w : Membership) → In w S.history.decided → In w T.history.decided)
     (took_word : (s : ℕ) (w : Membership) → S.history.took s ≡ Some w → T.history.took s ≡ Some w) where
   abbrev s : ℕ
-  s = start_at S n
+  s = agent_start S n
 
   good : (w : Membership) → In w T.history.decided → GoodWord T w
   good w i = K.history.decided_good w i
@@ -62,7 +62,7 @@ module _ (S T : State) (H : Holds S) (K : Holds T) (n : ℕ) (v : Membership) (u
       ok = some-here (λ w. In w S.history.decided × (names w s ≡ true)) (S.agents n).decided d e (H.agents n).decided
 
       said : In d (S.history.said s)
-      said = H.history.members_said d ok.0 (S.owner s) s (running-member S H.history d s (H.history.decided_good d ok.0) ok.1 (ap (start_at S) owned))
+      said = H.history.members_said d ok.0 (S.owner s) s (running-member S H.history d s (H.history.decided_good d ok.0) ok.1 (ap (agent_start S) owned))
 
       within : Within d v
       within =

@@ -18,7 +18,7 @@ use Rattle.cluster_steps.proofs.Lists.{all-mono, all-append, eqb-same, in-left, 
 use Rattle.cluster_steps.proofs.Channels.{starts-append, sent-both}
 use Rattle.word_laws.proofs.Moves as word
 use Rattle.word_laws.proofs.Moves.{Grows}
-use Rattle.log_laws.specs.Histories.{LogState, view_in, view_of, views, MemberViews, FirstViews, RunViews, Starting, ViewsOk, sent_term, start_at, term_at, from_agent}
+use Rattle.log_laws.specs.Histories.{LogState, view_in, view_of, views, MemberViews, FirstViews, RunViews, Starting, ViewsOk, sent_term, site_start, term_at, agent_to_site}
 use Rattle.log_laws.proofs.Plain.Lines.{flat-none, views-append, views-same, views-none, views-plain, views-here, views-other}
 use Rattle.log_laws.proofs.Agents.AgentSends.{NoView}
 use Rattle.log_laws.proofs.Kept.KeepsViews.{first_views-later, run_views-later}
@@ -28,8 +28,8 @@ abbrev pub worded : LogState → (ℕ → AgentState) → (Actor → Actor → L
 worded S agents channel G = record S { words = record S.words { agents = agents; channel = channel; history = G } }
 
 -- the state after a turn of the agent of host n
-abbrev pub turned : LogState → ℕ → AgentState → Sends → History → LogState
-turned S n a out G = record S { words = word.after S.words n a out G }
+abbrev pub agent_turned : LogState → ℕ → AgentState → Sends → History → LogState
+agent_turned S n a out G = record S { words = word.after_agent S.words n a out G }
 
 -- ---- messages that bring a site neither its start nor a word
 
@@ -90,12 +90,12 @@ Unsent S c s ls = (In s (starts_in ls) → ⊥) × (In s (S.logs.ran c) → ⊥)
 
 -- and nothing of a term above this one
 abbrev pub SentUpTo : LogState → ℕ → ℕ → ℕ → List Letter → Type 0
-SentUpTo S c s top ls = AllByRecursion (λ w. term_of w ≤ top) (views s ls) × (start_at S c ≡ s → term_at S c ≤ top)
+SentUpTo S c s top ls = AllByRecursion (λ w. term_of w ≤ top) (views s ls) × (site_start S c ≡ s → term_at S c ≤ top)
 
 pub record ViewsIn (S : LogState) (c h : ℕ) (a : AgentState) (ls : List Letter) : Type 0 where
   pub plain : AllByRecursion PlainView ls
   pub began : (s : ℕ) → In s (starts_in ls) ⊎ In s (S.logs.ran c) ⊎ ((w : Membership) × In w (views s ls)) → In s (S.words.history.began h)
-  pub running : 0 < start_at S c → RunViews S c (S.sites c).view (views (start_at S c) ls)
+  pub running : 0 < site_start S c → RunViews S c (S.sites c).view (views (site_start S c) ls)
   pub starting : (s : ℕ) → In s (starts_in ls) → (In s (S.logs.ran c) → ⊥) × Starting s ls × FirstViews S c s (views s ls)
   pub wordless : 0 < a.start → a.taken ≡ None → a.decided ≡ None → Unsent S c a.start ls
   pub below : 0 < a.start → SentUpTo S c a.start (sent_term a) ls
@@ -114,7 +114,7 @@ pub views-of : (S : LogState) (c h : ℕ) (a : AgentState) (ls : List Letter) �
     → ViewsIn S c h a ls → ViewsOk S c
 views-of S c h a ls e p q k = of (subst (λ h. ViewsIn S c h (S.words.agents h) (S.words.channel (Agent h) (Site c))) (sym e) (rw (p, q) k))
   where
-    of : ViewsIn S c (host_of_slot S.words.deployment c) (S.words.agents (host_of_slot S.words.deployment c)) (from_agent S c) → ViewsOk S c
+    of : ViewsIn S c (host_of_slot S.words.deployment c) (S.words.agents (host_of_slot S.words.deployment c)) (agent_to_site S c) → ViewsOk S c
     of k = record {
       plain = k.plain;
       began = k.began;
@@ -136,7 +136,7 @@ module _ (S : LogState) (c h : ℕ) (a : AgentState) (ls : List Letter) (k : Vie
       | inr (inl j) ↦ inr (inl j)
       | inr (inr (w, j)) ↦ inr (inr (w, subst (In w) (same s) j))
     ]);
-    running = λ u. subst (RunViews S c (S.sites c).view) (sym (same (start_at S c))) (k.running u);
+    running = λ u. subst (RunViews S c (S.sites c).view) (sym (same (site_start S c))) (k.running u);
     starting = λ s i. let r = k.starting s (subst (In s) starts i) in (
       r.0,
       starting-left s ls more (λ j. none-in s (subst (In s) (no-starts more plain) j)) r.1,
@@ -164,7 +164,7 @@ module _ (S : LogState) (c h : ℕ) (a : AgentState) (ls : List Letter) (k : Vie
   -- the start of an agent that has said nothing yet, and the word that it took
   pub views-start : (w : Membership) → 0 < a.start → Unsent S c a.start ls → In a.start (S.words.history.began h) → S.words.history.took a.start ≡ Some w → a.taken ≡ Some w
       → sent_term a ≡ term_of w
-      → (start_at S c ≡ a.start → ⊥) → ViewsIn S c h a (ls ++ open_letter (msg.Start a.start) ∷ letter_to a.start (msg.View w) ∷ [])
+      → (site_start S c ≡ a.start → ⊥) → ViewsIn S c h a (ls ++ open_letter (msg.Start a.start) ∷ letter_to a.start (msg.View w) ∷ [])
   views-start w up none began took taken top other = record {
     plain = all-append PlainView ls more k.plain (tt, ((refl, up), tt));
     began = λ s i. elim i [
@@ -179,7 +179,7 @@ module _ (S : LogState) (c h : ℕ) (a : AgentState) (ls : List Letter) (k : Vie
         | inr d ↦ k.began s (inr (inr (v, subst (In v) (apart s d) j)))
       ]
     ];
-    running = λ u. subst (RunViews S c (S.sites c).view) (sym (apart (start_at S c) other)) (k.running u);
+    running = λ u. subst (RunViews S c (S.sites c).view) (sym (apart (site_start S c) other)) (k.running u);
     starting = λ s i. elim (cases_eq s a.start) [
       | inl e ↦ subst (λ x. (In x (S.logs.ran c) → ⊥) × Starting x (ls ++ more) × FirstViews S c x (views x (ls ++ more))) (sym e)
           (none.1, starting-right a.start ls more none.2 none.0 (inl (refl, λ j. j)), first)
@@ -230,10 +230,10 @@ module _ (S : LogState) (c h : ℕ) (a : AgentState) (ls : List Letter) (k : Vie
         | inr d ↦ k.began s (inr (inr (v, subst (In v) (apart s d) j)))
       ]
     ];
-    running = λ u. elim (cases_eq (start_at S c) a.start) [
+    running = λ u. elim (cases_eq (site_start S c) a.start) [
       | inl e ↦ subst (λ x. RunViews S c (S.sites c).view x) (sym (ap (λ s. views s (ls ++ more)) e ∙ here))
           (run e (S.sites c).view refl (subst (λ s. RunViews S c (S.sites c).view (views s ls)) e (k.running u)))
-      | inr d ↦ subst (RunViews S c (S.sites c).view) (sym (apart (start_at S c) d)) (k.running u)
+      | inr d ↦ subst (RunViews S c (S.sites c).view) (sym (apart (site_start S c) d)) (k.running u)
     ];
     starting = λ s i. let r = k.starting s (subst (In s) starts i) in (
       r.0,
@@ -294,7 +294,7 @@ module _ (S : LogState) (c h : ℕ) (a : AgentState) (ls : List Letter) (k : Vie
         members = behind (term_of f.first + 1) f.later (omega (arith, b.0)) b.1 f.members;
       }
 
-      run : start_at S c ≡ a.start → (o : Option Membership) → (S.sites c).view ≡ o → RunViews S c o (views a.start ls) → RunViews S c o (views a.start ls ++ w ∷ [])
+      run : site_start S c ≡ a.start → (o : Option Membership) → (S.sites c).view ≡ o → RunViews S c o (views a.start ls) → RunViews S c o (views a.start ls ++ w ∷ [])
       run e None q f = subst (λ s. FirstViews S c s (views a.start ls ++ w ∷ [])) (sym e) (longer (subst (λ s. FirstViews S c s (views a.start ls)) e f))
       run e (Some v) q m = subst (λ s. MemberViews S c s (term_of v + 1) (views a.start ls ++ w ∷ [])) (sym e)
           (behind (term_of v + 1) (views a.start ls) (low (before.1 e)) lower (subst (λ s. MemberViews S c s (term_of v + 1) (views a.start ls)) e m))
@@ -314,7 +314,7 @@ module _ (S : LogState) (agents : ℕ → AgentState) (channel : Actor → Actor
   views-later c h x y ls k unsent sent = record {
     plain = k.plain;
     began = λ s i. g.began h s (k.began s i);
-    running = λ u. run_views-later S T refl g.decided g.took_word c (S.sites c).view (views (start_at S c) ls) refl (k.running u);
+    running = λ u. run_views-later S T refl g.decided g.took_word c (S.sites c).view (views (site_start S c) ls) refl (k.running u);
     starting = λ s i. let r = k.starting s i in (r.0, r.1, first_views-later S T refl g.decided g.took_word c s (views s ls) r.2);
     wordless = unsent;
     below = sent;
@@ -322,18 +322,18 @@ module _ (S : LogState) (agents : ℕ → AgentState) (channel : Actor → Actor
 
 -- The words of all slots, after a turn of the agent of host n: of another host's nothing was sent.
 pub views-turned : (S : LogState) (n : ℕ) (a : AgentState) (out : Sends) (G : History) → Grows S.words.history G → (c : ℕ) → ViewsOk S c
-    → (host_of_slot S.words.deployment c ≡ n → ViewsIn (turned S n a out G) c n a (S.words.channel (Agent n) (Site c) ++ out (Site c))) → ViewsOk (turned S n a out G) c
+    → (host_of_slot S.words.deployment c ≡ n → ViewsIn (agent_turned S n a out G) c n a (S.words.channel (Agent n) (Site c) ++ out (Site c))) → ViewsOk (agent_turned S n a out G) c
 views-turned S n a out G g c k own = elim (cases_eq (host_of_slot S.words.deployment c) n) [
   | inl e ↦ views-of T c n a (S.words.channel (Agent n) (Site c) ++ out (Site c)) e (set-here S.words.agents n a) (rw (eqb-same n) refl) (own e)
   | inr d ↦
       let h = host_of_slot S.words.deployment c in
       let i = views-in S c h refl k in
-      views-of T c h (S.words.agents h) (from_agent S c) refl (set-there S.words.agents n a h d) (still h d)
-      (views-later S T.words.agents T.words.channel G g c h (S.words.agents h) (S.words.agents h) (from_agent S c) i i.wordless i.below)
+      views-of T c h (S.words.agents h) (agent_to_site S c) refl (set-there S.words.agents n a h d) (still h d)
+      (views-later S T.words.agents T.words.channel G g c h (S.words.agents h) (S.words.agents h) (agent_to_site S c) i i.wordless i.below)
 ]
   where
     T : LogState
-    T = turned S n a out G
+    T = agent_turned S n a out G
 
     still : (h : ℕ) → (h ≡ n → ⊥) → T.words.channel (Agent h) (Site c) ≡ S.words.channel (Agent h) (Site c)
     still h d = sent-both (λ x. x ≡ S.words.channel (Agent h) (Site c)) S.words.channel n out h (Site c) (λ e. absurd (d (sym e))) (λ e. refl)

@@ -16,7 +16,7 @@ use Rattle.cluster_model.specs.SiteState.{Streamed, Joining, Joiner}
 use Rattle.word_laws.specs.Histories.{State}
 use Rattle.cluster_steps.proofs.Lists.{all-mono}
 use Rattle.word_laws.proofs.Moves.{Grows}
-use Rattle.log_laws.specs.Histories.{LogState, Entered, Streaming, Leadership, Flow, IsSlot, HasBeen, AckOk, ReportOk, AskOk, CountedOk, EndOk, SiteLetterOk, MemberOk, Coming, Took, Inert, Untaken, StreamIn, InWord, Wordless, ViewIn, JoinerOk, WaitingFrom, WaitingOk, KeepsOk, SiteOk, Came, EnteredOk, StreamedOk, LeadershipOk, UnledOk, WordOf, Holds, base_of, part, start_at, term_at, between, flow}
+use Rattle.log_laws.specs.Histories.{LogState, Entered, Streaming, Leadership, Flow, IsSlot, HasBeen, AckOk, ReportOk, AsksToJoin, CountedOk, EndOk, SiteLetterOk, MemberOk, Coming, Took, Inert, Untaken, StreamIn, InWord, Wordless, ViewIn, JoinerOk, SiteWaitingFrom, SiteWaitingOk, KeepsOk, SiteOk, Came, EnteredOk, StreamedOk, LeadershipOk, UnledOk, WordOf, LogsHold, epoch_base, part, site_start, term_at, between, flow}
 
 -- what is under way between sites as in the first one, and else as in the second one
 abbrev between_sites : (Actor → Actor → List Letter) → (Actor → Actor → List Letter) → Actor → Actor → List Letter
@@ -40,7 +40,7 @@ module _ (S : LogState) (W : State) (contents : ℕ → List Shown) where
   ack : (c t n : ℕ) → AckOk S c t n → AckOk T c t n
   ack c t n k = search
 
-  ask : (p c t a : ℕ) → AskOk S p c t a → AskOk T p c t a
+  ask : (p c t a : ℕ) → AsksToJoin S p c t a → AsksToJoin T p c t a
   ask p c t a k = search been
 
   counted : (p t : ℕ) (j : Joiner) → CountedOk S p t j → CountedOk T p t j
@@ -70,7 +70,7 @@ module _ (S : LogState) (W : State) (contents : ℕ → List Shown) where
     never = k.never;
     comes = λ l f e. elim (k.comes l f e) [
       | inl q ↦ inl (inert c w l q)
-      | inr q ↦ inr (coming c w (flow (start_at S c) (term_of w) (between S l c)) q.0, q.1)
+      | inr q ↦ inr (coming c w (flow (site_start S c) (term_of w) (between S l c)) q.0, q.1)
     ];
   }
 
@@ -99,8 +99,8 @@ module _ (S : LogState) (W : State) (contents : ℕ → List Shown) where
       | m ↦ λ k. k
     ] p
 
-    waits : (c : ℕ) (from : Actor) (l : Letter) → WaitingFrom S c from l → WaitingFrom T c from l
-    waits c (Site i) l p = elim l.body as (λ m. WaitingFrom S c (Site i) (record l { body = m }) → WaitingFrom T c (Site i) (record l { body = m })) [
+    waits : (c : ℕ) (from : Actor) (l : Letter) → SiteWaitingFrom S c from l → SiteWaitingFrom T c from l
+    waits c (Site i) l p = elim l.body as (λ m. SiteWaitingFrom S c (Site i) (record l { body = m }) → SiteWaitingFrom T c (Site i) (record l { body = m })) [
       | msg.Ack n ↦ letter i c (record l { body = msg.Ack n })
       | msg.Report position floor tail ↦ letter i c (record l { body = msg.Report position floor tail })
       | msg.JoinAsk a slot ↦ letter i c (record l { body = msg.JoinAsk a slot })
@@ -111,7 +111,7 @@ module _ (S : LogState) (W : State) (contents : ℕ → List Shown) where
     waits c (Client n) l p = tt
     waits c (Scanner x) l p = tt
 
-    waiting : (c : ℕ) (x : Waiting) → WaitingOk S c x → WaitingOk T c x
+    waiting : (c : ℕ) (x : Waiting) → SiteWaitingOk S c x → SiteWaitingOk T c x
     waiting c x k = (k.0, waits c x.from x.letter k.1)
 
     keeps : (c : ℕ) → KeepsOk S c → KeepsOk T c
@@ -122,8 +122,8 @@ module _ (S : LogState) (W : State) (contents : ℕ → List Shown) where
       alone = k.alone;
       leads = k.leads;
       asks = all-mono _ _ (λ a f. ask (part S c) a.slot (term_at S c) a.start f) (S.sites c).asks k.asks;
-      waiting = all-mono (WaitingOk S c) (WaitingOk T c) (waiting c) (S.sites c).waiting k.waiting;
-      pending = all-mono (WaitingOk S c) (WaitingOk T c) (waiting c) (S.pending c) k.pending;
+      waiting = all-mono (SiteWaitingOk S c) (SiteWaitingOk T c) (waiting c) (S.sites c).waiting k.waiting;
+      pending = all-mono (SiteWaitingOk S c) (SiteWaitingOk T c) (waiting c) (S.pending c) k.pending;
       on_disk = k.on_disk;
       held = k.held;
     }
@@ -132,7 +132,7 @@ module _ (S : LogState) (W : State) (contents : ℕ → List Shown) where
     member c w k = search g.decided
 
     in-word : (c : ℕ) (w : Membership) (j : Joining) → InWord S c w j → InWord T c w j
-    in-word c w j k = record { took = g.took_word (start_at S c) w k.took; lines = k.lines; others = k.others; stream = stream c w j j.stream k.stream }
+    in-word c w j k = record { took = g.took_word (site_start S c) w k.took; lines = k.lines; others = k.others; stream = stream c w j j.stream k.stream }
 
     view : (c : ℕ) (j : Joining) (o : Option Membership) → ViewIn S c j o → ViewIn T c j o
     view c j None k = wordless c j k
@@ -177,10 +177,10 @@ pub record SitesHold (S : LogState) : Type 0 where
   pub streamed : (c t : ℕ) (x : Streaming) → S.logs.streamed c t ≡ Some x → StreamedOk S c t x
   pub leaderships : (p t : ℕ) (g : Leadership) → S.logs.leadership p t ≡ Some g → LeadershipOk S p t g
   pub unled : (p t : ℕ) → S.logs.leadership p t ≡ None → UnledOk S p t
-  pub some : 0 < base_of S
-  pub first : (p : ℕ) → (g : Leadership) × (S.logs.leadership p (base_of S) ≡ Some g)
+  pub some : 0 < epoch_base S
+  pub first : (p : ℕ) → (g : Leadership) × (S.logs.leadership p (epoch_base S) ≡ Some g)
 
-pub sites-hold : (S : LogState) → Holds S → SitesHold S
+pub sites-hold : (S : LogState) → LogsHold S → SitesHold S
 sites-hold S h = record {
   sites = h.sites;
   letters = h.letters;

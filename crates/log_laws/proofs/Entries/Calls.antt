@@ -16,8 +16,8 @@ use Rattle.cluster_model.specs.SiteState.{SiteState, AskedCall, site_term, leads
 use Rattle.cluster_model.specs.Site.{leads_with, holds, holds_for, initiator_in, runs_call, runs_calls, works_calls, on_sp_call, on_frag, on_done}
 use Rattle.cluster_model.specs.Initiator.{end_of_reply}
 use Rattle.cluster_steps.proofs.Lists.{all-append}
-use Rattle.log_laws.specs.Histories.{LogState, HeldOk, HeldFor, Holds, start_at}
-use Rattle.log_laws.proofs.Kept.Moves.{Goes}
+use Rattle.log_laws.specs.Histories.{LogState, HeldOk, HeldFor, LogsHold, site_start}
+use Rattle.log_laws.proofs.Kept.Moves.{LogsGo}
 use Rattle.log_laws.proofs.Kept.Plumbing.{GoesFrom, goes-then, goes-same}
 use Rattle.log_laws.proofs.Kept.InertTurns.{unwatched, inert-becomes, calls-goes}
 use Rattle.log_laws.proofs.Kept.Rests.{part-from}
@@ -27,24 +27,24 @@ use Rattle.log_laws.proofs.Entries.Leads.{leads-goes, leads-on}
 
 -- of a part that is shown for each state in which the site leads
 authoritative-from : (S : LogState) (i : ℕ) (s : SiteState) (part : Deployment → SiteState → Turn SiteState)
-    → ((T : LogState) → Holds T → 0 < start_at T i → leads T.words.deployment i (T.sites i) ≡ true → Goes T i (part T.words.deployment (T.sites i)))
+    → ((T : LogState) → LogsHold T → 0 < site_start T i → leads T.words.deployment i (T.sites i) ≡ true → LogsGo T i (part T.words.deployment (T.sites i)))
     → 0 < s.start → leads S.words.deployment i s ≡ true → GoesFrom S i s (part S.words.deployment s)
 authoritative-from S i s part goes up authoritative T here same pending H =
-    subst (λ D. Goes T i (part D s)) same (subst (λ x. Goes T i (part T.words.deployment x)) here
+    subst (λ D. LogsGo T i (part D s)) same (subst (λ x. LogsGo T i (part T.words.deployment x)) here
     (goes T H (subst (λ x. 0 < x.start) (sym here) up) (subst (λ D. leads D i (T.sites i) ≡ true) (sym same) (subst (λ x. leads S.words.deployment i x ≡ true) (sym here) authoritative))))
 
 -- ---- answers that are held
 
 -- an answer to an agent
-held-goes : (S : LogState) (i h : ℕ) (l : Letter) → HeldFor (Agent h) l → Holds S → Goes S i (becomes (holds (S.sites i) (Agent h) l))
+held-goes : (S : LogState) (i h : ℕ) (l : Letter) → HeldFor (Agent h) l → LogsHold S → LogsGo S i (becomes (holds (S.sites i) (Agent h) l))
 held-goes S i h l k H = inert-becomes S i (holds (S.sites i) (Agent h) l) H
     (unwatched (S.sites i) (holds (S.sites i) (Agent h) l)
     (λ old. all-append HeldOk (S.sites i).held (record { position = length (S.sites i).log + 1; to = Agent h; letter = l } ∷ []) old (k, tt)))
 
 -- ---- calls
 
-pub run-goes : (E : Database) (stamp : ℕ) (c : AskedCall) (T : LogState) (i : ℕ) → Holds T → 0 < start_at T i → leads T.words.deployment i (T.sites i) ≡ true
-    → Goes T i (runs_call E T.words.deployment i stamp c (T.sites i))
+pub run-goes : (E : Database) (stamp : ℕ) (c : AskedCall) (T : LogState) (i : ℕ) → LogsHold T → 0 < site_start T i → leads T.words.deployment i (T.sites i) ≡ true
+    → LogsGo T i (runs_call E T.words.deployment i stamp c (T.sites i))
 run-goes E stamp c T i H up authoritative =
     let e = Sp c.call stamp c.body in
     let reply = letter_to c.start (msg.Reply c.call c.start (end_of_reply (answer_behind E (part_of_slot T.words.deployment i) (T.sites i).log e))) in
@@ -57,8 +57,8 @@ run-on E D stamp i c s authoritative =
     let e = Sp c.call stamp c.body in
     leads-on E D i e (holds s (Agent c.host) (letter_to c.start (msg.Reply c.call c.start (end_of_reply (answer_behind E (part_of_slot D i) s.log e))))) authoritative
 
-pub runs-goes : (E : Database) (stamp : ℕ) (cs : List AskedCall) (T : LogState) (i : ℕ) → Holds T → 0 < start_at T i → leads T.words.deployment i (T.sites i) ≡ true
-    → Goes T i (runs_calls E T.words.deployment i stamp cs (T.sites i))
+pub runs-goes : (E : Database) (stamp : ℕ) (cs : List AskedCall) (T : LogState) (i : ℕ) → LogsHold T → 0 < site_start T i → leads T.words.deployment i (T.sites i) ≡ true
+    → LogsGo T i (runs_calls E T.words.deployment i stamp cs (T.sites i))
 runs-goes E stamp [] T i H up authoritative = goes-same T i H
 runs-goes E stamp (c ∷ cs) T i H up authoritative =
     let g = run-goes E stamp c T i H up authoritative in
@@ -67,11 +67,11 @@ runs-goes E stamp (c ∷ cs) T i H up authoritative =
     (subst (λ x. 0 < x) (sym g.start) up) (run-on E T.words.deployment stamp i c (T.sites i) authoritative))
 
 -- A leader runs those that wait; any other site waits.
-pub works-goes : (E : Database) (T : LogState) (i stamp : ℕ) → Holds T → 0 < start_at T i → Goes T i (works_calls E T.words.deployment i stamp (T.sites i))
+pub works-goes : (E : Database) (T : LogState) (i stamp : ℕ) → LogsHold T → 0 < site_start T i → LogsGo T i (works_calls E T.words.deployment i stamp (T.sites i))
 works-goes E T i stamp H up = choice (leads T.words.deployment i (T.sites i) && nothing_open (T.sites i).log) refl
   where
     choice : (b : Bool) → (leads T.words.deployment i (T.sites i) && nothing_open (T.sites i).log) ≡ b
-        → Goes T i (if b then runs_calls E T.words.deployment i stamp (T.sites i).calls (record (T.sites i) { calls = [] }) else becomes (T.sites i))
+        → LogsGo T i (if b then runs_calls E T.words.deployment i stamp (T.sites i).calls (record (T.sites i) { calls = [] }) else becomes (T.sites i))
     choice false q = goes-same T i H
     choice true q = goes-then T i (becomes (record (T.sites i) { calls = [] })) (runs_calls E T.words.deployment i stamp (T.sites i).calls) (calls-goes T i [] H)
         (authoritative-from T i (record (T.sites i) { calls = [] }) (λ D. runs_calls E D i stamp (T.sites i).calls) (λ S. runs-goes E stamp (T.sites i).calls S i) up
@@ -81,8 +81,8 @@ works-goes E T i stamp H up = choice (leads T.words.deployment i (T.sites i) && 
 works-from : (E : Database) (stamp : ℕ) (S : LogState) (i : ℕ) (s : SiteState) → 0 < s.start → GoesFrom S i s (works_calls E S.words.deployment i stamp s)
 works-from E stamp S i s up = part-from S i s (λ D. works_calls E D i stamp) (λ T. works-goes E T i stamp) up
 
-pub on_sp_call-goes : (E : Database) (T : LogState) → Holds T → (i stamp host call start : ℕ) (body : List ℕ) → 0 < start_at T i
-    → Goes T i (on_sp_call E T.words.deployment i stamp (T.sites i) host call start body)
+pub on_sp_call-goes : (E : Database) (T : LogState) → LogsHold T → (i stamp host call start : ℕ) (body : List ℕ) → 0 < site_start T i
+    → LogsGo T i (on_sp_call E T.words.deployment i stamp (T.sites i) host call start body)
 on_sp_call-goes E T H i stamp host call start body up =
     let calls = (T.sites i).calls ++ record { call = call; host = host; start = start; body = body } ∷ [] in
     goes-then T i (becomes (record (T.sites i) { calls = calls })) (works_calls E T.words.deployment i stamp) (calls-goes T i calls H)
@@ -92,15 +92,15 @@ on_sp_call-goes E T H i stamp host call start body up =
 
 -- A leader appends the entry, and holds the answer to it for the initiator.
 entry-goes : (E : Database) (T : LogState) (i : ℕ) (e : Entry) (first : Option (ℕ × ℕ)) (m : Msg Blocks) → ((h term start : ℕ) → HeldFor (Agent h) (letter_in term start m))
-    → Holds T → 0 < start_at T i → leads T.words.deployment i (T.sites i) ≡ true → Goes T i (leads_with E T.words.deployment i e (holds_for (T.sites i) first m))
+    → LogsHold T → 0 < site_start T i → leads T.words.deployment i (T.sites i) ≡ true → LogsGo T i (leads_with E T.words.deployment i e (holds_for (T.sites i) first m))
 entry-goes E T i e None m k H up authoritative = leads-goes E T i e H up authoritative
 entry-goes E T i e (Some first) m k H up authoritative =
     let l = letter_in (site_term (T.sites i)) first.1 m in
     goes-then T i (becomes (holds (T.sites i) (Agent first.0) l)) (leads_with E T.words.deployment i e) (held-goes T i first.0 l (k first.0 (site_term (T.sites i)) first.1) H)
     (authoritative-from T i (holds (T.sites i) (Agent first.0) l) (λ D. leads_with E D i e) (λ S. leads-goes E S i e) up authoritative)
 
-pub on_frag-goes : (E : Database) (T : LogState) → Holds T → (i m round : ℕ) (body : List ℕ) → 0 < start_at T i
-    → Goes T i (on_frag E T.words.deployment i (T.sites i) m round body)
+pub on_frag-goes : (E : Database) (T : LogState) → LogsHold T → (i m round : ℕ) (body : List ℕ) → 0 < site_start T i
+    → LogsGo T i (on_frag E T.words.deployment i (T.sites i) m round body)
 on_frag-goes E T H i m round body up = choice (leads T.words.deployment i (T.sites i)) refl
   where
     e : Entry
@@ -110,17 +110,17 @@ on_frag-goes E T H i m round body up = choice (leads T.words.deployment i (T.sit
     partial = answer_behind E (part_of_slot T.words.deployment i) (T.sites i).log e
 
     choice : (b : Bool) → leads T.words.deployment i (T.sites i) ≡ b
-        → Goes T i (if b then leads_with E T.words.deployment i e (holds_for (T.sites i) (initiator_in (T.sites i).view) (msg.FragDone m round partial)) else becomes (T.sites i))
+        → LogsGo T i (if b then leads_with E T.words.deployment i e (holds_for (T.sites i) (initiator_in (T.sites i).view) (msg.FragDone m round partial)) else becomes (T.sites i))
     choice false q = goes-same T i H
     choice true q = entry-goes E T i e (initiator_in (T.sites i).view) (msg.FragDone m round partial) (λ h term start. tt) H up q
 
-pub on_done-goes : (E : Database) (T : LogState) → Holds T → (i stamp m : ℕ) (o : Outcome) → 0 < start_at T i → Goes T i (on_done E T.words.deployment i stamp (T.sites i) m o)
+pub on_done-goes : (E : Database) (T : LogState) → LogsHold T → (i stamp m : ℕ) (o : Outcome) → 0 < site_start T i → LogsGo T i (on_done E T.words.deployment i stamp (T.sites i) m o)
 on_done-goes E T H i stamp m o up = choice (leads T.words.deployment i (T.sites i)) refl
   where
     t : Turn SiteState
     t = leads_with E T.words.deployment i (Done m o) (holds_for (T.sites i) (initiator_in (T.sites i).view) (msg.Finished m))
 
-    choice : (b : Bool) → leads T.words.deployment i (T.sites i) ≡ b → Goes T i (if b then t ▸ works_calls E T.words.deployment i stamp else becomes (T.sites i))
+    choice : (b : Bool) → leads T.words.deployment i (T.sites i) ≡ b → LogsGo T i (if b then t ▸ works_calls E T.words.deployment i stamp else becomes (T.sites i))
     choice false q = goes-same T i H
     choice true q =
         let g = entry-goes E T i (Done m o) (initiator_in (T.sites i).view) (msg.Finished m) (λ h term start. tt) H up q in

@@ -14,17 +14,17 @@ use Rattle.cluster_model.specs.Letters.{Sends}
 use Rattle.cluster_model.specs.Site.{leads_with}
 use Rattle.cluster_steps.specs.Lists.{In, Prefix}
 use Rattle.cluster_steps.proofs.Lists.{all-append, not-both, same-some, none-and-some, all-at, set-both}
-use Rattle.log_laws.specs.Histories.{LogState, Logs, Leadership, Line, Repairs, Puts, Flow, Begins, Follows, FollowsIn, LeadsIn, Coming, Took, Inert, InWord, JoinerOk, MemberOk, CountedOk, IsCounted, IsSlot, SiteLetterOk, ForeignOk, ToldOk, BeginsAt, Holds, follows, line, flow, ends, asked, asks_in, asks_waiting, asks_of_term, between, part, start_at, log_at, term_at}
+use Rattle.log_laws.specs.Histories.{LogState, Logs, Leadership, Line, Repairs, Puts, Flow, Begins, Follows, FollowsIn, LeadsIn, Coming, Took, Inert, InWord, JoinerOk, MemberOk, CountedOk, IsCounted, IsSlot, SiteLetterOk, ForeignOk, ToldOk, BeginsAt, LogsHold, follows, line, flow, stream_ends_in, asked, asks_in, asks_waiting, asks_of_term, between, part, site_start, log_at, term_at}
 use Rattle.log_laws.proofs.Plain.Lines.{line-append, line-same, flow-append, flow-same, ends-same, puts-append, follows-append}
 use Rattle.cluster_steps.proofs.Sends.{put_letter, task_letter}
 use Rattle.log_laws.proofs.Plain.Copies.{leader-follows-none, is-leader, start-in-view, other-copy, copy-other, follows-part, follows-one, leader-followed}
 use Rattle.cluster_steps.proofs.Leaders.{leads-parts, leader-view}
-use Rattle.log_laws.proofs.Kept.Moves.{Grown, Later, SameLeaderships, NoStreamStart, Goes, after}
+use Rattle.log_laws.proofs.Kept.Moves.{Grown, LogsLater, SameLeaderships, NoStreamStart, LogsGo, after_site}
 use Rattle.log_laws.proofs.Kept.Grown.{grown-at, enters-same}
 use Rattle.log_laws.proofs.Kept.Plumbing.{sent-either, here, there, between-here, between-there}
 use Rattle.log_laws.proofs.Kept.Terms.{same-word, some-term, leadership-entered, took-decided, took-unnamed}
 use Rattle.log_laws.proofs.Kept.Asked.{at-most-is}
-use Rattle.log_laws.proofs.Kept.Keeps.{Still, SameFrom, SameTerm, SameRun, Uncounted, still-same, member-keeps-from, counted-from, inert-keeps, coming-keeps, took-keeps, in_word-keeps-with, joiner-keeps-with}
+use Rattle.log_laws.proofs.Kept.Keeps.{SiteStays, SameFrom, SameTerm, SameRun, Uncounted, still-same, member-keeps-from, counted-from, inert-keeps, coming-keeps, took-keeps, in_word-keeps-with, joiner-keeps-with}
 use Rattle.log_laws.proofs.Kept.Turned.{put_at, put-both, put-here, put-there}
 use Rattle.log_laws.proofs.Kept.Growing.{Carries, grew-later, grew-member, grew-holds}
 use Rattle.cluster_steps.proofs.Prefixes.{prefix-append, prefix-length}
@@ -61,7 +61,7 @@ pub record Leading (T : LogState) (i : ℕ) : Type 0 where
   pub led : T.logs.leadership (part T i) (term_of word) ≡ Some leadership
   pub log : log_at T i ≡ leadership.log
 
-pub leading : (T : LogState) (i : ℕ) → Holds T → 0 < start_at T i → leads T.words.deployment i (T.sites i) ≡ true → Leading T i
+pub leading : (T : LogState) (i : ℕ) → LogsHold T → 0 < site_start T i → leads T.words.deployment i (T.sites i) ≡ true → Leading T i
 leading T i H up authoritative = begun (T.logs.leadership (part T i) (term_of m.0)) refl (m.2.leading first)
   where
     s : SiteState
@@ -114,10 +114,10 @@ follows-longer s ln g e (inr (es, unrepaired, line_is, log_is)) = inr (
 -- ---- the state behind it
 
 -- nothing is under way to a joiner, or a stream
-abbrev Comes : LogState → ℕ → ℕ → Membership → ℕ → Type 0
-Comes S a c w l = Inert S c w l ⊎ (Coming S c w (flow a (term_of w) (between S l c)) × (asked S c l (term_of w) ≡ []))
+abbrev ComesNext : LogState → ℕ → ℕ → Membership → ℕ → Type 0
+ComesNext S a c w l = Inert S c w l ⊎ (Coming S c w (flow a (term_of w) (between S l c)) × (asked S c l (term_of w) ≡ []))
 
-module _ (T : LogState) (i : ℕ) (e : Entry) (H : Holds T) (up : 0 < start_at T i) (k : Leading T i) (scans : ℕ) (scanning : Option Scanning) (out : Sends)
+module _ (T : LogState) (i : ℕ) (e : Entry) (H : LogsHold T) (up : 0 < site_start T i) (k : Leading T i) (scans : ℕ) (scanning : Option Scanning) (out : Sends)
     (passed : Passed T.words.deployment i e (grown (T.sites i) (e ∷ []) scans scanning) out) where
   abbrev state : SiteState
   state = grown (T.sites i) (e ∷ []) scans scanning
@@ -126,7 +126,7 @@ module _ (T : LogState) (i : ℕ) (e : Entry) (H : Holds T) (up : 0 < start_at T
   logs = record T.logs { leadership = put_at T.logs.leadership (part T i) (term_of k.word) (Some (longer k.leadership e)) }
 
   abbrev next : LogState
-  next = after T i state out logs
+  next = after_site T i state out logs
 
   -- where it has no term but its own
   term-is : (t : ℕ) → site_term state ≡ t → t ≡ term_of k.word
@@ -139,7 +139,7 @@ module _ (T : LogState) (i : ℕ) (e : Entry) (H : Holds T) (up : 0 < start_at T
 
   -- ---- what only grows
 
-  later : Later T next
+  later : LogsLater T next
   later = grew-later T H i (e ∷ []) (T.sites i).floor (T.sites i).repaired (T.sites i).owes scans scanning next.words.channel logs.leadership
 
   same-leaderships : SameLeaderships T.logs logs
@@ -178,21 +178,21 @@ module _ (T : LogState) (i : ℕ) (e : Entry) (H : Holds T) (up : 0 < start_at T
 
   -- one that follows the leader in its term gets the entry
   copy-gets : (c : ℕ) → (c ≡ i → ⊥) → part T c ≡ part T i → MemberOk T c k.word
-      → FollowsIn (T.sites c) (line (start_at T c) (term_of k.word) (between T i c)) (T.logs.leadership (part T c) (term_of k.word))
-      → FollowsIn (T.sites c) (line (start_at T c) (term_of k.word) (between next i c)) (logs.leadership (part T c) (term_of k.word))
+      → FollowsIn (T.sites c) (line (site_start T c) (term_of k.word) (between T i c)) (T.logs.leadership (part T c) (term_of k.word))
+      → FollowsIn (T.sites c) (line (site_start T c) (term_of k.word) (between next i c)) (logs.leadership (part T c) (term_of k.word))
   copy-gets c other p m old = rw (ln, leadership-own c p)
-      (follows-longer (T.sites c) (line (start_at T c) (term_of k.word) (between T i c)) k.leadership e
-      (subst (λ r. FollowsIn (T.sites c) (line (start_at T c) (term_of k.word) (between T i c)) r) (leadership-before c p) old))
+      (follows-longer (T.sites c) (line (site_start T c) (term_of k.word) (between T i c)) k.leadership e
+      (subst (λ r. FollowsIn (T.sites c) (line (site_start T c) (term_of k.word) (between T i c)) r) (leadership-before c p) old))
     where
-      got : line (start_at T c) (term_of k.word) (out (Site c)) ≡ Puts e ∷ []
-      got = passed-line T.words.deployment i e state out passed c (start_at T c) (term_of k.word)
-          (copy-other T.words.deployment i state k.word k.view c (start_at T c) other p m.start_is)
-          (start-in-view T.words.deployment i state k.word k.view c (start_at T c) m.start_is) (ap term_in k.view)
+      got : line (site_start T c) (term_of k.word) (out (Site c)) ≡ Puts e ∷ []
+      got = passed-line T.words.deployment i e state out passed c (site_start T c) (term_of k.word)
+          (copy-other T.words.deployment i state k.word k.view c (site_start T c) other p m.start_is)
+          (start-in-view T.words.deployment i state k.word k.view c (site_start T c) m.start_is) (ap term_in k.view)
 
-      ln : line (start_at T c) (term_of k.word) (between next i c) ≡ line (start_at T c) (term_of k.word) (between T i c) ++ Puts e ∷ []
-      ln = ap (line (start_at T c) (term_of k.word)) (between-here T i state out logs c)
-          ∙ line-append (start_at T c) (term_of k.word) (between T i c) (out (Site c))
-          ∙ ap (λ x. line (start_at T c) (term_of k.word) (between T i c) ++ x) got
+      ln : line (site_start T c) (term_of k.word) (between next i c) ≡ line (site_start T c) (term_of k.word) (between T i c) ++ Puts e ∷ []
+      ln = ap (line (site_start T c) (term_of k.word)) (between-here T i state out logs c)
+          ∙ line-append (site_start T c) (term_of k.word) (between T i c) (out (Site c))
+          ∙ ap (λ x. line (site_start T c) (term_of k.word) (between T i c) ++ x) got
 
   -- and no other does
   copy-none : (c start t : ℕ) → (part T c ≡ part T i → t ≡ term_of k.word → ⊥) → line start t (between next i c) ≡ line start t (between T i c)
@@ -201,18 +201,18 @@ module _ (T : LogState) (i : ℕ) (e : Entry) (H : Holds T) (up : 0 < start_at T
 
   copy-keeps : (c : ℕ) → (c ≡ i → ⊥) → (w : Membership) → MemberOk T c w → MemberOk next c w
   copy-keeps c other w m = member-keeps-from T next H later c (still-same (T.sites c) (next.sites c) (there T i state out logs c other)) i w m
-      (λ l n. ap (line (start_at T c) (term_of w)) (between-there T i state out logs l c n))
+      (λ l n. ap (line (site_start T c) (term_of w)) (between-there T i state out logs l c n))
       (λ f. leadership-apart c (term_of w) (apart c other w m.decided f))
       (λ f old. mine f old)
-      (λ f old. copy-none c (start_at T c) (term_of w) (apart c other w m.decided f) ∙ old)
+      (λ f old. copy-none c (site_start T c) (term_of w) (apart c other w m.decided f) ∙ old)
     where
-      mine : follows T.words.deployment w c i ≡ true → FollowsIn (T.sites c) (line (start_at T c) (term_of w) (between T i c)) (T.logs.leadership (part T c) (term_of w))
-          → FollowsIn (T.sites c) (line (start_at T c) (term_of w) (between next i c)) (logs.leadership (part T c) (term_of w))
+      mine : follows T.words.deployment w c i ≡ true → FollowsIn (T.sites c) (line (site_start T c) (term_of w) (between T i c)) (T.logs.leadership (part T c) (term_of w))
+          → FollowsIn (T.sites c) (line (site_start T c) (term_of w) (between next i c)) (logs.leadership (part T c) (term_of w))
       mine f old = elim (cases_eq (term_of w) (term_of k.word)) [
-        | inl t ↦ subst (λ v. MemberOk T c v → FollowsIn (T.sites c) (line (start_at T c) (term_of v) (between T i c)) (T.logs.leadership (part T c) (term_of v))
-            → FollowsIn (T.sites c) (line (start_at T c) (term_of v) (between next i c)) (logs.leadership (part T c) (term_of v)))
+        | inl t ↦ subst (λ v. MemberOk T c v → FollowsIn (T.sites c) (line (site_start T c) (term_of v) (between T i c)) (T.logs.leadership (part T c) (term_of v))
+            → FollowsIn (T.sites c) (line (site_start T c) (term_of v) (between next i c)) (logs.leadership (part T c) (term_of v)))
             (sym (word-is w m.decided t)) (copy-gets c other (sym (follows-part T.words.deployment w c i f))) m old
-        | inr n ↦ rw (copy-none c (start_at T c) (term_of w) (λ _ t. n t), leadership-apart c (term_of w) (λ _ t. n t)) old
+        | inr n ↦ rw (copy-none c (site_start T c) (term_of w) (λ _ t. n t), leadership-apart c (term_of w) (λ _ t. n t)) old
       ]
 
   -- ---- joiners
@@ -229,12 +229,12 @@ module _ (T : LogState) (i : ℕ) (e : Entry) (H : Holds T) (up : 0 < start_at T
     | inr n ↦ ap (flow start term) (between-there T i state out logs l c n)
   ]
 
-  ends-else : (c start term l : ℕ) → ends start term (between next l c) ≡ ends start term (between T l c)
+  ends-else : (c start term l : ℕ) → stream_ends_in start term (between next l c) ≡ stream_ends_in start term (between T l c)
   ends-else c start term l = elim (cases_eq l i) [
-    | inl q ↦ subst (λ x. ends start term (between next x c) ≡ ends start term (between T x c)) (sym q)
-        (ap (ends start term) (between-here T i state out logs c)
+    | inl q ↦ subst (λ x. stream_ends_in start term (between next x c) ≡ stream_ends_in start term (between T x c)) (sym q)
+        (ap (stream_ends_in start term) (between-here T i state out logs c)
         ∙ ends-same start term (between T i c) (out (Site c)) (passed-ends T.words.deployment i e state out passed c start term))
-    | inr n ↦ ap (ends start term) (between-there T i state out logs l c n)
+    | inr n ↦ ap (stream_ends_in start term) (between-there T i state out logs l c n)
   ]
 
   -- nobody asks, and what was asked is kept
@@ -246,27 +246,27 @@ module _ (T : LogState) (i : ℕ) (e : Entry) (H : Holds T) (up : 0 < start_at T
       ≡ asks_in t (between T c l) ++ asks_waiting c t (T.sites h).waiting ++ asks_waiting c t (T.pending l) ++ asks_of_term c t (T.sites h)) T.sites i state refl (λ h n. refl) l
 
   -- who follows nobody of its term, or isn't counted, sees nothing of it
-  same-from : (c l t : ℕ) → (c ≡ i → ⊥) → (l ≡ i → line (start_at T c) t (out (Site c)) ≡ []) → (l ≡ i → flow (start_at T c) t (out (Site c)) ≡ []) → SameFrom T next c l t
+  same-from : (c l t : ℕ) → (c ≡ i → ⊥) → (l ≡ i → line (site_start T c) t (out (Site c)) ≡ []) → (l ≡ i → flow (site_start T c) t (out (Site c)) ≡ []) → SameFrom T next c l t
   same-from c l t other no-line no-flow = record {
-    lines = line-else c (start_at T c) t l no-line;
-    flows = flow-else c (start_at T c) t l no-flow;
-    ends = λ z. ends-else c (start_at T c) t l ∙ z;
+    lines = line-else c (site_start T c) t l no-line;
+    flows = flow-else c (site_start T c) t l no-flow;
+    ends = λ z. ends-else c (site_start T c) t l ∙ z;
     asks = at-most-is (asked T c l t) (asked next c l t) (asked-same c l t other);
-    uncounted = set-both (λ h s. Uncounted T h c (start_at T c) → (j : Joiner) → In j s.joiners → j.slot ≡ c → j.start ≡ start_at T c → ⊥)
+    uncounted = set-both (λ h s. Uncounted T h c (site_start T c) → (j : Joiner) → In j s.joiners → j.slot ≡ c → j.start ≡ site_start T c → ⊥)
         T.sites i state (λ f. f) (λ h n f. f) l;
   }
 
   -- no Put is for a joiner's start
-  joiner-line : (c : ℕ) (w : Membership) (j : Joining) → InWord T c w j → line (start_at T c) (term_of w) (out (Site c)) ≡ []
-  joiner-line c w j k' = passed-line-other T.words.deployment i e state out passed c (start_at T c) (term_of w) (λ is a t.
+  joiner-line : (c : ℕ) (w : Membership) (j : Joining) → InWord T c w j → line (site_start T c) (term_of w) (out (Site c)) ≡ []
+  joiner-line c w j k' = passed-line-other T.words.deployment i e state out passed c (site_start T c) (term_of w) (λ is a t.
       let m = copy-in c is in
-      took-unnamed T H (start_at T c) k.word c
-      (subst (λ v. T.words.history.took (start_at T c) ≡ Some v) (word-is w (took-decided T H (start_at T c) w k'.took) (term-is (term_of w) t)) k'.took)
+      took-unnamed T H (site_start T c) k.word c
+      (subst (λ v. T.words.history.took (site_start T c) ≡ Some v) (word-is w (took-decided T H (site_start T c) w k'.took) (term-is (term_of w) t)) k'.took)
       (m.2.1 ∙ ap Some (sym (start-in-view T.words.deployment i state k.word k.view c m.2.0 m.2.1) ∙ a)))
 
   -- a Task is for one that is counted
-  uncounted-flow : (c t : ℕ) → (Uncounted T i c (start_at T c) ⊎ (part T c ≡ part T i → t ≡ term_of k.word → ⊥)) → flow (start_at T c) t (out (Site c)) ≡ []
-  uncounted-flow c t n = passed-flow-other T.words.deployment i e state out passed c (start_at T c) t (λ j is q a x. elim n [
+  uncounted-flow : (c t : ℕ) → (Uncounted T i c (site_start T c) ⊎ (part T c ≡ part T i → t ≡ term_of k.word → ⊥)) → flow (site_start T c) t (out (Site c)) ≡ []
+  uncounted-flow c t n = passed-flow-other T.words.deployment i e state out passed c (site_start T c) t (λ j is q a x. elim n [
     | inl u ↦ u j is q a
     | inr u ↦ u (counted-part c j is q) (term-is t x)
   ])
@@ -300,7 +300,7 @@ module _ (T : LogState) (i : ℕ) (e : Entry) (H : Holds T) (up : 0 < start_at T
     run : SameRun T next c
     run = record { entered = λ t x is start. is; streamed = λ t x is start. is }
 
-    site : Still (T.sites c) (next.sites c)
+    site : SiteStays (T.sites c) (next.sites c)
     site = still-same (T.sites c) (next.sites c) (there T i state out logs c other)
 
     -- where nothing is for it
@@ -308,17 +308,17 @@ module _ (T : LogState) (i : ℕ) (e : Entry) (H : Holds T) (up : 0 < start_at T
     same-term t n = record { leadership = leadership-apart c t n; reach = refl }
 
     coming-else : (w : Membership) (l : ℕ) → SameTerm T next (part T c) (term_of w) → SameFrom T next c l (term_of w)
-        → Comes T (start_at T c) c w l → Comes next (start_at T c) c w l
+        → ComesNext T (site_start T c) c w l → ComesNext next (site_start T c) c w l
     coming-else w l same from (inl q) = inl (inert-keeps T next H later c site w l from q)
     coming-else w l same from (inr q) = inr (
       subst (Coming next c w) (sym from.flows)
-          (coming-keeps T next H later c site w (flow (start_at T c) (term_of w) (between T l c)) same (λ stream_start. still-counted c (start_at T c) stream_start w) q.0),
+          (coming-keeps T next H later c site w (flow (site_start T c) (term_of w) (between T l c)) same (λ stream_start. still-counted c (site_start T c) stream_start w) q.0),
       asked-same c l (term_of w) other ∙ q.1,
     )
 
     -- to one in the leader's term the entry comes, if a stream does
-    coming-own : part T c ≡ part T i → line (start_at T c) (term_of k.word) (out (Site c)) ≡ []
-        → Comes T (start_at T c) c k.word i → Comes next (start_at T c) c k.word i
+    coming-own : part T c ≡ part T i → line (site_start T c) (term_of k.word) (out (Site c)) ≡ []
+        → ComesNext T (site_start T c) c k.word i → ComesNext next (site_start T c) c k.word i
     coming-own p none (inl q) = inl (inert-keeps T next H later c site k.word i
         (same-from c i (term_of k.word) other (λ _. none) (λ _. uncounted-flow c (term_of k.word) (inl q.uncounted))) q)
     coming-own p none (inr (q, asks)) = inr (
@@ -326,21 +326,21 @@ module _ (T : LogState) (i : ℕ) (e : Entry) (H : Holds T) (up : 0 < start_at T
         past = q.past;
         more = q.more ++ e ∷ [];
         leadership = longer k.leadership e;
-        flow_is = longer-flow c (start_at T c) (length q.past) (Begins q.past (length q.past) ∷ []) q.more p q.counted q.flow_is;
+        flow_is = longer-flow c (site_start T c) (length q.past) (Begins q.past (length q.past) ∷ []) q.more p q.counted q.flow_is;
         led = leadership-own c p;
         whole = longer-log c q.past q.more q.leadership p q.led q.whole;
         behind = subst (λ g. length g.begun ≤ length q.past) (same-some (sym q.led ∙ leadership-before c p)) q.behind;
         reach = q.reach;
-        counted = subst (λ a. IsCounted next c a (length q.past) k.word) (sym site.start) (still-counted c (start_at T c) (length q.past) k.word q.counted);
+        counted = subst (λ a. IsCounted next c a (length q.past) k.word) (sym site.start) (still-counted c (site_start T c) (length q.past) k.word q.counted);
       },
       asked-same c i (term_of k.word) other ∙ asks,
     )
 
     took-own : (j : Joining) (stream_start : ℕ) → InWord T c k.word j → part T c ≡ part T i → Took T c k.word j stream_start → Took next c k.word j stream_start
     took-own j stream_start word p q =
-        let old = H.streamed c (term_of k.word) (record { start = start_at T c; stream_start = stream_start }) q.streamed in
-        let counted : IsCounted T c (start_at T c) stream_start k.word =
-        subst (λ v. IsCounted T c (start_at T c) stream_start v) (same-some (sym old.took ∙ word.took)) old.counted in
+        let old = H.streamed c (term_of k.word) (record { start = site_start T c; stream_start = stream_start }) q.streamed in
+        let counted : IsCounted T c (site_start T c) stream_start k.word =
+        subst (λ v. IsCounted T c (site_start T c) stream_start v) (same-some (sym old.took ∙ word.took)) old.counted in
         let is : q.from ≡ i = follows-one T.words.deployment k.word c q.from i q.following (leader-followed T.words.deployment k.word i c k.first p other) in
         record {
           from = i;
@@ -349,7 +349,7 @@ module _ (T : LogState) (i : ℕ) (e : Entry) (H : Holds T) (up : 0 < start_at T
           leadership = longer k.leadership e;
           led = leadership-own c p;
           flow_is = ap (λ a. flow a (term_of k.word) (between next i c)) site.start
-              ∙ longer-flow c (start_at T c) stream_start [] q.more p counted (subst (λ l. flow (start_at T c) (term_of k.word) (between T l c) ≡ map Follows q.more) is q.flow_is);
+              ∙ longer-flow c (site_start T c) stream_start [] q.more p counted (subst (λ l. flow (site_start T c) (term_of k.word) (between T l c) ≡ map Follows q.more) is q.flow_is);
           whole = rw site.log (longer-log c (log_at T c ++ j.tasks) q.more q.leadership p q.led q.whole);
           streamed = q.streamed ∙ ap (λ a. Some (record { start = a; stream_start = stream_start })) (sym site.start);
           loading = λ x. rw site.log (q.loading x);
@@ -376,11 +376,11 @@ module _ (T : LogState) (i : ℕ) (e : Entry) (H : Holds T) (up : 0 < start_at T
 
     in_word-keeps : (w : Membership) (j : Joining) → InWord T c w j → InWord next c w j
     in_word-keeps w j m = in_word-keeps-with T next H later c site w j run
-        (λ l z. line-else c (start_at T c) (term_of w) l (λ _. joiner-line c w j m) ∙ z)
+        (λ l z. line-else c (site_start T c) (term_of w) l (λ _. joiner-line c w j m) ∙ z)
         (λ l f z n. (
-          flow-else c (start_at T c) (term_of w) l (λ q. uncounted-flow c (term_of w) (inr (apart c other w decided
+          flow-else c (site_start T c) (term_of w) l (λ q. uncounted-flow c (term_of w) (inr (apart c other w decided
               (subst (λ x. follows T.words.deployment w c x ≡ false) q f)))) ∙ z,
-          ends-else c (start_at T c) (term_of w) l ∙ n,
+          ends-else c (site_start T c) (term_of w) l ∙ n,
         ))
         (λ l. at-most-is (asked T c l (term_of w)) (asked next c l (term_of w)) (asked-same c l (term_of w) other))
         (λ l f low. comes l f (joiner-word w decided))
@@ -388,14 +388,14 @@ module _ (T : LogState) (i : ℕ) (e : Entry) (H : Holds T) (up : 0 < start_at T
         m
       where
         decided : In w T.words.history.decided
-        decided = took-decided T H (start_at T c) w m.took
+        decided = took-decided T H (site_start T c) w m.took
 
         comes : (l : ℕ) → follows T.words.deployment w c l ≡ true → ((part T c ≡ part T i) × (w ≡ k.word)) ⊎ (part T c ≡ part T i → term_of w ≡ term_of k.word → ⊥)
-            → Comes T (start_at T c) c w l → Comes next (start_at T c) c w l
+            → ComesNext T (site_start T c) c w l → ComesNext next (site_start T c) c w l
         comes l f (inr n) = coming-else w l (same-term (term_of w) n)
             (same-from c l (term_of w) other (λ _. joiner-line c w j m) (λ _. uncounted-flow c (term_of w) (inr n)))
-        comes l f (inl (p, q)) = subst (λ v. line (start_at T c) (term_of v) (out (Site c)) ≡ [] → Comes T (start_at T c) c v l → Comes next (start_at T c) c v l) (sym q)
-            (subst (λ x. line (start_at T c) (term_of k.word) (out (Site c)) ≡ [] → Comes T (start_at T c) c k.word x → Comes next (start_at T c) c k.word x)
+        comes l f (inl (p, q)) = subst (λ v. line (site_start T c) (term_of v) (out (Site c)) ≡ [] → ComesNext T (site_start T c) c v l → ComesNext next (site_start T c) c v l) (sym q)
+            (subst (λ x. line (site_start T c) (term_of k.word) (out (Site c)) ≡ [] → ComesNext T (site_start T c) c k.word x → ComesNext next (site_start T c) c k.word x)
             (sym (not-its l p (subst (λ v. follows T.words.deployment v c l ≡ true) q f))) (coming-own p)) (joiner-line c w j m)
 
         took : (stream_start : ℕ) → ((part T c ≡ part T i) × (w ≡ k.word)) ⊎ (part T c ≡ part T i → term_of w ≡ term_of k.word → ⊥) → Took T c w j stream_start → Took next c w j stream_start
@@ -413,15 +413,15 @@ module _ (T : LogState) (i : ℕ) (e : Entry) (H : Holds T) (up : 0 < start_at T
       k.word k.repaired k.member.floor
       (λ _. subst (λ r. LeadsIn state r) (sym (leadership-own i refl)) (k.repaired, ap (λ log. log ++ e ∷ []) k.log))
       (λ l f. absurd (not-both (follows T.words.deployment k.word i l) f (leader-follows-none T.words.deployment k.word i l k.first)))
-      (λ l f. line-else i (start_at T i) (term_of k.word) l (λ _. passed-line-other T.words.deployment i e state out passed i (start_at T i) (term_of k.word)
+      (λ l f. line-else i (site_start T i) (term_of k.word) l (λ _. passed-line-other T.words.deployment i e state out passed i (site_start T i) (term_of k.word)
       (λ is _ _. (copy-in i is).0 refl)) ∙ k.member.others l f)
       k.member
 
   -- ---- its messages
 
   -- who is told has been in the term
-  reached : (c x a : ℕ) → x ≡ a → 0 < a → In a (T.logs.ran c) → (start_at T c ≡ a → term_of k.word ≤ term_at T c)
-      → ((0 < x) × (0 < site_term state)) × In x (T.logs.ran c) × (start_at T c ≡ x → site_term state ≤ term_at T c)
+  reached : (c x a : ℕ) → x ≡ a → 0 < a → In a (T.logs.ran c) → (site_start T c ≡ a → term_of k.word ≤ term_at T c)
+      → ((0 < x) × (0 < site_term state)) × In x (T.logs.ran c) × (site_start T c ≡ x → site_term state ≤ term_at T c)
   reached c x a q some ran there = rw (q, ap term_in k.view) ((some, some-term T H k.word k.member.decided), ran, there)
 
   some-put : (c : ℕ) → IsSlot T c → is_in c (other_copies T.words.deployment i state) ≡ true
@@ -466,7 +466,7 @@ module _ (T : LogState) (i : ℕ) (e : Entry) (H : Holds T) (up : 0 < start_at T
       foreign (Client n) c = H.foreign (Client n) c
       foreign (Scanner x) c = H.foreign (Scanner x) c
 
-  led-holds : Holds next
+  led-holds : LogsHold next
   led-holds = grew-holds T H i (e ∷ []) (T.sites i).floor (T.sites i).repaired (T.sites i).owes scans scanning next.words.channel logs.leadership
       up k.joins same-leaderships carries k.word k.view own-member copy-keeps joiner-keeps
 
@@ -478,8 +478,8 @@ module _ (T : LogState) (i : ℕ) (e : Entry) (H : Holds T) (up : 0 < start_at T
 
 -- ---- the turn
 
-pub leads-goes : (E : Database) (T : LogState) (i : ℕ) (e : Entry) → Holds T → 0 < start_at T i → leads T.words.deployment i (T.sites i) ≡ true
-    → Goes T i (leads_with E T.words.deployment i e (T.sites i))
+pub leads-goes : (E : Database) (T : LogState) (i : ℕ) (e : Entry) → LogsHold T → 0 < site_start T i → leads T.words.deployment i (T.sites i) ≡ true
+    → LogsGo T i (leads_with E T.words.deployment i e (T.sites i))
 leads-goes E T i e H up authoritative =
     let k = leading T i H up authoritative in
     let r = leads-with E T.words.deployment i e (T.sites i) in
@@ -490,7 +490,7 @@ leads-goes E T i e H up authoritative =
       start = ap (λ s. s.start) r.state;
       view = ap (λ s. s.view) r.state;
       plain = λ c. passed-all T.words.deployment i e (grown (T.sites i) (e ∷ []) r.scans r.scanning) out r.passed c NoStreamStart (λ is. tt) (λ j is q. tt);
-      holds = subst (λ s. Holds (after T i s out G)) (sym r.state) (led-holds T i e H up k r.scans r.scanning out r.passed);
+      holds = subst (λ s. LogsHold (after_site T i s out G)) (sym r.state) (led-holds T i e H up k r.scans r.scanning out r.passed);
       grown = subst (λ s. Grown T.words.deployment i s T.logs G) (sym r.state) (led-grown T i e H up k r.scans r.scanning out r.passed);
       enters = enters-same i (length (log_at T i)) T.logs G refl;
       longer = subst (λ s. length (log_at T i) ≤ length s.log) (sym r.state) (prefix-length (log_at T i) (log_at T i ++ e ∷ []) (prefix-append (log_at T i) (e ∷ [])));

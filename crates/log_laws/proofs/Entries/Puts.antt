@@ -17,17 +17,17 @@ use Rattle.cluster_model.specs.World.{took, sent, rest}
 use Rattle.cluster_steps.specs.Lists.{In, Prefix}
 use Rattle.cluster_steps.proofs.Lists.{and-false, eqb-same, if-false, not-both, same-some, set-here, set-there, set-both}
 use Rattle.cluster_steps.proofs.Channels.{took-all}
-use Rattle.log_laws.specs.Histories.{LogState, Leadership, Line, Puts, Repairs, FollowsIn, JoinerOk, ViewIn, MemberOk, Reached, ForeignOk, ToldOk, SiteLetterOk, BeginsAt, Holds, line_in, flow_in, ask_in, follows, line, flow, ends, asks_in, asks_waiting, asks_of_term, asked, between, part, start_at, term_at, log_at}
+use Rattle.log_laws.specs.Histories.{LogState, Leadership, Line, Puts, Repairs, FollowsIn, JoinerOk, ViewIn, MemberOk, MeantFor, ForeignOk, ToldOk, SiteLetterOk, BeginsAt, LogsHold, line_in, flow_in, ask_in, follows, line, flow, stream_ends_in, asks_in, asks_waiting, asks_of_term, asked, between, part, site_start, term_at, log_at}
 use Rattle.log_laws.proofs.Plain.Lines.{puts-cons, puts-not-repairs, repairs-not-put, repairs-same, line-here, flow-plain, asks-plain}
 use Rattle.log_laws.proofs.Kept.Terms.{running-slot, leadership-entered}
 use Rattle.log_laws.proofs.Plain.Copies.{leader-follows-none, follows-one}
-use Rattle.log_laws.proofs.Kept.Moves.{Later, after, popped, NoStreamStart, Goes}
+use Rattle.log_laws.proofs.Kept.Moves.{LogsLater, after_site, site_popped, NoStreamStart, LogsGo}
 use Rattle.log_laws.proofs.Kept.Grown.{grown-same, enters-same}
 use Rattle.log_laws.proofs.Kept.Laters.{same-leaderships}
 use Rattle.log_laws.proofs.Kept.Plumbing.{taken-either}
 use Rattle.log_laws.proofs.Kept.Asked.{at-most-is}
 use Rattle.log_laws.proofs.Kept.Keeps as keeps
-use Rattle.log_laws.proofs.Kept.Keeps.{Still, SameFrom, Uncounted, still-same, member-keeps, counted-from}
+use Rattle.log_laws.proofs.Kept.Keeps.{SiteStays, SameFrom, Uncounted, still-same, member-keeps, counted-from}
 use Rattle.cluster_steps.proofs.Prefixes.{prefix-append, prefix-grows, prefix-length, prefix-refl, prefix-rest}
 use Rattle.cluster_steps.proofs.Appends.{Appended, appends-one, appends-all}
 use Rattle.log_laws.proofs.Kept.Growing.{Carries, grew, grew-later, grew-member, grew-holds}
@@ -43,14 +43,14 @@ pub record Receives (S : LogState) (k i : ℕ) (x : Line) (ls : List Letter) : T
   pub following : follows S.words.deployment word i k ≡ true
   pub leadership : Leadership
   pub led : S.logs.leadership (part S i) (term_of word) ≡ Some leadership
-  pub lacks : FollowsIn (S.sites i) (x ∷ line (start_at S i) (term_of word) ls) (Some leadership)
+  pub lacks : FollowsIn (S.sites i) (x ∷ line (site_start S i) (term_of word) ls) (Some leadership)
 
-module _ (S : LogState) (H : Holds S) (k i : ℕ) (l : Letter) (ls : List Letter) (is : between S k i ≡ l ∷ ls) (own : l.start ≡ start_at S i) (now : l.term ≡ term_at S i)
-    (up : 0 < start_at S i) (some : 0 < l.term) (x : Line) (said : line_in l.body ≡ x ∷ []) where
+module _ (S : LogState) (H : LogsHold S) (k i : ℕ) (l : Letter) (ls : List Letter) (is : between S k i ≡ l ∷ ls) (own : l.start ≡ site_start S i) (now : l.term ≡ term_at S i)
+    (up : 0 < site_start S i) (some : 0 < l.term) (x : Line) (said : line_in l.body ≡ x ∷ []) where
   -- it is first in the channel
-  first-line : (w : Membership) → (S.sites i).view ≡ Some w → line (start_at S i) (term_of w) (between S k i) ≡ x ∷ line (start_at S i) (term_of w) ls
-  first-line w v = ap (line (start_at S i) (term_of w)) is
-      ∙ ap (λ ys. ys ++ line (start_at S i) (term_of w) ls) (line-here (start_at S i) (term_of w) l own (now ∙ ap term_in v) ∙ said)
+  first-line : (w : Membership) → (S.sites i).view ≡ Some w → line (site_start S i) (term_of w) (between S k i) ≡ x ∷ line (site_start S i) (term_of w) ls
+  first-line w v = ap (line (site_start S i) (term_of w)) is
+      ∙ ap (λ ys. ys ++ line (site_start S i) (term_of w) ls) (line-here (site_start S i) (term_of w) l own (now ∙ ap term_in v) ∙ said)
 
   no-joiner : (j : Joining) → (S.sites i).joining ≡ Some j → ⊥
   no-joiner j e = view (S.sites i).view refl ((H.sites i).joiner j e).view
@@ -63,7 +63,7 @@ module _ (S : LogState) (H : Holds S) (k i : ℕ) (l : Letter) (ls : List Letter
   receives = joins (S.sites i).joining refl
     where
       begun : (m : (w : Membership) × ((S.sites i).view ≡ Some w) × MemberOk S i w) → (S.sites i).joining ≡ None → (f : follows S.words.deployment m.0 i k ≡ true)
-          → (r : Option Leadership) → S.logs.leadership (part S i) (term_of m.0) ≡ r → FollowsIn (S.sites i) (x ∷ line (start_at S i) (term_of m.0) ls) r → Receives S k i x ls
+          → (r : Option Leadership) → S.logs.leadership (part S i) (term_of m.0) ≡ r → FollowsIn (S.sites i) (x ∷ line (site_start S i) (term_of m.0) ls) r → Receives S k i x ls
       begun m none f None led lacks = let e = lacks.1 in absurd (cc)
       begun m none f (Some g) led lacks = record { joins = none; word = m.0; view = m.1; member = m.2; following = f; leadership = g; led = led; lacks = lacks }
 
@@ -107,21 +107,21 @@ module _ (S : LogState) (k i : ℕ) (out : Sends) (inert : (b : Actor) → same 
 
 -- ---- what holds behind it
 
-module _ (S : LogState) (H : Holds S) (k i : ℕ) (l : Letter) (ls : List Letter) (is : between S k i ≡ l ∷ ls) (up : 0 < start_at S i) (x : Line) (r : Receives S k i x ls)
+module _ (S : LogState) (H : LogsHold S) (k i : ℕ) (l : Letter) (ls : List Letter) (is : between S k i ≡ l ∷ ls) (up : 0 < site_start S i) (x : Line) (r : Receives S k i x ls)
     (no-flow : flow_in l.past l.body ≡ []) (no-ask : ask_in l.body ≡ [])
     (more : List Entry) (floor : ℕ) (owes : Option ℕ) (scans : ℕ) (scanning : Option Scanning) (out : Sends) (inert : (b : Actor) → same (Scanner i) b ≡ false → out b ≡ [])
     (below : floor ≤ S.logs.reach (part S i) (term_of r.word))
-    (lacks : FollowsIn (grew (S.sites i) more floor true owes scans scanning) (line (start_at S i) (term_of r.word) ls) (Some r.leadership)) where
+    (lacks : FollowsIn (grew (S.sites i) more floor true owes scans scanning) (line (site_start S i) (term_of r.word) ls) (Some r.leadership)) where
   abbrev state : SiteState
   state = grew (S.sites i) more floor true owes scans scanning
 
   abbrev next : LogState
-  next = after (popped S (Site k) i) i state out S.logs
+  next = after_site (site_popped S (Site k) i) i state out S.logs
 
   abbrev channel : Actor → Actor → List Letter
   channel = ch S k i out inert
 
-  later : Later S next
+  later : LogsLater S next
   later = grew-later S H i more floor true owes scans scanning channel S.logs.leadership
 
   -- what was taken was neither a stream's nor an ask
@@ -161,19 +161,19 @@ module _ (S : LogState) (H : Holds S) (k i : ℕ) (l : Letter) (ls : List Letter
   own-member : MemberOk next i r.word
   own-member = grew-member S H i more floor true owes scans scanning channel S.logs.leadership r.word refl below
       (λ e. absurd (not-both (follows S.words.deployment r.word i k) r.following (leader-follows-none S.words.deployment r.word i k e)))
-      (λ a f. subst (λ y. FollowsIn state (line (start_at S i) (term_of r.word) (channel (Site y) (Site i))) (S.logs.leadership (part S i) (term_of r.word)))
+      (λ a f. subst (λ y. FollowsIn state (line (site_start S i) (term_of r.word) (channel (Site y) (Site i))) (S.logs.leadership (part S i) (term_of r.word)))
       (follows-one S.words.deployment r.word i k a r.following f)
       (rw (r.led, from-first S k i out inert l ls is) lacks))
-      (λ a f. ap (line (start_at S i) (term_of r.word)) (from-other S k i out inert a
+      (λ a f. ap (line (site_start S i) (term_of r.word)) (from-other S k i out inert a
       (λ e. not-both (follows S.words.deployment r.word i a) (subst (λ y. follows S.words.deployment r.word i y ≡ true) (sym e) r.following) f)) ∙ r.member.others a f)
       r.member
 
   module _ (c : ℕ) (other : c ≡ i → ⊥) where
-    site : Still (S.sites c) (next.sites c)
+    site : SiteStays (S.sites c) (next.sites c)
     site = still-same (S.sites c) (next.sites c) (set-there S.sites i state c other)
 
     copy-keeps : (v : Membership) → MemberOk S c v → MemberOk next c v
-    copy-keeps v m = member-keeps S next H later c site v m (λ a. ap (line (start_at S c) (term_of v)) (to-other S k i out inert a c other)) refl
+    copy-keeps v m = member-keeps S next H later c site v m (λ a. ap (line (site_start S c) (term_of v)) (to-other S k i out inert a c other)) refl
 
     asked-same : (a t : ℕ) → asked next c a t ≡ asked S c a t
     asked-same a t =
@@ -183,11 +183,11 @@ module _ (S : LogState) (H : Holds S) (k i : ℕ) (l : Letter) (ls : List Letter
 
     same-from : (a t : ℕ) → SameFrom S next c a t
     same-from a t = record {
-      lines = ap (line (start_at S c) t) (to-other S k i out inert a c other);
-      flows = ap (flow (start_at S c) t) (to-other S k i out inert a c other);
-      ends = λ e. ap (ends (start_at S c) t) (to-other S k i out inert a c other) ∙ e;
+      lines = ap (line (site_start S c) t) (to-other S k i out inert a c other);
+      flows = ap (flow (site_start S c) t) (to-other S k i out inert a c other);
+      ends = λ e. ap (stream_ends_in (site_start S c) t) (to-other S k i out inert a c other) ∙ e;
       asks = at-most-is (asked S c a t) (asked next c a t) (asked-same a t);
-      uncounted = set-both (λ h y. Uncounted S h c (start_at S c) → (j : Joiner) → In j y.joiners → j.slot ≡ c → j.start ≡ start_at S c → ⊥)
+      uncounted = set-both (λ h y. Uncounted S h c (site_start S c) → (j : Joiner) → In j y.joiners → j.slot ≡ c → j.start ≡ site_start S c → ⊥)
           S.sites i state (λ f. f) (λ h n f. f) a;
     }
 
@@ -196,27 +196,27 @@ module _ (S : LogState) (H : Holds S) (k i : ℕ) (l : Letter) (ls : List Letter
         (record { entered = λ t e is _. is; streamed = λ t y is _. is })
         (record { leadership = refl; reach = refl })
         (λ a. same-from a (term_at S c))
-        (λ stream_start v. counted-from S next H later i (λ a n. set-there S.sites i state a n) c (start_at S c) stream_start v
-        (subst (λ y. 0 < y.start → y.joining ≡ None → y.view ≡ Some v → (j : Joiner) × In j y.joiners × (j.slot ≡ c) × (j.start ≡ start_at S c) × (j.stream_start ≡ stream_start))
+        (λ stream_start v. counted-from S next H later i (λ a n. set-there S.sites i state a n) c (site_start S c) stream_start v
+        (subst (λ y. 0 < y.start → y.joining ≡ None → y.view ≡ Some v → (j : Joiner) × In j y.joiners × (j.slot ≡ c) × (j.start ≡ site_start S c) × (j.stream_start ≡ stream_start))
         (sym (set-here S.sites i state))))
         m
 
-  taken-holds : Holds next
+  taken-holds : LogsHold next
   taken-holds = grew-holds S H i more floor true owes scans scanning channel S.logs.leadership
       up r.joins (same-leaderships S.logs S.logs refl) carries r.word r.view own-member copy-keeps joiner-keeps
 
 -- ---- the handlers
 
 -- what is so of the first message
-first-ok : (S : LogState) → Holds S → (k i : ℕ) (l : Letter) (ls : List Letter) → between S k i ≡ l ∷ ls → 0 < start_at S i → SiteLetterOk S k i l
+first-ok : (S : LogState) → LogsHold S → (k i : ℕ) (l : Letter) (ls : List Letter) → between S k i ≡ l ∷ ls → 0 < site_start S i → SiteLetterOk S k i l
 first-ok S H k i l ls is up = (subst (AllByRecursion (SiteLetterOk S k i)) is (H.letters k i (running-slot S H i up))).0
 
-pub on_put-goes : (E : Database) (S : LogState) → Holds S → (i k : ℕ) (l : Letter) (ls : List Letter) (position : ℕ) (e : Entry) (floor : ℕ)
-    → S.words.channel (Site k) (Site i) ≡ record l { body = msg.Put position e floor } ∷ ls → 0 < start_at S i → l.start ≡ start_at S i → l.term ≡ term_at S i
-    → Goes (popped S (Site k) i) i (on_put E S.words.deployment i (S.sites i) position e floor)
+pub on_put-goes : (E : Database) (S : LogState) → LogsHold S → (i k : ℕ) (l : Letter) (ls : List Letter) (position : ℕ) (e : Entry) (floor : ℕ)
+    → S.words.channel (Site k) (Site i) ≡ record l { body = msg.Put position e floor } ∷ ls → 0 < site_start S i → l.start ≡ site_start S i → l.term ≡ term_at S i
+    → LogsGo (site_popped S (Site k) i) i (on_put E S.words.deployment i (S.sites i) position e floor)
 on_put-goes E S H i k l ls position e floor is up own now = goes r.lacks
   where
-    ok : Reached S i l × (floor ≤ S.logs.reach (part S i) l.term)
+    ok : MeantFor S i l × (floor ≤ S.logs.reach (part S i) l.term)
     ok = first-ok S H k i (record l { body = msg.Put position e floor }) ls is up
 
     r : Receives S k i (Puts e) ls
@@ -228,12 +228,12 @@ on_put-goes E S H i k l ls position e floor is up own now = goes r.lacks
     below : max (S.sites i).floor floor ≤ S.logs.reach (part S i) (term_of r.word)
     below = let a = r.member.floor in let b = subst (λ t. floor ≤ S.logs.reach (part S i) t) (now ∙ ap term_in r.view) ok.1 in omega (arith, a, b)
 
-    goes : FollowsIn (S.sites i) (Puts e ∷ line (start_at S i) (term_of r.word) ls) (Some r.leadership)
-        → Goes (popped S (Site k) i) i (on_put E S.words.deployment i (S.sites i) position e floor)
+    goes : FollowsIn (S.sites i) (Puts e ∷ line (site_start S i) (term_of r.word) ls) (Some r.leadership)
+        → LogsGo (site_popped S (Site k) i) i (on_put E S.words.deployment i (S.sites i) position e floor)
     goes (inr (es, unrepaired, line_is, whole)) =
-        absurd (repairs-not-put (length (S.sites i).log) (drop (length (S.sites i).log) r.leadership.begun) e (map Puts es) (line (start_at S i) (term_of r.word) ls) (sym line_is))
+        absurd (repairs-not-put (length (S.sites i).log) (drop (length (S.sites i).log) r.leadership.begun) e (map Puts es) (line (site_start S i) (term_of r.word) ls) (sym line_is))
     goes (inl (es, repaired, line_is, whole, prefix)) =
-        let fs = puts-cons es e (line (start_at S i) (term_of r.word) ls) (sym line_is) in
+        let fs = puts-cons es e (line (site_start S i) (term_of r.word) ls) (sym line_is) in
         let state : (on_put E S.words.deployment i (S.sites i) position e floor).state
         ≡ grew (S.sites i) (e ∷ []) (max (S.sites i).floor floor) true (S.sites i).owes one.scans one.scanning =
         one.state ∙ ap (λ b. grew (S.sites i) (e ∷ []) (max (S.sites i).floor floor) b (S.sites i).owes one.scans one.scanning) repaired in
@@ -242,7 +242,7 @@ on_put-goes E S H i k l ls position e floor is up own now = goes r.lacks
           start = ap (λ x. x.start) state;
           view = ap (λ x. x.view) state;
           plain = λ c. subst (AllByRecursion NoStreamStart) (sym (one.inert (Site c) refl)) tt;
-          holds = subst (λ x. Holds (after (popped S (Site k) i) i x (on_put E S.words.deployment i (S.sites i) position e floor).sends S.logs)) (sym state)
+          holds = subst (λ x. LogsHold (after_site (site_popped S (Site k) i) i x (on_put E S.words.deployment i (S.sites i) position e floor).sends S.logs)) (sym state)
               (taken-holds S H k i (record l { body = msg.Put position e floor }) ls is up (Puts e) r refl refl (e ∷ [])
               (max (S.sites i).floor floor) (S.sites i).owes one.scans one.scanning
               (on_put E S.words.deployment i (S.sites i) position e floor).sends one.inert below
@@ -258,12 +258,12 @@ on_put-goes E S H i k l ls position e floor is up own now = goes r.lacks
           longer = subst (λ x. length (log_at S i) ≤ length x.log) (sym state) (prefix-length (log_at S i) (log_at S i ++ e ∷ []) (prefix-append (log_at S i) (e ∷ [])));
         }
 
-pub on_repair-goes : (E : Database) (S : LogState) → Holds S → (i k : ℕ) (l : Letter) (ls : List Letter) (from : ℕ) (entries : List Entry)
-    → S.words.channel (Site k) (Site i) ≡ record l { body = msg.Repair from entries } ∷ ls → 0 < start_at S i → l.start ≡ start_at S i → l.term ≡ term_at S i
-    → Goes (popped S (Site k) i) i (on_repair E S.words.deployment i (S.sites i) from entries)
+pub on_repair-goes : (E : Database) (S : LogState) → LogsHold S → (i k : ℕ) (l : Letter) (ls : List Letter) (from : ℕ) (entries : List Entry)
+    → S.words.channel (Site k) (Site i) ≡ record l { body = msg.Repair from entries } ∷ ls → 0 < site_start S i → l.start ≡ site_start S i → l.term ≡ term_at S i
+    → LogsGo (site_popped S (Site k) i) i (on_repair E S.words.deployment i (S.sites i) from entries)
 on_repair-goes E S H i k l ls from entries is up own now = goes r.lacks
   where
-    ok : Reached S i l
+    ok : MeantFor S i l
     ok = first-ok S H k i (record l { body = msg.Repair from entries }) ls is up
 
     r : Receives S k i (Repairs from entries) ls
@@ -272,7 +272,7 @@ on_repair-goes E S H i k l ls from entries is up own now = goes r.lacks
     -- what it entered the term with is a prefix of what that begins with
     behind : (S.sites i).repaired ≡ false → Prefix (S.sites i).log r.leadership.begun
     behind unrepaired =
-        let o = leadership-entered S H (part S i) (term_of r.word) r.leadership r.led r.word (record { decided = r.member.decided; term_is = refl }) i (start_at S i)
+        let o = leadership-entered S H (part S i) (term_of r.word) r.leadership r.led r.word (record { decided = r.member.decided; term_is = refl }) i (site_start S i)
         (running-slot S H i up) refl r.member.start_is in
         subst (λ x. Prefix x r.leadership.begun) (sym ((r.member.still unrepaired).0 ∙ ap (λ e. e.log) (same-some (sym r.member.is_entered ∙ o.1)))) o.3
 
@@ -280,12 +280,12 @@ on_repair-goes E S H i k l ls from entries is up own now = goes r.lacks
         (on_repair E S.words.deployment i (S.sites i) from entries)
     all = appends-all E S.words.deployment i (drop (length (S.sites i).log - from) entries) (record (S.sites i) { owes = Some (site_term (S.sites i)); repaired = true })
 
-    goes : FollowsIn (S.sites i) (Repairs from entries ∷ line (start_at S i) (term_of r.word) ls) (Some r.leadership)
-        → Goes (popped S (Site k) i) i (on_repair E S.words.deployment i (S.sites i) from entries)
-    goes (inl (es, repaired, line_is, whole, prefix)) = absurd (puts-not-repairs es entries from (line (start_at S i) (term_of r.word) ls) (sym line_is))
+    goes : FollowsIn (S.sites i) (Repairs from entries ∷ line (site_start S i) (term_of r.word) ls) (Some r.leadership)
+        → LogsGo (site_popped S (Site k) i) i (on_repair E S.words.deployment i (S.sites i) from entries)
+    goes (inl (es, repaired, line_is, whole, prefix)) = absurd (puts-not-repairs es entries from (line (site_start S i) (term_of r.word) ls) (sym line_is))
     goes (inr (es, unrepaired, line_is, whole)) =
         let same = repairs-same from (length (S.sites i).log) entries (drop (length (S.sites i).log) r.leadership.begun)
-        (line (start_at S i) (term_of r.word) ls) (map Puts es) line_is in
+        (line (site_start S i) (term_of r.word) ls) (map Puts es) line_is in
         let none : length (S.sites i).log - from ≡ 0 = omega (arith, same.0) in
         let lacked : drop (length (S.sites i).log - from) entries ≡ drop (length (S.sites i).log) r.leadership.begun =
         ap (λ n. drop n entries) none ∙ same.1 in
@@ -296,7 +296,7 @@ on_repair-goes E S H i k l ls from entries is up own now = goes r.lacks
           start = ap (λ x. x.start) all.state;
           view = ap (λ x. x.view) all.state;
           plain = λ c. subst (AllByRecursion NoStreamStart) (sym (all.inert (Site c) refl)) tt;
-          holds = subst (λ x. Holds (after (popped S (Site k) i) i x (on_repair E S.words.deployment i (S.sites i) from entries).sends S.logs)) (sym all.state)
+          holds = subst (λ x. LogsHold (after_site (site_popped S (Site k) i) i x (on_repair E S.words.deployment i (S.sites i) from entries).sends S.logs)) (sym all.state)
               (taken-holds S H k i (record l { body = msg.Repair from entries }) ls is up (Repairs from entries) r refl refl (drop (length (S.sites i).log - from) entries)
               (S.sites i).floor (Some (site_term (S.sites i))) all.scans all.scanning
               (on_repair E S.words.deployment i (S.sites i) from entries).sends all.inert r.member.floor

@@ -8,16 +8,16 @@ use Rattle.cluster_model.specs.SiteState.{Joiner, is_leader, other_copies}
 use Rattle.cluster_model.specs.Site.{with_position, noted, counts, on_ack}
 use Rattle.word_laws.specs.Histories.{Distinct}
 use Rattle.cluster_steps.proofs.Lists.{all-at, all-from, all-filter, all-if, in-map-from}
-use Rattle.log_laws.specs.Histories.{LogState, Holds, IsSlot, WasIn, AckOk, CountedOk, KeepsOk, part, start_at, log_at, term_at}
-use Rattle.log_laws.proofs.Kept.Moves.{Goes}
+use Rattle.log_laws.specs.Histories.{LogState, LogsHold, IsSlot, WasIn, AckOk, CountedOk, KeepsOk, part, site_start, log_at, term_at}
+use Rattle.log_laws.proofs.Kept.Moves.{LogsGo}
 use Rattle.log_laws.proofs.Kept.Terms.{one-in, was-been}
 use Rattle.log_laws.proofs.Kept.Plumbing.{goes-then, goes-same}
 use Rattle.log_laws.proofs.Kept.Rests.{SiteRests, map-joiners, map-slots, part-from, reach-same, site-same, says-nothing, rests-goes}
 use Rattle.log_laws.proofs.Firmness.Firm.{counts-goes}
 
 -- Where the earlier starts of a slot that runs had lower terms, its own start is the one that was in the term.
-pub runs-in : (S : LogState) → Holds S → (c t a : ℕ) → WasIn S c t a → 0 < start_at S c → (S.sites c).earlier < t → start_at S c ≡ a
-runs-in S H c t a was up low = elim (cases_eq (start_at S c) a) [
+pub runs-in : (S : LogState) → LogsHold S → (c t a : ℕ) → WasIn S c t a → 0 < site_start S c → (S.sites c).earlier < t → site_start S c ≡ a
+runs-in S H c t a was up low = elim (cases_eq (site_start S c) a) [
   | inl e ↦ e
   | inr n ↦ let k = (was-been S H c t a was).others up n in absurd (omega (arith, k, low))
 ]
@@ -45,12 +45,12 @@ position-stream_start slot position j = choice (j.slot == slot)
     choice true = refl
     choice false = refl
 
-module _ (T : LogState) (H : Holds T) (i slot position : ℕ) (up : 0 < start_at T i) (ack : AckOk T slot (term_at T i) position) where
+module _ (T : LogState) (H : LogsHold T) (i slot position : ℕ) (up : 0 < site_start T i) (ack : AckOk T slot (term_at T i) position) where
   -- with what its slot acknowledged it is counted as before
   position-counted : (j : Joiner) → CountedOk T (part T i) (term_at T i) j → CountedOk T (part T i) (term_at T i) (with_position slot position j)
   position-counted j k = choice (j.slot == slot) refl
     where
-      here : AckOk T j.slot (term_at T i) position → start_at T j.slot ≡ j.start → (T.sites j.slot).earlier < term_at T i → position ≤ length (log_at T j.slot)
+      here : AckOk T j.slot (term_at T i) position → site_start T j.slot ≡ j.start → (T.sites j.slot).earlier < term_at T i → position ≤ length (log_at T j.slot)
       here a runs low = a.now (runs-in T H j.slot (term_at T i) a.start a.was (let some = k.been.some in omega (arith, some, runs)) low)
 
       choice : (b : Bool) → (j.slot == slot) ≡ b → CountedOk T (part T i) (term_at T i) (if b then record j { position = position } else j)
@@ -89,14 +89,14 @@ module _ (T : LogState) (H : Holds T) (i slot position : ℕ) (up : 0 < start_at
       k : KeepsOk T i
       k = (H.sites i).keeps up
 
-  noted-goes : Goes T i (becomes (noted T.words.deployment i (T.sites i) slot position))
+  noted-goes : LogsGo T i (becomes (noted T.words.deployment i (T.sites i) slot position))
   noted-goes = rests-goes T H i (noted T.words.deployment i (T.sites i) slot position) no_sends T.logs.reach noted-rests (reach-same T H) (says-nothing T H i)
 
   -- Ack
-  pub on_ack-goes : Goes T i (on_ack T.words.deployment i (T.sites i) slot position)
+  pub on_ack-goes : LogsGo T i (on_ack T.words.deployment i (T.sites i) slot position)
   on_ack-goes = choice (is_leader T.words.deployment i (T.sites i))
     where
-      choice : (b : Bool) → Goes T i (if b then counts T.words.deployment i (noted T.words.deployment i (T.sites i) slot position) else becomes (T.sites i))
+      choice : (b : Bool) → LogsGo T i (if b then counts T.words.deployment i (noted T.words.deployment i (T.sites i) slot position) else becomes (T.sites i))
       choice true = goes-then T i (becomes (noted T.words.deployment i (T.sites i) slot position)) (counts T.words.deployment i) noted-goes
           (part-from T i (noted T.words.deployment i (T.sites i) slot position) (λ D s. counts D i s) (λ S K u. counts-goes S K i u) up)
       choice false = goes-same T i H

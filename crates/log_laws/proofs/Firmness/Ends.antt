@@ -11,13 +11,13 @@ use Rattle.cluster_model.specs.Site.{is_sent, without_count, ends_streams}
 use Rattle.cluster_steps.specs.Lists.{In}
 use Rattle.word_laws.specs.Histories.{Distinct}
 use Rattle.cluster_steps.proofs.Lists.{all-at, all-from, in-map, in-map-from, none-and-some}
-use Rattle.log_laws.specs.Histories.{LogState, Holds, Follows, WordOf, CountedOk, IsCounted, BeginsAt, SiteLetterOk, JoinsIn, ViewIn, StreamIn, KeepsOk, flow, follows, part, start_at, term_at, between}
-use Rattle.log_laws.proofs.Kept.Moves.{Goes}
+use Rattle.log_laws.specs.Histories.{LogState, LogsHold, Follows, WordOf, CountedOk, IsCounted, BeginsAt, SiteLetterOk, JoinsIn, ViewIn, StreamIn, KeepsOk, flow, follows, part, site_start, term_at, between}
+use Rattle.log_laws.proofs.Kept.Moves.{LogsGo}
 use Rattle.cluster_steps.proofs.Sends.{end_letter, stream_ends-all}
 use Rattle.log_laws.proofs.Plain.Lines.{stream_ends-other}
 use Rattle.log_laws.proofs.Plain.Copies.{follows-one, leader-followed}
 use Rattle.log_laws.proofs.Kept.Terms.{same-word, some-term, took-decided}
-use Rattle.log_laws.proofs.Kept.Rests.{SiteRests, SaysRests, Plain, map-joiners, map-slots, reach-same, site-same, rests-goes}
+use Rattle.log_laws.proofs.Kept.Rests.{SiteRests, SaysRests, Bare, map-joiners, map-slots, reach-same, site-same, rests-goes}
 use Rattle.log_laws.proofs.Firmness.Firm.{LeaderOf, leader-of}
 
 -- ---- a joiner loses its count
@@ -48,7 +48,7 @@ slot-one (x ∷ js) d j k (inr a) (inr b) e = slot-one js d.1 j k a b e
 
 -- ---- that a stream is whole
 
-module _ (T : LogState) (H : Holds T) (i : ℕ) (up : 0 < start_at T i) where
+module _ (T : LogState) (H : LogsHold T) (i : ℕ) (up : 0 < site_start T i) where
   keeps : KeepsOk T i
   keeps = (H.sites i).keeps up
 
@@ -80,7 +80,7 @@ module _ (T : LogState) (H : Holds T) (i : ℕ) (up : 0 < start_at T i) where
         sym r.4 ∙ ap (λ x. x.stream_start) (slot-one (T.sites i).joiners keeps.alone r.0 j r.1 here r.2)
 
     -- what is under way to it begins at its position
-    view-begins : (x : Joining) → (T.sites j.slot).joining ≡ Some x → start_at T j.slot ≡ j.start → (T.sites j.slot).earlier < term_at T i
+    view-begins : (x : Joining) → (T.sites j.slot).joining ≡ Some x → site_start T j.slot ≡ j.start → (T.sites j.slot).earlier < term_at T i
         → (v : Option Membership) → (T.sites j.slot).view ≡ v → term_in v ≡ term_at T i → ViewIn T j.slot x v
         → AllByRecursion (BeginsAt j.stream_start) (flow j.start (term_at T i) (between T i j.slot))
     view-begins x joins runs low None view is w = absurd (let p = some-term T H o.word o.member.decided in omega (arith, is, term, p))
@@ -89,7 +89,7 @@ module _ (T : LogState) (H : Holds T) (i : ℕ) (up : 0 < start_at T i) where
         (subst (λ a. AllByRecursion (BeginsAt j.stream_start) (flow a (term_of v) (between T i j.slot))) runs (stream-begins x.stream w.stream))
       where
         decided : In v T.words.history.decided
-        decided = took-decided T H (start_at T j.slot) v w.took
+        decided = took-decided T H (site_start T j.slot) v w.took
 
         of : WordOf T (term_of o.word) v
         of = record { decided = decided; term_is = is ∙ term }
@@ -102,12 +102,12 @@ module _ (T : LogState) (H : Holds T) (i : ℕ) (up : 0 < start_at T i) where
         only-follows [] = tt
         only-follows (e ∷ es) = (tt, only-follows es)
 
-        stream-begins : (st : Option Streamed) → StreamIn T j.slot v x st → AllByRecursion (BeginsAt j.stream_start) (flow (start_at T j.slot) (term_of v) (between T i j.slot))
+        stream-begins : (st : Option Streamed) → StreamIn T j.slot v x st → AllByRecursion (BeginsAt j.stream_start) (flow (site_start T j.slot) (term_of v) (between T i j.slot))
         stream-begins None u = elim (u.comes i followed (subst (λ t. (T.sites j.slot).earlier < t) (sym is) low)) [
           | inl q ↦ absurd (q.uncounted j here refl (sym runs))
-          | inr q ↦ subst (AllByRecursion (BeginsAt j.stream_start)) (sym q.0.flow_is) (counted-stream_start (start_at T j.slot) (length q.0.past) v of q.0.counted, only-follows q.0.more)
+          | inr q ↦ subst (AllByRecursion (BeginsAt j.stream_start)) (sym q.0.flow_is) (counted-stream_start (site_start T j.slot) (length q.0.past) v of q.0.counted, only-follows q.0.more)
         ]
-        stream-begins (Some st) u = subst (λ l. AllByRecursion (BeginsAt j.stream_start) (flow (start_at T j.slot) (term_of v) (between T l j.slot)))
+        stream-begins (Some st) u = subst (λ l. AllByRecursion (BeginsAt j.stream_start) (flow (site_start T j.slot) (term_of v) (between T l j.slot)))
             (follows-one T.words.deployment v j.slot u.from i u.following followed) (subst (AllByRecursion (BeginsAt j.stream_start)) (sym u.flow_is) (only-follows u.more))
 
     -- its position is everywhere
@@ -130,9 +130,9 @@ module _ (T : LogState) (H : Holds T) (i : ℕ) (up : 0 < start_at T i) where
 
   ends-say : SaysRests T i (ends_streams (T.sites i)).sends
   ends-say = record {
-    sites = λ c. stream_ends-all (T.sites i) c (λ l. Plain l × SiteLetterOk T i c l) (λ j here same sent.
+    sites = λ c. stream_ends-all (T.sites i) c (λ l. Bare l × SiteLetterOk T i c l) (λ j here same sent.
         ((refl, refl, refl, tt), subst (λ x. SiteLetterOk T i x (end_letter (T.sites i) x j)) same (end-ok j here sent)));
-    ended = λ c w joins decided away. stream_ends-other (T.sites i) c (start_at T c) (term_of w) (λ j here same start is sent.
+    ended = λ c w joins decided away. stream_ends-other (T.sites i) c (site_start T c) (term_of w) (λ j here same start is sent.
         elim away [
           | inl q ↦ q.uncounted j here same start
           | inr f ↦ true≢false (sym (led j here c w same joins decided is) ∙ f)
@@ -151,7 +151,7 @@ module _ (T : LogState) (H : Holds T) (i : ℕ) (up : 0 < start_at T i) where
           subst (λ x. follows T.words.deployment x c i ≡ true) (sym e) (leader-followed T.words.deployment o.word i c o.first (ap (λ x. part T x) (sym same) ∙ k.part_is)
           (λ q. none-and-some o.none (ap (λ x. (T.sites x).joining) (sym q) ∙ joins.1)))
 
-  pub ends_streams-goes : Goes T i (ends_streams (T.sites i))
+  pub ends_streams-goes : LogsGo T i (ends_streams (T.sites i))
   ends_streams-goes = rests-goes T H i (ends_streams (T.sites i)).state (ends_streams (T.sites i)).sends T.logs.reach rests (reach-same T H) ends-say
     where
       rests : SiteRests T T.logs.reach i (ends_streams (T.sites i)).state

@@ -8,22 +8,22 @@ use Rattle.volt_wire.specs.declared.actor.Actor.{Actor}
 use Rattle.volt_wire.specs.declared.actor.Actor.TheVariants.{Agent, Site}
 use Rattle.volt_wire.specs.declared.message.Msg.TheVariants as msg
 use Rattle.cluster_model.specs.Words.{Deployment, term_of, term_in, start_of_slot, leader}
-use Rattle.cluster_model.specs.Letters.{same, Letter, no_sends, becomes}
+use Rattle.cluster_model.specs.Letters.{same, Letter, becomes}
 use Rattle.cluster_model.specs.SiteState.{SiteState, Held, Joiner, is_leader, leads, other_copies}
 use Rattle.cluster_model.specs.Site.{own_ack, acked_in, firm_now, floor_now, answers_held, sends_firm, counts}
 use Rattle.cluster_steps.specs.Lists.{In}
 use Rattle.cluster_steps.proofs.Lists.{all-at, all-from, all-filter, in-filter, in-map-from, same-some, none-and-some, not-both}
 use Rattle.word_laws.proofs.Steps.{same-true}
-use Rattle.log_laws.specs.Histories.{LogState, Entered, Streaming, Leadership, Flow, Holds, IsSlot, WordOf, AckOk, CountedOk, IsCounted, HeldFor, HeldOk, LeadsIn, MemberOk, KeepsOk, Coming, ToldOk, SiteLetterOk, end_of, part, start_at, log_at, term_at}
-use Rattle.log_laws.proofs.Kept.Moves.{Goes}
+use Rattle.log_laws.specs.Histories.{LogState, Entered, Streaming, Leadership, Flow, LogsHold, IsSlot, WordOf, AckOk, CountedOk, IsCounted, HeldFor, HeldOk, LeadsIn, MemberOk, KeepsOk, Coming, ToldOk, SiteLetterOk, end_of, part, site_start, log_at, term_at}
+use Rattle.log_laws.proofs.Kept.Moves.{LogsGo}
 use Rattle.log_laws.proofs.Plain.Lines.{ends-none}
 use Rattle.log_laws.proofs.Plain.Copies.{is_in-in, copy-other, is-leader}
 use Rattle.cluster_steps.proofs.Leaders.{leads-parts, leader-view}
 use Rattle.log_laws.proofs.Kept.Terms.{same-word, entered-start, one-in, took-decided}
-use Rattle.log_laws.proofs.Kept.Plumbing.{after-same, goes-same}
+use Rattle.log_laws.proofs.Kept.Plumbing.{goes-same}
 use Rattle.cluster_steps.proofs.Least.{acked_in-from, reach_now, reach_now-own, reach_now-copy, reach_now-joiner}
 use Rattle.log_laws.proofs.NewTerms.Since.{since-raised}
-use Rattle.log_laws.proofs.Kept.Rests.{SiteRests, ReachRests, SaysRests, Plain, same-joiners, reach-same, site-same, says-nothing, rests-holds, rests-goes}
+use Rattle.log_laws.proofs.Kept.Rests.{SiteRests, ReachRests, SaysRests, Bare, same-joiners, reach-same, rests-goes}
 use Rattle.log_laws.proofs.Kept.Turned.{put_at, put-both, put-here}
 
 -- ---- who leads
@@ -36,7 +36,7 @@ pub record LeaderOf (T : LogState) (i : ℕ) : Type 0 where
   pub first : leader T.words.deployment word (part T i) ≡ Some i
   pub member : MemberOk T i word
 
-pub leader-of : (T : LogState) → Holds T → (i : ℕ) → 0 < start_at T i → is_leader T.words.deployment i (T.sites i) ≡ true → LeaderOf T i
+pub leader-of : (T : LogState) → LogsHold T → (i : ℕ) → 0 < site_start T i → is_leader T.words.deployment i (T.sites i) ≡ true → LeaderOf T i
 leader-of T H i up e =
     let v = leader-view T.words.deployment i (T.sites i) e in
     let m = (H.sites i).member up v.0 in
@@ -44,7 +44,7 @@ leader-of T H i up e =
 
 -- ---- what a leader counts
 
-module _ (T : LogState) (H : Holds T) (i : ℕ) (up : 0 < start_at T i) (o : LeaderOf T i) where
+module _ (T : LogState) (H : LogsHold T) (i : ℕ) (up : 0 < site_start T i) (o : LeaderOf T i) where
   abbrev w : Membership
   w = o.word
 
@@ -66,7 +66,7 @@ module _ (T : LogState) (H : Holds T) (i : ℕ) (up : 0 < start_at T i) (o : Lea
       (all-at (λ a. IsSlot T a.0 → AckOk T a.0 (term_at T i) a.1) (T.sites i).acks keeps.acks (c, v)
       (acked_in-from (T.sites i).acks c v acked) (H.entered c (term_of w) e is).slot)
 
-  acked-log : (c : ℕ) (e : Entered) → T.logs.entered c (term_of w) ≡ Some e → start_at T c ≡ e.start
+  acked-log : (c : ℕ) (e : Entered) → T.logs.entered c (term_of w) ≡ Some e → site_start T c ≡ e.start
       → (v : ℕ) → acked_in (T.sites i).acks c ≡ Some v → v ≤ length (log_at T c)
   acked-log c e is runs v acked = let k = acked-ok c e is v acked in k.now (runs ∙ one-in T H c (term_of w) e.start k.start (inl (e, is, refl)) k.was)
 
@@ -97,7 +97,7 @@ module _ (T : LogState) (H : Holds T) (i : ℕ) (up : 0 < start_at T i) (o : Lea
       (copy-other T.words.deployment i (T.sites i) o.word o.view c e.start n same (entered-start T H c (term_of w) e is w own-word))
 
   -- what copies of the term have in their logs
-  pub reach_now-entered : (c : ℕ) (e : Entered) → part T c ≡ part T i → T.logs.entered c (term_of w) ≡ Some e → start_at T c ≡ e.start
+  pub reach_now-entered : (c : ℕ) (e : Entered) → part T c ≡ part T i → T.logs.entered c (term_of w) ≡ Some e → site_start T c ≡ e.start
       → reach_now T.words.deployment i (T.sites i) ≤ length (log_at T c)
   reach_now-entered c e same is runs = elim (cases_eq c i) [
     | inl q ↦ reach_now-own T.words.deployment i (T.sites i) (length (log_at T c)) low.0 low.1
@@ -119,11 +119,11 @@ module _ (T : LogState) (H : Holds T) (i : ℕ) (up : 0 < start_at T i) (o : Lea
   joiner-ok j is = subst (λ t. CountedOk T (part T i) t j) here (all-at (CountedOk T (part T i) (term_at T i)) (T.sites i).joiners keeps.joiners j is)
 
   -- of which it isn't above where its stream began or what is in its log
-  pub reach_now-counted : (c a stream_start n : ℕ) (v : Membership) → part T c ≡ part T i → WordOf T (term_of w) v → IsCounted T c a stream_start v → start_at T c ≡ a → (T.sites c).earlier < term_of w
+  pub reach_now-counted : (c a stream_start n : ℕ) (v : Membership) → part T c ≡ part T i → WordOf T (term_of w) v → IsCounted T c a stream_start v → site_start T c ≡ a → (T.sites c).earlier < term_of w
       → T.logs.reach (part T c) (term_of w) ≤ n → stream_start ≤ n → length (log_at T c) ≤ n → reach_now T.words.deployment i (T.sites i) ≤ n
   reach_now-counted c a stream_start n v same of counted runs below reach from upto =
       reach_now-joiner T.words.deployment i (T.sites i) n low.0 low.1 j r.1
-      (let m = (joiner-ok j r.1).position (ap (λ x. start_at T x) r.2 ∙ runs ∙ sym r.3) (subst (λ x. (T.sites x).earlier < term_of w) (sym r.2) below) in
+      (let m = (joiner-ok j r.1).position (ap (λ x. site_start T x) r.2 ∙ runs ∙ sym r.3) (subst (λ x. (T.sites x).earlier < term_of w) (sym r.2) below) in
       let l : length (log_at T j.slot) ≤ n = subst (λ x. length (log_at T x) ≤ n) (sym r.2) upto in
       let b = r.4 in
       omega (arith, m, l, b, from))
@@ -138,7 +138,7 @@ module _ (T : LogState) (H : Holds T) (i : ℕ) (up : 0 < start_at T i) (o : Lea
       j = r.0
 
   -- what a slot has in its log that took the stream of the term
-  pub reach_now-streamed : (c : ℕ) (x : Streaming) → part T c ≡ part T i → T.logs.streamed c (term_of w) ≡ Some x → start_at T c ≡ x.start
+  pub reach_now-streamed : (c : ℕ) (x : Streaming) → part T c ≡ part T i → T.logs.streamed c (term_of w) ≡ Some x → site_start T c ≡ x.start
       → reach_now T.words.deployment i (T.sites i) ≤ length (log_at T c)
   reach_now-streamed c x same is runs =
       let k = H.streamed c (term_of w) x is in
@@ -150,7 +150,7 @@ module _ (T : LogState) (H : Holds T) (i : ℕ) (up : 0 < start_at T i) (o : Lea
   pub reach_now-coming : (c : ℕ) (v : Membership) (fl : List Flow) → part T c ≡ part T i → WordOf T (term_of w) v → (T.sites c).earlier < term_of w → log_at T c ≡ []
       → (k : Coming T c v fl) → reach_now T.words.deployment i (T.sites i) ≤ length k.past
   reach_now-coming c v fl same of below empty k =
-      reach_now-counted c (start_at T c) (length k.past) (length k.past) v same of k.counted refl below (subst (λ t. T.logs.reach (part T c) t ≤ length k.past) of.term_is k.reach)
+      reach_now-counted c (site_start T c) (length k.past) (length k.past) v same of k.counted refl below (subst (λ t. T.logs.reach (part T c) t ≤ length k.past) of.term_is k.reach)
       (omega arith) (rw empty (omega arith))
 
   -- ---- what those have in their logs that entered a later term
@@ -172,7 +172,7 @@ module _ (T : LogState) (H : Holds T) (i : ℕ) (up : 0 < start_at T i) (o : Lea
       away : c ≡ i → ⊥
       away q =
           let runs = same-some (sym (member.start_is) ∙ ap (λ x. start_of_slot T.words.deployment w x) (sym q) ∙ entered-start T H c (term_of w) f was w own-word) in
-          let up-to = ((H.entered c t e is).running (ap (λ x. start_at T x) q ∙ runs ∙ start)).1 in
+          let up-to = ((H.entered c t e is).running (ap (λ x. site_start T x) q ∙ runs ∙ start)).1 in
           let at = ap (λ x. term_at T x) q in
           omega (arith, up-to, at, here, above)
 
@@ -205,9 +205,9 @@ pub raised-here : (f : ℕ → ℕ → ℕ) (p t n : ℕ) → n ≤ raised f p t
 raised-here f p t n = subst (λ m. n ≤ m) (sym (put-here f p t (max (f p t) n))) (omega arith)
 
 -- In a term that was led it may rise to what is in each log that was in that term, in those with which slots entered later terms, and in the past of each stream under way.
-pub reach-raised : (S : LogState) → Holds S → (p t n : ℕ) (g : Leadership) → S.logs.leadership p t ≡ Some g → n ≤ length g.log
-    → ((c : ℕ) (e : Entered) → part S c ≡ p → S.logs.entered c t ≡ Some e → start_at S c ≡ e.start → n ≤ length (log_at S c))
-    → ((c : ℕ) (x : Streaming) → part S c ≡ p → S.logs.streamed c t ≡ Some x → start_at S c ≡ x.start → n ≤ length (log_at S c))
+pub reach-raised : (S : LogState) → LogsHold S → (p t n : ℕ) (g : Leadership) → S.logs.leadership p t ≡ Some g → n ≤ length g.log
+    → ((c : ℕ) (e : Entered) → part S c ≡ p → S.logs.entered c t ≡ Some e → site_start S c ≡ e.start → n ≤ length (log_at S c))
+    → ((c : ℕ) (x : Streaming) → part S c ≡ p → S.logs.streamed c t ≡ Some x → site_start S c ≡ x.start → n ≤ length (log_at S c))
     → ((c u : ℕ) (e : Entered) → part S c ≡ p → S.logs.entered c u ≡ Some e → t < u → n ≤ length e.log)
     → ((c : ℕ) (w : Membership) (fl : List Flow) → part S c ≡ p → WordOf S t w → (S.sites c).earlier < t → log_at S c ≡ [] → (k : Coming S c w fl) → n ≤ length k.past)
     → ReachRests S (raised S.logs.reach p t n)
@@ -231,11 +231,6 @@ reach-raised S H p t n g led within entered streamed since coming = record {
   where
     o : ReachRests S S.logs.reach
     o = reach-same S H
-
--- Then all holds as before.
-pub raised-holds : (S : LogState) → Holds S → (reach : ℕ → ℕ → ℕ) → ReachRests S reach → Holds (record S { logs = record S.logs { reach = reach } })
-raised-holds S H reach r = subst Holds (after-same (record S { logs = record S.logs { reach = reach } }) 0)
-    (rests-holds S H 0 (S.sites 0) no_sends reach (site-same S H 0 reach 0) r (says-nothing S H 0))
 
 -- ---- answers that were held
 
@@ -261,16 +256,16 @@ held-told T i h d ok e = go d.letter (subst (λ a. HeldFor a d.letter) e ok)
 
 pub answers-rest : (T : LogState) (i firm : ℕ) (ds : List Held) → AllByRecursion HeldOk ds → SaysRests T i (answers_held firm ds)
 answers-rest T i firm ds h = record {
-  sites = λ c. answers-all (λ l. Plain l × SiteLetterOk T i c l) (Site c) (λ d ok e. absurd (held-away c d ok e)) firm ds h;
-  ended = λ c w joins decided away. ends-none (start_at T c) (term_of w) (answers_held firm ds (Site c))
-      (answers-all (λ l. end_of (start_at T c) (term_of w) l ≡ []) (Site c) (λ d ok e. absurd (held-away c d ok e)) firm ds h);
+  sites = λ c. answers-all (λ l. Bare l × SiteLetterOk T i c l) (Site c) (λ d ok e. absurd (held-away c d ok e)) firm ds h;
+  ended = λ c w joins decided away. ends-none (site_start T c) (term_of w) (answers_held firm ds (Site c))
+      (answers-all (λ l. end_of (site_start T c) (term_of w) l ≡ []) (Site c) (λ d ok e. absurd (held-away c d ok e)) firm ds h);
   told = λ a. answers-all (ToldOk T i) (Agent a) (held-told T i a) firm ds h;
 }
 
 -- ---- the leader counts
 
-counts-leads : (T : LogState) → Holds T → (i : ℕ) → 0 < start_at T i → leads T.words.deployment i (T.sites i) ≡ true
-    → Goes T i (sends_firm (record (T.sites i) { firm = firm_now T.words.deployment i (T.sites i); floor = floor_now T.words.deployment i (T.sites i) }))
+counts-leads : (T : LogState) → LogsHold T → (i : ℕ) → 0 < site_start T i → leads T.words.deployment i (T.sites i) ≡ true
+    → LogsGo T i (sends_firm (record (T.sites i) { firm = firm_now T.words.deployment i (T.sites i); floor = floor_now T.words.deployment i (T.sites i) }))
 counts-leads T H i up authoritative = begun (T.logs.leadership (part T i) (term_of w)) refl
   where
     D : Deployment
@@ -327,7 +322,7 @@ counts-leads T H i up authoritative = begun (T.logs.leadership (part T i) (term_
         omega (arith, b, l)
 
     begun : (r : Option Leadership) → T.logs.leadership (part T i) (term_of w) ≡ r
-        → Goes T i (sends_firm (record s { firm = firm_now D i s; floor = floor_now D i s }))
+        → LogsGo T i (sends_firm (record s { firm = firm_now D i s; floor = floor_now D i s }))
     begun None e = absurd (not-both s.repaired parts.1 (subst (λ r. LeadsIn s r) e (o.member.leading o.first)))
     begun (Some g) e = rests-goes T H i (record s { firm = firm_now D i s; floor = floor_now D i s; held = filter (λ d. nat_lt (firm_now D i s) d.position) s.held })
         (answers_held (firm_now D i s) s.held) (raised T.logs.reach (part T i) (term_of w) n) rests
@@ -338,11 +333,11 @@ counts-leads T H i up authoritative = begun (T.logs.leadership (part T i) (term_
         (λ c x fl same of below empty q. reach_now-coming T H i up o c x fl same of below empty q))
         (answers-rest T i (firm_now D i s) s.held k.held)
 
-pub counts-goes : (T : LogState) → Holds T → (i : ℕ) → 0 < start_at T i → Goes T i (counts T.words.deployment i (T.sites i))
+pub counts-goes : (T : LogState) → LogsHold T → (i : ℕ) → 0 < site_start T i → LogsGo T i (counts T.words.deployment i (T.sites i))
 counts-goes T H i up = choice (leads T.words.deployment i (T.sites i)) refl
   where
     choice : (b : Bool) → leads T.words.deployment i (T.sites i) ≡ b
-        → Goes T i (if b
+        → LogsGo T i (if b
         then sends_firm (record (T.sites i) { firm = firm_now T.words.deployment i (T.sites i); floor = floor_now T.words.deployment i (T.sites i) })
         else becomes (T.sites i))
     choice true e = counts-leads T H i up e

@@ -12,32 +12,32 @@ use Rattle.cluster_model.specs.Site.{counts}
 use Rattle.cluster_model.specs.Sync.{member_written, joiner_written, written, acknowledges, says_loaded, after_sync}
 use Rattle.cluster_steps.specs.Lists.{In}
 use Rattle.cluster_steps.proofs.Lists.{all-one, same-some, none-and-some, not-both}
-use Rattle.log_laws.specs.Histories.{LogState, Holds, WasIn, AckOk, LoadedOk, ToldOk, SiteLetterOk, ViewIn, StreamIn, MemberOk, JoinerOk, KeepsOk, end_of, part, start_at, log_at, term_at}
-use Rattle.log_laws.proofs.Kept.Moves.{Goes}
+use Rattle.log_laws.specs.Histories.{LogState, LogsHold, WasIn, AckOk, LoadedOk, ToldOk, SiteLetterOk, ViewIn, StreamIn, MemberOk, JoinerOk, KeepsOk, end_of, part, site_start, log_at, term_at}
+use Rattle.log_laws.proofs.Kept.Moves.{LogsGo}
 use Rattle.log_laws.proofs.Plain.Lines.{ends-none, ends-plain}
 use Rattle.log_laws.proofs.Plain.Copies.{leader-copy, start-in-view}
 use Rattle.log_laws.proofs.Kept.Terms.{some-start, some-term, took-decided}
 use Rattle.log_laws.proofs.Kept.Plumbing.{goes-then, goes-same, GoesFrom}
-use Rattle.log_laws.proofs.Kept.Rests.{SiteRests, JoiningRests, Plain, part-from, reach-same, site-same, site-rests, says-nothing, rests-goes}
+use Rattle.log_laws.proofs.Kept.Rests.{SiteRests, JoiningRests, Bare, part-from, reach-same, site-same, site-rests, says-nothing, rests-goes}
 use Rattle.log_laws.proofs.Firmness.Firm.{counts-goes}
 
 -- ---- what it says
 
-module _ (T : LogState) (H : Holds T) (i : ℕ) (up : 0 < start_at T i) where
+module _ (T : LogState) (H : LogsHold T) (i : ℕ) (up : 0 < site_start T i) where
   keeps : KeepsOk T i
   keeps = (H.sites i).keeps up
 
   -- its position, in the term that it is in
-  own-ack : WasIn T i (term_at T i) (start_at T i) → AckOk T i (term_at T i) (T.sites i).on_disk
+  own-ack : WasIn T i (term_at T i) (site_start T i) → AckOk T i (term_at T i) (T.sites i).on_disk
   own-ack was = record {
-    start = start_at T i;
+    start = site_start T i;
     some = up;
     was = was;
     now = λ _. keeps.on_disk;
     later = λ u e above is start. let r = ((H.entered i u e is).running (sym start)).1 in absurd (omega (arith, r, above));
   }
 
-  module _ (w : Membership) (view : (T.sites i).view ≡ Some w) (decided : In w T.words.history.decided) (was : WasIn T i (term_at T i) (start_at T i)) where
+  module _ (w : Membership) (view : (T.sites i).view ≡ Some w) (decided : In w T.words.history.decided) (was : WasIn T i (term_at T i) (site_start T i)) where
     -- Ack goes to the leader, which is a member.
     abbrev ack-letter : ℕ → Letter
     ack-letter slot = letter_in (term_at T i) (start_in_view T.words.deployment (T.sites i).view slot) (msg.Ack (T.sites i).on_disk)
@@ -52,21 +52,21 @@ module _ (T : LogState) (H : Holds T) (i : ℕ) (up : 0 < start_at T i) where
           own-ack was,
         )
 
-    acknowledges-goes : (o : Option ℕ) → leader_in T.words.deployment (T.sites i).view (part T i) ≡ o → Goes T i (acknowledges T.words.deployment i (T.sites i) o)
+    acknowledges-goes : (o : Option ℕ) → leader_in T.words.deployment (T.sites i).view (part T i) ≡ o → LogsGo T i (acknowledges T.words.deployment i (T.sites i) o)
     acknowledges-goes None e = goes-same T i H
     acknowledges-goes (Some slot) e = rests-goes T H i (T.sites i) (only (Site slot) (ack-letter slot)) T.logs.reach (site-same T H i T.logs.reach i) (reach-same T H) (record {
-      sites = λ c. all-one (λ l. Plain l × SiteLetterOk T i c l) (slot == c) (ack-letter slot) (λ _. ((refl, refl, refl, tt), ack-ok slot e c));
-      ended = λ c v joins of away. ends-none (start_at T c) (term_of v) (only (Site slot) (ack-letter slot) (Site c))
-          (all-one (λ l. end_of (start_at T c) (term_of v) l ≡ []) (slot == c) (ack-letter slot) (λ _. ends-plain (start_at T c) (term_of v) (ack-letter slot) refl));
+      sites = λ c. all-one (λ l. Bare l × SiteLetterOk T i c l) (slot == c) (ack-letter slot) (λ _. ((refl, refl, refl, tt), ack-ok slot e c));
+      ended = λ c v joins of away. ends-none (site_start T c) (term_of v) (only (Site slot) (ack-letter slot) (Site c))
+          (all-one (λ l. end_of (site_start T c) (term_of v) l ≡ []) (slot == c) (ack-letter slot) (λ _. ends-plain (site_start T c) (term_of v) (ack-letter slot) refl));
       told = λ h. tt;
     })
 
   -- Loaded goes to its agent.
-  loaded-ok : (j : Joining) → (T.sites i).joining ≡ Some j → j.is_based ≡ true → LoadedOk T i (start_at T i)
+  loaded-ok : (j : Joining) → (T.sites i).joining ≡ Some j → j.is_based ≡ true → LoadedOk T i (site_start T i)
   loaded-ok j some based = let r = (H.sites i).ran up in
-      (subst (In (start_at T i)) (sym r.1) (inl refl), λ _ is k here. ap (λ x. x.is_based) (same-some (sym here ∙ some)) ∙ based)
+      (subst (In (site_start T i)) (sym r.1) (inl refl), λ _ is k here. ap (λ x. x.is_based) (same-some (sym here ∙ some)) ∙ based)
 
-  says_loaded-goes : (j : Joining) → (T.sites i).joining ≡ Some j → j.is_based ≡ true → Goes T i (says_loaded T.words.deployment i (T.sites i) j)
+  says_loaded-goes : (j : Joining) → (T.sites i).joining ≡ Some j → j.is_based ≡ true → LogsGo T i (says_loaded T.words.deployment i (T.sites i) j)
   says_loaded-goes j some based = choice j.has_told
     where
       loaded : j.is_loaded ≡ true
@@ -83,34 +83,34 @@ module _ (T : LogState) (H : Holds T) (i : ℕ) (up : 0 < start_at T i) where
           ))
           (λ _. keeps.on_disk)
 
-      choice : (b : Bool) → Goes T i (if b then becomes (T.sites i)
+      choice : (b : Bool) → LogsGo T i (if b then becomes (T.sites i)
           else sending (record (T.sites i) { joining = Some (record j { has_told = true }) })
-          (only (Agent (host_of_slot T.words.deployment i)) (letter_to (start_at T i) (msg.Loaded (start_at T i)))))
+          (only (Agent (host_of_slot T.words.deployment i)) (letter_to (site_start T i) (msg.Loaded (site_start T i)))))
       choice true = goes-same T i H
       choice false = rests-goes T H i (record (T.sites i) { joining = Some (record j { has_told = true }) })
-          (only (Agent (host_of_slot T.words.deployment i)) (letter_to (start_at T i) (msg.Loaded (start_at T i)))) T.logs.reach rests (reach-same T H) (record {
+          (only (Agent (host_of_slot T.words.deployment i)) (letter_to (site_start T i) (msg.Loaded (site_start T i)))) T.logs.reach rests (reach-same T H) (record {
             sites = λ c. tt;
             ended = λ c v joins of away. refl;
-            told = λ h. all-one (ToldOk T i) (host_of_slot T.words.deployment i == h) (letter_to (start_at T i) (msg.Loaded (start_at T i))) (λ _. loaded-ok j some based);
+            told = λ h. all-one (ToldOk T i) (host_of_slot T.words.deployment i == h) (letter_to (site_start T i) (msg.Loaded (site_start T i))) (λ _. loaded-ok j some based);
           })
 
   -- a joiner that has loaded has taken the stream of its word
   loaded-took : (j : Joining) → (T.sites i).joining ≡ Some j → j.is_loaded ≡ true
-      → (w : Membership) × ((T.sites i).view ≡ Some w) × In w T.words.history.decided × WasIn T i (term_at T i) (start_at T i)
+      → (w : Membership) × ((T.sites i).view ≡ Some w) × In w T.words.history.decided × WasIn T i (term_at T i) (site_start T i)
   loaded-took j some loaded = viewed (T.sites i).view refl ((H.sites i).joiner j some).view
     where
-      streamed : (w : Membership) (st : Option Streamed) → StreamIn T i w j st → WasIn T i (term_of w) (start_at T i)
+      streamed : (w : Membership) (st : Option Streamed) → StreamIn T i w j st → WasIn T i (term_of w) (site_start T i)
       streamed w None u = absurd (not-both j.is_loaded loaded u.loads)
-      streamed w (Some st) u = inr (record { start = start_at T i; stream_start = st.stream_start }, u.streamed, refl)
+      streamed w (Some st) u = inr (record { start = site_start T i; stream_start = st.stream_start }, u.streamed, refl)
 
       viewed : (o : Option Membership) → (T.sites i).view ≡ o → ViewIn T i j o
-          → (w : Membership) × ((T.sites i).view ≡ Some w) × In w T.words.history.decided × WasIn T i (term_at T i) (start_at T i)
+          → (w : Membership) × ((T.sites i).view ≡ Some w) × In w T.words.history.decided × WasIn T i (term_at T i) (site_start T i)
       viewed None e v = absurd (not-both j.is_loaded loaded v.loads)
       viewed (Some w) e v = (
         w,
         e,
-        took-decided T H (start_at T i) w v.took,
-        subst (λ t. WasIn T i t (start_at T i)) (sym (ap term_in e)) (streamed w j.stream v.stream),
+        took-decided T H (site_start T i) w v.took,
+        subst (λ t. WasIn T i t (site_start T i)) (sym (ap term_in e)) (streamed w j.stream v.stream),
       )
 
 -- ---- once it has written
@@ -119,15 +119,15 @@ acknowledges-state : (D : Deployment) (i : ℕ) (s : SiteState) (o : Option ℕ)
 acknowledges-state D i s None = refl
 acknowledges-state D i s (Some slot) = refl
 
-module _ (T : LogState) (H : Holds T) (i : ℕ) (up : 0 < start_at T i) where
-  joiner-goes : (j : Joining) → (T.sites i).joining ≡ Some j → Goes T i (after_sync T.words.deployment i (T.sites i) (Some j))
+module _ (T : LogState) (H : LogsHold T) (i : ℕ) (up : 0 < site_start T i) where
+  joiner-goes : (j : Joining) → (T.sites i).joining ≡ Some j → LogsGo T i (after_sync T.words.deployment i (T.sites i) (Some j))
   joiner-goes j some = choice j.is_based refl
     where
       then-loaded : j.is_based ≡ true → (s : SiteState) → s ≡ T.sites i → GoesFrom T i s (says_loaded T.words.deployment i s j)
-      then-loaded based s is S here same pending K = subst (λ D. Goes S i (says_loaded D i s j)) same (subst (λ x. Goes S i (says_loaded S.words.deployment i x j)) here
+      then-loaded based s is S here same pending K = subst (λ D. LogsGo S i (says_loaded D i s j)) same (subst (λ x. LogsGo S i (says_loaded S.words.deployment i x j)) here
           (says_loaded-goes S K i (subst (λ x. 0 < x.start) (sym (here ∙ is)) up) j (ap (λ x. x.joining) (here ∙ is) ∙ some) based))
 
-      choice : (b : Bool) → j.is_based ≡ b → Goes T i (if b then acknowledges T.words.deployment i (T.sites i) (leader_in T.words.deployment (T.sites i).view (part T i))
+      choice : (b : Bool) → j.is_based ≡ b → LogsGo T i (if b then acknowledges T.words.deployment i (T.sites i) (leader_in T.words.deployment (T.sites i).view (part T i))
           ▸ (λ x. says_loaded T.words.deployment i x j) else becomes (T.sites i))
       choice false e = goes-same T i H
       choice true e =
@@ -137,25 +137,25 @@ module _ (T : LogState) (H : Holds T) (i : ℕ) (up : 0 < start_at T i) where
           (acknowledges-goes T H i up k.0 k.1 k.2 k.3 o refl)
           (then-loaded e (acknowledges T.words.deployment i (T.sites i) o).state (acknowledges-state T.words.deployment i (T.sites i) o))
 
-  member-goes : (T.sites i).joining ≡ None → Goes T i (after_sync T.words.deployment i (T.sites i) None)
+  member-goes : (T.sites i).joining ≡ None → LogsGo T i (after_sync T.words.deployment i (T.sites i) None)
   member-goes none = choice (is_leader T.words.deployment i (T.sites i)) ((T.sites i).mark == term_at T i)
     where
       m : (w : Membership) × ((T.sites i).view ≡ Some w) × MemberOk T i w
       m = (H.sites i).member up none
 
-      was : WasIn T i (term_at T i) (start_at T i)
-      was = subst (λ t. WasIn T i t (start_at T i)) (sym (ap term_in m.1)) (inl (m.2.entered, m.2.is_entered, m.2.since))
+      was : WasIn T i (term_at T i) (site_start T i)
+      was = subst (λ t. WasIn T i t (site_start T i)) (sym (ap term_in m.1)) (inl (m.2.entered, m.2.is_entered, m.2.since))
 
-      choice : (b c : Bool) → Goes T i (if b then counts T.words.deployment i (T.sites i)
+      choice : (b c : Bool) → LogsGo T i (if b then counts T.words.deployment i (T.sites i)
           else if c then acknowledges T.words.deployment i (T.sites i) (leader_in T.words.deployment (T.sites i).view (part T i)) else becomes (T.sites i))
       choice true c = counts-goes T H i up
       choice false true = acknowledges-goes T H i up m.0 m.1 m.2.decided was (leader_in T.words.deployment (T.sites i).view (part T i)) refl
       choice false false = goes-same T i H
 
-  pub after_sync-goes : Goes T i (after_sync T.words.deployment i (T.sites i) (T.sites i).joining)
+  pub after_sync-goes : LogsGo T i (after_sync T.words.deployment i (T.sites i) (T.sites i).joining)
   after_sync-goes = choice (T.sites i).joining refl
     where
-      choice : (o : Option Joining) → (T.sites i).joining ≡ o → Goes T i (after_sync T.words.deployment i (T.sites i) o)
+      choice : (o : Option Joining) → (T.sites i).joining ≡ o → LogsGo T i (after_sync T.words.deployment i (T.sites i) o)
       choice None e = member-goes e
       choice (Some j) e = joiner-goes j e
 
@@ -202,13 +202,13 @@ module _ (T : LogState) (H : Holds T) (i : ℕ) (up : 0 < start_at T i) where
       choice None e = member-rests contents
       choice (Some j) e = joiner-rests j e j.stream contents
 
-  pub written-goes : (contents : List Shown) → Goes T i (becomes (record (written (T.sites i) (T.sites i).joining) { contents = contents }))
+  pub written-goes : (contents : List Shown) → LogsGo T i (becomes (record (written (T.sites i) (T.sites i).joining) { contents = contents }))
   written-goes contents = rests-goes T H i (record (written (T.sites i) (T.sites i).joining) { contents = contents }) no_sends T.logs.reach
       (written-rests contents) (reach-same T H) (says-nothing T H i)
 
 -- Sync, without what settles behind it: the site writes, and says so.
-pub sync-goes : (T : LogState) → Holds T → (i : ℕ) → 0 < start_at T i → (contents : List Shown)
-    → let b = record (written (T.sites i) (T.sites i).joining) { contents = contents } in Goes T i (after_sync T.words.deployment i b b.joining)
+pub sync-goes : (T : LogState) → LogsHold T → (i : ℕ) → 0 < site_start T i → (contents : List Shown)
+    → let b = record (written (T.sites i) (T.sites i).joining) { contents = contents } in LogsGo T i (after_sync T.words.deployment i b b.joining)
 sync-goes T H i up contents =
     let b = record (written (T.sites i) (T.sites i).joining) { contents = contents } in
     let w = written-goes T H i up contents in

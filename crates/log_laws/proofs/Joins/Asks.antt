@@ -12,26 +12,26 @@ use Rattle.cluster_model.specs.Words.{term_of}
 use Rattle.cluster_model.specs.World.{set_at}
 use Rattle.cluster_steps.proofs.Lists.{all-append, set-here, set-there}
 use Rattle.cluster_steps.proofs.Channels.{sent-nothing}
-use Rattle.log_laws.specs.Histories.{AskOk, ForeignOk, Holds, IsSlot, KeepsOk, LogState, SiteLetterOk, WaitingFrom, WaitingOk, between, flow, part, start_at, term_at}
+use Rattle.log_laws.specs.Histories.{AsksToJoin, ForeignOk, LogsHold, IsSlot, KeepsOk, LogState, SiteLetterOk, SiteWaitingFrom, SiteWaitingOk, between, flow, part, site_start, term_at}
 use Rattle.log_laws.proofs.Kept.Terms.{running-slot}
 use Rattle.log_laws.proofs.Kept.Asked.{AsksLess, left-kept, popped-kept}
-use Rattle.log_laws.proofs.Kept.Keeps.{Still}
+use Rattle.log_laws.proofs.Kept.Keeps.{SiteStays}
 use Rattle.log_laws.proofs.Plain.Lines.{flow-plain}
-use Rattle.log_laws.proofs.Kept.Moves.{Goes, left, popped}
-use Rattle.log_laws.proofs.Kept.OneSite.{LessTo, Takes, becomes-goes, counts-on, same-counts, same-uncounts, takes-asks, takes-holds, takes-joiner-same, takes-joiners, takes-keeps, takes-letters, takes-member, takes-stream, uncounts-on, with-site}
-use Rattle.log_laws.proofs.Kept.Steady.{GoesOn}
+use Rattle.log_laws.proofs.Kept.Moves.{LogsGo, left, site_popped}
+use Rattle.log_laws.proofs.Kept.OneSite.{LessTo, SiteTakes, becomes-goes, counts-on, same-counts, same-uncounts, takes-asks, takes-holds, takes-joiner-same, takes-joiners, takes-keeps, takes-letters, takes-member, takes-stream, uncounts-on, with-site}
+use Rattle.log_laws.proofs.Kept.Steady.{SiteGoesOn}
 use Rattle.log_laws.proofs.Messages.Taken.{first-foreign, first-less, first-letters, first-takes, without, without-each}
 
 -- ---- an ask
 
 -- what is known of one
-ask-known : (S : LogState) (c i : ℕ) (x : Letter) (a slot : ℕ) → x.body ≡ msg.JoinAsk a slot → SiteLetterOk S c i x → (slot ≡ c) × AskOk S (part S i) c x.term a
+ask-known : (S : LogState) (c i : ℕ) (x : Letter) (a slot : ℕ) → x.body ≡ msg.JoinAsk a slot → SiteLetterOk S c i x → (slot ≡ c) × AsksToJoin S (part S i) c x.term a
 ask-known S c i x a slot body k = let r = subst (λ m. SiteLetterOk S c i (record x { body = m })) body k in (r.1, r.2)
 
-ask-waited : (S : LogState) (c i : ℕ) (x : Letter) (a slot : ℕ) → x.body ≡ msg.JoinAsk a slot → WaitingFrom S i (Site c) x → (slot ≡ c) × AskOk S (part S i) c x.term a
-ask-waited S c i x a slot body k = let r = subst (λ m. WaitingFrom S i (Site c) (record x { body = m })) body k in (r.1, r.2)
+ask-waited : (S : LogState) (c i : ℕ) (x : Letter) (a slot : ℕ) → x.body ≡ msg.JoinAsk a slot → SiteWaitingFrom S i (Site c) x → (slot ≡ c) × AsksToJoin S (part S i) c x.term a
+ask-waited S c i x a slot body k = let r = subst (λ m. SiteWaitingFrom S i (Site c) (record x { body = m })) body k in (r.1, r.2)
 
-keeping-on : (s : SiteState) (a slot : ℕ) → GoesOn s (on_join_ask s a slot)
+keeping-on : (s : SiteState) (a slot : ℕ) → SiteGoesOn s (on_join_ask s a slot)
 keeping-on s a slot = record {
   start = refl;
   greatest = refl;
@@ -47,24 +47,24 @@ keeping-on s a slot = record {
   loaded = λ j e. (j, e, λ l. l);
 }
 
-keeping-still : (s : SiteState) (a slot : ℕ) → Still s (on_join_ask s a slot)
+keeping-still : (s : SiteState) (a slot : ℕ) → SiteStays s (on_join_ask s a slot)
 keeping-still s a slot = record { start = refl; greatest = refl; earlier = refl; view = refl; joining = refl; log = refl; floor = refl; repaired = refl; firm = refl }
 
 -- the site that keeps it, wherever it came from
-module _ (S : LogState) (H : Holds S) (i a slot : ℕ) (ok : AskOk S (part S i) slot (term_at S i) a) (ch : Actor → Actor → List Letter) (pend : ℕ → List Waiting)
-    (k : Takes S i (on_join_ask (S.sites i) a slot) ch pend S.logs.streamed) (less : LessTo S i ch)
+module _ (S : LogState) (H : LogsHold S) (i a slot : ℕ) (ok : AsksToJoin S (part S i) slot (term_at S i) a) (ch : Actor → Actor → List Letter) (pend : ℕ → List Waiting)
+    (k : SiteTakes S i (on_join_ask (S.sites i) a slot) ch pend S.logs.streamed) (less : LessTo S i ch)
     (flows : (l a t : ℕ) → flow a t (ch (Site l) (Site i)) ≡ flow a t (between S l i)) where
-  keeping-holds : (KeepsOk S i → AllByRecursion (WaitingOk S i) (pend i))
+  keeping-holds : (KeepsOk S i → AllByRecursion (SiteWaitingOk S i) (pend i))
       → ((l : ℕ) → IsSlot S i → AllByRecursion (SiteLetterOk (with-site S i (on_join_ask (S.sites i) a slot) ch pend S.logs.streamed) l i) (ch (Site l) (Site i)))
       → ((from : Actor) → AllByRecursion (ForeignOk S i from) (ch from (Site i)))
-      → Holds (with-site S i (on_join_ask (S.sites i) a slot) ch pend S.logs.streamed)
+      → LogsHold (with-site S i (on_join_ask (S.sites i) a slot) ch pend S.logs.streamed)
   keeping-holds pending letters foreign = takes-holds S H i s ch pend S.logs.streamed k
       (λ w none h. takes-member S H i s ch pend S.logs.streamed k less (keeping-still (S.sites i) a slot) w h)
       (λ j is. takes-joiner-same S H i s ch pend S.logs.streamed k less (keeping-still (S.sites i) a slot) (λ t. refl)
-      (λ w view l f low. flows l (start_at S i) (term_of w)) j ((H.sites i).joiner j is))
+      (λ w view l f low. flows l (site_start S i) (term_of w)) j ((H.sites i).joiner j is))
       (λ h. takes-keeps S H i s ch pend S.logs.streamed k h (takes-joiners S H i s ch pend S.logs.streamed k (S.sites i).joiners h.joiners) h.alone h.leads
       (takes-asks S H i s ch pend S.logs.streamed k s.asks
-      (all-append (λ a. AskOk S (part S i) a.slot (term_at S i) a.start) (S.sites i).asks (record { slot = slot; start = a } ∷ []) h.asks (ok, tt)))
+      (all-append (λ a. AsksToJoin S (part S i) a.slot (term_at S i) a.start) (S.sites i).asks (record { slot = slot; start = a } ∷ []) h.asks (ok, tt)))
       (pending h) h.on_disk)
       letters foreign (takes-stream S H i s ch pend S.logs.streamed k)
     where
@@ -73,28 +73,28 @@ module _ (S : LogState) (H : Holds S) (i a slot : ℕ) (ok : AskOk S (part S i) 
 
 -- ---- from a channel
 
-pub join-ask-goes : (S : LogState) → Holds S → (i c : ℕ) (l : Letter) (ls : List Letter) (a slot : ℕ) → between S c i ≡ record l { body = msg.JoinAsk a slot } ∷ ls
-    → 0 < start_at S i → l.start ≡ start_at S i → l.term ≡ term_at S i → Goes (popped S (Site c) i) i (becomes (on_join_ask (S.sites i) a slot))
-join-ask-goes S H i c l ls a slot e up start term = becomes-goes (popped S (Site c) i) i s S.logs.streamed refl refl (omega arith)
+pub join-ask-goes : (S : LogState) → LogsHold S → (i c : ℕ) (l : Letter) (ls : List Letter) (a slot : ℕ) → between S c i ≡ record l { body = msg.JoinAsk a slot } ∷ ls
+    → 0 < site_start S i → l.start ≡ site_start S i → l.term ≡ term_at S i → LogsGo (site_popped S (Site c) i) i (becomes (on_join_ask (S.sites i) a slot))
+join-ask-goes S H i c l ls a slot e up start term = becomes-goes (site_popped S (Site c) i) i s S.logs.streamed refl refl (omega arith)
     (keeping-holds S H i a slot ok (without S c i) S.pending k less flows (λ h. h.pending)
     (first-letters S H c i x ls e s g S.logs.streamed k (λ t. refl)) (first-foreign S H c i x ls e))
   where
     s : SiteState
     s = on_join_ask (S.sites i) a slot
 
-    g : GoesOn (S.sites i) s
+    g : SiteGoesOn (S.sites i) s
     g = keeping-on (S.sites i) a slot
 
     x : Letter
     x = record l { body = msg.JoinAsk a slot }
 
-    known : (slot ≡ c) × AskOk S (part S i) c x.term a
+    known : (slot ≡ c) × AsksToJoin S (part S i) c x.term a
     known = ask-known S c i x a slot refl (subst (AllByRecursion (SiteLetterOk S c i)) e (H.letters c i (running-slot S H i up))).0
 
-    ok : AskOk S (part S i) slot (term_at S i) a
+    ok : AsksToJoin S (part S i) slot (term_at S i) a
     ok = rw (known.0, ← term) known.1
 
-    k : Takes S i s (without S c i) S.pending S.logs.streamed
+    k : SiteTakes S i s (without S c i) S.pending S.logs.streamed
     k = first-takes S H c i x ls e s g S.logs.streamed up (λ c t n. refl) (λ t y is. is) (λ t y is. inl is)
         (popped-kept S (Site c) i x ls e S.logs a slot refl (ap Site (sym known.0)) term) refl
 
@@ -107,34 +107,34 @@ join-ask-goes S H i c l ls a slot e up start term = becomes-goes (popped S (Site
 
 -- ---- from what waited
 
-pub join-ask-left-goes : (S : LogState) → Holds S → (i c : ℕ) (l : Letter) (ws : List Waiting) (a slot : ℕ)
-    → S.pending i ≡ record { from = Site c; letter = record l { body = msg.JoinAsk a slot } } ∷ ws → 0 < start_at S i → l.start ≡ start_at S i → l.term ≡ term_at S i
-    → Goes (left S i ws) i (becomes (on_join_ask (S.sites i) a slot))
+pub join-ask-left-goes : (S : LogState) → LogsHold S → (i c : ℕ) (l : Letter) (ws : List Waiting) (a slot : ℕ)
+    → S.pending i ≡ record { from = Site c; letter = record l { body = msg.JoinAsk a slot } } ∷ ws → 0 < site_start S i → l.start ≡ site_start S i → l.term ≡ term_at S i
+    → LogsGo (left S i ws) i (becomes (on_join_ask (S.sites i) a slot))
 join-ask-left-goes S H i c l ws a slot e up start term = becomes-goes (left S i ws) i s S.logs.streamed refl refl (omega arith)
     (keeping-holds S H i a slot ok S.words.channel (set_at S.pending i ws) k (record { lines = λ l a t. refl; flows = λ l a t e. e; ends = λ l a t e. e }) (λ l a t. refl)
-    (λ h. subst (AllByRecursion (WaitingOk S i)) (sym (set-here S.pending i ws)) (pend.1))
+    (λ h. subst (AllByRecursion (SiteWaitingOk S i)) (sym (set-here S.pending i ws)) (pend.1))
     (λ l is. takes-letters S H i s S.words.channel (set_at S.pending i ws) S.logs.streamed k (λ t. refl) l (λ a t stream_start b. b) (between S l i) (H.letters l i is))
     (λ from. H.foreign from i))
   where
     s : SiteState
     s = on_join_ask (S.sites i) a slot
 
-    g : GoesOn (S.sites i) s
+    g : SiteGoesOn (S.sites i) s
     g = keeping-on (S.sites i) a slot
 
     x : Waiting
     x = record { from = Site c; letter = record l { body = msg.JoinAsk a slot } }
 
-    pend : WaitingOk S i x × AllByRecursion (WaitingOk S i) ws
-    pend = subst (AllByRecursion (WaitingOk S i)) e ((H.sites i).keeps up).pending
+    pend : SiteWaitingOk S i x × AllByRecursion (SiteWaitingOk S i) ws
+    pend = subst (AllByRecursion (SiteWaitingOk S i)) e ((H.sites i).keeps up).pending
 
-    known : (slot ≡ c) × AskOk S (part S i) c x.letter.term a
+    known : (slot ≡ c) × AsksToJoin S (part S i) c x.letter.term a
     known = ask-waited S c i x.letter a slot refl pend.0.1
 
-    ok : AskOk S (part S i) slot (term_at S i) a
+    ok : AsksToJoin S (part S i) slot (term_at S i) a
     ok = rw (known.0, ← term) known.1
 
-    k : Takes S i s S.words.channel (set_at S.pending i ws) S.logs.streamed
+    k : SiteTakes S i s S.words.channel (set_at S.pending i ws) S.logs.streamed
     k = record {
       up = up;
       goes = g;

@@ -13,21 +13,21 @@ use Rattle.cluster_model.specs.Words.{is_some_of, term_in, term_of}
 use Rattle.cluster_steps.proofs.Lists.{none-and-some, same-some, set-here, set-there}
 use Rattle.word_laws.specs.Histories.{Distinct}
 use Rattle.cluster_steps.specs.Lists.{In}
-use Rattle.log_laws.specs.Histories.{CountedOk, EndOk, Holds, JoinerOk, KeepsOk, LogState, MemberOk, StreamIn, Took, asked, asks_in, asks_of_term, asks_waiting, between, log_at, part, start_at, term_at}
+use Rattle.log_laws.specs.Histories.{CountedOk, EndOk, LogsHold, JoinerOk, KeepsOk, LogState, MemberOk, StreamIn, Took, asked, asks_in, asks_of_term, asks_waiting, between, log_at, part, site_start, term_at}
 use Rattle.log_laws.proofs.Kept.Asked.{AtMost, asks-at, asks-of-same, at-most-same}
-use Rattle.log_laws.proofs.Kept.Keeps.{Still}
-use Rattle.log_laws.proofs.Kept.Moves.{Goes}
-use Rattle.log_laws.proofs.Kept.OneSite.{LessTo, Takes, becomes-goes, counts-on, same-counts, same-uncounts, takes-asks, takes-holds, takes-joined, takes-joiner, takes-joiner-same, takes-joiners, takes-keeps, takes-kept, takes-letters, takes-member, takes-stream, takes-took, takes-untaken, takes-word, takes-wordless, uncounts-on, with-site}
+use Rattle.log_laws.proofs.Kept.Keeps.{SiteStays}
+use Rattle.log_laws.proofs.Kept.Moves.{LogsGo}
+use Rattle.log_laws.proofs.Kept.OneSite.{LessTo, SiteTakes, becomes-goes, counts-on, same-counts, same-uncounts, takes-asks, takes-holds, takes-joined, takes-joiner, takes-joiner-same, takes-joiners, takes-keeps, takes-kept, takes-letters, takes-member, takes-stream, takes-took, takes-untaken, takes-word, takes-wordless, uncounts-on, with-site}
 use Rattle.log_laws.proofs.Kept.Plumbing.{goes-same}
-use Rattle.log_laws.proofs.Kept.Steady.{GoesOn}
+use Rattle.log_laws.proofs.Kept.Steady.{SiteGoesOn}
 use Rattle.log_laws.proofs.Kept.Rests.{SameJoiners, map-joiners, map-slots}
 
 -- ---- a site changes with nothing under way
 
-module _ (S : LogState) (H : Holds S) (i : ℕ) (up : 0 < start_at S i) (s : SiteState) (g : GoesOn (S.sites i) s) (asks : s.asks ≡ (S.sites i).asks)
+module _ (S : LogState) (H : LogsHold S) (i : ℕ) (up : 0 < site_start S i) (s : SiteState) (g : SiteGoesOn (S.sites i) s) (asks : s.asks ≡ (S.sites i).asks)
     (each : (j : Joiner) → In j (S.sites i).joiners → (n : Joiner) × In n s.joiners × (n.slot ≡ j.slot) × (n.start ≡ j.start) × (n.stream_start ≡ j.stream_start))
     (back : (n : Joiner) → In n s.joiners → (j : Joiner) × In j (S.sites i).joiners × (j.slot ≡ n.slot) × (j.start ≡ n.start)) where
-  pub alone-takes : Takes S i s S.words.channel S.pending S.logs.streamed
+  pub alone-takes : SiteTakes S i s S.words.channel S.pending S.logs.streamed
   alone-takes = record {
     up = up;
     goes = g;
@@ -53,7 +53,7 @@ module _ (S : LogState) (H : Holds S) (i : ℕ) (up : 0 < start_at S i) (s : Sit
   pub alone-goes : ((w : Membership) → (S.sites i).joining ≡ None → MemberOk S i w → MemberOk (with-site S i s S.words.channel S.pending S.logs.streamed) i w)
       → ((j : Joining) → s.joining ≡ Some j → JoinerOk (with-site S i s S.words.channel S.pending S.logs.streamed) i j)
       → (KeepsOk S i → KeepsOk (with-site S i s S.words.channel S.pending S.logs.streamed) i)
-      → Goes S i (becomes s)
+      → LogsGo S i (becomes s)
   alone-goes member joiner keeps = becomes-goes S i s S.logs.streamed g.start g.view g.log
       (takes-holds S H i s S.words.channel S.pending S.logs.streamed alone-takes member joiner keeps
       (λ l slot. takes-letters S H i s S.words.channel S.pending S.logs.streamed alone-takes (λ t. refl) l (λ a t stream_start b. b) (between S l i) (H.letters l i slot))
@@ -74,7 +74,7 @@ pub record LoadsOn (S : LogState) (i : ℕ) (j n : Joining) (log : List Entry) (
   pub ends : (n.is_loaded ≡ true ⊎ is_some n.count ≡ true) → stream_start ≤ S.logs.reach (part S i) (term_of w)
 
 pub load-on : (s : SiteState) (j n : Joining) (log : List Entry) → s.joining ≡ Some j → length s.log ≤ length log → (j.is_based ≡ true → n.is_based ≡ true)
-    → GoesOn s (with-load s n log)
+    → SiteGoesOn s (with-load s n log)
 load-on s j n log is longer based = record {
   start = refl;
   greatest = refl;
@@ -90,12 +90,12 @@ load-on s j n log is longer based = record {
   loaded = λ x e. (j, is, λ b. subst (λ z. z.is_based ≡ true) (same-some e) (based b));
 }
 
-module _ (S : LogState) (H : Holds S) (i : ℕ) (up : 0 < start_at S i) (j n : Joining) (log : List Entry) (is : (S.sites i).joining ≡ Some j)
+module _ (S : LogState) (H : LogsHold S) (i : ℕ) (up : 0 < site_start S i) (j n : Joining) (log : List Entry) (is : (S.sites i).joining ≡ Some j)
     (longer : length (log_at S i) ≤ length log) (loaded : j.is_loaded ≡ true → n.is_loaded ≡ true) where
   load-goes : n.has_told ≡ j.has_told → n.is_based ≡ j.is_based → n.stream ≡ j.stream
       → (j.stream ≡ None → (n.is_loaded ≡ j.is_loaded) × (n.count ≡ j.count) × (n.tasks ≡ j.tasks) × (log ≡ log_at S i))
       → ((w : Membership) (stream_start : ℕ) → (S.sites i).view ≡ Some w → Took S i w j stream_start → LoadsOn S i j n log w stream_start)
-      → Goes S i (becomes (with-load (S.sites i) n log))
+      → LogsGo S i (becomes (with-load (S.sites i) n log))
   load-goes told based stream untaken took = becomes-goes S i s S.logs.streamed refl refl longer
       (takes-joined S H i s S.words.channel S.pending S.logs.streamed k j n is refl refl refl (λ h. let d = h.on_disk in omega (arith, d, longer)) (λ h. h)
       (takes-joiner S H i s S.words.channel S.pending S.logs.streamed k j n refl
@@ -120,7 +120,7 @@ module _ (S : LogState) (H : Holds S) (i : ℕ) (up : 0 < start_at S i) (j n : J
       back : (y : Joiner) → In y s.joiners → (x : Joiner) × In x (S.sites i).joiners × (x.slot ≡ y.slot) × (x.start ≡ y.start)
       back = same-uncounts (S.sites i).joiners s.joiners refl
 
-      k : Takes S i s S.words.channel S.pending S.logs.streamed
+      k : SiteTakes S i s S.words.channel S.pending S.logs.streamed
       k = alone-takes S H i up s (load-on (S.sites i) j n log is longer (λ b. based ∙ b)) refl each back
 
       less : LessTo S i S.words.channel
@@ -137,11 +137,11 @@ module _ (S : LogState) (H : Holds S) (i : ℕ) (up : 0 < start_at S i) (j n : J
 
 -- ---- with all blocks its load is finished
 
-module _ (S : LogState) (H : Holds S) (i : ℕ) (up : 0 < start_at S i) (j n : Joining) (is : (S.sites i).joining ≡ Some j)
+module _ (S : LogState) (H : LogsHold S) (i : ℕ) (up : 0 < site_start S i) (j n : Joining) (is : (S.sites i).joining ≡ Some j)
     (stream : n.stream ≡ j.stream) (loads : n.is_loaded ≡ j.is_loaded) (tasks : n.tasks ≡ j.tasks) (based : n.is_based ≡ j.is_based) (told : n.has_told ≡ j.has_told)
     (counts : j.stream ≡ None → n.count ≡ j.count)
     (ends : (w : Membership) (stream_start : ℕ) → (S.sites i).view ≡ Some w → Took S i w j stream_start → is_some n.count ≡ true → stream_start ≤ S.logs.reach (part S i) (term_of w)) where
-  finish-goes : Goes S i (becomes (finishes_load (S.sites i) n))
+  finish-goes : LogsGo S i (becomes (finishes_load (S.sites i) n))
   finish-goes = choice (may_finish n) refl
     where
       done : Joining
@@ -157,7 +157,7 @@ module _ (S : LogState) (H : Holds S) (i : ℕ) (up : 0 < start_at S i) (j n : J
           some None e = absurd (true≢false (sym e))
           some (Some x) e = refl
 
-      choice : (b : Bool) → may_finish n ≡ b → Goes S i (becomes (if b then with-load (S.sites i) done (log_at S i ++ n.tasks) else with_joining (S.sites i) n))
+      choice : (b : Bool) → may_finish n ≡ b → LogsGo S i (becomes (if b then with-load (S.sites i) done (log_at S i ++ n.tasks) else with_joining (S.sites i) n))
       choice true e = load-goes S H i up j done (log_at S i ++ n.tasks) is (rw (length-append (log_at S i) n.tasks) (omega arith)) (λ _. refl) told based stream
           (λ none. absurd (true≢false (sym (parts e).0 ∙ ap is_some (stream ∙ none))))
           (λ w stream_start view h. record {
@@ -179,11 +179,11 @@ module _ (S : LogState) (H : Holds S) (i : ℕ) (up : 0 < start_at S i) (j n : J
           })
 
 -- the end of a stream
-pub stream-end-goes : (S : LogState) → Holds S → (i c : ℕ) (x : Letter) (count : ℕ) → 0 < start_at S i → x.start ≡ start_at S i → x.term ≡ term_at S i → EndOk S c i x
-    → Goes S i (becomes (on_stream_end (S.sites i) (S.sites i).joining count))
+pub stream-end-goes : (S : LogState) → LogsHold S → (i c : ℕ) (x : Letter) (count : ℕ) → 0 < site_start S i → x.start ≡ site_start S i → x.term ≡ term_at S i → EndOk S c i x
+    → LogsGo S i (becomes (on_stream_end (S.sites i) (S.sites i).joining count))
 stream-end-goes S H i c x count up start term e = go (S.sites i).joining refl
   where
-    go : (o : Option Joining) → (S.sites i).joining ≡ o → Goes S i (becomes (on_stream_end (S.sites i) o count))
+    go : (o : Option Joining) → (S.sites i).joining ≡ o → LogsGo S i (becomes (on_stream_end (S.sites i) o count))
     go None none = goes-same S i H
     go (Some j) is = choice (is_some j.stream) refl
       where
@@ -193,28 +193,28 @@ stream-end-goes S H i c x count up start term e = go (S.sites i).joining refl
         ends : (w : Membership) (stream_start : ℕ) → (S.sites i).view ≡ Some w → Took S i w j stream_start → is_some n.count ≡ true → stream_start ≤ S.logs.reach (part S i) (term_of w)
         ends w stream_start view h _ =
             let same-term : x.term ≡ term_of w = term ∙ ap term_in view in
-            let at = e.taken (sym start) (sym term) (record { start = start_at S i; stream_start = stream_start }) (ap (S.logs.streamed i) same-term ∙ h.streamed) (sym start) in
+            let at = e.taken (sym start) (sym term) (record { start = site_start S i; stream_start = stream_start }) (ap (S.logs.streamed i) same-term ∙ h.streamed) (sym start) in
             let low = subst (λ t. e.stream_start ≤ S.logs.reach (part S i) t) same-term e.everywhere in
             omega (arith, at, low)
 
-        choice : (b : Bool) → is_some j.stream ≡ b → Goes S i (becomes (if b then finishes_load (S.sites i) n else S.sites i))
+        choice : (b : Bool) → is_some j.stream ≡ b → LogsGo S i (becomes (if b then finishes_load (S.sites i) n else S.sites i))
         choice true some = finish-goes S H i up j n is refl refl refl refl refl (λ none. absurd (true≢false (sym some ∙ ap is_some none))) ends
         choice false none = goes-same S i H
 
 -- ---- a block, and the end of a scan
 
 -- a site that stays as it was, but for what it keeps
-still-goes : (S : LogState) (H : Holds S) (i : ℕ) (up : 0 < start_at S i) (s : SiteState) (g : GoesOn (S.sites i) s) → Still (S.sites i) s → (asks : s.asks ≡ (S.sites i).asks)
+still-goes : (S : LogState) (H : LogsHold S) (i : ℕ) (up : 0 < site_start S i) (s : SiteState) (g : SiteGoesOn (S.sites i) s) → SiteStays (S.sites i) s → (asks : s.asks ≡ (S.sites i).asks)
     → (each : (j : Joiner) → In j (S.sites i).joiners → (n : Joiner) × In n s.joiners × (n.slot ≡ j.slot) × (n.start ≡ j.start) × (n.stream_start ≡ j.stream_start))
     → (back : (n : Joiner) → In n s.joiners → (j : Joiner) × In j (S.sites i).joiners × (j.slot ≡ n.slot) × (j.start ≡ n.start))
-    → (KeepsOk S i → KeepsOk (with-site S i s S.words.channel S.pending S.logs.streamed) i) → Goes S i (becomes s)
+    → (KeepsOk S i → KeepsOk (with-site S i s S.words.channel S.pending S.logs.streamed) i) → LogsGo S i (becomes s)
 still-goes S H i up s g still asks each back keeps = alone-goes S H i up s g asks each back
     (λ w none h. takes-member S H i s S.words.channel S.pending S.logs.streamed k less still w h)
     (λ j is. takes-joiner-same S H i s S.words.channel S.pending S.logs.streamed k less still (λ t. refl) (λ w view l f low. refl) j
     ((H.sites i).joiner j (sym still.joining ∙ is)))
     keeps
   where
-    k : Takes S i s S.words.channel S.pending S.logs.streamed
+    k : SiteTakes S i s S.words.channel S.pending S.logs.streamed
     k = alone-takes S H i up s g asks each back
 
     less : LessTo S i S.words.channel
@@ -224,7 +224,7 @@ still-goes S H i up s g still asks each back keeps = alone-goes S H i up s g ask
 abbrev scans : SiteState → Option Scanning → List Joiner → SiteState
 scans s scanning js = record s { scanning = scanning; joiners = js }
 
-scans-on : (s : SiteState) (scanning : Option Scanning) (js : List Joiner) → GoesOn s (scans s scanning js)
+scans-on : (s : SiteState) (scanning : Option Scanning) (js : List Joiner) → SiteGoesOn s (scans s scanning js)
 scans-on s scanning js = record {
   start = refl;
   greatest = refl;
@@ -240,10 +240,10 @@ scans-on s scanning js = record {
   loaded = λ j e. (j, e, λ l. l);
 }
 
-scans-still : (s : SiteState) (scanning : Option Scanning) (js : List Joiner) → Still s (scans s scanning js)
+scans-still : (s : SiteState) (scanning : Option Scanning) (js : List Joiner) → SiteStays s (scans s scanning js)
 scans-still s scanning js = record { start = refl; greatest = refl; earlier = refl; view = refl; joining = refl; log = refl; floor = refl; repaired = refl; firm = refl }
 
-scan-goes : (S : LogState) → Holds S → (i : ℕ) → 0 < start_at S i → (scanning : Option Scanning) → Goes S i (becomes (record (S.sites i) { scanning = scanning }))
+scan-goes : (S : LogState) → LogsHold S → (i : ℕ) → 0 < site_start S i → (scanning : Option Scanning) → LogsGo S i (becomes (record (S.sites i) { scanning = scanning }))
 scan-goes S H i up scanning = still-goes S H i up s (scans-on (S.sites i) scanning (S.sites i).joiners) (scans-still (S.sites i) scanning (S.sites i).joiners) refl each back
     (takes-kept S H i s S.words.channel S.pending S.logs.streamed
     (alone-takes S H i up s (scans-on (S.sites i) scanning (S.sites i).joiners) refl each back) refl refl (λ e. e) (λ h. h.on_disk) (λ h. h))
@@ -285,8 +285,8 @@ module _ (f : Joiner → Joiner) (same : (j : Joiner) → SameJoiner j (f j)) wh
   counted-mapped S p t [] h = tt
   counted-mapped S p t (j ∷ js) h = (counted-same S p t j (f j) (same j) h.0, counted-mapped S p t js h.1)
 
-scan_end-joiners : (S : LogState) → Holds S → (i : ℕ) → 0 < start_at S i → (slot count : ℕ)
-    → Goes S i (becomes (record (S.sites i) { scanning = None; joiners = map (with_count slot count) (S.sites i).joiners }))
+scan_end-joiners : (S : LogState) → LogsHold S → (i : ℕ) → 0 < site_start S i → (slot count : ℕ)
+    → LogsGo S i (becomes (record (S.sites i) { scanning = None; joiners = map (with_count slot count) (S.sites i).joiners }))
 scan_end-joiners S H i up slot count = still-goes S H i up s (scans-on (S.sites i) None js) (scans-still (S.sites i) None js) refl each back
     (λ h. takes-keeps S H i s S.words.channel S.pending S.logs.streamed k h
     (counted-mapped (with_count slot count) (with_count-same slot count) (with-site S i s S.words.channel S.pending S.logs.streamed) (part S i) (term_at S i) (S.sites i).joiners
@@ -311,36 +311,36 @@ scan_end-joiners S H i up slot count = still-goes S H i up s (scans-on (S.sites 
     back : (y : Joiner) → In y s.joiners → (x : Joiner) × In x (S.sites i).joiners × (x.slot ≡ y.slot) × (x.start ≡ y.start)
     back y is = let r = mapped.back y is in (r.0, r.1, r.2, r.3)
 
-    k : Takes S i s S.words.channel S.pending S.logs.streamed
+    k : SiteTakes S i s S.words.channel S.pending S.logs.streamed
     k = alone-takes S H i up s (scans-on (S.sites i) None js) refl each back
 
 -- the end of a scan
-pub scan-end-goes : (S : LogState) → Holds S → (i id count : ℕ) → 0 < start_at S i → Goes S i (becomes (on_scan_end (S.sites i) (S.sites i).scanning id count))
+pub scan-end-goes : (S : LogState) → LogsHold S → (i id count : ℕ) → 0 < site_start S i → LogsGo S i (becomes (on_scan_end (S.sites i) (S.sites i).scanning id count))
 scan-end-goes S H i id count up = go (S.sites i).scanning
   where
-    go : (o : Option Scanning) → Goes S i (becomes (on_scan_end (S.sites i) o id count))
+    go : (o : Option Scanning) → LogsGo S i (becomes (on_scan_end (S.sites i) o id count))
     go None = goes-same S i H
     go (Some (ForJoiner own slot)) = choice (own == id)
       where
-        choice : (b : Bool) → Goes S i (becomes (if b then record (S.sites i) { scanning = None; joiners = map (with_count slot count) (S.sites i).joiners } else S.sites i))
+        choice : (b : Bool) → LogsGo S i (becomes (if b then record (S.sites i) { scanning = None; joiners = map (with_count slot count) (S.sites i).joiners } else S.sites i))
         choice true = scan_end-joiners S H i up slot count
         choice false = goes-same S i H
     go (Some (ForBase own position blocks written ended)) = choice (own == id)
       where
-        choice : (b : Bool) → Goes S i (becomes (if b then record (S.sites i) { scanning = Some (ForBase own position blocks written (Some count)) } else S.sites i))
+        choice : (b : Bool) → LogsGo S i (becomes (if b then record (S.sites i) { scanning = Some (ForBase own position blocks written (Some count)) } else S.sites i))
         choice true = scan-goes S H i up (Some (ForBase own position blocks written (Some count)))
         choice false = goes-same S i H
 
 -- a block
-pub chunk-goes : (S : LogState) → Holds S → (i id : ℕ) → 0 < start_at S i → Goes S i (becomes (on_chunk (S.sites i) (S.sites i).joining (S.sites i).scanning id))
+pub chunk-goes : (S : LogState) → LogsHold S → (i id : ℕ) → 0 < site_start S i → LogsGo S i (becomes (on_chunk (S.sites i) (S.sites i).joining (S.sites i).scanning id))
 chunk-goes S H i id up = go (S.sites i).joining refl (S.sites i).scanning
   where
-    go : (o : Option Joining) → (S.sites i).joining ≡ o → (scanning : Option Scanning) → Goes S i (becomes (on_chunk (S.sites i) o scanning id))
+    go : (o : Option Joining) → (S.sites i).joining ≡ o → (scanning : Option Scanning) → LogsGo S i (becomes (on_chunk (S.sites i) o scanning id))
     go (Some j) is scanning = finish-goes S H i up j (record j { blocks = j.blocks + 1 }) is refl refl refl refl refl (λ none. refl) (λ w stream_start view h some. h.ends (inr some))
     go None none None = goes-same S i H
     go None none (Some (ForJoiner own slot)) = goes-same S i H
     go None none (Some (ForBase own position blocks written count)) = choice (own == id)
       where
-        choice : (b : Bool) → Goes S i (becomes (if b then record (S.sites i) { scanning = Some (ForBase own position (blocks + 1) written count) } else S.sites i))
+        choice : (b : Bool) → LogsGo S i (becomes (if b then record (S.sites i) { scanning = Some (ForBase own position (blocks + 1) written count) } else S.sites i))
         choice true = scan-goes S H i up (Some (ForBase own position (blocks + 1) written count))
         choice false = goes-same S i H

@@ -15,15 +15,15 @@ use Rattle.cluster_model.specs.Words.{term_in, term_of}
 use Rattle.cluster_model.specs.World.{set_at}
 use Rattle.cluster_steps.proofs.Lists.{all-at, all-from, none-and-some, same-some, set-here, set-there, is_none-none}
 use Rattle.cluster_steps.specs.Lists.{In}
-use Rattle.log_laws.specs.Histories.{Begins, BeginsAt, Coming, EndOk, Entered, Follows, HasBeen, Holds, InWord, IsCounted, IsSlot, JoinerOk, LogState, Reached, SiteLetterOk, StreamIn, StreamedOk, Streaming, Took, Untaken, ViewIn, asked, asks_of_term, between, end_in, ends, flow, follows, known, part, start_at, term_at}
+use Rattle.log_laws.specs.Histories.{Begins, BeginsAt, Coming, EndOk, Entered, Follows, HasBeen, LogsHold, InWord, IsCounted, IsSlot, JoinerOk, LogState, MeantFor, SiteLetterOk, StreamIn, StreamedOk, Streaming, Took, Untaken, ViewIn, asked, asks_of_term, between, end_in, stream_ends_in, flow, follows, known, part, site_start, term_at}
 use Rattle.log_laws.proofs.Kept.Terms.{running-slot}
 use Rattle.log_laws.proofs.Kept.Asked.{at-most-none, at-most-same, popped-less}
 use Rattle.log_laws.proofs.Plain.Copies.{follows-one}
 use Rattle.log_laws.proofs.Kept.Laters.{ack-later, ask-later, been-later, end-later-if, part-later, reached-later, report-later}
 use Rattle.log_laws.proofs.Plain.Lines.{begins-same, ends-empty, ends-here, flow-here, follows-not-begins}
-use Rattle.log_laws.proofs.Kept.Moves.{Goes, JoinsOn, Later, popped}
-use Rattle.log_laws.proofs.Kept.OneSite.{LessTo, Takes, becomes-goes, takes-counted, takes-joined, takes-joiner, takes-steady, takes-stream, takes-word, with-site}
-use Rattle.log_laws.proofs.Kept.Steady.{GoesOn, steady-joins, steady-later}
+use Rattle.log_laws.proofs.Kept.Moves.{LogsGo, JoinsOn, LogsLater, site_popped}
+use Rattle.log_laws.proofs.Kept.OneSite.{LessTo, SiteTakes, becomes-goes, takes-counted, takes-joined, takes-joiner, takes-steady, takes-stream, takes-word, with-site}
+use Rattle.log_laws.proofs.Kept.Steady.{SiteGoesOn, steady-joins, steady-later}
 use Rattle.log_laws.proofs.Messages.Taken.{first-begun, first-foreign, first-less, first-takes, without, without-each, without-here}
 use Rattle.log_laws.proofs.Joins.Tasks.{drops-goes}
 
@@ -45,11 +45,11 @@ module _ (st : ℕ → ℕ → Option Streaming) (i t : ℕ) (x : Streaming) whe
 
 -- ---- letters, where the end of a stream is given
 
-module _ (S T : LogState) (H : Holds S) (f : Later S T) where
-  pub letter-later-ends : (i c : ℕ) (l : Letter) → JoinsOn S T i → ((end_in l.body ≡ [] → ⊥) → Reached S c l → EndOk S i c l → EndOk T i c l)
+module _ (S T : LogState) (H : LogsHold S) (f : LogsLater S T) where
+  pub letter-later-ends : (i c : ℕ) (l : Letter) → JoinsOn S T i → ((end_in l.body ≡ [] → ⊥) → MeantFor S c l → EndOk S i c l → EndOk T i c l)
       → SiteLetterOk S i c l → SiteLetterOk T i c l
-  letter-later-ends i c l on ends k = elim l.body as (λ m.
-      ((end_in m ≡ [] → ⊥) → Reached S c (record l { body = m }) → EndOk S i c (record l { body = m }) → EndOk T i c (record l { body = m }))
+  letter-later-ends i c l on stream_ends_in k = elim l.body as (λ m.
+      ((end_in m ≡ [] → ⊥) → MeantFor S c (record l { body = m }) → EndOk S i c (record l { body = m }) → EndOk T i c (record l { body = m }))
       → SiteLetterOk S i c (record l { body = m }) → SiteLetterOk T i c (record l { body = m })) [
         | msg.StreamEnd count ↦ λ e p. (reached-later S T H f c (record l { body = msg.StreamEnd count }) p.0, e (λ none. absurd (cc)) p.0 p.1)
         | msg.Put position v floor ↦ λ _ p. (
@@ -64,19 +64,19 @@ module _ (S T : LogState) (H : Holds S) (f : Later S T) where
         | msg.JoinAsk a slot ↦ λ _ p. (p.0, p.1, rw (part-later S T H f c) (ask-later S T H f (part S c) i l.term a on p.2))
         | msg.Start a ↦ λ _ p. p
         | m ↦ λ _ p. tt
-      ] ends k
+      ] stream_ends_in k
 
 -- ---- a stream
 
-module _ (S : LogState) (H : Holds S) (m i : ℕ) (l : Letter) (ls : List Letter) (head : StreamHead)
-    (e : between S m i ≡ record l { body = msg.StreamStart head } ∷ ls) (up : 0 < start_at S i) (start : l.start ≡ start_at S i) (term : l.term ≡ term_at S i) where
+module _ (S : LogState) (H : LogsHold S) (m i : ℕ) (l : Letter) (ls : List Letter) (head : StreamHead)
+    (e : between S m i ≡ record l { body = msg.StreamStart head } ∷ ls) (up : 0 < site_start S i) (start : l.start ≡ site_start S i) (term : l.term ≡ term_at S i) where
   -- it is the first thing that is under way to the joiner from there
-  stream-first : (w : Membership) → (S.sites i).view ≡ Some w → flow (start_at S i) (term_of w) (between S m i) ≡ Begins l.past head.stream_start ∷ flow (start_at S i) (term_of w) ls
-  stream-first w view = ap (flow (start_at S i) (term_of w)) e
-      ∙ ap (λ z. z ++ flow (start_at S i) (term_of w) ls) (flow-here (start_at S i) (term_of w) (record l { body = msg.StreamStart head }) start (term ∙ ap term_in view))
+  stream-first : (w : Membership) → (S.sites i).view ≡ Some w → flow (site_start S i) (term_of w) (between S m i) ≡ Begins l.past head.stream_start ∷ flow (site_start S i) (term_of w) ls
+  stream-first w view = ap (flow (site_start S i) (term_of w)) e
+      ∙ ap (λ z. z ++ flow (site_start S i) (term_of w) ls) (flow-here (site_start S i) (term_of w) (record l { body = msg.StreamStart head }) start (term ∙ ap term_in view))
 
   -- it is dropped by a member, and by a joiner that may not take it
-  stream-drops : ((j : Joining) → (S.sites i).joining ≡ Some j → may_stream (S.sites i) j l ≡ false) → Goes (popped S (Site m) i) i (becomes (S.sites i))
+  stream-drops : ((j : Joining) → (S.sites i).joining ≡ Some j → may_stream (S.sites i) j l ≡ false) → LogsGo (site_popped S (Site m) i) i (becomes (S.sites i))
   stream-drops refused = drops-goes S H m i (record l { body = msg.StreamStart head }) ls e up refl (λ j w is view h f low. absurd (clash j w view h f low (refused j is)))
     where
       clash : (j : Joining) (w : Membership) → (S.sites i).view ≡ Some w → InWord S i w j → follows S.words.deployment w i m ≡ true
@@ -89,8 +89,8 @@ module _ (S : LogState) (H : Holds S) (m i : ℕ) (l : Letter) (ls : List Letter
           took : (o : Option Streamed) → StreamIn S i w j o → (is_none o && nat_lt (S.sites i).earlier l.term) ≡ false → ⊥
           took None u b = true≢false (sym below ∙ b)
           took (Some y) u b = let from = follows-one S.words.deployment w i m u.from f u.following in
-              follows-not-begins u.more l.past head.stream_start (flow (start_at S i) (term_of w) ls)
-              (sym u.flow_is ∙ subst (λ z. flow (start_at S i) (term_of w) (between S z i) ≡ Begins l.past head.stream_start ∷ flow (start_at S i) (term_of w) ls) from (stream-first w view))
+              follows-not-begins u.more l.past head.stream_start (flow (site_start S i) (term_of w) ls)
+              (sym u.flow_is ∙ subst (λ z. flow (site_start S i) (term_of w) (between S z i) ≡ Begins l.past head.stream_start ∷ flow (site_start S i) (term_of w) ls) from (stream-first w view))
 
   -- ---- a joiner takes it
 
@@ -106,7 +106,7 @@ module _ (S : LogState) (H : Holds S) (m i : ℕ) (l : Letter) (ls : List Letter
     x = record l { body = msg.StreamStart head }
 
     abbrev st : ℕ → ℕ → Option Streaming
-    st = with-stream S.logs.streamed i (term_of w) (record { start = start_at S i; stream_start = head.stream_start })
+    st = with-stream S.logs.streamed i (term_of w) (record { start = site_start S i; stream_start = head.stream_start })
 
     abbrev T : LogState
     T = with-site S i s (without S m i) S.pending st
@@ -126,36 +126,36 @@ module _ (S : LogState) (H : Holds S) (m i : ℕ) (l : Letter) (ls : List Letter
       | inr f ↦ let z = sym (word.others m f).0 ∙ stream-first w view in absurd (cc)
     ]
 
-    coming : Coming S i w (flow (start_at S i) (term_of w) (between S m i)) × (asked S i m (term_of w) ≡ [])
+    coming : Coming S i w (flow (site_start S i) (term_of w) (between S m i)) × (asked S i m (term_of w) ≡ [])
     coming = elim (untaken.comes m follows-it low) [
       | inl q ↦ let z = sym q.flow_is ∙ stream-first w view in absurd (cc)
       | inr q ↦ q
     ]
 
-    begins : (l.past ≡ coming.0.past) × (head.stream_start ≡ length coming.0.past) × (flow (start_at S i) (term_of w) ls ≡ map Follows coming.0.more)
-    begins = begins-same l.past coming.0.past head.stream_start (length coming.0.past) (flow (start_at S i) (term_of w) ls) (map Follows coming.0.more)
+    begins : (l.past ≡ coming.0.past) × (head.stream_start ≡ length coming.0.past) × (flow (site_start S i) (term_of w) ls ≡ map Follows coming.0.more)
+    begins = begins-same l.past coming.0.past head.stream_start (length coming.0.past) (flow (site_start S i) (term_of w) ls) (map Follows coming.0.more)
         (sym (stream-first w view) ∙ coming.0.flow_is)
 
     same-length : length l.past ≡ head.stream_start
     same-length = ap length begins.0 ∙ sym begins.1
 
     -- nobody took a stream or was a member in that term
-    others-earlier : (a : ℕ) → HasBeen S i (term_of w) a → (start_at S i ≡ a → ⊥) → ⊥
+    others-earlier : (a : ℕ) → HasBeen S i (term_of w) a → (site_start S i ≡ a → ⊥) → ⊥
     others-earlier a k n = let h = k.others up n in omega (arith, h, low)
 
     unstreamed : (y : Streaming) → S.logs.streamed i (term_of w) ≡ Some y → ⊥
-    unstreamed y took = elim (cases_eq y.start (start_at S i)) [
+    unstreamed y took = elim (cases_eq y.start (site_start S i)) [
       | inl own ↦ untaken.never (term_of w) y took own
       | inr n ↦ others-earlier y.start (H.streamed i (term_of w) y took).been (λ q. n (sym q))
     ]
 
     unentered : (y : Entered) → S.logs.entered i (term_of w) ≡ Some y → ⊥
-    unentered y was = elim (cases_eq y.start (start_at S i)) [
+    unentered y was = elim (cases_eq y.start (site_start S i)) [
       | inl own ↦ old.unentered (term_of w) y was own
       | inr n ↦ others-earlier y.start (H.entered i (term_of w) y was).been (λ q. n (sym q))
     ]
 
-    g : GoesOn (S.sites i) s
+    g : SiteGoesOn (S.sites i) s
     g = record {
       start = refl;
       greatest = refl;
@@ -171,16 +171,16 @@ module _ (S : LogState) (H : Holds S) (m i : ℕ) (l : Letter) (ls : List Letter
       loaded = λ y e. (j, is, λ based. subst (λ z. z.is_based ≡ true) (same-some e) based);
     }
 
-    k : Takes S i s (without S m i) S.pending st
-    k = first-takes S H m i x ls e s g st up (λ c t n. stream-other S.logs.streamed i (term_of w) (record { start = start_at S i; stream_start = head.stream_start }) c t n)
+    k : SiteTakes S i s (without S m i) S.pending st
+    k = first-takes S H m i x ls e s g st up (λ c t n. stream-other S.logs.streamed i (term_of w) (record { start = site_start S i; stream_start = head.stream_start }) c t n)
         (λ t y took. elim (cases_eq t (term_of w)) [
           | inl q ↦ absurd (unstreamed y (subst (λ z. S.logs.streamed i z ≡ Some y) q took))
-          | inr n ↦ stream-term S.logs.streamed i (term_of w) (record { start = start_at S i; stream_start = head.stream_start }) t n ∙ took
+          | inr n ↦ stream-term S.logs.streamed i (term_of w) (record { start = site_start S i; stream_start = head.stream_start }) t n ∙ took
         ])
         (λ t y took. elim (cases_eq t (term_of w)) [
           | inl q ↦ inr (λ u v was own. old.unentered u v was (own ∙ ap (λ z. z.start) (sym (same-some
-              (sym (stream-here S.logs.streamed i (term_of w) (record { start = start_at S i; stream_start = head.stream_start })) ∙ subst (λ u. st i u ≡ Some y) q took)))))
-          | inr n ↦ inl (sym (stream-term S.logs.streamed i (term_of w) (record { start = start_at S i; stream_start = head.stream_start }) t n) ∙ took)
+              (sym (stream-here S.logs.streamed i (term_of w) (record { start = site_start S i; stream_start = head.stream_start })) ∙ subst (λ u. st i u ≡ Some y) q took)))))
+          | inr n ↦ inl (sym (stream-term S.logs.streamed i (term_of w) (record { start = site_start S i; stream_start = head.stream_start }) t n) ∙ took)
         ])
         (popped-less S (Site m) i x ls e S.logs s refl (λ c t. at-most-same (asks_of_term c t (S.sites i)))) refl
 
@@ -190,7 +190,7 @@ module _ (S : LogState) (H : Holds S) (m i : ℕ) (l : Letter) (ls : List Letter
     site-is : set_at S.sites i s i ≡ s
     site-is = set-here S.sites i s
 
-    start-is : start_at T i ≡ start_at S i
+    start-is : site_start T i ≡ site_start S i
     start-is = ap (λ z. z.start) site-is
 
     -- it hasn't asked, and wasn't told that it is whole
@@ -211,10 +211,10 @@ module _ (S : LogState) (H : Holds S) (m i : ℕ) (l : Letter) (ls : List Letter
       more = coming.0.more;
       leadership = coming.0.leadership;
       led = coming.0.led;
-      flow_is = rw start-is (ap (flow (start_at S i) (term_of w)) (without-here S m i x ls e) ∙ begins.2);
+      flow_is = rw start-is (ap (flow (site_start S i) (term_of w)) (without-here S m i x ls e) ∙ begins.2);
       whole = subst (λ z. z.log ++ j.tasks ++ coming.0.more ≡ coming.0.leadership.log) (sym site-is)
           (ap (λ z. l.past ++ z ++ coming.0.more) untaken.tasks ∙ ap (λ z. z ++ coming.0.more) (append-nil l.past ∙ begins.0) ∙ coming.0.whole);
-      streamed = rw start-is (stream-here S.logs.streamed i (term_of w) (record { start = start_at S i; stream_start = head.stream_start }));
+      streamed = rw start-is (stream-here S.logs.streamed i (term_of w) (record { start = site_start S i; stream_start = head.stream_start }));
       loading = λ _. ap (λ z. length z.log) site-is ∙ same-length;
       loaded = λ all. absurd (true≢false (sym all ∙ untaken.loads));
       ends = λ some. absurd (unended some);
@@ -222,10 +222,10 @@ module _ (S : LogState) (H : Holds S) (m i : ℕ) (l : Letter) (ls : List Letter
       asks = λ c slot. at-most-none (asked S i c (term_of w)) (asked T i c (term_of w)) (unasked c slot) (k.asks i c (term_of w));
     }
 
-    later : Later S T
+    later : LogsLater S T
     later = steady-later S (without S m i) (set_at S.sites i s) S.pending st H (takes-steady S H i s (without S m i) S.pending st k)
 
-    new-stream : StreamedOk T i (term_of w) (record { start = start_at S i; stream_start = head.stream_start })
+    new-stream : StreamedOk T i (term_of w) (record { start = site_start S i; stream_start = head.stream_start })
     new-stream = record {
       word = w;
       took = word.took;
@@ -235,7 +235,7 @@ module _ (S : LogState) (H : Holds S) (m i : ℕ) (l : Letter) (ls : List Letter
       leadership = coming.0.leadership;
       led = coming.0.led;
       behind = subst (λ z. length coming.0.leadership.begun ≤ z) (sym begins.1) coming.0.behind;
-      been = been-later S T H later i (term_of w) (start_at S i) own-been;
+      been = been-later S T H later i (term_of w) (site_start S i) own-been;
       running = λ at. let r = subst (λ z. (z.earlier < term_of w) × (term_of w ≤ site_term z) × (S.logs.reach (part S i) (term_of w) ≤ length z.log) × (head.stream_start ≤ length z.log))
           (sym site-is) (
             low,
@@ -244,8 +244,8 @@ module _ (S : LogState) (H : Holds S) (m i : ℕ) (l : Letter) (ls : List Letter
             subst (λ z. head.stream_start ≤ z) (sym same-length) (omega arith),
           ) in
           (r.0, r.1, r.2, r.3);
-      counted = takes-counted S H i s (without S m i) S.pending st k i (start_at S i) head.stream_start w
-          (subst (λ z. IsCounted S i (start_at S i) z w) (sym begins.1) coming.0.counted);
+      counted = takes-counted S H i s (without S m i) S.pending st k i (site_start S i) head.stream_start w
+          (subst (λ z. IsCounted S i (site_start S i) z w) (sym begins.1) coming.0.counted);
     }
       where
         apart : (o : Option Entered) → S.logs.entered i (term_of w) ≡ o → S.logs.entered i (term_of w) ≡ None
@@ -255,10 +255,10 @@ module _ (S : LogState) (H : Holds S) (m i : ℕ) (l : Letter) (ls : List Letter
         at-term : term_of w ≤ term_at S i
         at-term = rw view (omega arith)
 
-        own-been : HasBeen S i (term_of w) (start_at S i)
+        own-been : HasBeen S i (term_of w) (site_start S i)
         own-been = let r = (H.sites i).ran up in record {
           some = up;
-          ran = subst (In (start_at S i)) (sym r.1) (inl refl);
+          ran = subst (In (site_start S i)) (sym r.1) (inl refl);
           greatest = let t = (H.sites i).term in omega (arith, at-term, t);
           others = λ _ n. absurd (n refl);
         }
@@ -271,13 +271,13 @@ module _ (S : LogState) (H : Holds S) (m i : ℕ) (l : Letter) (ls : List Letter
     ]
       where
         x-stream : Streaming
-        x-stream = record { start = start_at S i; stream_start = head.stream_start }
+        x-stream = record { start = site_start S i; stream_start = head.stream_start }
 
     -- who told it that its stream is whole meant this one
     end-taken : (c : ℕ) (y : Letter) → In y (between S c i) → (end_in y.body ≡ [] → ⊥) → (h : EndOk S c i y) → (z : Streaming) → st i y.term ≡ Some z → z.start ≡ y.start
         → (S.logs.streamed i y.term ≡ Some z) ⊎ (z.stream_start ≡ h.stream_start)
     end-taken c y there some h z took own = elim (cases_eq y.term (term_of w)) [
-      | inr n ↦ inl (sym (stream-term S.logs.streamed i (term_of w) (record { start = start_at S i; stream_start = head.stream_start }) y.term n) ∙ took)
+      | inr n ↦ inl (sym (stream-term S.logs.streamed i (term_of w) (record { start = site_start S i; stream_start = head.stream_start }) y.term n) ∙ took)
       | inl q ↦ inr (meant q (cases_eq c m))
     ]
       where
@@ -285,17 +285,17 @@ module _ (S : LogState) (H : Holds S) (m i : ℕ) (l : Letter) (ls : List Letter
         meant q either = elim either [
           | inl from ↦ ap (λ z. z.stream_start) (sym new) ∙ (subst (AllByRecursion (BeginsAt h.stream_start)) (same-flow from)
               (h.begun j is (sym start-own) (ap term_in view ∙ sym q) (rw q low))).0
-          | inr n ↦ absurd (some (sym (ends-here (start_at S i) (term_of w) y start-own q)
-              ∙ ends-empty (start_at S i) (term_of w) (between S c i) (word.others c (elsewhere n)).1 y there))
+          | inr n ↦ absurd (some (sym (ends-here (site_start S i) (term_of w) y start-own q)
+              ∙ ends-empty (site_start S i) (term_of w) (between S c i) (word.others c (elsewhere n)).1 y there))
         ]
           where
-            new : record { start = start_at S i; stream_start = head.stream_start } ≡ z
-            new = same-some (sym (stream-here S.logs.streamed i (term_of w) (record { start = start_at S i; stream_start = head.stream_start })) ∙ subst (λ u. st i u ≡ Some z) q took)
+            new : record { start = site_start S i; stream_start = head.stream_start } ≡ z
+            new = same-some (sym (stream-here S.logs.streamed i (term_of w) (record { start = site_start S i; stream_start = head.stream_start })) ∙ subst (λ u. st i u ≡ Some z) q took)
 
-            start-own : y.start ≡ start_at S i
+            start-own : y.start ≡ site_start S i
             start-own = sym own ∙ ap (λ z. z.start) (sym new)
 
-            same-flow : c ≡ m → flow y.start y.term (between S c i) ≡ Begins l.past head.stream_start ∷ flow (start_at S i) (term_of w) ls
+            same-flow : c ≡ m → flow y.start y.term (between S c i) ≡ Begins l.past head.stream_start ∷ flow (site_start S i) (term_of w) ls
             same-flow from = rw (start-own, q, from) (stream-first w view)
 
             elsewhere : (c ≡ m → ⊥) → follows S.words.deployment w i c ≡ false
@@ -316,8 +316,8 @@ module _ (S : LogState) (H : Holds S) (m i : ℕ) (l : Letter) (ls : List Letter
             (λ some r h. end-later-if S T H later c i y r h (λ j' joins same-start same-term begun. first-begun S H m i x ls e c y.start y.term h.stream_start begun)
             (λ z took own. end-taken c y there some h z took own))
 
-    taken-goes : Goes (popped S (Site m) i) i (becomes s)
-    taken-goes = becomes-goes (popped S (Site m) i) i s st refl refl (let d = ap length untaken.empty in omega (arith, d))
+    taken-goes : LogsGo (site_popped S (Site m) i) i (becomes s)
+    taken-goes = becomes-goes (site_popped S (Site m) i) i s st refl refl (let d = ap length untaken.empty in omega (arith, d))
         (takes-joined S H i s (without S m i) S.pending st k j joined is refl refl refl
         (λ h. let d = subst (λ z. (S.sites i).on_disk ≤ length z) untaken.empty h.on_disk in omega (arith, d)) (λ h. h)
         (takes-joiner S H i s (without S m i) S.pending st k j joined refl old.told old.based
@@ -326,13 +326,13 @@ module _ (S : LogState) (H : Holds S) (m i : ℕ) (l : Letter) (ls : List Letter
         letters (first-foreign S H m i x ls e) streams)
 
   -- a member drops it, and a joiner takes it where it may
-  stream-taken : Goes (popped S (Site m) i) i (becomes (on_stream_start (S.sites i) (S.sites i).joining (record l { body = msg.StreamStart head }) head))
+  stream-taken : LogsGo (site_popped S (Site m) i) i (becomes (on_stream_start (S.sites i) (S.sites i).joining (record l { body = msg.StreamStart head }) head))
   stream-taken = go (S.sites i).joining refl
     where
       some-term : 0 < l.term
       some-term = (subst (AllByRecursion (SiteLetterOk S m i)) e (H.letters m i (running-slot S H i up))).0.0.1
 
-      go : (o : Option Joining) → (S.sites i).joining ≡ o → Goes (popped S (Site m) i) i (becomes (on_stream_start (S.sites i) o (record l { body = msg.StreamStart head }) head))
+      go : (o : Option Joining) → (S.sites i).joining ≡ o → LogsGo (site_popped S (Site m) i) i (becomes (on_stream_start (S.sites i) o (record l { body = msg.StreamStart head }) head))
       go None none = stream-drops (λ j is. absurd (none-and-some none is))
       go (Some j) is = choice (may_stream (S.sites i) j l) refl
         where
@@ -344,7 +344,7 @@ module _ (S : LogState) (H : Holds S) (m i : ℕ) (l : Letter) (ls : List Letter
             contents = None ∷ [];
           }
 
-          takes-stream-in : (o : Option Membership) → (S.sites i).view ≡ o → may_stream (S.sites i) j l ≡ true → Goes (popped S (Site m) i) i (becomes streaming)
+          takes-stream-in : (o : Option Membership) → (S.sites i).view ≡ o → may_stream (S.sites i) j l ≡ true → LogsGo (site_popped S (Site m) i) i (becomes streaming)
           takes-stream-in None view may = let z : l.term ≡ 0 = term ∙ ap term_in view in absurd (omega (arith, z, some-term))
           takes-stream-in (Some w) view may =
               let p = and_parts (is_none j.stream) (nat_lt (S.sites i).earlier l.term) may in
@@ -354,11 +354,11 @@ module _ (S : LogState) (H : Holds S) (m i : ℕ) (l : Letter) (ls : List Letter
               below : nat_lt (S.sites i).earlier l.term ≡ true → l.term ≡ term_of w → (S.sites i).earlier < term_of w
               below r same-term = grind (arith, nat_tests, r, same-term)
 
-          choice : (b : Bool) → may_stream (S.sites i) j l ≡ b → Goes (popped S (Site m) i) i (becomes (if b then streaming else S.sites i))
+          choice : (b : Bool) → may_stream (S.sites i) j l ≡ b → LogsGo (site_popped S (Site m) i) i (becomes (if b then streaming else S.sites i))
           choice true may = takes-stream-in (S.sites i).view refl may
           choice false may = stream-drops (λ k e. subst (λ z. may_stream (S.sites i) z l ≡ false) (same-some (sym is ∙ e)) may)
 
-pub stream-start-goes : (S : LogState) → Holds S → (i c : ℕ) (l : Letter) (ls : List Letter) (head : StreamHead) → between S c i ≡ record l { body = msg.StreamStart head } ∷ ls
-    → 0 < start_at S i → l.start ≡ start_at S i → l.term ≡ term_at S i
-    → Goes (popped S (Site c) i) i (becomes (on_stream_start (S.sites i) (S.sites i).joining (record l { body = msg.StreamStart head }) head))
+pub stream-start-goes : (S : LogState) → LogsHold S → (i c : ℕ) (l : Letter) (ls : List Letter) (head : StreamHead) → between S c i ≡ record l { body = msg.StreamStart head } ∷ ls
+    → 0 < site_start S i → l.start ≡ site_start S i → l.term ≡ term_at S i
+    → LogsGo (site_popped S (Site c) i) i (becomes (on_stream_start (S.sites i) (S.sites i).joining (record l { body = msg.StreamStart head }) head))
 stream-start-goes S H i c l ls head e up start term = stream-taken S H c i l ls head e up start term

@@ -18,19 +18,19 @@ use Rattle.cluster_model.specs.World.{sent, set_at}
 use Rattle.cluster_steps.proofs.Lists.{all-append, all-at, all-from, eqb-same, filter-in, if-true, in-cases, in-left, in-map, in-map-from, in-right, list_any-in, none-and-some, same-some, set-both, set-here, set-there}
 use Rattle.word_laws.specs.Histories.{Distinct}
 use Rattle.cluster_steps.specs.Lists.{In}
-use Rattle.log_laws.specs.Histories.{AskOk, BeginsAt, Coming, CountedOk, EndOk, ForeignOk, Holds, InWord, IsCounted, IsSlot, JoinerOk, JoinsIn, KeepsOk, LeadsIn, LogState, MemberOk, Inert, Leadership, SiteLetterOk, StreamIn, Took, ViewIn, asked, asks_in, asks_kept, asks_of_term, asks_waiting, between, end_in, ends, flow, flow_of, follows, line, log_at, part, start_at, term_at}
+use Rattle.log_laws.specs.Histories.{AsksToJoin, BeginsAt, Coming, CountedOk, EndOk, ForeignOk, LogsHold, InWord, IsCounted, IsSlot, JoinerOk, JoinsIn, KeepsOk, LeadsIn, LogState, MemberOk, Inert, Leadership, SiteLetterOk, StreamIn, Took, ViewIn, asked, asks_in, asks_kept, asks_of_term, asks_waiting, between, end_in, stream_ends_in, flow, flow_of, follows, line, log_at, part, site_start, term_at}
 use Rattle.log_laws.proofs.Kept.Asked.{AsksLess, AtMost, at-most-behind, at-most-both, at-most-is, at-most-same}
 use Rattle.log_laws.proofs.Plain.Copies.{follows-one, is-leader, leader-followed}
 use Rattle.cluster_steps.proofs.Leaders.{leader-view, leads-parts}
 use Rattle.cluster_steps.proofs.Prefixes.{prefix-length}
-use Rattle.log_laws.proofs.Kept.Keeps.{CountedBy, Still, Uncounted, counted-from, in_word-keeps-with, joiner-keeps-with}
+use Rattle.log_laws.proofs.Kept.Keeps.{CountedBy, SiteStays, Uncounted, counted-from, in_word-keeps-with, joiner-keeps-with}
 use Rattle.log_laws.proofs.Kept.Laters.{streamed-later}
 use Rattle.log_laws.proofs.Plain.Lines.{asks-plain, asks-same, ends-empty, ends-here, ends-plain, ends-same, flow-here, flow-other, flow-push, flow-same, line-plain, line-same, kept-append}
-use Rattle.log_laws.proofs.Kept.Moves.{Later, after}
+use Rattle.log_laws.proofs.Kept.Moves.{LogsLater, after_site}
 use Rattle.log_laws.proofs.Kept.OneSite.{counts-on, with-site}
 use Rattle.log_laws.proofs.Kept.Plumbing.{after-same}
 use Rattle.log_laws.proofs.Kept.Inert.{still-at}
-use Rattle.log_laws.proofs.Kept.Steady.{GoesOn, Steady, goes-on-same, steady-asks, steady-counted, steady-holds, steady-joiner, steady-joins, steady-keeps, steady-later, steady-member, steady-leaderships}
+use Rattle.log_laws.proofs.Kept.Steady.{SiteGoesOn, Steady, goes-on-same, steady-asks, steady-counted, steady-holds, steady-joiner, steady-joins, steady-keeps, steady-later, steady-member, steady-leaderships}
 use Rattle.log_laws.proofs.Joins.StreamStarts.{letter-later-ends}
 use Rattle.log_laws.proofs.Kept.Terms.{running-slot, same-word, some-term, took-decided}
 
@@ -93,7 +93,7 @@ kept-in xs a i = in-map (λ k. k.start) a (filter (λ k. k.slot == a.slot) xs) (
 
 -- ---- the leader takes a joiner that asked
 
-module _ (E : Database) (S : LogState) (H : Holds S) (i : ℕ) (up : 0 < start_at S i) (a : Ask) (pre post : List Ask)
+module _ (E : Database) (S : LogState) (H : LogsHold S) (i : ℕ) (up : 0 < site_start S i) (a : Ask) (pre post : List Ask)
     (asks-are : (S.sites i).asks ≡ pre ++ a ∷ post) (may : can_take S.words.deployment i (S.sites i) a ≡ true) where
   abbrev turn : Turn SiteState
   turn = takes_joiner E S.words.deployment i a (record (S.sites i) { asks = pre ++ post })
@@ -173,10 +173,10 @@ module _ (E : Database) (S : LogState) (H : Holds S) (i : ℕ) (up : 0 < start_a
     | inr e ↦ ap (line x t) e.2 ∙ line-same x t (between S k c) (begins ∷ []) (ap (λ z. z ++ []) (line-plain x t begins refl))
   ]
 
-  same-ends : (k c x t : ℕ) → ends x t (between T k c) ≡ ends x t (between S k c)
+  same-ends : (k c x t : ℕ) → stream_ends_in x t (between T k c) ≡ stream_ends_in x t (between S k c)
   same-ends k c x t = elim (chan k c) [
-    | inl e ↦ ap (ends x t) e
-    | inr e ↦ ap (ends x t) e.2 ∙ ends-same x t (between S k c) (begins ∷ []) (ap (λ z. z ++ []) (ends-plain x t begins refl))
+    | inl e ↦ ap (stream_ends_in x t) e
+    | inr e ↦ ap (stream_ends_in x t) e.2 ∙ ends-same x t (between S k c) (begins ∷ []) (ap (λ z. z ++ []) (ends-plain x t begins refl))
   ]
 
   same-asks : (k c t : ℕ) → asks_in t (between T k c) ≡ asks_in t (between S k c)
@@ -194,7 +194,7 @@ module _ (E : Database) (S : LogState) (H : Holds S) (i : ℕ) (up : 0 < start_a
 
   -- ---- what is kept
 
-  goes-on : GoesOn (S.sites i) turn.state
+  goes-on : SiteGoesOn (S.sites i) turn.state
   goes-on = record {
     start = refl;
     greatest = refl;
@@ -213,12 +213,12 @@ module _ (E : Database) (S : LogState) (H : Holds S) (i : ℕ) (up : 0 < start_a
   there : (c : ℕ) → (c ≡ i → ⊥) → set_at S.sites i turn.state c ≡ S.sites c
   there c n = set-there S.sites i turn.state c n
 
-  still : (c : ℕ) → Still (S.sites c) (set_at S.sites i turn.state c)
+  still : (c : ℕ) → SiteStays (S.sites c) (set_at S.sites i turn.state c)
   still = still-at S i turn.state (record { start = refl; greatest = refl; earlier = refl; view = refl; joining = refl; log = refl; floor = refl; repaired = refl; firm = refl })
 
   steady : Steady S channels (set_at S.sites i turn.state) S.logs.streamed
   steady = record {
-    sites = set-both (λ c x. GoesOn (S.sites c) x) S.sites i turn.state goes-on (λ c n. goes-on-same (S.sites c));
+    sites = set-both (λ c x. SiteGoesOn (S.sites c) x) S.sites i turn.state goes-on (λ c n. goes-on-same (S.sites c));
     agents = λ h b. refl;
     told = λ c h. told (same (Site i) (Site c)) c h;
     director = λ h. refl;
@@ -230,7 +230,7 @@ module _ (E : Database) (S : LogState) (H : Holds S) (i : ℕ) (up : 0 < start_a
       told true c h = append-nil (S.words.channel (Site c) (Agent h))
       told false c h = refl
 
-  later : Later S T
+  later : LogsLater S T
   later = steady-later S channels (set_at S.sites i turn.state) S.pending S.logs.streamed H steady
 
   -- the asks that it keeps
@@ -268,8 +268,8 @@ module _ (E : Database) (S : LogState) (H : Holds S) (i : ℕ) (up : 0 < start_a
 
   -- ---- who asked
 
-  ok : AskOk S (part S i) a.slot (term_at S i) a.start
-  ok = all-at (λ a. AskOk S (part S i) a.slot (term_at S i) a.start) (S.sites i).asks ((H.sites i).keeps up).asks a (subst (In a) (sym asks-are) (in-middle a pre post))
+  ok : AsksToJoin S (part S i) a.slot (term_at S i) a.start
+  ok = all-at (λ a. AsksToJoin S (part S i) a.slot (term_at S i) a.start) (S.sites i).asks ((H.sites i).keeps up).asks a (subst (In a) (sym asks-are) (in-middle a pre post))
 
   asked-it : In a.start (asked S a.slot i (term_of w))
   asked-it = in-right a.start (asks_in (term_of w) (between S a.slot i) ++ asks_waiting a.slot (term_of w) (S.sites i).waiting ++ asks_waiting a.slot (term_of w) (S.pending i))
@@ -281,7 +281,7 @@ module _ (E : Database) (S : LogState) (H : Holds S) (i : ℕ) (up : 0 < start_a
   unasked e = subst (In a.start) e asked-it
 
   -- If that start runs, it joins in the leader's word, and nothing is under way to it yet.
-  module _ (runs : start_at S a.slot ≡ a.start) where
+  module _ (runs : site_start S a.slot ≡ a.start) where
     joins : (v : Membership) × JoinsIn S a.slot v × (term_of v ≡ term_at S i)
     joins = ok.joins runs
 
@@ -298,7 +298,7 @@ module _ (E : Database) (S : LogState) (H : Holds S) (i : ℕ) (up : 0 < start_a
     not-itself e = none-and-some (subst (λ z. (S.sites z).joining ≡ None) (sym e) no-joiner) joins.1.1
 
     word-is : joins.0 ≡ w
-    word-is = same-word S H (term_of w) joins.0 w (record { decided = took-decided S H (start_at S a.slot) joins.0 in-own.took; term_is = joins.2 ∙ same-term })
+    word-is = same-word S H (term_of w) joins.0 w (record { decided = took-decided S H (site_start S a.slot) joins.0 in-own.took; term_is = joins.2 ∙ same-term })
         (record { decided = found.2.decided; term_is = refl })
 
     view-is : (S.sites a.slot).view ≡ Some w
@@ -313,7 +313,7 @@ module _ (E : Database) (S : LogState) (H : Holds S) (i : ℕ) (up : 0 < start_a
     untook : (stream_start : ℕ) → Took S a.slot w j stream_start → ⊥
     untook stream_start u = unasked (u.asks i slot)
 
-    is-inert : Inert S a.slot w i ⊎ (Coming S a.slot w (flow (start_at S a.slot) (term_of w) (between S i a.slot)) × (asked S a.slot i (term_of w) ≡ [])) → Inert S a.slot w i
+    is-inert : Inert S a.slot w i ⊎ (Coming S a.slot w (flow (site_start S a.slot) (term_of w) (between S i a.slot)) × (asked S a.slot i (term_of w) ≡ [])) → Inert S a.slot w i
     is-inert (inl q) = q
     is-inert (inr q) = absurd (unasked q.1)
 
@@ -325,18 +325,18 @@ module _ (E : Database) (S : LogState) (H : Holds S) (i : ℕ) (up : 0 < start_a
         go (Some st) u = absurd (untook st.stream_start u)
 
     -- then its stream begins
-    new-counted : IsCounted T a.slot (start_at S a.slot) (length (log_at S i)) w
-    new-counted l leads = subst (λ z. CountedBy T a.slot (start_at S a.slot) (length (log_at S i)) w z)
+    new-counted : IsCounted T a.slot (site_start S a.slot) (length (log_at S i)) w
+    new-counted l leads = subst (λ z. CountedBy T a.slot (site_start S a.slot) (length (log_at S i)) w z)
         (same-some (sym authoritative ∙ subst (λ p. leader S.words.deployment w p ≡ Some l) ok.part_is leads))
         (λ _ _ _. (new, subst (λ x. In new x.joiners) (sym (set-here S.sites i turn.state)) (in-right new (S.sites i).joiners (new ∷ []) (inl refl)), refl, sym runs, refl))
 
-    new-coming : Inert S a.slot w i → Coming T a.slot w (flow (start_at S a.slot) (term_of w) (between T i a.slot))
+    new-coming : Inert S a.slot w i → Coming T a.slot w (flow (site_start S a.slot) (term_of w) (between T i a.slot))
     new-coming q = record {
       past = log_at S i;
       more = [];
       leadership = leadership.0;
-      flow_is = ap (flow (start_at S a.slot) (term_of w)) chan-here ∙ flow-push (start_at S a.slot) (term_of w) (between S i a.slot) begins
-          ∙ ap (λ z. z ++ flow_of (start_at S a.slot) (term_of w) begins) q.flow_is ∙ flow-here (start_at S a.slot) (term_of w) begins (sym runs) same-term;
+      flow_is = ap (flow (site_start S a.slot) (term_of w)) chan-here ∙ flow-push (site_start S a.slot) (term_of w) (between S i a.slot) begins
+          ∙ ap (λ z. z ++ flow_of (site_start S a.slot) (term_of w) begins) q.flow_is ∙ flow-here (site_start S a.slot) (term_of w) begins (sym runs) same-term;
       led = ap (λ p. S.logs.leadership p (term_of w)) ok.part_is ∙ leadership.1;
       whole = append-nil (log_at S i) ∙ leadership.2;
       behind = subst (λ z. length leadership.0.begun ≤ length z) (sym leadership.2) (prefix-length leadership.0.begun leadership.0.log (H.leaderships (part S i) (term_of w) leadership.0 leadership.1).grown);
@@ -376,15 +376,15 @@ module _ (E : Database) (S : LogState) (H : Holds S) (i : ℕ) (up : 0 < start_a
             let before = sym (ap (λ z. length (as_ ++ bs ++ cs ++ z)) kept-here) ∙ e in
             let sum = sym (four-length as_ bs cs (asks_kept a.slot (pre ++ a ∷ post))) ∙ before in
             let one = kept-length pre post a in
-            let after = ap length asked-after ∙ four-length as_ bs cs (asks_kept a.slot (pre ++ post)) in
-            omega (arith, sum, one, after)
+            let after_site = ap length asked-after ∙ four-length as_ bs cs (asks_kept a.slot (pre ++ post)) in
+            omega (arith, sum, one, after_site)
 
     in-word-after : InWord T a.slot w j
     in-word-after = in_word-keeps-with S T H later a.slot (still a.slot) w j (record { entered = λ t e is _. is; streamed = λ t x is _. is })
-        (λ l e. same-lines l a.slot (start_at S a.slot) (term_of w) ∙ e)
-        (λ l f flows ending. (ap (flow (start_at S a.slot) (term_of w)) (elsewhere l f) ∙ flows, same-ends l a.slot (start_at S a.slot) (term_of w) ∙ ending))
+        (λ l e. same-lines l a.slot (site_start S a.slot) (term_of w) ∙ e)
+        (λ l f flows ending. (ap (flow (site_start S a.slot) (term_of w)) (elsewhere l f) ∙ flows, same-ends l a.slot (site_start S a.slot) (term_of w) ∙ ending))
         (λ l. asks-less a.slot l (term_of w))
-        (λ l f low either. subst (λ z. Inert T a.slot w z ⊎ (Coming T a.slot w (flow (start_at S a.slot) (term_of w) (between T z a.slot)) × (asked T a.slot z (term_of w) ≡ [])))
+        (λ l f low either. subst (λ z. Inert T a.slot w z ⊎ (Coming T a.slot w (flow (site_start S a.slot) (term_of w) (between T z a.slot)) × (asked T a.slot z (term_of w) ≡ [])))
         (follows-one S.words.deployment w a.slot i l follows-it f) (inr (new-coming (inert low), new-asked (inert low))))
         (λ stream_start u. absurd (untook stream_start u)) in-word
       where
@@ -397,10 +397,10 @@ module _ (E : Database) (S : LogState) (H : Holds S) (i : ℕ) (up : 0 < start_a
   -- ---- all slots, and all messages
 
   -- whether it is the joiner that asked
-  asker : (c : ℕ) → ((c ≡ a.slot) × (start_at S c ≡ a.start)) ⊎ (c ≡ a.slot → start_at S c ≡ a.start → ⊥)
+  asker : (c : ℕ) → ((c ≡ a.slot) × (site_start S c ≡ a.start)) ⊎ (c ≡ a.slot → site_start S c ≡ a.start → ⊥)
   asker c = elim (cases_eq c a.slot) [
     | inr n ↦ inr (λ e _. n e)
-    | inl e ↦ elim (cases_eq (start_at S c) a.start) [
+    | inl e ↦ elim (cases_eq (site_start S c) a.start) [
       | inl r ↦ inl (e, r)
       | inr n ↦ inr (λ _ r. n r)
     ]
@@ -409,19 +409,19 @@ module _ (E : Database) (S : LogState) (H : Holds S) (i : ℕ) (up : 0 < start_a
   joiner-after : (c : ℕ) (k : Joining) → (set_at S.sites i turn.state c).joining ≡ Some k → JoinerOk T c k
   joiner-after c k e = elim (asker c) [
     | inl r ↦ subst (λ z. JoinerOk T z k) (sym r.0)
-        (of-asker (subst (λ z. start_at S z ≡ a.start) r.0 r.1) (subst (λ z. (S.sites z).joining ≡ Some k) r.0 (sym (still c).joining ∙ e)))
+        (of-asker (subst (λ z. site_start S z ≡ a.start) r.0 r.1) (subst (λ z. (S.sites z).joining ≡ Some k) r.0 (sym (still c).joining ∙ e)))
     | inr n ↦ steady-joiner S channels (set_at S.sites i turn.state) S.pending S.logs.streamed H steady c (still c) (λ t x is _. is)
         (λ l. record {
-          lines = same-lines l c (start_at S c) (term_at S c);
-          flows = same-flows l c (start_at S c) (term_at S c) n;
-          ends = λ none. same-ends l c (start_at S c) (term_at S c) ∙ none;
+          lines = same-lines l c (site_start S c) (term_at S c);
+          flows = same-flows l c (site_start S c) (term_at S c) n;
+          ends = λ none. same-ends l c (site_start S c) (term_at S c) ∙ none;
           asks = asks-less c l (term_at S c);
-          uncounted = uncounted l c (start_at S c) n;
+          uncounted = uncounted l c (site_start S c) n;
         })
-        (λ stream_start v. counted c (start_at S c) stream_start v) k e
+        (λ stream_start v. counted c (site_start S c) stream_start v) k e
   ]
     where
-      of-asker : start_at S a.slot ≡ a.start → (S.sites a.slot).joining ≡ Some k → JoinerOk T a.slot k
+      of-asker : site_start S a.slot ≡ a.start → (S.sites a.slot).joining ≡ Some k → JoinerOk T a.slot k
       of-asker runs is = subst (JoinerOk T a.slot) (same-some (sym (joins runs).1.1 ∙ is))
           (joiner-keeps-with S T H later a.slot (still a.slot) (j runs) (record { entered = λ t e is _. is; streamed = λ t x is _. is })
           (λ v view h. subst (λ z. InWord T a.slot z (j runs)) (same-some (sym (view-is runs) ∙ view)) (in-word-after runs)) (joiner-is runs))
@@ -462,10 +462,10 @@ module _ (E : Database) (S : LogState) (H : Holds S) (i : ℕ) (up : 0 < start_a
           (subst (λ x. Distinct (map (λ j. j.slot) x.joiners)) (sym here)
           (subst Distinct (sym (map-append (λ j. j.slot) (S.sites i).joiners (new ∷ []))) (distinct-push (map (λ j. j.slot) (S.sites i).joiners) a.slot k.alone alone)))
           (subst (λ x. (x.joiners ≡ []) ⊎ (is_leader S.words.deployment i x ≡ true)) (sym here) (inr leading.0))
-          (subst (λ x. AllByRecursion (λ a. AskOk T (part S i) a.slot (term_at S i) a.start) x.asks) (sym here)
+          (subst (λ x. AllByRecursion (λ a. AsksToJoin T (part S i) a.slot (term_at S i) a.start) x.asks) (sym here)
           (steady-asks S channels (set_at S.sites i turn.state) S.pending S.logs.streamed H steady (part S i) (term_at S i) (pre ++ post)
-          (all-without (λ a. AskOk S (part S i) a.slot (term_at S i) a.start) pre post a
-          (subst (AllByRecursion (λ a. AskOk S (part S i) a.slot (term_at S i) a.start)) asks-are k.asks))))
+          (all-without (λ a. AsksToJoin S (part S i) a.slot (term_at S i) a.start) pre post a
+          (subst (AllByRecursion (λ a. AsksToJoin S (part S i) a.slot (term_at S i) a.start)) asks-are k.asks))))
           k.pending (subst (λ x. x.on_disk ≤ length x.log) (sym here) k.on_disk)
 
   -- who is told that its stream is whole was counted before
@@ -479,16 +479,16 @@ module _ (E : Database) (S : LogState) (H : Holds S) (i : ℕ) (up : 0 < start_a
   }
     where
       -- nothing was under way to the one that asked
-      clash : start_at S c ≡ y.start → term_at S c ≡ y.term → (S.sites c).earlier < y.term → c ≡ a.slot → start_at S c ≡ a.start → k ≡ i → ⊥
+      clash : site_start S c ≡ y.start → term_at S c ≡ y.term → (S.sites c).earlier < y.term → c ≡ a.slot → site_start S c ≡ a.start → k ≡ i → ⊥
       clash start term low e r q =
-          let runs = subst (λ z. start_at S z ≡ a.start) e r in
+          let runs = subst (λ z. site_start S z ≡ a.start) e r in
           let at : y.term ≡ term_of w = sym (subst (λ z. term_at S z ≡ y.term) e term) ∙ ap term_in (view-is runs) in
           let below = subst (λ n. (S.sites a.slot).earlier < n) at (subst (λ z. (S.sites z).earlier < y.term) e low) in
-          some (sym (ends-here (start_at S a.slot) (term_of w) y (sym (subst (λ z. start_at S z ≡ y.start) e start)) at)
-          ∙ ends-empty (start_at S a.slot) (term_of w) (between S i a.slot) (inert runs below).ends_are y
+          some (sym (ends-here (site_start S a.slot) (term_of w) y (sym (subst (λ z. site_start S z ≡ y.start) e start)) at)
+          ∙ ends-empty (site_start S a.slot) (term_of w) (between S i a.slot) (inert runs below).ends_are y
           (subst (λ z. In y (between S z a.slot)) q (subst (λ z. In y (between S k z)) e is)))
 
-      begun : start_at S c ≡ y.start → term_at S c ≡ y.term → (S.sites c).earlier < y.term → AllByRecursion (BeginsAt h.stream_start) (flow y.start y.term (between S k c))
+      begun : site_start S c ≡ y.start → term_at S c ≡ y.term → (S.sites c).earlier < y.term → AllByRecursion (BeginsAt h.stream_start) (flow y.start y.term (between S k c))
           → AllByRecursion (BeginsAt h.stream_start) (flow y.start y.term (between T k c))
       begun start term low old = elim (asker c) [
         | inr n ↦ subst (AllByRecursion (BeginsAt h.stream_start)) (sym (same-flows k c y.start y.term (λ e r. n e (start ∙ r)))) old
@@ -529,11 +529,11 @@ module _ (E : Database) (S : LogState) (H : Holds S) (i : ℕ) (up : 0 < start_a
   foreign-after (Scanner k) c = H.foreign (Scanner k) c
   foreign-after Director c = H.foreign Director c
 
-  takes-holds-joiner : Holds T
+  takes-holds-joiner : LogsHold T
   takes-holds-joiner = steady-holds S channels (set_at S.sites i turn.state) S.pending S.logs.streamed H steady
       (λ c v up none h. steady-member S channels (set_at S.sites i turn.state) S.pending S.logs.streamed H steady c (still c) (λ l x t. same-lines l c x t) v h)
       joiner-after (λ c up k. keeps-after c k)
-      (λ c none. (there c (λ e. let z = subst (λ z. start_at S z ≡ 0) e none in omega (arith, z, up)), refl))
+      (λ c none. (there c (λ e. let z = subst (λ z. site_start S z ≡ 0) e none in omega (arith, z, up)), refl))
       letters-after foreign-after
       (λ c t x is. let h = H.streamed c t x is in
       streamed-later S T H later c t x h (steady-leaderships S channels (set_at S.sites i turn.state) S.pending S.logs.streamed H steady) h.apart
@@ -544,15 +544,15 @@ module _ (E : Database) (S : LogState) (H : Holds S) (i : ℕ) (up : 0 < start_a
 
 -- What holds, holds after the leader took the first joiner that it can take, if there is one. It stays in its word.
 pub record TakesAsks (S : LogState) (i : ℕ) (t : Turn SiteState) : Type 0 where
-  pub start : t.state.start ≡ start_at S i
+  pub start : t.state.start ≡ site_start S i
   pub view : t.state.view ≡ (S.sites i).view
-  pub holds : Holds (after S i t.state t.sends S.logs)
+  pub holds : LogsHold (after_site S i t.state t.sends S.logs)
 
-pub takes_asks-holds : (E : Database) (S : LogState) → Holds S → (i : ℕ) → 0 < start_at S i → TakesAsks S i (takes_asks E S.words.deployment i (S.sites i))
+pub takes_asks-holds : (E : Database) (S : LogState) → LogsHold S → (i : ℕ) → 0 < site_start S i → TakesAsks S i (takes_asks E S.words.deployment i (S.sites i))
 takes_asks-holds E S H i up = go (find (can_take S.words.deployment i (S.sites i)) (S.sites i).asks) refl
   where
     go : (o : Option Ask) → find (can_take S.words.deployment i (S.sites i)) (S.sites i).asks ≡ o → TakesAsks S i (takes_first_ask E S.words.deployment i (S.sites i) o)
-    go None e = record { start = refl; view = refl; holds = subst Holds (sym (after-same S i)) H }
+    go None e = record { start = refl; view = refl; holds = subst LogsHold (sym (after-same S i)) H }
     go (Some a) e =
         let r = found-first (can_take S.words.deployment i (S.sites i)) (S.sites i).asks a e in
         subst (λ as_. TakesAsks S i (takes_joiner E S.words.deployment i a (record (S.sites i) { asks = as_ }))) (sym r.3)

@@ -18,7 +18,7 @@ use Rattle.cluster_steps.proofs.Lists.{eqb-same, in-left, in-right, in-cases, se
 use Rattle.word_laws.proofs.Steps.{same-true}
 use Rattle.cluster_steps.proofs.Channels.{sent-nothing}
 use Rattle.log_laws.specs.Histories.{LogState, Logs, between, ask_of, asks_in, wait_of, asks_waiting, asks_kept, asks_of_term, asked}
-use Rattle.log_laws.proofs.Kept.Moves.{after, popped, left}
+use Rattle.log_laws.proofs.Kept.Moves.{after_site, site_popped, left}
 use Rattle.log_laws.proofs.Plain.Lines.{waits-push}
 
 -- ---- no more than before
@@ -169,7 +169,7 @@ asks-at S T i others here c l t = elim (cases_eq l i) [
 
 module _ (S : LogState) (from : Actor) (i : ℕ) where
   -- other channels stay
-  pub popped-to : (l : ℕ) → (l ≡ i → ⊥) → (c : ℕ) → between (popped S from i) c l ≡ between S c l
+  pub popped-to : (l : ℕ) → (l ≡ i → ⊥) → (c : ℕ) → between (site_popped S from i) c l ≡ between S c l
   popped-to l n c = choice (i == l) refl
     where
       choice : (b : Bool) → (i == l) ≡ b → (if b && same from (Site c) then rest (between S c l) else between S c l) ≡ between S c l
@@ -178,7 +178,7 @@ module _ (S : LogState) (from : Actor) (i : ℕ) where
 
   -- an ask in it was the first one
   pub popped-asks : (l : Letter) (ls : List Letter) → S.words.channel from (Site i) ≡ l ∷ ls → (c t : ℕ)
-      → asks_in t (between S c i) ≡ wait_of c t (record { from = from; letter = l }) ++ asks_in t (between (popped S from i) c i)
+      → asks_in t (between S c i) ≡ wait_of c t (record { from = from; letter = l }) ++ asks_in t (between (site_popped S from i) c i)
   popped-asks l ls e c t = choice (i == i) (same from (Site c)) (eqb-same i) refl
     where
       choice : (a b : Bool) → a ≡ true → same from (Site c) ≡ b
@@ -216,34 +216,34 @@ kept-more s a slot l body term c t = rw (body, term) (choice (site_term s == t) 
 -- From a channel: of the state after a turn in which nothing is sent.
 module _ (S : LogState) (from : Actor) (i : ℕ) (l : Letter) (ls : List Letter) (e : S.words.channel from (Site i) ≡ l ∷ ls) (G : Logs) where
   popped-others : (s : SiteState) (k : ℕ) → (k ≡ i → ⊥)
-      → ((after (popped S from i) i s no_sends G).sites k ≡ S.sites k) × ((after (popped S from i) i s no_sends G).pending k ≡ S.pending k)
-      × ((c : ℕ) → between (after (popped S from i) i s no_sends G) c k ≡ between S c k)
+      → ((after_site (site_popped S from i) i s no_sends G).sites k ≡ S.sites k) × ((after_site (site_popped S from i) i s no_sends G).pending k ≡ S.pending k)
+      × ((c : ℕ) → between (after_site (site_popped S from i) i s no_sends G) c k ≡ between S c k)
   popped-others s k n =
-      (set-there S.sites i s k n, refl, λ c. ap (λ ch. ch (Site c) (Site k)) (sent-nothing (popped S from i).words.channel (Site i)) ∙ popped-to S from i k n c)
+      (set-there S.sites i s k n, refl, λ c. ap (λ ch. ch (Site c) (Site k)) (sent-nothing (site_popped S from i).words.channel (Site i)) ∙ popped-to S from i k n c)
 
   popped-site : (s : SiteState)
-      → ((c t : ℕ) → AtMost ((wait_of c t (came from l) ++ asks_in t (between (popped S from i) c i)) ++ asks_waiting c t (S.sites i).waiting
+      → ((c t : ℕ) → AtMost ((wait_of c t (came from l) ++ asks_in t (between (site_popped S from i) c i)) ++ asks_waiting c t (S.sites i).waiting
       ++ asks_waiting c t (S.pending i) ++ asks_of_term c t (S.sites i))
-      (asks_in t (between (popped S from i) c i) ++ asks_waiting c t s.waiting ++ asks_waiting c t (S.pending i) ++ asks_of_term c t s))
-      → AsksLess S (after (popped S from i) i s no_sends G)
-  popped-site s h = asks-at S (after (popped S from i) i s no_sends G) i (popped-others s) (λ c t.
+      (asks_in t (between (site_popped S from i) c i) ++ asks_waiting c t s.waiting ++ asks_waiting c t (S.pending i) ++ asks_of_term c t s))
+      → AsksLess S (after_site (site_popped S from i) i s no_sends G)
+  popped-site s h = asks-at S (after_site (site_popped S from i) i s no_sends G) i (popped-others s) (λ c t.
       subst (λ ch. AtMost (asked S c i t) (asks_in t (ch (Site c) (Site i)) ++ asks_waiting c t (set_at S.sites i s i).waiting
       ++ asks_waiting c t (S.pending i) ++ asks_of_term c t (set_at S.sites i s i)))
-      (sym (sent-nothing (popped S from i).words.channel (Site i)))
+      (sym (sent-nothing (site_popped S from i).words.channel (Site i)))
       (rw (set-here S.sites i s, popped-asks S from i l ls e c t) (h c t)))
 
   -- it waits
-  pub waits-asks : AsksLess S (after (popped S from i) i (record (S.sites i) { waiting = (S.sites i).waiting ++ came from l ∷ [] }) no_sends G)
+  pub waits-asks : AsksLess S (after_site (site_popped S from i) i (record (S.sites i) { waiting = (S.sites i).waiting ++ came from l ∷ [] }) no_sends G)
   waits-asks = popped-site (record (S.sites i) { waiting = (S.sites i).waiting ++ came from l ∷ [] }) (λ c t.
       rw (waits-push c t (S.sites i).waiting (came from l))
-      (first-to-second (wait_of c t (came from l)) (asks_in t (between (popped S from i) c i)) (asks_waiting c t (S.sites i).waiting)
+      (first-to-second (wait_of c t (came from l)) (asks_in t (between (site_popped S from i) c i)) (asks_waiting c t (S.sites i).waiting)
       (asks_waiting c t (S.pending i)) (asks_of_term c t (S.sites i))))
 
   -- it is forgotten, or isn't an ask
   pub popped-less : (s : SiteState) → s.waiting ≡ (S.sites i).waiting → ((c t : ℕ) → AtMost (asks_of_term c t (S.sites i)) (asks_of_term c t s))
-      → AsksLess S (after (popped S from i) i s no_sends G)
+      → AsksLess S (after_site (site_popped S from i) i s no_sends G)
   popped-less s same kept = popped-site s (λ c t.
-      let bs = asks_in t (between (popped S from i) c i) in
+      let bs = asks_in t (between (site_popped S from i) c i) in
       let ws = asks_waiting c t (S.sites i).waiting in
       let ps = asks_waiting c t (S.pending i) in
       rw same (at-most-then ((wait_of c t (came from l) ++ bs) ++ ws ++ ps ++ asks_of_term c t (S.sites i)) (bs ++ ws ++ ps ++ asks_of_term c t (S.sites i))
@@ -252,28 +252,28 @@ module _ (S : LogState) (from : Actor) (i : ℕ) (l : Letter) (ls : List Letter)
 
   -- it is an ask, which the site keeps
   pub popped-kept : (a slot : ℕ) → l.body ≡ msg.JoinAsk a slot → from ≡ Site slot → l.term ≡ site_term (S.sites i)
-      → AsksLess S (after (popped S from i) i (on_join_ask (S.sites i) a slot) no_sends G)
+      → AsksLess S (after_site (site_popped S from i) i (on_join_ask (S.sites i) a slot) no_sends G)
   popped-kept a slot body is term = popped-site (on_join_ask (S.sites i) a slot) (λ c t.
       rw (kept-more (S.sites i) a slot l body term c t)
-      (subst (λ z. AtMost ((wait_of c t (came from l) ++ asks_in t (between (popped S from i) c i)) ++ asks_waiting c t (S.sites i).waiting
+      (subst (λ z. AtMost ((wait_of c t (came from l) ++ asks_in t (between (site_popped S from i) c i)) ++ asks_waiting c t (S.sites i).waiting
       ++ asks_waiting c t (S.pending i) ++ asks_of_term c t (S.sites i))
-      (asks_in t (between (popped S from i) c i) ++ asks_waiting c t (S.sites i).waiting
+      (asks_in t (between (site_popped S from i) c i) ++ asks_waiting c t (S.sites i).waiting
       ++ asks_waiting c t (S.pending i) ++ (asks_of_term c t (S.sites i) ++ wait_of c t (came z l)))) is
-      (first-to-last (wait_of c t (came from l)) (asks_in t (between (popped S from i) c i)) (asks_waiting c t (S.sites i).waiting)
+      (first-to-last (wait_of c t (came from l)) (asks_in t (between (site_popped S from i) c i)) (asks_waiting c t (S.sites i).waiting)
       (asks_waiting c t (S.pending i)) (asks_of_term c t (S.sites i)))))
 
 -- From what waited: of the state after a turn in which nothing is sent, with these left.
 module _ (S : LogState) (i : ℕ) (ws : List Waiting) (G : Logs) where
   left-others : (s : SiteState) (k : ℕ) → (k ≡ i → ⊥)
-      → ((after (left S i ws) i s no_sends G).sites k ≡ S.sites k) × ((after (left S i ws) i s no_sends G).pending k ≡ S.pending k)
-      × ((c : ℕ) → between (after (left S i ws) i s no_sends G) c k ≡ between S c k)
+      → ((after_site (left S i ws) i s no_sends G).sites k ≡ S.sites k) × ((after_site (left S i ws) i s no_sends G).pending k ≡ S.pending k)
+      × ((c : ℕ) → between (after_site (left S i ws) i s no_sends G) c k ≡ between S c k)
   left-others s k n = (set-there S.sites i s k n, set-there S.pending i ws k n, λ c. ap (λ ch. ch (Site c) (Site k)) (sent-nothing S.words.channel (Site i)))
 
   left-site : (s : SiteState)
       → ((c t : ℕ) → AtMost (asked S c i t)
       (asks_in t (between S c i) ++ asks_waiting c t s.waiting ++ asks_waiting c t ws ++ asks_of_term c t s))
-      → AsksLess S (after (left S i ws) i s no_sends G)
-  left-site s h = asks-at S (after (left S i ws) i s no_sends G) i (left-others s) (λ c t.
+      → AsksLess S (after_site (left S i ws) i s no_sends G)
+  left-site s h = asks-at S (after_site (left S i ws) i s no_sends G) i (left-others s) (λ c t.
       subst (λ ch. AtMost (asked S c i t) (asks_in t (ch (Site c) (Site i)) ++ asks_waiting c t (set_at S.sites i s i).waiting
       ++ asks_waiting c t (set_at S.pending i ws i) ++ asks_of_term c t (set_at S.sites i s i)))
       (sym (sent-nothing S.words.channel (Site i)))
@@ -281,7 +281,7 @@ module _ (S : LogState) (i : ℕ) (ws : List Waiting) (G : Logs) where
 
   -- all that waited is taken up that is of the term that the site has come to
   pub parted-asks : (s : SiteState) (term : ℕ) → ws ≡ of_term term (S.sites i).waiting → s.waiting ≡ above_term term (S.sites i).waiting
-      → ((c t : ℕ) → AtMost (asks_of_term c t (S.sites i)) (asks_of_term c t s)) → AsksLess S (after (left S i ws) i s no_sends G)
+      → ((c t : ℕ) → AtMost (asks_of_term c t (S.sites i)) (asks_of_term c t s)) → AsksLess S (after_site (left S i ws) i s no_sends G)
   parted-asks s term taken stays kept = left-site s (λ c t.
       let bs = asks_in t (between S c i) in
       let old = (S.sites i).waiting in
@@ -300,7 +300,7 @@ module _ (S : LogState) (i : ℕ) (ws : List Waiting) (G : Logs) where
   module _ (x : Waiting) (e : S.pending i ≡ x ∷ ws) where
     -- the first one is forgotten, or isn't an ask
     pub left-less : (s : SiteState) → s.waiting ≡ (S.sites i).waiting → ((c t : ℕ) → AtMost (asks_of_term c t (S.sites i)) (asks_of_term c t s))
-        → AsksLess S (after (left S i ws) i s no_sends G)
+        → AsksLess S (after_site (left S i ws) i s no_sends G)
     left-less s same kept = left-site s (λ c t.
         let bs = asks_in t (between S c i) in
         let old = asks_waiting c t (S.sites i).waiting in
@@ -312,7 +312,7 @@ module _ (S : LogState) (i : ℕ) (ws : List Waiting) (G : Logs) where
 
     -- it is an ask, which the site keeps
     pub left-kept : (a slot : ℕ) → x.letter.body ≡ msg.JoinAsk a slot → x.from ≡ Site slot → x.letter.term ≡ site_term (S.sites i)
-        → AsksLess S (after (left S i ws) i (on_join_ask (S.sites i) a slot) no_sends G)
+        → AsksLess S (after_site (left S i ws) i (on_join_ask (S.sites i) a slot) no_sends G)
     left-kept a slot body is term = left-site (on_join_ask (S.sites i) a slot) (λ c t.
         let bs = asks_in t (between S c i) in
         let old = asks_waiting c t (S.sites i).waiting in

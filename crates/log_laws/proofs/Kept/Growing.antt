@@ -16,9 +16,9 @@ use Rattle.cluster_model.specs.Laws.{starts_in}
 use Rattle.cluster_steps.specs.Lists.{In}
 use Rattle.cluster_steps.proofs.Lists.{all-mono, none-and-some, set-here, set-there, set-both}
 use Rattle.word_laws.proofs.Steps.{channel-holds}
-use Rattle.log_laws.specs.Histories.{LogState, Leadership, FollowsIn, LeadsIn, MemberOk, JoinerOk, AckOk, ReportOk, AskOk, CountedOk, WaitingOk, KeepsOk, SiteOk, SiteLetterOk, ForeignOk, ToldOk, BeginsAt, IsSlot, IsCounted, Holds, from_agent, follows, line, flow, between, part, start_at, log_at, term_at}
+use Rattle.log_laws.specs.Histories.{LogState, Leadership, FollowsIn, LeadsIn, MemberOk, JoinerOk, AckOk, ReportOk, AsksToJoin, CountedOk, SiteWaitingOk, KeepsOk, SiteOk, SiteLetterOk, ForeignOk, ToldOk, BeginsAt, IsSlot, IsCounted, LogsHold, agent_to_site, follows, line, flow, between, part, site_start, log_at, term_at}
 use Rattle.cluster_steps.proofs.Prefixes.{prefix-grows}
-use Rattle.log_laws.proofs.Kept.Moves.{Stays, Later, SameLeaderships, JoinsOn}
+use Rattle.log_laws.proofs.Kept.Moves.{Stays, LogsLater, SameLeaderships, JoinsOn}
 use Rattle.log_laws.proofs.Kept.Laters.{letter-later, waiting-later, ack-later, report-later, ask-later, counted-later, entered-later, streamed-later, leaderships-later, unleds-later, first-later, loads-later}
 use Rattle.log_laws.proofs.Kept.Plumbing.{words-later}
 use Rattle.log_laws.proofs.Kept.Keeps.{still-same, kept-same, counted-from, keeps-with, site-keeps-with}
@@ -42,7 +42,7 @@ grew s more floor repaired owes scans scanning =
 abbrev pub grown_to : LogState → ℕ → SiteState → (Actor → Actor → List Letter) → (ℕ → ℕ → Option Leadership) → LogState
 grown_to S i s ch R = record S { words = record S.words { channel = ch }; sites = set_at S.sites i s; logs = record S.logs { leadership = R } }
 
-module _ (S : LogState) (H : Holds S) (i : ℕ) (more : List Entry) (floor : ℕ) (repaired : Bool) (owes : Option ℕ) (scans : ℕ) (scanning : Option Scanning)
+module _ (S : LogState) (H : LogsHold S) (i : ℕ) (more : List Entry) (floor : ℕ) (repaired : Bool) (owes : Option ℕ) (scans : ℕ) (scanning : Option Scanning)
     (ch : Actor → Actor → List Letter) (R : ℕ → ℕ → Option Leadership) where
   abbrev s : SiteState
   s = grew (S.sites i) more floor repaired owes scans scanning
@@ -54,7 +54,7 @@ module _ (S : LogState) (H : Holds S) (i : ℕ) (more : List Entry) (floor : ℕ
 
   stays : (c : ℕ) → Stays S T c
   stays c = record {
-    start = set-both (λ h x. x.start ≡ start_at S h) S.sites i s refl (λ h n. refl) c;
+    start = set-both (λ h x. x.start ≡ site_start S h) S.sites i s refl (λ h n. refl) c;
     earlier = set-both (λ h x. x.earlier ≡ (S.sites h).earlier) S.sites i s refl (λ h n. refl) c;
     log = set-both (λ h x. length (log_at S h) ≤ length x.log) S.sites i s (rw length-append (omega arith)) (λ h n. omega arith) c;
     term = set-both (λ h x. term_at S h ≤ site_term x) S.sites i s (omega arith) (λ h n. omega arith) c;
@@ -63,7 +63,7 @@ module _ (S : LogState) (H : Holds S) (i : ℕ) (more : List Entry) (floor : ℕ
         (λ m e. (m, e, λ y. y)) (λ h n m e. (m, e, λ y. y)) c;
   }
 
-  pub grew-later : Later S T
+  pub grew-later : LogsLater S T
   grew-later = record {
     words = words-later S ch;
     ran = λ c a k. k;
@@ -83,8 +83,8 @@ module _ (S : LogState) (H : Holds S) (i : ℕ) (more : List Entry) (floor : ℕ
   joins-on c w = set-both (λ h x. ((j : Joining) × ((S.sites h).joining ≡ Some j) × ((S.sites h).view ≡ Some w)) → (j : Joining) × (x.joining ≡ Some j) × (x.view ≡ Some w))
       S.sites i s (λ k. k) (λ h n k. k) c
 
-  waits : (c : ℕ) (ws : List Waiting) → AllByRecursion (WaitingOk S c) ws → AllByRecursion (WaitingOk T c) ws
-  waits c ws k = all-mono (WaitingOk S c) (WaitingOk T c) (waiting-later S T H grew-later c (stays c).start joins-on) ws k
+  waits : (c : ℕ) (ws : List Waiting) → AllByRecursion (SiteWaitingOk S c) ws → AllByRecursion (SiteWaitingOk T c) ws
+  waits c ws k = all-mono (SiteWaitingOk S c) (SiteWaitingOk T c) (waiting-later S T H grew-later c (stays c).start joins-on) ws k
 
   -- ---- the site itself
 
@@ -94,26 +94,26 @@ module _ (S : LogState) (H : Holds S) (i : ℕ) (more : List Entry) (floor : ℕ
   -- Of its term it is given anew whom it leads and follows.
   pub grew-member : (w : Membership) → repaired ≡ true → floor ≤ S.logs.reach (part S i) (term_of w)
       → (leader S.words.deployment w (part S i) ≡ Some i → LeadsIn s (R (part S i) (term_of w)))
-      → ((l : ℕ) → follows S.words.deployment w i l ≡ true → FollowsIn s (line (start_at S i) (term_of w) (ch (Site l) (Site i))) (R (part S i) (term_of w)))
-      → ((l : ℕ) → follows S.words.deployment w i l ≡ false → line (start_at S i) (term_of w) (ch (Site l) (Site i)) ≡ [])
+      → ((l : ℕ) → follows S.words.deployment w i l ≡ true → FollowsIn s (line (site_start S i) (term_of w) (ch (Site l) (Site i))) (R (part S i) (term_of w)))
+      → ((l : ℕ) → follows S.words.deployment w i l ≡ false → line (site_start S i) (term_of w) (ch (Site l) (Site i)) ≡ [])
       → MemberOk S i w → MemberOk T i w
   grew-member w is below leading following others m = record {
     decided = m.decided;
-    start_is = rw (own, start_at) m.start_is;
+    start_is = rw (own, site_start) m.start_is;
     entered = m.entered;
     is_entered = m.is_entered;
-    since = rw (own, start_at) m.since;
+    since = rw (own, site_start) m.since;
     earlier = rw own m.earlier;
     grown = rw (own, log_at) (prefix-grows m.entered.log (log_at S i) more m.grown);
     still = rw own (λ e. absurd (true≢false (sym is ∙ e)));
     floor = rw own below;
     firm = rw own m.firm;
     leading = rw own leading;
-    following = rw (own, start_at) following;
-    others = rw (own, start_at) others;
+    following = rw (own, site_start) following;
+    others = rw (own, site_start) others;
   }
 
-  keeps-own : 0 < start_at S i → KeepsOk S i → KeepsOk T i
+  keeps-own : 0 < site_start S i → KeepsOk S i → KeepsOk T i
   keeps-own up k = record {
     acks = rw own (all-mono (λ a. IsSlot S a.0 → AckOk S a.0 (term_at S i) a.1) (λ a. IsSlot T a.0 → AckOk T a.0 (term_at S i) a.1)
         (λ a h slot. ack-later S T H grew-later a.0 (term_at S i) a.1 (h slot)) (S.sites i).acks k.acks);
@@ -124,18 +124,18 @@ module _ (S : LogState) (H : Holds S) (i : ℕ) (more : List Entry) (floor : ℕ
         (S.sites i).joiners k.joiners);
     alone = rw own k.alone;
     leads = rw own k.leads;
-    asks = rw own (all-mono (λ a. AskOk S (part S i) a.slot (term_at S i) a.start) (λ a. AskOk T (part S i) a.slot (term_at S i) a.start)
+    asks = rw own (all-mono (λ a. AsksToJoin S (part S i) a.slot (term_at S i) a.start) (λ a. AsksToJoin T (part S i) a.slot (term_at S i) a.start)
         (λ a. ask-later S T H grew-later (part S i) a.slot (term_at S i) a.start (joins-on a.slot)) (S.sites i).asks k.asks);
-    waiting = subst (λ x. AllByRecursion (WaitingOk T i) x.waiting) (sym own) (waits i (S.sites i).waiting k.waiting);
+    waiting = subst (λ x. AllByRecursion (SiteWaitingOk T i) x.waiting) (sym own) (waits i (S.sites i).waiting k.waiting);
     pending = waits i (S.pending i) k.pending;
     on_disk = rw (own, log_at) (rw length-append (let a = k.on_disk in omega (arith, a)));
     held = rw own k.held;
   }
 
-  site-own : 0 < start_at S i → (S.sites i).joining ≡ None → (w : Membership) → (S.sites i).view ≡ Some w → MemberOk T i w → SiteOk T i
+  site-own : 0 < site_start S i → (S.sites i).joining ≡ None → (w : Membership) → (S.sites i).view ≡ Some w → MemberOk T i w → SiteOk T i
   site-own up none w view mine = let k = H.sites i in record {
-    environment = rw (own, start_at) k.environment;
-    ran = rw (own, start_at) k.ran;
+    environment = rw (own, site_start) k.environment;
+    ran = rw (own, site_start) k.ran;
     term = rw own k.term;
     earlier = rw own k.earlier;
     member = λ _ _. (w, ap (λ x. x.view) own ∙ view, mine);
@@ -151,17 +151,17 @@ module _ (S : LogState) (H : Holds S) (i : ℕ) (more : List Entry) (floor : ℕ
       (λ j e. joiner j)
       (λ up k. keeps-with S T H grew-later c (still-same (S.sites c) (T.sites c) (grew-other c n)) (kept-same (S.sites c) (T.sites c) (grew-other c n))
       (λ a. ask-later S T H grew-later (part S c) a.slot (term_at S c) a.start (joins-on a.slot))
-      (subst (λ x. AllByRecursion (WaitingOk T c) x.waiting) (sym (grew-other c n)) (waits c (S.sites c).waiting k.waiting)) (waits c (S.pending c) k.pending) k)
+      (subst (λ x. AllByRecursion (SiteWaitingOk T c) x.waiting) (sym (grew-other c n)) (waits c (S.sites c).waiting k.waiting)) (waits c (S.pending c) k.pending) k)
       (λ e k. subst (λ x. (x.waiting ≡ []) × (x.asks ≡ []) × (x.joiners ≡ []) × (S.pending c ≡ [])) (sym (grew-other c n)) k)
       (H.sites c)
 
   -- ---- all of it
 
-  pub grew-holds : 0 < start_at S i → (S.sites i).joining ≡ None → SameLeaderships S.logs (record S.logs { leadership = R }) → Carries S ch
+  pub grew-holds : 0 < site_start S i → (S.sites i).joining ≡ None → SameLeaderships S.logs (record S.logs { leadership = R }) → Carries S ch
       → (w : Membership) → (S.sites i).view ≡ Some w → MemberOk T i w
       → ((c : ℕ) → (c ≡ i → ⊥) → (v : Membership) → MemberOk S c v → MemberOk T c v)
       → ((c : ℕ) → (c ≡ i → ⊥) → (j : Joining) → JoinerOk S c j → JoinerOk T c j)
-      → Holds T
+      → LogsHold T
   grew-holds up none same carries w view mine members joiners = record {
     words = channel-holds S.words ch (λ h g. carries.agents h (Agent g)) (λ h. ap starts_in (carries.director h)) H.words;
     sites = λ c. elim (cases_eq c i) [
@@ -170,7 +170,7 @@ module _ (S : LogState) (H : Holds S) (i : ℕ) (more : List Entry) (floor : ℕ
     ];
     views = λ c. views-keeps-with S T H grew-later c (stays c).start
         (set-both (λ h x. x.view ≡ (S.sites h).view) S.sites i s refl (λ h n. refl) c) refl refl (λ a m. m)
-        (leaves-same (start_at S c) (from_agent S c) (from_agent T c) (carries.agents (host_of_slot S.words.deployment c) (Site c))) (H.views c);
+        (leaves-same (site_start S c) (agent_to_site S c) (agent_to_site T c) (carries.agents (host_of_slot S.words.deployment c) (Site c))) (H.views c);
     letters = λ j c slot. all-mono (SiteLetterOk S j c) (SiteLetterOk T j c)
         (λ l. letter-later S T H grew-later j c l (joins-on j) (λ k _ _ _ _. carries.begins j c l.start l.term k.stream_start) (λ k x is start. inl is))
         (ch (Site j) (Site c)) (carries.letters j c slot);

@@ -6,7 +6,7 @@ use Rattle.cluster_model.specs.Words.{Deployment}
 use Rattle.cluster_model.specs.SiteState.{SiteState}
 use Rattle.log_laws.specs.Histories.{LogState, Logs, log_at}
 use Rattle.cluster_steps.proofs.Prefixes.{prefix-refl, prefix-trans}
-use Rattle.log_laws.proofs.Kept.Moves.{Later, Onward, Heads, Grown, Enters}
+use Rattle.log_laws.proofs.Kept.Moves.{LogsLater, Onward, Heads, Grown, Enters}
 
 -- ---- a later history
 
@@ -43,7 +43,7 @@ enters-then i low high F G H longer first second = record {
 }
 
 -- in a later state
-pub enters-later : (S T : LogState) (i : ℕ) → Later S T → Enters i (length (log_at S i)) S.logs T.logs
+pub enters-later : (S T : LogState) (i : ℕ) → LogsLater S T → Enters i (length (log_at S i)) S.logs T.logs
 enters-later S T i f = record {
   kept = f.entered;
   now = λ t e is. elim (f.entered_now i t e is) [

@@ -10,12 +10,12 @@ use Rattle.cluster_model.specs.Engine.{Database}
 use Rattle.cluster_model.specs.Words.{Deployment, part_of_slot}
 use Rattle.cluster_model.specs.Letters.{Letter, Sends, Turn, becomes, sending, only, letter_in}
 use Rattle.cluster_model.specs.Log.{open_in, last_done, nothing_open}
-use Rattle.cluster_model.specs.SiteState.{SiteState, AskedCall, Scanning, ForJoiner, ForBase, site_term, leads, is_joiner}
-use Rattle.cluster_model.specs.Site.{on_chunk, on_scan_end, tells, tells_initiator, standing, is_first_term, has_all_on_disk, initiator_in, shows, looked, on_look, on_power}
+use Rattle.cluster_model.specs.SiteState.{SiteState, AskedCall, site_term, leads, is_joiner}
+use Rattle.cluster_model.specs.Site.{tells, tells_initiator, standing, is_first_term, has_all_on_disk, initiator_in, shows, looked, on_look, on_power}
 use Rattle.cluster_model.specs.World.{sent}
 use Rattle.cluster_steps.proofs.Lists.{all-append, all-from, all-if, all-mono, set-both}
-use Rattle.log_laws.specs.Histories.{LogState, Holds, HeldOk, SiteLetterOk, ForeignOk, ToldOk, start_at, term_at, between, from_agent, line, line_of, flow, flow_of, ends, end_of, ask_of, asks_in, asks_waiting, asks_of_term, asked, log_at}
-use Rattle.log_laws.proofs.Kept.Moves.{after, NoStreamStart, Goes}
+use Rattle.log_laws.specs.Histories.{LogState, LogsHold, HeldOk, SiteLetterOk, ForeignOk, ToldOk, site_start, term_at, between, agent_to_site, line, line_of, flow, flow_of, stream_ends_in, end_of, ask_of, asks_in, asks_waiting, asks_of_term, asked, log_at}
+use Rattle.log_laws.proofs.Kept.Moves.{after_site, NoStreamStart, LogsGo}
 use Rattle.log_laws.proofs.Kept.Grown.{grown-same, enters-same}
 use Rattle.log_laws.proofs.Plain.Lines.{line-none, flow-none, ends-none, asks-none, line-same, flow-same, ends-same, asks-same, line-plain, flow-plain, ends-plain, asks-plain}
 use Rattle.log_laws.proofs.Kept.Asked.{AsksLess, at-most-is}
@@ -141,7 +141,7 @@ silent-told S i h l k = elim l.body as (λ m. Silent (Agent h) (record l { body 
 
 -- ---- the turn
 
-module _ (S : LogState) (H : Holds S) (i : ℕ) (out : Sends) (silent : (b : Actor) → AllByRecursion (Silent b) (out b)) where
+module _ (S : LogState) (H : LogsHold S) (i : ℕ) (out : Sends) (silent : (b : Actor) → AllByRecursion (Silent b) (out b)) where
   items : (P : Letter → Type 0) (c : ℕ) → ((l : Letter) → SilentItems S i c l → P l) → AllByRecursion P (out (Site c))
   items P c f = all-mono (Silent (Site c)) P (λ l k. f l (silent-items S i c l k)) (out (Site c)) (silent (Site c))
 
@@ -149,19 +149,19 @@ module _ (S : LogState) (H : Holds S) (i : ℕ) (out : Sends) (silent : (b : Act
   pub channels-silent : ChannelsOk S (sent S.words.channel (Site i) out)
   channels-silent = record {
     words = words-after S i (S.sites i) out S.logs H.words;
-    lines = λ l c up. sent-either S i (S.sites i) out S.logs (λ j ls. line (start_at S c) (term_at S c) ls ≡ line (start_at S c) (term_at S c) (between S j c)) (Site c)
-        (line-same (start_at S c) (term_at S c) (between S i c) (out (Site c)) (line-none (start_at S c) (term_at S c) (out (Site c))
-        (items (λ l. line_of (start_at S c) (term_at S c) l ≡ []) c (λ l k. k.line (start_at S c) (term_at S c)))))
+    lines = λ l c up. sent-either S i (S.sites i) out S.logs (λ j ls. line (site_start S c) (term_at S c) ls ≡ line (site_start S c) (term_at S c) (between S j c)) (Site c)
+        (line-same (site_start S c) (term_at S c) (between S i c) (out (Site c)) (line-none (site_start S c) (term_at S c) (out (Site c))
+        (items (λ l. line_of (site_start S c) (term_at S c) l ≡ []) c (λ l k. k.line (site_start S c) (term_at S c)))))
         (λ j other. refl) l;
-    flows = λ l c up. sent-either S i (S.sites i) out S.logs (λ j ls. flow (start_at S c) (term_at S c) ls ≡ flow (start_at S c) (term_at S c) (between S j c)) (Site c)
-        (flow-same (start_at S c) (term_at S c) (between S i c) (out (Site c)) (flow-none (start_at S c) (term_at S c) (out (Site c))
-        (items (λ l. flow_of (start_at S c) (term_at S c) l ≡ []) c (λ l k. k.flow (start_at S c) (term_at S c)))))
+    flows = λ l c up. sent-either S i (S.sites i) out S.logs (λ j ls. flow (site_start S c) (term_at S c) ls ≡ flow (site_start S c) (term_at S c) (between S j c)) (Site c)
+        (flow-same (site_start S c) (term_at S c) (between S i c) (out (Site c)) (flow-none (site_start S c) (term_at S c) (out (Site c))
+        (items (λ l. flow_of (site_start S c) (term_at S c) l ≡ []) c (λ l k. k.flow (site_start S c) (term_at S c)))))
         (λ j other. refl) l;
-    ends = λ l c up. sent-either S i (S.sites i) out S.logs (λ j ls. ends (start_at S c) (term_at S c) (between S j c) ≡ [] → ends (start_at S c) (term_at S c) ls ≡ []) (Site c)
-        (λ e. ends-same (start_at S c) (term_at S c) (between S i c) (out (Site c)) (ends-none (start_at S c) (term_at S c) (out (Site c))
-        (items (λ l. end_of (start_at S c) (term_at S c) l ≡ []) c (λ l k. k.ends (start_at S c) (term_at S c)))) ∙ e)
+    ends = λ l c up. sent-either S i (S.sites i) out S.logs (λ j ls. stream_ends_in (site_start S c) (term_at S c) (between S j c) ≡ [] → stream_ends_in (site_start S c) (term_at S c) ls ≡ []) (Site c)
+        (λ e. ends-same (site_start S c) (term_at S c) (between S i c) (out (Site c)) (ends-none (site_start S c) (term_at S c) (out (Site c))
+        (items (λ l. end_of (site_start S c) (term_at S c) l ≡ []) c (λ l k. k.ends (site_start S c) (term_at S c)))) ∙ e)
         (λ j other e. e) l;
-    leaves = λ c. leaves-same (start_at S c) (from_agent S c) (from_agent S c) refl;
+    leaves = λ c. leaves-same (site_start S c) (agent_to_site S c) (agent_to_site S c) refl;
     letters = λ l c slot. sent-either S i (S.sites i) out S.logs (λ j ls. AllByRecursion (SiteLetterOk S j c) ls) (Site c)
         (all-append (SiteLetterOk S i c) (between S i c) (out (Site c)) (H.letters i c slot) (items (SiteLetterOk S i c) c (λ l k. k.letter)))
         (λ j other. H.letters j c slot) l;
@@ -183,14 +183,14 @@ module _ (S : LogState) (H : Holds S) (i : ℕ) (out : Sends) (silent : (b : Act
       foreign (Scanner x) c = H.foreign (Scanner x) c
 
   -- Who asked is the same.
-  silent-asks : (s : SiteState) → SiteStill S i s → s.waiting ≡ (S.sites i).waiting → AsksLess S (after S i s out S.logs)
+  silent-asks : (s : SiteState) → SiteStill S i s → s.waiting ≡ (S.sites i).waiting → AsksLess S (after_site S i s out S.logs)
   silent-asks s site waiting c l t = at-most-is (asked S c l t) (asked T c l t)
       (ap (λ z. z ++ asks_waiting c t (T.sites l).waiting ++ asks_waiting c t (S.pending l) ++ asks_of_term c t (T.sites l)) channel
       ∙ ap (λ z. asks_in t (between S c l) ++ asks_waiting c t z ++ asks_waiting c t (S.pending l) ++ asks_of_term c t (T.sites l)) waits
       ∙ ap (λ z. asks_in t (between S c l) ++ asks_waiting c t (S.sites l).waiting ++ asks_waiting c t (S.pending l) ++ z) kept)
     where
       T : LogState
-      T = after S i s out S.logs
+      T = after_site S i s out S.logs
 
       channel : asks_in t (between T c l) ≡ asks_in t (between S c l)
       channel = sent-either S i s out S.logs (λ j ls. asks_in t ls ≡ asks_in t (between S j l)) (Site l)
@@ -204,8 +204,8 @@ module _ (S : LogState) (H : Holds S) (i : ℕ) (out : Sends) (silent : (b : Act
       kept = rw ((still-at S i s site.still l).view, (kept-at S i s site.kept l).asks) refl
 
 -- A turn in which nothing changes that is looked at, and nothing is sent that is: the history stays.
-pub inert-after : (S : LogState) (i : ℕ) (s : SiteState) (out : Sends) → Holds S → Unwatched (S.sites i) s → ((b : Actor) → AllByRecursion (Silent b) (out b))
-    → Holds (after S i s out S.logs)
+pub inert-after : (S : LogState) (i : ℕ) (s : SiteState) (out : Sends) → LogsHold S → Unwatched (S.sites i) s → ((b : Actor) → AllByRecursion (Silent b) (out b))
+    → LogsHold (after_site S i s out S.logs)
 inert-after S i s out H u silent = still-holds S i s (sent S.words.channel (Site i) out) H site (channels-silent S H i out silent) (silent-asks S H i out silent s site u.waiting)
   where
     site : SiteStill S i s
@@ -226,7 +226,7 @@ inert-after S i s out H u silent = still-holds S i s (sent S.words.channel (Site
       none = λ z. u.waiting ∙ ((H.sites i).stopped z).0;
     }
 
-pub inert-goes : (S : LogState) (i : ℕ) (t : Turn SiteState) → Holds S → Unwatched (S.sites i) t.state → ((b : Actor) → AllByRecursion (Silent b) (t.sends b)) → Goes S i t
+pub inert-goes : (S : LogState) (i : ℕ) (t : Turn SiteState) → LogsHold S → Unwatched (S.sites i) t.state → ((b : Actor) → AllByRecursion (Silent b) (t.sends b)) → LogsGo S i t
 inert-goes S i t H u silent = record {
   logs = S.logs;
   start = u.start;
@@ -239,17 +239,17 @@ inert-goes S i t H u silent = record {
 }
 
 -- one in which nothing is sent
-pub inert-becomes : (S : LogState) (i : ℕ) (s : SiteState) → Holds S → Unwatched (S.sites i) s → Goes S i (becomes s)
+pub inert-becomes : (S : LogState) (i : ℕ) (s : SiteState) → LogsHold S → Unwatched (S.sites i) s → LogsGo S i (becomes s)
 inert-becomes S i s H u = inert-goes S i (becomes s) H u (λ b. tt)
 
 -- ---- the inert turns of a site
 
 -- what is made of one case holds, if it does in each
-goes-if : (S : LogState) (i : ℕ) (b : Bool) (t u : Turn SiteState) → Goes S i t → Goes S i u → Goes S i (if b then t else u)
+goes-if : (S : LogState) (i : ℕ) (b : Bool) (t u : Turn SiteState) → LogsGo S i t → LogsGo S i u → LogsGo S i (if b then t else u)
 goes-if S i true t u g h = g
 goes-if S i false t u g h = h
 
-goes-if-becomes : (S : LogState) (i : ℕ) (b : Bool) (s t : SiteState) → Goes S i (becomes s) → Goes S i (becomes t) → Goes S i (becomes (if b then s else t))
+goes-if-becomes : (S : LogState) (i : ℕ) (b : Bool) (s t : SiteState) → LogsGo S i (becomes s) → LogsGo S i (becomes t) → LogsGo S i (becomes (if b then s else t))
 goes-if-becomes S i true s t g h = g
 goes-if-becomes S i false s t g h = h
 
@@ -262,7 +262,7 @@ silent-only h l k (Client n) = tt
 silent-only h l k (Scanner x) = tt
 
 -- the leader tells the initiator how its partition stands
-pub tells-goes : (E : Database) (D : Deployment) (S : LogState) (i : ℕ) → Holds S → Goes S i (tells E D i (S.sites i))
+pub tells-goes : (E : Database) (D : Deployment) (S : LogState) (i : ℕ) → LogsHold S → LogsGo S i (tells E D i (S.sites i))
 tells-goes E D S i H = goes-if S i (leads D i s && not s.has_told && not (is_first_term s.view) && has_all_on_disk D i s)
     (tells_initiator E D i s (initiator_in s.view)) (becomes s) (told (initiator_in s.view)) (goes-same S i H)
   where
@@ -274,7 +274,7 @@ tells-goes E D S i H = goes-if S i (leads D i s && not s.has_told && not (is_fir
     stands h term start None None = tt
     stands h term start None (Some last) = tt
 
-    told : (o : Option (ℕ × ℕ)) → Goes S i (tells_initiator E D i s o)
+    told : (o : Option (ℕ × ℕ)) → LogsGo S i (tells_initiator E D i s o)
     told None = goes-same S i H
     told (Some first) = inert-goes S i (tells_initiator E D i s (Some first)) H
         (unwatched s (record s { has_told = true }) (λ k. k))
@@ -282,7 +282,7 @@ tells-goes E D S i H = goes-if S i (leads D i s && not s.has_told && not (is_fir
         (stands first.0 (site_term s) first.1 (open_in s.log) (last_done E (part_of_slot D i) s.log)))
 
 -- a look is answered
-pub shows-goes : (E : Database) (D : Deployment) (S : LogState) (i : ℕ) → Holds S → Goes S i (shows E D i (S.sites i))
+pub shows-goes : (E : Database) (D : Deployment) (S : LogState) (i : ℕ) → LogsHold S → LogsGo S i (shows E D i (S.sites i))
 shows-goes E D S i H = goes-if S i (nat_lt 0 s.looks && nothing_open s.log) shown (becomes s)
     (inert-goes S i shown H
     (unwatched s (record s { looks = 0 }) (λ k. k))
@@ -306,31 +306,13 @@ shows-goes E D S i H = goes-if S i (nat_lt 0 s.looks && nothing_open s.log) show
     silent (Scanner x) = tt
 
 -- a look, and a cut of power, are noted
-pub look-goes : (S : LogState) (i : ℕ) → Holds S → Goes S i (becomes (on_look (S.sites i)))
+pub look-goes : (S : LogState) (i : ℕ) → LogsHold S → LogsGo S i (becomes (on_look (S.sites i)))
 look-goes S i H = goes-if-becomes S i (is_joiner (S.sites i)) (S.sites i) (record (S.sites i) { looks = (S.sites i).looks + 1 }) (goes-same S i H)
     (inert-becomes S i (record (S.sites i) { looks = (S.sites i).looks + 1 }) H (unwatched (S.sites i) (record (S.sites i) { looks = (S.sites i).looks + 1 }) (λ k. k)))
 
-pub power-goes : (S : LogState) (i call choice : ℕ) → Holds S → Goes S i (becomes (on_power (S.sites i) call choice))
+pub power-goes : (S : LogState) (i call choice : ℕ) → LogsHold S → LogsGo S i (becomes (on_power (S.sites i) call choice))
 power-goes S i call choice H = inert-becomes S i (on_power (S.sites i) call choice) H (unwatched (S.sites i) (on_power (S.sites i) call choice) (λ k. k))
 
 -- other calls wait
-pub calls-goes : (S : LogState) (i : ℕ) (calls : List AskedCall) → Holds S → Goes S i (becomes (record (S.sites i) { calls = calls }))
+pub calls-goes : (S : LogState) (i : ℕ) (calls : List AskedCall) → LogsHold S → LogsGo S i (becomes (record (S.sites i) { calls = calls }))
 calls-goes S i calls H = inert-becomes S i (record (S.sites i) { calls = calls }) H (unwatched (S.sites i) (record (S.sites i) { calls = calls }) (λ k. k))
-
--- another scan runs, or none
-pub scanning-goes : (S : LogState) (i : ℕ) (scanning : Option Scanning) → Holds S → Goes S i (becomes (record (S.sites i) { scanning = scanning }))
-scanning-goes S i scanning H = inert-becomes S i (record (S.sites i) { scanning = scanning }) H (unwatched (S.sites i) (record (S.sites i) { scanning = scanning }) (λ k. k))
-
--- of a base of its own a block came, or the number of all
-pub base_chunk-goes : (S : LogState) (i id : ℕ) (scanning : Option Scanning) → Holds S → Goes S i (becomes (on_chunk (S.sites i) None scanning id))
-base_chunk-goes S i id None H = goes-same S i H
-base_chunk-goes S i id (Some (ForJoiner own slot)) H = goes-same S i H
-base_chunk-goes S i id (Some (ForBase own position blocks written count)) H =
-    goes-if-becomes S i (own == id) (record (S.sites i) { scanning = Some (ForBase own position (blocks + 1) written count) }) (S.sites i)
-    (scanning-goes S i (Some (ForBase own position (blocks + 1) written count)) H) (goes-same S i H)
-
-pub base_end-goes : (S : LogState) (i id count own position blocks written : ℕ) (ended : Option ℕ) → Holds S
-    → Goes S i (becomes (on_scan_end (S.sites i) (Some (ForBase own position blocks written ended)) id count))
-base_end-goes S i id count own position blocks written ended H =
-    goes-if-becomes S i (own == id) (record (S.sites i) { scanning = Some (ForBase own position blocks written (Some count)) }) (S.sites i)
-    (scanning-goes S i (Some (ForBase own position blocks written (Some count))) H) (goes-same S i H)

@@ -8,8 +8,8 @@ use Rattle.cluster_model.specs.Words.{Deployment, term_of, term_in, leader}
 use Rattle.cluster_model.specs.SiteState.{SiteState, Streamed, Joining, Joiner, Ask}
 use Rattle.cluster_steps.specs.Lists.{In}
 use Rattle.cluster_steps.proofs.Lists.{all-mono}
-use Rattle.log_laws.specs.Histories.{LogState, Holds, Entered, Streaming, Leadership, Line, Flow, FollowsIn, LeadsIn, HeldOk, AskOk, CountedOk, WaitingOk, KeepsOk, SiteOk, AckOk, ReportOk, MemberOk, JoinerOk, InWord, Wordless, ViewIn, StreamIn, Untaken, Took, Coming, Inert, NoStream, IsCounted, IsSlot, part, start_at, term_at, between, follows, line, flow, ends, asked}
-use Rattle.log_laws.proofs.Kept.Moves.{Later, Stays, JoinsOn}
+use Rattle.log_laws.specs.Histories.{LogState, LogsHold, Entered, Streaming, Leadership, Line, Flow, FollowsIn, LeadsIn, HeldOk, AsksToJoin, CountedOk, SiteWaitingOk, KeepsOk, SiteOk, AckOk, ReportOk, MemberOk, JoinerOk, InWord, Wordless, ViewIn, StreamIn, Untaken, Took, Coming, Inert, NoStream, IsCounted, IsSlot, part, site_start, term_at, between, follows, line, flow, stream_ends_in, asked}
+use Rattle.log_laws.proofs.Kept.Moves.{LogsLater, Stays, JoinsOn}
 use Rattle.log_laws.proofs.Kept.Asked.{AtMost, at-most-none, at-most-one}
 use Rattle.log_laws.proofs.Kept.Laters.{part-later, slot-before, start-later, ack-later, report-later, counted-later, ask-later-on, waiting-later-on}
 use Rattle.log_laws.proofs.Plain.Copies.{follows-leader}
@@ -17,7 +17,7 @@ use Rattle.log_laws.proofs.Plain.Copies.{follows-leader}
 -- ---- what is the same
 
 -- of a slot's own site
-pub record Still (s t : SiteState) : Type 0 where
+pub record SiteStays (s t : SiteState) : Type 0 where
   pub start : t.start ≡ s.start
   pub greatest : t.greatest ≡ s.greatest
   pub earlier : t.earlier ≡ s.earlier
@@ -28,7 +28,7 @@ pub record Still (s t : SiteState) : Type 0 where
   pub repaired : t.repaired ≡ s.repaired
   pub firm : t.firm ≡ s.firm
 
-pub still-same : (s t : SiteState) → t ≡ s → Still s t
+pub still-same : (s t : SiteState) → t ≡ s → SiteStays s t
 still-same s t e = record {
   start = ap (λ x. x.start) e;
   greatest = ap (λ x. x.greatest) e;
@@ -47,11 +47,11 @@ Uncounted S l c a = (j : Joiner) → In j (S.sites l).joiners → j.slot ≡ c �
 
 -- To slot c from slot l in this term: what is under way, what was asked and whether l counts it.
 pub record SameFrom (S T : LogState) (c l t : ℕ) : Type 0 where
-  pub lines : line (start_at S c) t (between T l c) ≡ line (start_at S c) t (between S l c)
-  pub flows : flow (start_at S c) t (between T l c) ≡ flow (start_at S c) t (between S l c)
-  pub ends : ends (start_at S c) t (between S l c) ≡ [] → ends (start_at S c) t (between T l c) ≡ []
+  pub lines : line (site_start S c) t (between T l c) ≡ line (site_start S c) t (between S l c)
+  pub flows : flow (site_start S c) t (between T l c) ≡ flow (site_start S c) t (between S l c)
+  pub ends : stream_ends_in (site_start S c) t (between S l c) ≡ [] → stream_ends_in (site_start S c) t (between T l c) ≡ []
   pub asks : AtMost (asked S c l t) (asked T c l t)
-  pub uncounted : Uncounted S l c (start_at S c) → Uncounted T l c (start_at S c)
+  pub uncounted : Uncounted S l c (site_start S c) → Uncounted T l c (site_start S c)
 
 -- of a partition in a term
 pub record SameTerm (S T : LogState) (p t : ℕ) : Type 0 where
@@ -83,22 +83,22 @@ KeepsNone S c = ((S.sites c).waiting ≡ []) × ((S.sites c).asks ≡ []) × ((S
 
 -- a slot's own history with the start that it has
 pub record SameRun (S T : LogState) (c : ℕ) : Type 0 where
-  pub entered : (t : ℕ) (e : Entered) → T.logs.entered c t ≡ Some e → e.start ≡ start_at S c → S.logs.entered c t ≡ Some e
-  pub streamed : (t : ℕ) (x : Streaming) → T.logs.streamed c t ≡ Some x → x.start ≡ start_at S c → S.logs.streamed c t ≡ Some x
+  pub entered : (t : ℕ) (e : Entered) → T.logs.entered c t ≡ Some e → e.start ≡ site_start S c → S.logs.entered c t ≡ Some e
+  pub streamed : (t : ℕ) (x : Streaming) → T.logs.streamed c t ≡ Some x → x.start ≡ site_start S c → S.logs.streamed c t ≡ Some x
 
 -- ---- who is counted
 
 -- slot l, while it is in this word, counts it
 abbrev pub CountedBy : LogState → ℕ → ℕ → ℕ → Membership → ℕ → Type 0
 CountedBy S c a stream_start w l =
-    0 < start_at S l → (S.sites l).joining ≡ None → (S.sites l).view ≡ Some w → (j : Joiner) × In j (S.sites l).joiners × (j.slot ≡ c) × (j.start ≡ a) × (j.stream_start ≡ stream_start)
+    0 < site_start S l → (S.sites l).joining ≡ None → (S.sites l).view ≡ Some w → (j : Joiner) × In j (S.sites l).joiners × (j.slot ≡ c) × (j.start ≡ a) × (j.stream_start ≡ stream_start)
 
 pub counted_by-same : (S T : LogState) (c a stream_start : ℕ) (w : Membership) (l : ℕ) → T.sites l ≡ S.sites l → CountedBy S c a stream_start w l → CountedBy T c a stream_start w l
 counted_by-same S T c a stream_start w l e k = λ up joining view.
     let r = k (subst (λ s. 0 < s.start) e up) (ap (λ s. s.joining) (sym e) ∙ joining) (ap (λ s. s.view) (sym e) ∙ view) in
     (r.0, subst (λ s. In r.0 s.joiners) (sym e) r.1, r.2, r.3, r.4)
 
-module _ (S T : LogState) (H : Holds S) (f : Later S T) where
+module _ (S T : LogState) (H : LogsHold S) (f : LogsLater S T) where
   -- by each leader
   pub counted-keeps : (c a stream_start : ℕ) (w : Membership) → ((l : ℕ) → CountedBy S c a stream_start w l → CountedBy T c a stream_start w l) → IsCounted S c a stream_start w → IsCounted T c a stream_start w
   counted-keeps c a stream_start w each k l authoritative = each l (k l (leads-before c l w authoritative))
@@ -129,7 +129,7 @@ pub leads_in-same : (s t : SiteState) (o : Option Leadership) → t.repaired ≡
 leads_in-same s t None r l k = r ∙ k
 leads_in-same s t (Some g) r l k = (r ∙ k.0, l ∙ k.1)
 
-module _ (S T : LogState) (H : Holds S) (f : Later S T) (c : ℕ) (site : Still (S.sites c) (T.sites c)) where
+module _ (S T : LogState) (H : LogsHold S) (f : LogsLater S T) (c : ℕ) (site : SiteStays (S.sites c) (T.sites c)) where
   pub term-still : term_at T c ≡ term_at S c
   term-still = ap term_in site.view
 
@@ -143,10 +143,10 @@ module _ (S T : LogState) (H : Holds S) (f : Later S T) (c : ℕ) (site : Still 
   pub member-keeps-with : (w : Membership) → MemberOk S c w
       → (leader S.words.deployment w (part S c) ≡ Some c → LeadsIn (S.sites c) (S.logs.leadership (part S c) (term_of w))
       → LeadsIn (S.sites c) (T.logs.leadership (part S c) (term_of w)))
-      → ((l : ℕ) → follows S.words.deployment w c l ≡ true → FollowsIn (S.sites c) (line (start_at S c) (term_of w) (between S l c)) (S.logs.leadership (part S c) (term_of w))
-      → FollowsIn (S.sites c) (line (start_at S c) (term_of w) (between T l c)) (T.logs.leadership (part S c) (term_of w)))
-      → ((l : ℕ) → follows S.words.deployment w c l ≡ false → line (start_at S c) (term_of w) (between S l c) ≡ []
-      → line (start_at S c) (term_of w) (between T l c) ≡ [])
+      → ((l : ℕ) → follows S.words.deployment w c l ≡ true → FollowsIn (S.sites c) (line (site_start S c) (term_of w) (between S l c)) (S.logs.leadership (part S c) (term_of w))
+      → FollowsIn (S.sites c) (line (site_start S c) (term_of w) (between T l c)) (T.logs.leadership (part S c) (term_of w)))
+      → ((l : ℕ) → follows S.words.deployment w c l ≡ false → line (site_start S c) (term_of w) (between S l c) ≡ []
+      → line (site_start S c) (term_of w) (between T l c) ≡ [])
       → MemberOk T c w
   member-keeps-with w k leading following others = record {
     decided = f.words.decided w k.decided;
@@ -162,14 +162,14 @@ module _ (S T : LogState) (H : Holds S) (f : Later S T) (c : ℕ) (site : Still 
     leading = λ e. rw (part-later S T H f c) (leads_in-same (S.sites c) (T.sites c) (T.logs.leadership (part S c) (term_of w)) site.repaired site.log
         (leading (leader-before w c e) (k.leading (leader-before w c e))));
     following = λ l e. rw (part-later S T H f c, site.start)
-        (follows_in-same (S.sites c) (T.sites c) (line (start_at S c) (term_of w) (between T l c)) (T.logs.leadership (part S c) (term_of w)) site.repaired site.log
+        (follows_in-same (S.sites c) (T.sites c) (line (site_start S c) (term_of w) (between T l c)) (T.logs.leadership (part S c) (term_of w)) site.repaired site.log
         (following l (follows-before w l true e) (k.following l (follows-before w l true e))));
     others = λ l e. rw (site.start) (others l (follows-before w l false e) (k.others l (follows-before w l false e)));
   }
 
   -- where all is the same
   pub member-keeps : (w : Membership) → MemberOk S c w
-      → ((l : ℕ) → line (start_at S c) (term_of w) (between T l c) ≡ line (start_at S c) (term_of w) (between S l c))
+      → ((l : ℕ) → line (site_start S c) (term_of w) (between T l c) ≡ line (site_start S c) (term_of w) (between S l c))
       → T.logs.leadership (part S c) (term_of w) ≡ S.logs.leadership (part S c) (term_of w) → MemberOk T c w
   member-keeps w k lines leadership = member-keeps-with w k
       (λ e p. rw leadership p)
@@ -178,12 +178,12 @@ module _ (S T : LogState) (H : Holds S) (f : Later S T) (c : ℕ) (site : Still 
 
   -- where all but what comes from slot i is the same
   pub member-keeps-from : (i : ℕ) (w : Membership) → MemberOk S c w
-      → ((l : ℕ) → (l ≡ i → ⊥) → line (start_at S c) (term_of w) (between T l c) ≡ line (start_at S c) (term_of w) (between S l c))
+      → ((l : ℕ) → (l ≡ i → ⊥) → line (site_start S c) (term_of w) (between T l c) ≡ line (site_start S c) (term_of w) (between S l c))
       → (follows S.words.deployment w c i ≡ false → T.logs.leadership (part S c) (term_of w) ≡ S.logs.leadership (part S c) (term_of w))
-      → (follows S.words.deployment w c i ≡ true → FollowsIn (S.sites c) (line (start_at S c) (term_of w) (between S i c)) (S.logs.leadership (part S c) (term_of w))
-      → FollowsIn (S.sites c) (line (start_at S c) (term_of w) (between T i c)) (T.logs.leadership (part S c) (term_of w)))
-      → (follows S.words.deployment w c i ≡ false → line (start_at S c) (term_of w) (between S i c) ≡ []
-      → line (start_at S c) (term_of w) (between T i c) ≡ [])
+      → (follows S.words.deployment w c i ≡ true → FollowsIn (S.sites c) (line (site_start S c) (term_of w) (between S i c)) (S.logs.leadership (part S c) (term_of w))
+      → FollowsIn (S.sites c) (line (site_start S c) (term_of w) (between T i c)) (T.logs.leadership (part S c) (term_of w)))
+      → (follows S.words.deployment w c i ≡ false → line (site_start S c) (term_of w) (between S i c) ≡ []
+      → line (site_start S c) (term_of w) (between T i c) ≡ [])
       → MemberOk T c w
   member-keeps-from i w k lines leadership mine none = member-keeps-with w k leading following others
     where
@@ -208,19 +208,19 @@ module _ (S T : LogState) (H : Holds S) (f : Later S T) (c : ℕ) (site : Still 
             | inr q ↦ rw q refl
           ]
 
-      following : (l : ℕ) → follows D w c l ≡ true → FollowsIn (S.sites c) (line (start_at S c) (term_of w) (between S l c)) (S.logs.leadership (part S c) (term_of w))
-          → FollowsIn (S.sites c) (line (start_at S c) (term_of w) (between T l c)) (T.logs.leadership (part S c) (term_of w))
+      following : (l : ℕ) → follows D w c l ≡ true → FollowsIn (S.sites c) (line (site_start S c) (term_of w) (between S l c)) (S.logs.leadership (part S c) (term_of w))
+          → FollowsIn (S.sites c) (line (site_start S c) (term_of w) (between T l c)) (T.logs.leadership (part S c) (term_of w))
       following l e p = elim (cases_eq l i) [
-        | inl q ↦ subst (λ x. FollowsIn (S.sites c) (line (start_at S c) (term_of w) (between T x c)) (T.logs.leadership (part S c) (term_of w))) (sym q)
+        | inl q ↦ subst (λ x. FollowsIn (S.sites c) (line (site_start S c) (term_of w) (between T x c)) (T.logs.leadership (part S c) (term_of w))) (sym q)
             (mine (subst (λ x. follows D w c x ≡ true) q e)
-            (subst (λ x. FollowsIn (S.sites c) (line (start_at S c) (term_of w) (between S x c)) (S.logs.leadership (part S c) (term_of w))) q p))
+            (subst (λ x. FollowsIn (S.sites c) (line (site_start S c) (term_of w) (between S x c)) (S.logs.leadership (part S c) (term_of w))) q p))
         | inr d ↦ rw (lines l d, same-leadership l d (follows-leader D w c l e).0) p
       ]
 
-      others : (l : ℕ) → follows D w c l ≡ false → line (start_at S c) (term_of w) (between S l c) ≡ [] → line (start_at S c) (term_of w) (between T l c) ≡ []
+      others : (l : ℕ) → follows D w c l ≡ false → line (site_start S c) (term_of w) (between S l c) ≡ [] → line (site_start S c) (term_of w) (between T l c) ≡ []
       others l e p = elim (cases_eq l i) [
-        | inl q ↦ subst (λ x. line (start_at S c) (term_of w) (between T x c) ≡ []) (sym q)
-            (none (subst (λ x. follows D w c x ≡ false) q e) (subst (λ x. line (start_at S c) (term_of w) (between S x c) ≡ []) q p))
+        | inl q ↦ subst (λ x. line (site_start S c) (term_of w) (between T x c) ≡ []) (sym q)
+            (none (subst (λ x. follows D w c x ≡ false) q e) (subst (λ x. line (site_start S c) (term_of w) (between S x c) ≡ []) q p))
         | inr d ↦ lines l d ∙ p
       ]
 
@@ -234,7 +234,7 @@ module _ (S T : LogState) (H : Holds S) (f : Later S T) (c : ℕ) (site : Still 
     uncounted = λ j is slot start. same.uncounted k.uncounted j is slot (start ∙ site.start);
     asks = λ slot. elim (k.asks (slot-before S T H f l slot)) [
       | inl e ↦ inl (at-most-none (asked S c l (term_of w)) (asked T c l (term_of w)) e same.asks)
-      | inr e ↦ elim (at-most-one (asked S c l (term_of w)) (asked T c l (term_of w)) (start_at S c) e same.asks) [
+      | inr e ↦ elim (at-most-one (asked S c l (term_of w)) (asked T c l (term_of w)) (site_start S c) e same.asks) [
         | inl n ↦ inl n
         | inr n ↦ inr (n ∙ ap (λ z. z ∷ []) (sym site.start))
       ]
@@ -243,7 +243,7 @@ module _ (S T : LogState) (H : Holds S) (f : Later S T) (c : ℕ) (site : Still 
 
   -- one to which a stream is
   pub coming-keeps : (w : Membership) (fl : List Flow) → SameTerm S T (part S c) (term_of w)
-      → ((stream_start : ℕ) → IsCounted S c (start_at S c) stream_start w → IsCounted T c (start_at S c) stream_start w) → Coming S c w fl → Coming T c w fl
+      → ((stream_start : ℕ) → IsCounted S c (site_start S c) stream_start w → IsCounted T c (site_start S c) stream_start w) → Coming S c w fl → Coming T c w fl
   coming-keeps w fl same counted k = record {
     past = k.past;
     more = k.more;
@@ -267,7 +267,7 @@ module _ (S T : LogState) (H : Holds S) (f : Later S T) (c : ℕ) (site : Still 
     led = rw (part-later S T H f c) (same.leadership ∙ k.led);
     flow_is = rw (site.start) ((each k.from).flows ∙ k.flow_is);
     whole = rw (site.log) k.whole;
-    streamed = f.streamed c (term_of w) (record { start = start_at S c; stream_start = stream_start }) k.streamed ∙ ap (λ s. Some (record { start = s; stream_start = stream_start })) (sym site.start);
+    streamed = f.streamed c (term_of w) (record { start = site_start S c; stream_start = stream_start }) k.streamed ∙ ap (λ s. Some (record { start = s; stream_start = stream_start })) (sym site.start);
     loading = λ e. rw (site.log) (k.loading e);
     loaded = k.loaded;
     ends = λ e. rw (part-later S T H f c) (let a = k.ends e in let b = f.reach (part S c) (term_of w) in omega (arith, a, b));
@@ -281,8 +281,8 @@ module _ (S T : LogState) (H : Holds S) (f : Later S T) (c : ℕ) (site : Still 
   -- one that hasn't
   pub untaken-keeps-with : (w : Membership) (j : Joining) → SameRun S T c
       → ((l : ℕ) → follows S.words.deployment w c l ≡ true → (S.sites c).earlier < term_of w
-      → Inert S c w l ⊎ (Coming S c w (flow (start_at S c) (term_of w) (between S l c)) × (asked S c l (term_of w) ≡ []))
-      → Inert T c w l ⊎ (Coming T c w (flow (start_at S c) (term_of w) (between T l c)) × (asked T c l (term_of w) ≡ [])))
+      → Inert S c w l ⊎ (Coming S c w (flow (site_start S c) (term_of w) (between S l c)) × (asked S c l (term_of w) ≡ []))
+      → Inert T c w l ⊎ (Coming T c w (flow (site_start S c) (term_of w) (between T l c)) × (asked T c l (term_of w) ≡ [])))
       → Untaken S c w j → Untaken T c w j
   untaken-keeps-with w j run comes k = record {
     loads = k.loads;
@@ -308,17 +308,17 @@ module _ (S T : LogState) (H : Holds S) (f : Later S T) (c : ℕ) (site : Still 
 
   -- where what it looks at is given anew
   pub in_word-keeps-with : (w : Membership) (j : Joining) → SameRun S T c
-      → ((l : ℕ) → line (start_at S c) (term_of w) (between S l c) ≡ [] → line (start_at S c) (term_of w) (between T l c) ≡ [])
-      → ((l : ℕ) → follows S.words.deployment w c l ≡ false → flow (start_at S c) (term_of w) (between S l c) ≡ [] → ends (start_at S c) (term_of w) (between S l c) ≡ []
-      → (flow (start_at S c) (term_of w) (between T l c) ≡ []) × (ends (start_at S c) (term_of w) (between T l c) ≡ []))
+      → ((l : ℕ) → line (site_start S c) (term_of w) (between S l c) ≡ [] → line (site_start S c) (term_of w) (between T l c) ≡ [])
+      → ((l : ℕ) → follows S.words.deployment w c l ≡ false → flow (site_start S c) (term_of w) (between S l c) ≡ [] → stream_ends_in (site_start S c) (term_of w) (between S l c) ≡ []
+      → (flow (site_start S c) (term_of w) (between T l c) ≡ []) × (stream_ends_in (site_start S c) (term_of w) (between T l c) ≡ []))
       → ((l : ℕ) → AtMost (asked S c l (term_of w)) (asked T c l (term_of w)))
       → ((l : ℕ) → follows S.words.deployment w c l ≡ true → (S.sites c).earlier < term_of w
-      → Inert S c w l ⊎ (Coming S c w (flow (start_at S c) (term_of w) (between S l c)) × (asked S c l (term_of w) ≡ []))
-      → Inert T c w l ⊎ (Coming T c w (flow (start_at S c) (term_of w) (between T l c)) × (asked T c l (term_of w) ≡ [])))
+      → Inert S c w l ⊎ (Coming S c w (flow (site_start S c) (term_of w) (between S l c)) × (asked S c l (term_of w) ≡ []))
+      → Inert T c w l ⊎ (Coming T c w (flow (site_start S c) (term_of w) (between T l c)) × (asked T c l (term_of w) ≡ [])))
       → ((stream_start : ℕ) → Took S c w j stream_start → Took T c w j stream_start)
       → InWord S c w j → InWord T c w j
   in_word-keeps-with w j run lines other asks comes took k = record {
-    took = f.words.took_word (start_at T c) w (rw (site.start) k.took);
+    took = f.words.took_word (site_start T c) w (rw (site.start) k.took);
     lines = λ l. rw (site.start) (lines l (k.lines l));
     others = λ l e. let o = k.others l (follows-before w l false e) in
         let n = other l (follows-before w l false e) o.0 o.1 in (
@@ -349,7 +349,7 @@ module _ (S T : LogState) (H : Holds S) (f : Later S T) (c : ℕ) (site : Still 
 
   -- where all is the same
   pub joiner-keeps : (j : Joining) → SameRun S T c → SameTerm S T (part S c) (term_at S c) → ((l : ℕ) → SameFrom S T c l (term_at S c))
-      → ((stream_start : ℕ) (w : Membership) → IsCounted S c (start_at S c) stream_start w → IsCounted T c (start_at S c) stream_start w)
+      → ((stream_start : ℕ) (w : Membership) → IsCounted S c (site_start S c) stream_start w → IsCounted T c (site_start S c) stream_start w)
       → JoinerOk S c j → JoinerOk T c j
   joiner-keeps j run term each counted = joiner-keeps-with j run (λ w e. let same = subst (λ o. SameTerm S T (part S c) (term_in o)) e term in
       let from = subst (λ o. (l : ℕ) → SameFrom S T c l (term_in o)) e each in
@@ -360,7 +360,7 @@ module _ (S T : LogState) (H : Holds S) (f : Later S T) (c : ℕ) (site : Still 
       (λ l _ _ z. elim z [
         | inl q ↦ inl (inert-keeps w l (from l) q)
         | inr q ↦ inr (
-          rw ((from l).flows) (coming-keeps w (flow (start_at S c) (term_of w) (between S l c)) same (λ stream_start. counted stream_start w) q.0),
+          rw ((from l).flows) (coming-keeps w (flow (site_start S c) (term_of w) (between S l c)) same (λ stream_start. counted stream_start w) q.0),
           at-most-none (asked S c l (term_of w)) (asked T c l (term_of w)) q.1 (from l).asks,
         )
       ])
@@ -369,8 +369,8 @@ module _ (S T : LogState) (H : Holds S) (f : Later S T) (c : ℕ) (site : Still 
   -- ---- what a site keeps
 
   pub keeps-with : SameKept (S.sites c) (T.sites c)
-      → ((a : Ask) → AskOk S (part S c) a.slot (term_at S c) a.start → AskOk T (part S c) a.slot (term_at S c) a.start)
-      → AllByRecursion (WaitingOk T c) (T.sites c).waiting → AllByRecursion (WaitingOk T c) (T.pending c) → KeepsOk S c → KeepsOk T c
+      → ((a : Ask) → AsksToJoin S (part S c) a.slot (term_at S c) a.start → AsksToJoin T (part S c) a.slot (term_at S c) a.start)
+      → AllByRecursion (SiteWaitingOk T c) (T.sites c).waiting → AllByRecursion (SiteWaitingOk T c) (T.pending c) → KeepsOk S c → KeepsOk T c
   keeps-with same asks waiting pending k = record {
     acks = rw (same.acks, term-still) (all-mono (λ a. IsSlot S a.0 → AckOk S a.0 (term_at S c) a.1) (λ a. IsSlot T a.0 → AckOk T a.0 (term_at S c) a.1)
         (λ a p slot. ack-later S T H f a.0 (term_at S c) a.1 (p (slot-before S T H f a.0 slot))) (S.sites c).acks k.acks);
@@ -384,8 +384,8 @@ module _ (S T : LogState) (H : Holds S) (f : Later S T) (c : ℕ) (site : Still 
       | inl e ↦ inl (same.joiners ∙ e)
       | inr e ↦ inr (rw (f.words.deployment, site.joining, site.view) e)
     ];
-    asks = rw (same.asks, term-still, part-later S T H f c) (all-mono (λ a. AskOk S (part S c) a.slot (term_at S c) a.start)
-        (λ a. AskOk T (part S c) a.slot (term_at S c) a.start) asks (S.sites c).asks k.asks);
+    asks = rw (same.asks, term-still, part-later S T H f c) (all-mono (λ a. AsksToJoin S (part S c) a.slot (term_at S c) a.start)
+        (λ a. AsksToJoin T (part S c) a.slot (term_at S c) a.start) asks (S.sites c).asks k.asks);
     waiting = waiting;
     pending = pending;
     on_disk = rw (same.on_disk, site.log) k.on_disk;
@@ -393,20 +393,20 @@ module _ (S T : LogState) (H : Holds S) (f : Later S T) (c : ℕ) (site : Still 
   }
 
   -- where the site is as it was, and starts that ask and run on join on
-  pub keeps-later : T.sites c ≡ S.sites c → T.pending c ≡ S.pending c → ((i : ℕ) → Stays S T i → 0 < start_at T i → JoinsOn S T i) → KeepsOk S c → KeepsOk T c
+  pub keeps-later : T.sites c ≡ S.sites c → T.pending c ≡ S.pending c → ((i : ℕ) → Stays S T i → 0 < site_start T i → JoinsOn S T i) → KeepsOk S c → KeepsOk T c
   keeps-later same pending on k = keeps-with (kept-same (S.sites c) (T.sites c) same)
       (λ a. ask-later-on S T H f (part S c) a.slot (term_at S c) a.start (on a.slot))
-      (subst (λ x. AllByRecursion (WaitingOk T c) x.waiting) (sym same)
-      (all-mono (WaitingOk S c) (WaitingOk T c) (waiting-later-on S T H f c site.start on) (S.sites c).waiting k.waiting))
-      (subst (AllByRecursion (WaitingOk T c)) (sym pending)
-      (all-mono (WaitingOk S c) (WaitingOk T c) (waiting-later-on S T H f c site.start on) (S.pending c) k.pending)) k
+      (subst (λ x. AllByRecursion (SiteWaitingOk T c) x.waiting) (sym same)
+      (all-mono (SiteWaitingOk S c) (SiteWaitingOk T c) (waiting-later-on S T H f c site.start on) (S.sites c).waiting k.waiting))
+      (subst (AllByRecursion (SiteWaitingOk T c)) (sym pending)
+      (all-mono (SiteWaitingOk S c) (SiteWaitingOk T c) (waiting-later-on S T H f c site.start on) (S.pending c) k.pending)) k
 
   -- ---- a slot
 
   pub site-keeps-with : T.logs.ran c ≡ S.logs.ran c
-      → (0 < start_at S c → (S.sites c).joining ≡ None → (w : Membership) → (S.sites c).view ≡ Some w → MemberOk S c w → MemberOk T c w)
+      → (0 < site_start S c → (S.sites c).joining ≡ None → (w : Membership) → (S.sites c).view ≡ Some w → MemberOk S c w → MemberOk T c w)
       → ((j : Joining) → (S.sites c).joining ≡ Some j → JoinerOk S c j → JoinerOk T c j)
-      → (0 < start_at S c → KeepsOk S c → KeepsOk T c) → (start_at S c ≡ 0 → KeepsNone S c → KeepsNone T c) → SiteOk S c → SiteOk T c
+      → (0 < site_start S c → KeepsOk S c → KeepsOk T c) → (site_start S c ≡ 0 → KeepsNone S c → KeepsNone T c) → SiteOk S c → SiteOk T c
   site-keeps-with ran member joiner keeps stopped k = record {
     environment = λ e. site.start ∙ k.environment (rw (f.words.deployment) at e);
     ran = λ up. rw (ran, site.start) (k.ran (rw (site.start) at up));
@@ -421,12 +421,12 @@ module _ (S T : LogState) (H : Holds S) (f : Later S T) (c : ℕ) (site : Still 
   }
 
   -- where all is the same
-  pub site-keeps : T.logs.ran c ≡ S.logs.ran c → SameRun S T c → SameTerm S T (part S c) (term_at S c) → (0 < start_at S c → (l : ℕ) → SameFrom S T c l (term_at S c))
-      → ((stream_start : ℕ) (w : Membership) → IsCounted S c (start_at S c) stream_start w → IsCounted T c (start_at S c) stream_start w)
-      → (0 < start_at S c → KeepsOk S c → KeepsOk T c) → (start_at S c ≡ 0 → KeepsNone S c → KeepsNone T c) → SiteOk S c → SiteOk T c
+  pub site-keeps : T.logs.ran c ≡ S.logs.ran c → SameRun S T c → SameTerm S T (part S c) (term_at S c) → (0 < site_start S c → (l : ℕ) → SameFrom S T c l (term_at S c))
+      → ((stream_start : ℕ) (w : Membership) → IsCounted S c (site_start S c) stream_start w → IsCounted T c (site_start S c) stream_start w)
+      → (0 < site_start S c → KeepsOk S c → KeepsOk T c) → (site_start S c ≡ 0 → KeepsNone S c → KeepsNone T c) → SiteOk S c → SiteOk T c
   site-keeps ran run term each counted keeps stopped = site-keeps-with ran
       (λ up none w e m. member-keeps w m
-      (subst (λ o. (l : ℕ) → line (start_at S c) (term_in o) (between T l c) ≡ line (start_at S c) (term_in o) (between S l c)) e (λ l. (each up l).lines))
+      (subst (λ o. (l : ℕ) → line (site_start S c) (term_in o) (between T l c) ≡ line (site_start S c) (term_in o) (between S l c)) e (λ l. (each up l).lines))
       (subst (λ o. T.logs.leadership (part S c) (term_in o) ≡ S.logs.leadership (part S c) (term_in o)) e term.leadership))
       (λ j e k. joiner-keeps j run term (each k.runs) counted k)
       keeps stopped

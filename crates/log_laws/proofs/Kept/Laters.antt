@@ -1,6 +1,5 @@
 -- What is kept from one state to a later one.
 use Rattle.std.proofs.Common.{◌≡◌, ◌<◌, List, refl, sym, subst, ap, ◌∙◌, ◌⊎◌, inl, inr, ◌==◌, arith}
-use Rattle.std.proofs.lemmas.Bool.{cases_eq}
 use Rattle.std.specs.Prelude.{ℕ, ◌≤◌, max, length, Option, Some, None}
 use Rattle.std.specs.List.{AllByRecursion, list_any}
 use Rattle.volt_base.specs.declared.entry.Entry.{Entry}
@@ -14,9 +13,9 @@ use Rattle.cluster_model.specs.AgentState.{Queued, Job_, Admission}
 use Rattle.cluster_model.specs.SiteState.{Joiner, Joining}
 use Rattle.cluster_steps.specs.Lists.{In, Prefix}
 use Rattle.cluster_steps.proofs.Lists.{all-mono, none-and-some, same-some}
-use Rattle.log_laws.specs.Histories.{LogState, Logs, base_of, Holds, HasBeen, WasIn, AckOk, ReportOk, AskOk, CountedOk, EndOk, Reached, LoadedOk, BeginsAt, SiteLetterOk, WaitingFrom, WaitingOk, ToldOk, AskedOk, QueuedOk, LoadsOk, IsSlot, AllLoaded, Entered, Streaming, Leadership, EnteredOk, StreamedOk, LeadershipOk, UnledOk, Last, Unled, Came, IsCounted, WordOf, part, start_at, log_at, term_at, flow, between}
+use Rattle.log_laws.specs.Histories.{LogState, Logs, epoch_base, LogsHold, HasBeen, WasIn, AckOk, ReportOk, AsksToJoin, CountedOk, EndOk, MeantFor, LoadedOk, BeginsAt, SiteLetterOk, SiteWaitingFrom, SiteWaitingOk, ToldOk, AskedOk, QueuedLoadedOk, LoadsOk, IsSlot, AllLoaded, Entered, Streaming, Leadership, EnteredOk, StreamedOk, LeadershipOk, UnledOk, Last, Unled, Came, IsCounted, WordOf, part, site_start, log_at, term_at, flow, between}
 use Rattle.cluster_steps.proofs.Prefixes.{prefix-length, prefix-refl, prefix-trans}
-use Rattle.log_laws.proofs.Kept.Moves.{Later, EntersNow, Stays, JoinsOn, SameLeaderships}
+use Rattle.log_laws.proofs.Kept.Moves.{LogsLater, EntersNow, Stays, JoinsOn, SameLeaderships}
 
 -- the same terms are led where nothing of them changes
 pub same-leaderships : (G H : Logs) → H.leadership ≡ G.leadership → SameLeaderships G H
@@ -26,11 +25,11 @@ same-leaderships G H e = record {
 }
 
 -- who was in a term ran
-pub was-ran : (S : LogState) → Holds S → (c t a : ℕ) → WasIn S c t a → In a (S.logs.ran c)
+pub was-ran : (S : LogState) → LogsHold S → (c t a : ℕ) → WasIn S c t a → In a (S.logs.ran c)
 was-ran S H c t a (inl (e, is, start)) = subst (λ x. In x (S.logs.ran c)) start (H.entered c t e is).been.ran
 was-ran S H c t a (inr (x, is, start)) = subst (λ y. In y (S.logs.ran c)) start (H.streamed c t x is).been.ran
 
-module _ (S T : LogState) (H : Holds S) (f : Later S T) where
+module _ (S T : LogState) (H : LogsHold S) (f : LogsLater S T) where
   pub part-later : (c : ℕ) → part T c ≡ part S c
   part-later c = ap (λ w. part (record S { words = record S.words { deployment = w } }) c) f.words.deployment
 
@@ -40,11 +39,11 @@ module _ (S T : LogState) (H : Holds S) (f : Later S T) where
   pub slot-before : (c : ℕ) → IsSlot T c → IsSlot S c
   slot-before c k = rw f.words.deployment at k
 
-  pub base-later : base_of T ≡ base_of S
+  pub base-later : epoch_base T ≡ epoch_base S
   base-later = ap (λ w. w.base) f.words.first
 
   -- A start that ran runs on, or not at all.
-  pub stays : (c a : ℕ) → 0 < a → In a (S.logs.ran c) → start_at T c ≡ a → Stays S T c
+  pub stays : (c a : ℕ) → 0 < a → In a (S.logs.ran c) → site_start T c ≡ a → Stays S T c
   stays c a some ran is = elim (f.sites c) [
     | inl k ↦ k
     | inr (inl z) ↦ absurd (omega (arith, some, z, is))
@@ -97,7 +96,7 @@ module _ (S T : LogState) (H : Holds S) (f : Later S T) where
   }
 
   -- where a start that asks and runs on joins on
-  pub ask-later-on : (p c t a : ℕ) → (Stays S T c → 0 < start_at T c → JoinsOn S T c) → AskOk S p c t a → AskOk T p c t a
+  pub ask-later-on : (p c t a : ℕ) → (Stays S T c → 0 < site_start T c → JoinsOn S T c) → AsksToJoin S p c t a → AsksToJoin T p c t a
   ask-later-on p c t a on k = record {
     been = been-later c t a k.been;
     part_is = part-later c ∙ k.part_is;
@@ -105,7 +104,7 @@ module _ (S T : LogState) (H : Holds S) (f : Later S T) where
         let j = k.joins (sym s.start ∙ is) in (j.0, on s (rw is (k.been.some)) j.0 j.1, j.2);
   }
 
-  pub ask-later : (p c t a : ℕ) → JoinsOn S T c → AskOk S p c t a → AskOk T p c t a
+  pub ask-later : (p c t a : ℕ) → JoinsOn S T c → AsksToJoin S p c t a → AsksToJoin T p c t a
   ask-later p c t a on = ask-later-on p c t a (λ _ _. on)
 
   pub counted-later : (p t : ℕ) (j : Joiner) → CountedOk S p t j → CountedOk T p t j
@@ -124,7 +123,7 @@ module _ (S T : LogState) (H : Holds S) (f : Later S T) where
     ];
   }
     where
-      runs-on : start_at T j.slot ≡ j.start → Stays S T j.slot
+      runs-on : site_start T j.slot ≡ j.start → Stays S T j.slot
       runs-on is = stays j.slot j.start k.been.some k.been.ran is
 
       -- what it acknowledged is in its log, with which it enters a term
@@ -136,7 +135,7 @@ module _ (S T : LogState) (H : Holds S) (f : Later S T) where
           let m = new.log in
           omega (arith, n, m)
 
-  pub reached-later : (c : ℕ) (l : Letter) → Reached S c l → Reached T c l
+  pub reached-later : (c : ℕ) (l : Letter) → MeantFor S c l → MeantFor T c l
   reached-later c l k = (
     k.0,
     f.ran c l.start k.1,
@@ -155,8 +154,8 @@ module _ (S T : LogState) (H : Holds S) (f : Later S T) where
   all_loaded-later h a k c is = loaded-later c a (k c (rw f.words.deployment at is))
 
   -- where what is under way from the leader begins where it did, and so does what was taken since
-  pub end-later-if : (i c : ℕ) (l : Letter) → Reached S c l → (k : EndOk S i c l)
-      → ((j : Joining) → (S.sites c).joining ≡ Some j → start_at S c ≡ l.start → term_at S c ≡ l.term
+  pub end-later-if : (i c : ℕ) (l : Letter) → MeantFor S c l → (k : EndOk S i c l)
+      → ((j : Joining) → (S.sites c).joining ≡ Some j → site_start S c ≡ l.start → term_at S c ≡ l.term
       → AllByRecursion (BeginsAt k.stream_start) (flow l.start l.term (between S i c)) → AllByRecursion (BeginsAt k.stream_start) (flow l.start l.term (between T i c)))
       → ((x : Streaming) → T.logs.streamed c l.term ≡ Some x → x.start ≡ l.start → (S.logs.streamed c l.term ≡ Some x) ⊎ (x.stream_start ≡ k.stream_start))
       → EndOk T i c l
@@ -171,13 +170,13 @@ module _ (S T : LogState) (H : Holds S) (f : Later S T) where
     ];
   }
     where
-      before : start_at T c ≡ l.start → Stays S T c
+      before : site_start T c ≡ l.start → Stays S T c
       before is = stays c l.start r.0.0 r.1 is
 
-      same-term : start_at T c ≡ l.start → term_at T c ≡ l.term → term_at S c ≡ l.term
+      same-term : site_start T c ≡ l.start → term_at T c ≡ l.term → term_at S c ≡ l.term
       same-term is term = let s = before is in let low = r.2 (sym s.start ∙ is) in let m = s.term in omega (arith, term, low, m)
 
-  pub end-later : (i c : ℕ) (l : Letter) → Reached S c l → (k : EndOk S i c l)
+  pub end-later : (i c : ℕ) (l : Letter) → MeantFor S c l → (k : EndOk S i c l)
       → (AllByRecursion (BeginsAt k.stream_start) (flow l.start l.term (between S i c)) → AllByRecursion (BeginsAt k.stream_start) (flow l.start l.term (between T i c)))
       → ((x : Streaming) → T.logs.streamed c l.term ≡ Some x → x.start ≡ l.start → (S.logs.streamed c l.term ≡ Some x) ⊎ (x.stream_start ≡ k.stream_start))
       → EndOk T i c l
@@ -186,10 +185,10 @@ module _ (S T : LogState) (H : Holds S) (f : Later S T) where
   -- ---- messages, and what waits
 
   -- A message to slot c from slot i, where an ask and the end of a stream stay so.
-  pub letter-later-with : (i c : ℕ) (l : Letter) → ((a slot : ℕ) → l.body ≡ msg.JoinAsk a slot → AskOk S (part S c) i l.term a → AskOk T (part S c) i l.term a)
-      → (Reached S c l → EndOk S i c l → EndOk T i c l) → SiteLetterOk S i c l → SiteLetterOk T i c l
-  letter-later-with i c l asks ends k = elim l.body as (λ m. ((a slot : ℕ) → m ≡ msg.JoinAsk a slot → AskOk S (part S c) i l.term a → AskOk T (part S c) i l.term a)
-      → (Reached S c (record l { body = m }) → EndOk S i c (record l { body = m }) → EndOk T i c (record l { body = m }))
+  pub letter-later-with : (i c : ℕ) (l : Letter) → ((a slot : ℕ) → l.body ≡ msg.JoinAsk a slot → AsksToJoin S (part S c) i l.term a → AsksToJoin T (part S c) i l.term a)
+      → (MeantFor S c l → EndOk S i c l → EndOk T i c l) → SiteLetterOk S i c l → SiteLetterOk T i c l
+  letter-later-with i c l asks ends k = elim l.body as (λ m. ((a slot : ℕ) → m ≡ msg.JoinAsk a slot → AsksToJoin S (part S c) i l.term a → AsksToJoin T (part S c) i l.term a)
+      → (MeantFor S c (record l { body = m }) → EndOk S i c (record l { body = m }) → EndOk T i c (record l { body = m }))
       → SiteLetterOk S i c (record l { body = m }) → SiteLetterOk T i c (record l { body = m })) [
         | msg.Put position e floor ↦ λ _ _ p. (
           reached-later c (record l { body = msg.Put position e floor }) p.0,
@@ -207,7 +206,7 @@ module _ (S T : LogState) (H : Holds S) (f : Later S T) where
       ] asks ends k
 
   pub letter-later : (i c : ℕ) (l : Letter) → JoinsOn S T i
-      → ((k : EndOk S i c l) (j : Joining) → (S.sites c).joining ≡ Some j → start_at S c ≡ l.start → term_at S c ≡ l.term
+      → ((k : EndOk S i c l) (j : Joining) → (S.sites c).joining ≡ Some j → site_start S c ≡ l.start → term_at S c ≡ l.term
       → AllByRecursion (BeginsAt k.stream_start) (flow l.start l.term (between S i c)) → AllByRecursion (BeginsAt k.stream_start) (flow l.start l.term (between T i c)))
       → ((k : EndOk S i c l) (x : Streaming) → T.logs.streamed c l.term ≡ Some x → x.start ≡ l.start → (S.logs.streamed c l.term ≡ Some x) ⊎ (x.stream_start ≡ k.stream_start))
       → SiteLetterOk S i c l → SiteLetterOk T i c l
@@ -215,13 +214,13 @@ module _ (S T : LogState) (H : Holds S) (f : Later S T) where
       letter-later-with i c l (λ a _ _. ask-later (part S c) i l.term a on) (λ r e. end-later-if i c l r e (keeps e) (taken e)) k
 
   -- What waits at slot c, where an ask stays so. Its start is meant, if one is.
-  pub waiting-later-with : (c : ℕ) → start_at T c ≡ start_at S c → (x : Waiting)
-      → ((i a slot : ℕ) → x.from ≡ Site i → x.letter.body ≡ msg.JoinAsk a slot → AskOk S (part S c) i x.letter.term a → AskOk T (part S c) i x.letter.term a)
-      → WaitingOk S c x → WaitingOk T c x
+  pub waiting-later-with : (c : ℕ) → site_start T c ≡ site_start S c → (x : Waiting)
+      → ((i a slot : ℕ) → x.from ≡ Site i → x.letter.body ≡ msg.JoinAsk a slot → AsksToJoin S (part S c) i x.letter.term a → AsksToJoin T (part S c) i x.letter.term a)
+      → SiteWaitingOk S c x → SiteWaitingOk T c x
   waiting-later-with c start x asks k = (rw start k.0, go x.from refl k.1)
     where
-      site : (i : ℕ) → x.from ≡ Site i → WaitingFrom S c (Site i) x.letter → WaitingFrom T c (Site i) x.letter
-      site i e p = elim x.letter.body as (λ m. x.letter.body ≡ m → WaitingFrom S c (Site i) (record x.letter { body = m }) → WaitingFrom T c (Site i) (record x.letter { body = m })) [
+      site : (i : ℕ) → x.from ≡ Site i → SiteWaitingFrom S c (Site i) x.letter → SiteWaitingFrom T c (Site i) x.letter
+      site i e p = elim x.letter.body as (λ m. x.letter.body ≡ m → SiteWaitingFrom S c (Site i) (record x.letter { body = m }) → SiteWaitingFrom T c (Site i) (record x.letter { body = m })) [
         | msg.Put position e floor ↦ λ _ p. p
         | msg.Repair from entries ↦ λ _ p. p
         | msg.Task position e ↦ λ _ p. p
@@ -234,7 +233,7 @@ module _ (S T : LogState) (H : Holds S) (f : Later S T) where
         | m ↦ λ _ _. tt
       ] refl p
 
-      go : (from : Actor) → x.from ≡ from → WaitingFrom S c from x.letter → WaitingFrom T c from x.letter
+      go : (from : Actor) → x.from ≡ from → SiteWaitingFrom S c from x.letter → SiteWaitingFrom T c from x.letter
       go (Site i) e p = site i e p
       go (Agent h) e p = p
       go Director e p = p
@@ -242,10 +241,10 @@ module _ (S T : LogState) (H : Holds S) (f : Later S T) where
       go (Scanner i) e p = p
 
   -- where all starts that ask and run on join on
-  pub waiting-later-on : (c : ℕ) → start_at T c ≡ start_at S c → ((i : ℕ) → Stays S T i → 0 < start_at T i → JoinsOn S T i) → (x : Waiting) → WaitingOk S c x → WaitingOk T c x
+  pub waiting-later-on : (c : ℕ) → site_start T c ≡ site_start S c → ((i : ℕ) → Stays S T i → 0 < site_start T i → JoinsOn S T i) → (x : Waiting) → SiteWaitingOk S c x → SiteWaitingOk T c x
   waiting-later-on c start on x = waiting-later-with c start x (λ i a _ _ _. ask-later-on (part S c) i x.letter.term a (on i))
 
-  pub waiting-later : (c : ℕ) → start_at T c ≡ start_at S c → ((i : ℕ) → JoinsOn S T i) → (x : Waiting) → WaitingOk S c x → WaitingOk T c x
+  pub waiting-later : (c : ℕ) → site_start T c ≡ site_start S c → ((i : ℕ) → JoinsOn S T i) → (x : Waiting) → SiteWaitingOk S c x → SiteWaitingOk T c x
   waiting-later c start on = waiting-later-on c start (λ i _ _. on i)
 
   -- ---- what was loaded
@@ -266,7 +265,7 @@ module _ (S T : LogState) (H : Holds S) (f : Later S T) where
   asked-later (Client n) l k = tt
   asked-later (Scanner i) l k = tt
 
-  pub queued-later : (q : Queued) → QueuedOk S q → QueuedOk T q
+  pub queued-later : (q : Queued) → QueuedLoadedOk S q → QueuedLoadedOk T q
   queued-later (Job_ job) k = tt
   queued-later (Admission a h term) k = all_loaded-later h a k
 
@@ -306,7 +305,7 @@ module _ (S T : LogState) (H : Holds S) (f : Later S T) where
 
   -- Of a slot that entered a term, where what is everywhere is in its log still.
   pub entered-later : (c t : ℕ) (e : Entered) → EnteredOk S c t e → SameLeaderships S.logs T.logs
-      → (start_at T c ≡ e.start → T.logs.reach (part T c) t ≤ length (log_at T c))
+      → (site_start T c ≡ e.start → T.logs.reach (part T c) t ≤ length (log_at T c))
       → ((v : ℕ) (g : Leadership) → S.logs.leadership (part S c) v ≡ Some g → v < t → T.logs.reach (part S c) v ≤ length e.log) → EnteredOk T c t e
   entered-later c t e k same reach since = record {
     slot = slot-later c k.slot;
@@ -335,27 +334,9 @@ module _ (S T : LogState) (H : Holds S) (f : Later S T) where
       led-before v None none led below = absurd (none-and-some (same.none (part S c) v none) led)
       led-before v (Some h) old led below = since v h old below
 
-  -- a slot doesn't enter a term of which it took a stream
-  pub apart-later : (c t : ℕ) (x : Streaming) → StreamedOk S c t x → ((e : Entered) → EntersNow S c t e → (S.sites c).earlier ≤ term_at S c)
-      → T.logs.entered c t ≡ None
-  apart-later c t x k low = go (T.logs.entered c t) refl
-    where
-      clash : (e : Entered) → EntersNow S c t e → ⊥
-      clash e n = elim (cases_eq (start_at S c) x.start) [
-        | inl same ↦ let up = (k.running same).1 in let above = n.above in absurd (omega (arith, up, above))
-        | inr other ↦ let up = k.been.others n.runs other in let below = low e n in let above = n.above in absurd (omega (arith, up, below, above))
-      ]
-
-      go : (o : Option Entered) → T.logs.entered c t ≡ o → T.logs.entered c t ≡ None
-      go None is = is
-      go (Some e) is = elim (f.entered_now c t e is) [
-        | inl old ↦ absurd (none-and-some k.apart old)
-        | inr new ↦ absurd (clash e new)
-      ]
-
   -- Of a slot that took the stream of a term, where it didn't enter it, what is everywhere is in its log still, and it is counted.
   pub streamed-later : (c t : ℕ) (x : Streaming) → (k : StreamedOk S c t x) → SameLeaderships S.logs T.logs → T.logs.entered c t ≡ None
-      → (start_at T c ≡ x.start → T.logs.reach (part T c) t ≤ length (log_at T c))
+      → (site_start T c ≡ x.start → T.logs.reach (part T c) t ≤ length (log_at T c))
       → (IsCounted S c x.start x.stream_start k.word → IsCounted T c x.start x.stream_start k.word) → StreamedOk T c t x
   streamed-later c t x k same apart reach counted =
       let r = same.kept (part S c) t k.leadership k.led in record {
@@ -418,8 +399,8 @@ module _ (S T : LogState) (H : Holds S) (f : Later S T) where
       go None e = unled-later p t reach (H.unled p t e)
       go (Some g) e = absurd (none-and-some led (same.kept p t g e).1)
 
-  pub first-later : SameLeaderships S.logs T.logs → (p : ℕ) → (g : Leadership) × (T.logs.leadership p (base_of T) ≡ Some g)
-  first-later same p = let o = H.first p in let r = same.kept p (base_of S) o.0 o.1 in (r.0, rw base-later r.1)
+  pub first-later : SameLeaderships S.logs T.logs → (p : ℕ) → (g : Leadership) × (T.logs.leadership p (epoch_base T) ≡ Some g)
+  first-later same p = let o = H.first p in let r = same.kept p (epoch_base S) o.0 o.1 in (r.0, rw base-later r.1)
 
   -- Who asks to be admitted has loaded all, and has it on disk, where no agent moves, and all that sites tell agents is so.
   pub loads-later : T.words.agents ≡ S.words.agents → T.words.history.admitted ≡ S.words.history.admitted
@@ -431,8 +412,8 @@ module _ (S T : LogState) (H : Holds S) (f : Later S T) where
     asked = λ h g. rw (asked h g) (all-mono (AskedOk S (Agent h)) (AskedOk T (Agent h)) (asked-later (Agent h)) (S.words.channel (Agent h) (Agent g)) (H.loads.asked h g));
     waiting = subst (λ a. (h : ℕ) → AllByRecursion (λ x. AskedOk T x.from x.letter) (a h).waiting) (sym agents)
         (λ h. all-mono (λ x. AskedOk S x.from x.letter) (λ x. AskedOk T x.from x.letter) (λ x. asked-later x.from x.letter) (S.words.agents h).waiting (H.loads.waiting h));
-    queued = subst (λ a. (h : ℕ) → AllByRecursion (QueuedOk T) (a h).initiating.queue) (sym agents)
-        (λ h. all-mono (QueuedOk S) (QueuedOk T) queued-later (S.words.agents h).initiating.queue (H.loads.queued h));
+    queued = subst (λ a. (h : ℕ) → AllByRecursion (QueuedLoadedOk T) (a h).initiating.queue) (sym agents)
+        (λ h. all-mono (QueuedLoadedOk S) (QueuedLoadedOk T) queued-later (S.words.agents h).initiating.queue (H.loads.queued h));
     admitted = λ x i. subst (λ o. AllLoaded T (o x.start) x.start) (sym f.words.owner)
         (all_loaded-later (S.words.owner x.start) x.start (H.loads.admitted x (subst (In x) admitted i)));
   }

@@ -12,21 +12,21 @@ use Rattle.cluster_model.specs.SiteState.{SiteState, Joining}
 use Rattle.cluster_model.specs.World.{took, sent, set_at}
 use Rattle.cluster_steps.specs.Lists.{In, Prefix}
 use Rattle.word_laws.proofs.Moves as word
-use Rattle.log_laws.specs.Histories.{LogState, Logs, Entered, Streaming, Leadership, Holds, start_at, log_at, term_at, JoinsIn}
+use Rattle.log_laws.specs.Histories.{LogState, Logs, Entered, Streaming, Leadership, LogsHold, site_start, log_at, term_at, JoinsIn}
 
 -- ---- states
 
 -- the state after a turn of the site of slot i
-abbrev pub after : LogState → ℕ → SiteState → Sends → Logs → LogState
-after S i s out G = record S {
+abbrev pub after_site : LogState → ℕ → SiteState → Sends → Logs → LogState
+after_site S i s out G = record S {
   words = record S.words { channel = sent S.words.channel (Site i) out };
   sites = set_at S.sites i s;
   logs = G;
 }
 
 -- the state once the site of slot i took the first message from this actor
-abbrev pub popped : LogState → Actor → ℕ → LogState
-popped S from i = record S { words = record S.words { channel = took S.words.channel from (Site i) } }
+abbrev pub site_popped : LogState → Actor → ℕ → LogState
+site_popped S from i = record S { words = record S.words { channel = took S.words.channel from (Site i) } }
 
 -- once these messages are left of those that the site takes, which waited for its term
 abbrev pub left : LogState → ℕ → List Waiting → LogState
@@ -36,7 +36,7 @@ left S i ws = record S { pending = set_at S.pending i ws }
 
 -- a slot's site goes on: with its start, a log and a term that only grow, and, as a joiner, with its base on disk if it was there
 pub record Stays (S T : LogState) (c : ℕ) : Type 0 where
-  pub start : start_at T c ≡ start_at S c
+  pub start : site_start T c ≡ site_start S c
   pub earlier : (T.sites c).earlier ≡ (S.sites c).earlier
   pub log : length (log_at S c) ≤ length (log_at T c)
   pub term : term_at S c ≤ term_at T c
@@ -45,17 +45,17 @@ pub record Stays (S T : LogState) (c : ℕ) : Type 0 where
       → (j : Joining) × ((S.sites c).joining ≡ Some j) × (j.is_based ≡ true → k.is_based ≡ true)
 
 -- it runs anew, with a start that its slot hasn't run with
-pub record Begins (S T : LogState) (c : ℕ) : Type 0 where
-  pub fresh : In (start_at T c) (S.logs.ran c) → ⊥
+pub record RunsAnew (S T : LogState) (c : ℕ) : Type 0 where
+  pub fresh : In (site_start T c) (S.logs.ran c) → ⊥
   pub earlier : (T.sites c).earlier ≡ (S.sites c).greatest
 
 abbrev pub SiteLater : LogState → LogState → ℕ → Type 0
-SiteLater S T c = Stays S T c ⊎ (start_at T c ≡ 0) ⊎ Begins S T c
+SiteLater S T c = Stays S T c ⊎ (site_start T c ≡ 0) ⊎ RunsAnew S T c
 
 -- what was entered since
 pub record EntersNow (S : LogState) (c t : ℕ) (e : Entered) : Type 0 where
-  pub runs : 0 < start_at S c
-  pub start : e.start ≡ start_at S c
+  pub runs : 0 < site_start S c
+  pub start : e.start ≡ site_start S c
   pub log : length (log_at S c) ≤ length e.log
   pub above : term_at S c < t
 
@@ -64,8 +64,8 @@ abbrev pub Unentered : Logs → ℕ → ℕ → Type 0
 Unentered G c a = (u : ℕ) (e : Entered) → G.entered c u ≡ Some e → e.start ≡ a → ⊥
 
 -- What only grows.
-pub record Later (S T : LogState) : Type 0 where
-  pub words : word.Later S.words T.words
+pub record LogsLater (S T : LogState) : Type 0 where
+  pub words : word.WordsLater S.words T.words
   pub ran : (c a : ℕ) → In a (S.logs.ran c) → In a (T.logs.ran c)
   pub greatest : (c : ℕ) → (S.sites c).greatest ≤ (T.sites c).greatest
   pub sites : (c : ℕ) → SiteLater S T c
@@ -124,20 +124,20 @@ NoStreamStart l = elim l.body as (λ _. Type 0) [
 -- A turn of the site of slot i, from a state: the site goes on with its start, begins no stream, and what holds, holds after it.
 pub record Turns (S : LogState) (i : ℕ) (t : Turn SiteState) : Type 0 where
   pub logs : Logs
-  pub start : t.state.start ≡ start_at S i
+  pub start : t.state.start ≡ site_start S i
   pub plain : (c : ℕ) → AllByRecursion NoStreamStart (t.sends (Site c))
-  pub holds : Holds (after S i t.state t.sends logs)
+  pub holds : LogsHold (after_site S i t.state t.sends logs)
   pub grown : Grown S.words.deployment i t.state S.logs logs
   pub enters : Enters i (length (log_at S i)) S.logs logs
   pub longer : length (log_at S i) ≤ length t.state.log
 
 -- one in which it stays in its word
-pub record Goes (S : LogState) (i : ℕ) (t : Turn SiteState) : Type 0 where
+pub record LogsGo (S : LogState) (i : ℕ) (t : Turn SiteState) : Type 0 where
   pub logs : Logs
-  pub start : t.state.start ≡ start_at S i
+  pub start : t.state.start ≡ site_start S i
   pub view : t.state.view ≡ (S.sites i).view
   pub plain : (c : ℕ) → AllByRecursion NoStreamStart (t.sends (Site c))
-  pub holds : Holds (after S i t.state t.sends logs)
+  pub holds : LogsHold (after_site S i t.state t.sends logs)
   pub grown : Grown S.words.deployment i t.state S.logs logs
   pub enters : Enters i (length (log_at S i)) S.logs logs
   pub longer : length (log_at S i) ≤ length t.state.log

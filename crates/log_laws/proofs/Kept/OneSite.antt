@@ -15,14 +15,14 @@ use Rattle.cluster_steps.proofs.Lists.{all-mono, none-and-some, same-some, set-h
 use Rattle.cluster_steps.proofs.Channels.{sent-nothing}
 use Rattle.word_laws.specs.Histories.{Distinct}
 use Rattle.cluster_steps.specs.Lists.{In}
-use Rattle.log_laws.specs.Histories.{AskOk, BeginsAt, Coming, CountedOk, Flow, Follows, ForeignOk, Holds, InWord, IsCounted, IsSlot, JoinerOk, KeepsOk, LogState, MemberOk, Inert, SiteLetterOk, StreamIn, StreamedOk, Streaming, Took, Untaken, ViewIn, WaitingOk, Wordless, asked, between, ends, flow, follows, line, part, start_at, term_at, log_at}
+use Rattle.log_laws.specs.Histories.{AsksToJoin, BeginsAt, Coming, CountedOk, Flow, Follows, ForeignOk, LogsHold, InWord, IsCounted, IsSlot, JoinerOk, KeepsOk, LogState, MemberOk, Inert, SiteLetterOk, StreamIn, StreamedOk, Streaming, Took, Untaken, ViewIn, SiteWaitingOk, Wordless, asked, between, stream_ends_in, flow, follows, line, part, site_start, term_at, log_at}
 use Rattle.log_laws.proofs.Kept.Asked.{AsksLess, at-most-none, at-most-one}
 use Rattle.cluster_steps.proofs.Leaders.{leader-view}
-use Rattle.log_laws.proofs.Kept.Keeps.{CountedBy, SameFrom, Still, Uncounted, counted-from, still-same}
+use Rattle.log_laws.proofs.Kept.Keeps.{CountedBy, SameFrom, SiteStays, Uncounted, counted-from, still-same}
 use Rattle.log_laws.proofs.Kept.Laters.{letter-later, streamed-later}
-use Rattle.log_laws.proofs.Kept.Moves.{Goes, Later, Unentered}
+use Rattle.log_laws.proofs.Kept.Moves.{LogsGo, LogsLater, Unentered}
 use Rattle.log_laws.proofs.Kept.Grown.{grown-reach, enters-same}
-use Rattle.log_laws.proofs.Kept.Steady.{GoesOn, Steady, goes-on-same, shifted, steady-asks, steady-counted, steady-holds, steady-joiner, steady-joins, steady-keeps, steady-later, steady-member, steady-leaderships}
+use Rattle.log_laws.proofs.Kept.Steady.{SiteGoesOn, Steady, goes-on-same, shifted, steady-asks, steady-counted, steady-holds, steady-joiner, steady-joins, steady-keeps, steady-later, steady-member, steady-leaderships}
 
 -- the state in which the site of slot i is this one, with these channels, with what is pending, and with the streams that were taken
 abbrev pub with-site : LogState → ℕ → SiteState → (Actor → Actor → List Letter) → (ℕ → List Waiting) → (ℕ → ℕ → Option Streaming) → LogState
@@ -30,9 +30,9 @@ with-site S i s ch pend st = shifted S ch (set_at S.sites i s) pend st
 
 -- What changes is the site of slot i, what is under way to it and waits there, and the streams that it took. It counts whom it
 -- counted, and no others, and slots have asked it no more.
-pub record Takes (S : LogState) (i : ℕ) (s : SiteState) (ch : Actor → Actor → List Letter) (pend : ℕ → List Waiting) (st : ℕ → ℕ → Option Streaming) : Type 0 where
-  pub up : 0 < start_at S i
-  pub goes : GoesOn (S.sites i) s
+pub record SiteTakes (S : LogState) (i : ℕ) (s : SiteState) (ch : Actor → Actor → List Letter) (pend : ℕ → List Waiting) (st : ℕ → ℕ → Option Streaming) : Type 0 where
+  pub up : 0 < site_start S i
+  pub goes : SiteGoesOn (S.sites i) s
   pub others : (a : Actor) (c : ℕ) → (c ≡ i → ⊥) → ch a (Site c) ≡ S.words.channel a (Site c)
   pub agents : (h : ℕ) (b : Actor) → ch (Agent h) b ≡ S.words.channel (Agent h) b
   pub told : (c h : ℕ) → ch (Site c) (Agent h) ≡ S.words.channel (Site c) (Agent h)
@@ -45,16 +45,16 @@ pub record Takes (S : LogState) (i : ℕ) (s : SiteState) (ch : Actor → Actor 
   pub counted : (c a stream_start : ℕ) (w : Membership) → CountedBy S c a stream_start w i → CountedBy (with-site S i s ch pend st) c a stream_start w i
   pub uncounted : (c a : ℕ) → Uncounted S i c a → Uncounted (with-site S i s ch pend st) i c a
 
-module _ (S : LogState) (H : Holds S) (i : ℕ) (s : SiteState) (ch : Actor → Actor → List Letter) (pend : ℕ → List Waiting) (st : ℕ → ℕ → Option Streaming)
-    (k : Takes S i s ch pend st) where
+module _ (S : LogState) (H : LogsHold S) (i : ℕ) (s : SiteState) (ch : Actor → Actor → List Letter) (pend : ℕ → List Waiting) (st : ℕ → ℕ → Option Streaming)
+    (k : SiteTakes S i s ch pend st) where
   there : (c : ℕ) → (c ≡ i → ⊥) → set_at S.sites i s c ≡ S.sites c
   there c n = set-there S.sites i s c n
 
   pub takes-steady : Steady S ch (set_at S.sites i s) st
   takes-steady = record {
     sites = λ c. elim (cases_eq c i) [
-      | inl e ↦ subst (λ z. GoesOn (S.sites z) (set_at S.sites i s z)) (sym e) (subst (GoesOn (S.sites i)) (sym (set-here S.sites i s)) k.goes)
-      | inr n ↦ subst (GoesOn (S.sites c)) (sym (there c n)) (goes-on-same (S.sites c))
+      | inl e ↦ subst (λ z. SiteGoesOn (S.sites z) (set_at S.sites i s z)) (sym e) (subst (SiteGoesOn (S.sites i)) (sym (set-here S.sites i s)) k.goes)
+      | inr n ↦ subst (SiteGoesOn (S.sites c)) (sym (there c n)) (goes-on-same (S.sites c))
     ];
     agents = k.agents;
     told = k.told;
@@ -87,7 +87,7 @@ module _ (S : LogState) (H : Holds S) (i : ℕ) (s : SiteState) (ch : Actor → 
       → ((l : ℕ) → IsSlot S i → AllByRecursion (SiteLetterOk (with-site S i s ch pend st) l i) (ch (Site l) (Site i)))
       → ((from : Actor) → AllByRecursion (ForeignOk S i from) (ch from (Site i)))
       → ((t : ℕ) (x : Streaming) → st i t ≡ Some x → StreamedOk (with-site S i s ch pend st) i t x)
-      → Holds (with-site S i s ch pend st)
+      → LogsHold (with-site S i s ch pend st)
   takes-holds member joiner keeps letters foreign streamed = steady-holds S ch (set_at S.sites i s) pend st H takes-steady
       (λ c w up none h. elim (cases_eq c i) [
         | inl e ↦ subst (λ z. MemberOk T z w) (sym e) (member w (subst (λ z. (S.sites z).joining ≡ None) e none) (subst (λ z. MemberOk S z w) e h))
@@ -96,14 +96,14 @@ module _ (S : LogState) (H : Holds S) (i : ℕ) (s : SiteState) (ch : Actor → 
       (λ c j is. elim (cases_eq c i) [
         | inl e ↦ subst (λ z. JoinerOk T z j) (sym e) (joiner j (ap (λ x. x.joining) (sym (set-here S.sites i s)) ∙ subst (λ z. (set_at S.sites i s z).joining ≡ Some j) e is))
         | inr n ↦ steady-joiner S ch (set_at S.sites i s) pend st H takes-steady c (still c n) (λ t x own _. sym (k.streamed c t n) ∙ own)
-            (λ l. from c n l) (λ stream_start w. takes-counted c (start_at S c) stream_start w) j is
+            (λ l. from c n l) (λ stream_start w. takes-counted c (site_start S c) stream_start w) j is
       ])
       (λ c up h. elim (cases_eq c i) [
         | inl e ↦ subst (KeepsOk T) (sym e) (keeps (subst (KeepsOk S) e h))
         | inr n ↦ kept c n h
       ])
       (λ c none. elim (cases_eq c i) [
-        | inl e ↦ let up = subst (λ z. 0 < start_at S z) (sym e) k.up in absurd (omega (arith, up, none))
+        | inl e ↦ let up = subst (λ z. 0 < site_start S z) (sym e) k.up in absurd (omega (arith, up, none))
         | inr n ↦ (there c n, k.pending c n)
       ])
       (λ l c slot. elim (cases_eq c i) [
@@ -122,19 +122,19 @@ module _ (S : LogState) (H : Holds S) (i : ℕ) (s : SiteState) (ch : Actor → 
       T : LogState
       T = with-site S i s ch pend st
 
-      later : Later S T
+      later : LogsLater S T
       later = steady-later S ch (set_at S.sites i s) pend st H takes-steady
 
-      still : (c : ℕ) → (c ≡ i → ⊥) → Still (S.sites c) (set_at S.sites i s c)
+      still : (c : ℕ) → (c ≡ i → ⊥) → SiteStays (S.sites c) (set_at S.sites i s c)
       still c n = still-same (S.sites c) (set_at S.sites i s c) (there c n)
 
       from : (c : ℕ) → (c ≡ i → ⊥) → (l : ℕ) → SameFrom S T c l (term_at S c)
       from c n l = let e = k.others (Site l) c n in record {
-        lines = ap (line (start_at S c) (term_at S c)) e;
-        flows = ap (flow (start_at S c) (term_at S c)) e;
-        ends = λ none. ap (ends (start_at S c) (term_at S c)) e ∙ none;
+        lines = ap (line (site_start S c) (term_at S c)) e;
+        flows = ap (flow (site_start S c) (term_at S c)) e;
+        ends = λ none. ap (stream_ends_in (site_start S c) (term_at S c)) e ∙ none;
         asks = k.asks c l (term_at S c);
-        uncounted = takes-uncounted l c (start_at S c);
+        uncounted = takes-uncounted l c (site_start S c);
       }
 
       kept : (c : ℕ) → (c ≡ i → ⊥) → KeepsOk S c → KeepsOk T c
@@ -161,32 +161,32 @@ module _ (S : LogState) (H : Holds S) (i : ℕ) (s : SiteState) (ch : Actor → 
 pub record LessTo (S : LogState) (i : ℕ) (ch : Actor → Actor → List Letter) : Type 0 where
   pub lines : (l a t : ℕ) → line a t (ch (Site l) (Site i)) ≡ line a t (between S l i)
   pub flows : (l a t : ℕ) → flow a t (between S l i) ≡ [] → flow a t (ch (Site l) (Site i)) ≡ []
-  pub ends : (l a t : ℕ) → ends a t (between S l i) ≡ [] → ends a t (ch (Site l) (Site i)) ≡ []
+  pub ends : (l a t : ℕ) → stream_ends_in a t (between S l i) ≡ [] → stream_ends_in a t (ch (Site l) (Site i)) ≡ []
 
-module _ (S : LogState) (H : Holds S) (i : ℕ) (s : SiteState) (ch : Actor → Actor → List Letter) (pend : ℕ → List Waiting) (st : ℕ → ℕ → Option Streaming)
-    (k : Takes S i s ch pend st) where
+module _ (S : LogState) (H : LogsHold S) (i : ℕ) (s : SiteState) (ch : Actor → Actor → List Letter) (pend : ℕ → List Waiting) (st : ℕ → ℕ → Option Streaming)
+    (k : SiteTakes S i s ch pend st) where
   here : set_at S.sites i s i ≡ s
   here = set-here S.sites i s
 
-  start-here : start_at (with-site S i s ch pend st) i ≡ start_at S i
+  start-here : site_start (with-site S i s ch pend st) i ≡ site_start S i
   start-here = ap (λ x. x.start) here ∙ k.goes.start
 
   -- a member of which nothing changes but what it keeps
-  pub takes-member : LessTo S i ch → Still (S.sites i) s → (w : Membership) → MemberOk S i w → MemberOk (with-site S i s ch pend st) i w
+  pub takes-member : LessTo S i ch → SiteStays (S.sites i) s → (w : Membership) → MemberOk S i w → MemberOk (with-site S i s ch pend st) i w
   takes-member less still w h = steady-member S ch (set_at S.sites i s) pend st H (takes-steady S H i s ch pend st k) i
-      (subst (Still (S.sites i)) (sym here) still) (λ l. less.lines l) w h
+      (subst (SiteStays (S.sites i)) (sym here) still) (λ l. less.lines l) w h
 
   -- what it keeps, with what is given of those that it counts, of asks, and of what is pending
   pub takes-keeps : KeepsOk S i
       → AllByRecursion (CountedOk (with-site S i s ch pend st) (part S i) (term_at S i)) s.joiners → Distinct (map (λ j. j.slot) s.joiners)
       → ((s.joiners ≡ []) ⊎ (is_leader S.words.deployment i s ≡ true))
-      → AllByRecursion (λ a. AskOk (with-site S i s ch pend st) (part S i) a.slot (term_at S i) a.start) s.asks
-      → AllByRecursion (WaitingOk S i) (pend i) → s.on_disk ≤ length s.log → KeepsOk (with-site S i s ch pend st) i
+      → AllByRecursion (λ a. AsksToJoin (with-site S i s ch pend st) (part S i) a.slot (term_at S i) a.start) s.asks
+      → AllByRecursion (SiteWaitingOk S i) (pend i) → s.on_disk ≤ length s.log → KeepsOk (with-site S i s ch pend st) i
   takes-keeps h counted alone leads asks pending disk = steady-keeps S ch (set_at S.sites i s) pend st H (takes-steady S H i s ch pend st k) i h
       (subst (λ x. AllByRecursion (CountedOk (with-site S i s ch pend st) (part S i) (term_at S i)) x.joiners) (sym here) counted)
       (subst (λ x. Distinct (map (λ j. j.slot) x.joiners)) (sym here) alone)
       (subst (λ x. (x.joiners ≡ []) ⊎ (is_leader S.words.deployment i x ≡ true)) (sym here) leads)
-      (subst (λ x. AllByRecursion (λ a. AskOk (with-site S i s ch pend st) (part S i) a.slot (term_at S i) a.start) x.asks) (sym here) asks)
+      (subst (λ x. AllByRecursion (λ a. AsksToJoin (with-site S i s ch pend st) (part S i) a.slot (term_at S i) a.start) x.asks) (sym here) asks)
       pending (subst (λ x. x.on_disk ≤ length x.log) (sym here) disk)
 
   -- those that it counted, and asks that it kept
@@ -194,19 +194,19 @@ module _ (S : LogState) (H : Holds S) (i : ℕ) (s : SiteState) (ch : Actor → 
       → AllByRecursion (CountedOk (with-site S i s ch pend st) (part S i) (term_at S i)) js
   takes-joiners = steady-counted S ch (set_at S.sites i s) pend st H (takes-steady S H i s ch pend st k) (part S i) (term_at S i)
 
-  pub takes-asks : (as_ : List Ask) → AllByRecursion (λ a. AskOk S (part S i) a.slot (term_at S i) a.start) as_
-      → AllByRecursion (λ a. AskOk (with-site S i s ch pend st) (part S i) a.slot (term_at S i) a.start) as_
+  pub takes-asks : (as_ : List Ask) → AllByRecursion (λ a. AsksToJoin S (part S i) a.slot (term_at S i) a.start) as_
+      → AllByRecursion (λ a. AsksToJoin (with-site S i s ch pend st) (part S i) a.slot (term_at S i) a.start) as_
   takes-asks = steady-asks S ch (set_at S.sites i s) pend st H (takes-steady S H i s ch pend st k) (part S i) (term_at S i)
 
   -- where it counts the same joiners and keeps the same asks
   pub takes-kept : s.joiners ≡ (S.sites i).joiners → s.asks ≡ (S.sites i).asks → (is_leader S.words.deployment i (S.sites i) ≡ true → is_leader S.words.deployment i s ≡ true)
-      → (KeepsOk S i → s.on_disk ≤ length s.log) → (AllByRecursion (WaitingOk S i) (S.pending i) → AllByRecursion (WaitingOk S i) (pend i))
+      → (KeepsOk S i → s.on_disk ≤ length s.log) → (AllByRecursion (SiteWaitingOk S i) (S.pending i) → AllByRecursion (SiteWaitingOk S i) (pend i))
       → KeepsOk S i → KeepsOk (with-site S i s ch pend st) i
   takes-kept joiners asks leads disk pending h = takes-keeps h
       (subst (AllByRecursion (CountedOk (with-site S i s ch pend st) (part S i) (term_at S i))) (sym joiners) (takes-joiners (S.sites i).joiners h.joiners))
       (subst (λ js. Distinct (map (λ j. j.slot) js)) (sym joiners) h.alone)
       (elim h.leads [ inl none ↦ inl (joiners ∙ none) | inr is ↦ inr (leads is) ])
-      (subst (AllByRecursion (λ a. AskOk (with-site S i s ch pend st) (part S i) a.slot (term_at S i) a.start)) (sym asks) (takes-asks (S.sites i).asks h.asks))
+      (subst (AllByRecursion (λ a. AsksToJoin (with-site S i s ch pend st) (part S i) a.slot (term_at S i) a.start)) (sym asks) (takes-asks (S.sites i).asks h.asks))
       (pending h.pending) (disk h)
 
   -- a joiner, with what is given of it in its word, and without one
@@ -233,10 +233,10 @@ module _ (S : LogState) (H : Holds S) (i : ℕ) (s : SiteState) (ch : Actor → 
       → (StreamIn S i w j j.stream → StreamIn (with-site S i s ch pend st) i w n n.stream) → InWord S i w j → InWord (with-site S i s ch pend st) i w n
   takes-word less w j n stream h = record {
     took = rw start-here h.took;
-    lines = λ l. rw start-here (less.lines l (start_at S i) (term_of w) ∙ h.lines l);
+    lines = λ l. rw start-here (less.lines l (site_start S i) (term_of w) ∙ h.lines l);
     others = λ l other. let o = h.others l other in (
-      rw start-here (less.flows l (start_at S i) (term_of w) o.0),
-      rw start-here (less.ends l (start_at S i) (term_of w) o.1),
+      rw start-here (less.flows l (site_start S i) (term_of w) o.0),
+      rw start-here (less.ends l (site_start S i) (term_of w) o.1),
       λ slot low. at-most-none (asked S i l (term_of w)) (asked (with-site S i s ch pend st) i l (term_of w))
           (o.2 slot (subst (λ x. x < term_of w) (ap (λ x. x.earlier) here ∙ k.goes.earlier) low)) (k.asks i l (term_of w)),
     );
@@ -259,11 +259,11 @@ module _ (S : LogState) (H : Holds S) (i : ℕ) (s : SiteState) (ch : Actor → 
 
   -- one that took its stream, and goes on with it
   pub takes-took : (w : Membership) (j n : Joining) (stream_start : ℕ) (h : Took S i w j stream_start) (more : List Entry)
-      → flow (start_at S i) (term_of w) (ch (Site h.from) (Site i)) ≡ map Follows more → s.log ++ n.tasks ++ more ≡ h.leadership.log
+      → flow (site_start S i) (term_of w) (ch (Site h.from) (Site i)) ≡ map Follows more → s.log ++ n.tasks ++ more ≡ h.leadership.log
       → (n.is_loaded ≡ false → length s.log ≡ stream_start) → (n.is_loaded ≡ true → n.tasks ≡ [])
       → ((n.is_loaded ≡ true ⊎ is_some n.count ≡ true) → stream_start ≤ S.logs.reach (part S i) (term_of w))
       → s.floor ≡ (S.sites i).floor → Took (with-site S i s ch pend st) i w n stream_start
-  takes-took w j n stream_start h more flowing whole loading loaded ends floor = record {
+  takes-took w j n stream_start h more flowing whole loading loaded stream_ends_in floor = record {
     from = h.from;
     following = h.following;
     more = more;
@@ -271,10 +271,10 @@ module _ (S : LogState) (H : Holds S) (i : ℕ) (s : SiteState) (ch : Actor → 
     led = h.led;
     flow_is = rw start-here flowing;
     whole = subst (λ x. x.log ++ n.tasks ++ more ≡ h.leadership.log) (sym here) whole;
-    streamed = rw start-here (k.stays (term_of w) (record { start = start_at S i; stream_start = stream_start }) h.streamed);
+    streamed = rw start-here (k.stays (term_of w) (record { start = site_start S i; stream_start = stream_start }) h.streamed);
     loading = λ e. ap (λ x. length x.log) here ∙ loading e;
     loaded = loaded;
-    ends = ends;
+    ends = stream_ends_in;
     floor = ap (λ x. x.floor) here ∙ floor ∙ h.floor;
     asks = λ l slot. at-most-none (asked S i l (term_of w)) (asked (with-site S i s ch pend st) i l (term_of w)) (h.asks l slot) (k.asks i l (term_of w));
   }
@@ -282,12 +282,12 @@ module _ (S : LogState) (H : Holds S) (i : ℕ) (s : SiteState) (ch : Actor → 
   -- one that took none, where what is under way to it is the same
   takes-inert : LessTo S i ch → (w : Membership) (l : ℕ) → Inert S i w l → Inert (with-site S i s ch pend st) i w l
   takes-inert less w l h = record {
-    flow_is = rw start-here (less.flows l (start_at S i) (term_of w) h.flow_is);
-    ends_are = rw start-here (less.ends l (start_at S i) (term_of w) h.ends_are);
-    uncounted = λ j is slot at. takes-uncounted S H i s ch pend st k l i (start_at S i) h.uncounted j is slot (at ∙ start-here);
+    flow_is = rw start-here (less.flows l (site_start S i) (term_of w) h.flow_is);
+    ends_are = rw start-here (less.ends l (site_start S i) (term_of w) h.ends_are);
+    uncounted = λ j is slot at. takes-uncounted S H i s ch pend st k l i (site_start S i) h.uncounted j is slot (at ∙ start-here);
     asks = λ slot. rw start-here (elim (h.asks slot) [
       | inl none ↦ inl (at-most-none (asked S i l (term_of w)) (asked (with-site S i s ch pend st) i l (term_of w)) none (k.asks i l (term_of w)))
-      | inr one ↦ at-most-one (asked S i l (term_of w)) (asked (with-site S i s ch pend st) i l (term_of w)) (start_at S i) one (k.asks i l (term_of w))
+      | inr one ↦ at-most-one (asked S i l (term_of w)) (asked (with-site S i s ch pend st) i l (term_of w)) (site_start S i) one (k.asks i l (term_of w))
     ]);
   }
 
@@ -301,13 +301,13 @@ module _ (S : LogState) (H : Holds S) (i : ℕ) (s : SiteState) (ch : Actor → 
     whole = h.whole;
     behind = h.behind;
     reach = h.reach;
-    counted = rw start-here (takes-counted S H i s ch pend st k i (start_at S i) (length h.past) w h.counted);
+    counted = rw start-here (takes-counted S H i s ch pend st k i (site_start S i) (length h.past) w h.counted);
   }
 
   pub takes-untaken : LessTo S i ch → ((t : ℕ) → st i t ≡ S.logs.streamed i t) → (w : Membership) (j n : Joining)
       → n.is_loaded ≡ j.is_loaded → n.count ≡ j.count → n.tasks ≡ j.tasks → s.log ≡ (S.sites i).log → s.floor ≡ (S.sites i).floor
       → ((l : ℕ) → follows S.words.deployment w i l ≡ true → (S.sites i).earlier < term_of w
-      → flow (start_at S i) (term_of w) (ch (Site l) (Site i)) ≡ flow (start_at S i) (term_of w) (between S l i))
+      → flow (site_start S i) (term_of w) (ch (Site l) (Site i)) ≡ flow (site_start S i) (term_of w) (between S l i))
       → Untaken S i w j → Untaken (with-site S i s ch pend st) i w n
   takes-untaken less streamed w j n loads counts tasks log floor flows h = record {
     loads = loads ∙ h.loads;
@@ -320,16 +320,16 @@ module _ (S : LogState) (H : Holds S) (i : ℕ) (s : SiteState) (ch : Actor → 
         elim (h.comes l is below) [
           | inl q ↦ inl (takes-inert less w l q)
           | inr q ↦ inr (
-            rw (start-here, flows l is below) (takes-coming w (flow (start_at S i) (term_of w) (between S l i)) q.0),
+            rw (start-here, flows l is below) (takes-coming w (flow (site_start S i) (term_of w) (between S l i)) q.0),
             at-most-none (asked S i l (term_of w)) (asked (with-site S i s ch pend st) i l (term_of w)) q.1 (k.asks i l (term_of w)),
           )
         ];
   }
 
   -- one that goes on as it was, where the same is under way to it from its leader
-  pub takes-joiner-same : LessTo S i ch → Still (S.sites i) s → ((t : ℕ) → st i t ≡ S.logs.streamed i t)
+  pub takes-joiner-same : LessTo S i ch → SiteStays (S.sites i) s → ((t : ℕ) → st i t ≡ S.logs.streamed i t)
       → ((w : Membership) → (S.sites i).view ≡ Some w → (l : ℕ) → follows S.words.deployment w i l ≡ true → (S.sites i).earlier < term_of w
-      → flow (start_at S i) (term_of w) (ch (Site l) (Site i)) ≡ flow (start_at S i) (term_of w) (between S l i))
+      → flow (site_start S i) (term_of w) (ch (Site l) (Site i)) ≡ flow (site_start S i) (term_of w) (between S l i))
       → (j : Joining) → JoinerOk S i j → JoinerOk (with-site S i s ch pend st) i j
   takes-joiner-same less still streamed flows j h = takes-joiner j j still.firm h.told h.based
       (λ w view k'. takes-word less w j j (stream w view j.stream) k')
@@ -338,16 +338,16 @@ module _ (S : LogState) (H : Holds S) (i : ℕ) (s : SiteState) (ch : Actor → 
       stream : (w : Membership) → (S.sites i).view ≡ Some w → (o : Option Streamed) → StreamIn S i w j o → StreamIn (with-site S i s ch pend st) i w j o
       stream w view None u = takes-untaken less streamed w j j refl refl refl still.log still.floor (flows w view) u
       stream w view (Some x) u = takes-took w j j x.stream_start u u.more
-          (flows w view u.from u.following ((H.streamed i (term_of w) (record { start = start_at S i; stream_start = x.stream_start }) u.streamed).running refl).0 ∙ u.flow_is)
+          (flows w view u.from u.following ((H.streamed i (term_of w) (record { start = site_start S i; stream_start = x.stream_start }) u.streamed).running refl).0 ∙ u.flow_is)
           (rw still.log u.whole) (λ e. ap length still.log ∙ u.loading e) u.loaded u.ends still.floor
 
   -- All holds after it, where a joiner has become this one.
   pub takes-joined : (j n : Joining) → (S.sites i).joining ≡ Some j → s.joining ≡ Some n → s.joiners ≡ (S.sites i).joiners → s.asks ≡ (S.sites i).asks
-      → (KeepsOk S i → s.on_disk ≤ length s.log) → (AllByRecursion (WaitingOk S i) (S.pending i) → AllByRecursion (WaitingOk S i) (pend i))
+      → (KeepsOk S i → s.on_disk ≤ length s.log) → (AllByRecursion (SiteWaitingOk S i) (S.pending i) → AllByRecursion (SiteWaitingOk S i) (pend i))
       → JoinerOk (with-site S i s ch pend st) i n
       → ((l : ℕ) → IsSlot S i → AllByRecursion (SiteLetterOk (with-site S i s ch pend st) l i) (ch (Site l) (Site i)))
       → ((from : Actor) → AllByRecursion (ForeignOk S i from) (ch from (Site i)))
-      → ((t : ℕ) (x : Streaming) → st i t ≡ Some x → StreamedOk (with-site S i s ch pend st) i t x) → Holds (with-site S i s ch pend st)
+      → ((t : ℕ) (x : Streaming) → st i t ≡ Some x → StreamedOk (with-site S i s ch pend st) i t x) → LogsHold (with-site S i s ch pend st)
   takes-joined j n is next joiners asks disk pending ok letters foreign streamed = takes-holds S H i s ch pend st k
       (λ w none h. absurd (none-and-some none is))
       (λ x e. subst (JoinerOk (with-site S i s ch pend st) i) (same-some (sym next ∙ e)) ok)
@@ -376,7 +376,7 @@ module _ (S : LogState) (H : Holds S) (i : ℕ) (s : SiteState) (ch : Actor → 
 -- ---- whom it counts
 
 module _ (S : LogState) (i : ℕ) (s : SiteState) (ch : Actor → Actor → List Letter) (pend : ℕ → List Waiting) (st : ℕ → ℕ → Option Streaming)
-    (g : GoesOn (S.sites i) s) where
+    (g : SiteGoesOn (S.sites i) s) where
   -- for each that it counted there is one now, and for each one now there was one
   pub counts-on : ((j : Joiner) → In j (S.sites i).joiners → (n : Joiner) × In n s.joiners × (n.slot ≡ j.slot) × (n.start ≡ j.start) × (n.stream_start ≡ j.stream_start))
       → (c a stream_start : ℕ) (w : Membership) → CountedBy S c a stream_start w i → CountedBy (with-site S i s ch pend st) c a stream_start w i
@@ -408,14 +408,14 @@ same-uncounts js ks e n is = (n, subst (In n) e is, refl, refl)
 -- ---- the turn
 
 -- what holds of the state that a turn leads to in which nothing is sent
-pub becomes-goes : (S : LogState) (i : ℕ) (s : SiteState) (st : ℕ → ℕ → Option Streaming) → s.start ≡ start_at S i → s.view ≡ (S.sites i).view
-    → length (log_at S i) ≤ length s.log → Holds (record S { sites = set_at S.sites i s; logs = record S.logs { streamed = st } }) → Goes S i (becomes s)
+pub becomes-goes : (S : LogState) (i : ℕ) (s : SiteState) (st : ℕ → ℕ → Option Streaming) → s.start ≡ site_start S i → s.view ≡ (S.sites i).view
+    → length (log_at S i) ≤ length s.log → LogsHold (record S { sites = set_at S.sites i s; logs = record S.logs { streamed = st } }) → LogsGo S i (becomes s)
 becomes-goes S i s st start view longer h = record {
   logs = record S.logs { streamed = st };
   start = start;
   view = view;
   plain = λ c. tt;
-  holds = subst (λ c. Holds (record S { words = record S.words { channel = c }; sites = set_at S.sites i s; logs = record S.logs { streamed = st } }))
+  holds = subst (λ c. LogsHold (record S { words = record S.words { channel = c }; sites = set_at S.sites i s; logs = record S.logs { streamed = st } }))
       (sym (sent-nothing S.words.channel (Site i))) h;
   grown = grown-reach S.words.deployment i s S.logs (record S.logs { streamed = st }) refl (λ p t. omega arith);
   enters = enters-same i (length (log_at S i)) S.logs (record S.logs { streamed = st }) refl;

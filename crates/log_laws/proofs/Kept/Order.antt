@@ -15,13 +15,13 @@ use Rattle.cluster_model.specs.Site.{ordered, order_of, of_order, takes_asks, ta
 use Rattle.cluster_model.specs.World.{sent}
 use Rattle.cluster_steps.proofs.Lists.{all-append, all-behind, all-if, all-mono, filter-all}
 use Rattle.word_laws.proofs.Steps.{channel-holds}
-use Rattle.log_laws.specs.Histories.{LogState, Logs, Holds, SiteLetterOk, ForeignOk, ToldOk, start_at, term_at, between, from_agent, line, flow, ends, asks_in, asks_waiting, asks_of_term, asked}
-use Rattle.log_laws.proofs.Kept.Moves.{after, NoStreamStart, Turns}
+use Rattle.log_laws.specs.Histories.{LogState, Logs, LogsHold, SiteLetterOk, ForeignOk, ToldOk, site_start, term_at, between, agent_to_site, line, flow, stream_ends_in, asks_in, asks_waiting, asks_of_term, asked}
+use Rattle.log_laws.proofs.Kept.Moves.{after_site, NoStreamStart, Turns}
 use Rattle.cluster_steps.proofs.Sends.{in_order, all-order}
 use Rattle.log_laws.proofs.Plain.Lines.{line-append, flow-append, ends-append, asks-append, line-order, flow-order, ends-order, asks-order}
 use Rattle.log_laws.proofs.Kept.Asked.{at-most-is}
 use Rattle.log_laws.proofs.Kept.KeepsViews.{leaves-same}
-use Rattle.log_laws.proofs.Kept.Inert.{moved, channels-hold}
+use Rattle.log_laws.proofs.Kept.Inert.{logs_moved, channels-hold}
 
 -- ---- two turns that differ in the order of what they send
 
@@ -30,7 +30,7 @@ module _ (S : LogState) (i : ℕ) (s : SiteState) (out more : Sends) (G : Logs) 
   pub sent-two : (P : ℕ → List Letter → List Letter → Type 0) (b : Actor)
       → P i (S.words.channel (Site i) b ++ out b) (S.words.channel (Site i) b ++ more b)
       → ((j : ℕ) → (j ≡ i → ⊥) → P j (S.words.channel (Site j) b) (S.words.channel (Site j) b))
-      → (j : ℕ) → P j ((after S i s out G).words.channel (Site j) b) ((after S i s more G).words.channel (Site j) b)
+      → (j : ℕ) → P j ((after_site S i s out G).words.channel (Site j) b) ((after_site S i s more G).words.channel (Site j) b)
   sent-two P b mine other j = choice (i == j) refl
     where
       choice : (x : Bool) → (i == j) ≡ x
@@ -40,34 +40,34 @@ module _ (S : LogState) (i : ℕ) (s : SiteState) (out more : Sends) (G : Logs) 
 
 -- What holds behind messages as they were sent, holds behind them in order, where no stream begins with one of them.
 pub order-holds : (S : LogState) (i : ℕ) (s : SiteState) (out : Sends) (G : Logs) → ((c : ℕ) → AllByRecursion NoStreamStart (out (Site c)))
-    → Holds (after S i s out G) → Holds (after S i s (λ b. in_order (out b)) G)
+    → LogsHold (after_site S i s out G) → LogsHold (after_site S i s (λ b. in_order (out b)) G)
 order-holds S i s out G plain H = channels-hold T ch H
     (record {
       words = channel-holds T.words ch (λ x y. refl) (λ x. refl) H.words;
-      lines = λ l c up. sent-two S i s out (λ b. in_order (out b)) G (λ j xs ys. line (start_at T c) (term_at T c) ys ≡ line (start_at T c) (term_at T c) xs) (Site c)
-          (same-behind (line (start_at T c) (term_at T c)) (line-append (start_at T c) (term_at T c)) (between S i c) (out (Site c))
-          (line-order (start_at T c) (term_at T c) (out (Site c))))
+      lines = λ l c up. sent-two S i s out (λ b. in_order (out b)) G (λ j xs ys. line (site_start T c) (term_at T c) ys ≡ line (site_start T c) (term_at T c) xs) (Site c)
+          (same-behind (line (site_start T c) (term_at T c)) (line-append (site_start T c) (term_at T c)) (between S i c) (out (Site c))
+          (line-order (site_start T c) (term_at T c) (out (Site c))))
           (λ j other. refl) l;
-      flows = λ l c up. sent-two S i s out (λ b. in_order (out b)) G (λ j xs ys. flow (start_at T c) (term_at T c) ys ≡ flow (start_at T c) (term_at T c) xs) (Site c)
-          (same-behind (flow (start_at T c) (term_at T c)) (flow-append (start_at T c) (term_at T c)) (between S i c) (out (Site c))
-          (flow-order (start_at T c) (term_at T c) (out (Site c)) (plain c)))
+      flows = λ l c up. sent-two S i s out (λ b. in_order (out b)) G (λ j xs ys. flow (site_start T c) (term_at T c) ys ≡ flow (site_start T c) (term_at T c) xs) (Site c)
+          (same-behind (flow (site_start T c) (term_at T c)) (flow-append (site_start T c) (term_at T c)) (between S i c) (out (Site c))
+          (flow-order (site_start T c) (term_at T c) (out (Site c)) (plain c)))
           (λ j other. refl) l;
       ends = λ l c up. sent-two S i s out (λ b. in_order (out b)) G
-          (λ j xs ys. ends (start_at T c) (term_at T c) xs ≡ [] → ends (start_at T c) (term_at T c) ys ≡ []) (Site c)
-          (λ e. same-behind (ends (start_at T c) (term_at T c)) (ends-append (start_at T c) (term_at T c)) (between S i c) (out (Site c))
-          (ends-order (start_at T c) (term_at T c) (out (Site c))) ∙ e)
+          (λ j xs ys. stream_ends_in (site_start T c) (term_at T c) xs ≡ [] → stream_ends_in (site_start T c) (term_at T c) ys ≡ []) (Site c)
+          (λ e. same-behind (stream_ends_in (site_start T c) (term_at T c)) (ends-append (site_start T c) (term_at T c)) (between S i c) (out (Site c))
+          (ends-order (site_start T c) (term_at T c) (out (Site c))) ∙ e)
           (λ j other e. e) l;
-      leaves = λ c. leaves-same (start_at T c) (from_agent T c) (from_agent T c) refl;
+      leaves = λ c. leaves-same (site_start T c) (agent_to_site T c) (agent_to_site T c) refl;
       letters = λ l c slot. all-two (λ j. SiteLetterOk T j c) (Site c) l (H.letters l c slot);
       foreign = foreign;
       told = λ c h. all-two (λ j. ToldOk T j) (Agent h) c (H.loads.told c h);
       asked = λ h g. refl;
     })
-    (λ c l t. at-most-is (asked T c l t) (asked (moved T ch T.sites T.pending) c l t)
+    (λ c l t. at-most-is (asked T c l t) (asked (logs_moved T ch T.sites T.pending) c l t)
     (ap (λ z. z ++ asks_waiting c t (T.sites l).waiting ++ asks_waiting c t (T.pending l) ++ asks_of_term c t (T.sites l)) (asks c l t)))
   where
     T : LogState
-    T = after S i s out G
+    T = after_site S i s out G
 
     ch : Actor → Actor → List Letter
     ch = sent S.words.channel (Site i) (λ b. in_order (out b))

@@ -15,38 +15,37 @@ use Rattle.cluster_steps.proofs.Lists.{all-append, all-at, all-from, all-mono, e
 use Rattle.word_laws.proofs.Moves as word_moves
 use Rattle.word_laws.proofs.Steps as word_steps
 use Rattle.cluster_steps.proofs.Channels.{sent-nothing, sent-twice}
-use Rattle.log_laws.specs.Histories.{LogState, Logs, Holds, IsSlot, SiteLetterOk, ForeignOk, ToldOk, LoadsOk, ViewsOk, start_at, log_at, between}
-use Rattle.log_laws.proofs.Kept.Moves.{after, popped, Later, Grown, Enters, Turns, Goes, NoStreamStart}
+use Rattle.log_laws.specs.Histories.{LogState, Logs, LogsHold, IsSlot, SiteLetterOk, ForeignOk, ViewsOk, site_start, log_at, between}
+use Rattle.log_laws.proofs.Kept.Moves.{after_site, site_popped, LogsLater, Grown, Enters, Turns, LogsGo, NoStreamStart}
 use Rattle.log_laws.proofs.Kept.Grown.{grown-same, grown-then, enters-same, enters-then}
-use Rattle.log_laws.proofs.Kept.Laters.{loads-later}
 use Rattle.log_laws.proofs.Kept.KeepsViews.{foreign-later, views-keeps}
 
 -- ---- the site and the channels after a turn
 
 module _ (S : LogState) (i : ℕ) (s : SiteState) (out : Sends) (G : Logs) where
   -- the site is what the turn made of it, and the others are as they were
-  pub here : (after S i s out G).sites i ≡ s
+  pub here : (after_site S i s out G).sites i ≡ s
   here = set-here S.sites i s
 
-  pub there : (c : ℕ) → (c ≡ i → ⊥) → (after S i s out G).sites c ≡ S.sites c
+  pub there : (c : ℕ) → (c ≡ i → ⊥) → (after_site S i s out G).sites c ≡ S.sites c
   there c other = set-there S.sites i s c other
 
   -- what it sent is behind what was under way, and all other channels are as they were
-  pub sent-here : (b : Actor) → (after S i s out G).words.channel (Site i) b ≡ S.words.channel (Site i) b ++ out b
+  pub sent-here : (b : Actor) → (after_site S i s out G).words.channel (Site i) b ≡ S.words.channel (Site i) b ++ out b
   sent-here b = rw (eqb-same i) refl
 
-  pub sent-there : (j : ℕ) (b : Actor) → (j ≡ i → ⊥) → (after S i s out G).words.channel (Site j) b ≡ S.words.channel (Site j) b
+  pub sent-there : (j : ℕ) (b : Actor) → (j ≡ i → ⊥) → (after_site S i s out G).words.channel (Site j) b ≡ S.words.channel (Site j) b
   sent-there j b other = let e : (i == j) ≡ false = grind (arith, nat_tests, other) in rw e refl
 
-  pub between-here : (c : ℕ) → between (after S i s out G) i c ≡ between S i c ++ out (Site c)
+  pub between-here : (c : ℕ) → between (after_site S i s out G) i c ≡ between S i c ++ out (Site c)
   between-here c = sent-here (Site c)
 
-  pub between-there : (j c : ℕ) → (j ≡ i → ⊥) → between (after S i s out G) j c ≡ between S j c
+  pub between-there : (j c : ℕ) → (j ≡ i → ⊥) → between (after_site S i s out G) j c ≡ between S j c
   between-there j c other = sent-there j (Site c) other
 
   -- of a channel from a site, whether it is this one or another
   pub sent-either : (P : ℕ → List Letter → Type 0) (b : Actor) → P i (S.words.channel (Site i) b ++ out b)
-      → ((j : ℕ) → (j ≡ i → ⊥) → P j (S.words.channel (Site j) b)) → (j : ℕ) → P j ((after S i s out G).words.channel (Site j) b)
+      → ((j : ℕ) → (j ≡ i → ⊥) → P j (S.words.channel (Site j) b)) → (j : ℕ) → P j ((after_site S i s out G).words.channel (Site j) b)
   sent-either P b mine other j = choice (i == j) refl
     where
       choice : (x : Bool) → (i == j) ≡ x → P j (if x then S.words.channel (Site j) b ++ out b else S.words.channel (Site j) b)
@@ -59,26 +58,26 @@ module _ (S : LogState) (i : ℕ) (s : SiteState) (out : Sends) (G : Logs) where
 pub all-after : (P Q : Letter → Type 0) (xs ys : List Letter) → ((l : Letter) → In l xs → P l → Q l) → AllByRecursion P xs → AllByRecursion Q ys → AllByRecursion Q (xs ++ ys)
 all-after P Q xs ys keeps h k = all-append Q xs ys (all-from Q xs (λ l i. keeps l i (all-at P xs h l i))) k
 
-module _ (S : LogState) (H : Holds S) (i : ℕ) (s : SiteState) (out : Sends) (G : Logs) (f : Later S (after S i s out G)) where
+module _ (S : LogState) (H : LogsHold S) (i : ℕ) (s : SiteState) (out : Sends) (G : Logs) (f : LogsLater S (after_site S i s out G)) where
   -- from site to site
-  pub letters-after : ((j c : ℕ) (l : Letter) → IsSlot S c → In l (between S j c) → SiteLetterOk S j c l → SiteLetterOk (after S i s out G) j c l)
-      → ((c : ℕ) → IsSlot S c → AllByRecursion (SiteLetterOk (after S i s out G) i c) (out (Site c)))
-      → (j c : ℕ) → IsSlot S c → AllByRecursion (SiteLetterOk (after S i s out G) j c) (between (after S i s out G) j c)
+  pub letters-after : ((j c : ℕ) (l : Letter) → IsSlot S c → In l (between S j c) → SiteLetterOk S j c l → SiteLetterOk (after_site S i s out G) j c l)
+      → ((c : ℕ) → IsSlot S c → AllByRecursion (SiteLetterOk (after_site S i s out G) i c) (out (Site c)))
+      → (j c : ℕ) → IsSlot S c → AllByRecursion (SiteLetterOk (after_site S i s out G) j c) (between (after_site S i s out G) j c)
   letters-after keeps new j c slot = sent-either S i s out G (λ j ls. AllByRecursion (SiteLetterOk T j c) ls) (Site c)
       (all-after (SiteLetterOk S i c) (SiteLetterOk T i c) (between S i c) (out (Site c)) (λ l. keeps i c l slot) (H.letters i c slot) (new c slot))
       (λ k other. all-from (SiteLetterOk T k c) (between S k c) (λ l m. keeps k c l slot m (all-at (SiteLetterOk S k c) (between S k c) (H.letters k c slot) l m)))
       j
     where
       T : LogState
-      T = after S i s out G
+      T = after_site S i s out G
 
   -- from any actor to a site
   pub foreign-after : ((c : ℕ) → AllByRecursion (ForeignOk S c (Site i)) (out (Site c)))
-      → (from : Actor) (c : ℕ) → AllByRecursion (ForeignOk (after S i s out G) c from) ((after S i s out G).words.channel from (Site c))
+      → (from : Actor) (c : ℕ) → AllByRecursion (ForeignOk (after_site S i s out G) c from) ((after_site S i s out G).words.channel from (Site c))
   foreign-after new from c = all-mono (ForeignOk S c from) (ForeignOk T c from) (foreign-later S T H f c from) (T.words.channel from (Site c)) (old from)
     where
       T : LogState
-      T = after S i s out G
+      T = after_site S i s out G
 
       old : (from : Actor) → AllByRecursion (ForeignOk S c from) (T.words.channel from (Site c))
       old (Site j) = sent-either S i s out G (λ j ls. AllByRecursion (ForeignOk S c (Site j)) ls) (Site c)
@@ -88,22 +87,15 @@ module _ (S : LogState) (H : Holds S) (i : ℕ) (s : SiteState) (out : Sends) (G
       old (Client n) = H.foreign (Client n) c
       old (Scanner j) = H.foreign (Scanner j) c
 
-  -- what agents know of loads
-  pub loads-after : ((h : ℕ) → AllByRecursion (ToldOk S i) (out (Agent h))) → LoadsOk (after S i s out G)
-  loads-after new = loads-later S (after S i s out G) H f refl refl
-      (λ c h. sent-either S i s out G (λ j ls. AllByRecursion (ToldOk S j) ls) (Agent h)
-      (all-append (ToldOk S i) (S.words.channel (Site i) (Agent h)) (out (Agent h)) (H.loads.told i h) (new h)) (λ j other. H.loads.told j h) c)
-      (λ h g. refl)
-
   -- what agents say of words to sites
-  pub views-after : (c : ℕ) → (c ≡ i → (s.start ≡ start_at S i) × (s.view ≡ (S.sites i).view)) → G.ran c ≡ S.logs.ran c → ViewsOk S c → ViewsOk (after S i s out G) c
+  pub views-after : (c : ℕ) → (c ≡ i → (s.start ≡ site_start S i) × (s.view ≡ (S.sites i).view)) → G.ran c ≡ S.logs.ran c → ViewsOk S c → ViewsOk (after_site S i s out G) c
   views-after c own ran k = views-keeps S T H f c start view ran refl (λ s m. m) refl k
     where
       T : LogState
-      T = after S i s out G
+      T = after_site S i s out G
 
-      start : start_at T c ≡ start_at S c
-      start = set-both (λ d x. (d ≡ i → s.start ≡ start_at S i) → x.start ≡ start_at S d) S.sites i s (λ k. k refl) (λ d other k. refl) c (λ e. (own e).0)
+      start : site_start T c ≡ site_start S c
+      start = set-both (λ d x. (d ≡ i → s.start ≡ site_start S i) → x.start ≡ site_start S d) S.sites i s (λ k. k refl) (λ d other k. refl) c (λ e. (own e).0)
 
       view : (T.sites c).view ≡ (S.sites c).view
       view = set-both (λ d x. (d ≡ i → s.view ≡ (S.sites i).view) → x.view ≡ (S.sites d).view) S.sites i s (λ k. k refl) (λ d other k. refl) c (λ e. (own e).1)
@@ -112,7 +104,7 @@ module _ (S : LogState) (H : Holds S) (i : ℕ) (s : SiteState) (out : Sends) (G
 
 -- of a channel to a site, whether the message was taken from it or not
 pub taken-either : (S : LogState) (from : Actor) (i : ℕ) (P : Actor → ℕ → List Letter → Type 0) → ((c : ℕ) → c ≡ i → P from c (rest (S.words.channel from (Site c))))
-    → (a : Actor) (c : ℕ) → P a c (S.words.channel a (Site c)) → P a c ((popped S from i).words.channel a (Site c))
+    → (a : Actor) (c : ℕ) → P a c (S.words.channel a (Site c)) → P a c ((site_popped S from i).words.channel a (Site c))
 taken-either S from i P mine a c other = choice (i == c && same from a) refl
   where
     choice : (x : Bool) → (i == c && same from a) ≡ x → P a c (if x then rest (S.words.channel a (Site c)) else S.words.channel a (Site c))
@@ -128,17 +120,17 @@ same-self (Site i) = eqb-same i
 same-self (Scanner x) = eqb-same x
 
 -- what is left in the channel
-pub popped-here : (S : LogState) (from : Actor) (i : ℕ) → (popped S from i).words.channel from (Site i) ≡ rest (S.words.channel from (Site i))
+pub popped-here : (S : LogState) (from : Actor) (i : ℕ) → (site_popped S from i).words.channel from (Site i) ≡ rest (S.words.channel from (Site i))
 popped-here S from i = rw (eqb-same i, same-self from) refl
 
 -- What a site sends doesn't touch the first message that it takes.
 pub popped-after : (S : LogState) (from : Actor) (i : ℕ) (s : SiteState) (out : Sends) (G : Logs) (l : Letter) (ls : List Letter) → S.words.channel from (Site i) ≡ l ∷ ls
-    → after (popped S from i) i s out G ≡ popped (after S i s out G) from i
+    → after_site (site_popped S from i) i s out G ≡ site_popped (after_site S i s out G) from i
 popped-after S from i s out G l ls is =
     ap (λ c. record S { words = record S.words { channel = c }; sites = set_at S.sites i s; logs = G }) (word_steps.sent-took S.words.channel from (Site i) out l ls is)
 
 pub first-after : (S : LogState) (from : Actor) (i : ℕ) (s : SiteState) (out : Sends) (G : Logs) (l : Letter) (ls : List Letter) → S.words.channel from (Site i) ≡ l ∷ ls
-    → (more : List Letter) × ((after S i s out G).words.channel from (Site i) ≡ l ∷ more)
+    → (more : List Letter) × ((after_site S i s out G).words.channel from (Site i) ≡ l ∷ more)
 first-after S from i s out G l ls is = choice (same (Site i) from)
   where
     choice : (b : Bool) → (more : List Letter) × ((if b then S.words.channel from (Site i) ++ out (Site i) else S.words.channel from (Site i)) ≡ l ∷ more)
@@ -149,69 +141,69 @@ first-after S from i s out G l ls is = choice (same (Site i) from)
 
 -- a turn of a site, and a message that it takes, leave all that is said of words
 module _ (S : LogState) (i : ℕ) where
-  pub words-after : (s : SiteState) (out : Sends) (G : Logs) → word.Holds S.words → word.Holds (after S i s out G).words
-  words-after s out G h = word_steps.channel-holds S.words (after S i s out G).words.channel (λ x y. refl) (λ x. refl) h
+  pub words-after : (s : SiteState) (out : Sends) (G : Logs) → word.WordsHold S.words → word.WordsHold (after_site S i s out G).words
+  words-after s out G h = word_steps.channel-holds S.words (after_site S i s out G).words.channel (λ x y. refl) (λ x. refl) h
 
-  pub words-popped : (from : Actor) → word.Holds S.words → word.Holds (popped S from i).words
-  words-popped from h = word_steps.channel-holds S.words (popped S from i).words.channel (λ x y. refl) (λ x. refl) h
+  pub words-popped : (from : Actor) → word.WordsHold S.words → word.WordsHold (site_popped S from i).words
+  words-popped from h = word_steps.channel-holds S.words (site_popped S from i).words.channel (λ x y. refl) (λ x. refl) h
 
 -- and only add to it
-pub words-later : (S : LogState) (ch : Actor → Actor → List Letter) → word_moves.Later S.words (record S.words { channel = ch })
+pub words-later : (S : LogState) (ch : Actor → Actor → List Letter) → word_moves.WordsLater S.words (record S.words { channel = ch })
 words-later S ch = word_steps.later-moved S.words S.words.agents ch (λ s b r. r)
 
 -- ---- turns, one behind another
 
 -- one turn after another is one turn
-pub after-after : (S : LogState) (i : ℕ) (a b : SiteState) (out more : Sends) (G F : Logs) → after (after S i a out G) i b more F ≡ after S i b (λ x. out x ++ more x) F
+pub after-after : (S : LogState) (i : ℕ) (a b : SiteState) (out more : Sends) (G F : Logs) → after_site (after_site S i a out G) i b more F ≡ after_site S i b (λ x. out x ++ more x) F
 after-after S i a b out more G F =
     ap (λ g. record S { words = record S.words { channel = sent (sent S.words.channel (Site i) out) (Site i) more }; sites = g; logs = F }) (set-twice S.sites i a b)
     ∙ ap (λ c. record S { words = record S.words { channel = c }; sites = set_at S.sites i b; logs = F }) (sent-twice S.words.channel (Site i) out more)
 
 -- where nothing changes
-pub after-same : (S : LogState) (i : ℕ) → after S i (S.sites i) no_sends S.logs ≡ S
+pub after-same : (S : LogState) (i : ℕ) → after_site S i (S.sites i) no_sends S.logs ≡ S
 after-same S i =
     ap (λ c. record S { words = record S.words { channel = c }; sites = set_at S.sites i (S.sites i) }) (sent-nothing S.words.channel (Site i))
     ∙ ap (λ f. record S { sites = f }) (set-same S.sites i)
 
 -- what a further part of a turn adds
-then-grown : (S : LogState) (i : ℕ) (s : SiteState) (t : Turn SiteState) (out : Sends) (G : Logs) (r : Goes (after S i s out G) i t)
+then-grown : (S : LogState) (i : ℕ) (s : SiteState) (t : Turn SiteState) (out : Sends) (G : Logs) (r : LogsGo (after_site S i s out G) i t)
     → Grown S.words.deployment i s S.logs G → Grown S.words.deployment i t.state S.logs r.logs
 then-grown S i s t out G r k = grown-then S.words.deployment i s t.state S.logs G r.logs
     (r.start ∙ ap (λ x. x.start) (here S i s out G)) (r.view ∙ ap (λ x. x.view) (here S i s out G)) k r.grown
 
 -- from the log that the first one left
-pub log-here : (S : LogState) (i : ℕ) (s : SiteState) (out : Sends) (G : Logs) → length (log_at (after S i s out G) i) ≡ length s.log
+pub log-here : (S : LogState) (i : ℕ) (s : SiteState) (out : Sends) (G : Logs) → length (log_at (after_site S i s out G) i) ≡ length s.log
 log-here S i s out G = ap (λ x. length x.log) (here S i s out G)
 
-then-enters : (S : LogState) (i : ℕ) (s : SiteState) (t : Turn SiteState) (out : Sends) (G : Logs) (r : Goes (after S i s out G) i t) → length (log_at S i) ≤ length s.log
+then-enters : (S : LogState) (i : ℕ) (s : SiteState) (t : Turn SiteState) (out : Sends) (G : Logs) (r : LogsGo (after_site S i s out G) i t) → length (log_at S i) ≤ length s.log
     → Enters i (length (log_at S i)) S.logs G → Enters i (length (log_at S i)) S.logs r.logs
 then-enters S i s t out G r longer k = let e = log-here S i s out G in
-    enters-then i (length (log_at S i)) (length (log_at (after S i s out G) i)) S.logs G r.logs (omega (arith, longer, e)) k r.enters
+    enters-then i (length (log_at S i)) (length (log_at (after_site S i s out G) i)) S.logs G r.logs (omega (arith, longer, e)) k r.enters
 
-pub then-longer : (S : LogState) (i : ℕ) (s : SiteState) (out : Sends) (G : Logs) (n : ℕ) → length (log_at S i) ≤ length s.log → length (log_at (after S i s out G) i) ≤ n → length (log_at S i) ≤ n
+pub then-longer : (S : LogState) (i : ℕ) (s : SiteState) (out : Sends) (G : Logs) (n : ℕ) → length (log_at S i) ≤ length s.log → length (log_at (after_site S i s out G) i) ≤ n → length (log_at S i) ≤ n
 then-longer S i s out G n low high = let e = log-here S i s out G in omega (arith, low, high, e)
 
 -- A further part of a turn, from the state after the first one.
-pub goes-then-after : (S : LogState) (i : ℕ) (t : Turn SiteState) (f : SiteState → Turn SiteState) (g : Goes S i t)
-    → Goes (after S i t.state t.sends g.logs) i (f t.state) → Goes S i (t ▸ f)
+pub goes-then-after : (S : LogState) (i : ℕ) (t : Turn SiteState) (f : SiteState → Turn SiteState) (g : LogsGo S i t)
+    → LogsGo (after_site S i t.state t.sends g.logs) i (f t.state) → LogsGo S i (t ▸ f)
 goes-then-after S i t f g r = record {
   logs = r.logs;
   start = r.start ∙ ap (λ x. x.start) (here S i t.state t.sends g.logs) ∙ g.start;
   view = r.view ∙ ap (λ x. x.view) (here S i t.state t.sends g.logs) ∙ g.view;
   plain = λ c. all-append NoStreamStart (t.sends (Site c)) ((f t.state).sends (Site c)) (g.plain c) (r.plain c);
-  holds = subst Holds (after-after S i t.state (f t.state).state t.sends (f t.state).sends g.logs r.logs) r.holds;
+  holds = subst LogsHold (after-after S i t.state (f t.state).state t.sends (f t.state).sends g.logs r.logs) r.holds;
   grown = then-grown S i t.state (f t.state) t.sends g.logs r g.grown;
   enters = then-enters S i t.state (f t.state) t.sends g.logs r g.longer g.enters;
   longer = then-longer S i t.state t.sends g.logs (length (f t.state).state.log) g.longer r.longer;
 }
 
 pub turns-then-after : (S : LogState) (i : ℕ) (t : Turn SiteState) (f : SiteState → Turn SiteState) (g : Turns S i t)
-    → Goes (after S i t.state t.sends g.logs) i (f t.state) → Turns S i (t ▸ f)
+    → LogsGo (after_site S i t.state t.sends g.logs) i (f t.state) → Turns S i (t ▸ f)
 turns-then-after S i t f g r = record {
   logs = r.logs;
   start = r.start ∙ ap (λ x. x.start) (here S i t.state t.sends g.logs) ∙ g.start;
   plain = λ c. all-append NoStreamStart (t.sends (Site c)) ((f t.state).sends (Site c)) (g.plain c) (r.plain c);
-  holds = subst Holds (after-after S i t.state (f t.state).state t.sends (f t.state).sends g.logs r.logs) r.holds;
+  holds = subst LogsHold (after-after S i t.state (f t.state).state t.sends (f t.state).sends g.logs r.logs) r.holds;
   grown = then-grown S i t.state (f t.state) t.sends g.logs r g.grown;
   enters = then-enters S i t.state (f t.state) t.sends g.logs r g.longer g.enters;
   longer = then-longer S i t.state t.sends g.logs (length (f t.state).state.log) g.longer r.longer;
@@ -219,25 +211,25 @@ turns-then-after S i t f g r = record {
 
 -- from whatever state it is in which the site is what the first one made of it
 abbrev pub GoesFrom : LogState → ℕ → SiteState → Turn SiteState → Type 0
-GoesFrom S i s t = (T : LogState) → T.sites i ≡ s → T.words.deployment ≡ S.words.deployment → T.pending ≡ S.pending → Holds T → Goes T i t
+GoesFrom S i s t = (T : LogState) → T.sites i ≡ s → T.words.deployment ≡ S.words.deployment → T.pending ≡ S.pending → LogsHold T → LogsGo T i t
 
-pub goes-then : (S : LogState) (i : ℕ) (t : Turn SiteState) (f : SiteState → Turn SiteState) → Goes S i t → GoesFrom S i t.state (f t.state) → Goes S i (t ▸ f)
-goes-then S i t f g k = goes-then-after S i t f g (k (after S i t.state t.sends g.logs) (here S i t.state t.sends g.logs) refl refl g.holds)
+pub goes-then : (S : LogState) (i : ℕ) (t : Turn SiteState) (f : SiteState → Turn SiteState) → LogsGo S i t → GoesFrom S i t.state (f t.state) → LogsGo S i (t ▸ f)
+goes-then S i t f g k = goes-then-after S i t f g (k (after_site S i t.state t.sends g.logs) (here S i t.state t.sends g.logs) refl refl g.holds)
 
 pub turns-then-goes : (S : LogState) (i : ℕ) (t : Turn SiteState) (f : SiteState → Turn SiteState) → Turns S i t → GoesFrom S i t.state (f t.state) → Turns S i (t ▸ f)
-turns-then-goes S i t f g k = turns-then-after S i t f g (k (after S i t.state t.sends g.logs) (here S i t.state t.sends g.logs) refl refl g.holds)
+turns-then-goes S i t f g k = turns-then-after S i t f g (k (after_site S i t.state t.sends g.logs) (here S i t.state t.sends g.logs) refl refl g.holds)
 
-pub goes-turns : (S : LogState) (i : ℕ) (t : Turn SiteState) → Goes S i t → Turns S i t
+pub goes-turns : (S : LogState) (i : ℕ) (t : Turn SiteState) → LogsGo S i t → Turns S i t
 goes-turns S i t g = record { logs = g.logs; start = g.start; plain = g.plain; holds = g.holds; grown = g.grown; enters = g.enters; longer = g.longer }
 
 -- a turn in which nothing happens
-pub goes-same : (S : LogState) (i : ℕ) → Holds S → Goes S i (becomes (S.sites i))
+pub goes-same : (S : LogState) (i : ℕ) → LogsHold S → LogsGo S i (becomes (S.sites i))
 goes-same S i h = record {
   logs = S.logs;
   start = refl;
   view = refl;
   plain = λ c. tt;
-  holds = subst Holds (sym (after-same S i)) h;
+  holds = subst LogsHold (sym (after-same S i)) h;
   grown = grown-same S.words.deployment i (S.sites i) S.logs;
   enters = enters-same i (length (log_at S i)) S.logs S.logs refl;
   longer = omega arith;

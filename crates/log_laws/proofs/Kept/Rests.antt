@@ -14,8 +14,8 @@ use Rattle.cluster_model.specs.World.{sent, set_at}
 use Rattle.cluster_steps.specs.Lists.{In}
 use Rattle.word_laws.specs.Histories.{Distinct}
 use Rattle.cluster_steps.proofs.Lists.{not-both, in-none, in-map, in-map-from, all-append, all-mono, none-and-some, same-some, set-both}
-use Rattle.log_laws.specs.Histories.{LogState, Entered, Streaming, Leadership, Flow, Holds, SiteOk, BeginsAt, WaitingOk, ReportOk, AskOk, from_agent, IsSlot, AckOk, CountedOk, IsCounted, HeldOk, MemberOk, JoinerOk, ViewIn, StreamIn, Inert, Coming, KeepsOk, ViewsOk, ForeignOk, LoadsOk, ToldOk, SiteLetterOk, JoinsIn, line_in, flow_in, ask_in, line_of, flow_of, ask_of, asks_waiting, asks_of_term, line, flow, ends, asks_in, asked, follows, FollowsIn, part, start_at, log_at, term_at, between}
-use Rattle.log_laws.proofs.Kept.Moves.{after, Later, Goes, NoStreamStart, JoinsOn, SameLeaderships}
+use Rattle.log_laws.specs.Histories.{LogState, Entered, Streaming, Leadership, Flow, LogsHold, SiteOk, BeginsAt, SiteWaitingOk, ReportOk, AsksToJoin, agent_to_site, IsSlot, AckOk, CountedOk, IsCounted, HeldOk, MemberOk, JoinerOk, ViewIn, StreamIn, Inert, Coming, KeepsOk, ViewsOk, ForeignOk, LoadsOk, ToldOk, SiteLetterOk, JoinsIn, line_in, flow_in, ask_in, line_of, flow_of, ask_of, asks_waiting, asks_of_term, line, flow, stream_ends_in, asks_in, asked, follows, FollowsIn, part, site_start, log_at, term_at, between}
+use Rattle.log_laws.proofs.Kept.Moves.{after_site, LogsLater, LogsGo, NoStreamStart, JoinsOn, SameLeaderships}
 use Rattle.log_laws.proofs.Kept.Grown.{grown-reach, enters-same}
 use Rattle.log_laws.proofs.Kept.Laters.{ack-later, report-later, ask-later, counted-later, letter-later, waiting-later-with, loads-later, entered-later, streamed-later, leaderships-later, unleds-later}
 use Rattle.cluster_steps.proofs.Leaders.{leader-same, leader-view}
@@ -63,35 +63,35 @@ pub record SiteRests (S : LogState) (reach : ℕ → ℕ → ℕ) (c : ℕ) (s :
   pub counts : ((s.floor ≡ (S.sites c).floor) × (s.firm ≡ (S.sites c).firm))
       ⊎ (((S.sites c).repaired ≡ true) × ((S.sites c).joining ≡ None)
       × ((w : Membership) → (S.sites c).view ≡ Some w → (s.floor ≤ reach (part S c) (term_of w)) × (s.firm ≤ reach (part S c) (term_of w))))
-  pub acks : 0 < start_at S c → AllByRecursion (λ a. IsSlot S a.0 → AckOk S a.0 (term_at S c) a.1) s.acks
-  pub joiners : 0 < start_at S c → AllByRecursion (CountedOk S (part S c) (term_at S c)) s.joiners
-  pub alone : 0 < start_at S c → Distinct (map (λ j. j.slot) s.joiners)
-  pub leads : 0 < start_at S c → (s.joiners ≡ []) ⊎ (is_leader S.words.deployment c (S.sites c) ≡ true)
+  pub acks : 0 < site_start S c → AllByRecursion (λ a. IsSlot S a.0 → AckOk S a.0 (term_at S c) a.1) s.acks
+  pub joiners : 0 < site_start S c → AllByRecursion (CountedOk S (part S c) (term_at S c)) s.joiners
+  pub alone : 0 < site_start S c → Distinct (map (λ j. j.slot) s.joiners)
+  pub leads : 0 < site_start S c → (s.joiners ≡ []) ⊎ (is_leader S.words.deployment c (S.sites c) ≡ true)
   pub counted : SameJoiners (S.sites c).joiners s.joiners
-  pub on_disk : 0 < start_at S c → s.on_disk ≤ length (log_at S c)
-  pub held : 0 < start_at S c → AllByRecursion HeldOk s.held
+  pub on_disk : 0 < site_start S c → s.on_disk ≤ length (log_at S c)
+  pub held : 0 < site_start S c → AllByRecursion HeldOk s.held
 
 -- Of what is everywhere in each term: it only rises, in terms that were led, and not above what is in the logs of that term.
 pub record ReachRests (S : LogState) (reach : ℕ → ℕ → ℕ) : Type 0 where
   pub rises : (p t : ℕ) → S.logs.reach p t ≤ reach p t
   pub unled : (p t : ℕ) → S.logs.leadership p t ≡ None → reach p t ≡ S.logs.reach p t
   pub led : (p t : ℕ) (g : Leadership) → S.logs.leadership p t ≡ Some g → reach p t ≤ length g.log
-  pub entered : (c t : ℕ) (e : Entered) → S.logs.entered c t ≡ Some e → start_at S c ≡ e.start → reach (part S c) t ≤ length (log_at S c)
-  pub streamed : (c t : ℕ) (x : Streaming) → S.logs.streamed c t ≡ Some x → start_at S c ≡ x.start → reach (part S c) t ≤ length (log_at S c)
+  pub entered : (c t : ℕ) (e : Entered) → S.logs.entered c t ≡ Some e → site_start S c ≡ e.start → reach (part S c) t ≤ length (log_at S c)
+  pub streamed : (c t : ℕ) (x : Streaming) → S.logs.streamed c t ≡ Some x → site_start S c ≡ x.start → reach (part S c) t ≤ length (log_at S c)
   pub since : (c t : ℕ) (e : Entered) → S.logs.entered c t ≡ Some e → (v : ℕ) (g : Leadership) → S.logs.leadership (part S c) v ≡ Some g → v < t
       → reach (part S c) v ≤ length e.log
   pub coming : (c : ℕ) (w : Membership) (fl : List Flow) → In w S.words.history.decided → log_at S c ≡ [] → (S.sites c).earlier < term_of w
       → (k : Coming S c w fl) → reach (part S c) (term_of w) ≤ length k.past
 
 -- what says nothing that a copy appends or a joiner takes, and asks for nothing
-abbrev pub Plain : Letter → Type 0
-Plain l = (line_in l.body ≡ []) × (flow_in l.past l.body ≡ []) × (ask_in l.body ≡ []) × NoStreamStart l
+abbrev pub Bare : Letter → Type 0
+Bare l = (line_in l.body ≡ []) × (flow_in l.past l.body ≡ []) × (ask_in l.body ≡ []) × NoStreamStart l
 
 -- Of what the site of slot i sends.
 pub record SaysRests (S : LogState) (i : ℕ) (out : Sends) : Type 0 where
-  pub sites : (c : ℕ) → AllByRecursion (λ l. Plain l × SiteLetterOk S i c l) (out (Site c))
+  pub sites : (c : ℕ) → AllByRecursion (λ l. Bare l × SiteLetterOk S i c l) (out (Site c))
   pub ended : (c : ℕ) (w : Membership) → JoinsIn S c w → In w S.words.history.decided
-      → Inert S c w i ⊎ (follows S.words.deployment w c i ≡ false) → ends (start_at S c) (term_of w) (out (Site c)) ≡ []
+      → Inert S c w i ⊎ (follows S.words.deployment w c i ≡ false) → stream_ends_in (site_start S c) (term_of w) (out (Site c)) ≡ []
   pub told : (h : ℕ) → AllByRecursion (ToldOk S i) (out (Agent h))
 
 -- ---- the state after it
@@ -103,7 +103,7 @@ rested S states i out reach = record S {
   logs = record S.logs { reach = reach };
 }
 
-module _ (S : LogState) (H : Holds S) (states : ℕ → SiteState) (i : ℕ) (out : Sends) (reach : ℕ → ℕ → ℕ)
+module _ (S : LogState) (H : LogsHold S) (states : ℕ → SiteState) (i : ℕ) (out : Sends) (reach : ℕ → ℕ → ℕ)
     (rests : (c : ℕ) → SiteRests S reach c (states c)) (reaches : ReachRests S reach) (says : SaysRests S i out) where
   abbrev T : LogState
   T = rested S states i out reach
@@ -127,7 +127,7 @@ module _ (S : LogState) (H : Holds S) (states : ℕ → SiteState) (i : ℕ) (ou
   joins-on c w k = let r = (rests c).joiner k.0 k.1 in (r.0, r.1, k.2)
 
   -- what is kept
-  later : Later S T
+  later : LogsLater S T
   later = record {
     words = words-later S T.words.channel;
     ran = λ c a k. k;
@@ -153,32 +153,32 @@ module _ (S : LogState) (H : Holds S) (states : ℕ → SiteState) (i : ℕ) (ou
   -- ---- what is under way
 
   -- what the site sent says nothing of these
-  plain-out : (c : ℕ) → AllByRecursion Plain (out (Site c))
-  plain-out c = all-mono (λ l. Plain l × SiteLetterOk S i c l) Plain (λ l k. k.0) (out (Site c)) (says.sites c)
+  plain-out : (c : ℕ) → AllByRecursion Bare (out (Site c))
+  plain-out c = all-mono (λ l. Bare l × SiteLetterOk S i c l) Bare (λ l k. k.0) (out (Site c)) (says.sites c)
 
   lines : (start term j c : ℕ) → line start term (between T j c) ≡ line start term (between S j c)
   lines start term j c = sent-either S i (S.sites i) out S.logs (λ j ls. line start term ls ≡ line start term (between S j c)) (Site c)
       (line-same start term (between S i c) (out (Site c)) (line-none start term (out (Site c))
-      (all-mono Plain (λ l. line_of start term l ≡ []) (λ l k. line-plain start term l k.0) (out (Site c)) (plain-out c)))) (λ j n. refl) j
+      (all-mono Bare (λ l. line_of start term l ≡ []) (λ l k. line-plain start term l k.0) (out (Site c)) (plain-out c)))) (λ j n. refl) j
 
   flows : (start term j c : ℕ) → flow start term (between T j c) ≡ flow start term (between S j c)
   flows start term j c = sent-either S i (S.sites i) out S.logs (λ j ls. flow start term ls ≡ flow start term (between S j c)) (Site c)
       (flow-same start term (between S i c) (out (Site c)) (flow-none start term (out (Site c))
-      (all-mono Plain (λ l. flow_of start term l ≡ []) (λ l k. flow-plain start term l k.1) (out (Site c)) (plain-out c)))) (λ j n. refl) j
+      (all-mono Bare (λ l. flow_of start term l ≡ []) (λ l k. flow-plain start term l k.1) (out (Site c)) (plain-out c)))) (λ j n. refl) j
 
   asks-under : (term j c : ℕ) → asks_in term (between T j c) ≡ asks_in term (between S j c)
   asks-under term j c = sent-either S i (S.sites i) out S.logs (λ j ls. asks_in term ls ≡ asks_in term (between S j c)) (Site c)
       (asks-same term (between S i c) (out (Site c)) (asks-none term (out (Site c))
-      (all-mono Plain (λ l. ask_of term l ≡ []) (λ l k. asks-plain term l k.2) (out (Site c)) (plain-out c)))) (λ j n. refl) j
+      (all-mono Bare (λ l. ask_of term l ≡ []) (λ l k. asks-plain term l k.2) (out (Site c)) (plain-out c)))) (λ j n. refl) j
 
   askeds : (c l term : ℕ) → asked T c l term ≡ asked S c l term
   askeds c l term = ap (λ xs. xs ++ asks_waiting c term (S.sites l).waiting ++ asks_waiting c term (S.pending l) ++ asks_of_term c term (S.sites l)) (asks-under term c l)
 
   ends-from : (c l : ℕ) (w : Membership) → JoinsIn S c w → In w S.words.history.decided → Inert S c w l ⊎ (follows S.words.deployment w c l ≡ false)
-      → ends (start_at S c) (term_of w) (between S l c) ≡ [] → ends (start_at S c) (term_of w) (between T l c) ≡ []
+      → stream_ends_in (site_start S c) (term_of w) (between S l c) ≡ [] → stream_ends_in (site_start S c) (term_of w) (between T l c) ≡ []
   ends-from c l w joins decided away none = sent-either S i (S.sites i) out S.logs
-      (λ l ls. Inert S c w l ⊎ (follows S.words.deployment w c l ≡ false) → ends (start_at S c) (term_of w) (between S l c) ≡ [] → ends (start_at S c) (term_of w) ls ≡ []) (Site c)
-      (λ q e. ends-same (start_at S c) (term_of w) (between S i c) (out (Site c)) (says.ended c w joins decided q) ∙ e) (λ l n q e. e) l away none
+      (λ l ls. Inert S c w l ⊎ (follows S.words.deployment w c l ≡ false) → stream_ends_in (site_start S c) (term_of w) (between S l c) ≡ [] → stream_ends_in (site_start S c) (term_of w) ls ≡ []) (Site c)
+      (λ q e. ends-same (site_start S c) (term_of w) (between S i c) (out (Site c)) (says.ended c w joins decided q) ∙ e) (λ l n q e. e) l away none
 
   -- ---- who is counted
 
@@ -190,7 +190,7 @@ module _ (S : LogState) (H : Holds S) (states : ℕ → SiteState) (i : ℕ) (ou
 
   inert-rests : (c : ℕ) (w : Membership) (l : ℕ) → JoinsIn S c w → In w S.words.history.decided → Inert S c w l → Inert T c w l
   inert-rests c w l joins decided q = record {
-    flow_is = flows (start_at S c) (term_of w) l c ∙ q.flow_is;
+    flow_is = flows (site_start S c) (term_of w) l c ∙ q.flow_is;
     ends_are = ends-from c l w joins decided (inl q) q.ends_are;
     uncounted = λ k here slot start. let b = (rests l).counted.back k here in q.uncounted b.0 b.1 (b.2 ∙ slot) (b.3 ∙ start);
     asks = λ slot. elim (q.asks slot) [
@@ -209,7 +209,7 @@ module _ (S : LogState) (H : Holds S) (states : ℕ → SiteState) (i : ℕ) (ou
     whole = k.whole;
     behind = k.behind;
     reach = reaches.coming c w fl decided empty below k;
-    counted = counted-rests c (start_at S c) (length k.past) w k.counted;
+    counted = counted-rests c (site_start S c) (length k.past) w k.counted;
   }
 
   -- ---- members
@@ -230,8 +230,8 @@ module _ (S : LogState) (H : Holds S) (states : ℕ → SiteState) (i : ℕ) (ou
     floor = known.0;
     firm = known.1;
     leading = m.leading;
-    following = λ l f. subst (λ ln. FollowsIn (T.sites c) ln (S.logs.leadership (part S c) (term_of w))) (sym (lines (start_at S c) (term_of w) l c)) (m.following l f);
-    others = λ l f. lines (start_at S c) (term_of w) l c ∙ m.others l f;
+    following = λ l f. subst (λ ln. FollowsIn (T.sites c) ln (S.logs.leadership (part S c) (term_of w))) (sym (lines (site_start S c) (term_of w) l c)) (m.following l f);
+    others = λ l f. lines (site_start S c) (term_of w) l c ∙ m.others l f;
   }
     where
       known : ((states c).floor ≤ reach (part S c) (term_of w)) × ((states c).firm ≤ reach (part S c) (term_of w))
@@ -261,7 +261,7 @@ module _ (S : LogState) (H : Holds S) (states : ℕ → SiteState) (i : ℕ) (ou
       comes = λ l f below. elim (u.comes l f below) [
         | inl q ↦ inl (inert-rests c w l (j, some, view) decided q)
         | inr q ↦ inr (
-          subst (Coming T c w) (sym (flows (start_at S c) (term_of w) l c)) (coming-rests c w (flow (start_at S c) (term_of w) (between S l c)) decided u.empty below q.0),
+          subst (Coming T c w) (sym (flows (site_start S c) (term_of w) l c)) (coming-rests c w (flow (site_start S c) (term_of w) (between S l c)) decided u.empty below q.0),
           askeds c l (term_of w) ∙ q.1,
         )
       ];
@@ -272,7 +272,7 @@ module _ (S : LogState) (H : Holds S) (states : ℕ → SiteState) (i : ℕ) (ou
       more = u.more;
       leadership = u.leadership;
       led = u.led;
-      flow_is = flows (start_at S c) (term_of w) u.from c ∙ u.flow_is;
+      flow_is = flows (site_start S c) (term_of w) u.from c ∙ u.flow_is;
       whole = u.whole;
       streamed = u.streamed;
       loading = u.loading;
@@ -292,11 +292,11 @@ module _ (S : LogState) (H : Holds S) (states : ℕ → SiteState) (i : ℕ) (ou
       floor = same-counts.0 ∙ v.floor;
       never = v.never;
     }
-    view-rests (Some w) view v = let decided = (H.words.history.took_ok (start_at S c) w v.took).0 in record {
+    view-rests (Some w) view v = let decided = (H.words.history.took_ok (site_start S c) w v.took).0 in record {
       took = v.took;
-      lines = λ l. lines (start_at S c) (term_of w) l c ∙ v.lines l;
+      lines = λ l. lines (site_start S c) (term_of w) l c ∙ v.lines l;
       others = λ l f. let o = v.others l f in (
-        flows (start_at S c) (term_of w) l c ∙ o.0,
+        flows (site_start S c) (term_of w) l c ∙ o.0,
         ends-from c l w (j, some, view) decided (inr f) o.1,
         λ slot below. askeds c l (term_of w) ∙ o.2 slot below,
       );
@@ -320,14 +320,14 @@ module _ (S : LogState) (H : Holds S) (states : ℕ → SiteState) (i : ℕ) (ou
   letter-rests j c l k = letter-later S T H later j c l (joins-on j)
       (λ e n some start term b. subst (AllByRecursion (BeginsAt e.stream_start)) (sym (flows l.start l.term j c)) b) (λ e x is start. inl is) k
 
-  waiting-rests : (c : ℕ) (x : Waiting) → WaitingOk S c x → WaitingOk T c x
+  waiting-rests : (c : ℕ) (x : Waiting) → SiteWaitingOk S c x → SiteWaitingOk T c x
   waiting-rests c x k = waiting-later-with S T H later c refl x (λ j a _ _ _. ask-later S T H later (part S c) j x.letter.term a (joins-on j)) k
 
   leads-rests : (c : ℕ) → is_leader S.words.deployment c (S.sites c) ≡ true → is_leader S.words.deployment c (T.sites c) ≡ true
   leads-rests c e = leader-same S.words.deployment c (S.sites c) (T.sites c) refl
       (let none = (leader-view S.words.deployment c (S.sites c) e).0 in (rests c).member none ∙ sym none) ∙ e
 
-  keeps-rests : (c : ℕ) → 0 < start_at S c → KeepsOk S c → KeepsOk T c
+  keeps-rests : (c : ℕ) → 0 < site_start S c → KeepsOk S c → KeepsOk T c
   keeps-rests c up k = record {
     acks = all-mono (λ a. IsSlot S a.0 → AckOk S a.0 (term_at S c) a.1) (λ a. IsSlot T a.0 → AckOk T a.0 (term_at T c) a.1)
         (λ a ok slot. ack-later S T H later a.0 (term_at S c) a.1 (ok slot)) (states c).acks ((rests c).acks up);
@@ -340,10 +340,10 @@ module _ (S : LogState) (H : Holds S) (states : ℕ → SiteState) (i : ℕ) (ou
       | inl e ↦ inl e
       | inr e ↦ inr (leads-rests c e)
     ];
-    asks = all-mono (λ a. AskOk S (part S c) a.slot (term_at S c) a.start) (λ a. AskOk T (part T c) a.slot (term_at T c) a.start)
+    asks = all-mono (λ a. AsksToJoin S (part S c) a.slot (term_at S c) a.start) (λ a. AsksToJoin T (part T c) a.slot (term_at T c) a.start)
         (λ a. ask-later S T H later (part S c) a.slot (term_at S c) a.start (joins-on a.slot)) (S.sites c).asks k.asks;
-    waiting = all-mono (WaitingOk S c) (WaitingOk T c) (waiting-rests c) (S.sites c).waiting k.waiting;
-    pending = all-mono (WaitingOk S c) (WaitingOk T c) (waiting-rests c) (S.pending c) k.pending;
+    waiting = all-mono (SiteWaitingOk S c) (SiteWaitingOk T c) (waiting-rests c) (S.sites c).waiting k.waiting;
+    pending = all-mono (SiteWaitingOk S c) (SiteWaitingOk T c) (waiting-rests c) (S.pending c) k.pending;
     on_disk = (rests c).on_disk up;
     held = (rests c).held up;
   }
@@ -365,12 +365,12 @@ module _ (S : LogState) (H : Holds S) (states : ℕ → SiteState) (i : ℕ) (ou
   -- ---- what comes from agents, and goes to them
 
   views-rests : (c : ℕ) → ViewsOk S c → ViewsOk T c
-  views-rests c v = views-keeps-with S T H later c refl refl refl refl (λ s k. k) (leaves-same (start_at S c) (from_agent S c) (from_agent S c) refl) v
+  views-rests c v = views-keeps-with S T H later c refl refl refl refl (λ s k. k) (leaves-same (site_start S c) (agent_to_site S c) (agent_to_site S c) refl) v
 
   foreign-rests : (from : Actor) (c : ℕ) → AllByRecursion (ForeignOk T c from) (T.words.channel from (Site c))
   foreign-rests (Site j) c = sent-either S i (S.sites i) out S.logs (λ j ls. AllByRecursion (ForeignOk T c (Site j)) ls) (Site c)
       (all-append (ForeignOk T c (Site i)) (between S i c) (out (Site c)) (H.foreign (Site i) c)
-      (all-mono (λ l. Plain l × SiteLetterOk S i c l) (ForeignOk T c (Site i)) (λ l k. no-start l k.1) (out (Site c)) (says.sites c))) (λ j n. H.foreign (Site j) c) j
+      (all-mono (λ l. Bare l × SiteLetterOk S i c l) (ForeignOk T c (Site i)) (λ l k. no-start l k.1) (out (Site c)) (says.sites c))) (λ j n. H.foreign (Site j) c) j
     where
       no-start : (l : Letter) → SiteLetterOk S i c l → ForeignOk T c (Site i) l
       no-start l k = elim l.body as (λ m. SiteLetterOk S i c (record l { body = m }) → ForeignOk T c (Site i) (record l { body = m })) [
@@ -390,7 +390,7 @@ module _ (S : LogState) (H : Holds S) (states : ℕ → SiteState) (i : ℕ) (ou
 
   -- ---- all of it
 
-  holds-rests : Holds T
+  holds-rests : LogsHold T
   holds-rests = record {
     words = words-after S i (S.sites i) out S.logs H.words;
     sites = λ c. site_ok-rests c (H.sites c);
@@ -398,7 +398,7 @@ module _ (S : LogState) (H : Holds S) (states : ℕ → SiteState) (i : ℕ) (ou
     letters = λ j c slot. sent-either S i (S.sites i) out S.logs (λ j ls. AllByRecursion (SiteLetterOk T j c) ls) (Site c)
         (all-append (SiteLetterOk T i c) (between S i c) (out (Site c))
         (all-mono (SiteLetterOk S i c) (SiteLetterOk T i c) (letter-rests i c) (between S i c) (H.letters i c slot))
-        (all-mono (λ l. Plain l × SiteLetterOk S i c l) (SiteLetterOk T i c) (λ l k. letter-rests i c l k.1) (out (Site c)) (says.sites c)))
+        (all-mono (λ l. Bare l × SiteLetterOk S i c l) (SiteLetterOk T i c) (λ l k. letter-rests i c l k.1) (out (Site c)) (says.sites c)))
         (λ j n. all-mono (SiteLetterOk S j c) (SiteLetterOk T j c) (letter-rests j c) (between S j c) (H.letters j c slot)) j;
     foreign = foreign-rests;
     loads = loads-rests;
@@ -431,12 +431,12 @@ map-slots f slot (j ∷ js) = rw (slot j) (ap (λ xs. j.slot ∷ xs) (map-slots 
 
 -- a part of a turn, from whatever state it is in which the site is what the parts before made of it
 pub part-from : (S : LogState) (i : ℕ) (s : SiteState) (part : Deployment → SiteState → Turn SiteState)
-    → ((T : LogState) → Holds T → 0 < start_at T i → Goes T i (part T.words.deployment (T.sites i))) → 0 < s.start → GoesFrom S i s (part S.words.deployment s)
+    → ((T : LogState) → LogsHold T → 0 < site_start T i → LogsGo T i (part T.words.deployment (T.sites i))) → 0 < s.start → GoesFrom S i s (part S.words.deployment s)
 part-from S i s part goes up T here same pending H =
-    subst (λ D. Goes T i (part D s)) same (subst (λ x. Goes T i (part T.words.deployment x)) here (goes T H (subst (λ x. 0 < x.start) (sym here) up)))
+    subst (λ D. LogsGo T i (part D s)) same (subst (λ x. LogsGo T i (part T.words.deployment x)) here (goes T H (subst (λ x. 0 < x.start) (sym here) up)))
 
 -- what is everywhere stays
-pub reach-same : (S : LogState) → Holds S → ReachRests S S.logs.reach
+pub reach-same : (S : LogState) → LogsHold S → ReachRests S S.logs.reach
 reach-same S H = record {
   rises = λ p t. omega arith;
   unled = λ p t none. refl;
@@ -447,7 +447,7 @@ reach-same S H = record {
   coming = λ c w fl decided empty below k. k.reach;
 }
 
-module _ (S : LogState) (H : Holds S) (i : ℕ) where
+module _ (S : LogState) (H : LogsHold S) (i : ℕ) where
   -- of a site that stays as it is
   pub site-same : (reach : ℕ → ℕ → ℕ) (c : ℕ) → SiteRests S reach c (S.sites c)
   site-same reach c = record {
@@ -468,19 +468,19 @@ module _ (S : LogState) (H : Holds S) (i : ℕ) where
   pub site-rests : (reach : ℕ → ℕ → ℕ) (s : SiteState) → s ≡ settled (S.sites i) s → s.floor ≡ (S.sites i).floor → s.firm ≡ (S.sites i).firm
       → s.acks ≡ (S.sites i).acks → s.joiners ≡ (S.sites i).joiners → s.held ≡ (S.sites i).held
       → ((S.sites i).joining ≡ None → s.joining ≡ None) → ((j : Joining) → (S.sites i).joining ≡ Some j → (k : Joining) × (s.joining ≡ Some k) × JoiningRests j k)
-      → (0 < start_at S i → s.on_disk ≤ length (log_at S i)) → SiteRests S reach i s
+      → (0 < site_start S i → s.on_disk ≤ length (log_at S i)) → SiteRests S reach i s
   site-rests reach s is floor firm acks joiners held member joiner on_disk = let o = site-same reach i in record {
     is = is;
     member = member;
     joiner = joiner;
     counts = inl (floor, firm);
-    acks = subst (λ x. 0 < start_at S i → AllByRecursion (λ a. IsSlot S a.0 → AckOk S a.0 (term_at S i) a.1) x) (sym acks) o.acks;
-    joiners = subst (λ x. 0 < start_at S i → AllByRecursion (CountedOk S (part S i) (term_at S i)) x) (sym joiners) o.joiners;
-    alone = subst (λ x. 0 < start_at S i → Distinct (map (λ j. j.slot) x)) (sym joiners) o.alone;
-    leads = subst (λ x. 0 < start_at S i → (x ≡ []) ⊎ (is_leader S.words.deployment i (S.sites i) ≡ true)) (sym joiners) o.leads;
+    acks = subst (λ x. 0 < site_start S i → AllByRecursion (λ a. IsSlot S a.0 → AckOk S a.0 (term_at S i) a.1) x) (sym acks) o.acks;
+    joiners = subst (λ x. 0 < site_start S i → AllByRecursion (CountedOk S (part S i) (term_at S i)) x) (sym joiners) o.joiners;
+    alone = subst (λ x. 0 < site_start S i → Distinct (map (λ j. j.slot) x)) (sym joiners) o.alone;
+    leads = subst (λ x. 0 < site_start S i → (x ≡ []) ⊎ (is_leader S.words.deployment i (S.sites i) ≡ true)) (sym joiners) o.leads;
     counted = subst (SameJoiners (S.sites i).joiners) (sym joiners) o.counted;
     on_disk = on_disk;
-    held = subst (λ x. 0 < start_at S i → AllByRecursion HeldOk x) (sym held) o.held;
+    held = subst (λ x. 0 < site_start S i → AllByRecursion HeldOk x) (sym held) o.held;
   }
 
   -- a site that says nothing
@@ -488,19 +488,19 @@ module _ (S : LogState) (H : Holds S) (i : ℕ) where
   says-nothing = record { sites = λ c. tt; ended = λ c w joins decided away. refl; told = λ h. tt }
 
   module _ (s : SiteState) (out : Sends) (reach : ℕ → ℕ → ℕ) (rests : SiteRests S reach i s) (reaches : ReachRests S reach) (says : SaysRests S i out) where
-    pub rests-holds : Holds (after S i s out (record S.logs { reach = reach }))
-    rests-holds = subst (λ f. Holds (record (rested S (set_at S.sites i s) i out reach) { sites = f })) (sym sites)
+    pub rests-holds : LogsHold (after_site S i s out (record S.logs { reach = reach }))
+    rests-holds = subst (λ f. LogsHold (record (rested S (set_at S.sites i s) i out reach) { sites = f })) (sym sites)
         (holds-rests S H (set_at S.sites i s) i out reach (set-both (SiteRests S reach) S.sites i s rests (λ c n. site-same reach c)) reaches says)
       where
         sites : set_at S.sites i s ≡ (λ c. settled (S.sites c) (set_at S.sites i s c))
         sites = fun_ext (set-both (λ c x. x ≡ settled (S.sites c) x) S.sites i s rests.is (λ c n. refl))
 
-    pub rests-goes : Goes S i (sending s out)
+    pub rests-goes : LogsGo S i (sending s out)
     rests-goes = record {
       logs = record S.logs { reach = reach };
       start = ap (λ x. x.start) rests.is;
       view = ap (λ x. x.view) rests.is;
-      plain = λ c. all-mono (λ l. Plain l × SiteLetterOk S i c l) NoStreamStart (λ l k. k.0.3) (out (Site c)) (says.sites c);
+      plain = λ c. all-mono (λ l. Bare l × SiteLetterOk S i c l) NoStreamStart (λ l k. k.0.3) (out (Site c)) (says.sites c);
       holds = rests-holds;
       grown = grown-reach S.words.deployment i s S.logs (record S.logs { reach = reach }) refl reaches.rises;
       enters = enters-same i (length (log_at S i)) S.logs (record S.logs { reach = reach }) refl;

@@ -12,10 +12,10 @@ use Rattle.cluster_model.specs.Words.{host_of_slot, term_of}
 use Rattle.cluster_steps.proofs.Lists.{all-mono, none-and-some}
 use Rattle.word_laws.proofs.Steps.{channel-holds}
 use Rattle.word_laws.specs.Histories.{Distinct}
-use Rattle.log_laws.specs.Histories.{AckOk, AskOk, AskedOk, CountedOk, FirstViews, ForeignOk, Holds, IsCounted, IsSlot, JoinerOk, KeepsOk, LoadsOk, LogState, MemberOk, QueuedOk, ReportOk, RunViews, SiteLetterOk, SiteOk, StreamedOk, Streaming, ToldOk, ViewsOk, WaitingOk, between, from_agent, line, part, start_at, term_at, views}
-use Rattle.log_laws.proofs.Kept.Keeps.{SameFrom, SameRun, Still, joiner-keeps, member-keeps}
+use Rattle.log_laws.specs.Histories.{AckOk, AsksToJoin, AskedOk, CountedOk, FirstViews, ForeignOk, LogsHold, IsCounted, IsSlot, JoinerOk, KeepsOk, LoadsOk, LogState, MemberOk, QueuedLoadedOk, ReportOk, RunViews, SiteLetterOk, SiteOk, StreamedOk, Streaming, ToldOk, ViewsOk, SiteWaitingOk, between, agent_to_site, line, part, site_start, term_at, views}
+use Rattle.log_laws.proofs.Kept.Keeps.{SameFrom, SameRun, SiteStays, joiner-keeps, member-keeps}
 use Rattle.log_laws.proofs.Kept.Laters.{ack-later, all_loaded-later, ask-later, asked-later, counted-later, entered-later, loaded-later, queued-later, leaderships-later, report-later, same-leaderships, told-later, unleds-later, waiting-later-with}
-use Rattle.log_laws.proofs.Kept.Moves.{JoinsOn, Later, SameLeaderships, Unentered}
+use Rattle.log_laws.proofs.Kept.Moves.{JoinsOn, LogsLater, SameLeaderships, Unentered}
 use Rattle.log_laws.proofs.Kept.Plumbing.{words-later}
 
 -- ---- a move
@@ -30,7 +30,7 @@ shifted S ch f pend st = record S {
 }
 
 -- A site goes on: a member as one, and a joiner as one, whose base is still on disk if it was.
-pub record GoesOn (s t : SiteState) : Type 0 where
+pub record SiteGoesOn (s t : SiteState) : Type 0 where
   pub start : t.start ≡ s.start
   pub greatest : t.greatest ≡ s.greatest
   pub earlier : t.earlier ≡ s.earlier
@@ -44,7 +44,7 @@ pub record GoesOn (s t : SiteState) : Type 0 where
   pub joins : (j : Joining) → s.joining ≡ Some j → (k : Joining) × (t.joining ≡ Some k)
   pub loaded : (k : Joining) → t.joining ≡ Some k → (j : Joining) × (s.joining ≡ Some j) × (j.is_based ≡ true → k.is_based ≡ true)
 
-pub goes-on-same : (s : SiteState) → GoesOn s s
+pub goes-on-same : (s : SiteState) → SiteGoesOn s s
 goes-on-same s = record {
   start = refl;
   greatest = refl;
@@ -62,7 +62,7 @@ goes-on-same s = record {
 
 -- All sites go on, agents' channels stay, and so does each stream that was taken.
 pub record Steady (S : LogState) (ch : Actor → Actor → List Letter) (f : ℕ → SiteState) (st : ℕ → ℕ → Option Streaming) : Type 0 where
-  pub sites : (c : ℕ) → GoesOn (S.sites c) (f c)
+  pub sites : (c : ℕ) → SiteGoesOn (S.sites c) (f c)
   pub agents : (h : ℕ) (b : Actor) → ch (Agent h) b ≡ S.words.channel (Agent h) b
   pub told : (c h : ℕ) → ch (Site c) (Agent h) ≡ S.words.channel (Site c) (Agent h)
   pub director : (h : ℕ) → ch Director (Agent h) ≡ S.words.channel Director (Agent h)
@@ -72,8 +72,8 @@ pub record Steady (S : LogState) (ch : Actor → Actor → List Letter) (f : ℕ
 -- ---- what is kept in it
 
 module _ (S : LogState) (ch : Actor → Actor → List Letter) (f : ℕ → SiteState) (pend : ℕ → List Waiting) (st : ℕ → ℕ → Option Streaming)
-    (H : Holds S) (m : Steady S ch f st) where
-  pub steady-later : Later S (shifted S ch f pend st)
+    (H : LogsHold S) (m : Steady S ch f st) where
+  pub steady-later : LogsLater S (shifted S ch f pend st)
   steady-later = record {
     words = words-later S ch;
     ran = λ c a i. i;
@@ -100,13 +100,13 @@ module _ (S : LogState) (ch : Actor → Actor → List Letter) (f : ℕ → Site
   steady-leaderships = same-leaderships S.logs (shifted S ch f pend st).logs refl
 
   -- what waits, and what was asked and counted
-  pub steady-waiting : (c : ℕ) (ws : List Waiting) → AllByRecursion (WaitingOk S c) ws → AllByRecursion (WaitingOk (shifted S ch f pend st) c) ws
-  steady-waiting c ws h = all-mono (WaitingOk S c) (WaitingOk (shifted S ch f pend st) c)
+  pub steady-waiting : (c : ℕ) (ws : List Waiting) → AllByRecursion (SiteWaitingOk S c) ws → AllByRecursion (SiteWaitingOk (shifted S ch f pend st) c) ws
+  steady-waiting c ws h = all-mono (SiteWaitingOk S c) (SiteWaitingOk (shifted S ch f pend st) c)
       (λ x k. waiting-later-with S (shifted S ch f pend st) H steady-later c (m.sites c).start x
       (λ i a _ _ _ asks. ask-later S (shifted S ch f pend st) H steady-later (part S c) i x.letter.term a (steady-joins i) asks) k) ws h
 
-  pub steady-asks : (p t : ℕ) (as_ : List Ask) → AllByRecursion (λ a. AskOk S p a.slot t a.start) as_ → AllByRecursion (λ a. AskOk (shifted S ch f pend st) p a.slot t a.start) as_
-  steady-asks p t as_ h = all-mono (λ a. AskOk S p a.slot t a.start) (λ a. AskOk (shifted S ch f pend st) p a.slot t a.start)
+  pub steady-asks : (p t : ℕ) (as_ : List Ask) → AllByRecursion (λ a. AsksToJoin S p a.slot t a.start) as_ → AllByRecursion (λ a. AsksToJoin (shifted S ch f pend st) p a.slot t a.start) as_
+  steady-asks p t as_ h = all-mono (λ a. AsksToJoin S p a.slot t a.start) (λ a. AsksToJoin (shifted S ch f pend st) p a.slot t a.start)
       (λ a k. ask-later S (shifted S ch f pend st) H steady-later p a.slot t a.start (steady-joins a.slot) k) as_ h
 
   pub steady-counted : (p t : ℕ) (js : List Joiner) → AllByRecursion (CountedOk S p t) js → AllByRecursion (CountedOk (shifted S ch f pend st) p t) js
@@ -117,8 +117,8 @@ module _ (S : LogState) (ch : Actor → Actor → List Letter) (f : ℕ → Site
       → AllByRecursion (CountedOk (shifted S ch f pend st) (part S c) (term_at S c)) (f c).joiners
       → Distinct (map (λ j. j.slot) (f c).joiners)
       → (((f c).joiners ≡ []) ⊎ (is_leader S.words.deployment c (f c) ≡ true))
-      → AllByRecursion (λ a. AskOk (shifted S ch f pend st) (part S c) a.slot (term_at S c) a.start) (f c).asks
-      → AllByRecursion (WaitingOk S c) (pend c)
+      → AllByRecursion (λ a. AsksToJoin (shifted S ch f pend st) (part S c) a.slot (term_at S c) a.start) (f c).asks
+      → AllByRecursion (SiteWaitingOk S c) (pend c)
       → (f c).on_disk ≤ length (f c).log
       → KeepsOk (shifted S ch f pend st) c
   steady-keeps c k counted alone leads asks pending disk = record {
@@ -143,23 +143,23 @@ module _ (S : LogState) (ch : Actor → Actor → List Letter) (f : ℕ → Site
   steady-views c h = record {
     plain = rw same-channel h.plain;
     began = λ s i. h.began s (rw same-channel at i);
-    running = λ up. rw (g.view, g.start, same-channel) (run (S.sites c).view (views (start_at S c) (from_agent S c)) (h.running (rw g.start at up)));
-    starting = λ s i. let k = h.starting s (rw same-channel at i) in (k.0, rw same-channel k.1, rw same-channel (first s (views s (from_agent S c)) k.2));
+    running = λ up. rw (g.view, g.start, same-channel) (run (S.sites c).view (views (site_start S c) (agent_to_site S c)) (h.running (rw g.start at up)));
+    starting = λ s i. let k = h.starting s (rw same-channel at i) in (k.0, rw same-channel k.1, rw same-channel (first s (views s (agent_to_site S c)) k.2));
     wordless = λ up taken none. let k = h.wordless up taken none in (rw same-channel k.0, k.1, rw same-channel k.2);
     below = λ up. let k = h.below up in (rw same-channel k.0, λ is. rw g.view (k.1 (sym g.start ∙ is)));
   }
     where
-      g : GoesOn (S.sites c) (f c)
+      g : SiteGoesOn (S.sites c) (f c)
       g = m.sites c
 
-      same-channel : ch (Agent (host_of_slot S.words.deployment c)) (Site c) ≡ from_agent S c
+      same-channel : ch (Agent (host_of_slot S.words.deployment c)) (Site c) ≡ agent_to_site S c
       same-channel = m.agents (host_of_slot S.words.deployment c) (Site c)
 
       first : (s : ℕ) (ws : List Membership) → FirstViews S c s ws → FirstViews (shifted S ch f pend st) c s ws
       first s ws k = record { first = k.first; later = k.later; views_are = k.views_are; took = k.took; members = k.members }
 
       run : (o : Option Membership) (ws : List Membership) → RunViews S c o ws → RunViews (shifted S ch f pend st) c o ws
-      run None ws k = rw g.start (first (start_at S c) ws k)
+      run None ws k = rw g.start (first (site_start S c) ws k)
       run (Some w) ws k = rw g.start k
 
   steady-loads : LoadsOk S → LoadsOk (shifted S ch f pend st)
@@ -171,21 +171,21 @@ module _ (S : LogState) (ch : Actor → Actor → List Letter) (f : ℕ → Site
         (asked-later S (shifted S ch f pend st) H steady-later (Agent h')) (S.words.channel (Agent h') (Agent g)) (h.asked h' g));
     waiting = λ h'. all-mono (λ x. AskedOk S x.from x.letter) (λ x. AskedOk (shifted S ch f pend st) x.from x.letter)
         (λ x. asked-later S (shifted S ch f pend st) H steady-later x.from x.letter) (S.words.agents h').waiting (h.waiting h');
-    queued = λ h'. all-mono (QueuedOk S) (QueuedOk (shifted S ch f pend st)) (queued-later S (shifted S ch f pend st) H steady-later)
+    queued = λ h'. all-mono (QueuedLoadedOk S) (QueuedLoadedOk (shifted S ch f pend st)) (queued-later S (shifted S ch f pend st) H steady-later)
         (S.words.agents h').initiating.queue (h.queued h');
     admitted = λ x i. all_loaded-later S (shifted S ch f pend st) H steady-later (S.words.owner x.start) x.start (h.admitted x i);
   }
 
   -- All holds after it, where this holds of what it changes.
   pub steady-holds :
-      ((c : ℕ) (w : Membership) → 0 < start_at S c → (S.sites c).joining ≡ None → MemberOk S c w → MemberOk (shifted S ch f pend st) c w)
+      ((c : ℕ) (w : Membership) → 0 < site_start S c → (S.sites c).joining ≡ None → MemberOk S c w → MemberOk (shifted S ch f pend st) c w)
       → ((c : ℕ) (k : Joining) → (f c).joining ≡ Some k → JoinerOk (shifted S ch f pend st) c k)
-      → ((c : ℕ) → 0 < start_at S c → KeepsOk S c → KeepsOk (shifted S ch f pend st) c)
-      → ((c : ℕ) → start_at S c ≡ 0 → (f c ≡ S.sites c) × (pend c ≡ S.pending c))
+      → ((c : ℕ) → 0 < site_start S c → KeepsOk S c → KeepsOk (shifted S ch f pend st) c)
+      → ((c : ℕ) → site_start S c ≡ 0 → (f c ≡ S.sites c) × (pend c ≡ S.pending c))
       → ((i c : ℕ) → IsSlot S c → AllByRecursion (SiteLetterOk (shifted S ch f pend st) i c) (ch (Site i) (Site c)))
       → ((from : Actor) (c : ℕ) → AllByRecursion (ForeignOk S c from) (ch from (Site c)))
       → ((c t : ℕ) (x : Streaming) → st c t ≡ Some x → StreamedOk (shifted S ch f pend st) c t x)
-      → Holds (shifted S ch f pend st)
+      → LogsHold (shifted S ch f pend st)
   steady-holds members joiners keeps stopped letters foreign streamed = record {
     words = channel-holds S.words ch (λ h g. m.agents h (Agent g)) (λ h. ap starts_in (m.director h)) H.words;
     sites = site;
@@ -226,17 +226,17 @@ module _ (S : LogState) (ch : Actor → Actor → List Letter) (f : ℕ → Site
 -- ---- slots of which nothing changes but what they keep
 
 module _ (S : LogState) (ch : Actor → Actor → List Letter) (f : ℕ → SiteState) (pend : ℕ → List Waiting) (st : ℕ → ℕ → Option Streaming)
-    (H : Holds S) (m : Steady S ch f st) (c : ℕ) (site : Still (S.sites c) (f c)) where
+    (H : LogsHold S) (m : Steady S ch f st) (c : ℕ) (site : SiteStays (S.sites c) (f c)) where
   pub steady-member : ((l a t : ℕ) → line a t (ch (Site l) (Site c)) ≡ line a t (between S l c))
       → (w : Membership) → MemberOk S c w → MemberOk (shifted S ch f pend st) c w
-  steady-member lines w k = member-keeps S (shifted S ch f pend st) H (steady-later S ch f pend st H m) c site w k (λ l. lines l (start_at S c) (term_of w)) refl
+  steady-member lines w k = member-keeps S (shifted S ch f pend st) H (steady-later S ch f pend st H m) c site w k (λ l. lines l (site_start S c) (term_of w)) refl
 
-  pub steady-run : ((t : ℕ) (x : Streaming) → st c t ≡ Some x → x.start ≡ start_at S c → S.logs.streamed c t ≡ Some x) → SameRun S (shifted S ch f pend st) c
+  pub steady-run : ((t : ℕ) (x : Streaming) → st c t ≡ Some x → x.start ≡ site_start S c → S.logs.streamed c t ≡ Some x) → SameRun S (shifted S ch f pend st) c
   steady-run streamed = record { entered = λ t e is start. is; streamed = streamed }
 
-  pub steady-joiner : ((t : ℕ) (x : Streaming) → st c t ≡ Some x → x.start ≡ start_at S c → S.logs.streamed c t ≡ Some x)
+  pub steady-joiner : ((t : ℕ) (x : Streaming) → st c t ≡ Some x → x.start ≡ site_start S c → S.logs.streamed c t ≡ Some x)
       → ((l : ℕ) → SameFrom S (shifted S ch f pend st) c l (term_at S c))
-      → ((stream_start : ℕ) (w : Membership) → IsCounted S c (start_at S c) stream_start w → IsCounted (shifted S ch f pend st) c (start_at S c) stream_start w)
+      → ((stream_start : ℕ) (w : Membership) → IsCounted S c (site_start S c) stream_start w → IsCounted (shifted S ch f pend st) c (site_start S c) stream_start w)
       → (k : Joining) → (f c).joining ≡ Some k → JoinerOk (shifted S ch f pend st) c k
   steady-joiner streamed from counted k e = joiner-keeps S (shifted S ch f pend st) H (steady-later S ch f pend st H m) c site k (steady-run streamed)
       (record { leadership = refl; reach = refl }) from counted ((H.sites c).joiner k (sym site.joining ∙ e))

@@ -12,13 +12,13 @@ use Rattle.cluster_steps.proofs.Lists.{same-some, none-and-some, not-both}
 use Rattle.word_laws.proofs.Algebra.{firsts, subset-length, within-refl, within-cases, names-first, names-admits, names-within, admits-fresh, admits-firsts}
 use Rattle.word_laws.proofs.Agreement.{one-first, term-same, member-of, member-is}
 use Rattle.word_laws.proofs.Admissions.{not-earlier-self}
-use Rattle.log_laws.specs.Histories.{LogState, Holds, Entered, Leadership, WordOf, Last, WasIn, HasBeen, Came, LeadershipOk, IsSlot, base_of, part, start_at, log_at, term_at}
+use Rattle.log_laws.specs.Histories.{LogState, LogsHold, Entered, Leadership, WordOf, Last, WasIn, HasBeen, Came, LeadershipOk, IsSlot, epoch_base, part, site_start, log_at, term_at}
 
-module _ (S : LogState) (H : Holds S) where
+module _ (S : LogState) (H : LogsHold S) where
   -- ---- sites
 
   -- a site that runs is a slot's
-  pub running-slot : (c : ℕ) → 0 < start_at S c → IsSlot S c
+  pub running-slot : (c : ℕ) → 0 < site_start S c → IsSlot S c
   running-slot c up = elim (cases_Bool (nat_lt c (slots S.words.deployment))) [
     | inl is ↦ is
     | inr out ↦ absurd (omega (arith, up, (H.sites c).environment out))
@@ -55,7 +55,7 @@ module _ (S : LogState) (H : Holds S) where
       term-same S.words H.words.history v w (good v k.decided) (good w l.decided) (H.words.history.chain v w k.decided l.decided) (k.term_is ∙ sym l.term_is)
 
   -- the epoch's first term, which is above 0, is the least
-  pub base-least : (w : Membership) → In w S.words.history.decided → base_of S ≤ term_of w
+  pub base-least : (w : Membership) → In w S.words.history.decided → epoch_base S ≤ term_of w
   base-least w d = omega (arith, (good w d).base)
 
   pub some-term : (w : Membership) → In w S.words.history.decided → 0 < term_of w
@@ -169,7 +169,7 @@ module _ (S : LogState) (H : Holds S) where
   was-been c t a (inr x) = subst (HasBeen S c t) x.2 (H.streamed c t x.0 x.1).been
 
   -- one that runs has what the term knew to be everywhere, and goes on in that term or a later one
-  pub running-in : (c v a : ℕ) → WasIn S c v a → start_at S c ≡ a → (S.logs.reach (part S c) v ≤ length (log_at S c)) × (v ≤ term_at S c)
+  pub running-in : (c v a : ℕ) → WasIn S c v a → site_start S c ≡ a → (S.logs.reach (part S c) v ≤ length (log_at S c)) × (v ≤ term_at S c)
   running-in c v a (inl x) r = let k = (H.entered c v x.0 x.1).running (r ∙ sym x.2) in (k.2, k.1)
   running-in c v a (inr x) r = let k = (H.streamed c v x.0 x.1).running (r ∙ sym x.2) in (k.2, k.1)
 
@@ -216,13 +216,13 @@ module _ (S : LogState) (H : Holds S) where
     },
   )
 
-  last-above : (p n : ℕ) → (v : ℕ) × Last S.logs p v (base_of S + 1 + n)
-  last-above p zero = let f = H.first p in (base_of S, record { leadership = f.0; led = f.1; below = omega arith; greatest = λ x g k b. omega (arith, b) })
+  last-above : (p n : ℕ) → (v : ℕ) × Last S.logs p v (epoch_base S + 1 + n)
+  last-above p zero = let f = H.first p in (epoch_base S, record { leadership = f.0; led = f.1; below = omega arith; greatest = λ x g k b. omega (arith, b) })
   last-above p (suc n) =
-      let q : base_of S + 1 + n + 1 ≡ base_of S + 1 + suc n = omega arith in
-      subst (λ t. (v : ℕ) × Last S.logs p v t) q (last-more p (base_of S + 1 + n) (S.logs.leadership p (base_of S + 1 + n)) refl (last-above p n))
+      let q : epoch_base S + 1 + n + 1 ≡ epoch_base S + 1 + suc n = omega arith in
+      subst (λ t. (v : ℕ) × Last S.logs p v t) q (last-more p (epoch_base S + 1 + n) (S.logs.leadership p (epoch_base S + 1 + n)) refl (last-above p n))
 
-  pub last-below : (p t : ℕ) → base_of S < t → (v : ℕ) × Last S.logs p v t
+  pub last-below : (p t : ℕ) → epoch_base S < t → (v : ℕ) × Last S.logs p v t
   last-below p t b =
-      let q : base_of S + 1 + (t - (base_of S + 1)) ≡ t = omega (arith, b) in
-      subst (λ t. (v : ℕ) × Last S.logs p v t) q (last-above p (t - (base_of S + 1)))
+      let q : epoch_base S + 1 + (t - (epoch_base S + 1)) ≡ t = omega (arith, b) in
+      subst (λ t. (v : ℕ) × Last S.logs p v t) q (last-above p (t - (epoch_base S + 1)))

@@ -15,14 +15,14 @@ use Rattle.word_laws.specs.Histories as word
 use Rattle.cluster_steps.specs.Lists.{In}
 use Rattle.word_laws.specs.Histories.{Distinct}
 use Rattle.cluster_steps.proofs.Lists.{all-from, all-at, all-append, all-mono, in-left, in-right, in-map, filter-in, eqb-same, set-here, set-there, set-both}
-use Rattle.log_laws.specs.Histories.{LogState, Holds, Entered, Streaming, Leadership, EnteredOk, StreamedOk, LeadershipOk, UnledOk, SiteOk, KeepsOk, MemberOk, JoinerOk, InWord, Coming, ViewsOk, LoadsOk, ForeignOk, AckOk, ReportOk, CountedOk, HeldOk, SiteLetterOk, WaitingOk, AskOk, EndOk, Reached, IsCounted, IsSlot, ToldOk, AskedOk, QueuedOk, base_of, part, start_at, term_at, between, from_agent, line, flow, ends, ask_of, wait_of, asks_in, asks_waiting, asks_kept, asks_of_term, asked}
-use Rattle.log_laws.proofs.Kept.Moves.{Later, EntersNow}
+use Rattle.log_laws.specs.Histories.{LogState, LogsHold, Entered, Streaming, Leadership, EnteredOk, StreamedOk, LeadershipOk, UnledOk, SiteOk, KeepsOk, MemberOk, JoinerOk, InWord, Coming, ViewsOk, LoadsOk, ForeignOk, AckOk, ReportOk, CountedOk, HeldOk, SiteLetterOk, SiteWaitingOk, AsksToJoin, EndOk, MeantFor, IsCounted, IsSlot, ToldOk, AskedOk, QueuedLoadedOk, epoch_base, part, site_start, term_at, between, agent_to_site, line, flow, stream_ends_in, ask_of, wait_of, asks_in, asks_waiting, asks_kept, asks_of_term, asked}
+use Rattle.log_laws.proofs.Kept.Moves.{LogsLater, EntersNow}
 use Rattle.log_laws.proofs.Kept.Laters.{been-later, ack-later, report-later, ask-later, counted-later, loaded-later, all_loaded-later, end-later, told-later, asked-later, queued-later, stays, letter-later-with, waiting-later-with}
 use Rattle.log_laws.proofs.Plain.Lines.{in-flat, flow-same, ends-same}
 use Rattle.log_laws.proofs.Kept.Asked.{AtMost, at-most-is, at-most-both, at-most-same, at-most-none}
 use Rattle.log_laws.proofs.Kept.Plumbing.{words-later}
 use Rattle.log_laws.proofs.Kept.Terms.{running-slot, took-decided}
-use Rattle.log_laws.proofs.Kept.Keeps.{Still, SameFrom, SameTerm, SameRun, still-same, site-keeps-with, joiner-keeps-with, in_word-keeps-with, inert-keeps, coming-keeps, took-keeps}
+use Rattle.log_laws.proofs.Kept.Keeps.{SiteStays, SameFrom, SameTerm, SameRun, still-same, site-keeps-with, joiner-keeps-with, in_word-keeps-with, inert-keeps, coming-keeps, took-keeps}
 use Rattle.log_laws.proofs.Kept.KeepsViews.{views-keeps-with, leaves-same, foreign-later}
 
 -- ---- functions of two numbers that were changed at one place
@@ -44,7 +44,7 @@ put-there f a b v c d n = put-both (λ c d x. (c ≡ a → d ≡ b → ⊥) → 
 
 -- ---- a site that goes on
 
-pub record GoesOn (a b : SiteState) : Type 0 where
+pub record SiteRises (a b : SiteState) : Type 0 where
   pub start : b.start ≡ a.start
   pub earlier : b.earlier ≡ a.earlier
   pub greatest : a.greatest ≤ b.greatest
@@ -53,7 +53,7 @@ pub record GoesOn (a b : SiteState) : Type 0 where
   pub member : a.joining ≡ None → b.joining ≡ None
   pub loaded : (k : Joining) → b.joining ≡ Some k → (j : Joining) × (a.joining ≡ Some j) × (j.is_based ≡ true → k.is_based ≡ true)
 
-pub goes-on-same : (a : SiteState) → GoesOn a a
+pub goes-on-same : (a : SiteState) → SiteRises a a
 goes-on-same a = record {
   start = refl;
   earlier = refl;
@@ -65,8 +65,8 @@ goes-on-same a = record {
 }
 
 -- the state after a turn of the site of slot i, with these channels and this history of terms
-abbrev pub turned : LogState → ℕ → SiteState → (Actor → Actor → List Letter) → (ℕ → ℕ → Option Entered) → (ℕ → ℕ → Option Leadership) → (ℕ → ℕ → ℕ) → LogState
-turned S i s ch en re rc = record S {
+abbrev pub site_turned : LogState → ℕ → SiteState → (Actor → Actor → List Letter) → (ℕ → ℕ → Option Entered) → (ℕ → ℕ → Option Leadership) → (ℕ → ℕ → ℕ) → LogState
+site_turned S i s ch en re rc = record S {
   words = record S.words { channel = ch };
   sites = set_at S.sites i s;
   logs = record S.logs { entered = en; leadership = re; reach = rc };
@@ -74,10 +74,10 @@ turned S i s ch en re rc = record S {
 
 -- Such a state is a later one, where the site goes on, and the history grows.
 pub turned-later : (S : LogState) (i : ℕ) (s : SiteState) (ch : Actor → Actor → List Letter) (en : ℕ → ℕ → Option Entered) (re : ℕ → ℕ → Option Leadership) (rc : ℕ → ℕ → ℕ)
-    → GoesOn (S.sites i) s
+    → SiteRises (S.sites i) s
     → ((c t : ℕ) (e : Entered) → S.logs.entered c t ≡ Some e → en c t ≡ Some e)
     → ((c t : ℕ) (e : Entered) → en c t ≡ Some e → (S.logs.entered c t ≡ Some e) ⊎ EntersNow S c t e)
-    → ((p t : ℕ) → S.logs.reach p t ≤ rc p t) → Later S (turned S i s ch en re rc)
+    → ((p t : ℕ) → S.logs.reach p t ≤ rc p t) → LogsLater S (site_turned S i s ch en re rc)
 turned-later S i s ch en re rc goes entered now reach = record {
   words = words-later S ch;
   ran = λ c a is. is;
@@ -90,8 +90,8 @@ turned-later S i s ch en re rc goes entered now reach = record {
   reach = reach;
 }
   where
-    all : (c : ℕ) → GoesOn (S.sites c) (set_at S.sites i s c)
-    all = set-both (λ c z. GoesOn (S.sites c) z) S.sites i s goes (λ c _. goes-on-same (S.sites c))
+    all : (c : ℕ) → SiteRises (S.sites c) (set_at S.sites i s c)
+    all = set-both (λ c z. SiteRises (S.sites c) z) S.sites i s goes (λ c _. goes-on-same (S.sites c))
 
 -- what is said of a channel, where what a site sent to others is behind what was there
 pub said-same : {A : Type 0} (f : List Letter → A) (S : LogState) (i : ℕ) (ch : Actor → Actor → List Letter) (new : ℕ → List Letter)
@@ -105,36 +105,36 @@ said-same f S i ch new mine theirs a c same = elim (cases_eq a i) [
 -- What must be so of it. The site sent these to others.
 pub record Turned (S : LogState) (i : ℕ) (s : SiteState) (ch : Actor → Actor → List Letter) (en : ℕ → ℕ → Option Entered) (re : ℕ → ℕ → Option Leadership) (rc : ℕ → ℕ → ℕ)
     (new : ℕ → List Letter) : Type 0 where
-  pub later : Later S (turned S i s ch en re rc)
+  pub later : LogsLater S (site_turned S i s ch en re rc)
   -- its channels: no stream is in them
   pub mine : (c : ℕ) → ch (Site i) (Site c) ≡ between S i c ++ new c
   pub theirs : (a c : ℕ) → (a ≡ i → ⊥) → ch (Site a) (Site c) ≡ between S a c
   pub flows : (c start t : ℕ) → flow start t (new c) ≡ []
-  pub ends : (c start t : ℕ) → ends start t (new c) ≡ []
+  pub ends : (c start t : ℕ) → stream_ends_in start t (new c) ≡ []
   pub agreed : (h g : ℕ) → ch (Agent h) (Agent g) ≡ S.words.channel (Agent h) (Agent g)
   pub tells : (c h : ℕ) → ch (Site c) (Agent h) ≡ S.words.channel (Site c) (Agent h)
-  pub views : (c : ℕ) → (c ≡ i → ⊥) → ch (Agent (host_of_slot S.words.deployment c)) (Site c) ≡ from_agent S c
+  pub views : (c : ℕ) → (c ≡ i → ⊥) → ch (Agent (host_of_slot S.words.deployment c)) (Site c) ≡ agent_to_site S c
   pub foreign : (from : Actor) (c : ℕ) → AllByRecursion (ForeignOk S c from) (ch from (Site c))
   -- what the site keeps
   pub waiting : s.waiting ≡ (S.sites i).waiting
   pub asks : (c t : ℕ) → AtMost (asks_of_term c t (S.sites i)) (asks_of_term c t s)
   pub joiners : (j : Joiner) → In j s.joiners → In j (S.sites i).joiners
-  pub joins : (c t a : ℕ) → IsSlot S c → In a (asked S i c t) → AskOk S (part S c) i t a → AskOk (turned S i s ch en re rc) (part S c) i t a
+  pub joins : (c t a : ℕ) → IsSlot S c → In a (asked S i c t) → AsksToJoin S (part S c) i t a → AsksToJoin (site_turned S i s ch en re rc) (part S c) i t a
   -- what others have entered, and terms that were led, are the same
   pub entered : (c t : ℕ) → (c ≡ i → ⊥) → en c t ≡ S.logs.entered c t
   pub led : (p t : ℕ) (g : Leadership) → S.logs.leadership p t ≡ Some g → (re p t ≡ S.logs.leadership p t) × (rc p t ≡ S.logs.reach p t)
   pub counted : (c a stream_start : ℕ) (w : Membership) (g : Leadership) → In w S.words.history.decided → S.logs.leadership (part S c) (term_of w) ≡ Some g
-      → IsCounted S c a stream_start w → IsCounted (turned S i s ch en re rc) c a stream_start w
+      → IsCounted S c a stream_start w → IsCounted (site_turned S i s ch en re rc) c a stream_start w
   -- what comes to the others
-  pub members : (c : ℕ) (w : Membership) → (c ≡ i → ⊥) → 0 < start_at S c → (S.sites c).joining ≡ None → (S.sites c).view ≡ Some w
-      → MemberOk S c w → MemberOk (turned S i s ch en re rc) c w
+  pub members : (c : ℕ) (w : Membership) → (c ≡ i → ⊥) → 0 < site_start S c → (S.sites c).joining ≡ None → (S.sites c).view ≡ Some w
+      → MemberOk S c w → MemberOk (site_turned S i s ch en re rc) c w
   pub lines : (c l : ℕ) (w : Membership) (j : Joining) → (c ≡ i → ⊥) → (S.sites c).joining ≡ Some j → JoinerOk S c j
-      → line (start_at S c) (term_of w) (between S l c) ≡ [] → line (start_at S c) (term_of w) (ch (Site l) (Site c)) ≡ []
+      → line (site_start S c) (term_of w) (between S l c) ≡ [] → line (site_start S c) (term_of w) (ch (Site l) (Site c)) ≡ []
 
-module _ (S : LogState) (H : Holds S) (i : ℕ) (s : SiteState) (ch : Actor → Actor → List Letter) (en : ℕ → ℕ → Option Entered) (re : ℕ → ℕ → Option Leadership) (rc : ℕ → ℕ → ℕ)
+module _ (S : LogState) (H : LogsHold S) (i : ℕ) (s : SiteState) (ch : Actor → Actor → List Letter) (en : ℕ → ℕ → Option Entered) (re : ℕ → ℕ → Option Leadership) (rc : ℕ → ℕ → ℕ)
     (new : ℕ → List Letter) (F : Turned S i s ch en re rc new) where
   abbrev T : LogState
-  T = turned S i s ch en re rc
+  T = site_turned S i s ch en re rc
 
   there : (c : ℕ) → (c ≡ i → ⊥) → T.sites c ≡ S.sites c
   there c other = set-there S.sites i s c other
@@ -147,18 +147,18 @@ module _ (S : LogState) (H : Holds S) (i : ℕ) (s : SiteState) (ch : Actor → 
   flows-same : (a c start t : ℕ) → flow start t (ch (Site a) (Site c)) ≡ flow start t (between S a c)
   flows-same a c start t = said-same (flow start t) S i ch new F.mine F.theirs a c (flow-same start t (between S i c) (new c) (F.flows c start t))
 
-  ends-are-same : (a c start t : ℕ) → ends start t (ch (Site a) (Site c)) ≡ ends start t (between S a c)
-  ends-are-same a c start t = said-same (ends start t) S i ch new F.mine F.theirs a c (ends-same start t (between S i c) (new c) (F.ends c start t))
+  ends-are-same : (a c start t : ℕ) → stream_ends_in start t (ch (Site a) (Site c)) ≡ stream_ends_in start t (between S a c)
+  ends-are-same a c start t = said-same (stream_ends_in start t) S i ch new F.mine F.theirs a c (ends-same start t (between S i c) (new c) (F.ends c start t))
 
   -- an ask that is somewhere
-  ask-kept : (a c t x : ℕ) → IsSlot S c → In x (asked S a c t) → AskOk S (part S c) a t x → AskOk T (part S c) a t x
+  ask-kept : (a c t x : ℕ) → IsSlot S c → In x (asked S a c t) → AsksToJoin S (part S c) a t x → AsksToJoin T (part S c) a t x
   ask-kept a c t x slot is k = elim (cases_eq a i) [
-    | inl e ↦ subst (λ z. AskOk T (part S c) z t x) (sym e)
-        (F.joins c t x slot (subst (λ z. In x (asked S z c t)) e is) (subst (λ z. AskOk S (part S c) z t x) e k))
+    | inl e ↦ subst (λ z. AsksToJoin T (part S c) z t x) (sym e)
+        (F.joins c t x slot (subst (λ z. In x (asked S z c t)) e is) (subst (λ z. AsksToJoin S (part S c) z t x) e k))
     | inr n ↦ ask-later S T H F.later (part S c) a t x (λ w j. (j.0, ap (λ z. z.joining) (there a n) ∙ j.1, ap (λ z. z.view) (there a n) ∙ j.2)) k
   ]
 
-  end-kept : (a c : ℕ) (l : Letter) → Reached S c l → EndOk S a c l → EndOk T a c l
+  end-kept : (a c : ℕ) (l : Letter) → MeantFor S c l → EndOk S a c l → EndOk T a c l
   end-kept a c l r k = end-later S T H F.later a c l r k (subst (AllByRecursion _) (sym (flows-same a c l.start l.term))) (λ x e start. inl e)
 
   letters-kept : (a c : ℕ) → IsSlot S c → AllByRecursion (SiteLetterOk T a c) (between S a c)
@@ -181,9 +181,9 @@ module _ (S : LogState) (H : Holds S) (i : ℕ) (s : SiteState) (ch : Actor → 
   ]
 
   -- what waits
-  pub waiting-turned : (c : ℕ) → IsSlot S c → start_at T c ≡ start_at S c → KeepsOk S c → AllByRecursion (WaitingOk T c) (S.sites c).waiting
-  waiting-turned c slot start k = all-from (WaitingOk T c) (S.sites c).waiting (λ x is. waiting-later-with S T H F.later c start x
-      (λ a y slot-of e b. ask-kept a c x.letter.term y slot (in-asked x is a y slot-of e b)) (all-at (WaitingOk S c) (S.sites c).waiting k.waiting x is))
+  pub waiting-turned : (c : ℕ) → IsSlot S c → site_start T c ≡ site_start S c → KeepsOk S c → AllByRecursion (SiteWaitingOk T c) (S.sites c).waiting
+  waiting-turned c slot start k = all-from (SiteWaitingOk T c) (S.sites c).waiting (λ x is. waiting-later-with S T H F.later c start x
+      (λ a y slot-of e b. ask-kept a c x.letter.term y slot (in-asked x is a y slot-of e b)) (all-at (SiteWaitingOk S c) (S.sites c).waiting k.waiting x is))
     where
       in-asked : (x : Waiting) → In x (S.sites c).waiting → (a y slot-of : ℕ) → x.from ≡ Site a → x.letter.body ≡ msg.JoinAsk y slot-of → In y (asked S a c x.letter.term)
       in-asked x is a y slot-of e b =
@@ -193,9 +193,9 @@ module _ (S : LogState) (H : Holds S) (i : ℕ) (s : SiteState) (ch : Actor → 
           (in-left y (asks_in t (between S a c) ++ asks_waiting a t (S.sites c).waiting) (asks_waiting a t (S.pending c))
           (in-right y (asks_in t (between S a c)) (asks_waiting a t (S.sites c).waiting) (in-flat (wait_of a t) y x (S.sites c).waiting is one)))
 
-  pub pending-turned : (c : ℕ) → IsSlot S c → start_at T c ≡ start_at S c → KeepsOk S c → AllByRecursion (WaitingOk T c) (S.pending c)
-  pending-turned c slot start k = all-from (WaitingOk T c) (S.pending c) (λ x is. waiting-later-with S T H F.later c start x
-      (λ a y slot-of e b. ask-kept a c x.letter.term y slot (in-asked x is a y slot-of e b)) (all-at (WaitingOk S c) (S.pending c) k.pending x is))
+  pub pending-turned : (c : ℕ) → IsSlot S c → site_start T c ≡ site_start S c → KeepsOk S c → AllByRecursion (SiteWaitingOk T c) (S.pending c)
+  pending-turned c slot start k = all-from (SiteWaitingOk T c) (S.pending c) (λ x is. waiting-later-with S T H F.later c start x
+      (λ a y slot-of e b. ask-kept a c x.letter.term y slot (in-asked x is a y slot-of e b)) (all-at (SiteWaitingOk S c) (S.pending c) k.pending x is))
     where
       in-asked : (x : Waiting) → In x (S.pending c) → (a y slot-of : ℕ) → x.from ≡ Site a → x.letter.body ≡ msg.JoinAsk y slot-of → In y (asked S a c x.letter.term)
       in-asked x is a y slot-of e b =
@@ -227,7 +227,7 @@ module _ (S : LogState) (H : Holds S) (i : ℕ) (s : SiteState) (ch : Actor → 
           (asks_of_term c t (S.sites i)) (asks_of_term c t s)
           (at-most-same (asks_in t (between S c i) ++ asks_waiting c t (S.sites i).waiting ++ asks_waiting c t (S.pending i))) (F.asks c t))
 
-  keeps-other : (c : ℕ) → (c ≡ i → ⊥) → 0 < start_at S c → KeepsOk S c → KeepsOk T c
+  keeps-other : (c : ℕ) → (c ≡ i → ⊥) → 0 < site_start S c → KeepsOk S c → KeepsOk T c
   keeps-other c other up k = record {
     acks = rw (there c other) (all-mono (λ a. IsSlot S a.0 → AckOk S a.0 (term_at S c) a.1) (λ a. IsSlot S a.0 → AckOk T a.0 (term_at S c) a.1)
         (λ a p slot. ack-later S T H F.later a.0 (term_at S c) a.1 (p slot)) (S.sites c).acks k.acks);
@@ -238,10 +238,10 @@ module _ (S : LogState) (H : Holds S) (i : ℕ) (s : SiteState) (ch : Actor → 
         (counted-later S T H F.later (part S c) (term_at S c)) (S.sites c).joiners k.joiners);
     alone = rw (there c other) k.alone;
     leads = rw (there c other) k.leads;
-    asks = rw (there c other) (all-from (λ a. AskOk T (part S c) a.slot (term_at S c) a.start) (S.sites c).asks (λ a is.
+    asks = rw (there c other) (all-from (λ a. AsksToJoin T (part S c) a.slot (term_at S c) a.start) (S.sites c).asks (λ a is.
         ask-kept a.slot c (term_at S c) a.start slot (in-asked a is)
-        (all-at (λ a. AskOk S (part S c) a.slot (term_at S c) a.start) (S.sites c).asks k.asks a is)));
-    waiting = subst (λ z. AllByRecursion (WaitingOk T c) z.waiting) (sym (there c other)) (waiting-turned c slot start k);
+        (all-at (λ a. AsksToJoin S (part S c) a.slot (term_at S c) a.start) (S.sites c).asks k.asks a is)));
+    waiting = subst (λ z. AllByRecursion (SiteWaitingOk T c) z.waiting) (sym (there c other)) (waiting-turned c slot start k);
     pending = pending-turned c slot start k;
     on_disk = subst (λ z. z.on_disk ≤ length z.log) (sym (there c other)) k.on_disk;
     held = rw (there c other) k.held;
@@ -250,7 +250,7 @@ module _ (S : LogState) (H : Holds S) (i : ℕ) (s : SiteState) (ch : Actor → 
       slot : IsSlot S c
       slot = running-slot S H c up
 
-      start : start_at T c ≡ start_at S c
+      start : site_start T c ≡ site_start S c
       start = ap (λ z. z.start) (there c other)
 
       in-asked : (a : Ask) → In a (S.sites c).asks → In a.start (asked S a.slot c (term_at S c))
@@ -268,20 +268,20 @@ module _ (S : LogState) (H : Holds S) (i : ℕ) (s : SiteState) (ch : Actor → 
   joiner-other : (c : ℕ) → (c ≡ i → ⊥) → (j : Joining) → (S.sites c).joining ≡ Some j → JoinerOk S c j → JoinerOk T c j
   joiner-other c other j joins k = joiner-keeps-with S T H F.later c site j (same-run c other) word k
     where
-      site : Still (S.sites c) (T.sites c)
+      site : SiteStays (S.sites c) (T.sites c)
       site = still-same (S.sites c) (T.sites c) (there c other)
 
       word : (w : Membership) → (S.sites c).view ≡ Some w → InWord S c w j → InWord T c w j
       word w view n = in_word-keeps-with S T H F.later c site w j (same-run c other)
           (λ l e. F.lines c l w j other joins k e)
-          (λ l _ e d. (flows-same l c (start_at S c) (term_of w) ∙ e, ends-are-same l c (start_at S c) (term_of w) ∙ d))
+          (λ l _ e d. (flows-same l c (site_start S c) (term_of w) ∙ e, ends-are-same l c (site_start S c) (term_of w) ∙ d))
           (λ l. asked-less c l (term_of w) other)
           (λ l _ _ z. elim z [
             | inl q ↦ inl (inert-keeps S T H F.later c site w l (from l) q)
             | inr q ↦ inr (
-              subst (Coming T c w) (sym (flows-same l c (start_at S c) (term_of w)))
-                  (coming-keeps S T H F.later c site w (flow (start_at S c) (term_of w) (between S l c)) (same-term q.0.leadership q.0.led)
-                  (λ stream_start. F.counted c (start_at S c) stream_start w q.0.leadership decided q.0.led) q.0),
+              subst (Coming T c w) (sym (flows-same l c (site_start S c) (term_of w)))
+                  (coming-keeps S T H F.later c site w (flow (site_start S c) (term_of w) (between S l c)) (same-term q.0.leadership q.0.led)
+                  (λ stream_start. F.counted c (site_start S c) stream_start w q.0.leadership decided q.0.led) q.0),
               at-most-none (asked S c l (term_of w)) (asked T c l (term_of w)) q.1 (asked-less c l (term_of w) other),
             )
           ])
@@ -289,7 +289,7 @@ module _ (S : LogState) (H : Holds S) (i : ℕ) (s : SiteState) (ch : Actor → 
           n
         where
           decided : In w S.words.history.decided
-          decided = took-decided S H (start_at S c) w n.took
+          decided = took-decided S H (site_start S c) w n.took
 
           same-term : (g : Leadership) → S.logs.leadership (part S c) (term_of w) ≡ Some g → SameTerm S T (part S c) (term_of w)
           same-term g is = let p = F.led (part S c) (term_of w) g is in record { leadership = p.0; reach = p.1 }
@@ -297,8 +297,8 @@ module _ (S : LogState) (H : Holds S) (i : ℕ) (s : SiteState) (ch : Actor → 
           from : (l : ℕ) → SameFrom S T c l (term_of w)
           from l = record {
             lines = F.lines c l w j other joins k (n.lines l) ∙ sym (n.lines l);
-            flows = flows-same l c (start_at S c) (term_of w);
-            ends = λ e. ends-are-same l c (start_at S c) (term_of w) ∙ e;
+            flows = flows-same l c (site_start S c) (term_of w);
+            ends = λ e. ends-are-same l c (site_start S c) (term_of w) ∙ e;
             asks = asked-less c l (term_of w) other;
             uncounted = λ none x is. none x (set-both (λ d z. In x z.joiners → In x (S.sites d).joiners) S.sites i s (F.joiners x) (λ d _ y. y) l is);
           }
@@ -313,7 +313,7 @@ module _ (S : LogState) (H : Holds S) (i : ℕ) (s : SiteState) (ch : Actor → 
 
   views-other : (c : ℕ) → (c ≡ i → ⊥) → ViewsOk T c
   views-other c other = views-keeps-with S T H F.later c (ap (λ z. z.start) (there c other)) (ap (λ z. z.view) (there c other)) refl refl (λ x is. is)
-      (leaves-same (start_at S c) (from_agent S c) (from_agent T c) (F.views c other)) (H.views c)
+      (leaves-same (site_start S c) (agent_to_site S c) (agent_to_site T c) (F.views c other)) (H.views c)
 
   -- ---- what was loaded, and streams
 
@@ -326,7 +326,7 @@ module _ (S : LogState) (H : Holds S) (i : ℕ) (s : SiteState) (ch : Actor → 
         (all-mono (AskedOk S (Agent h)) (AskedOk T (Agent h)) (asked-later S T H F.later (Agent h)) (S.words.channel (Agent h) (Agent g)) (H.loads.asked h g));
     waiting = λ h. all-mono (λ x. AskedOk S x.from x.letter) (λ x. AskedOk T x.from x.letter) (λ x. asked-later S T H F.later x.from x.letter)
         (S.words.agents h).waiting (H.loads.waiting h);
-    queued = λ h. all-mono (QueuedOk S) (QueuedOk T) (queued-later S T H F.later) (S.words.agents h).initiating.queue (H.loads.queued h);
+    queued = λ h. all-mono (QueuedLoadedOk S) (QueuedLoadedOk T) (queued-later S T H F.later) (S.words.agents h).initiating.queue (H.loads.queued h);
     admitted = λ x is. all_loaded-later S T H F.later (S.words.owner x.start) x.start (H.loads.admitted x is);
   }
 
@@ -360,7 +360,7 @@ module _ (S : LogState) (H : Holds S) (i : ℕ) (s : SiteState) (ch : Actor → 
 
   -- ---- a site that keeps nothing but what waits
 
-  pub fresh-keeps : 0 < start_at S i → s.start ≡ start_at S i → s.acks ≡ [] → s.reports ≡ [] → s.joiners ≡ [] → s.asks ≡ [] → s.on_disk ≤ length s.log
+  pub fresh-keeps : 0 < site_start S i → s.start ≡ site_start S i → s.acks ≡ [] → s.reports ≡ [] → s.joiners ≡ [] → s.asks ≡ [] → s.on_disk ≤ length s.log
       → AllByRecursion HeldOk s.held → KeepsOk S i → KeepsOk T i
   fresh-keeps up start acks reports joiners asks on_disk held k = record {
     acks = subst (λ z. AllByRecursion (λ a. IsSlot T a.0 → AckOk T a.0 (term_at T i) a.1) z) (sym (ap (λ z. z.acks) here ∙ acks)) tt;
@@ -368,8 +368,8 @@ module _ (S : LogState) (H : Holds S) (i : ℕ) (s : SiteState) (ch : Actor → 
     joiners = subst (AllByRecursion (CountedOk T (part T i) (term_at T i))) (sym none) tt;
     alone = subst (λ z. Distinct (map (λ j. j.slot) z)) (sym none) tt;
     leads = inl none;
-    asks = subst (λ z. AllByRecursion (λ a. AskOk T (part T i) a.slot (term_at T i) a.start) z) (sym (ap (λ z. z.asks) here ∙ asks)) tt;
-    waiting = subst (AllByRecursion (WaitingOk T i)) (sym (ap (λ z. z.waiting) here ∙ F.waiting)) (waiting-turned i slot same-start k);
+    asks = subst (λ z. AllByRecursion (λ a. AsksToJoin T (part T i) a.slot (term_at T i) a.start) z) (sym (ap (λ z. z.asks) here ∙ asks)) tt;
+    waiting = subst (AllByRecursion (SiteWaitingOk T i)) (sym (ap (λ z. z.waiting) here ∙ F.waiting)) (waiting-turned i slot same-start k);
     pending = pending-turned i slot same-start k;
     on_disk = subst (λ z. z.on_disk ≤ length z.log) (sym here) on_disk;
     held = subst (λ z. AllByRecursion HeldOk z.held) (sym here) held;
@@ -378,7 +378,7 @@ module _ (S : LogState) (H : Holds S) (i : ℕ) (s : SiteState) (ch : Actor → 
       slot : IsSlot S i
       slot = running-slot S H i up
 
-      same-start : start_at T i ≡ start_at S i
+      same-start : site_start T i ≡ site_start S i
       same-start = ap (λ z. z.start) here ∙ start
 
       none : (T.sites i).joiners ≡ []
@@ -386,12 +386,12 @@ module _ (S : LogState) (H : Holds S) (i : ℕ) (s : SiteState) (ch : Actor → 
 
   -- ---- all of it
 
-  pub turned-holds : word.Holds T.words → SiteOk T i → ViewsOk T i → ((c : ℕ) → IsSlot S c → AllByRecursion (SiteLetterOk T i c) (new c))
+  pub turned-holds : word.WordsHold T.words → SiteOk T i → ViewsOk T i → ((c : ℕ) → IsSlot S c → AllByRecursion (SiteLetterOk T i c) (new c))
       → ((c t : ℕ) (e : Entered) → en c t ≡ Some e → EnteredOk T c t e)
       → ((c t : ℕ) (x : Streaming) → S.logs.streamed c t ≡ Some x → en c t ≡ None)
       → ((p t : ℕ) (g : Leadership) → re p t ≡ Some g → LeadershipOk T p t g)
       → ((p t : ℕ) → re p t ≡ None → UnledOk T p t)
-      → Holds T
+      → LogsHold T
   turned-holds words site views letters entered apart leaderships unled = record {
     words = words;
     sites = λ c. elim (cases_eq c i) [ inl e ↦ subst (SiteOk T) (sym e) site | inr n ↦ site-other c n ];
@@ -404,5 +404,5 @@ module _ (S : LogState) (H : Holds S) (i : ℕ) (s : SiteState) (ch : Actor → 
     leaderships = leaderships;
     unled = unled;
     some = H.some;
-    first = λ p. let o = H.first p in (o.0, (F.led p (base_of S) o.0 o.1).0 ∙ o.1);
+    first = λ p. let o = H.first p in (o.0, (F.led p (epoch_base S) o.0 o.1).0 ∙ o.1);
   }

@@ -13,15 +13,14 @@ use Rattle.cluster_model.specs.SiteState.{SiteState}
 use Rattle.cluster_model.specs.World.{set_at}
 use Rattle.cluster_steps.proofs.Channels.{took-all, sent-nothing}
 use Rattle.cluster_steps.proofs.Lists.{all-append, all-filter, set-same}
-use Rattle.log_laws.specs.Histories.{LogState, Holds, SiteLetterOk, ForeignOk, WaitingOk, IsSlot, Reached, start_at, term_at, from_agent, line, line_of, flow, flow_of, ends, end_of, line_in, flow_in, view_in, WaitingFrom, view_of, asks_of_term, log_at}
-use Rattle.log_laws.proofs.Kept.Moves.{after, popped, left, Later, Goes}
+use Rattle.log_laws.specs.Histories.{LogState, LogsHold, SiteLetterOk, ForeignOk, SiteWaitingOk, IsSlot, MeantFor, site_start, term_at, agent_to_site, line, line_of, flow, flow_of, stream_ends_in, end_of, line_in, flow_in, view_in, SiteWaitingFrom, view_of, asks_of_term, log_at}
+use Rattle.log_laws.proofs.Kept.Moves.{after_site, site_popped, left, LogsGo}
 use Rattle.log_laws.proofs.Kept.Grown.{grown-same, enters-same}
 use Rattle.log_laws.proofs.Plain.Lines.{line-other, flow-other, views-other, line-plain, flow-plain, views-plain, both-empty}
 use Rattle.log_laws.proofs.Kept.Asked.{AsksLess, at-most-same, popped-less, left-less, parted-asks, waits-asks}
-use Rattle.log_laws.proofs.Kept.Keeps.{still-same}
-use Rattle.log_laws.proofs.Kept.KeepsViews.{Leaves, leaves-same, leaves-first}
+use Rattle.log_laws.proofs.Kept.KeepsViews.{LeavesViews, leaves-same, leaves-first}
 use Rattle.log_laws.proofs.Kept.Plumbing.{after-same, taken-either, words-popped}
-use Rattle.log_laws.proofs.Kept.Inert.{ChannelsOk, channels-same, SiteStill, inert-holds, site-same, site-waiting, moved, moved-later, still-holds}
+use Rattle.log_laws.proofs.Kept.Inert.{ChannelsOk, channels-same, SiteStill, inert-holds, site-same, site-waiting, logs_moved, still-holds}
 use Rattle.log_laws.proofs.Kept.Terms.{running-slot}
 
 -- ---- whether a site takes a message
@@ -77,19 +76,19 @@ waits-for start here l e = meant (l.start == 0) (l.start == start) refl refl e
 
 -- It brings the site that runs no entry of its term, no stream, and no word.
 pub record Unread (S : LogState) (i : ℕ) (from : Actor) (l : Letter) : Type 0 where
-  pub line : (k : ℕ) → from ≡ Site k → line_of (start_at S i) (term_at S i) l ≡ []
-  pub flow : (k : ℕ) → from ≡ Site k → flow_of (start_at S i) (term_at S i) l ≡ []
-  pub view : from ≡ Agent (host_of_slot S.words.deployment i) → view_of (start_at S i) l ≡ []
+  pub line : (k : ℕ) → from ≡ Site k → line_of (site_start S i) (term_at S i) l ≡ []
+  pub flow : (k : ℕ) → from ≡ Site k → flow_of (site_start S i) (term_at S i) l ≡ []
+  pub view : from ≡ Agent (host_of_slot S.words.deployment i) → view_of (site_start S i) l ≡ []
 
 -- There is nothing of that in it, whatever the site's start and term.
-pub record Plain (S : LogState) (i : ℕ) (from : Actor) (l : Letter) : Type 0 where
+pub record BringsNothing (S : LogState) (i : ℕ) (from : Actor) (l : Letter) : Type 0 where
   pub line : (k : ℕ) → from ≡ Site k → line_in l.body ≡ []
   pub flow : (k : ℕ) → from ≡ Site k → flow_in l.past l.body ≡ []
   pub view : from ≡ Agent (host_of_slot S.words.deployment i) → view_in l.body ≡ []
 
 -- none of the messages that bring it
-abbrev pub PlainKind : Letter → Type 0
-PlainKind l = elim l.body as (λ _. Type 0) [
+abbrev pub BringsNone : Letter → Type 0
+BringsNone l = elim l.body as (λ _. Type 0) [
   | msg.Put position e floor ↦ ⊥
   | msg.Repair from entries ↦ ⊥
   | msg.Task position e ↦ ⊥
@@ -98,52 +97,48 @@ PlainKind l = elim l.body as (λ _. Type 0) [
   | _ ↦ Unit {0}
 ]
 
-plain-line : (l : Letter) → PlainKind l → line_in l.body ≡ []
-plain-line l k = elim l.body as (λ m. PlainKind (record l { body = m }) → line_in m ≡ []) [
+plain-line : (l : Letter) → BringsNone l → line_in l.body ≡ []
+plain-line l k = elim l.body as (λ m. BringsNone (record l { body = m }) → line_in m ≡ []) [
   | msg.Put position e floor ↦ λ k. absurd k
   | msg.Repair from entries ↦ λ k. absurd k
   | m ↦ λ k. refl
 ] k
 
-plain-flow : (l : Letter) → PlainKind l → flow_in l.past l.body ≡ []
-plain-flow l k = elim l.body as (λ m. PlainKind (record l { body = m }) → flow_in l.past m ≡ []) [
+plain-flow : (l : Letter) → BringsNone l → flow_in l.past l.body ≡ []
+plain-flow l k = elim l.body as (λ m. BringsNone (record l { body = m }) → flow_in l.past m ≡ []) [
   | msg.Task position e ↦ λ k. absurd k
   | msg.StreamStart head ↦ λ k. absurd k
   | m ↦ λ k. refl
 ] k
 
-plain-view : (l : Letter) → PlainKind l → view_in l.body ≡ []
-plain-view l k = elim l.body as (λ m. PlainKind (record l { body = m }) → view_in m ≡ []) [
+plain-view : (l : Letter) → BringsNone l → view_in l.body ≡ []
+plain-view l k = elim l.body as (λ m. BringsNone (record l { body = m }) → view_in m ≡ []) [
   | msg.View w ↦ λ k. absurd k
   | m ↦ λ k. refl
 ] k
 
--- A state from which a message is taken is a later one.
-pub popped-later : (S : LogState) (from : Actor) (i : ℕ) → Later S (popped S from i)
-popped-later S from i = moved-later S (popped S from i).words.channel S.sites S.pending (λ c. still-same (S.sites c) (S.sites c) refl)
-
-module _ (S : LogState) (H : Holds S) (from : Actor) (i : ℕ) (l : Letter) (ls : List Letter) (is : S.words.channel from (Site i) ≡ l ∷ ls) where
+module _ (S : LogState) (H : LogsHold S) (from : Actor) (i : ℕ) (l : Letter) (ls : List Letter) (is : S.words.channel from (Site i) ≡ l ∷ ls) where
   -- its channel without it
-  pub channels-popped : (0 < start_at S i → Unread S i from l) → ChannelsOk S (popped S from i).words.channel
+  pub channels-popped : (0 < site_start S i → Unread S i from l) → ChannelsOk S (site_popped S from i).words.channel
   channels-popped unread = record {
     words = words-popped S i from H.words;
     lines = λ k c up. taken-either S from i
-        (λ a c ys. a ≡ Site k → 0 < start_at S c → line (start_at S c) (term_at S c) ys ≡ line (start_at S c) (term_at S c) (S.words.channel a (Site c)))
-        (λ c e own up. rw (first c e) (ap (λ z. z ++ line (start_at S c) (term_at S c) ls)
-        (sym (subst (λ z. line_of (start_at S z) (term_at S z) l ≡ []) (sym e) ((here c e up).line k own)))))
+        (λ a c ys. a ≡ Site k → 0 < site_start S c → line (site_start S c) (term_at S c) ys ≡ line (site_start S c) (term_at S c) (S.words.channel a (Site c)))
+        (λ c e own up. rw (first c e) (ap (λ z. z ++ line (site_start S c) (term_at S c) ls)
+        (sym (subst (λ z. line_of (site_start S z) (term_at S z) l ≡ []) (sym e) ((here c e up).line k own)))))
         (Site k) c (λ _ _. refl) refl up;
     flows = λ k c up. taken-either S from i
-        (λ a c ys. a ≡ Site k → 0 < start_at S c → flow (start_at S c) (term_at S c) ys ≡ flow (start_at S c) (term_at S c) (S.words.channel a (Site c)))
-        (λ c e own up. rw (first c e) (ap (λ z. z ++ flow (start_at S c) (term_at S c) ls)
-        (sym (subst (λ z. flow_of (start_at S z) (term_at S z) l ≡ []) (sym e) ((here c e up).flow k own)))))
+        (λ a c ys. a ≡ Site k → 0 < site_start S c → flow (site_start S c) (term_at S c) ys ≡ flow (site_start S c) (term_at S c) (S.words.channel a (Site c)))
+        (λ c e own up. rw (first c e) (ap (λ z. z ++ flow (site_start S c) (term_at S c) ls)
+        (sym (subst (λ z. flow_of (site_start S z) (term_at S z) l ≡ []) (sym e) ((here c e up).flow k own)))))
         (Site k) c (λ _ _. refl) refl up;
-    ends = λ k c up. taken-either S from i (λ a c ys. ends (start_at S c) (term_at S c) (S.words.channel a (Site c)) ≡ [] → ends (start_at S c) (term_at S c) ys ≡ [])
-        (λ c e. rw (first c e) (λ none. (both-empty (end_of (start_at S c) (term_at S c) l) (ends (start_at S c) (term_at S c) ls) none).1))
+    ends = λ k c up. taken-either S from i (λ a c ys. stream_ends_in (site_start S c) (term_at S c) (S.words.channel a (Site c)) ≡ [] → stream_ends_in (site_start S c) (term_at S c) ys ≡ [])
+        (λ c e. rw (first c e) (λ none. (both-empty (end_of (site_start S c) (term_at S c) l) (stream_ends_in (site_start S c) (term_at S c) ls) none).1))
         (Site k) c (λ z. z);
-    leaves = λ c. taken-either S from i (λ a c ys. a ≡ Agent (host_of_slot S.words.deployment c) → Leaves (start_at S c) (S.words.channel a (Site c)) ys)
-        (λ c e own. rw (first c e) (leaves-first (start_at S c) l ls
-        (subst (λ z. 0 < start_at S z → view_of (start_at S z) l ≡ []) (sym e) (λ up. (unread up).view (own ∙ ap (λ z. Agent (host_of_slot S.words.deployment z)) e)))))
-        (Agent (host_of_slot S.words.deployment c)) c (λ _. leaves-same (start_at S c) (from_agent S c) (from_agent S c) refl) refl;
+    leaves = λ c. taken-either S from i (λ a c ys. a ≡ Agent (host_of_slot S.words.deployment c) → LeavesViews (site_start S c) (S.words.channel a (Site c)) ys)
+        (λ c e own. rw (first c e) (leaves-first (site_start S c) l ls
+        (subst (λ z. 0 < site_start S z → view_of (site_start S z) l ≡ []) (sym e) (λ up. (unread up).view (own ∙ ap (λ z. Agent (host_of_slot S.words.deployment z)) e)))))
+        (Agent (host_of_slot S.words.deployment c)) c (λ _. leaves-same (site_start S c) (agent_to_site S c) (agent_to_site S c) refl) refl;
     letters = λ j c slot. took-all (SiteLetterOk S j c) S.words.channel from (Site i) (Site j) (Site c) (H.letters j c slot);
     foreign = λ a c. took-all (ForeignOk S c a) S.words.channel from (Site i) a (Site c) (H.foreign a c);
     told = λ c h. H.loads.told c h;
@@ -153,70 +148,70 @@ module _ (S : LogState) (H : Holds S) (from : Actor) (i : ℕ) (l : Letter) (ls 
       first : (c : ℕ) → c ≡ i → S.words.channel from (Site c) ≡ l ∷ ls
       first c e = ap (λ z. S.words.channel from (Site z)) e ∙ is
 
-      here : (c : ℕ) → c ≡ i → 0 < start_at S c → Unread S i from l
-      here c e up = unread (subst (λ z. 0 < start_at S z) e up)
+      here : (c : ℕ) → c ≡ i → 0 < site_start S c → Unread S i from l
+      here c e up = unread (subst (λ z. 0 < site_start S z) e up)
 
   -- it is taken, and the site stays as it was as far as is looked at
-  pub pops-into : (s : SiteState) → SiteStill S i s → (0 < start_at S i → Unread S i from l) → AsksLess S (after (popped S from i) i s no_sends S.logs)
-      → Holds (after (popped S from i) i s no_sends S.logs)
-  pops-into s site unread asks = subst (λ ch. Holds (moved S ch (set_at S.sites i s) S.pending)) (sym nothing)
-      (still-holds S i s (popped S from i).words.channel H site (channels-popped unread)
-      (subst (λ ch. AsksLess S (moved S ch (set_at S.sites i s) S.pending)) nothing asks))
+  pub pops-into : (s : SiteState) → SiteStill S i s → (0 < site_start S i → Unread S i from l) → AsksLess S (after_site (site_popped S from i) i s no_sends S.logs)
+      → LogsHold (after_site (site_popped S from i) i s no_sends S.logs)
+  pops-into s site unread asks = subst (λ ch. LogsHold (logs_moved S ch (set_at S.sites i s) S.pending)) (sym nothing)
+      (still-holds S i s (site_popped S from i).words.channel H site (channels-popped unread)
+      (subst (λ ch. AsksLess S (logs_moved S ch (set_at S.sites i s) S.pending)) nothing asks))
     where
-      nothing : (after (popped S from i) i s no_sends S.logs).words.channel ≡ (popped S from i).words.channel
-      nothing = sent-nothing (popped S from i).words.channel (Site i)
+      nothing : (after_site (site_popped S from i) i s no_sends S.logs).words.channel ≡ (site_popped S from i).words.channel
+      nothing = sent-nothing (site_popped S from i).words.channel (Site i)
 
   -- it is taken, or dropped
-  pub pops-with : (0 < start_at S i → Unread S i from l) → Holds (popped S from i)
-  pops-with unread = subst Holds (after-same (popped S from i) i) (pops-into (S.sites i) (site-same S i H) unread
+  pub pops-with : (0 < site_start S i → Unread S i from l) → LogsHold (site_popped S from i)
+  pops-with unread = subst LogsHold (after-same (site_popped S from i) i) (pops-into (S.sites i) (site-same S i H) unread
       (popped-less S from i l ls is S.logs (S.sites i) refl (λ c t. at-most-same (asks_of_term c t (S.sites i)))))
 
   -- one of which nothing is looked at, by what is in it and who sent it
-  pub pops-plain : Plain S i from l → Holds (popped S from i)
+  pub pops-plain : BringsNothing S i from l → LogsHold (site_popped S from i)
   pops-plain k = pops-with (λ up. record {
-    line = λ j e. line-plain (start_at S i) (term_at S i) l (k.line j e);
-    flow = λ j e. flow-plain (start_at S i) (term_at S i) l (k.flow j e);
-    view = λ own. views-plain (start_at S i) l (k.view own);
+    line = λ j e. line-plain (site_start S i) (term_at S i) l (k.line j e);
+    flow = λ j e. flow-plain (site_start S i) (term_at S i) l (k.flow j e);
+    view = λ own. views-plain (site_start S i) l (k.view own);
   })
 
   -- one of a kind of which nothing is looked at
-  pub pops-kind : PlainKind l → Holds (popped S from i)
+  pub pops-kind : BringsNone l → LogsHold (site_popped S from i)
   pops-kind k = pops-with (λ up. record {
-    line = λ _ _. line-plain (start_at S i) (term_at S i) l (plain-line l k);
-    flow = λ _ _. flow-plain (start_at S i) (term_at S i) l (plain-flow l k);
-    view = λ own. views-plain (start_at S i) l (plain-view l k);
+    line = λ _ _. line-plain (site_start S i) (term_at S i) l (plain-line l k);
+    flow = λ _ _. flow-plain (site_start S i) (term_at S i) l (plain-flow l k);
+    view = λ own. views-plain (site_start S i) l (plain-view l k);
   })
 
   -- one for another start
-  pub pops-other : (l.start ≡ start_at S i → ⊥) → Holds (popped S from i)
+  pub pops-other : (l.start ≡ site_start S i → ⊥) → LogsHold (site_popped S from i)
   pops-other other = pops-with (λ up. record {
-    line = λ _ _. line-other (start_at S i) (term_at S i) l (λ e _. other e);
-    flow = λ _ _. flow-other (start_at S i) (term_at S i) l (λ e _. other e);
-    view = λ own. views-other (start_at S i) l other;
+    line = λ _ _. line-other (site_start S i) (term_at S i) l (λ e _. other e);
+    flow = λ _ _. flow-other (site_start S i) (term_at S i) l (λ e _. other e);
+    view = λ own. views-other (site_start S i) l other;
   })
 
   -- any, where the site isn't running
-  pub pops-stopped : start_at S i ≡ 0 → Holds (popped S from i)
+  pub pops-stopped : site_start S i ≡ 0 → LogsHold (site_popped S from i)
   pops-stopped z = pops-with (λ up. absurd (omega (arith, z, up)))
 
   -- one of another term
-  pub pops-term : (l.term ≡ term_at S i → ⊥) → 0 < l.term → Holds (popped S from i)
+  pub pops-term : (l.term ≡ term_at S i → ⊥) → 0 < l.term → LogsHold (site_popped S from i)
   pops-term other timed = pops-with (λ up. record {
-    line = λ _ _. line-other (start_at S i) (term_at S i) l (λ _ e. other e);
-    flow = λ _ _. flow-other (start_at S i) (term_at S i) l (λ _ e. other e);
-    view = λ own. views-plain (start_at S i) l (untimed (subst (λ a. S.words.channel a (Site i) ≡ l ∷ ls) own is));
+    line = λ _ _. line-other (site_start S i) (term_at S i) l (λ _ e. other e);
+    flow = λ _ _. flow-other (site_start S i) (term_at S i) l (λ _ e. other e);
+    view = λ own. views-plain (site_start S i) l (untimed (subst (λ a. S.words.channel a (Site i) ≡ l ∷ ls) own is));
   })
     where
       -- words have no term
-      untimed : from_agent S i ≡ l ∷ ls → view_in l.body ≡ []
+      untimed : agent_to_site S i ≡ l ∷ ls → view_in l.body ≡ []
       untimed e = (elim l.body as (λ m. (elim m as (λ _. Type 0) [ msg.View w ↦ (l.term ≡ 0) × (0 < l.start) | _ ↦ Unit {0} ]) → view_in m ≡ []) [
         | msg.View w ↦ λ k. let z = k.0 in absurd (omega (arith, timed, z))
         | m ↦ λ k. refl
       ]) (subst (AllByRecursion (λ x. elim x.body as (λ _. Type 0) [ msg.View w ↦ (x.term ≡ 0) × (0 < x.start) | _ ↦ Unit {0} ])) e (H.views i).plain).0
 
   -- one that the site refuses
-  pub pops-refused : arrival (start_at S i) (term_at S i) l ≡ Refused → Holds (popped S from i)
-  pops-refused e = elim (refused-for (start_at S i) (term_at S i) l e) [
+  pub pops-refused : arrival (site_start S i) (term_at S i) l ≡ Refused → LogsHold (site_popped S from i)
+  pops-refused e = elim (refused-for (site_start S i) (term_at S i) l e) [
     | inl other ↦ pops-other other
     | inr low ↦ let a = low.0 in let b = low.1 in pops-term (λ z. absurd (omega (arith, b, z))) a
   ]
@@ -227,24 +222,24 @@ module _ (S : LogState) (H : Holds S) (from : Actor) (i : ℕ) (l : Letter) (ls 
   abbrev pub keeping : SiteState
   keeping = record (S.sites i) { waiting = (S.sites i).waiting ++ record { from = from; letter = l } ∷ [] }
 
-  waiting-from : 0 < start_at S i → arrival (start_at S i) (term_at S i) l ≡ Waits → WaitingFrom S i from l
+  waiting-from : 0 < site_start S i → arrival (site_start S i) (term_at S i) l ≡ Waits → SiteWaitingFrom S i from l
   waiting-from up e = go from refl
     where
-      high : ((l.start ≡ 0) ⊎ (l.start ≡ start_at S i)) × (term_at S i < l.term)
-      high = waits-for (start_at S i) (term_at S i) l e
+      high : ((l.start ≡ 0) ⊎ (l.start ≡ site_start S i)) × (term_at S i < l.term)
+      high = waits-for (site_start S i) (term_at S i) l e
 
       slot : IsSlot S i
       slot = running-slot S H i up
 
       -- it hasn't been in that term
-      unreached : Reached S i l → ⊥
+      unreached : MeantFor S i l → ⊥
       unreached r = elim high.0 [
         | inl z ↦ let some = r.0.0 in omega (arith, some, z)
         | inr is ↦ let low = r.2 (sym is) in let up = high.1 in omega (arith, low, up)
       ]
 
-      site : (j : ℕ) → SiteLetterOk S j i l → WaitingFrom S i (Site j) l
-      site j k = elim l.body as (λ m. (Reached S i (record l { body = m }) → ⊥) → SiteLetterOk S j i (record l { body = m }) → WaitingFrom S i (Site j) (record l { body = m })) [
+      site : (j : ℕ) → SiteLetterOk S j i l → SiteWaitingFrom S i (Site j) l
+      site j k = elim l.body as (λ m. (MeantFor S i (record l { body = m }) → ⊥) → SiteLetterOk S j i (record l { body = m }) → SiteWaitingFrom S i (Site j) (record l { body = m })) [
         | msg.Put position e floor ↦ λ u p. u p.0
         | msg.Repair from entries ↦ λ u p. u p
         | msg.Task position e ↦ λ u p. u p
@@ -253,9 +248,9 @@ module _ (S : LogState) (H : Holds S) (from : Actor) (i : ℕ) (l : Letter) (ls 
         | m ↦ λ u p. p
       ] unreached k
 
-      agent : (h : ℕ) → ForeignOk S i (Agent h) l → (h ≡ host_of_slot S.words.deployment i → view_in l.body ≡ []) → WaitingFrom S i (Agent h) l
+      agent : (h : ℕ) → ForeignOk S i (Agent h) l → (h ≡ host_of_slot S.words.deployment i → view_in l.body ≡ []) → SiteWaitingFrom S i (Agent h) l
       agent h k = elim l.body as (λ m. ForeignOk S i (Agent h) (record l { body = m }) → (h ≡ host_of_slot S.words.deployment i → view_in m ≡ [])
-          → WaitingFrom S i (Agent h) (record l { body = m })) [
+          → SiteWaitingFrom S i (Agent h) (record l { body = m })) [
             | msg.View w ↦ λ own none. let z = none own in absurd (cc)
             | m ↦ λ _ _. tt
           ] k
@@ -263,12 +258,12 @@ module _ (S : LogState) (H : Holds S) (from : Actor) (i : ℕ) (l : Letter) (ls 
       here : (a : Actor) → from ≡ a → S.words.channel a (Site i) ≡ l ∷ ls
       here a q = subst (λ z. S.words.channel z (Site i) ≡ l ∷ ls) q is
 
-      go : (a : Actor) → from ≡ a → WaitingFrom S i a l
+      go : (a : Actor) → from ≡ a → SiteWaitingFrom S i a l
       go (Site j) q = site j (subst (AllByRecursion (SiteLetterOk S j i)) (here (Site j) q) (H.letters j i slot)).0
       go (Agent h) q = agent h (subst (AllByRecursion (ForeignOk S i (Agent h))) (here (Agent h) q) (H.foreign (Agent h) i)).0
           (λ own. no-view (here (Agent (host_of_slot S.words.deployment i)) (q ∙ ap Agent own)))
         where
-          no-view : from_agent S i ≡ l ∷ ls → view_in l.body ≡ []
+          no-view : agent_to_site S i ≡ l ∷ ls → view_in l.body ≡ []
           no-view e = (elim l.body as (λ m. (elim m as (λ _. Type 0) [ msg.View w ↦ (l.term ≡ 0) × (0 < l.start) | _ ↦ Unit {0} ]) → view_in m ≡ []) [
             | msg.View w ↦ λ k. let z = k.0 in let u = high.1 in absurd (omega (arith, u, z))
             | m ↦ λ k. refl
@@ -277,7 +272,7 @@ module _ (S : LogState) (H : Holds S) (from : Actor) (i : ℕ) (l : Letter) (ls 
       go (Client n) q = tt
       go (Scanner x) q = tt
 
-  pub waits-goes : 0 < start_at S i → arrival (start_at S i) (term_at S i) l ≡ Waits → Goes (popped S from i) i (becomes keeping)
+  pub waits-goes : 0 < site_start S i → arrival (site_start S i) (term_at S i) l ≡ Waits → LogsGo (site_popped S from i) i (becomes keeping)
   waits-goes up e = record {
     logs = S.logs;
     start = refl;
@@ -285,12 +280,12 @@ module _ (S : LogState) (H : Holds S) (from : Actor) (i : ℕ) (l : Letter) (ls 
     plain = λ c. tt;
     holds = pops-into keeping
         (site-waiting S i keeping.waiting
-        (λ _. all-append (WaitingOk S i) (S.sites i).waiting (record { from = from; letter = l } ∷ []) ((H.sites i).keeps up).waiting ((high.0, waiting-from up e), tt))
+        (λ _. all-append (SiteWaitingOk S i) (S.sites i).waiting (record { from = from; letter = l } ∷ []) ((H.sites i).keeps up).waiting ((high.0, waiting-from up e), tt))
         (λ z. absurd (omega (arith, up, z))))
         (λ _. record {
-          line = λ _ _. line-other (start_at S i) (term_at S i) l (λ _ z. let h = high.1 in absurd (omega (arith, h, z)));
-          flow = λ _ _. flow-other (start_at S i) (term_at S i) l (λ _ z. let h = high.1 in absurd (omega (arith, h, z)));
-          view = λ own. views-plain (start_at S i) l (no-view own);
+          line = λ _ _. line-other (site_start S i) (term_at S i) l (λ _ z. let h = high.1 in absurd (omega (arith, h, z)));
+          flow = λ _ _. flow-other (site_start S i) (term_at S i) l (λ _ z. let h = high.1 in absurd (omega (arith, h, z)));
+          view = λ own. views-plain (site_start S i) l (no-view own);
         })
         (waits-asks S from i l ls is S.logs);
     grown = grown-same S.words.deployment i keeping S.logs;
@@ -298,41 +293,41 @@ module _ (S : LogState) (H : Holds S) (from : Actor) (i : ℕ) (l : Letter) (ls 
     longer = omega arith;
   }
     where
-      high : ((l.start ≡ 0) ⊎ (l.start ≡ start_at S i)) × (term_at S i < l.term)
-      high = waits-for (start_at S i) (term_at S i) l e
+      high : ((l.start ≡ 0) ⊎ (l.start ≡ site_start S i)) × (term_at S i < l.term)
+      high = waits-for (site_start S i) (term_at S i) l e
 
       no-view : from ≡ Agent (host_of_slot S.words.deployment i) → view_in l.body ≡ []
-      no-view own = (elim l.body as (λ m. WaitingFrom S i (Agent (host_of_slot S.words.deployment i)) (record l { body = m }) → view_in m ≡ []) [
+      no-view own = (elim l.body as (λ m. SiteWaitingFrom S i (Agent (host_of_slot S.words.deployment i)) (record l { body = m }) → view_in m ≡ []) [
         | msg.View w ↦ λ k. absurd k
         | m ↦ λ k. refl
-      ]) (subst (λ a. WaitingFrom S i a l) own (waiting-from up e))
+      ]) (subst (λ a. SiteWaitingFrom S i a l) own (waiting-from up e))
 
 -- ---- what waited for the term
 
 -- one of it is taken, or dropped
-pub leaves : (S : LogState) → Holds S → (i : ℕ) (x : Waiting) (ws : List Waiting) → S.pending i ≡ x ∷ ws → Holds (left S i ws)
-leaves S H i x ws is = subst (λ f. Holds (moved S S.words.channel f (set_at S.pending i ws))) (set-same S.sites i)
+pub leaves : (S : LogState) → LogsHold S → (i : ℕ) (x : Waiting) (ws : List Waiting) → S.pending i ≡ x ∷ ws → LogsHold (left S i ws)
+leaves S H i x ws is = subst (λ f. LogsHold (logs_moved S S.words.channel f (set_at S.pending i ws))) (set-same S.sites i)
     (inert-holds S i (S.sites i) S.words.channel ws H (site-same S i H) (channels-same S H)
-    (λ up. (subst (AllByRecursion (WaitingOk S i)) is ((H.sites i).keeps up).pending).1)
+    (λ up. (subst (AllByRecursion (SiteWaitingOk S i)) is ((H.sites i).keeps up).pending).1)
     (λ z. let e = sym is ∙ ((H.sites i).stopped z).3 in absurd (cc))
     (subst (AsksLess S) nothing (left-less S i ws S.logs x is (S.sites i) refl (λ c t. at-most-same (asks_of_term c t (S.sites i))))))
   where
-    nothing : after (left S i ws) i (S.sites i) no_sends S.logs ≡ moved S S.words.channel (set_at S.sites i (S.sites i)) (set_at S.pending i ws)
-    nothing = ap (λ ch. moved S ch (set_at S.sites i (S.sites i)) (set_at S.pending i ws)) (sent-nothing S.words.channel (Site i))
+    nothing : after_site (left S i ws) i (S.sites i) no_sends S.logs ≡ logs_moved S S.words.channel (set_at S.sites i (S.sites i)) (set_at S.pending i ws)
+    nothing = ap (λ ch. logs_moved S ch (set_at S.sites i (S.sites i)) (set_at S.pending i ws)) (sent-nothing S.words.channel (Site i))
 
 -- All that waited for a term is to be taken.
-pub takes-up : (S : LogState) → Holds S → (i : ℕ) → S.pending i ≡ [] → (term : ℕ)
-    → Holds (record S {
+pub takes-up : (S : LogState) → LogsHold S → (i : ℕ) → S.pending i ≡ [] → (term : ℕ)
+    → LogsHold (record S {
       sites = set_at S.sites i (record (S.sites i) { waiting = above_term term (S.sites i).waiting });
       pending = set_at S.pending i (of_term term (S.sites i).waiting);
     })
 takes-up S H i none term = inert-holds S i s S.words.channel now H
-    (site-waiting S i (above_term term old) (λ up. all-filter (WaitingOk S i) (λ w. nat_lt term w.letter.term) old ((H.sites i).keeps up).waiting)
+    (site-waiting S i (above_term term old) (λ up. all-filter (SiteWaitingOk S i) (λ w. nat_lt term w.letter.term) old ((H.sites i).keeps up).waiting)
     (λ z. ap (above_term term) ((H.sites i).stopped z).0))
     (channels-same S H)
-    (λ up. all-filter (WaitingOk S i) (λ w. w.letter.term == term) old ((H.sites i).keeps up).waiting)
+    (λ up. all-filter (SiteWaitingOk S i) (λ w. w.letter.term == term) old ((H.sites i).keeps up).waiting)
     (λ z. ap (of_term term) ((H.sites i).stopped z).0)
-    (subst (λ ch. AsksLess S (moved S ch (set_at S.sites i s) (set_at S.pending i now))) (sent-nothing S.words.channel (Site i))
+    (subst (λ ch. AsksLess S (logs_moved S ch (set_at S.sites i s) (set_at S.pending i now))) (sent-nothing S.words.channel (Site i))
     (parted-asks S i now S.logs s term refl refl (λ c t. at-most-same (asks_of_term c t (S.sites i)))))
   where
     old : List Waiting
@@ -345,9 +340,9 @@ takes-up S H i none term = inert-holds S i s S.words.channel now H
     s = record (S.sites i) { waiting = above_term term old }
 
 -- the same as a turn in which nothing is sent
-pub takes-up-after : (S : LogState) → Holds S → (i : ℕ) → S.pending i ≡ [] → (term : ℕ)
-    → Holds (after (left S i (of_term term (S.sites i).waiting)) i (record (S.sites i) { waiting = above_term term (S.sites i).waiting }) no_sends S.logs)
+pub takes-up-after : (S : LogState) → LogsHold S → (i : ℕ) → S.pending i ≡ [] → (term : ℕ)
+    → LogsHold (after_site (left S i (of_term term (S.sites i).waiting)) i (record (S.sites i) { waiting = above_term term (S.sites i).waiting }) no_sends S.logs)
 takes-up-after S H i none term =
-    subst (λ ch. Holds (moved S ch (set_at S.sites i (record (S.sites i) { waiting = above_term term (S.sites i).waiting }))
+    subst (λ ch. LogsHold (logs_moved S ch (set_at S.sites i (record (S.sites i) { waiting = above_term term (S.sites i).waiting }))
     (set_at S.pending i (of_term term (S.sites i).waiting))))
     (sym (sent-nothing S.words.channel (Site i))) (takes-up S H i none term)

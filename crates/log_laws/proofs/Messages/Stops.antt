@@ -19,13 +19,13 @@ use Rattle.cluster_model.specs.World.{sent, rest, set_at}
 use Rattle.cluster_model.specs.Laws.{starts_in}
 use Rattle.cluster_steps.specs.Lists.{In}
 use Rattle.cluster_steps.proofs.Lists.{all-if, all-mono, not-both, same-some, set-both, set-here, set-there, set-twice}
-use Rattle.log_laws.specs.Histories.{LogState, Logs, Entered, Streaming, Holds, IsCounted, SiteLetterOk, ForeignOk, IsSlot, SiteOk, KeepsOk, ViewsOk, JoinerOk, FirstViews, Starting, part, start_at, log_at, term_at, between, from_agent, views, asks_in, asks_waiting, asks_of_term}
-use Rattle.log_laws.proofs.Kept.Moves.{Grown, Enters, after, popped, Later, SiteLater, Stays, SameLeaderships, JoinsOn}
+use Rattle.log_laws.specs.Histories.{LogState, Logs, Entered, Streaming, LogsHold, IsCounted, SiteLetterOk, ForeignOk, IsSlot, SiteOk, KeepsOk, ViewsOk, JoinerOk, FirstViews, Starting, part, site_start, log_at, term_at, between, agent_to_site, views, asks_in, asks_waiting, asks_of_term}
+use Rattle.log_laws.proofs.Kept.Moves.{Grown, Enters, after_site, site_popped, LogsLater, SiteLater, Stays, SameLeaderships, JoinsOn}
 use Rattle.log_laws.proofs.Kept.Grown.{grown-same, grown-reach, enters-same}
 use Rattle.log_laws.proofs.Kept.Laters.{stays, same-leaderships, ask-later-on, letter-later-with, end-later-if, loads-later, entered-later, streamed-later, leaderships-later}
 use Rattle.log_laws.proofs.Plain.Lines.{if-none}
 use Rattle.log_laws.proofs.Kept.Asked.{AtMost, AsksLess, asks-at, at-most-both, at-most-same}
-use Rattle.log_laws.proofs.Kept.Keeps.{Still, still-same, Uncounted, counted-from, site-keeps, keeps-later}
+use Rattle.log_laws.proofs.Kept.Keeps.{SiteStays, still-same, Uncounted, counted-from, site-keeps, keeps-later}
 use Rattle.log_laws.proofs.Kept.KeepsViews.{foreign-later, first_views-later, views-keeps}
 use Rattle.log_laws.proofs.Kept.Plumbing.{words-later, goes-same, here, popped-here, popped-after, first-after}
 use Rattle.log_laws.proofs.Messages.Pops.{pops-kind, pops-stopped}
@@ -45,22 +45,22 @@ stays-same S T c e = record {
 -- ---- a site of another start, or none
 
 -- slot i has this site, and its site ran with these starts
-abbrev pub renewed : LogState → ℕ → SiteState → (ℕ → List ℕ) → LogState
-renewed S i s ran = record S { sites = set_at S.sites i s; logs = record S.logs { ran = ran } }
+abbrev pub site_renewed : LogState → ℕ → SiteState → (ℕ → List ℕ) → LogState
+site_renewed S i s ran = record S { sites = set_at S.sites i s; logs = record S.logs { ran = ran } }
 
 -- Such a site: it keeps nothing, and doesn't go on with what the slot ran with. It is a joiner, or it isn't running.
 pub record Renews (S : LogState) (i : ℕ) (s : SiteState) (ran : ℕ → List ℕ) : Type 0 where
-  pub later : Later S (renewed S i s ran)
-  pub ends : Stays S (renewed S i s ran) i → 0 < s.start → ⊥
+  pub later : LogsLater S (site_renewed S i s ran)
+  pub ends : Stays S (site_renewed S i s ran) i → 0 < s.start → ⊥
   pub joins : s.joining ≡ None → s.start ≡ 0
   pub waiting : s.waiting ≡ []
   pub asks : s.asks ≡ []
   pub joiners : s.joiners ≡ []
   pub others : (c : ℕ) → (c ≡ i → ⊥) → ran c ≡ S.logs.ran c
 
-module _ (S : LogState) (H : Holds S) (i : ℕ) (s : SiteState) (ran : ℕ → List ℕ) (new : Renews S i s ran) where
+module _ (S : LogState) (H : LogsHold S) (i : ℕ) (s : SiteState) (ran : ℕ → List ℕ) (new : Renews S i s ran) where
   abbrev T : LogState
-  T = renewed S i s ran
+  T = site_renewed S i s ran
 
   mine : T.sites i ≡ s
   mine = set-here S.sites i s
@@ -69,20 +69,20 @@ module _ (S : LogState) (H : Holds S) (i : ℕ) (s : SiteState) (ran : ℕ → L
   other c d = set-there S.sites i s c d
 
   -- it doesn't run on
-  ended : Stays S T i → 0 < start_at T i → ⊥
+  ended : Stays S T i → 0 < site_start T i → ⊥
   ended k up = new.ends k (subst (λ z. 0 < z.start) mine up)
 
   -- starts that run on join on
-  joins-on : (c : ℕ) → Stays S T c → 0 < start_at T c → JoinsOn S T c
+  joins-on : (c : ℕ) → Stays S T c → 0 < site_start T c → JoinsOn S T c
   joins-on c k up = elim (cases_eq c i) [
-    | inl e ↦ absurd (ended (subst (Stays S T) e k) (subst (λ z. 0 < start_at T z) e up))
+    | inl e ↦ absurd (ended (subst (Stays S T) e k) (subst (λ z. 0 < site_start T z) e up))
     | inr d ↦ λ w j. (j.0, ap (λ z. z.joining) (other c d) ∙ j.1, ap (λ z. z.view) (other c d) ∙ j.2)
   ]
 
   -- a start that ran and runs is of another slot
-  ran-on : (c a : ℕ) → 0 < a → In a (S.logs.ran c) → start_at T c ≡ a → T.sites c ≡ S.sites c
+  ran-on : (c a : ℕ) → 0 < a → In a (S.logs.ran c) → site_start T c ≡ a → T.sites c ≡ S.sites c
   ran-on c a some was is = elim (cases_eq c i) [
-    | inl e ↦ absurd (ended (subst (Stays S T) e (stays S T H new.later c a some was is)) (subst (λ z. 0 < start_at T z) e (rw is some)))
+    | inl e ↦ absurd (ended (subst (Stays S T) e (stays S T H new.later c a some was is)) (subst (λ z. 0 < site_start T z) e (rw is some)))
     | inr d ↦ other c d
   ]
 
@@ -112,24 +112,24 @@ module _ (S : LogState) (H : Holds S) (i : ℕ) (s : SiteState) (ran : ℕ → L
   other-ok : (c : ℕ) → (c ≡ i → ⊥) → SiteOk T c
   other-ok c d = site-keeps S T H new.later c still (new.others c d) (record { entered = λ t e k _. k; streamed = λ t x k _. k }) (record { leadership = refl; reach = refl })
       (λ up l. record { lines = refl; flows = refl; ends = λ e. e; asks = asks-less c l (term_at S c); uncounted = uncounted l })
-      (λ stream_start w. counts c (start_at S c) stream_start w) keeps
+      (λ stream_start w. counts c (site_start S c) stream_start w) keeps
       (λ z k. (ap (λ x. x.waiting) (other c d) ∙ k.0, ap (λ x. x.asks) (other c d) ∙ k.1, ap (λ x. x.joiners) (other c d) ∙ k.2, k.3))
       (H.sites c)
     where
-      still : Still (S.sites c) (T.sites c)
+      still : SiteStays (S.sites c) (T.sites c)
       still = still-same (S.sites c) (T.sites c) (other c d)
 
-      uncounted : (l : ℕ) → Uncounted S l c (start_at S c) → Uncounted T l c (start_at S c)
+      uncounted : (l : ℕ) → Uncounted S l c (site_start S c) → Uncounted T l c (site_start S c)
       uncounted l k j m = elim (cases_eq l i) [
         | inl e ↦ absurd (subst (In j) (ap (λ z. (T.sites z).joiners) e ∙ ap (λ x. x.joiners) mine ∙ new.joiners) m)
         | inr n ↦ k j (subst (λ x. In j x.joiners) (other l n) m)
       ]
 
-      keeps : 0 < start_at S c → KeepsOk S c → KeepsOk T c
+      keeps : 0 < site_start S c → KeepsOk S c → KeepsOk T c
       keeps up k = keeps-later S T H new.later c still (other c d) refl joins-on k
 
   -- What must hold of that slot, so that what holds, holds.
-  pub renewed-holds : SiteOk T i → ViewsOk T i → Holds T
+  pub renewed-holds : SiteOk T i → ViewsOk T i → LogsHold T
   renewed-holds site views = record {
     words = H.words;
     sites = λ c. elim (cases_eq c i) [
@@ -160,19 +160,19 @@ module _ (S : LogState) (H : Holds S) (i : ℕ) (s : SiteState) (ran : ℕ → L
       leaderships = same-leaderships S.logs T.logs refl
 
       -- what is everywhere is in the log of a slot that runs on
-      within : (c t a : ℕ) → 0 < a → In a (S.logs.ran c) → start_at T c ≡ a → (start_at S c ≡ a → S.logs.reach (part S c) t ≤ length (log_at S c))
+      within : (c t a : ℕ) → 0 < a → In a (S.logs.ran c) → site_start T c ≡ a → (site_start S c ≡ a → S.logs.reach (part S c) t ≤ length (log_at S c))
           → S.logs.reach (part S c) t ≤ length (log_at T c)
       within c t a some was is k = let e = ran-on c a some was is in rw (ap (λ x. x.log) e) (k (ap (λ x. x.start) (sym e) ∙ is))
 
 -- ---- and what it sends
 
 -- messages that aren't looked at
-pub renewed-sends : (S : LogState) (i : ℕ) (s : SiteState) (ran : ℕ → List ℕ) (out : Sends) → Holds (renewed S i s ran) → ((b : Actor) → AllByRecursion (Silent b) (out b))
-    → Holds (after S i s out (record S.logs { ran = ran }))
+pub renewed-sends : (S : LogState) (i : ℕ) (s : SiteState) (ran : ℕ → List ℕ) (out : Sends) → LogsHold (site_renewed S i s ran) → ((b : Actor) → AllByRecursion (Silent b) (out b))
+    → LogsHold (after_site S i s out (record S.logs { ran = ran }))
 renewed-sends S i s ran out H silent =
-    subst (λ f. Holds (record S { words = record S.words { channel = sent S.words.channel (Site i) out }; sites = f; logs = record S.logs { ran = ran } }))
+    subst (λ f. LogsHold (record S { words = record S.words { channel = sent S.words.channel (Site i) out }; sites = f; logs = record S.logs { ran = ran } }))
     (set-twice S.sites i s s)
-    (inert-after (renewed S i s ran) i s out H (subst (λ z. Unwatched z s) (sym (set-here S.sites i s)) (unwatched s s (λ k. k))) silent)
+    (inert-after (site_renewed S i s ran) i s out H (subst (λ z. Unwatched z s) (sym (set-here S.sites i s)) (unwatched s s (λ k. k))) silent)
 
 -- ---- a site that stops
 
@@ -180,14 +180,14 @@ renewed-sends S i s ran out H silent =
 abbrev pub stopped_so : SiteState → ℕ → List Shown → List (ℕ × ℕ) → SiteState
 stopped_so s stop contents plans = record (stopped_site s) { stop = stop; contents = contents; plans = plans }
 
-module _ (S : LogState) (H : Holds S) (i : ℕ) (none : S.pending i ≡ []) (stop : ℕ) (contents : List Shown) (plans : List (ℕ × ℕ)) where
+module _ (S : LogState) (H : LogsHold S) (i : ℕ) (none : S.pending i ≡ []) (stop : ℕ) (contents : List Shown) (plans : List (ℕ × ℕ)) where
   abbrev Q : LogState
-  Q = renewed S i (stopped_so (S.sites i) stop contents plans) S.logs.ran
+  Q = site_renewed S i (stopped_so (S.sites i) stop contents plans) S.logs.ran
 
   gone : Q.sites i ≡ stopped_so (S.sites i) stop contents plans
   gone = set-here S.sites i (stopped_so (S.sites i) stop contents plans)
 
-  stop-later : Later S Q
+  stop-later : LogsLater S Q
   stop-later = record {
     words = words-later S S.words.channel;
     ran = λ c a k. k;
@@ -216,7 +216,7 @@ module _ (S : LogState) (H : Holds S) (i : ℕ) (none : S.pending i ≡ []) (sto
     blank = λ _. ap (λ x. x.view) gone;
   }
     where
-      no-start : 0 < start_at Q i → ⊥
+      no-start : 0 < site_start Q i → ⊥
       no-start up = let z = ap (λ x. x.start) gone in omega (arith, z, up)
 
   stop-views : ViewsOk Q i
@@ -224,12 +224,12 @@ module _ (S : LogState) (H : Holds S) (i : ℕ) (none : S.pending i ≡ []) (sto
     plain = k.plain;
     began = k.began;
     running = λ up. let z = ap (λ x. x.start) gone in absurd (omega (arith, z, up));
-    starting = λ a m. let o = k.starting a m in (o.0, o.1, first_views-later S Q stop-later.words.deployment stop-later.words.decided stop-later.words.took_word i a (views a (from_agent S i)) o.2);
+    starting = λ a m. let o = k.starting a m in (o.0, o.1, first_views-later S Q stop-later.words.deployment stop-later.words.decided stop-later.words.took_word i a (views a (agent_to_site S i)) o.2);
     wordless = k.wordless;
     below = λ up. ((k.below up).0, λ e. rw (ap site_term gone) (omega arith));
   }
 
-  pub stopped-holds : Holds Q
+  pub stopped-holds : LogsHold Q
   stopped-holds = renewed-holds S H i (stopped_so (S.sites i) stop contents plans) S.logs.ran (record {
     later = stop-later;
     ends = λ _ up. absurd (omega (arith, up));
@@ -241,47 +241,47 @@ module _ (S : LogState) (H : Holds S) (i : ℕ) (none : S.pending i ≡ []) (sto
   }) stop-site stop-views
 
   -- It sends nothing that is looked at.
-  pub stops-holds : (out : Sends) → ((b : Actor) → AllByRecursion (Silent b) (out b)) → Holds (after S i (stopped_so (S.sites i) stop contents plans) out S.logs)
+  pub stops-holds : (out : Sends) → ((b : Actor) → AllByRecursion (Silent b) (out b)) → LogsHold (after_site S i (stopped_so (S.sites i) stop contents plans) out S.logs)
   stops-holds out silent = renewed-sends S i (stopped_so (S.sites i) stop contents plans) S.logs.ran out stopped-holds silent
 
 -- It stops as it takes a message, whatever that is.
-pub stops-message : (S : LogState) → Holds S → (from : Actor) (i : ℕ) (l : Letter) (ls : List Letter) → S.words.channel from (Site i) ≡ l ∷ ls → S.pending i ≡ []
+pub stops-message : (S : LogState) → LogsHold S → (from : Actor) (i : ℕ) (l : Letter) (ls : List Letter) → S.words.channel from (Site i) ≡ l ∷ ls → S.pending i ≡ []
     → (stop : ℕ) (contents : List Shown) (plans : List (ℕ × ℕ)) (out : Sends) → ((b : Actor) → AllByRecursion (Silent b) (out b))
-    → Holds (after (popped S from i) i (stopped_so (S.sites i) stop contents plans) out S.logs)
+    → LogsHold (after_site (site_popped S from i) i (stopped_so (S.sites i) stop contents plans) out S.logs)
 stops-message S H from i l ls is none stop contents plans out silent =
     let s = stopped_so (S.sites i) stop contents plans in
     let first = first-after S from i s out S.logs l ls is in
-    subst Holds (sym (popped-after S from i s out S.logs l ls is))
-    (pops-stopped (after S i s out S.logs) (stops-holds S H i none stop contents plans out silent) from i l first.0 first.1 (ap (λ x. x.start) (here S i s out S.logs)))
+    subst LogsHold (sym (popped-after S from i s out S.logs l ls is))
+    (pops-stopped (after_site S i s out S.logs) (stops-holds S H i none stop contents plans out silent) from i l first.0 first.1 (ap (λ x. x.start) (here S i s out S.logs)))
 
 -- ---- a start that begins
 
-module _ (S : LogState) (H : Holds S) (i : ℕ) (l : Letter) (ls : List Letter) (a : ℕ) (is : from_agent S i ≡ record l { body = msg.Start a } ∷ ls)
-    (slot : IsSlot S i) (above : start_at S i < a) (none : S.pending i ≡ []) where
+module _ (S : LogState) (H : LogsHold S) (i : ℕ) (l : Letter) (ls : List Letter) (a : ℕ) (is : agent_to_site S i ≡ record l { body = msg.Start a } ∷ ls)
+    (slot : IsSlot S i) (above : site_start S i < a) (none : S.pending i ≡ []) where
   -- once the Start is taken
   abbrev P : LogState
-  P = popped S (Agent (host_of_slot S.words.deployment i)) i
+  P = site_popped S (Agent (host_of_slot S.words.deployment i)) i
 
   abbrev ran : ℕ → List ℕ
   ran = set_at S.logs.ran i (a ∷ S.logs.ran i)
 
   abbrev N : LogState
-  N = renewed P i (new_joiner (S.sites i) a) ran
+  N = site_renewed P i (new_joiner (S.sites i) a) ran
 
-  taken : Holds P
+  taken : LogsHold P
   taken = pops-kind S H (Agent (host_of_slot S.words.deployment i)) i (record l { body = msg.Start a }) ls is tt
 
-  under-way : In a (starts_in (from_agent S i))
+  under-way : In a (starts_in (agent_to_site S i))
   under-way = subst (λ z. In a (starts_in z)) (sym is) (inl refl)
 
-  starting : (In a (S.logs.ran i) → ⊥) × Starting a (from_agent S i) × FirstViews S i a (views a (from_agent S i))
+  starting : (In a (S.logs.ran i) → ⊥) × Starting a (agent_to_site S i) × FirstViews S i a (views a (agent_to_site S i))
   starting = (H.views i).starting a under-way
 
-  left-of : from_agent P i ≡ ls
+  left-of : agent_to_site P i ≡ ls
   left-of = popped-here S (Agent (host_of_slot S.words.deployment i)) i ∙ ap rest is
 
   -- the start isn't under way any more
-  no-more : In a (starts_in (from_agent P i)) → ⊥
+  no-more : In a (starts_in (agent_to_site P i)) → ⊥
   no-more k = elim (subst (Starting a) is starting.1) [
     | inl e ↦ e.1 (subst (λ z. In a (starts_in z)) left-of k)
     | inr e ↦ e.1 (inl refl)
@@ -293,7 +293,7 @@ module _ (S : LogState) (H : Holds S) (i : ℕ) (l : Letter) (ls : List Letter) 
   fresh : N.sites i ≡ new_joiner (S.sites i) a
   fresh = set-here S.sites i (new_joiner (S.sites i) a)
 
-  start-later : Later P N
+  start-later : LogsLater P N
   start-later = record {
     words = words-later P P.words.channel;
     ran = λ c b k. set-both (λ c x. In b (S.logs.ran c) → In b x) S.logs.ran i (a ∷ S.logs.ran i) (λ k. inr k) (λ c d k. k) c k;
@@ -319,7 +319,7 @@ module _ (S : LogState) (H : Holds S) (i : ℕ) (l : Letter) (ls : List Letter) 
   unstreamed : (t : ℕ) (x : Streaming) → S.logs.streamed i t ≡ Some x → x.start ≡ a → ⊥
   unstreamed t x k start = starting.0 (subst (λ z. In z (S.logs.ran i)) start (H.streamed i t x k).been.ran)
 
-  runs : 0 < start_at N i
+  runs : 0 < site_start N i
   runs = rw (ap (λ x. x.start) fresh) (omega (arith, above))
 
   start-joiner : JoinerOk N i new_joining
@@ -370,24 +370,24 @@ module _ (S : LogState) (H : Holds S) (i : ℕ) (l : Letter) (ls : List Letter) 
     began = λ s m. elim m as (λ _. In s (S.words.history.began (host_of_slot S.words.deployment i))) [
       | inl u ↦ k.began s (inl u)
       | inr (inl u) ↦ elim (subst (In s) ran-here u) [
-        | inl e ↦ (H.views i).began s (inl (subst (λ z. In z (starts_in (from_agent S i))) e under-way))
+        | inl e ↦ (H.views i).began s (inl (subst (λ z. In z (starts_in (agent_to_site S i))) e under-way))
         | inr v ↦ k.began s (inr (inl v))
       ]
       | inr (inr u) ↦ k.began s (inr (inr u))
     ];
-    running = λ _. rw (ap (λ x. x.view) fresh) (first_run (start_at N i) (ap (λ x. x.start) fresh));
+    running = λ _. rw (ap (λ x. x.view) fresh) (first_run (site_start N i) (ap (λ x. x.start) fresh));
     starting = λ s m. let o = k.starting s m in (
       (λ r. elim (subst (In s) ran-here r) [
-        | inl e ↦ no-more (subst (λ z. In z (starts_in (from_agent P i))) (sym e) m)
+        | inl e ↦ no-more (subst (λ z. In z (starts_in (agent_to_site P i))) (sym e) m)
         | inr v ↦ o.0 v
       ]),
       o.1,
-      first_views-later P N start-later.words.deployment start-later.words.decided start-later.words.took_word i s (views s (from_agent P i)) o.2,
+      first_views-later P N start-later.words.deployment start-later.words.decided start-later.words.took_word i s (views s (agent_to_site P i)) o.2,
     );
     wordless = λ up untaken undecided. let o = k.wordless up untaken undecided in (
       o.0,
       (λ r. elim (subst (In (S.words.agents (host_of_slot S.words.deployment i)).start) ran-here r) [
-        | inl e ↦ ((H.views i).wordless up untaken undecided).0 (subst (λ z. In z (starts_in (from_agent S i))) e under-way)
+        | inl e ↦ ((H.views i).wordless up untaken undecided).0 (subst (λ z. In z (starts_in (agent_to_site S i))) e under-way)
         | inr v ↦ o.1 v
       ]),
       o.2,
@@ -395,12 +395,12 @@ module _ (S : LogState) (H : Holds S) (i : ℕ) (l : Letter) (ls : List Letter) 
     below = λ up. ((k.below up).0, λ _. rw (ap site_term fresh) (omega arith));
   }
     where
-      first_run : (s : ℕ) → s ≡ a → FirstViews N i s (views s (from_agent P i))
-      first_run s e = rw e (first_views-later P N start-later.words.deployment start-later.words.decided start-later.words.took_word i a (views a (from_agent P i))
-          (first_views-later S P refl (λ w d. d) (λ a w e. e) i a (views a (from_agent P i))
+      first_run : (s : ℕ) → s ≡ a → FirstViews N i s (views s (agent_to_site P i))
+      first_run s e = rw e (first_views-later P N start-later.words.deployment start-later.words.decided start-later.words.took_word i a (views a (agent_to_site P i))
+          (first_views-later S P refl (λ w d. d) (λ a w e. e) i a (views a (agent_to_site P i))
           (rw left-of (subst (λ z. FirstViews S i a z) (ap (views a) is ∙ ap (λ z. z ++ views a ls) (if-none (l.start == a))) starting.2))))
 
-  pub started-holds : Holds N
+  pub started-holds : LogsHold N
   started-holds = renewed-holds P taken i (new_joiner (S.sites i) a) ran (record {
     later = start-later;
     ends = λ k _. let z = ap (λ x. x.start) (sym fresh) ∙ k.start in absurd (omega (arith, z, above));
@@ -412,7 +412,7 @@ module _ (S : LogState) (H : Holds S) (i : ℕ) (l : Letter) (ls : List Letter) 
   }) start-site start-views
 
   -- It sends Start to its scanner.
-  pub starts-holds : Holds (after P i (new_joiner (S.sites i) a) (only (Scanner i) (open_letter (msg.Start a))) (record S.logs { ran = ran }))
+  pub starts-holds : LogsHold (after_site P i (new_joiner (S.sites i) a) (only (Scanner i) (open_letter (msg.Start a))) (record S.logs { ran = ran }))
   starts-holds = renewed-sends P i (new_joiner (S.sites i) a) ran (only (Scanner i) (open_letter (msg.Start a))) started-holds silent
     where
       silent : (b : Actor) → AllByRecursion (Silent b) (only (Scanner i) (open_letter (msg.Start a)) b)
@@ -424,10 +424,10 @@ module _ (S : LogState) (H : Holds S) (i : ℕ) (l : Letter) (ls : List Letter) 
 
 -- ---- what a site does with Start and Stop, and when it stops of itself
 
--- After a turn, with what it adds to the history. The site goes on with its start, or it has no word.
-abbrev pub After : LogState → ℕ → Turn SiteState → Type 0
-After S i t = (G : Logs) × Holds (after S i t.state t.sends G) × Grown S.words.deployment i t.state S.logs G × Enters i (length (log_at S i)) S.logs G
-    × ((t.state.start ≡ start_at S i) ⊎ (t.state.view ≡ None))
+-- AfterTurn a turn, with what it adds to the history. The site goes on with its start, or it has no word.
+abbrev pub AfterTurn : LogState → ℕ → Turn SiteState → Type 0
+AfterTurn S i t = (G : Logs) × LogsHold (after_site S i t.state t.sends G) × Grown S.words.deployment i t.state S.logs G × Enters i (length (log_at S i)) S.logs G
+    × ((t.state.start ≡ site_start S i) ⊎ (t.state.view ≡ None))
 
 -- Stop to others of its host
 pub stops_others-silent : (D : Deployment) (h start : ℕ) (b : Actor) → AllByRecursion (Silent b) (stops_others D h start b)
@@ -441,8 +441,8 @@ pub stops_so-silent : (D : Deployment) (i : ℕ) (s : SiteState) (start : ℕ) (
 stops_so-silent D i s start contents b = all-if (Silent b) (same (Site i) b) [] (stops_others D (host_of_slot D i) start b) tt (stops_others-silent D (host_of_slot D i) start b)
 
 -- Its disk fails in a Sync, or it finds no memory.
-pub stops_so-after : (S : LogState) → Holds S → (i : ℕ) → S.pending i ≡ [] → (D : Deployment) (start : ℕ) (contents : List Shown)
-    → After S i (stops_so D i (S.sites i) start contents)
+pub stops_so-after : (S : LogState) → LogsHold S → (i : ℕ) → S.pending i ≡ [] → (D : Deployment) (start : ℕ) (contents : List Shown)
+    → AfterTurn S i (stops_so D i (S.sites i) start contents)
 stops_so-after S H i none D start contents = (
   S.logs,
   stops-holds S H i none (S.sites i).stop contents (S.sites i).plans (stops_so D i (S.sites i) start contents).sends (stops_so-silent D i (S.sites i) start contents),
@@ -452,8 +452,8 @@ stops_so-after S H i none D start contents = (
 )
 
 -- or it does so as it takes a message
-pub stops_so-message : (S : LogState) → Holds S → (from : Actor) (i : ℕ) (l : Letter) (ls : List Letter) → S.words.channel from (Site i) ≡ l ∷ ls → S.pending i ≡ []
-    → (D : Deployment) (start : ℕ) (contents : List Shown) → After (popped S from i) i (stops_so D i (S.sites i) start contents)
+pub stops_so-message : (S : LogState) → LogsHold S → (from : Actor) (i : ℕ) (l : Letter) (ls : List Letter) → S.words.channel from (Site i) ≡ l ∷ ls → S.pending i ≡ []
+    → (D : Deployment) (start : ℕ) (contents : List Shown) → AfterTurn (site_popped S from i) i (stops_so D i (S.sites i) start contents)
 stops_so-message S H from i l ls is none D start contents = (
   S.logs,
   stops-message S H from i l ls is none (S.sites i).stop contents (S.sites i).plans (stops_so D i (S.sites i) start contents).sends
@@ -464,14 +464,14 @@ stops_so-message S H from i l ls is none D start contents = (
 )
 
 -- Stop comes to it.
-pub on_stop-after : (S : LogState) → Holds S → (from : Actor) (i : ℕ) (l : Letter) (ls : List Letter) (a : ℕ) → S.words.channel from (Site i) ≡ record l { body = msg.Stop a } ∷ ls
-    → S.pending i ≡ [] → After (popped S from i) i (becomes (on_stop (S.sites i) a))
+pub on_stop-after : (S : LogState) → LogsHold S → (from : Actor) (i : ℕ) (l : Letter) (ls : List Letter) (a : ℕ) → S.words.channel from (Site i) ≡ record l { body = msg.Stop a } ∷ ls
+    → S.pending i ≡ [] → AfterTurn (site_popped S from i) i (becomes (on_stop (S.sites i) a))
 on_stop-after S H from i l ls a is none = choice (nat_le (S.sites i).start a)
   where
     noted : SiteState
     noted = record (S.sites i) { stop = max (S.sites i).stop a }
 
-    choice : (b : Bool) → After (popped S from i) i (becomes (if b then stopped_site noted else noted))
+    choice : (b : Bool) → AfterTurn (site_popped S from i) i (becomes (if b then stopped_site noted else noted))
     choice true = (
       S.logs,
       stops-message S H from i (record l { body = msg.Stop a }) ls is none (max (S.sites i).stop a) (S.sites i).contents (S.sites i).plans no_sends (λ b. tt),
@@ -481,22 +481,22 @@ on_stop-after S H from i l ls a is none = choice (nat_le (S.sites i).start a)
     )
     choice false = (
       S.logs,
-      inert-after (popped S from i) i noted no_sends (pops-kind S H from i (record l { body = msg.Stop a }) ls is tt) (unwatched (S.sites i) noted (λ k. k)) (λ b. tt),
+      inert-after (site_popped S from i) i noted no_sends (pops-kind S H from i (record l { body = msg.Stop a }) ls is tt) (unwatched (S.sites i) noted (λ k. k)) (λ b. tt),
       grown-same S.words.deployment i noted S.logs,
       enters-same i (length (log_at S i)) S.logs S.logs refl,
       inl refl,
     )
 
 -- Start comes to it, from its own agent.
-pub on_start-after : (S : LogState) → Holds S → (i : ℕ) (l : Letter) (ls : List Letter) (a : ℕ) → from_agent S i ≡ record l { body = msg.Start a } ∷ ls
-    → IsSlot S i → S.pending i ≡ [] → After (popped S (Agent (host_of_slot S.words.deployment i)) i) i (on_start i (S.sites i) a)
+pub on_start-after : (S : LogState) → LogsHold S → (i : ℕ) (l : Letter) (ls : List Letter) (a : ℕ) → agent_to_site S i ≡ record l { body = msg.Start a } ∷ ls
+    → IsSlot S i → S.pending i ≡ [] → AfterTurn (site_popped S (Agent (host_of_slot S.words.deployment i)) i) i (on_start i (S.sites i) a)
 on_start-after S H i l ls a is slot none = choice (nat_lt (S.sites i).start a && nat_lt (S.sites i).stop a) refl
   where
     P : LogState
-    P = popped S (Agent (host_of_slot S.words.deployment i)) i
+    P = site_popped S (Agent (host_of_slot S.words.deployment i)) i
 
     choice : (b : Bool) → (nat_lt (S.sites i).start a && nat_lt (S.sites i).stop a) ≡ b
-        → After P i (if b then sending (new_joiner (S.sites i) a) (only (Scanner i) (open_letter (msg.Start a))) else becomes (S.sites i))
+        → AfterTurn P i (if b then sending (new_joiner (S.sites i) a) (only (Scanner i) (open_letter (msg.Start a))) else becomes (S.sites i))
     choice true e = let above = (and_parts (nat_lt (S.sites i).start a) (nat_lt (S.sites i).stop a) e).0 in (
       record S.logs { ran = set_at S.logs.ran i (a ∷ S.logs.ran i) },
       starts-holds S H i l ls a is slot (grind (arith, nat_tests, above)) none,

@@ -10,12 +10,12 @@ use Rattle.cluster_model.specs.SiteState.{SiteState}
 use Rattle.cluster_model.specs.World.{rest, took}
 use Rattle.cluster_steps.proofs.Channels.{took-all, sent-nothing}
 use Rattle.cluster_steps.proofs.Lists.{all-behind, and-false, eqb-same}
-use Rattle.log_laws.specs.Histories.{BeginsAt, ForeignOk, Holds, IsSlot, LogState, SiteLetterOk, Streaming, between, end_of, ends, flow, flow_of, line, line_in, start_at}
+use Rattle.log_laws.specs.Histories.{BeginsAt, ForeignOk, LogsHold, IsSlot, LogState, SiteLetterOk, Streaming, between, end_of, stream_ends_in, flow, flow_of, line, line_in, site_start}
 use Rattle.log_laws.proofs.Kept.Asked.{AsksLess}
 use Rattle.log_laws.proofs.Plain.Lines.{line-plain, both-empty}
-use Rattle.log_laws.proofs.Kept.Moves.{after, popped, Unentered}
-use Rattle.log_laws.proofs.Kept.OneSite.{LessTo, Takes, counts-on, same-counts, same-uncounts, takes-letters, uncounts-on, with-site}
-use Rattle.log_laws.proofs.Kept.Steady.{GoesOn}
+use Rattle.log_laws.proofs.Kept.Moves.{after_site, site_popped, Unentered}
+use Rattle.log_laws.proofs.Kept.OneSite.{LessTo, SiteTakes, counts-on, same-counts, same-uncounts, takes-letters, uncounts-on, with-site}
+use Rattle.log_laws.proofs.Kept.Steady.{SiteGoesOn}
 
 module _ (S : LogState) (l i : ℕ) where
   -- the channels without that message
@@ -56,7 +56,7 @@ module _ (S : LogState) (l i : ℕ) where
 
 -- ---- the first message of a channel
 
-module _ (S : LogState) (H : Holds S) (l i : ℕ) (x : Letter) (ls : List Letter) (e : between S l i ≡ x ∷ ls) where
+module _ (S : LogState) (H : LogsHold S) (l i : ℕ) (x : Letter) (ls : List Letter) (e : between S l i ≡ x ∷ ls) where
   -- without it less is under way
   pub first-less : line_in x.body ≡ [] → LessTo S i (without S l i)
   first-less plain = record {
@@ -64,8 +64,8 @@ module _ (S : LogState) (H : Holds S) (l i : ℕ) (x : Letter) (ls : List Letter
         (rw e (ap (λ z. z ++ line a t ls) (sym (line-plain a t x plain)))) (λ k n. refl) k;
     flows = λ k a t. without-each S l i (λ k ys. flow a t (between S k i) ≡ [] → flow a t ys ≡ []) x ls e
         (rw e (λ none. (both-empty (flow_of a t x) (flow a t ls) none).1)) (λ k n none. none) k;
-    ends = λ k a t. without-each S l i (λ k ys. ends a t (between S k i) ≡ [] → ends a t ys ≡ []) x ls e
-        (rw e (λ none. (both-empty (end_of a t x) (ends a t ls) none).1)) (λ k n none. none) k;
+    ends = λ k a t. without-each S l i (λ k ys. stream_ends_in a t (between S k i) ≡ [] → stream_ends_in a t ys ≡ []) x ls e
+        (rw e (λ none. (both-empty (end_of a t x) (stream_ends_in a t ls) none).1)) (λ k n none. none) k;
   }
 
   -- streams begin where they did
@@ -77,11 +77,11 @@ module _ (S : LogState) (H : Holds S) (l i : ℕ) (x : Letter) (ls : List Letter
   first-foreign from = took-all (ForeignOk S i from) S.words.channel (Site l) (Site i) from (Site i) (H.foreign from i)
 
   -- the site that took it
-  module _ (s : SiteState) (g : GoesOn (S.sites i) s) (st : ℕ → ℕ → Option Streaming) where
-    pub first-takes : 0 < start_at S i → ((c t : ℕ) → (c ≡ i → ⊥) → st c t ≡ S.logs.streamed c t) → ((t : ℕ) (y : Streaming) → S.logs.streamed i t ≡ Some y → st i t ≡ Some y)
+  module _ (s : SiteState) (g : SiteGoesOn (S.sites i) s) (st : ℕ → ℕ → Option Streaming) where
+    pub first-takes : 0 < site_start S i → ((c t : ℕ) → (c ≡ i → ⊥) → st c t ≡ S.logs.streamed c t) → ((t : ℕ) (y : Streaming) → S.logs.streamed i t ≡ Some y → st i t ≡ Some y)
         → ((t : ℕ) (x : Streaming) → st i t ≡ Some x → (S.logs.streamed i t ≡ Some x) ⊎ Unentered S.logs i x.start)
-        → AsksLess S (after (popped S (Site l) i) i s no_sends S.logs)
-        → s.joiners ≡ (S.sites i).joiners → Takes S i s (without S l i) S.pending st
+        → AsksLess S (after_site (site_popped S (Site l) i) i s no_sends S.logs)
+        → s.joiners ≡ (S.sites i).joiners → SiteTakes S i s (without S l i) S.pending st
     first-takes up streamed stays fresh asks joiners = record {
       up = up;
       goes = g;
@@ -99,7 +99,7 @@ module _ (S : LogState) (H : Holds S) (l i : ℕ) (x : Letter) (ls : List Letter
     }
 
     -- all that is under way to it may be
-    pub first-letters : Takes S i s (without S l i) S.pending st → ((t : ℕ) → st i t ≡ S.logs.streamed i t)
+    pub first-letters : SiteTakes S i s (without S l i) S.pending st → ((t : ℕ) → st i t ≡ S.logs.streamed i t)
         → (k : ℕ) → IsSlot S i → AllByRecursion (SiteLetterOk (with-site S i s (without S l i) S.pending st) k i) (without S l i (Site k) (Site i))
     first-letters k streamed j slot = takes-letters S H i s (without S l i) S.pending st k streamed j (first-begun j)
         (without S l i (Site j) (Site i)) (took-all (SiteLetterOk S j i) S.words.channel (Site l) (Site i) (Site j) (Site i) (H.letters j i slot))

@@ -12,7 +12,7 @@ use Rattle.cluster_model.specs.SiteState.{SiteState, Reported, other_copies}
 use Rattle.cluster_model.specs.Site.{longest, lacks}
 use Rattle.cluster_steps.specs.Lists.{In, Prefix}
 use Rattle.cluster_steps.proofs.Lists.{none-and-some, same-some, all-at, not-both, list_all-at, list_any-from}
-use Rattle.log_laws.specs.Histories.{LogState, Entered, Leadership, Holds, IsSlot, WordOf, Last, Unled, known, EnteredOk, ReportOk, MemberOk, LeadsIn, base_of, part, start_at, log_at, term_at}
+use Rattle.log_laws.specs.Histories.{LogState, Entered, Leadership, LogsHold, IsSlot, WordOf, Last, Unled, known, EnteredOk, ReportOk, MemberOk, LeadsIn, epoch_base, part, site_start, log_at, term_at}
 use Rattle.cluster_steps.proofs.Prefixes.{prefixes-order}
 use Rattle.log_laws.proofs.Kept.Terms.{base-least, entered-start, member-or-joined, named-first, last-below}
 use Rattle.log_laws.proofs.Plain.Copies.{copy-other, is_in-in}
@@ -56,7 +56,7 @@ begun_leadership s = record { begun = begun_log s; log = begun_log s }
 
 -- ---- a leader with all reports
 
-module _ (T : LogState) (H : Holds T) (i : ℕ) (w : Membership) (up : 0 < start_at T i) (none : (T.sites i).joining ≡ None) (view : (T.sites i).view ≡ Some w)
+module _ (T : LogState) (H : LogsHold T) (i : ℕ) (w : Membership) (up : 0 < site_start T i) (none : (T.sites i).joining ≡ None) (view : (T.sites i).view ≡ Some w)
     (leads : leader T.words.deployment w (part T i) ≡ Some i) (unrepaired : (T.sites i).repaired ≡ false)
     (all : list_all (λ c. list_any (λ r. r.slot == c) (T.sites i).reports) (other_copies T.words.deployment i (T.sites i)) ≡ true) where
   pub leading-member : MemberOk T i w
@@ -83,7 +83,7 @@ module _ (T : LogState) (H : Holds T) (i : ℕ) (w : Membership) (up : 0 < start
 
   -- the last leader before
   last : (u : ℕ) × Last T.logs (part T i) u (term_of w)
-  last = last-below T H (part T i) (term_of w) (elim (cases_eq (base_of T) (term_of w)) [
+  last = last-below T H (part T i) (term_of w) (elim (cases_eq (epoch_base T) (term_of w)) [
     | inl e ↦ let f = H.first (part T i) in absurd (none-and-some not-begun (ap (T.logs.leadership (part T i)) (sym e) ∙ f.1))
     | inr n ↦ let b = base-least T H w leading-member.decided in omega (arith, b, n)
   ])

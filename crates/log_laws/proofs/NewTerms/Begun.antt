@@ -13,8 +13,8 @@ use Rattle.cluster_model.specs.Site.{longest, lacks, repair_to}
 use Rattle.cluster_model.specs.World.{sent}
 use Rattle.cluster_steps.specs.Lists.{In, Prefix}
 use Rattle.cluster_steps.proofs.Lists.{none-and-some, same-some, all-mono, not-both, set-here, set-there, set-both}
-use Rattle.log_laws.specs.Histories.{LogState, Logs, Repairs, Entered, Leadership, Holds, IsSlot, WordOf, Last, known, EnteredOk, ReportOk, LeadershipOk, UnledOk, SiteOk, KeepsOk, MemberOk, JoinerOk, LeadsIn, FollowsIn, SiteLetterOk, Reached, IsCounted, AckOk, CountedOk, AskOk, ForeignOk, WaitingOk, JoinsIn, asks_of_term, part, start_at, log_at, term_at, between, follows, line}
-use Rattle.log_laws.proofs.Kept.Moves.{Grown, after, Later, JoinsOn}
+use Rattle.log_laws.specs.Histories.{LogState, Logs, Repairs, Entered, Leadership, LogsHold, IsSlot, WordOf, Last, known, EnteredOk, ReportOk, LeadershipOk, UnledOk, SiteOk, KeepsOk, MemberOk, JoinerOk, LeadsIn, FollowsIn, SiteLetterOk, MeantFor, IsCounted, AckOk, CountedOk, AsksToJoin, ForeignOk, SiteWaitingOk, JoinsIn, asks_of_term, part, site_start, log_at, term_at, between, follows, line}
+use Rattle.log_laws.proofs.Kept.Moves.{Grown, after_site, LogsLater, JoinsOn}
 use Rattle.log_laws.proofs.Kept.Grown.{grown-at}
 use Rattle.log_laws.proofs.Kept.Laters.{been-later, word_of-later, ack-later, counted-later, ask-later, reached-later, stays, leadership-later, unled-later}
 use Rattle.log_laws.proofs.Plain.Lines.{line-same, line-append, repair-line, repair-line-other, repair-flow, repair-ends}
@@ -28,7 +28,7 @@ use Rattle.log_laws.proofs.Kept.Keeps.{still-same, member-keeps-with}
 use Rattle.log_laws.proofs.Kept.Asked.{at-most-same}
 use Rattle.log_laws.proofs.NewTerms.Since.{since-unled, unled-above}
 use Rattle.log_laws.proofs.NewTerms.Beginning.{begun-by, begun_log, begun_leadership, leading-member, not-begun, reported, own-prefix, has-report, all-entered, begun-behind}
-use Rattle.log_laws.proofs.Kept.Turned.{put_at, put-both, put-here, put-there, turned, turned-later, Turned, turned-holds, waiting-turned, pending-turned}
+use Rattle.log_laws.proofs.Kept.Turned.{put_at, put-both, put-here, put-there, site_turned, turned-later, Turned, turned-holds, waiting-turned, pending-turned}
 
 -- the leader with the longest log, with its scans as they may be, and once it has begun its term
 abbrev pub longest_site : SiteState → ℕ → Option Scanning → SiteState
@@ -45,7 +45,7 @@ begun_leaderships S i t = put_at S.logs.leadership (part S i) t (Some (begun_lea
 abbrev pub repairs_of : LogState → ℕ → ℕ → Option Scanning → ℕ → List Letter
 repairs_of S i scans scanning c = repair_to S.words.deployment (longest_site (S.sites i) scans scanning) c (S.sites i).reports
 
-module _ (S : LogState) (H : Holds S) (i : ℕ) (w : Membership) (up : 0 < start_at S i) (none : (S.sites i).joining ≡ None) (view : (S.sites i).view ≡ Some w)
+module _ (S : LogState) (H : LogsHold S) (i : ℕ) (w : Membership) (up : 0 < site_start S i) (none : (S.sites i).joining ≡ None) (view : (S.sites i).view ≡ Some w)
     (leads : leader S.words.deployment w (part S i) ≡ Some i) (unrepaired : (S.sites i).repaired ≡ false)
     (all : list_all (λ c. list_any (λ r. r.slot == c) (S.sites i).reports) (other_copies S.words.deployment i (S.sites i)) ≡ true)
     (scans : ℕ) (scanning : Option Scanning) (out : Sends) (sends : (c : ℕ) → out (Site c) ≡ repairs_of S i scans scanning c) (inert : (h : ℕ) → out (Agent h) ≡ []) where
@@ -59,7 +59,7 @@ module _ (S : LogState) (H : Holds S) (i : ℕ) (w : Membership) (up : 0 < start
   re = begun_leaderships S i (term_of w)
 
   abbrev T : LogState
-  T = turned S i s ch S.logs.entered re S.logs.reach
+  T = site_turned S i s ch S.logs.entered re S.logs.reach
 
   abbrev new : ℕ → List Letter
   new = repairs_of S i scans scanning
@@ -84,7 +84,7 @@ module _ (S : LogState) (H : Holds S) (i : ℕ) (w : Membership) (up : 0 < start
   led-still q x g is = led-there q x (λ e f. none-and-some (not-begun S H i w up none view leads unrepaired all)
       (ap (λ z. S.logs.leadership z (term_of w)) (sym e) ∙ ap (S.logs.leadership q) (sym f) ∙ is))
 
-  later : Later S T
+  later : LogsLater S T
   later = turned-later S i s ch S.logs.entered re S.logs.reach
       (record {
         start = refl;
@@ -128,11 +128,11 @@ module _ (S : LogState) (H : Holds S) (i : ℕ) (w : Membership) (up : 0 < start
 
   -- each goes to a start that has been in the term
   reached-new : (c : ℕ) (r : Reported) → In r (S.sites i).reports → r.slot ≡ c
-      → Reached S c (repair_letter S.words.deployment (longest_site (S.sites i) scans scanning) c r)
-  reached-new c r is q = subst (λ z. ((0 < z) × (0 < site_term (S.sites i))) × In z (S.logs.ran c) × (start_at S c ≡ z → site_term (S.sites i) ≤ term_at S c)) (sym start) (
+      → MeantFor S c (repair_letter S.words.deployment (longest_site (S.sites i) scans scanning) c r)
+  reached-new c r is q = subst (λ z. ((0 < z) × (0 < site_term (S.sites i))) × In z (S.logs.ran c) × (site_start S c ≡ z → site_term (S.sites i) ≤ term_at S c)) (sym start) (
     (e.been.some, subst (λ z. 0 < z) (sym term) (some-term S H w member.decided)),
     subst (λ z. In k.entered.start (S.logs.ran z)) q e.been.ran,
-    λ runs. (let low = (e.running (ap (start_at S) q ∙ runs)).1 in let z = ap (term_at S) q in let t = term in omega (arith, low, z, t)),
+    λ runs. (let low = (e.running (ap (site_start S) q ∙ runs)).1 in let z = ap (term_at S) q in let t = term in omega (arith, low, z, t)),
   )
     where
       k : ReportOk S (part S i) r.slot (term_of w) r.position r.floor r.tail
@@ -150,8 +150,8 @@ module _ (S : LogState) (H : Holds S) (i : ℕ) (w : Membership) (up : 0 < start
   -- ---- copies of the partition in the term
 
   -- a report of a slot is of its partition, and of another start than a joiner's
-  not-joiner : (c : ℕ) (j : Joining) (k : JoinerOk S c j) (t : ℕ) → line (start_at S c) t (new c) ≡ []
-  not-joiner c j k t = none-new c (start_at S c) t (λ r is q start _.
+  not-joiner : (c : ℕ) (j : Joining) (k : JoinerOk S c j) (t : ℕ) → line (site_start S c) t (new c) ≡ []
+  not-joiner c j k t = none-new c (site_start S c) t (λ r is q start _.
       let o = reported S H i w up none view leads unrepaired all r is in
       k.unentered (term_of w) o.entered (ap (λ z. S.logs.entered z (term_of w)) (sym q) ∙ o.is_entered)
       (sym (told-start r is) ∙ ap (start_in_view S.words.deployment (S.sites i).view) q ∙ start))
@@ -166,28 +166,28 @@ module _ (S : LogState) (H : Holds S) (i : ℕ) (w : Membership) (up : 0 < start
 
   -- a copy that follows, has entered the term and is behind: its repair is under way to it
   repaired-by : (c : ℕ) → (c ≡ i → ⊥) → part S c ≡ part S i → MemberOk S c w
-      → FollowsIn (S.sites c) (line (start_at S c) (term_of w) (between S i c)) None
-      → FollowsIn (S.sites c) (line (start_at S c) (term_of w) (ch (Site i) (Site c))) (Some (begun_leadership (S.sites i)))
+      → FollowsIn (S.sites c) (line (site_start S c) (term_of w) (between S i c)) None
+      → FollowsIn (S.sites c) (line (site_start S c) (term_of w) (ch (Site i) (Site c))) (Some (begun_leadership (S.sites i)))
   repaired-by c other part-is k f =
-      let r = has-report S H i w up none view leads unrepaired all c (start_at S c) other part-is k.start_is in
-      let n = repair-line S.words.deployment (longest_site (S.sites i) scans scanning) c (start_at S c) (term_of w) (S.sites i).reports r.0 r.1 r.2
-      (start-in-view S.words.deployment i (S.sites i) w view c (start_at S c) k.start_is) (ap term_in view) in
+      let r = has-report S H i w up none view leads unrepaired all c (site_start S c) other part-is k.start_is in
+      let n = repair-line S.words.deployment (longest_site (S.sites i) scans scanning) c (site_start S c) (term_of w) (S.sites i).reports r.0 r.1 r.2
+      (start-in-view S.words.deployment i (S.sites i) w view c (site_start S c) k.start_is) (ap term_in view) in
       let o = reported S H i w up none view leads unrepaired all n.0 n.1 in
       let e = same-some (sym o.is_entered ∙ ap (λ z. S.logs.entered z (term_of w)) n.2 ∙ k.is_entered) in
       let position = o.position_is ∙ ap (λ z. length z.log) e ∙ ap length (sym (k.still f.0).0) in
       inr (
         [],
         f.0,
-        ap (line (start_at S c) (term_of w)) (sent-here S i s out G (Site c) ∙ ap (λ z. between S i c ++ z) (sends c))
-            ∙ line-append (start_at S c) (term_of w) (between S i c) (new c)
-            ∙ ap (λ z. z ++ line (start_at S c) (term_of w) (new c)) f.1
+        ap (line (site_start S c) (term_of w)) (sent-here S i s out G (Site c) ∙ ap (λ z. between S i c ++ z) (sends c))
+            ∙ line-append (site_start S c) (term_of w) (between S i c) (new c)
+            ∙ ap (λ z. z ++ line (site_start S c) (term_of w) (new c)) f.1
             ∙ n.3
             ∙ ap (λ z. Repairs z (drop z (begun_log (S.sites i))) ∷ []) position,
         append-nil (begun_log (S.sites i)),
       )
 
   -- each other member
-  members : (c : ℕ) (u : Membership) → (c ≡ i → ⊥) → 0 < start_at S c → (S.sites c).joining ≡ None → (S.sites c).view ≡ Some u → MemberOk S c u → MemberOk T c u
+  members : (c : ℕ) (u : Membership) → (c ≡ i → ⊥) → 0 < site_start S c → (S.sites c).joining ≡ None → (S.sites c).view ≡ Some u → MemberOk S c u → MemberOk T c u
   members c u other runs joins has k = elim (cases_eq (part S c) (part S i)) [
     | inr n ↦ plain (λ e _. n e)
     | inl e ↦ elim (cases_eq (term_of u) (term_of w)) [
@@ -200,20 +200,20 @@ module _ (S : LogState) (H : Holds S) (i : ℕ) (w : Membership) (up : 0 < start
       plain : (part S c ≡ part S i → term_of u ≡ term_of w → ⊥) → MemberOk T c u
       plain n = member-keeps-with S T H later c (still-same (S.sites c) (T.sites c) (there c other)) u k
           (λ _. subst (LeadsIn (S.sites c)) (sym (led-there (part S c) (term_of u) n)))
-          (λ l _ f. rw (line-there l c (start_at S c) (term_of u) (λ _. not-own c (start_at S c) (term_of u) n), led-there (part S c) (term_of u) n) f)
-          (λ l _ f. line-there l c (start_at S c) (term_of u) (λ _. not-own c (start_at S c) (term_of u) n) ∙ f)
+          (λ l _ f. rw (line-there l c (site_start S c) (term_of u) (λ _. not-own c (site_start S c) (term_of u) n), led-there (part S c) (term_of u) n) f)
+          (λ l _ f. line-there l c (site_start S c) (term_of u) (λ _. not-own c (site_start S c) (term_of u) n) ∙ f)
 
       follower : part S c ≡ part S i → MemberOk S c w → MemberOk T c w
       follower e k = member-keeps-with S T H later c (still-same (S.sites c) (T.sites c) (there c other)) w k
           (λ authoritative. absurd (other (same-some (sym authoritative ∙ ap (leader S.words.deployment w) e ∙ leads))))
           (λ l fo f. let q = same-some (sym (follows-leader S.words.deployment w c l fo).0 ∙ ap (leader S.words.deployment w) e ∙ leads) in
-          subst (λ z. FollowsIn (S.sites c) (line (start_at S c) (term_of w) (ch (Site z) (Site c))) (re (part S c) (term_of w))) (sym q)
-          (subst (FollowsIn (S.sites c) (line (start_at S c) (term_of w) (ch (Site i) (Site c)))) (sym (ap (λ z. re z (term_of w)) e ∙ led-here))
+          subst (λ z. FollowsIn (S.sites c) (line (site_start S c) (term_of w) (ch (Site z) (Site c))) (re (part S c) (term_of w))) (sym q)
+          (subst (FollowsIn (S.sites c) (line (site_start S c) (term_of w) (ch (Site i) (Site c)))) (sym (ap (λ z. re z (term_of w)) e ∙ led-here))
           (repaired-by c other e k
-          (subst (FollowsIn (S.sites c) (line (start_at S c) (term_of w) (between S i c)))
+          (subst (FollowsIn (S.sites c) (line (site_start S c) (term_of w) (between S i c)))
           (ap (λ z. S.logs.leadership z (term_of w)) e ∙ not-begun S H i w up none view leads unrepaired all)
-          (subst (λ z. FollowsIn (S.sites c) (line (start_at S c) (term_of w) (between S z c)) (S.logs.leadership (part S c) (term_of w))) q f)))))
-          (λ l fo f. line-there l c (start_at S c) (term_of w) (λ q. absurd (not-both (follows S.words.deployment w c l)
+          (subst (λ z. FollowsIn (S.sites c) (line (site_start S c) (term_of w) (between S z c)) (S.logs.leadership (part S c) (term_of w))) q f)))))
+          (λ l fo f. line-there l c (site_start S c) (term_of w) (λ q. absurd (not-both (follows S.words.deployment w c l)
           (subst (λ z. follows S.words.deployment w c z ≡ true) (sym q) (leader-followed S.words.deployment w i c leads e other)) fo)) ∙ f)
 
   -- ---- the turn
@@ -246,7 +246,7 @@ module _ (S : LogState) (H : Holds S) (i : ℕ) (w : Membership) (up : 0 < start
     led = λ q x g is. (led-still q x g is, refl);
     counted = λ c a stream_start u g _ _ k. counted c a stream_start u k;
     members = members;
-    lines = λ c l u j other joins k e. line-there l c (start_at S c) (term_of u) (λ _. not-joiner c j k (term_of u)) ∙ e;
+    lines = λ c l u j other joins k e. line-there l c (site_start S c) (term_of u) (λ _. not-joiner c j k (term_of u)) ∙ e;
   }
 
   -- ---- what was entered, and what is led
@@ -322,7 +322,7 @@ module _ (S : LogState) (H : Holds S) (i : ℕ) (w : Membership) (up : 0 < start
         is_word = record { decided = member.decided; term_is = refl };
         grown = prefix-refl (begun_log (S.sites i));
         within =
-            let b = (running-in S H i (term_of w) (start_at S i) (inl (member.entered, member.is_entered, member.since)) refl).0 in
+            let b = (running-in S H i (term_of w) (site_start S i) (inl (member.entered, member.is_entered, member.since)) refl).0 in
             let l = prefix-length (log_at S i) (begun_log (S.sites i)) (own-prefix S H i w up none view leads unrepaired all) in
             omega (arith, b, l);
         entered = all-entered S H i w up none view leads unrepaired all;
@@ -336,7 +336,7 @@ module _ (S : LogState) (H : Holds S) (i : ℕ) (w : Membership) (up : 0 < start
 
   -- ---- the site itself
 
-  own-start : start_at T i ≡ start_at S i
+  own-start : site_start T i ≡ site_start S i
   own-start = ap (λ z. z.start) here
 
   own-member : MemberOk T i w
@@ -355,7 +355,7 @@ module _ (S : LogState) (H : Holds S) (i : ℕ) (w : Membership) (up : 0 < start
     leading = λ _. subst (LeadsIn (T.sites i)) (sym led-here) (ap (λ z. z.repaired) here, ap (λ z. z.log) here);
     following = λ l f. absurd (not-both (follows S.words.deployment w i l) f (leader-follows-none S.words.deployment w i l leads));
     others = λ l f. subst (λ z. line z.start (term_of w) (ch (Site l) (Site i)) ≡ []) (sym here)
-        (line-there l i (start_at S i) (term_of w) (λ _. not-self (start_at S i) (term_of w)) ∙ member.others l f);
+        (line-there l i (site_start S i) (term_of w) (λ _. not-self (site_start S i) (term_of w)) ∙ member.others l f);
   }
 
   own-keeps : KeepsOk T i
@@ -367,9 +367,9 @@ module _ (S : LogState) (H : Holds S) (i : ℕ) (w : Membership) (up : 0 < start
         (counted-later S T H later (part S i) (term_at S i)) (S.sites i).joiners k.joiners);
     alone = rw here k.alone;
     leads = rw here k.leads;
-    asks = rw here (all-mono (λ a. AskOk S (part S i) a.slot (term_at S i) a.start) (λ a. AskOk T (part S i) a.slot (term_at S i) a.start)
+    asks = rw here (all-mono (λ a. AsksToJoin S (part S i) a.slot (term_at S i) a.start) (λ a. AsksToJoin T (part S i) a.slot (term_at S i) a.start)
         (λ a. ask-later S T H later (part S i) a.slot (term_at S i) a.start (on a.slot)) (S.sites i).asks k.asks);
-    waiting = subst (λ z. AllByRecursion (WaitingOk T i) z.waiting) (sym here)
+    waiting = subst (λ z. AllByRecursion (SiteWaitingOk T i) z.waiting) (sym here)
         (waiting-turned S H i s ch S.logs.entered re S.logs.reach new turns i (running-slot S H i up) own-start k);
     pending = pending-turned S H i s ch S.logs.entered re S.logs.reach new turns i (running-slot S H i up) own-start k;
     on_disk = subst (λ z. z.on_disk ≤ length z.log) (sym here)
@@ -394,7 +394,7 @@ module _ (S : LogState) (H : Holds S) (i : ℕ) (w : Membership) (up : 0 < start
   }
 
   -- what holds, holds once it has begun
-  pub begun-holds : Holds (after S i s out G)
+  pub begun-holds : LogsHold (after_site S i s out G)
   begun-holds = turned-holds S H i s ch S.logs.entered re S.logs.reach new turns
       (words-after S i s out G H.words)
       own-site

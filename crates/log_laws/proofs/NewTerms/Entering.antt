@@ -10,7 +10,7 @@ use Rattle.word_laws.specs.Histories.{Admitted, names, HistoryOk, GoodWord, Reco
 use Rattle.cluster_steps.proofs.Lists.{none-and-some, same-some, all-at, not-both}
 use Rattle.word_laws.proofs.Algebra.{admits-fresh}
 use Rattle.word_laws.proofs.Agreement.{one-first, at-good, term-same, member-is}
-use Rattle.log_laws.specs.Histories.{LogState, Entered, Streaming, Leadership, Holds, IsSlot, WordOf, WasIn, Last, Unled, Came, known, MemberOk, JoinerOk, InWord, Took, ViewIn, StreamIn, LeadsIn, FollowsIn, line, between, part, start_at, log_at, term_at}
+use Rattle.log_laws.specs.Histories.{LogState, Entered, Streaming, Leadership, LogsHold, IsSlot, WordOf, WasIn, Last, Unled, Came, known, MemberOk, JoinerOk, InWord, Took, ViewIn, StreamIn, LeadsIn, FollowsIn, line, between, part, site_start, log_at, term_at}
 use Rattle.cluster_steps.proofs.Prefixes.{prefix-trans}
 use Rattle.log_laws.proofs.Kept.Terms.{running-slot, took-not-named, base-least, entered-start, leadership-entered, running-in, was-in, last-below}
 use Rattle.log_laws.proofs.NewTerms.Since.{since-running}
@@ -19,16 +19,16 @@ use Rattle.log_laws.proofs.Plain.Copies.{leads-or-follows}
 -- ---- starts and words
 
 -- the start of a site that runs has run
-pub running-ran : (S : LogState) → Holds S → (c : ℕ) → 0 < start_at S c → In (start_at S c) (S.logs.ran c)
-running-ran S H c up = let r = (H.sites c).ran up in subst (λ l. In (start_at S c) l) (sym r.1) (inl refl)
+pub running-ran : (S : LogState) → LogsHold S → (c : ℕ) → 0 < site_start S c → In (site_start S c) (S.logs.ran c)
+running-ran S H c up = let r = (H.sites c).ran up in subst (λ l. In (site_start S c) l) (sym r.1) (inl refl)
 
 -- what ran at a slot is its host's
-pub ran-owner : (S : LogState) → Holds S → (c a : ℕ) → In a (S.logs.ran c) → S.words.owner a ≡ host_of_slot S.words.deployment c
+pub ran-owner : (S : LogState) → LogsHold S → (c a : ℕ) → In a (S.logs.ran c) → S.words.owner a ≡ host_of_slot S.words.deployment c
 ran-owner S H c a is = let h = host_of_slot S.words.deployment c in
     (all-at (λ x. (S.words.owner x ≡ h) × (0 < x) × (x < S.words.next)) (S.words.history.began h) (H.words.hosts h).began a ((H.views c).began a (inr (inl is)))).0
 
 -- where a decided word names a start that took one as a joiner, it was admitted at the word that it took
-pub took-admitted : (S : LogState) → Holds S → (a : ℕ) (v w : Membership) → S.words.history.took a ≡ Some v → In w S.words.history.decided → names w a ≡ true
+pub took-admitted : (S : LogState) → LogsHold S → (a : ℕ) (v w : Membership) → S.words.history.took a ≡ Some v → In w S.words.history.decided → names w a ≡ true
     → (x : Admitted) × In x S.words.history.admitted × (x.start ≡ a) × (x.at ≡ v)
 took-admitted S H a v w took decided named = (
   r.entry,
@@ -62,7 +62,7 @@ came-up S c t u a low (inl e) = inl e
 came-up S c t u a low (inr (x, k, is, start, below)) = inr (x, k, is, start, omega (arith, low, below))
 
 -- what a slot of a partition entered a term with, and the partition's last leader before
-pub behind-at : (S : LogState) → Holds S → (p c t u : ℕ) (e : Entered) → part S c ≡ p → S.logs.entered c t ≡ Some e → (l : Last S.logs p u t)
+pub behind-at : (S : LogState) → LogsHold S → (p c t u : ℕ) (e : Entered) → part S c ≡ p → S.logs.entered c t ≡ Some e → (l : Last S.logs p u t)
     → Prefix e.log l.leadership.log × (known e ≤ S.logs.reach p u)
 behind-at S H p c t u e part-is is l =
     let r = (H.entered c t e is).behind u (record {
@@ -76,30 +76,30 @@ behind-at S H p c t u e part-is is l =
 -- ---- a member of a word
 
 -- in its log there is the prefix of what its leader has, and it is as it entered where nobody leads
-pub led-prefix : (S : LogState) → Holds S → (c : ℕ) (v : Membership) → MemberOk S c v → IsSlot S c → (g : Leadership) → S.logs.leadership (part S c) (term_of v) ≡ Some g
+pub led-prefix : (S : LogState) → LogsHold S → (c : ℕ) (v : Membership) → MemberOk S c v → IsSlot S c → (g : Leadership) → S.logs.leadership (part S c) (term_of v) ≡ Some g
     → Prefix (log_at S c) g.log
-led-prefix S H c v k slot g led = elim (leads-or-follows S.words.deployment v c (start_at S c) k.start_is) [
+led-prefix S H c v k slot g led = elim (leads-or-follows S.words.deployment v c (site_start S c) k.start_is) [
   | inl authoritative ↦ let e = (subst (LeadsIn (S.sites c)) led (k.leading authoritative)).1 in ([], sym e ∙ sym (append-nil (log_at S c)))
-  | inr f ↦ follower f.0 (subst (FollowsIn (S.sites c) (line (start_at S c) (term_of v) (between S f.0 c))) led (k.following f.0 f.1))
+  | inr f ↦ follower f.0 (subst (FollowsIn (S.sites c) (line (site_start S c) (term_of v) (between S f.0 c))) led (k.following f.0 f.1))
 ]
   where
-    own : (e : Entered) × (S.logs.entered c (term_of v) ≡ Some e) × (e.start ≡ start_at S c) × Prefix e.log g.begun
-    own = leadership-entered S H (part S c) (term_of v) g led v (record { decided = k.decided; term_is = refl }) c (start_at S c) slot refl k.start_is
+    own : (e : Entered) × (S.logs.entered c (term_of v) ≡ Some e) × (e.start ≡ site_start S c) × Prefix e.log g.begun
+    own = leadership-entered S H (part S c) (term_of v) g led v (record { decided = k.decided; term_is = refl }) c (site_start S c) slot refl k.start_is
 
-    follower : (l : ℕ) → FollowsIn (S.sites c) (line (start_at S c) (term_of v) (between S l c)) (Some g) → Prefix (log_at S c) g.log
+    follower : (l : ℕ) → FollowsIn (S.sites c) (line (site_start S c) (term_of v) (between S l c)) (Some g) → Prefix (log_at S c) g.log
     follower l (inl (es, _, _, e, _)) = (es, sym e)
     follower l (inr (es, rep, _, e)) =
         let log = (k.still rep).0 ∙ ap (λ x. x.log) (same-some (sym k.is_entered ∙ own.1)) in
         rw log (prefix-trans own.0.log g.begun g.log own.3 (es, sym e))
 
 pub unled-repaired : (S : LogState) (c : ℕ) (v : Membership) → MemberOk S c v → S.logs.leadership (part S c) (term_of v) ≡ None → (S.sites c).repaired ≡ false
-unled-repaired S c v k none = elim (leads-or-follows S.words.deployment v c (start_at S c) k.start_is) [
+unled-repaired S c v k none = elim (leads-or-follows S.words.deployment v c (site_start S c) k.start_is) [
   | inl authoritative ↦ subst (LeadsIn (S.sites c)) none (k.leading authoritative)
-  | inr f ↦ (subst (FollowsIn (S.sites c) (line (start_at S c) (term_of v) (between S f.0 c))) none (k.following f.0 f.1)).0
+  | inr f ↦ (subst (FollowsIn (S.sites c) (line (site_start S c) (term_of v) (between S f.0 c))) none (k.following f.0 f.1)).0
 ]
 
 -- a joiner that has loaded all, with the word that it took
-pub record Loaded (S : LogState) (i : ℕ) (v : Membership) : Type 0 where
+pub record LoadedAll (S : LogState) (i : ℕ) (v : Membership) : Type 0 where
   pub joining : Joining
   pub joins : (S.sites i).joining ≡ Some joining
   pub ok : JoinerOk S i joining
@@ -114,8 +114,8 @@ entering s = record { start = s.start; log = s.log; floor = s.floor; firm = s.fi
 
 -- ---- a site that gets a word which counts its start
 
-module _ (S : LogState) (H : Holds S) (i : ℕ) (v w : Membership) (up : 0 < start_at S i) (view : (S.sites i).view ≡ Some v) (decided : In w S.words.history.decided)
-    (member : start_of_slot S.words.deployment w i ≡ Some (start_at S i)) (above : term_of v < term_of w) where
+module _ (S : LogState) (H : LogsHold S) (i : ℕ) (v w : Membership) (up : 0 < site_start S i) (view : (S.sites i).view ≡ Some v) (decided : In w S.words.history.decided)
+    (member : start_of_slot S.words.deployment w i ≡ Some (site_start S i)) (above : term_of v < term_of w) where
   slot : IsSlot S i
   slot = running-slot S H i up
 
@@ -126,10 +126,10 @@ module _ (S : LogState) (H : Holds S) (i : ℕ) (v w : Membership) (up : 0 < sta
   here = ap term_in view
 
   -- Before, it was a member, or it is a joiner that has loaded all.
-  pub was-member : MemberOk S i v ⊎ Loaded S i v
+  pub was-member : MemberOk S i v ⊎ LoadedAll S i v
   was-member = go (S.sites i).joining refl
     where
-      joined : (j : Joining) → (S.sites i).joining ≡ Some j → Loaded S i v
+      joined : (j : Joining) → (S.sites i).joining ≡ Some j → LoadedAll S i v
       joined j joins = streamed j.stream refl in_word.stream
         where
           ok : JoinerOk S i j
@@ -138,27 +138,27 @@ module _ (S : LogState) (H : Holds S) (i : ℕ) (v w : Membership) (up : 0 < sta
           in_word : InWord S i v j
           in_word = subst (ViewIn S i j) view ok.view
 
-          named : names w (start_at S i) ≡ true
-          named = (member-is S.words H.words.history w (host_of_slot S.words.deployment i) (start_at S i) (H.words.history.decided_good w decided) member).0
+          named : names w (site_start S i) ≡ true
+          named = (member-is S.words H.words.history w (host_of_slot S.words.deployment i) (site_start S i) (H.words.history.decided_good w decided) member).0
 
           loaded : j.is_loaded ≡ true
           loaded =
-              let x = took-admitted S H (start_at S i) v w in_word.took decided named in
-              let owner = ap S.words.owner x.2 ∙ ran-owner S H i (start_at S i) (running-ran S H i up) in
+              let x = took-admitted S H (site_start S i) v w in_word.took decided named in
+              let owner = ap S.words.owner x.2 ∙ ran-owner S H i (site_start S i) (running-ran S H i up) in
               ok.based ((H.loads.admitted x.0 x.1 i (and_from (nat_lt i (slots S.words.deployment)) (host_of_slot S.words.deployment i == S.words.owner x.0.start)
               slot (eq-eqb (host_of_slot S.words.deployment i) (S.words.owner x.0.start) (sym owner)))).1 up (sym x.2) j joins)
 
-          streamed : (o : Option Streamed) → j.stream ≡ o → StreamIn S i v j o → Loaded S i v
+          streamed : (o : Option Streamed) → j.stream ≡ o → StreamIn S i v j o → LoadedAll S i v
           streamed None e k = absurd (not-both j.is_loaded loaded k.loads)
           streamed (Some st) e k = record { joining = j; joins = joins; ok = ok; in_word = in_word; loaded = loaded; stream_start = st.stream_start; took = k }
 
-      go : (o : Option Joining) → (S.sites i).joining ≡ o → MemberOk S i v ⊎ Loaded S i v
+      go : (o : Option Joining) → (S.sites i).joining ≡ o → MemberOk S i v ⊎ LoadedAll S i v
       go None e = let m = (H.sites i).member up e in inl (subst (MemberOk S i) (same-some (sym m.1 ∙ view)) m.2)
       go (Some j) e = inr (joined j e)
 
-  pub came : Came S i (term_of w) (start_at S i)
+  pub came : Came S i (term_of w) (site_start S i)
   came = elim was-member [
-    | inl k ↦ came-up S i (term_of v) (term_of w) (start_at S i) (omega (arith, above))
+    | inl k ↦ came-up S i (term_of v) (term_of w) (site_start S i) (omega (arith, above))
         (subst (Came S i (term_of v)) k.since (H.entered i (term_of v) k.entered k.is_entered).came)
     | inr k ↦ inr (term_of v, _, k.took.streamed, refl, above)
   ]
@@ -185,7 +185,7 @@ module _ (S : LogState) (H : Holds S) (i : ℕ) (v w : Membership) (up : 0 < sta
     where
       go : (o : Option Streaming) → S.logs.streamed i (term_of w) ≡ o → S.logs.streamed i (term_of w) ≡ None
       go None e = e
-      go (Some x) e = let k = H.streamed i (term_of w) x e in elim (cases_eq (start_at S i) x.start) [
+      go (Some x) e = let k = H.streamed i (term_of w) x e in elim (cases_eq (site_start S i) x.start) [
         | inl same ↦ let low = (k.running same).1 in absurd (omega (arith, low, here, above))
         | inr other ↦ let low = k.been.others up other in let b = earlier-below in absurd (omega (arith, low, b, above))
       ]
@@ -195,14 +195,14 @@ module _ (S : LogState) (H : Holds S) (i : ℕ) (v w : Membership) (up : 0 < sta
     where
       go : (o : Option Leadership) → S.logs.leadership (part S i) (term_of w) ≡ o → S.logs.leadership (part S i) (term_of w) ≡ None
       go None e = e
-      go (Some g) e = absurd (none-and-some not-entered (leadership-entered S H (part S i) (term_of w) g e w word i (start_at S i) slot refl member).1)
+      go (Some g) e = absurd (none-and-some not-entered (leadership-entered S H (part S i) (term_of w) g e w word i (site_start S i) slot refl member).1)
 
   -- It was in the last term that was led, and no later one.
-  pub was-last : (u : ℕ) → Last S.logs (part S i) u (term_of w) → WasIn S i u (start_at S i)
-  was-last u l = was-in S H i (term_of w) (start_at S i) w slot word member came u l
+  pub was-last : (u : ℕ) → Last S.logs (part S i) u (term_of w) → WasIn S i u (site_start S i)
+  was-last u l = was-in S H i (term_of w) (site_start S i) w slot word member came u l
 
   last-low : (u : ℕ) → Last S.logs (part S i) u (term_of w) → u ≤ term_of v
-  last-low u l = let b = (running-in S H i u (start_at S i) (was-last u l) refl).1 in omega (arith, b, here)
+  last-low u l = let b = (running-in S H i u (site_start S i) (was-last u l) refl).1 in omega (arith, b, here)
 
   -- as a member, in a term that nobody led
   unled-here : (k : MemberOk S i v) → S.logs.leadership (part S i) (term_of v) ≡ None → (log_at S i ≡ k.entered.log) × (known (entering (S.sites i)) ≡ known k.entered)
@@ -230,7 +230,7 @@ module _ (S : LogState) (H : Holds S) (i : ℕ) (v w : Membership) (up : 0 < sta
           none None e = e
           none (Some g) e = let b = l.greatest (term_of v) g e above in absurd (n (omega (arith, low, b)))
 
-      joined : (k : Loaded S i v) → Prefix (log_at S i) l.leadership.log × (known (entering (S.sites i)) ≤ S.logs.reach (part S i) u)
+      joined : (k : LoadedAll S i v) → Prefix (log_at S i) l.leadership.log × (known (entering (S.sites i)) ≤ S.logs.reach (part S i) u)
       joined k =
           let b = l.greatest (term_of v) k.took.leadership k.took.led above in
           let e : u ≡ term_of v = omega (arith, low, b) in
@@ -241,7 +241,7 @@ module _ (S : LogState) (H : Holds S) (i : ℕ) (v w : Membership) (up : 0 < sta
           )
 
   -- It was the same in the terms since, in which nobody led.
-  pub still : (u : ℕ) (f : Entered) → u < term_of w → S.logs.entered i u ≡ Some f → f.start ≡ start_at S i → Unled S.logs (part S i) u (term_of w)
+  pub still : (u : ℕ) (f : Entered) → u < term_of w → S.logs.entered i u ≡ Some f → f.start ≡ site_start S i → Unled S.logs (part S i) u (term_of w)
       → (log_at S i ≡ f.log) × (known (entering (S.sites i)) ≡ known f)
   still u f below is start unled = elim was-member [
     | inl k ↦
@@ -266,27 +266,27 @@ module _ (S : LogState) (H : Holds S) (i : ℕ) (v w : Membership) (up : 0 < sta
   last : (u : ℕ) × Last S.logs (part S i) u (term_of w)
   last = last-below S H (part S i) (term_of w) (elim was-member [
     | inl k ↦ let b = base-least S H v k.decided in omega (arith, b, above)
-    | inr k ↦ let b = base-least S H v (H.words.history.took_ok (start_at S i) v k.in_word.took).0 in omega (arith, b, above)
+    | inr k ↦ let b = base-least S H v (H.words.history.took_ok (site_start S i) v k.in_word.took).0 in omega (arith, b, above)
   ])
 
   pub known-within : known (entering (S.sites i)) ≤ length (log_at S i)
-  known-within = let a = (behind last.0 last.1).1 in let b = (running-in S H i last.0 (start_at S i) (was-last last.0 last.1) refl).0 in omega (arith, a, b)
+  known-within = let a = (behind last.0 last.1).1 in let b = (running-in S H i last.0 (site_start S i) (was-last last.0 last.1) refl).0 in omega (arith, a, b)
 
   pub reach-within : S.logs.reach (part S i) (term_of w) ≤ length (log_at S i)
   reach-within = elim (H.unled (part S i) (term_of w) not-led) [
     | inl z ↦ omega (arith, z)
     | inr (c, f, part-is, is, reach) ↦
         let a = (behind-at S H (part S i) c (term_of w) last.0 f part-is is last.1).1 in
-        let b = (running-in S H i last.0 (start_at S i) (was-last last.0 last.1) refl).0 in
+        let b = (running-in S H i last.0 (site_start S i) (was-last last.0 last.1) refl).0 in
         omega (arith, a, b, reach)
   ]
 
   -- and so is what was everywhere in each earlier term that was led
   pub since-within : (u : ℕ) (g : Leadership) → S.logs.leadership (part S i) u ≡ Some g → u < term_of w → S.logs.reach (part S i) u ≤ length (log_at S i)
-  since-within = since-running S H i (term_of w) (start_at S i) w slot word member came refl
+  since-within = since-running S H i (term_of w) (site_start S i) w slot word member came refl
 
   -- in those of other copies that have entered the term too
-  pub others-within : (c : ℕ) (f : Entered) → part S c ≡ part S i → S.logs.entered c (term_of w) ≡ Some f → start_at S c ≡ f.start
+  pub others-within : (c : ℕ) (f : Entered) → part S c ≡ part S i → S.logs.entered c (term_of w) ≡ Some f → site_start S c ≡ f.start
       → known (entering (S.sites i)) ≤ length (log_at S c)
   others-within c f part-is is runs =
       let k = H.entered c (term_of w) f is in

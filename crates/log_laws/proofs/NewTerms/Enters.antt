@@ -14,8 +14,8 @@ use Rattle.cluster_model.specs.Site.{in_new_term}
 use Rattle.cluster_model.specs.World.{sent}
 use Rattle.cluster_steps.specs.Lists.{In, Prefix}
 use Rattle.cluster_steps.proofs.Lists.{none-and-some, same-some, all-filter, set-here, set-there, set-both}
-use Rattle.log_laws.specs.Histories.{LogState, Logs, Holds, Entered, Streaming, IsSlot, known, EnteredOk, UnledOk, MemberOk, SiteOk, LeadsIn, FollowsIn, SiteLetterOk, AskOk, HasBeen, HeldOk, ForeignOk, part, start_at, log_at, term_at, between, line, line_of, flow_of, end_of, asks_of_term, asked}
-use Rattle.log_laws.proofs.Kept.Moves.{after, popped, Later, Stays, EntersNow, Turns, NoStreamStart}
+use Rattle.log_laws.specs.Histories.{LogState, Logs, LogsHold, Entered, Streaming, IsSlot, known, EnteredOk, UnledOk, MemberOk, SiteOk, LeadsIn, FollowsIn, SiteLetterOk, AsksToJoin, HasBeen, HeldOk, ForeignOk, part, site_start, log_at, term_at, between, line, line_of, flow_of, end_of, asks_of_term, asked}
+use Rattle.log_laws.proofs.Kept.Moves.{after_site, site_popped, LogsLater, Stays, EntersNow, Turns, NoStreamStart}
 use Rattle.log_laws.proofs.Kept.Grown.{grown-reach, enters-later}
 use Rattle.log_laws.proofs.Kept.Laters.{been-later, stays, entered-later, same-leaderships, leaderships-later}
 use Rattle.log_laws.proofs.Plain.Lines.{line-none, line-same, line-plain, flow-none, flow-plain, ends-none, ends-plain, if-none}
@@ -25,7 +25,7 @@ use Rattle.log_laws.proofs.Kept.Terms.{running-slot, some-term, some-start}
 use Rattle.log_laws.proofs.Kept.Plumbing.{words-after, words-popped}
 use Rattle.log_laws.proofs.Kept.Keeps.{still-same, member-keeps}
 use Rattle.log_laws.proofs.NewTerms.Entering.{since-within, running-ran, entering, was-member, came, earlier-below, not-entered, not-streamed, not-led, behind, still, known-within, reach-within, others-within}
-use Rattle.log_laws.proofs.Kept.Turned.{put_at, put-both, put-here, put-there, turned, turned-later, Turned, turned-holds, fresh-keeps, said-same}
+use Rattle.log_laws.proofs.Kept.Turned.{put_at, put-both, put-here, put-there, site_turned, turned-later, Turned, turned-holds, fresh-keeps, said-same}
 use Rattle.log_laws.proofs.NewTerms.Taking.{no-line, later-word, popped-other, mine-taken, theirs-taken, tells-taken, foreign-taken, views-taken}
 use Rattle.cluster_steps.proofs.Prefixes.{prefix-refl}
 
@@ -56,8 +56,8 @@ reports-all D i p s w out k P c f = elim (k.sites c) [
   | inr e ↦ subst (AllByRecursion P) (sym e) tt
 ]
 
-module _ (S : LogState) (H : Holds S) (h i : ℕ) (l : Letter) (w : Membership) (ls : List Letter) (is : S.words.channel (Agent h) (Site i) ≡ record l { body = msg.View w } ∷ ls)
-    (start : l.start ≡ start_at S i) (up : 0 < start_at S i) (v : Membership) (view : (S.sites i).view ≡ Some v)
+module _ (S : LogState) (H : LogsHold S) (h i : ℕ) (l : Letter) (w : Membership) (ls : List Letter) (is : S.words.channel (Agent h) (Site i) ≡ record l { body = msg.View w } ∷ ls)
+    (start : l.start ≡ site_start S i) (up : 0 < site_start S i) (v : Membership) (view : (S.sites i).view ≡ Some v)
     (out : Sends) (says : Reporting S.words.deployment i (part S i) (S.sites i) w out) where
   abbrev D : Deployment
   D = S.words.deployment
@@ -66,7 +66,7 @@ module _ (S : LogState) (H : Holds S) (h i : ℕ) (l : Letter) (w : Membership) 
   s = entered_site (S.sites i) w
 
   abbrev ch : Actor → Actor → List Letter
-  ch = sent (popped S (Agent h) i).words.channel (Site i) out
+  ch = sent (site_popped S (Agent h) i).words.channel (Site i) out
 
   abbrev en : ℕ → ℕ → Option Entered
   en = entered_by S i (term_of w)
@@ -75,7 +75,7 @@ module _ (S : LogState) (H : Holds S) (h i : ℕ) (l : Letter) (w : Membership) 
   rc = reached_by S i (term_of w)
 
   abbrev T : LogState
-  T = turned S i s ch en S.logs.leadership rc
+  T = site_turned S i s ch en S.logs.leadership rc
 
   abbrev G : Logs
   G = record S.logs { entered = en; reach = rc }
@@ -98,7 +98,7 @@ module _ (S : LogState) (H : Holds S) (h i : ℕ) (l : Letter) (w : Membership) 
   decided : In w S.words.history.decided
   decided = (later-word S H h i l w ls is start up v view).0
 
-  member : start_of_slot D w i ≡ Some (start_at S i)
+  member : start_of_slot D w i ≡ Some (site_start S i)
   member = (later-word S H h i l w ls is start up v view).1
 
   above : term_of v < term_of w
@@ -119,7 +119,7 @@ module _ (S : LogState) (H : Holds S) (h i : ℕ) (l : Letter) (w : Membership) 
   reach-here : rc (part S i) (term_of w) ≡ max (S.logs.reach (part S i) (term_of w)) (known (entering (S.sites i)))
   reach-here = put-here S.logs.reach (part S i) (term_of w) (max (S.logs.reach (part S i) (term_of w)) (known (entering (S.sites i))))
 
-  later : Later S T
+  later : LogsLater S T
   later = turned-later S i s ch en S.logs.leadership rc
       (record {
         start = refl;
@@ -150,14 +150,14 @@ module _ (S : LogState) (H : Holds S) (h i : ℕ) (l : Letter) (w : Membership) 
       (line-same b t (between S i c) (new c) (line-none b t (new c) (says-all (λ x. line_of b t x ≡ []) c (λ _ _. line-plain b t (report_letter D (S.sites i) w c) refl))))
 
   -- an ask of it is one of an earlier start
-  asks-gone : (c t a : ℕ) → IsSlot S c → In a (asked S i c t) → AskOk S (part S c) i t a → AskOk T (part S c) i t a
+  asks-gone : (c t a : ℕ) → IsSlot S c → In a (asked S i c t) → AsksToJoin S (part S c) i t a → AsksToJoin T (part S c) i t a
   asks-gone c t a sl m k = record {
     been = been-later S T H later i t a k.been;
     part_is = k.part_is;
     joins = λ e. absurd (clash (sym (ap (λ z. z.start) here) ∙ e));
   }
     where
-      clash : start_at S i ≡ a → ⊥
+      clash : site_start S i ≡ a → ⊥
       clash e = let j = k.joins e in elim (was-member S H i v w up view decided member above) [
         | inl o ↦ ((H.sites i).joiner j.1.0 j.1.1).unentered (term_of v) o.entered o.is_entered o.since
         | inr o ↦ let q = sym j.2 ∙ ap term_of (same-some (sym j.1.2 ∙ view)) in
@@ -190,17 +190,17 @@ module _ (S : LogState) (H : Holds S) (h i : ℕ) (l : Letter) (w : Membership) 
         (λ authoritative _ _ e. absurd (none-and-some unled (ap (λ z. S.logs.leadership z (term_of w)) (leader-copy D u (part S c) i authoritative).0
         ∙ ap (λ z. S.logs.leadership (part S c) (term_of z)) (same-some e) ∙ led)))
         (λ l _. k l) l authoritative;
-    members = λ c u other _ _ _ k. member-keeps S T H later c (still-same (S.sites c) (T.sites c) (there c other)) u k (λ a. line-there a c (start_at S c) (term_of u)) refl;
-    lines = λ c a u j other _ _ e. line-there a c (start_at S c) (term_of u) ∙ e;
+    members = λ c u other _ _ _ k. member-keeps S T H later c (still-same (S.sites c) (T.sites c) (there c other)) u k (λ a. line-there a c (site_start S c) (term_of u)) refl;
+    lines = λ c a u j other _ _ e. line-there a c (site_start S c) (term_of u) ∙ e;
   }
 
   -- ---- the site itself
 
-  own-start : start_at T i ≡ start_at S i
+  own-start : site_start T i ≡ site_start S i
   own-start = ap (λ z. z.start) here
 
-  no-lines : (a : ℕ) → line (start_at T i) (term_of w) (ch (Site a) (Site i)) ≡ []
-  no-lines a = subst (λ z. line z (term_of w) (ch (Site a) (Site i)) ≡ []) (sym own-start) (line-there a i (start_at S i) (term_of w) ∙ no-line S H i (term_of w) slot higher a)
+  no-lines : (a : ℕ) → line (site_start T i) (term_of w) (ch (Site a) (Site i)) ≡ []
+  no-lines a = subst (λ z. line z (term_of w) (ch (Site a) (Site i)) ≡ []) (sym own-start) (line-there a i (site_start S i) (term_of w) ∙ no-line S H i (term_of w) slot higher a)
 
   own-member : MemberOk T i w
   own-member = record {
@@ -215,7 +215,7 @@ module _ (S : LogState) (H : Holds S) (h i : ℕ) (l : Letter) (w : Membership) 
     floor = subst (λ z. z.floor ≤ rc (part S i) (term_of w)) (sym here) (let e = reach-here in omega (arith, e));
     firm = subst (λ z. z.firm ≤ rc (part S i) (term_of w)) (sym here) (let e = reach-here in omega (arith, e));
     leading = λ _. subst (LeadsIn (T.sites i)) (sym unled) (ap (λ z. z.repaired) here);
-    following = λ a _. subst (FollowsIn (T.sites i) (line (start_at T i) (term_of w) (ch (Site a) (Site i)))) (sym unled) (ap (λ z. z.repaired) here, no-lines a);
+    following = λ a _. subst (FollowsIn (T.sites i) (line (site_start T i) (term_of w) (ch (Site a) (Site i)))) (sym unled) (ap (λ z. z.repaired) here, no-lines a);
     others = λ a _. no-lines a;
   }
 
@@ -233,7 +233,7 @@ module _ (S : LogState) (H : Holds S) (h i : ℕ) (l : Letter) (w : Membership) 
     blank = λ e. let z = sym own-start ∙ e in absurd (omega (arith, up, z));
   }
 
-  been-here : HasBeen T i (term_of w) (start_at S i)
+  been-here : HasBeen T i (term_of w) (site_start S i)
   been-here = record {
     some = up;
     ran = running-ran S H i up;
@@ -274,7 +274,7 @@ module _ (S : LogState) (H : Holds S) (h i : ℕ) (l : Letter) (w : Membership) 
   }
 
   -- what is everywhere is in the logs of those that entered
-  reach-kept : (c u : ℕ) (e : Entered) → (c ≡ i → u ≡ term_of w → ⊥) → S.logs.entered c u ≡ Some e → start_at T c ≡ e.start → rc (part S c) u ≤ length (log_at T c)
+  reach-kept : (c u : ℕ) (e : Entered) → (c ≡ i → u ≡ term_of w → ⊥) → S.logs.entered c u ≡ Some e → site_start T c ≡ e.start → rc (part S c) u ≤ length (log_at T c)
   reach-kept c u e n m runs = elim (cases_eq (part S c) (part S i)) [
     | inr d ↦ plain (λ q _. d q)
     | inl q ↦ elim (cases_eq u (term_of w)) [
@@ -347,9 +347,9 @@ module _ (S : LogState) (H : Holds S) (h i : ℕ) (l : Letter) (w : Membership) 
   )
 
   -- what holds, holds once it has entered
-  pub enters-holds : Holds (after (popped S (Agent h) i) i s out G)
+  pub enters-holds : LogsHold (after_site (site_popped S (Agent h) i) i s out G)
   enters-holds = turned-holds S H i s ch en S.logs.leadership rc new turns
-      (words-after (popped S (Agent h) i) i s out G (words-popped S i (Agent h) H.words))
+      (words-after (site_popped S (Agent h) i) i s out G (words-popped S i (Agent h) H.words))
       own-site
       (views-taken S H h i l w ls is start up out s G later refl refl refl)
       (λ c sl. says-all (SiteLetterOk T i c) c (report-ok c))
@@ -359,7 +359,7 @@ module _ (S : LogState) (H : Holds S) (h i : ℕ) (l : Letter) (w : Membership) 
       (λ p t g m. let e = (turns.led p t g m).1 in let b = (H.leaderships p t g m).within in omega (arith, e, b)))
       unleds
 
-  pub enters-turns : Turns (popped S (Agent h) i) i (sending s out)
+  pub enters-turns : Turns (site_popped S (Agent h) i) i (sending s out)
   enters-turns = record {
     logs = G;
     start = refl;

@@ -15,8 +15,8 @@ use Rattle.cluster_model.specs.World.{sent}
 use Rattle.cluster_steps.specs.Lists.{In}
 use Rattle.cluster_steps.proofs.Lists.{none-and-some, same-some, not-both, all-at, all-filter, in-cases, in-none, in-map-from, in-filter, only-one, set-here, set-there, set-both}
 use Rattle.word_laws.proofs.Steps.{same-true}
-use Rattle.log_laws.specs.Histories.{LogState, Holds, IsSlot, Inert, Untaken, Wordless, InWord, StreamIn, JoinerOk, SiteOk, ViewIn, SiteLetterOk, WaitingFrom, WaitingOk, AskOk, HeldOk, CountedOk, ForeignOk, line_of, flow_of, end_of, part, start_at, term_at, between, line, flow, ends, ask_in, ask_of, asks_in, wait_of, asks_waiting, asks_kept, asks_of_term, asked, follows, log_at}
-use Rattle.log_laws.proofs.Kept.Moves.{after, popped, Later, Turns, NoStreamStart}
+use Rattle.log_laws.specs.Histories.{LogState, LogsHold, IsSlot, Inert, Untaken, Wordless, InWord, StreamIn, JoinerOk, SiteOk, ViewIn, SiteLetterOk, SiteWaitingFrom, SiteWaitingOk, AsksToJoin, HeldOk, CountedOk, ForeignOk, line_of, flow_of, end_of, part, site_start, term_at, between, line, flow, stream_ends_in, ask_in, ask_of, asks_in, wait_of, asks_waiting, asks_kept, asks_of_term, asked, follows, log_at}
+use Rattle.log_laws.proofs.Kept.Moves.{after_site, site_popped, LogsLater, Turns, NoStreamStart}
 use Rattle.log_laws.proofs.Kept.Grown.{grown-same, enters-same}
 use Rattle.log_laws.proofs.Kept.Laters.{ask-later, stays, entered-later, same-leaderships, leaderships-later, unleds-later}
 use Rattle.log_laws.proofs.Plain.Lines.{flat-in, line-none, line-same, line-plain, flow-none, flow-same, flow-plain, ends-none, ends-same, ends-plain, asks-append, asks-here, if-none}
@@ -27,17 +27,17 @@ use Rattle.log_laws.proofs.Kept.Terms.{running-slot, took-decided, some-term, so
 use Rattle.log_laws.proofs.Kept.Keeps.{still-same, member-keeps}
 use Rattle.log_laws.proofs.NewTerms.Entering.{running-ran}
 use Rattle.log_laws.proofs.Kept.Plumbing.{words-after, words-popped}
-use Rattle.log_laws.proofs.Kept.Turned.{turned, turned-later, Turned, turned-holds, fresh-keeps, said-same}
+use Rattle.log_laws.proofs.Kept.Turned.{site_turned, turned-later, Turned, turned-holds, fresh-keeps, said-same}
 use Rattle.log_laws.proofs.NewTerms.Taking.{no-line, no-flow, no-end, first-word, popped-other, mine-taken, theirs-taken, tells-taken, foreign-taken, views-taken}
 
 -- ---- who asks, wherever it is known
 
-module _ (S : LogState) (H : Holds S) (a c t x : ℕ) (slot : IsSlot S c) where
+module _ (S : LogState) (H : LogsHold S) (a c t x : ℕ) (slot : IsSlot S c) where
   -- by a message
-  asked-by : (l : Letter) → SiteLetterOk S a c l → In x (ask_of t l) → AskOk S (part S c) a t x
-  asked-by l k is = elim l.body as (λ m. SiteLetterOk S a c (record l { body = m }) → In x (if l.term == t then ask_in m else []) → AskOk S (part S c) a t x) [
+  asked-by : (l : Letter) → SiteLetterOk S a c l → In x (ask_of t l) → AsksToJoin S (part S c) a t x
+  asked-by l k is = elim l.body as (λ m. SiteLetterOk S a c (record l { body = m }) → In x (if l.term == t then ask_in m else []) → AsksToJoin S (part S c) a t x) [
     | msg.JoinAsk y slot-of ↦ λ p q. let o = only-one (l.term == t) y x q in
-        subst (AskOk S (part S c) a t) o.1 (subst (λ z. AskOk S (part S c) a z y) (eqb-true l.term t o.0) p.2)
+        subst (AsksToJoin S (part S c) a t) o.1 (subst (λ z. AsksToJoin S (part S c) a z y) (eqb-true l.term t o.0) p.2)
     | m ↦ λ p q. absurd (none (l.term == t) q)
   ] k is
     where
@@ -45,12 +45,12 @@ module _ (S : LogState) (H : Holds S) (a c t x : ℕ) (slot : IsSlot S c) where
       none true q = q
       none false q = q
 
-  waited-by : (y : Waiting) → WaitingOk S c y → In x (wait_of a t y) → AskOk S (part S c) a t x
+  waited-by : (y : Waiting) → SiteWaitingOk S c y → In x (wait_of a t y) → AsksToJoin S (part S c) a t x
   waited-by y k is = choice (same y.from (Site a)) refl is
     where
-      site : WaitingFrom S c (Site a) y.letter → In x (ask_of t y.letter) → AskOk S (part S c) a t x
-      site p q = elim y.letter.body as (λ m. (SiteLetterOk S a c (record y.letter { body = m }) → In x (ask_of t (record y.letter { body = m })) → AskOk S (part S c) a t x)
-          → WaitingFrom S c (Site a) (record y.letter { body = m }) → In x (ask_of t (record y.letter { body = m })) → AskOk S (part S c) a t x) [
+      site : SiteWaitingFrom S c (Site a) y.letter → In x (ask_of t y.letter) → AsksToJoin S (part S c) a t x
+      site p q = elim y.letter.body as (λ m. (SiteLetterOk S a c (record y.letter { body = m }) → In x (ask_of t (record y.letter { body = m })) → AsksToJoin S (part S c) a t x)
+          → SiteWaitingFrom S c (Site a) (record y.letter { body = m }) → In x (ask_of t (record y.letter { body = m })) → AsksToJoin S (part S c) a t x) [
             | msg.Put position e floor ↦ λ _ p. absurd p
             | msg.Repair from entries ↦ λ _ p. absurd p
             | msg.Task position e ↦ λ _ p. absurd p
@@ -59,22 +59,22 @@ module _ (S : LogState) (H : Holds S) (a c t x : ℕ) (slot : IsSlot S c) where
             | m ↦ λ f. f
           ] (asked-by y.letter) p q
 
-      choice : (b : Bool) → same y.from (Site a) ≡ b → In x (if b then ask_of t y.letter else []) → AskOk S (part S c) a t x
-      choice true e q = site (subst (λ z. WaitingFrom S c z y.letter) (same-true y.from (Site a) e) k.1) q
+      choice : (b : Bool) → same y.from (Site a) ≡ b → In x (if b then ask_of t y.letter else []) → AsksToJoin S (part S c) a t x
+      choice true e q = site (subst (λ z. SiteWaitingFrom S c z y.letter) (same-true y.from (Site a) e) k.1) q
       choice false e q = absurd q
 
   -- all that was asked and not answered is so
-  pub asked-ok : In x (asked S a c t) → AskOk S (part S c) a t x
+  pub asked-ok : In x (asked S a c t) → AsksToJoin S (part S c) a t x
   asked-ok is = elim (in-cases x (asks_in t (between S a c) ++ asks_waiting a t (S.sites c).waiting ++ asks_waiting a t (S.pending c)) (asks_of_term a t (S.sites c)) is) [
     | inr k ↦ kept k
     | inl k ↦ elim (in-cases x (asks_in t (between S a c) ++ asks_waiting a t (S.sites c).waiting) (asks_waiting a t (S.pending c)) k) [
       | inr p ↦ let r = flat-in (wait_of a t) x (S.pending c) p in waited-by r.0 (elim runs [
-        | inl up ↦ all-at (WaitingOk S c) (S.pending c) ((H.sites c).keeps up).pending r.0 r.1
+        | inl up ↦ all-at (SiteWaitingOk S c) (S.pending c) ((H.sites c).keeps up).pending r.0 r.1
         | inr z ↦ absurd (subst (In r.0) ((H.sites c).stopped z).3 r.1)
       ]) r.2
       | inl p ↦ elim (in-cases x (asks_in t (between S a c)) (asks_waiting a t (S.sites c).waiting) p) [
         | inr q ↦ let r = flat-in (wait_of a t) x (S.sites c).waiting q in waited-by r.0 (elim runs [
-          | inl up ↦ all-at (WaitingOk S c) (S.sites c).waiting ((H.sites c).keeps up).waiting r.0 r.1
+          | inl up ↦ all-at (SiteWaitingOk S c) (S.sites c).waiting ((H.sites c).keeps up).waiting r.0 r.1
           | inr z ↦ absurd (subst (In r.0) ((H.sites c).stopped z).0 r.1)
         ]) r.2
         | inl q ↦ let r = flat-in (ask_of t) x (between S a c) q in asked-by r.0 (all-at (SiteLetterOk S a c) (between S a c) (H.letters a c slot) r.0 r.1) r.2
@@ -82,23 +82,23 @@ module _ (S : LogState) (H : Holds S) (a c t x : ℕ) (slot : IsSlot S c) where
     ]
   ]
     where
-      runs : (0 < start_at S c) ⊎ (start_at S c ≡ 0)
-      runs = elim (cases_eq (start_at S c) 0) [ inl z ↦ inr z | inr n ↦ inl (omega (arith, n)) ]
+      runs : (0 < site_start S c) ⊎ (site_start S c ≡ 0)
+      runs = elim (cases_eq (site_start S c) 0) [ inl z ↦ inr z | inr n ↦ inl (omega (arith, n)) ]
 
-      of-term : (b : Bool) → (site_term (S.sites c) == t) ≡ b → In x (if b then asks_kept a (S.sites c).asks else []) → AskOk S (part S c) a t x
+      of-term : (b : Bool) → (site_term (S.sites c) == t) ≡ b → In x (if b then asks_kept a (S.sites c).asks else []) → AsksToJoin S (part S c) a t x
       of-term true e q =
           let r = in-map-from (λ z. z.start) x (filter (λ z. z.slot == a) (S.sites c).asks) q in
           let f = in-filter (λ z. z.slot == a) r.0 (S.sites c).asks r.1 in
           elim runs [
             | inl up ↦
-                let k = all-at (λ z. AskOk S (part S c) z.slot (term_at S c) z.start) (S.sites c).asks ((H.sites c).keeps up).asks r.0 f.0 in
-                subst (AskOk S (part S c) a t) r.2 (subst (λ z. AskOk S (part S c) a z r.0.start) (eqb-true (site_term (S.sites c)) t e)
-                (subst (λ z. AskOk S (part S c) z (term_at S c) r.0.start) (eqb-true r.0.slot a f.1) k))
+                let k = all-at (λ z. AsksToJoin S (part S c) z.slot (term_at S c) z.start) (S.sites c).asks ((H.sites c).keeps up).asks r.0 f.0 in
+                subst (AsksToJoin S (part S c) a t) r.2 (subst (λ z. AsksToJoin S (part S c) a z r.0.start) (eqb-true (site_term (S.sites c)) t e)
+                (subst (λ z. AsksToJoin S (part S c) z (term_at S c) r.0.start) (eqb-true r.0.slot a f.1) k))
             | inr z ↦ absurd (subst (In r.0) ((H.sites c).stopped z).1 f.0)
           ]
       of-term false e q = absurd q
 
-      kept : In x (asks_of_term a t (S.sites c)) → AskOk S (part S c) a t x
+      kept : In x (asks_of_term a t (S.sites c)) → AsksToJoin S (part S c) a t x
       kept q = of-term (site_term (S.sites c) == t) refl q
 
 -- ---- what it sends
@@ -137,8 +137,8 @@ module _ (i : ℕ) (D : Deployment) (s : SiteState) where
 
 -- ---- a joiner without a word takes the first one
 
-module _ (S : LogState) (H : Holds S) (h i : ℕ) (l : Letter) (w : Membership) (ls : List Letter) (is : S.words.channel (Agent h) (Site i) ≡ record l { body = msg.View w } ∷ ls)
-    (start : l.start ≡ start_at S i) (up : 0 < start_at S i) (none : (S.sites i).view ≡ None) where
+module _ (S : LogState) (H : LogsHold S) (h i : ℕ) (l : Letter) (w : Membership) (ls : List Letter) (is : S.words.channel (Agent h) (Site i) ≡ record l { body = msg.View w } ∷ ls)
+    (start : l.start ≡ site_start S i) (up : 0 < site_start S i) (none : (S.sites i).view ≡ None) where
   abbrev D : Deployment
   D = S.words.deployment
 
@@ -149,10 +149,10 @@ module _ (S : LogState) (H : Holds S) (h i : ℕ) (l : Letter) (w : Membership) 
   out = asks_to_join i D s (leader D w (part S i))
 
   abbrev ch : Actor → Actor → List Letter
-  ch = sent (popped S (Agent h) i).words.channel (Site i) out
+  ch = sent (site_popped S (Agent h) i).words.channel (Site i) out
 
   abbrev T : LogState
-  T = turned S i s ch S.logs.entered S.logs.leadership S.logs.reach
+  T = site_turned S i s ch S.logs.entered S.logs.leadership S.logs.reach
 
   abbrev new : ℕ → List Letter
   new c = out (Site c)
@@ -166,11 +166,11 @@ module _ (S : LogState) (H : Holds S) (h i : ℕ) (l : Letter) (w : Membership) 
   slot : IsSlot S i
   slot = running-slot S H i up
 
-  took : S.words.history.took (start_at S i) ≡ Some w
+  took : S.words.history.took (site_start S i) ≡ Some w
   took = first-word S H h i l w ls is start up none
 
   decided : In w S.words.history.decided
-  decided = took-decided S H (start_at S i) w took
+  decided = took-decided S H (site_start S i) w took
 
   no-term : term_at S i ≡ 0
   no-term = ap term_in none
@@ -192,8 +192,8 @@ module _ (S : LogState) (H : Holds S) (h i : ℕ) (l : Letter) (w : Membership) 
   wordless = subst (ViewIn S i joined.0) none ok.view
 
   -- no start of its slot that isn't an earlier one has asked
-  ask-none : (c t a : ℕ) → AskOk S (part S c) i t a → (S.sites i).earlier < t → ⊥
-  ask-none c t a k low = elim (cases_eq (start_at S i) a) [
+  ask-none : (c t a : ℕ) → AsksToJoin S (part S c) i t a → (S.sites i).earlier < t → ⊥
+  ask-none c t a k low = elim (cases_eq (site_start S i) a) [
     | inl e ↦ let j = k.joins e in none-and-some none j.1.2
     | inr n ↦ let b = k.been.others up n in absurd (omega (arith, b, low))
   ]
@@ -201,7 +201,7 @@ module _ (S : LogState) (H : Holds S) (h i : ℕ) (l : Letter) (w : Membership) 
   none-asked : (c t : ℕ) → IsSlot S c → (S.sites i).earlier < t → asked S i c t ≡ []
   none-asked c t sl low = in-none (asked S i c t) (λ x m. ask-none c t x (asked-ok S H i c t x sl m) low)
 
-  later : Later S T
+  later : LogsLater S T
   later = turned-later S i s ch S.logs.entered S.logs.leadership S.logs.reach
       (record {
         start = refl;
@@ -222,7 +222,7 @@ module _ (S : LogState) (H : Holds S) (h i : ℕ) (l : Letter) (w : Membership) 
   new-flow : (c a t : ℕ) → flow a t (new c) ≡ []
   new-flow c a t = flow-none a t (new c) (asks-all i D s (λ x. flow_of a t x ≡ []) (leader D w (part S i)) c (λ _ _. flow-plain a t (ask_letter i D s c) refl))
 
-  new-ends : (c a t : ℕ) → ends a t (new c) ≡ []
+  new-ends : (c a t : ℕ) → stream_ends_in a t (new c) ≡ []
   new-ends c a t = ends-none a t (new c) (asks-all i D s (λ x. end_of a t x ≡ []) (leader D w (part S i)) c (λ _ _. ends-plain a t (ask_letter i D s c) refl))
 
   line-there : (a c start t : ℕ) → line start t (ch (Site a) (Site c)) ≡ line start t (between S a c)
@@ -233,8 +233,8 @@ module _ (S : LogState) (H : Holds S) (h i : ℕ) (l : Letter) (w : Membership) 
   flow-there a c b t = said-same (flow b t) S i ch new (mine-taken S H h i l w ls is start up out) (theirs-taken S H h i l w ls is start up out) a c
       (flow-same b t (between S i c) (new c) (new-flow c b t))
 
-  ends-there : (a c start t : ℕ) → ends start t (ch (Site a) (Site c)) ≡ ends start t (between S a c)
-  ends-there a c b t = said-same (ends b t) S i ch new (mine-taken S H h i l w ls is start up out) (theirs-taken S H h i l w ls is start up out) a c
+  ends-there : (a c start t : ℕ) → stream_ends_in start t (ch (Site a) (Site c)) ≡ stream_ends_in start t (between S a c)
+  ends-there a c b t = said-same (stream_ends_in b t) S i ch new (mine-taken S H h i l w ls is start up out) (theirs-taken S H h i l w ls is start up out) a c
       (ends-same b t (between S i c) (new c) (new-ends c b t))
 
   no-asks : (c t : ℕ) → asks_of_term c t s ≡ []
@@ -262,13 +262,13 @@ module _ (S : LogState) (H : Holds S) (h i : ℕ) (l : Letter) (w : Membership) 
     led = λ p t g m. (refl, refl);
     counted = λ c a stream_start u g _ _ k l authoritative. set-both (λ l z. leader D u (part S c) ≡ Some l → 0 < z.start → z.joining ≡ None → z.view ≡ Some u
         → (j : Joiner) × In j z.joiners × (j.slot ≡ c) × (j.start ≡ a) × (j.stream_start ≡ stream_start)) S.sites i s (λ _ _ e _. absurd (none-and-some e joined.1)) (λ l _. k l) l authoritative;
-    members = λ c u other _ _ _ k. member-keeps S T H later c (still-same (S.sites c) (T.sites c) (there c other)) u k (λ a. line-there a c (start_at S c) (term_of u)) refl;
-    lines = λ c a u j other _ _ e. line-there a c (start_at S c) (term_of u) ∙ e;
+    members = λ c u other _ _ _ k. member-keeps S T H later c (still-same (S.sites c) (T.sites c) (there c other)) u k (λ a. line-there a c (site_start S c) (term_of u)) refl;
+    lines = λ c a u j other _ _ e. line-there a c (site_start S c) (term_of u) ∙ e;
   }
 
   -- ---- the site itself
 
-  own-start : start_at T i ≡ start_at S i
+  own-start : site_start T i ≡ site_start S i
   own-start = ap (λ z. z.start) here
 
   own-earlier : (T.sites i).earlier ≡ (S.sites i).earlier
@@ -291,7 +291,7 @@ module _ (S : LogState) (H : Holds S) (h i : ℕ) (l : Letter) (w : Membership) 
   unasked c e sl low = at-most-none (asked S i c (term_of w)) (asked T i c (term_of w)) (none-asked c (term_of w) sl low) (asked-less c (term_of w) e)
 
   -- the leader was asked once
-  asked-once : (c : ℕ) → leader D w (part S i) ≡ Some c → (c ≡ i → ⊥) → IsSlot S c → (S.sites i).earlier < term_of w → asked T i c (term_of w) ≡ start_at S i ∷ []
+  asked-once : (c : ℕ) → leader D w (part S i) ≡ Some c → (c ≡ i → ⊥) → IsSlot S c → (S.sites i).earlier < term_of w → asked T i c (term_of w) ≡ site_start S i ∷ []
   asked-once c authoritative other sl low =
       ap (λ z. asks_in t (ch (Site i) (Site c)) ++ asks_waiting i t z.waiting ++ asks_waiting i t (S.pending c) ++ asks_of_term i t z) (there c other)
       ∙ ap (λ z. asks_in t z ++ asks_waiting i t (S.sites c).waiting ++ asks_waiting i t (S.pending c) ++ asks_of_term i t (S.sites c)) channel
@@ -308,7 +308,7 @@ module _ (S : LogState) (H : Holds S) (h i : ℕ) (l : Letter) (w : Membership) 
         | inr k ↦ absurd (other (k.0 authoritative))
       ])
 
-      empties : (as_ bs cs ds : List ℕ) → as_ ++ bs ++ cs ++ ds ≡ [] → (as_ ++ (start_at S i ∷ [])) ++ bs ++ cs ++ ds ≡ start_at S i ∷ []
+      empties : (as_ bs cs ds : List ℕ) → as_ ++ bs ++ cs ++ ds ≡ [] → (as_ ++ (site_start S i ∷ [])) ++ bs ++ cs ++ ds ≡ site_start S i ∷ []
       empties [] [] [] [] e = refl
       empties (a ∷ as_) bs cs ds e = absurd (cc)
       empties [] (b ∷ bs) cs ds e = absurd (cc)
@@ -323,13 +323,13 @@ module _ (S : LogState) (H : Holds S) (h i : ℕ) (l : Letter) (w : Membership) 
   ]
 
   -- no leader counts it
-  uncounted : (c : ℕ) (j : Joiner) → In j (S.sites c).joiners → j.slot ≡ i → j.start ≡ start_at S i → ⊥
-  uncounted c j m q r = elim (cases_eq (start_at S c) 0) [
+  uncounted : (c : ℕ) (j : Joiner) → In j (S.sites c).joiners → j.slot ≡ i → j.start ≡ site_start S i → ⊥
+  uncounted c j m q r = elim (cases_eq (site_start S c) 0) [
     | inl z ↦ subst (In j) ((H.sites c).stopped z).2 m
     | inr n ↦ counts (omega (arith, n))
   ]
     where
-      counts : 0 < start_at S c → ⊥
+      counts : 0 < site_start S c → ⊥
       counts runs = let k = (H.sites c).keeps runs in elim k.leads [
         | inl e ↦ subst (In j) e m
         | inr e ↦
@@ -337,7 +337,7 @@ module _ (S : LogState) (H : Holds S) (h i : ℕ) (l : Letter) (w : Membership) 
             let o = (H.sites c).member runs v.0 in
             let some = some-term S H o.0 o.2.decided in
             let t = ap term_in o.1 in
-            let low = (all-at (CountedOk S (part S c) (term_at S c)) (S.sites c).joiners k.joiners j m).reached (ap (start_at S) q ∙ sym r) in
+            let low = (all-at (CountedOk S (part S c) (term_at S c)) (S.sites c).joiners k.joiners j m).reached (ap (site_start S) q ∙ sym r) in
             let z = ap (term_at S) q in
             let b = no-term in
             absurd (omega (arith, some, t, low, z, b))
@@ -345,8 +345,8 @@ module _ (S : LogState) (H : Holds S) (h i : ℕ) (l : Letter) (w : Membership) 
 
   inert : (c : ℕ) → follows D w i c ≡ true → (S.sites i).earlier < term_of w → Inert T i w c
   inert c f low = let authoritative = follows-leader D w i c f in record {
-    flow_is = subst (λ z. flow z (term_of w) (ch (Site c) (Site i)) ≡ []) (sym own-start) (flow-there c i (start_at S i) (term_of w) ∙ no-flow S H i (term_of w) slot above c);
-    ends_are = subst (λ z. ends z (term_of w) (ch (Site c) (Site i)) ≡ []) (sym own-start) (ends-there c i (start_at S i) (term_of w) ∙ no-end S H i (term_of w) slot above c);
+    flow_is = subst (λ z. flow z (term_of w) (ch (Site c) (Site i)) ≡ []) (sym own-start) (flow-there c i (site_start S i) (term_of w) ∙ no-flow S H i (term_of w) slot above c);
+    ends_are = subst (λ z. stream_ends_in z (term_of w) (ch (Site c) (Site i)) ≡ []) (sym own-start) (ends-there c i (site_start S i) (term_of w) ∙ no-end S H i (term_of w) slot above c);
     uncounted = λ j m q r. uncounted c j (subst (λ z. In j z.joiners) (there c authoritative.1) m) q (r ∙ own-start);
     asks = λ sl. inr (asked-once c authoritative.0 authoritative.1 sl low ∙ ap (λ z. z ∷ []) (sym own-start));
   }
@@ -365,10 +365,10 @@ module _ (S : LogState) (H : Holds S) (h i : ℕ) (l : Letter) (w : Membership) 
   in_word : InWord T i w joined.0
   in_word = record {
     took = ap S.words.history.took own-start ∙ took;
-    lines = λ c. subst (λ z. line z (term_of w) (ch (Site c) (Site i)) ≡ []) (sym own-start) (line-there c i (start_at S i) (term_of w) ∙ no-line S H i (term_of w) slot above c);
+    lines = λ c. subst (λ z. line z (term_of w) (ch (Site c) (Site i)) ≡ []) (sym own-start) (line-there c i (site_start S i) (term_of w) ∙ no-line S H i (term_of w) slot above c);
     others = λ c f. (
-      subst (λ z. flow z (term_of w) (ch (Site c) (Site i)) ≡ []) (sym own-start) (flow-there c i (start_at S i) (term_of w) ∙ no-flow S H i (term_of w) slot above c),
-      subst (λ z. ends z (term_of w) (ch (Site c) (Site i)) ≡ []) (sym own-start) (ends-there c i (start_at S i) (term_of w) ∙ no-end S H i (term_of w) slot above c),
+      subst (λ z. flow z (term_of w) (ch (Site c) (Site i)) ≡ []) (sym own-start) (flow-there c i (site_start S i) (term_of w) ∙ no-flow S H i (term_of w) slot above c),
+      subst (λ z. stream_ends_in z (term_of w) (ch (Site c) (Site i)) ≡ []) (sym own-start) (ends-there c i (site_start S i) (term_of w) ∙ no-end S H i (term_of w) slot above c),
       λ sl low. unasked c (new-none c f) sl (subst (λ z. z < term_of w) own-earlier low),
     );
     stream = subst (StreamIn T i w joined.0) (sym wordless.stream) untaken;
@@ -416,9 +416,9 @@ module _ (S : LogState) (H : Holds S) (h i : ℕ) (l : Letter) (w : Membership) 
   )
 
   -- what holds, holds once it has asked
-  pub joins-holds : Holds (after (popped S (Agent h) i) i s out S.logs)
+  pub joins-holds : LogsHold (after_site (site_popped S (Agent h) i) i s out S.logs)
   joins-holds = turned-holds S H i s ch S.logs.entered S.logs.leadership S.logs.reach new turns
-      (words-after (popped S (Agent h) i) i s out S.logs (words-popped S i (Agent h) H.words))
+      (words-after (site_popped S (Agent h) i) i s out S.logs (words-popped S i (Agent h) H.words))
       own-site
       (views-taken S H h i l w ls is start up out s S.logs later refl refl refl)
       (λ c sl. asks-all i D s (SiteLetterOk T i c) (leader D w (part S i)) c (λ authoritative _. asks-ok c authoritative))
@@ -430,7 +430,7 @@ module _ (S : LogState) (H : Holds S) (h i : ℕ) (l : Letter) (w : Membership) 
       (λ p t m. unleds-later S T H later (same-leaderships S.logs T.logs refl) p t refl m)
 
   -- the turn itself
-  pub joins-turns : Turns (popped S (Agent h) i) i (sending s out)
+  pub joins-turns : Turns (site_popped S (Agent h) i) i (sending s out)
   joins-turns = record {
     logs = S.logs;
     start = refl;

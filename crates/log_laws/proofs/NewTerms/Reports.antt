@@ -15,9 +15,9 @@ use Rattle.cluster_steps.specs.Lists.{In}
 use Rattle.cluster_steps.proofs.Lists.{all-append, all-mono, set-here, set-there, set-both}
 use Rattle.cluster_steps.proofs.Channels.{sent-nothing}
 use Rattle.word_laws.proofs.Hearings.{then-assoc}
-use Rattle.log_laws.specs.Histories.{LogState, Holds, IsSlot, ReportOk, AckOk, CountedOk, AskOk, KeepsOk, SiteOk, IsCounted, JoinsIn, WaitingOk, from_agent, part, start_at, log_at, term_at, between, asked, asks_in, asks_waiting, asks_of_term}
+use Rattle.log_laws.specs.Histories.{LogState, LogsHold, IsSlot, ReportOk, AckOk, CountedOk, AsksToJoin, KeepsOk, SiteOk, IsCounted, JoinsIn, SiteWaitingOk, agent_to_site, part, site_start, log_at, term_at, between, asked, asks_in, asks_waiting, asks_of_term}
 use Rattle.log_laws.proofs.Kept.Terms.{running-slot}
-use Rattle.log_laws.proofs.Kept.Moves.{Grown, after, Later, JoinsOn, Goes, NoStreamStart}
+use Rattle.log_laws.proofs.Kept.Moves.{Grown, after_site, LogsLater, JoinsOn, LogsGo, NoStreamStart}
 use Rattle.log_laws.proofs.Kept.Grown.{grown-same, enters-same}
 use Rattle.log_laws.proofs.Kept.Laters.{ack-later, counted-later, report-later, ask-later, stays, entered-later, same-leaderships, leaderships-later, unleds-later}
 use Rattle.cluster_steps.proofs.Prefixes.{prefix-append, prefix-length}
@@ -27,10 +27,10 @@ use Rattle.cluster_steps.proofs.Leaders.{leader-view, leader-same}
 use Rattle.log_laws.proofs.Plain.Copies.{is-leader}
 use Rattle.log_laws.proofs.Kept.Asked.{AtMost, at-most-same}
 use Rattle.log_laws.proofs.Kept.Plumbing.{goes-then, goes-same}
-use Rattle.log_laws.proofs.Kept.Keeps.{Still, still-same, member-keeps, site-keeps}
+use Rattle.log_laws.proofs.Kept.Keeps.{SiteStays, still-same, member-keeps, site-keeps}
 use Rattle.log_laws.proofs.Kept.KeepsViews.{views-keeps-with, leaves-same}
 use Rattle.log_laws.proofs.Entries.Calls.{works-goes}
-use Rattle.log_laws.proofs.Kept.Turned.{turned, turned-later, Turned, turned-holds, waiting-turned, pending-turned}
+use Rattle.log_laws.proofs.Kept.Turned.{site_turned, turned-later, Turned, turned-holds, waiting-turned, pending-turned}
 use Rattle.log_laws.proofs.NewTerms.Begun.{longest_site, begun_site, begun_leaderships, repairs_of, begun-holds, begun-grown}
 
 -- ---- a leader with all reports
@@ -42,7 +42,7 @@ begins D s = sending (record s { repaired = true; owes = Some (site_term s); rep
   | _ ↦ []
 ])
 
-module _ (E : Database) (S : LogState) (i stamp : ℕ) (H : Holds S) (up : 0 < start_at S i) (leads : is_leader S.words.deployment i (S.sites i) ≡ true)
+module _ (E : Database) (S : LogState) (i stamp : ℕ) (H : LogsHold S) (up : 0 < site_start S i) (leads : is_leader S.words.deployment i (S.sites i) ≡ true)
     (unrepaired : (S.sites i).repaired ≡ false) where
   has : (S.sites i).joining ≡ None × ((w : Membership) × ((S.sites i).view ≡ Some w))
   has = leader-view S.words.deployment i (S.sites i) leads
@@ -52,7 +52,7 @@ module _ (E : Database) (S : LogState) (i stamp : ℕ) (H : Holds S) (up : 0 < s
 
   -- it takes the longest log, and begins with it
   begins-goes : list_all (λ c. list_any (λ r. r.slot == c) (S.sites i).reports) (other_copies S.words.deployment i (S.sites i)) ≡ true
-      → Goes S i (appends_all E S.words.deployment i (lacks (length (log_at S i)) (longest (length (log_at S i)) None (S.sites i).reports)) (S.sites i)
+      → LogsGo S i (appends_all E S.words.deployment i (lacks (length (log_at S i)) (longest (length (log_at S i)) None (S.sites i).reports)) (S.sites i)
       ▸ begins S.words.deployment)
   begins-goes all = record {
     logs = record S.logs { leadership = begun_leaderships S i (term_of has.1.0) };
@@ -60,7 +60,7 @@ module _ (E : Database) (S : LogState) (i stamp : ℕ) (H : Holds S) (up : 0 < s
     view = ap (λ z. z.view) state;
     plain = λ c. subst (AllByRecursion NoStreamStart) (sym (sends c))
         (repair-all D (longest_site (S.sites i) app.scans app.scanning) c NoStreamStart (S.sites i).reports (λ r is q. tt));
-    holds = subst (λ z. Holds (after S i z out (record S.logs { leadership = begun_leaderships S i (term_of has.1.0) }))) (sym state)
+    holds = subst (λ z. LogsHold (after_site S i z out (record S.logs { leadership = begun_leaderships S i (term_of has.1.0) }))) (sym state)
         (begun-holds S H i has.1.0 up has.0 has.1.1 leading unrepaired all app.scans app.scanning out sends (λ h. ap (λ z. z ++ []) (app.inert (Agent h) refl)));
     grown = subst (λ z. Grown D i z S.logs (record S.logs { leadership = begun_leaderships S i (term_of has.1.0) })) (sym state)
         (begun-grown S H i has.1.0 up has.0 has.1.1 leading unrepaired all app.scans app.scanning out sends (λ h. ap (λ z. z ++ []) (app.inert (Agent h) refl)));
@@ -88,7 +88,7 @@ module _ (E : Database) (S : LogState) (i stamp : ℕ) (H : Holds S) (up : 0 < s
           ∙ ap (λ z. (begins D z).sends (Site c)) app.state
 
   -- With all reports it begins its term, and works its queue.
-  pub repairs-goes : Goes S i (repairs E S.words.deployment i stamp (S.sites i))
+  pub repairs-goes : LogsGo S i (repairs E S.words.deployment i stamp (S.sites i))
   repairs-goes = choice (list_all (λ c. list_any (λ r. r.slot == c) (S.sites i).reports) (other_copies S.words.deployment i (S.sites i))) refl
     where
       D : Deployment
@@ -98,27 +98,27 @@ module _ (E : Database) (S : LogState) (i stamp : ℕ) (H : Holds S) (up : 0 < s
       first = appends_all E D i (lacks (length (log_at S i)) (longest (length (log_at S i)) None (S.sites i).reports)) (S.sites i)
 
       choice : (b : Bool) → list_all (λ c. list_any (λ r. r.slot == c) (S.sites i).reports) (other_copies D i (S.sites i)) ≡ b
-          → Goes S i (if b then first ▸ is_repaired E D i stamp else becomes (S.sites i))
-      choice true e = subst (Goes S i) (then-assoc first (begins D) (works_calls E D i stamp))
+          → LogsGo S i (if b then first ▸ is_repaired E D i stamp else becomes (S.sites i))
+      choice true e = subst (LogsGo S i) (then-assoc first (begins D) (works_calls E D i stamp))
           (goes-then S i (first ▸ begins D) (works_calls E D i stamp) (begins-goes e) (λ T site same _ h.
-          subst (λ z. Goes T i (works_calls E D i stamp z)) site (subst (λ z. Goes T i (works_calls E z i stamp (T.sites i))) same
+          subst (λ z. LogsGo T i (works_calls E D i stamp z)) site (subst (λ z. LogsGo T i (works_calls E z i stamp (T.sites i))) same
           (works-goes E T i stamp h (subst (λ z. 0 < z) (sym (ap (λ z. z.start) site ∙ (begins-goes e).start)) up)))))
       choice false e = goes-same S i H
 
 -- ---- a report that is noted
 
-module _ (S : LogState) (H : Holds S) (i : ℕ) (up : 0 < start_at S i) (rs : List Reported)
+module _ (S : LogState) (H : LogsHold S) (i : ℕ) (up : 0 < site_start S i) (rs : List Reported)
     (ok : AllByRecursion (λ r. ReportOk S (part S i) r.slot (term_at S i) r.position r.floor r.tail) rs) where
   abbrev s : SiteState
   s = record (S.sites i) { reports = rs }
 
   abbrev T : LogState
-  T = turned S i s S.words.channel S.logs.entered S.logs.leadership S.logs.reach
+  T = site_turned S i s S.words.channel S.logs.entered S.logs.leadership S.logs.reach
 
   here : T.sites i ≡ s
   here = set-here S.sites i s
 
-  later : Later S T
+  later : LogsLater S T
   later = turned-later S i s S.words.channel S.logs.entered S.logs.leadership S.logs.reach
       (record { start = refl; earlier = refl; greatest = omega arith; log = omega arith; term = omega arith; member = λ e. e; loaded = λ k e. (k, e, λ l. l) })
       (λ c t e is. is) (λ c t e is. inl is) (λ p t. omega arith)
@@ -157,7 +157,7 @@ module _ (S : LogState) (H : Holds S) (i : ℕ) (up : 0 < start_at S i) (rs : Li
     lines = λ c l u j other _ _ e. e;
   }
 
-  still : Still (S.sites i) (T.sites i)
+  still : SiteStays (S.sites i) (T.sites i)
   still = record {
     start = ap (λ z. z.start) here;
     greatest = ap (λ z. z.greatest) here;
@@ -181,9 +181,9 @@ module _ (S : LogState) (H : Holds S) (i : ℕ) (up : 0 < start_at S i) (rs : Li
         (counted-later S T H later (part S i) (term_at S i)) (S.sites i).joiners k.joiners);
     alone = rw here k.alone;
     leads = rw here k.leads;
-    asks = rw here (all-mono (λ a. AskOk S (part S i) a.slot (term_at S i) a.start) (λ a. AskOk T (part S i) a.slot (term_at S i) a.start)
+    asks = rw here (all-mono (λ a. AsksToJoin S (part S i) a.slot (term_at S i) a.start) (λ a. AsksToJoin T (part S i) a.slot (term_at S i) a.start)
         (λ a. ask-later S T H later (part S i) a.slot (term_at S i) a.start (on a.slot)) (S.sites i).asks k.asks);
-    waiting = subst (λ z. AllByRecursion (WaitingOk T i) z.waiting) (sym here)
+    waiting = subst (λ z. AllByRecursion (SiteWaitingOk T i) z.waiting) (sym here)
         (waiting-turned S H i s S.words.channel S.logs.entered S.logs.leadership S.logs.reach (λ c. []) turns i (running-slot S H i up) still.start k);
     pending = pending-turned S H i s S.words.channel S.logs.entered S.logs.leadership S.logs.reach (λ c. []) turns i (running-slot S H i up) still.start k;
     on_disk = subst (λ z. z.on_disk ≤ length z.log) (sym here) k.on_disk;
@@ -199,17 +199,17 @@ module _ (S : LogState) (H : Holds S) (i : ℕ) (up : 0 < start_at S i) (rs : Li
         asks = asks i l (term_at S i);
         uncounted = λ none j is. none j (set-both (λ d z. In j z.joiners → In j (S.sites d).joiners) S.sites i s (λ y. y) (λ d _ y. y) l is);
       })
-      (λ stream_start u. counted i (start_at S i) stream_start u)
+      (λ stream_start u. counted i (site_start S i) stream_start u)
       (λ _. own-keeps)
       (λ z. let k = up in absurd (omega (arith, k, z)))
       (H.sites i)
 
   -- what holds, holds once it is noted
-  pub noted-holds : Holds (after S i s no_sends S.logs)
-  noted-holds = subst (λ c. Holds (turned S i s c S.logs.entered S.logs.leadership S.logs.reach)) (sym (sent-nothing S.words.channel (Site i)))
+  pub noted-holds : LogsHold (after_site S i s no_sends S.logs)
+  noted-holds = subst (λ c. LogsHold (site_turned S i s c S.logs.entered S.logs.leadership S.logs.reach)) (sym (sent-nothing S.words.channel (Site i)))
       (turned-holds S H i s S.words.channel S.logs.entered S.logs.leadership S.logs.reach (λ c. []) turns
       H.words own-site
-      (views-keeps-with S T H later i still.start still.view refl refl (λ x is. is) (leaves-same (start_at S i) (from_agent S i) (from_agent S i) refl) (H.views i))
+      (views-keeps-with S T H later i still.start still.view refl refl (λ x is. is) (leaves-same (site_start S i) (agent_to_site S i) (agent_to_site S i) refl) (H.views i))
       (λ c slot. tt)
       (λ c t e is. entered-later S T H later c t e (H.entered c t e is) (same-leaderships S.logs T.logs refl) (λ runs.
       let k = H.entered c t e is in let y = stays S T H later c e.start k.been.some k.been.ran runs in
@@ -219,8 +219,8 @@ module _ (S : LogState) (H : Holds S) (i : ℕ) (up : 0 < start_at S i) (rs : Li
       (λ p t is. unleds-later S T H later (same-leaderships S.logs T.logs refl) p t refl is))
 
 -- A leader notes a report. Once it has all, it begins its term.
-pub on_report-goes : (E : Database) (S : LogState) → Holds S → (i stamp slot position floor : ℕ) (tail : List Entry) → 0 < start_at S i
-    → ReportOk S (part S i) slot (term_at S i) position floor tail → Goes S i (on_report E S.words.deployment i stamp (S.sites i) slot position floor tail)
+pub on_report-goes : (E : Database) (S : LogState) → LogsHold S → (i stamp slot position floor : ℕ) (tail : List Entry) → 0 < site_start S i
+    → ReportOk S (part S i) slot (term_at S i) position floor tail → LogsGo S i (on_report E S.words.deployment i stamp (S.sites i) slot position floor tail)
 on_report-goes E S H i stamp slot position floor tail up ok = choice (is_leader D i (S.sites i) && not (S.sites i).repaired) refl
   where
     D : Deployment
@@ -229,7 +229,7 @@ on_report-goes E S H i stamp slot position floor tail up ok = choice (is_leader 
     more : SiteState
     more = record (S.sites i) { reports = (S.sites i).reports ++ record { slot = slot; position = position; floor = floor; tail = tail } ∷ [] }
 
-    noted : Goes S i (becomes more)
+    noted : LogsGo S i (becomes more)
     noted = record {
       logs = S.logs;
       start = refl;
@@ -242,10 +242,10 @@ on_report-goes E S H i stamp slot position floor tail up ok = choice (is_leader 
       longer = omega arith;
     }
 
-    choice : (b : Bool) → (is_leader D i (S.sites i) && not (S.sites i).repaired) ≡ b → Goes S i (if b then repairs E D i stamp more else becomes (S.sites i))
+    choice : (b : Bool) → (is_leader D i (S.sites i) && not (S.sites i).repaired) ≡ b → LogsGo S i (if b then repairs E D i stamp more else becomes (S.sites i))
     choice true e = let p = and_parts (is_leader D i (S.sites i)) (not (S.sites i).repaired) e in
         goes-then S i (becomes more) (repairs E D i stamp) noted (λ T site same _ h.
-        subst (λ z. Goes T i (repairs E D i stamp z)) site (subst (λ z. Goes T i (repairs E z i stamp (T.sites i))) same
+        subst (λ z. LogsGo T i (repairs E D i stamp z)) site (subst (λ z. LogsGo T i (repairs E z i stamp (T.sites i))) same
         (repairs-goes E T i stamp h (subst (λ z. 0 < z) (sym (ap (λ z. z.start) site)) up)
         (ap (λ z. is_leader z i (T.sites i)) same ∙ ap (is_leader D i) site ∙ leader-same D i (S.sites i) more refl refl ∙ p.0)
         (ap (λ z. z.repaired) site ∙ not-true (S.sites i).repaired p.1))))

@@ -6,10 +6,10 @@ use Rattle.volt_wire.specs.Word.{Membership}
 use Rattle.cluster_model.specs.Words.{term_of, start_of_slot}
 use Rattle.cluster_steps.specs.Lists.{In}
 use Rattle.cluster_steps.proofs.Lists.{none-and-some, same-some}
-use Rattle.log_laws.specs.Histories.{LogState, Holds, Entered, Streaming, Leadership, WordOf, WasIn, Last, Came, LeadershipOk, IsSlot, base_of, part, start_at, log_at}
+use Rattle.log_laws.specs.Histories.{LogState, LogsHold, Entered, Streaming, Leadership, WordOf, WasIn, Last, Came, LeadershipOk, IsSlot, epoch_base, part, site_start, log_at}
 use Rattle.log_laws.proofs.Kept.Terms.{base-least, named-first, member-or-joined, running-in, last-below}
 
-module _ (S : LogState) (H : Holds S) where
+module _ (S : LogState) (H : LogsHold S) where
   -- A member was in an earlier term that was led, or it took the stream of a term in between.
   pub was-in-or-joined : (c t a : ℕ) (w : Membership) → IsSlot S c → WordOf S t w → start_of_slot S.words.deployment w c ≡ Some a → Came S c t a
       → (v : ℕ) (g : Leadership) → S.logs.leadership (part S c) v ≡ Some g → v < t
@@ -52,7 +52,7 @@ module _ (S : LogState) (H : Holds S) where
       omega (arith, low, b, e)
 
   -- It is in the log of a member that goes on in a later term.
-  pub since-running : (c t a : ℕ) (w : Membership) → IsSlot S c → WordOf S t w → start_of_slot S.words.deployment w c ≡ Some a → Came S c t a → start_at S c ≡ a
+  pub since-running : (c t a : ℕ) (w : Membership) → IsSlot S c → WordOf S t w → start_of_slot S.words.deployment w c ≡ Some a → Came S c t a → site_start S c ≡ a
       → (v : ℕ) (g : Leadership) → S.logs.leadership (part S c) v ≡ Some g → v < t → S.logs.reach (part S c) v ≤ length (log_at S c)
   since-running c t a w s d m came runs v g led below = elim (was-in-or-joined c t a w s d m came v g led below) [
     | inl k ↦ (running-in S H c v a k runs).0
@@ -64,14 +64,14 @@ module _ (S : LogState) (H : Holds S) where
   ]
 
   -- a term that nobody led is above the first one
-  pub unled-above : (p : ℕ) (w : Membership) → In w S.words.history.decided → S.logs.leadership p (term_of w) ≡ None → base_of S < term_of w
-  unled-above p w d none = elim (cases_eq (base_of S) (term_of w)) [
+  pub unled-above : (p : ℕ) (w : Membership) → In w S.words.history.decided → S.logs.leadership p (term_of w) ≡ None → epoch_base S < term_of w
+  unled-above p w d none = elim (cases_eq (epoch_base S) (term_of w)) [
     | inl e ↦ let f = H.first p in absurd (none-and-some none (ap (S.logs.leadership p) (sym e) ∙ f.1))
     | inr n ↦ let b = base-least S H w d in omega (arith, b, n)
   ]
 
   -- What nobody led a term with, and is taken to be everywhere in it, was so in the last term that was led before.
-  pub since-unled : (p v : ℕ) → S.logs.leadership p v ≡ None → base_of S < v → (c t : ℕ) (e : Entered) → part S c ≡ p → S.logs.entered c t ≡ Some e → v < t
+  pub since-unled : (p v : ℕ) → S.logs.leadership p v ≡ None → epoch_base S < v → (c t : ℕ) (e : Entered) → part S c ≡ p → S.logs.entered c t ≡ Some e → v < t
       → S.logs.reach p v ≤ length e.log
   since-unled p v none some c t e same is below = elim (H.unled p v none) [
     | inl z ↦ omega (arith, z)

@@ -17,79 +17,79 @@ use Rattle.cluster_model.specs.Laws.{starts_in}
 use Rattle.cluster_steps.specs.Lists.{In}
 use Rattle.cluster_steps.proofs.Lists.{if-true, if-false, and-false, all-at, all-from, all-append, all-mono, eqb-same, set-here}
 use Rattle.cluster_steps.proofs.Channels.{took-all}
-use Rattle.log_laws.specs.Histories.{LogState, Logs, Holds, ViewsOk, MemberViews, FirstViews, RunViews, Starting, ForeignOk, start_at, term_at, from_agent, between, views, IsSlot, Reached, SiteLetterOk, is_for, line_of, flow_of, end_of, line, flow, ends, sent_term}
-use Rattle.log_laws.proofs.Kept.Moves.{after, popped, Later}
+use Rattle.log_laws.specs.Histories.{LogState, Logs, LogsHold, ViewsOk, MemberViews, FirstViews, RunViews, Starting, ForeignOk, site_start, term_at, agent_to_site, between, views, IsSlot, MeantFor, SiteLetterOk, is_for, line_of, flow_of, end_of, line, flow, stream_ends_in, sent_term}
+use Rattle.log_laws.proofs.Kept.Moves.{after_site, site_popped, LogsLater}
 use Rattle.log_laws.proofs.Plain.Lines.{views-here, line-other, flow-other, ends-other, line-none, flow-none, ends-none, if-none}
-use Rattle.log_laws.proofs.Kept.KeepsViews.{Leaves, leaves-first, member_views-later, first_views-later}
+use Rattle.log_laws.proofs.Kept.KeepsViews.{LeavesViews, leaves-first, member_views-later, first_views-later}
 
 -- ---- nothing is under way to a site in a term that is above its own
 
-module _ (S : LogState) (H : Holds S) (c t : ℕ) (slot : IsSlot S c) (above : term_at S c < t) where
-  too-high : (l : Letter) → Reached S c l → l.start ≡ start_at S c → l.term ≡ t → ⊥
+module _ (S : LogState) (H : LogsHold S) (c t : ℕ) (slot : IsSlot S c) (above : term_at S c < t) where
+  too-high : (l : Letter) → MeantFor S c l → l.start ≡ site_start S c → l.term ≡ t → ⊥
   too-high l k s e = let low = k.2 (sym s) in absurd (omega (arith, low, e, above))
 
-  line-high : (a : ℕ) (l : Letter) → SiteLetterOk S a c l → line_of (start_at S c) t l ≡ []
-  line-high a l k = elim l.body as (λ m. SiteLetterOk S a c (record l { body = m }) → line_of (start_at S c) t (record l { body = m }) ≡ []) [
-    | msg.Put position e floor ↦ λ p. line-other (start_at S c) t (record l { body = msg.Put position e floor }) (too-high (record l { body = msg.Put position e floor }) p.0)
-    | msg.Repair from entries ↦ λ p. line-other (start_at S c) t (record l { body = msg.Repair from entries }) (too-high (record l { body = msg.Repair from entries }) p)
-    | m ↦ λ _. if-none (is_for (start_at S c) t l)
+  line-high : (a : ℕ) (l : Letter) → SiteLetterOk S a c l → line_of (site_start S c) t l ≡ []
+  line-high a l k = elim l.body as (λ m. SiteLetterOk S a c (record l { body = m }) → line_of (site_start S c) t (record l { body = m }) ≡ []) [
+    | msg.Put position e floor ↦ λ p. line-other (site_start S c) t (record l { body = msg.Put position e floor }) (too-high (record l { body = msg.Put position e floor }) p.0)
+    | msg.Repair from entries ↦ λ p. line-other (site_start S c) t (record l { body = msg.Repair from entries }) (too-high (record l { body = msg.Repair from entries }) p)
+    | m ↦ λ _. if-none (is_for (site_start S c) t l)
   ] k
 
-  flow-high : (a : ℕ) (l : Letter) → SiteLetterOk S a c l → flow_of (start_at S c) t l ≡ []
-  flow-high a l k = elim l.body as (λ m. SiteLetterOk S a c (record l { body = m }) → flow_of (start_at S c) t (record l { body = m }) ≡ []) [
-    | msg.Task position e ↦ λ p. flow-other (start_at S c) t (record l { body = msg.Task position e }) (too-high (record l { body = msg.Task position e }) p)
-    | msg.StreamStart head ↦ λ p. flow-other (start_at S c) t (record l { body = msg.StreamStart head }) (too-high (record l { body = msg.StreamStart head }) p)
-    | m ↦ λ _. if-none (is_for (start_at S c) t l)
+  flow-high : (a : ℕ) (l : Letter) → SiteLetterOk S a c l → flow_of (site_start S c) t l ≡ []
+  flow-high a l k = elim l.body as (λ m. SiteLetterOk S a c (record l { body = m }) → flow_of (site_start S c) t (record l { body = m }) ≡ []) [
+    | msg.Task position e ↦ λ p. flow-other (site_start S c) t (record l { body = msg.Task position e }) (too-high (record l { body = msg.Task position e }) p)
+    | msg.StreamStart head ↦ λ p. flow-other (site_start S c) t (record l { body = msg.StreamStart head }) (too-high (record l { body = msg.StreamStart head }) p)
+    | m ↦ λ _. if-none (is_for (site_start S c) t l)
   ] k
 
-  end-high : (a : ℕ) (l : Letter) → SiteLetterOk S a c l → end_of (start_at S c) t l ≡ []
-  end-high a l k = elim l.body as (λ m. SiteLetterOk S a c (record l { body = m }) → end_of (start_at S c) t (record l { body = m }) ≡ []) [
-    | msg.StreamEnd count ↦ λ p. ends-other (start_at S c) t (record l { body = msg.StreamEnd count }) (too-high (record l { body = msg.StreamEnd count }) p.0)
-    | m ↦ λ _. if-none (is_for (start_at S c) t l)
+  end-high : (a : ℕ) (l : Letter) → SiteLetterOk S a c l → end_of (site_start S c) t l ≡ []
+  end-high a l k = elim l.body as (λ m. SiteLetterOk S a c (record l { body = m }) → end_of (site_start S c) t (record l { body = m }) ≡ []) [
+    | msg.StreamEnd count ↦ λ p. ends-other (site_start S c) t (record l { body = msg.StreamEnd count }) (too-high (record l { body = msg.StreamEnd count }) p.0)
+    | m ↦ λ _. if-none (is_for (site_start S c) t l)
   ] k
 
-  pub no-line : (a : ℕ) → line (start_at S c) t (between S a c) ≡ []
-  no-line a = line-none (start_at S c) t (between S a c) (all-mono (SiteLetterOk S a c) (λ l. line_of (start_at S c) t l ≡ []) (line-high a) (between S a c) (H.letters a c slot))
+  pub no-line : (a : ℕ) → line (site_start S c) t (between S a c) ≡ []
+  no-line a = line-none (site_start S c) t (between S a c) (all-mono (SiteLetterOk S a c) (λ l. line_of (site_start S c) t l ≡ []) (line-high a) (between S a c) (H.letters a c slot))
 
-  pub no-flow : (a : ℕ) → flow (start_at S c) t (between S a c) ≡ []
-  no-flow a = flow-none (start_at S c) t (between S a c) (all-mono (SiteLetterOk S a c) (λ l. flow_of (start_at S c) t l ≡ []) (flow-high a) (between S a c) (H.letters a c slot))
+  pub no-flow : (a : ℕ) → flow (site_start S c) t (between S a c) ≡ []
+  no-flow a = flow-none (site_start S c) t (between S a c) (all-mono (SiteLetterOk S a c) (λ l. flow_of (site_start S c) t l ≡ []) (flow-high a) (between S a c) (H.letters a c slot))
 
-  pub no-end : (a : ℕ) → ends (start_at S c) t (between S a c) ≡ []
-  no-end a = ends-none (start_at S c) t (between S a c) (all-mono (SiteLetterOk S a c) (λ l. end_of (start_at S c) t l ≡ []) (end-high a) (between S a c) (H.letters a c slot))
+  pub no-end : (a : ℕ) → stream_ends_in (site_start S c) t (between S a c) ≡ []
+  no-end a = ends-none (site_start S c) t (between S a c) (all-mono (SiteLetterOk S a c) (λ l. end_of (site_start S c) t l ≡ []) (end-high a) (between S a c) (H.letters a c slot))
 
 -- ---- the word that is taken
 
-module _ (S : LogState) (H : Holds S) (h i : ℕ) (l : Letter) (w : Membership) (ls : List Letter) (is : S.words.channel (Agent h) (Site i) ≡ record l { body = msg.View w } ∷ ls)
-    (start : l.start ≡ start_at S i) (up : 0 < start_at S i) where
+module _ (S : LogState) (H : LogsHold S) (h i : ℕ) (l : Letter) (w : Membership) (ls : List Letter) (is : S.words.channel (Agent h) (Site i) ≡ record l { body = msg.View w } ∷ ls)
+    (start : l.start ≡ site_start S i) (up : 0 < site_start S i) where
   -- the word is from its own host's agent
   pub own-agent : h ≡ host_of_slot S.words.deployment i
   own-agent = (subst (AllByRecursion (ForeignOk S i (Agent h))) is (H.foreign (Agent h) i)).0
 
-  from-own : from_agent S i ≡ record l { body = msg.View w } ∷ ls
+  from-own : agent_to_site S i ≡ record l { body = msg.View w } ∷ ls
   from-own = ap (λ z. S.words.channel (Agent z) (Site i)) (sym own-agent) ∙ is
 
-  view-first : views (start_at S i) (from_agent S i) ≡ w ∷ views (start_at S i) ls
-  view-first = ap (views (start_at S i)) from-own ∙ ap (λ z. z ++ views (start_at S i) ls) (views-here (start_at S i) (record l { body = msg.View w }) start)
+  view-first : views (site_start S i) (agent_to_site S i) ≡ w ∷ views (site_start S i) ls
+  view-first = ap (views (site_start S i)) from-own ∙ ap (λ z. z ++ views (site_start S i) ls) (views-here (site_start S i) (record l { body = msg.View w }) start)
 
-  runs : (o : Option Membership) → (S.sites i).view ≡ o → RunViews S i o (w ∷ views (start_at S i) ls)
-  runs o e = subst (RunViews S i o) view-first (subst (λ z. RunViews S i z (views (start_at S i) (from_agent S i))) e ((H.views i).running up))
+  runs : (o : Option Membership) → (S.sites i).view ≡ o → RunViews S i o (w ∷ views (site_start S i) ls)
+  runs o e = subst (RunViews S i o) view-first (subst (λ z. RunViews S i z (views (site_start S i) (agent_to_site S i))) e ((H.views i).running up))
 
   heads : {xs ys : List Membership} {x y : Membership} → x ∷ xs ≡ y ∷ ys → x ≡ y
   heads e = cc
 
   -- Without a word it is the one that it took. With one it is a later one that counts it.
-  pub first-word : (S.sites i).view ≡ None → S.words.history.took (start_at S i) ≡ Some w
+  pub first-word : (S.sites i).view ≡ None → S.words.history.took (site_start S i) ≡ Some w
   first-word e = let k = runs None e in let q : w ≡ k.first = heads k.views_are in k.took ∙ ap Some (sym q)
 
   pub later-word : (v : Membership) → (S.sites i).view ≡ Some v
-      → In w S.words.history.decided × (start_of_slot S.words.deployment w i ≡ Some (start_at S i)) × (term_of v < term_of w)
+      → In w S.words.history.decided × (start_of_slot S.words.deployment w i ≡ Some (site_start S i)) × (term_of v < term_of w)
   later-word v e = let k = runs (Some v) e in (k.0.0.0, k.0.0.1, (let a = k.1.0 in omega (arith, a)))
 
   -- the words behind it are later ones for a member
-  left-words : (o : Option Membership) → (S.sites i).view ≡ o → MemberViews S i (start_at S i) (term_of w + 1) (views (start_at S i) ls)
+  left-words : (o : Option Membership) → (S.sites i).view ≡ o → MemberViews S i (site_start S i) (term_of w + 1) (views (site_start S i) ls)
   left-words None e = let k = runs None e in
-      subst (λ z. MemberViews S i (start_at S i) (term_of w + 1) z) (sym (tails k.views_are))
-      (subst (λ z. MemberViews S i (start_at S i) (term_of z + 1) k.later) (sym (heads k.views_are)) k.members)
+      subst (λ z. MemberViews S i (site_start S i) (term_of w + 1) z) (sym (tails k.views_are))
+      (subst (λ z. MemberViews S i (site_start S i) (term_of z + 1) k.later) (sym (heads k.views_are)) k.members)
     where
       tails : {xs ys : List Membership} {x y : Membership} → x ∷ xs ≡ y ∷ ys → xs ≡ ys
       tails e = cc
@@ -97,30 +97,30 @@ module _ (S : LogState) (H : Holds S) (h i : ℕ) (l : Letter) (w : Membership) 
 
   -- ---- channels
 
-  popped-sites : (a c : ℕ) → (popped S (Agent h) i).words.channel (Site a) (Site c) ≡ between S a c
+  popped-sites : (a c : ℕ) → (site_popped S (Agent h) i).words.channel (Site a) (Site c) ≡ between S a c
   popped-sites a c = if-false (i == c && false) (rest (between S a c)) (between S a c) (and-false (i == c))
 
-  pub popped-other : (c : ℕ) → (c ≡ i → ⊥) → (g : ℕ) → (popped S (Agent h) i).words.channel (Agent g) (Site c) ≡ S.words.channel (Agent g) (Site c)
+  pub popped-other : (c : ℕ) → (c ≡ i → ⊥) → (g : ℕ) → (site_popped S (Agent h) i).words.channel (Agent g) (Site c) ≡ S.words.channel (Agent g) (Site c)
   popped-other c n g = let e : (i == c) ≡ false = grind (arith, nat_tests, n) in rw e refl
 
-  popped-own : (popped S (Agent h) i).words.channel (Agent (host_of_slot S.words.deployment i)) (Site i) ≡ ls
-  popped-own = subst (λ z. (popped S (Agent h) i).words.channel (Agent z) (Site i) ≡ ls) own-agent
+  popped-own : (site_popped S (Agent h) i).words.channel (Agent (host_of_slot S.words.deployment i)) (Site i) ≡ ls
+  popped-own = subst (λ z. (site_popped S (Agent h) i).words.channel (Agent z) (Site i) ≡ ls) own-agent
       (if-true (i == i && h == h) (rest (S.words.channel (Agent h) (Site i))) (S.words.channel (Agent h) (Site i)) (rw (eqb-same i, eqb-same h) refl) ∙ ap rest is)
 
-  popped-foreign : (from : Actor) (c : ℕ) → AllByRecursion (ForeignOk S c from) ((popped S (Agent h) i).words.channel from (Site c))
+  popped-foreign : (from : Actor) (c : ℕ) → AllByRecursion (ForeignOk S c from) ((site_popped S (Agent h) i).words.channel from (Site c))
   popped-foreign from c = took-all (ForeignOk S c from) S.words.channel (Agent h) (Site i) from (Site c) (H.foreign from c)
 
   module _ (out : Sends) where
     abbrev ch : Actor → Actor → List Letter
-    ch = sent (popped S (Agent h) i).words.channel (Site i) out
+    ch = sent (site_popped S (Agent h) i).words.channel (Site i) out
 
     pub mine-taken : (c : ℕ) → ch (Site i) (Site c) ≡ between S i c ++ out (Site c)
-    mine-taken c = if-true (i == i) ((popped S (Agent h) i).words.channel (Site i) (Site c) ++ out (Site c)) ((popped S (Agent h) i).words.channel (Site i) (Site c)) (eqb-same i)
+    mine-taken c = if-true (i == i) ((site_popped S (Agent h) i).words.channel (Site i) (Site c) ++ out (Site c)) ((site_popped S (Agent h) i).words.channel (Site i) (Site c)) (eqb-same i)
         ∙ ap (λ z. z ++ out (Site c)) (popped-sites i c)
 
     pub theirs-taken : (a c : ℕ) → (a ≡ i → ⊥) → ch (Site a) (Site c) ≡ between S a c
     theirs-taken a c n = let e : (i == a) ≡ false = grind (arith, nat_tests, n) in
-        if-false (i == a) ((popped S (Agent h) i).words.channel (Site a) (Site c) ++ out (Site c)) ((popped S (Agent h) i).words.channel (Site a) (Site c)) e ∙ popped-sites a c
+        if-false (i == a) ((site_popped S (Agent h) i).words.channel (Site a) (Site c) ++ out (Site c)) ((site_popped S (Agent h) i).words.channel (Site a) (Site c)) e ∙ popped-sites a c
 
     pub tells-taken : ((g : ℕ) → out (Agent g) ≡ []) → (c g : ℕ) → ch (Site c) (Agent g) ≡ S.words.channel (Site c) (Agent g)
     tells-taken inert c g = choice (i == c)
@@ -143,10 +143,10 @@ module _ (S : LogState) (H : Holds S) (h i : ℕ) (l : Letter) (w : Membership) 
 
     -- ---- its words, once it has this one
 
-    module _ (s : SiteState) (G : Logs) (later : Later S (after (popped S (Agent h) i) i s out G)) (same-start : s.start ≡ start_at S i)
+    module _ (s : SiteState) (G : Logs) (later : LogsLater S (after_site (site_popped S (Agent h) i) i s out G)) (same-start : s.start ≡ site_start S i)
         (has : s.view ≡ Some w) (ran : G.ran ≡ S.logs.ran) where
       abbrev T : LogState
-      T = after (popped S (Agent h) i) i s out G
+      T = after_site (site_popped S (Agent h) i) i s out G
 
       abbrev own : AgentState
       own = S.words.agents (host_of_slot S.words.deployment i)
@@ -154,34 +154,34 @@ module _ (S : LogState) (H : Holds S) (h i : ℕ) (l : Letter) (w : Membership) 
       abbrev first : Letter
       first = record l { body = msg.View w }
 
-      leaves : Leaves 0 (first ∷ ls) ls
+      leaves : LeavesViews 0 (first ∷ ls) ls
       leaves = leaves-first 0 first ls (λ z. absurd (omega (arith, z)))
 
-      left : from_agent T i ≡ ls
+      left : agent_to_site T i ≡ ls
       left = popped-own
 
       abbrev PlainView : Letter → Type 0
       PlainView l = elim l.body as (λ _. Type 0) [ msg.View w ↦ (l.term ≡ 0) × (0 < l.start) | _ ↦ Unit {0} ]
 
-      start-is : start_at T i ≡ start_at S i
+      start-is : site_start T i ≡ site_start S i
       start-is = ap (λ z. z.start) (set-here S.sites i s) ∙ same-start
 
       view-is : (T.sites i).view ≡ Some w
       view-is = ap (λ z. z.view) (set-here S.sites i s) ∙ has
 
       -- what is left was there
-      seen : (a : ℕ) (u : Membership) → In u (views a (from_agent T i)) → In u (views a (from_agent S i))
+      seen : (a : ℕ) (u : Membership) → In u (views a (agent_to_site T i)) → In u (views a (agent_to_site S i))
       seen a u m = subst (λ z. In u (views a z)) (sym from-own) (leaves.seen a u (subst (λ z. In u (views a z)) left m))
 
-      starts : (a : ℕ) → In a (starts_in (from_agent T i)) → In a (starts_in (from_agent S i))
+      starts : (a : ℕ) → In a (starts_in (agent_to_site T i)) → In a (starts_in (agent_to_site S i))
       starts a m = subst (λ z. In a (starts_in z)) (sym from-own) (leaves.starts a (subst (λ z. In a (starts_in z)) left m))
 
       -- a start that is under way, with its words
-      start-left : (a : ℕ) → In a (starts_in (from_agent T i)) → Starting a (from_agent T i) × (views a (from_agent T i) ≡ views a (from_agent S i))
+      start-left : (a : ℕ) → In a (starts_in (agent_to_site T i)) → Starting a (agent_to_site T i) × (views a (agent_to_site T i) ≡ views a (agent_to_site S i))
       start-left a m = let k = leaves.starting a (subst (λ z. In a (starts_in z)) left m) (subst (Starting a) from-own ((H.views i).starting a (starts a m)).1) in
           (subst (Starting a) (sym left) k.0, ap (views a) left ∙ k.1 ∙ ap (views a) (sym from-own))
 
-      in-views : In w (views (start_at S i) (from_agent S i))
+      in-views : In w (views (site_start S i) (agent_to_site S i))
       in-views = subst (λ z. In w z) (sym view-first) (inl refl)
 
       pub views-taken : ViewsOk T i
@@ -192,22 +192,22 @@ module _ (S : LogState) (H : Holds S) (h i : ℕ) (l : Letter) (w : Membership) 
           | inr (inl x) ↦ inr (inl (subst (λ z. In a (z i)) ran x))
           | inr (inr (u, x)) ↦ inr (inr (u, seen a u x))
         ]);
-        running = λ _. subst (λ z. RunViews T i z (views (start_at T i) (from_agent T i))) (sym view-is)
-            (subst (λ z. MemberViews T i z (term_of w + 1) (views z (from_agent T i))) (sym start-is)
-            (subst (λ z. MemberViews T i (start_at S i) (term_of w + 1) (views (start_at S i) z)) (sym left)
-            (member_views-later S T later.words.deployment later.words.decided later.words.took_word i (start_at S i) (term_of w + 1) (views (start_at S i) ls) (left-words (S.sites i).view refl))));
+        running = λ _. subst (λ z. RunViews T i z (views (site_start T i) (agent_to_site T i))) (sym view-is)
+            (subst (λ z. MemberViews T i z (term_of w + 1) (views z (agent_to_site T i))) (sym start-is)
+            (subst (λ z. MemberViews T i (site_start S i) (term_of w + 1) (views (site_start S i) z)) (sym left)
+            (member_views-later S T later.words.deployment later.words.decided later.words.took_word i (site_start S i) (term_of w + 1) (views (site_start S i) ls) (left-words (S.sites i).view refl))));
         starting = λ a m. let o = k.starting a (starts a m) in let n = start-left a m in
-            ((λ x. o.0 (subst (λ z. In a (z i)) ran x)), n.0, subst (FirstViews T i a) (sym n.1) (first_views-later S T later.words.deployment later.words.decided later.words.took_word i a (views a (from_agent S i)) o.2));
+            ((λ x. o.0 (subst (λ z. In a (z i)) ran x)), n.0, subst (FirstViews T i a) (sym n.1) (first_views-later S T later.words.deployment later.words.decided later.words.took_word i a (views a (agent_to_site S i)) o.2));
         wordless = λ some taken none. let o = k.wordless some taken none in (
           (λ x. o.0 (starts own.start x)),
           (λ x. o.1 (subst (λ z. In own.start (z i)) ran x)),
           ap (views own.start) left ∙ leaves.none own.start (ap (views own.start) (sym from-own) ∙ o.2),
         );
         below = λ some. let o = k.below some in (
-          all-from (λ u. term_of u ≤ sent_term own) (views own.start (from_agent T i))
-              (λ u m. all-at (λ u. term_of u ≤ sent_term own) (views own.start (from_agent S i)) o.0 u (seen own.start u m)),
-          (λ e. let low = all-at (λ u. term_of u ≤ sent_term own) (views own.start (from_agent S i)) o.0 w
-              (subst (λ z. In w (views z (from_agent S i))) (sym start-is ∙ e) in-views) in
+          all-from (λ u. term_of u ≤ sent_term own) (views own.start (agent_to_site T i))
+              (λ u m. all-at (λ u. term_of u ≤ sent_term own) (views own.start (agent_to_site S i)) o.0 u (seen own.start u m)),
+          (λ e. let low = all-at (λ u. term_of u ≤ sent_term own) (views own.start (agent_to_site S i)) o.0 w
+              (subst (λ z. In w (views z (agent_to_site S i))) (sym start-is ∙ e) in-views) in
               let t = ap term_in view-is in omega (arith, low, t)),
         );
       }

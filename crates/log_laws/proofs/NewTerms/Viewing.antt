@@ -12,8 +12,8 @@ use Rattle.cluster_model.specs.SiteState.{SiteState, Joining, is_joiner, is_lead
 use Rattle.cluster_model.specs.Site.{as_member, reports_to, repairs, on_view}
 use Rattle.cluster_steps.proofs.Lists.{none-and-some, not-both, and-false, if-true, if-false}
 use Rattle.word_laws.proofs.Members.{is_member-start, start-is_member}
-use Rattle.log_laws.specs.Histories.{LogState, Holds, part, start_at, from_agent}
-use Rattle.log_laws.proofs.Kept.Moves.{popped, Turns, Goes}
+use Rattle.log_laws.specs.Histories.{LogState, LogsHold, part, site_start, agent_to_site}
+use Rattle.log_laws.proofs.Kept.Moves.{site_popped, Turns, LogsGo}
 use Rattle.log_laws.proofs.Plain.Copies.{leader-is}
 use Rattle.cluster_steps.proofs.Leaders.{a-joiner}
 use Rattle.log_laws.proofs.Kept.Terms.{took-unnamed}
@@ -51,28 +51,28 @@ reports D i p s w other = record { sites = λ c. sites (leader D w p) refl c; ag
 
 -- ---- the turn
 
-module _ (E : Database) (S : LogState) (stamp : ℕ) (H : Holds S) (h i : ℕ) (l : Letter) (w : Membership) (ls : List Letter)
-    (is : S.words.channel (Agent h) (Site i) ≡ record l { body = msg.View w } ∷ ls) (start : l.start ≡ start_at S i) (up : 0 < start_at S i) where
+module _ (E : Database) (S : LogState) (stamp : ℕ) (H : LogsHold S) (h i : ℕ) (l : Letter) (w : Membership) (ls : List Letter)
+    (is : S.words.channel (Agent h) (Site i) ≡ record l { body = msg.View w } ∷ ls) (start : l.start ≡ site_start S i) (up : 0 < site_start S i) where
   abbrev D : Deployment
   D = S.words.deployment
 
   -- whether the word counts the start, and whether the site asks to join
   abbrev counts : Bool
-  counts = is_member w (host_of_slot D i) (start_at S i)
+  counts = is_member w (host_of_slot D i) (site_start S i)
 
   abbrev asks : Bool
   asks = is_joiner (S.sites i) && not counts
 
   -- it enters the term, and reports, or waits for reports
-  member-turns : (v : Membership) → (S.sites i).view ≡ Some v → Turns (popped S (Agent h) i) i (as_member E D i stamp (entered_site (S.sites i) w))
+  member-turns : (v : Membership) → (S.sites i).view ≡ Some v → Turns (site_popped S (Agent h) i) i (as_member E D i stamp (entered_site (S.sites i) w))
   member-turns v view = choice (is_leader D i (entered_site (S.sites i) w)) refl
     where
       choice : (b : Bool) → is_leader D i (entered_site (S.sites i) w) ≡ b
-          → Turns (popped S (Agent h) i) i (if b then repairs E D i stamp (entered_site (S.sites i) w)
+          → Turns (site_popped S (Agent h) i) i (if b then repairs E D i stamp (entered_site (S.sites i) w)
           else sending (entered_site (S.sites i) w) (reports_to D (entered_site (S.sites i) w) (leader D w (part S i))))
-      choice true e = turns-then-goes (popped S (Agent h) i) i (becomes (entered_site (S.sites i) w)) (repairs E D i stamp)
+      choice true e = turns-then-goes (site_popped S (Agent h) i) i (becomes (entered_site (S.sites i) w)) (repairs E D i stamp)
           (enters-turns S H h i l w ls is start up v view no_sends (says-nothing D i (part S i) (S.sites i) w))
-          (λ T site same _ k. subst (λ z. Goes T i (repairs E D i stamp z)) site (subst (λ z. Goes T i (repairs E z i stamp (T.sites i))) same
+          (λ T site same _ k. subst (λ z. LogsGo T i (repairs E D i stamp z)) site (subst (λ z. LogsGo T i (repairs E z i stamp (T.sites i))) same
           (repairs-goes E T i stamp k (subst (λ z. 0 < z) (sym (ap (λ z. z.start) site)) up)
           (ap (λ z. is_leader z i (T.sites i)) same ∙ ap (is_leader D i) site ∙ e)
           (ap (λ z. z.repaired) site))))
@@ -81,12 +81,12 @@ module _ (E : Database) (S : LogState) (stamp : ℕ) (H : Holds S) (h i : ℕ) (
           (leader-is D i (entered_site (S.sites i) w) w refl refl q) e))
 
   -- A joiner takes its first word, and asks to join. With a word, the next one counts the site: it is a member from then on.
-  pub view-turns : Turns (popped S (Agent h) i) i (on_view E S.words.deployment i stamp (S.sites i) w)
+  pub view-turns : Turns (site_popped S (Agent h) i) i (on_view E S.words.deployment i stamp (S.sites i) w)
   view-turns = go (S.sites i).view refl
     where
       counted : (v : Membership) → (S.sites i).view ≡ Some v → asks ≡ false
       counted v view = ap (λ b. is_joiner (S.sites i) && b) (not_from_true counts
-          (start-is_member w (host_of_slot D i) (start_at S i) (later-word S H h i l w ls is start up v view).1))
+          (start-is_member w (host_of_slot D i) (site_start S i) (later-word S H h i l w ls is start up v view).1))
           ∙ and-false (is_joiner (S.sites i))
 
       joins : (S.sites i).view ≡ None → (o : Option Joining) → (S.sites i).joining ≡ o → is_joiner (S.sites i) ≡ true
@@ -95,16 +95,16 @@ module _ (E : Database) (S : LogState) (stamp : ℕ) (H : Holds S) (h i : ℕ) (
 
       not-counted : (S.sites i).view ≡ None → asks ≡ true
       not-counted none = and_from (is_joiner (S.sites i)) (not counts) (joins none (S.sites i).joining refl) (not_from_false counts (elim (cases_Bool counts) [
-        | inl m ↦ absurd (took-unnamed S H (start_at S i) w i (first-word S H h i l w ls is start up none) (is_member-start w (host_of_slot D i) (start_at S i) m))
+        | inl m ↦ absurd (took-unnamed S H (site_start S i) w i (first-word S H h i l w ls is start up none) (is_member-start w (host_of_slot D i) (site_start S i) m))
         | inr m ↦ m
       ]))
 
-      go : (o : Option Membership) → (S.sites i).view ≡ o → Turns (popped S (Agent h) i) i (on_view E D i stamp (S.sites i) w)
-      go None e = subst (Turns (popped S (Agent h) i) i) (sym (if-true asks _ _ (not-counted e))) (joins-turns S H h i l w ls is start up e)
-      go (Some v) e = subst (Turns (popped S (Agent h) i) i) (sym (if-false asks _ _ (counted v e))) (member-turns v e)
+      go : (o : Option Membership) → (S.sites i).view ≡ o → Turns (site_popped S (Agent h) i) i (on_view E D i stamp (S.sites i) w)
+      go None e = subst (Turns (site_popped S (Agent h) i) i) (sym (if-true asks _ _ (not-counted e))) (joins-turns S H h i l w ls is start up e)
+      go (Some v) e = subst (Turns (site_popped S (Agent h) i) i) (sym (if-false asks _ _ (counted v e))) (member-turns v e)
 
 -- from its own host's agent
-pub on_view-turns : (E : Database) (S : LogState) → Holds S → (i stamp : ℕ) (l : Letter) (ls : List Letter) (w : Membership)
-    → from_agent S i ≡ record l { body = msg.View w } ∷ ls → 0 < start_at S i → l.start ≡ start_at S i
-    → Turns (popped S (Agent (host_of_slot S.words.deployment i)) i) i (on_view E S.words.deployment i stamp (S.sites i) w)
+pub on_view-turns : (E : Database) (S : LogState) → LogsHold S → (i stamp : ℕ) (l : Letter) (ls : List Letter) (w : Membership)
+    → agent_to_site S i ≡ record l { body = msg.View w } ∷ ls → 0 < site_start S i → l.start ≡ site_start S i
+    → Turns (site_popped S (Agent (host_of_slot S.words.deployment i)) i) i (on_view E S.words.deployment i stamp (S.sites i) w)
 on_view-turns E S H i stamp l ls w is up start = view-turns E S stamp H (host_of_slot S.words.deployment i) i l w ls is start up

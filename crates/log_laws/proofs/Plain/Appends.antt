@@ -13,8 +13,8 @@ use Rattle.word_laws.specs.Histories.{Distinct}
 use Rattle.cluster_steps.proofs.Lists.{all-append, all-at, all-from, only-one}
 use Rattle.cluster_steps.proofs.Appends.{Passed}
 use Rattle.cluster_steps.proofs.Sends.{put_letter, put-all, task_letter, tasks-all}
-use Rattle.log_laws.specs.Histories.{Puts, Flow, Follows, is_for, line_of, line, flow_of, flow, end_of, ends, ask_of, asks_in}
-use Rattle.log_laws.proofs.Plain.Lines.{flat-in, line-none, line-same, line-plain, line-other, flow-none, flow-append, flow-plain, flow-other, ends-none, ends-plain, asks-none, asks-plain, put-line, put-flow, tasks-line, tasks-flow}
+use Rattle.log_laws.specs.Histories.{Puts, Flow, Follows, is_for, line_of, line, flow_of, flow, end_of, stream_ends_in}
+use Rattle.log_laws.proofs.Plain.Lines.{flat-in, line-none, line-same, line-plain, line-other, flow-none, flow-append, flow-plain, flow-other, ends-none, ends-plain, put-line, put-flow, tasks-line, tasks-flow}
 
 module _ (D : Deployment) (i : ℕ) (e : Entry) (s : SiteState) (out : Sends) (k : Passed D i e s out) (c : ℕ) where
   -- each of them
@@ -48,13 +48,9 @@ module _ (D : Deployment) (i : ℕ) (e : Entry) (s : SiteState) (out : Sends) (k
   passed-flow-other start term n = flow-none start term (out (Site c)) (passed-all (λ l. flow_of start term l ≡ [])
       (λ is. flow-plain start term (put_letter D s e c (other_copies D i s)) refl) (λ j is q. flow-other start term (task_letter s e c j) (n j is q)))
 
-  pub passed-ends : (start term : ℕ) → ends start term (out (Site c)) ≡ []
+  pub passed-ends : (start term : ℕ) → stream_ends_in start term (out (Site c)) ≡ []
   passed-ends start term = ends-none start term (out (Site c)) (passed-all (λ l. end_of start term l ≡ [])
       (λ is. ends-plain start term (put_letter D s e c (other_copies D i s)) refl) (λ j is q. ends-plain start term (task_letter s e c j) refl))
-
-  pub passed-asks : (term : ℕ) → asks_in term (out (Site c)) ≡ []
-  passed-asks term = asks-none term (out (Site c)) (passed-all (λ l. ask_of term l ≡ [])
-      (λ is. asks-plain term (put_letter D s e c (other_copies D i s)) refl) (λ j is q. asks-plain term (task_letter s e c j) refl))
 
   -- and nothing but entries that follow
   pub passed-follows : (P : Flow → Type 0) (start term : ℕ) → P (Follows e) → AllByRecursion P (flow start term (out (Site c)))

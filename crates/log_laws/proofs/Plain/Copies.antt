@@ -127,10 +127,6 @@ module _ (D : Deployment) (w : Membership) where
   pub not-follows : (c l : ℕ) → (leader D w (part_of_slot D c) ≡ Some l → l ≡ c) → follows D w c l ≡ false
   not-follows c l f = false_from_ne_true (follows D w c l) (λ e. let p = follows-leader c l e in p.1 (f p.0))
 
-  -- not itself, and nobody where it leads
-  pub follows-self : (c : ℕ) → follows D w c c ≡ false
-  follows-self c = not-follows c c (λ e. refl)
-
   pub leader-follows-none : (c l : ℕ) → leader D w (part_of_slot D c) ≡ Some c → follows D w c l ≡ false
   leader-follows-none c l e = not-follows c l (λ k. same-some (sym k ∙ e))
 
@@ -149,12 +145,6 @@ module _ (D : Deployment) (w : Membership) where
   pub follows-part : (c l : ℕ) → follows D w c l ≡ true → part_of_slot D l ≡ part_of_slot D c
   follows-part c l e = (leader-copy (part_of_slot D c) l (follows-leader c l e).0).0
 
-  pub follows-start : (c l : ℕ) → follows D w c l ≡ true → (a : ℕ) × (start_of_slot D w l ≡ Some a)
-  follows-start c l e = (leader-copy (part_of_slot D c) l (follows-leader c l e).0).1
-
-  pub follows-leads : (c l : ℕ) → follows D w c l ≡ true → leader D w (part_of_slot D l) ≡ Some l
-  follows-leads c l e = ap (leader D w) (follows-part c l e) ∙ (follows-leader c l e).0
-
 -- ---- at a site
 
 module _ (D : Deployment) (i : ℕ) (s : SiteState) (w : Membership) (v : s.view ≡ Some w) where
@@ -167,13 +157,6 @@ module _ (D : Deployment) (i : ℕ) (s : SiteState) (w : Membership) (v : s.view
   pub leader-is : s.joining ≡ None → leader D w (part_of_slot D i) ≡ Some i → is_leader D i s ≡ true
   leader-is j e = and_from (not (is_joiner s)) (is_some_of (leader_in D s.view (part_of_slot D i)) i)
       (ap (λ o. not (is_some o)) j) (ap (λ o. is_some_of (leader_in D o (part_of_slot D i)) i) v ∙ ap (λ o. is_some_of o i) e ∙ eqb-same i)
-
-  pub not-leader : (leader D w (part_of_slot D i) ≡ Some i → ⊥) → is_leader D i s ≡ false
-  not-leader n = false_from_ne_true (is_leader D i s) (λ e. n (is-leader e).1)
-
-  -- the leader and the starts that it knows
-  pub leader-in-view : (p : ℕ) → leader_in D s.view p ≡ leader D w p
-  leader-in-view p = ap (λ o. leader_in D o p) v
 
   pub start-in-view : (c a : ℕ) → start_of_slot D w c ≡ Some a → start_in_view D s.view c ≡ a
   start-in-view c a e = ap (λ o. start_in_view D o c) v ∙ ap (λ o. unwrap_or o 0) e
@@ -191,7 +174,3 @@ module _ (D : Deployment) (i : ℕ) (s : SiteState) (w : Membership) (v : s.view
       let k = is_in-in c (copies D w (part_of_slot D i)) (ap (λ x. is_in c (copies D w x)) (sym p) ∙ member-copy D w c a e) in
       in-is_in c (other_copies D i s) (filter-in (λ x. not (x == i)) c (copies_in D s.view (part_of_slot D i))
       (subst (λ o. In c (copies_in D o (part_of_slot D i))) (sym v) k) (not_from_false (c == i) (false_from_ne_true (c == i) (λ q. n (eqb-true c i q)))))
-
-  -- a slot isn't one of its own other copies
-  pub other-copy-self : is_in i (other_copies D i s) ≡ false
-  other-copy-self = false_from_ne_true (is_in i (other_copies D i s)) (λ e. (other-copy i e).0 refl)

@@ -15,7 +15,7 @@ use Rattle.cluster_model.specs.Site.{order_of, of_order, put_to, tasks_to, repai
 use Rattle.cluster_steps.specs.Lists.{In}
 use Rattle.word_laws.specs.Histories.{Distinct}
 use Rattle.cluster_steps.proofs.Lists.{if-true, if-false, in-left, in-right, in-cases, in-filter, all-at, all-from, all-mono, in-none, in-map}
-use Rattle.log_laws.specs.Histories.{Line, Repairs, Puts, Flow, Begins, Follows, is_for, line_in, line_of, line, flow_in, flow_of, flow, end_in, end_of, ends, ask_in, ask_of, asks_in, wait_of, asks_waiting, asks_kept, view_in, view_of, views}
+use Rattle.log_laws.specs.Histories.{Line, Repairs, Puts, Flow, Begins, Follows, is_for, line_in, line_of, line, flow_in, flow_of, flow, end_in, end_of, stream_ends_in, ask_in, ask_of, asks_in, wait_of, asks_waiting, asks_kept, view_in, view_of, views}
 use Rattle.cluster_steps.proofs.Sends.{in_order, put_letter, put-all, task_letter, tasks-all, repair_letter, repair-cases, repair-all, end_letter, stream_ends-all}
 use Rattle.log_laws.proofs.Kept.Moves.{NoStreamStart}
 
@@ -77,7 +77,7 @@ line-append start term xs ys = flat_map-append (line_of start term) xs ys
 pub flow-append : (start term : ℕ) (xs ys : List Letter) → flow start term (xs ++ ys) ≡ flow start term xs ++ flow start term ys
 flow-append start term xs ys = flat_map-append (flow_of start term) xs ys
 
-pub ends-append : (start term : ℕ) (xs ys : List Letter) → ends start term (xs ++ ys) ≡ ends start term xs ++ ends start term ys
+pub ends-append : (start term : ℕ) (xs ys : List Letter) → stream_ends_in start term (xs ++ ys) ≡ stream_ends_in start term xs ++ stream_ends_in start term ys
 ends-append start term xs ys = flat_map-append (end_of start term) xs ys
 
 pub asks-append : (term : ℕ) (xs ys : List Letter) → asks_in term (xs ++ ys) ≡ asks_in term xs ++ asks_in term ys
@@ -94,10 +94,6 @@ kept-append c xs ys =
 pub views-append : (start : ℕ) (xs ys : List Letter) → views start (xs ++ ys) ≡ views start xs ++ views start ys
 views-append start xs ys = flat_map-append (view_of start) xs ys
 
--- with one more
-pub line-push : (start term : ℕ) (xs : List Letter) (l : Letter) → line start term (xs ++ l ∷ []) ≡ line start term xs ++ line_of start term l
-line-push start term xs l = line-append start term xs (l ∷ []) ∙ ap (λ zs. line start term xs ++ zs) (append-nil (line_of start term l))
-
 pub flow-push : (start term : ℕ) (xs : List Letter) (l : Letter) → flow start term (xs ++ l ∷ []) ≡ flow start term xs ++ flow_of start term l
 flow-push start term xs l = flow-append start term xs (l ∷ []) ∙ ap (λ zs. flow start term xs ++ zs) (append-nil (flow_of start term l))
 
@@ -111,8 +107,8 @@ line-same start term xs ys e = line-append start term xs ys ∙ ap (λ zs. line 
 pub flow-same : (start term : ℕ) (xs ys : List Letter) → flow start term ys ≡ [] → flow start term (xs ++ ys) ≡ flow start term xs
 flow-same start term xs ys e = flow-append start term xs ys ∙ ap (λ zs. flow start term xs ++ zs) e ∙ append-nil (flow start term xs)
 
-pub ends-same : (start term : ℕ) (xs ys : List Letter) → ends start term ys ≡ [] → ends start term (xs ++ ys) ≡ ends start term xs
-ends-same start term xs ys e = ends-append start term xs ys ∙ ap (λ zs. ends start term xs ++ zs) e ∙ append-nil (ends start term xs)
+pub ends-same : (start term : ℕ) (xs ys : List Letter) → stream_ends_in start term ys ≡ [] → stream_ends_in start term (xs ++ ys) ≡ stream_ends_in start term xs
+ends-same start term xs ys e = ends-append start term xs ys ∙ ap (λ zs. stream_ends_in start term xs ++ zs) e ∙ append-nil (stream_ends_in start term xs)
 
 pub asks-same : (term : ℕ) (xs ys : List Letter) → asks_in term ys ≡ [] → asks_in term (xs ++ ys) ≡ asks_in term xs
 asks-same term xs ys e = asks-append term xs ys ∙ ap (λ zs. asks_in term xs ++ zs) e ∙ append-nil (asks_in term xs)
@@ -122,23 +118,8 @@ views-same start xs ys e = views-append start xs ys ∙ ap (λ zs. views start x
 
 -- ---- a first message
 
-pub line-cons : (start term : ℕ) (l : Letter) (ls : List Letter) → line start term (l ∷ ls) ≡ line_of start term l ++ line start term ls
-line-cons start term l ls = refl
-
-pub flow-cons : (start term : ℕ) (l : Letter) (ls : List Letter) → flow start term (l ∷ ls) ≡ flow_of start term l ++ flow start term ls
-flow-cons start term l ls = refl
-
-pub ends-cons : (start term : ℕ) (l : Letter) (ls : List Letter) → ends start term (l ∷ ls) ≡ end_of start term l ++ ends start term ls
+pub ends-cons : (start term : ℕ) (l : Letter) (ls : List Letter) → stream_ends_in start term (l ∷ ls) ≡ end_of start term l ++ stream_ends_in start term ls
 ends-cons start term l ls = refl
-
-pub asks-cons : (term : ℕ) (l : Letter) (ls : List Letter) → asks_in term (l ∷ ls) ≡ ask_of term l ++ asks_in term ls
-asks-cons term l ls = refl
-
-pub waits-cons : (c term : ℕ) (x : Waiting) (xs : List Waiting) → asks_waiting c term (x ∷ xs) ≡ wait_of c term x ++ asks_waiting c term xs
-waits-cons c term x xs = refl
-
-pub views-cons : (start : ℕ) (l : Letter) (ls : List Letter) → views start (l ∷ ls) ≡ view_of start l ++ views start ls
-views-cons start l ls = refl
 
 -- ---- messages that say nothing
 
@@ -148,7 +129,7 @@ line-none start term ls h = flat-none (line_of start term) ls h
 pub flow-none : (start term : ℕ) (ls : List Letter) → AllByRecursion (λ l. flow_of start term l ≡ []) ls → flow start term ls ≡ []
 flow-none start term ls h = flat-none (flow_of start term) ls h
 
-pub ends-none : (start term : ℕ) (ls : List Letter) → AllByRecursion (λ l. end_of start term l ≡ []) ls → ends start term ls ≡ []
+pub ends-none : (start term : ℕ) (ls : List Letter) → AllByRecursion (λ l. end_of start term l ≡ []) ls → stream_ends_in start term ls ≡ []
 ends-none start term ls h = flat-none (end_of start term) ls h
 
 pub asks-none : (term : ℕ) (ls : List Letter) → AllByRecursion (λ l. ask_of term l ≡ []) ls → asks_in term ls ≡ []
@@ -164,20 +145,8 @@ views-none start ls h = flat-none (view_of start) ls h
 pub line-empty : (start term : ℕ) (ls : List Letter) → line start term ls ≡ [] → (l : Letter) → In l ls → line_of start term l ≡ []
 line-empty start term ls e l i = all-at (λ l. line_of start term l ≡ []) ls (flat-empty (line_of start term) ls e) l i
 
-pub flow-empty : (start term : ℕ) (ls : List Letter) → flow start term ls ≡ [] → (l : Letter) → In l ls → flow_of start term l ≡ []
-flow-empty start term ls e l i = all-at (λ l. flow_of start term l ≡ []) ls (flat-empty (flow_of start term) ls e) l i
-
-pub ends-empty : (start term : ℕ) (ls : List Letter) → ends start term ls ≡ [] → (l : Letter) → In l ls → end_of start term l ≡ []
+pub ends-empty : (start term : ℕ) (ls : List Letter) → stream_ends_in start term ls ≡ [] → (l : Letter) → In l ls → end_of start term l ≡ []
 ends-empty start term ls e l i = all-at (λ l. end_of start term l ≡ []) ls (flat-empty (end_of start term) ls e) l i
-
-pub asks-empty : (term : ℕ) (ls : List Letter) → asks_in term ls ≡ [] → (l : Letter) → In l ls → ask_of term l ≡ []
-asks-empty term ls e l i = all-at (λ l. ask_of term l ≡ []) ls (flat-empty (ask_of term) ls e) l i
-
-pub waits-empty : (c term : ℕ) (ws : List Waiting) → asks_waiting c term ws ≡ [] → (x : Waiting) → In x ws → wait_of c term x ≡ []
-waits-empty c term ws e x i = all-at (λ x. wait_of c term x ≡ []) ws (flat-empty (wait_of c term) ws e) x i
-
-pub views-empty : (start : ℕ) (ls : List Letter) → views start ls ≡ [] → (l : Letter) → In l ls → view_of start l ≡ []
-views-empty start ls e l i = all-at (λ l. view_of start l ≡ []) ls (flat-empty (view_of start) ls e) l i
 
 -- ---- for whom a message is
 
@@ -212,9 +181,6 @@ ends-other start term l n = if-false (is_for start term l) (end_in l.body) [] (f
 pub asks-here : (term : ℕ) (l : Letter) → l.term ≡ term → ask_of term l ≡ ask_in l.body
 asks-here term l t = if-true (l.term == term) (ask_in l.body) [] (eq-eqb l.term term t)
 
-pub asks-other : (term : ℕ) (l : Letter) → (l.term ≡ term → ⊥) → ask_of term l ≡ []
-asks-other term l n = if-false (l.term == term) (ask_in l.body) [] (false_from_ne_true (l.term == term) (λ e. n (eqb-true l.term term e)))
-
 pub views-here : (start : ℕ) (l : Letter) → l.start ≡ start → view_of start l ≡ view_in l.body
 views-here start l s = if-true (l.start == start) (view_in l.body) [] (eq-eqb l.start start s)
 
@@ -246,15 +212,6 @@ pub puts-cons : (es : List Entry) (e : Entry) (rest : List Line) → map Puts es
 puts-cons [] e rest k = absurd (cc)
 puts-cons (f ∷ fs) e rest k = let p = puts-first f e (map Puts fs) rest k in (fs, ap (λ x. x ∷ fs) p.0, sym p.1)
 
-pub puts-none : (es : List Entry) → map Puts es ≡ [] → es ≡ []
-puts-none [] k = refl
-puts-none (e ∷ es) k = absurd (cc)
-
-pub puts-same : (es fs : List Entry) → map Puts es ≡ map Puts fs → es ≡ fs
-puts-same [] fs k = sym (puts-none fs (sym k))
-puts-same (e ∷ es) [] k = absurd (cc)
-puts-same (e ∷ es) (f ∷ fs) k = let p = puts-first e f (map Puts es) (map Puts fs) k in λ i. p.0 i ∷ puts-same es fs p.1 i
-
 pub puts-append : (es fs : List Entry) → map Puts (es ++ fs) ≡ map Puts es ++ map Puts fs
 puts-append es fs = map-append Puts es fs
 
@@ -275,15 +232,6 @@ follows-first e f r q k = (cc, cc)
 pub follows-cons : (es : List Entry) (e : Entry) (rest : List Flow) → map Follows es ≡ Follows e ∷ rest → (fs : List Entry) × (es ≡ e ∷ fs) × (rest ≡ map Follows fs)
 follows-cons [] e rest k = absurd (cc)
 follows-cons (f ∷ fs) e rest k = let p = follows-first f e (map Follows fs) rest k in (fs, ap (λ x. x ∷ fs) p.0, sym p.1)
-
-pub follows-none : (es : List Entry) → map Follows es ≡ [] → es ≡ []
-follows-none [] k = refl
-follows-none (e ∷ es) k = absurd (cc)
-
-pub follows-same : (es fs : List Entry) → map Follows es ≡ map Follows fs → es ≡ fs
-follows-same [] fs k = sym (follows-none fs (sym k))
-follows-same (e ∷ es) [] k = absurd (cc)
-follows-same (e ∷ es) (f ∷ fs) k = let p = follows-first e f (map Follows es) (map Follows fs) k in λ i. p.0 i ∷ follows-same es fs p.1 i
 
 pub follows-append : (es fs : List Entry) → map Follows (es ++ fs) ≡ map Follows es ++ map Follows fs
 follows-append es fs = map-append Follows es fs
@@ -367,12 +315,6 @@ asks-place term l = elim l.body as (λ m. (order_of (record l { body = m }) == 4
   | m ↦ λ k. if-none (l.term == term)
 ]
 
-views-place : (start : ℕ) (l : Letter) → (order_of l == 4) ≡ false → view_of start l ≡ []
-views-place start l = elim l.body as (λ m. (order_of (record l { body = m }) == 4) ≡ false → view_of start (record l { body = m }) ≡ []) [
-  | msg.View w ↦ λ k. absurd (true≢false k)
-  | m ↦ λ k. if-none (l.start == start)
-]
-
 pub line-order : (start term : ℕ) (ls : List Letter) → line start term (in_order ls) ≡ line start term ls
 line-order start term ls = order-first (line_of start term) ls (all-from (λ l. (order_of l == 1) ≡ false → line_of start term l ≡ []) ls (λ l i. line-place start term l))
 
@@ -380,56 +322,28 @@ pub flow-order : (start term : ℕ) (ls : List Letter) → AllByRecursion NoStre
 flow-order start term ls h = order-first (flow_of start term) ls
     (all-mono NoStreamStart (λ l. (order_of l == 1) ≡ false → flow_of start term l ≡ []) (λ l k. flow-place start term l k) ls h)
 
-pub ends-order : (start term : ℕ) (ls : List Letter) → ends start term (in_order ls) ≡ ends start term ls
+pub ends-order : (start term : ℕ) (ls : List Letter) → stream_ends_in start term (in_order ls) ≡ stream_ends_in start term ls
 ends-order start term ls = order-last (end_of start term) ls (all-from (λ l. (order_of l == 4) ≡ false → end_of start term l ≡ []) ls (λ l i. ends-place start term l))
 
 pub asks-order : (term : ℕ) (ls : List Letter) → asks_in term (in_order ls) ≡ asks_in term ls
 asks-order term ls = order-last (ask_of term) ls (all-from (λ l. (order_of l == 4) ≡ false → ask_of term l ≡ []) ls (λ l i. asks-place term l))
 
-pub views-order : (start : ℕ) (ls : List Letter) → views start (in_order ls) ≡ views start ls
-views-order start ls = order-last (view_of start) ls (all-from (λ l. (order_of l == 4) ≡ false → view_of start l ≡ []) ls (λ l i. views-place start l))
-
 -- ---- what is put to a copy
 
 module _ (D : Deployment) (s : SiteState) (e : Entry) (slot : ℕ) (others : List ℕ) where
-  pub put-none : is_in slot others ≡ false → put_to D s e slot others ≡ []
-  put-none n = if-false (is_in slot others) (put_letter D s e slot others ∷ []) [] n
-
   pub put-line : (start term : ℕ) → is_in slot others ≡ true → start_in_view D s.view slot ≡ start → site_term s ≡ term
       → line start term (put_to D s e slot others) ≡ Puts e ∷ []
   put-line start term i a t =
       ap (line start term) (if-true (is_in slot others) (put_letter D s e slot others ∷ []) [] i) ∙ append-nil (line_of start term (put_letter D s e slot others)) ∙ line-here start term (put_letter D s e slot others) a t
 
-  pub put-line-other : (start term : ℕ) → (is_in slot others ≡ true → start_in_view D s.view slot ≡ start → site_term s ≡ term → ⊥)
-      → line start term (put_to D s e slot others) ≡ []
-  put-line-other start term n = line-none start term (put_to D s e slot others) (put-all D s e slot others (λ l. line_of start term l ≡ []) (λ i. line-other start term (put_letter D s e slot others) (n i)))
-
   pub put-flow : (start term : ℕ) → flow start term (put_to D s e slot others) ≡ []
   put-flow start term = flow-none start term (put_to D s e slot others) (put-all D s e slot others (λ l. flow_of start term l ≡ []) (λ i. flow-plain start term (put_letter D s e slot others) refl))
-
-  pub put-ends : (start term : ℕ) → ends start term (put_to D s e slot others) ≡ []
-  put-ends start term = ends-none start term (put_to D s e slot others) (put-all D s e slot others (λ l. end_of start term l ≡ []) (λ i. ends-plain start term (put_letter D s e slot others) refl))
-
-  pub put-asks : (term : ℕ) → asks_in term (put_to D s e slot others) ≡ []
-  put-asks term = asks-none term (put_to D s e slot others) (put-all D s e slot others (λ l. ask_of term l ≡ []) (λ i. asks-plain term (put_letter D s e slot others) refl))
 
 -- ---- what is passed on to a joiner
 
 module _ (s : SiteState) (e : Entry) (slot : ℕ) where
   pub tasks-line : (start term : ℕ) (js : List Joiner) → line start term (tasks_to s e slot js) ≡ []
   tasks-line start term js = line-none start term (tasks_to s e slot js) (tasks-all s e slot (λ l. line_of start term l ≡ []) js (λ j i q. line-plain start term (task_letter s e slot j) refl))
-
-  pub tasks-ends : (start term : ℕ) (js : List Joiner) → ends start term (tasks_to s e slot js) ≡ []
-  tasks-ends start term js = ends-none start term (tasks_to s e slot js) (tasks-all s e slot (λ l. end_of start term l ≡ []) js (λ j i q. ends-plain start term (task_letter s e slot j) refl))
-
-  pub tasks-asks : (term : ℕ) (js : List Joiner) → asks_in term (tasks_to s e slot js) ≡ []
-  tasks-asks term js = asks-none term (tasks_to s e slot js) (tasks-all s e slot (λ l. ask_of term l ≡ []) js (λ j i q. asks-plain term (task_letter s e slot j) refl))
-
-  -- a start that isn't counted gets none
-  pub tasks-flow-other : (start term : ℕ) (js : List Joiner) → ((j : Joiner) → In j js → j.slot ≡ slot → j.start ≡ start → site_term s ≡ term → ⊥)
-      → flow start term (tasks_to s e slot js) ≡ []
-  tasks-flow-other start term js n =
-      flow-none start term (tasks_to s e slot js) (tasks-all s e slot (λ l. flow_of start term l ≡ []) js (λ j i q. flow-other start term (task_letter s e slot j) (n j i q)))
 
   -- one that is gets one, since its slot is counted once
   pub tasks-flow : (start term : ℕ) (js : List Joiner) → Distinct (map (λ j. j.slot) js) → (j : Joiner) → In j js → j.slot ≡ slot → j.start ≡ start → site_term s ≡ term
@@ -475,27 +389,13 @@ module _ (D : Deployment) (s : SiteState) (slot : ℕ) where
   pub repair-flow : (start term : ℕ) (rs : List Reported) → flow start term (repair_to D s slot rs) ≡ []
   repair-flow start term rs = flow-none start term (repair_to D s slot rs) (repair-all D s slot (λ l. flow_of start term l ≡ []) rs (λ r i q. flow-plain start term (repair_letter D s slot r) refl))
 
-  pub repair-ends : (start term : ℕ) (rs : List Reported) → ends start term (repair_to D s slot rs) ≡ []
+  pub repair-ends : (start term : ℕ) (rs : List Reported) → stream_ends_in start term (repair_to D s slot rs) ≡ []
   repair-ends start term rs = ends-none start term (repair_to D s slot rs) (repair-all D s slot (λ l. end_of start term l ≡ []) rs (λ r i q. ends-plain start term (repair_letter D s slot r) refl))
-
-  pub repair-asks : (term : ℕ) (rs : List Reported) → asks_in term (repair_to D s slot rs) ≡ []
-  repair-asks term rs = asks-none term (repair_to D s slot rs) (repair-all D s slot (λ l. ask_of term l ≡ []) rs (λ r i q. asks-plain term (repair_letter D s slot r) refl))
 
 -- ---- that a stream is whole
 
 module _ (s : SiteState) (slot : ℕ) where
   pub stream_ends-other : (start term : ℕ) → ((j : Joiner) → In j s.joiners → j.slot ≡ slot → j.start ≡ start → site_term s ≡ term → is_sent s j ≡ true → ⊥)
-      → ends start term (stream_ends_to s slot) ≡ []
+      → stream_ends_in start term (stream_ends_to s slot) ≡ []
   stream_ends-other start term n =
       ends-none start term (stream_ends_to s slot) (stream_ends-all s slot (λ l. end_of start term l ≡ []) (λ j i q c. ends-other start term (end_letter s slot j) (λ a t. n j i q a t c)))
-
-  pub stream_ends-line : (start term : ℕ) → line start term (stream_ends_to s slot) ≡ []
-  stream_ends-line start term =
-      line-none start term (stream_ends_to s slot) (stream_ends-all s slot (λ l. line_of start term l ≡ []) (λ j i q c. line-plain start term (end_letter s slot j) refl))
-
-  pub stream_ends-flow : (start term : ℕ) → flow start term (stream_ends_to s slot) ≡ []
-  stream_ends-flow start term =
-      flow-none start term (stream_ends_to s slot) (stream_ends-all s slot (λ l. flow_of start term l ≡ []) (λ j i q c. flow-plain start term (end_letter s slot j) refl))
-
-  pub stream_ends-asks : (term : ℕ) → asks_in term (stream_ends_to s slot) ≡ []
-  stream_ends-asks term = asks-none term (stream_ends_to s slot) (stream_ends-all s slot (λ l. ask_of term l ≡ []) (λ j i q c. asks-plain term (end_letter s slot j) refl))

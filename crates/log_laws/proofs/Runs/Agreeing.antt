@@ -4,17 +4,17 @@ use Rattle.std.proofs.lemmas.Bool.{cases_eq}
 use Rattle.std.specs.Prelude.{ℕ, Some}
 use Rattle.volt_base.specs.declared.entry.Entry.{Entry}
 use Rattle.cluster_steps.proofs.Lists.{same-some}
-use Rattle.log_laws.specs.Histories.{LogState, Holds, Entered, Leadership, EnteredOk, Last, IsSlot, known, base_of, part}
+use Rattle.log_laws.specs.Histories.{LogState, LogsHold, Entered, Leadership, EnteredOk, Last, IsSlot, known, epoch_base, part}
 use Rattle.cluster_steps.specs.Lists.{Prefix}
 use Rattle.cluster_steps.proofs.Prefixes.{prefix-trans, prefixes-order, prefix-take, take-short}
 use Rattle.log_laws.proofs.Kept.Terms.{base-least, last-below}
 
-module _ (S : LogState) (H : Holds S) (p v : ℕ) (g : Leadership) (led : S.logs.leadership p v ≡ Some g) where
+module _ (S : LogState) (H : LogsHold S) (p v : ℕ) (g : Leadership) (led : S.logs.leadership p v ≡ Some g) where
   -- those that are everywhere in the term
   abbrev pub everywhere : List Entry
   everywhere = take (S.logs.reach p v) g.log
 
-  above-base : (t : ℕ) → v < t → base_of S < t
+  above-base : (t : ℕ) → v < t → epoch_base S < t
   above-base t above = let k = H.leaderships p v g led in let b = base-least S H k.word k.is_word.decided in omega (arith, b, k.is_word.term_is, above)
 
   -- A later term began with them, if those between have them in their logs.

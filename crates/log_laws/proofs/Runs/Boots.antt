@@ -22,7 +22,7 @@ use Rattle.word_laws.specs.Histories as word
 use Rattle.cluster_steps.specs.Lists.{In}
 use Rattle.cluster_steps.proofs.Lists.{eqb-same, if-true, if-false, none-and-some, same-some, in-one, in-map-from, all-from}
 use Rattle.word_laws.proofs.Epochs.{epoch_state, new_history, new_owner, boot-holds, recovery-holds, start_of-first, first-there}
-use Rattle.log_laws.specs.Histories.{Entered, Streaming, Leadership, Logs, LogState, IsSlot, HasBeen, AckOk, EnteredOk, LeadershipOk, LeadsIn, FollowsIn, MemberOk, KeepsOk, SiteOk, ViewsOk, LoadsOk, ForeignOk, Holds, part, start_at, log_at, term_at, from_agent, between, line, views, sent_term}
+use Rattle.log_laws.specs.Histories.{Entered, Streaming, Leadership, Logs, LogState, IsSlot, HasBeen, AckOk, EnteredOk, LeadershipOk, LeadsIn, FollowsIn, MemberOk, KeepsOk, SiteOk, ViewsOk, LoadsOk, ForeignOk, LogsHold, part, site_start, log_at, term_at, agent_to_site, between, line, views, sent_term}
 use Rattle.log_laws.proofs.Plain.Copies.{in-is_in, copy-member}
 use Rattle.log_laws.specs.Copies.{log_state, AuthoritativeOk, HasLogs}
 
@@ -108,7 +108,7 @@ slot-host D c e =
 -- ---- what holds as an epoch begins
 
 module _ (D : Deployment) (base start number next : ℕ) (agents : ℕ → AgentState) (channel : Actor → Actor → List Letter) (owner : ℕ → ℕ)
-    (log : ℕ → List Entry) (sites : ℕ → SiteState) (words : word.Holds (epoch_state D base start next agents channel owner)) (k : SitesBegin D base start number agents channel log sites) where
+    (log : ℕ → List Entry) (sites : ℕ → SiteState) (words : word.WordsHold (epoch_state D base start next agents channel owner)) (k : SitesBegin D base start number agents channel log sites) where
   abbrev T : LogState
   T = begun_state D base start next agents channel owner log sites
 
@@ -129,7 +129,7 @@ module _ (D : Deployment) (base start number next : ℕ) (agents : ℕ → Agent
   member : (c : ℕ) (q : nat_lt c (slots D) ≡ true) → sites c ≡ member_site D c (k.members c q).0 W (s_of c) (log_of c)
   member c q = (k.members c q).1
 
-  start-is : (c : ℕ) → nat_lt c (slots D) ≡ true → start_at T c ≡ s_of c
+  start-is : (c : ℕ) → nat_lt c (slots D) ≡ true → site_start T c ≡ s_of c
   start-is c q = ap (λ s. s.start) (member c q)
 
   log-is : (c : ℕ) → nat_lt c (slots D) ≡ true → log_at T c ≡ log_of c
@@ -154,7 +154,7 @@ module _ (D : Deployment) (base start number next : ℕ) (agents : ℕ → Agent
   repaired-is c q = ap (λ s. s.repaired) (member c q)
 
   -- who runs is a slot
-  slot-runs : (c : ℕ) → 0 < start_at T c → IsSlot T c
+  slot-runs : (c : ℕ) → 0 < site_start T c → IsSlot T c
   slot-runs c up = elim (cases_Bool (nat_lt c (slots D))) [
     | inl e ↦ e
     | inr e ↦ absurd (omega (arith, up, (k.others c e).start))
@@ -231,9 +231,9 @@ module _ (D : Deployment) (base start number next : ℕ) (agents : ℕ → Agent
     floor = omega (arith, ap (λ s. s.floor) (member c q), reach-first (part T c) (term_of W) term-first);
     firm = omega (arith, ap (λ s. s.firm) (member c q), reach-first (part T c) (term_of W) term-first);
     leading = λ e. subst (LeadsIn (sites c)) (sym (leadership-first (part T c) (term_of W) term-first)) (repaired-is c q, log-is c q);
-    following = λ l e. subst (FollowsIn (sites c) (line (start_at T c) (term_of W) (between T l c))) (sym (leadership-first (part T c) (term_of W) term-first))
-        (inl ([], repaired-is c q, line-first (start_at T c) (term_of W) l c, append-nil (log_at T c) ∙ log-is c q, ([], log-is c q ∙ sym (append-nil (log_of c)))));
-    others = λ l e. line-first (start_at T c) (term_of W) l c;
+    following = λ l e. subst (FollowsIn (sites c) (line (site_start T c) (term_of W) (between T l c))) (sym (leadership-first (part T c) (term_of W) term-first))
+        (inl ([], repaired-is c q, line-first (site_start T c) (term_of W) l c, append-nil (log_at T c) ∙ log-is c q, ([], log-is c q ∙ sym (append-nil (log_of c)))));
+    others = λ l e. line-first (site_start T c) (term_of W) l c;
   }
 
   ack-first : (c t n : ℕ) → nat_lt c (slots D) ≡ true → t ≡ base → n ≡ length (log_of c) → AckOk T c t n
@@ -296,13 +296,13 @@ module _ (D : Deployment) (base start number next : ℕ) (agents : ℕ → Agent
 
   -- ---- words that agents sent
 
-  no-letters : (c : ℕ) → from_agent T c ≡ []
+  no-letters : (c : ℕ) → agent_to_site T c ≡ []
   no-letters c = k.inert (Agent (host_of_slot D c)) refl c
 
-  no-starts : (c s : ℕ) → In s (starts_in (from_agent T c)) → ⊥
+  no-starts : (c s : ℕ) → In s (starts_in (agent_to_site T c)) → ⊥
   no-starts c s i = subst (λ ls. In s (starts_in ls)) (no-letters c) i
 
-  no-views : (c s : ℕ) → views s (from_agent T c) ≡ []
+  no-views : (c s : ℕ) → views s (agent_to_site T c) ≡ []
   no-views c s = ap (views s) (no-letters c)
 
   agent-runs : (h : ℕ) → 0 < (agents h).start → agents h ≡ member_agent W number start h
@@ -324,7 +324,7 @@ module _ (D : Deployment) (base start number next : ℕ) (agents : ℕ → Agent
       | inr (inl i) ↦ began-first c s (nat_lt c (slots D)) refl i
       | inr (inr x) ↦ absurd (subst (λ ws. In x.0 ws) (no-views c s) x.1)
     ];
-    running = λ up. rw (view-is c (slot-runs c up), no-views c (start_at T c)) (tt, tt);
+    running = λ up. rw (view-is c (slot-runs c up), no-views c (site_start T c)) (tt, tt);
     starting = λ s i. absurd (no-starts c s i);
     wordless = λ up t d. absurd (none-and-some d (ap (λ a. a.decided) (agent-runs (host_of_slot D c) up)));
     below = λ up. (
@@ -405,7 +405,7 @@ module _ (D : Deployment) (base start number next : ℕ) (agents : ℕ → Agent
       })
 
   -- All holds as an epoch begins.
-  pub begun-holds : Holds T
+  pub begun-holds : LogsHold T
   begun-holds = record {
     words = words;
     sites = λ c. site-ok c (nat_lt c (slots D)) refl;
@@ -518,7 +518,7 @@ emptied : (D : Deployment) (start : ℕ) (channel : Actor → Actor → List Let
 emptied D start channel from e c = rw e
 
 -- a site of no slot never ran
-stranger-rests : (S : LogState) → Holds S → (c : ℕ) → nat_lt c (slots S.words.deployment) ≡ false → Rests (S.sites c)
+stranger-rests : (S : LogState) → LogsHold S → (c : ℕ) → nat_lt c (slots S.words.deployment) ≡ false → Rests (S.sites c)
 stranger-rests S H c q = let kept = (H.sites c).stopped ((H.sites c).environment q) in record {
   start = (H.sites c).environment q;
   term = (H.sites c).term;

@@ -15,7 +15,7 @@ use Rattle.cluster_steps.specs.Lists.{In}
 use Rattle.word_laws.specs.Histories.{Admitted}
 use Rattle.cluster_steps.proofs.Lists.{all-mono, eqb-same}
 use Rattle.word_laws.proofs.Worlds.{grows-same}
-use Rattle.log_laws.specs.Histories.{LogState, views, ViewsOk, ForeignOk, AllLoaded, AskedOk, QueuedOk, Holds, start_at, from_agent}
+use Rattle.log_laws.specs.Histories.{LogState, views, ViewsOk, ForeignOk, AllLoaded, AskedOk, QueuedLoadedOk, LogsHold, site_start, agent_to_site}
 use Rattle.log_laws.proofs.Agents.Words.{sites-hold, sites-kept}
 use Rattle.log_laws.proofs.Runs.Boots.{NoStart}
 use Rattle.log_laws.proofs.Kept.KeepsViews.{first_views-later, run_views-later}
@@ -42,13 +42,13 @@ module _ (S : LogState) (next : ℕ) (owner : ℕ → ℕ) (channel : Actor → 
   views-ok c k = record {
     plain = k.plain;
     began = k.began;
-    running = λ up. run_views-later S T refl (λ w i. i) (λ a w e. e) c (S.sites c).view (views (start_at S c) (from_agent S c)) refl (k.running up);
-    starting = λ s i. let x = k.starting s i in (x.0, x.1, first_views-later S T refl (λ w i. i) (λ a w e. e) c s (views s (from_agent S c)) x.2);
+    running = λ up. run_views-later S T refl (λ w i. i) (λ a w e. e) c (S.sites c).view (views (site_start S c) (agent_to_site S c)) refl (k.running up);
+    starting = λ s i. let x = k.starting s i in (x.0, x.1, first_views-later S T refl (λ w i. i) (λ a w e. e) c s (views s (agent_to_site S c)) x.2);
     wordless = k.wordless;
     below = k.below;
   }
 
-  queued : (q : Queued) → QueuedOk S q → QueuedOk T q
+  queued : (q : Queued) → QueuedLoadedOk S q → QueuedLoadedOk T q
   queued (Job_ job) k = tt
   queued (Admission a h term) k = k
 
@@ -60,8 +60,8 @@ module _ (S : LogState) (next : ℕ) (owner : ℕ → ℕ) (channel : Actor → 
   asked (Scanner x) l k = tt
 
   -- What holds is kept, where the hosts of starts that were admitted are, and others send sites no start.
-  framed-holds : Holds S → word.Holds T.words → ((x : Admitted) → In x S.words.history.admitted → owner x.start ≡ S.words.owner x.start)
-      → ((from : Actor) (c : ℕ) → AllByRecursion (ForeignOk T c from) (T.words.channel from (Site c))) → Holds T
+  framed-holds : LogsHold S → word.WordsHold T.words → ((x : Admitted) → In x S.words.history.admitted → owner x.start ≡ S.words.owner x.start)
+      → ((from : Actor) (c : ℕ) → AllByRecursion (ForeignOk T c from) (T.words.channel from (Site c))) → LogsHold T
   framed-holds H words owned foreign =
       let k = sites-kept S T.words contents (record { deployment = refl; between = λ i c. refl; grows = grows-same S.words.history }) (sites-hold S H) in
       record {
@@ -75,7 +75,7 @@ module _ (S : LogState) (next : ℕ) (owner : ℕ → ℕ) (channel : Actor → 
           heard = H.loads.heard;
           asked = H.loads.asked;
           waiting = λ h. all-mono _ _ (λ x p. asked x.from x.letter p) (S.words.agents h).waiting (H.loads.waiting h);
-          queued = λ h. all-mono (QueuedOk S) (QueuedOk T) queued (S.words.agents h).initiating.queue (H.loads.queued h);
+          queued = λ h. all-mono (QueuedLoadedOk S) (QueuedLoadedOk T) queued (S.words.agents h).initiating.queue (H.loads.queued h);
           admitted = λ x i. subst (λ h. AllLoaded S h x.start) (sym (owned x i)) (H.loads.admitted x i);
         };
         entered = k.entered;
@@ -117,17 +117,17 @@ foreign-plain S c (Site i) l other k = elim l.body as (λ m. NoStart (record l {
 foreign-plain S c (Scanner x) l other k = k
 
 -- What holds is kept over all that the law doesn't look at.
-pub frames-holds : (S : LogState) (next : ℕ) (owner : ℕ → ℕ) (channel : Actor → Actor → List Letter) (contents : ℕ → List Shown) → Holds S
+pub frames-holds : (S : LogState) (next : ℕ) (owner : ℕ → ℕ) (channel : Actor → Actor → List Letter) (contents : ℕ → List Shown) → LogsHold S
     → Agrees S.words.channel channel
-    → word.Holds (record S.words { next = next; channel = channel; owner = owner })
+    → word.WordsHold (record S.words { next = next; channel = channel; owner = owner })
     → ((x : Admitted) → In x S.words.history.admitted → owner x.start ≡ S.words.owner x.start)
     → ((from : Actor) (c : ℕ) → AllByRecursion (ForeignOk S c from) (channel from (Site c)))
-    → Holds (record S { words = record S.words { next = next; channel = channel; owner = owner }; sites = λ c. record (S.sites c) { contents = contents c } })
+    → LogsHold (record S { words = record S.words { next = next; channel = channel; owner = owner }; sites = λ c. record (S.sites c) { contents = contents c } })
 frames-holds S next owner channel contents H agrees words owned foreign =
     let e = kept-agrees S.words.channel channel agrees in
-    subst (λ ch. Holds (record S { words = record S.words { next = next; channel = ch; owner = owner }; sites = λ c. record (S.sites c) { contents = contents c } })) e
+    subst (λ ch. LogsHold (record S { words = record S.words { next = next; channel = ch; owner = owner }; sites = λ c. record (S.sites c) { contents = contents c } })) e
     (framed-holds S next owner channel contents H
-    (subst (λ ch. word.Holds (record S.words { next = next; channel = ch; owner = owner })) (sym e) words)
+    (subst (λ ch. word.WordsHold (record S.words { next = next; channel = ch; owner = owner })) (sym e) words)
     owned
     (λ from c. all-mono (ForeignOk S c from) (ForeignOk (reframed S next owner channel contents) c from) (sent-by from c)
     (kept S.words.channel channel from (Site c))

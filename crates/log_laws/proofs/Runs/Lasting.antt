@@ -1,29 +1,27 @@
 -- What is firm in the authoritative log of a partition is never lost, and all that a leader counts firm is firm in it.
-use Rattle.std.proofs.Common.{◌≡◌, ◌<◌, ◌≤◌, List, length, take, ◌++◌, refl, sym, subst, ap, ◌∙◌, inl, inr, arith}
+use Rattle.std.proofs.Common.{◌≡◌, ◌<◌, ◌≤◌, length, take, refl, sym, subst, ap, ◌∙◌, inl, inr, arith}
 use Rattle.std.proofs.lemmas.Bool.{cases_eq, and_parts}
 use Rattle.std.proofs.lemmas.Bool.Decides.{nat_tests}
 use Rattle.std.specs.Prelude.{ℕ, nat_lt, not, Some}
 use Rattle.cluster_model.specs.Engine.{Database}
 use Rattle.cluster_model.specs.Words.{term_of, term_in}
 use Rattle.cluster_model.specs.SiteState.{is_joiner}
-use Rattle.cluster_model.specs.World.{World, Input, AuthoritativeLog, first_world}
-use Rattle.cluster_model.specs.Runs.{Happening, IsRun, run}
-use Rattle.word_laws.specs.Chain.{IsOneEpoch}
+use Rattle.cluster_model.specs.World.{World, Input, AuthoritativeLog}
+use Rattle.cluster_model.specs.Runs.{Reached, RunsInEpoch}
 use Rattle.cluster_steps.proofs.Lists.{same-some}
-use Rattle.word_laws.proofs.Worlds.{run-append, run-first, run-second}
-use Rattle.log_laws.specs.Histories.{LogState, Leadership, Holds, part, term_at}
+use Rattle.log_laws.specs.Histories.{LogState, Leadership, LogsHold, part, term_at}
 use Rattle.cluster_steps.specs.Lists.{Prefix}
 use Rattle.log_laws.specs.Copies.{Leads, LeadsNext, AuthoritativeOk, KeepsFirm, IsInAuthoritative, HasLogs, log_state, log_of, authoritative_for}
 use Rattle.cluster_steps.proofs.Prefixes.{prefix-trans, prefix-length, prefix-take, take-prefix, take-grown, take-of-prefix}
 use Rattle.log_laws.proofs.Runs.Agreeing.{agrees-begun}
 use Rattle.log_laws.proofs.Kept.Moves.{Onward}
-use Rattle.log_laws.proofs.Runs.Leading.{Rises}
+use Rattle.log_laws.proofs.Runs.Leading.{AuthoritativeRises}
 use Rattle.log_laws.proofs.Entries.Leads.{Leading, leading}
-use Rattle.log_laws.proofs.Runs.Worlds.{logs-agree, run-reaches}
+use Rattle.log_laws.proofs.Runs.Worlds.{logs-agree, epoch-reaches}
 
 -- ---- what is everywhere in a term
 
-module _ (S : LogState) (H : Holds S) (p v n : ℕ) (g : Leadership) (led : S.logs.leadership p v ≡ Some g) (low : n ≤ S.logs.reach p v) where
+module _ (S : LogState) (H : LogsHold S) (p v n : ℕ) (g : Leadership) (led : S.logs.leadership p v ≡ Some g) (low : n ≤ S.logs.reach p v) where
   -- is in its log, and in that of each later one that was led, at its beginning
   pub lasting : (t : ℕ) (h : Leadership) → S.logs.leadership p t ≡ Some h → v ≤ t → (n ≤ length h.log) × Prefix (take n g.log) h.log
   lasting t h is upto = elim (cases_eq v t) [
@@ -50,7 +48,7 @@ module _ (S : LogState) (H : Holds S) (p v n : ℕ) (g : Leadership) (led : S.lo
 -- ---- the authoritative log of a partition
 
 -- Of that in a state, and that in a later one: what is firm in it is in its log, and a prefix of the later log.
-module _ (S T : LogState) (H : Holds S) (J : Holds T) (f : Onward S.logs T.logs) (p : ℕ) (l m : AuthoritativeLog) (k : AuthoritativeOk S.logs p l) (n : AuthoritativeOk T.logs p m) where
+module _ (S T : LogState) (H : LogsHold S) (J : LogsHold T) (f : Onward S.logs T.logs) (p : ℕ) (l m : AuthoritativeLog) (k : AuthoritativeOk S.logs p l) (n : AuthoritativeOk T.logs p m) where
   authoritative-within : l.firm ≤ length l.log
   authoritative-within = let q = k.firm in subst (λ x. l.firm ≤ length x) (sym k.log) (lasting S H p q.0 l.firm q.1 q.2 q.3 l.term k.leadership k.led (k.greatest q.0 q.1 q.2)).0
 
@@ -68,7 +66,7 @@ module _ (S T : LogState) (H : Holds S) (J : Holds T) (f : Onward S.logs T.logs)
 -- ---- worlds
 
 -- In a later world of one epoch.
-pub keeps-firm : (v w : World) (k : HasLogs v) (n : HasLogs w) → Onward k.logs n.logs → ((p : ℕ) → Rises (v.authoritative p) (w.authoritative p)) → (p : ℕ) → KeepsFirm v w p
+pub keeps-firm : (v w : World) (k : HasLogs v) (n : HasLogs w) → Onward k.logs n.logs → ((p : ℕ) → AuthoritativeRises (v.authoritative p) (w.authoritative p)) → (p : ℕ) → KeepsFirm v w p
 keeps-firm v w k n f rises p =
     let S = log_state v k.owner k.history k.logs in
     let T = log_state w n.owner n.history n.logs in
@@ -79,13 +77,8 @@ keeps-firm v w k n f rises p =
       term = (rises p).term;
     }
 
-pub never-lost : (E : Database) (input : Input) (es fs : List Happening) (p : ℕ) → 0 < input.base → IsRun E (es ++ fs) (first_world E input) → IsOneEpoch fs
-    → KeepsFirm (run E es (first_world E input)) (run E (es ++ fs) (first_world E input)) p
-never-lost E input es fs p some r one =
-    let v = run E es (first_world E input) in
-    let k = logs-agree E input es some (run-first E es fs (first_world E input) r) in
-    let n = run-reaches E fs v (run-second E es fs (first_world E input) r) one k in
-    subst (λ w. KeepsFirm v w p) (sym (run-append E es fs (first_world E input))) (keeps-firm v (run E fs v) k n.next (n.onward refl) (n.rises refl) p)
+pub never-lost : (E : Database) (input : Input) (v w : World) (p : ℕ) → Reached E input v → RunsInEpoch E v w → KeepsFirm v w p
+never-lost E input v w p r s = let k = logs-agree E input v r in let n = epoch-reaches E v w s k in keeps-firm v w k n.next (n.onward refl) (n.rises refl) p
 
 -- what a site that leads has
 leading-in : (w : World) (k : HasLogs w) (l : ℕ) → Leads w l → Leading (log_state w k.owner k.history k.logs) l
@@ -132,15 +125,9 @@ next-leader v w k n f l m h =
     up : t ≤ term_of b.word
     up = let x = h.term in let y = ap term_in a.view in let z = ap term_in b.view in omega (arith, x, y, z)
 
-pub next-leads : (E : Database) (input : Input) (es fs : List Happening) (l m : ℕ) → 0 < input.base → IsRun E (es ++ fs) (first_world E input) → IsOneEpoch fs
-    → LeadsNext (run E es (first_world E input)) (run E (es ++ fs) (first_world E input)) l m
-    → Prefix (take ((run E es (first_world E input)).sites l).firm (log_of (run E es (first_world E input)) l)) (log_of (run E (es ++ fs) (first_world E input)) m)
-next-leads E input es fs l m some r one =
-    let v = run E es (first_world E input) in
-    let k = logs-agree E input es some (run-first E es fs (first_world E input) r) in
-    let n = run-reaches E fs v (run-second E es fs (first_world E input) r) one k in
-    subst (λ w. LeadsNext v w l m → Prefix (take (v.sites l).firm (log_of v l)) (log_of w m)) (sym (run-append E es fs (first_world E input)))
-    (next-leader v (run E fs v) k n.next (n.onward refl) l m)
+pub next-leads : (E : Database) (input : Input) (v w : World) (l m : ℕ) → Reached E input v → RunsInEpoch E v w → LeadsNext v w l m
+    → Prefix (take (v.sites l).firm (log_of v l)) (log_of w m)
+next-leads E input v w l m r s = let k = logs-agree E input v r in let n = epoch-reaches E v w s k in next-leader v w k n.next (n.onward refl) l m
 
 -- Of a site that leads, with its partition's lead.
 pub in-authoritative : (w : World) (k : HasLogs w) (l : ℕ) → Leads w l → IsInAuthoritative w l

@@ -9,7 +9,7 @@ use Rattle.cluster_model.specs.SiteState.{SiteState, Joining, Streamed, is_joine
 use Rattle.cluster_model.specs.World.{World}
 use Rattle.cluster_steps.proofs.Lists.{not-both, same-some, none-and-some}
 use Rattle.cluster_steps.specs.Lists.{Prefix}
-use Rattle.log_laws.specs.Histories.{Logs, LogState, Line, line, between, Leadership, Last, FollowsIn, LeadsIn, MemberOk, StreamIn, ViewIn, Took, Holds, part, start_at, log_at, term_at, base_of}
+use Rattle.log_laws.specs.Histories.{Logs, LogState, Line, line, between, Leadership, Last, FollowsIn, LeadsIn, MemberOk, StreamIn, ViewIn, Took, LogsHold, part, site_start, log_at, term_at, epoch_base}
 use Rattle.log_laws.proofs.Plain.Copies.{leads-or-follows, is-leader}
 use Rattle.cluster_steps.proofs.Leaders.{leads-parts}
 use Rattle.cluster_steps.proofs.Prefixes.{prefix-same, prefix-trans, prefixes-compare}
@@ -34,18 +34,18 @@ last-at G p q v t u e f l = record {
   greatest = λ x g k b. l.greatest x g (rw e k) (rw f b);
 }
 
-module _ (S : LogState) (H : Holds S) where
+module _ (S : LogState) (H : LogsHold S) where
   -- A copy in a term that was begun has a prefix of its leader's log.
-  pub copy-behind : (c : ℕ) (w : Membership) (g : Leadership) → 0 < start_at S c → MemberOk S c w → S.logs.leadership (part S c) (term_of w) ≡ Some g → Prefix (log_at S c) g.log
-  copy-behind c w g up m e = elim (leads-or-follows S.words.deployment w c (start_at S c) m.start_is) [
+  pub copy-behind : (c : ℕ) (w : Membership) (g : Leadership) → 0 < site_start S c → MemberOk S c w → S.logs.leadership (part S c) (term_of w) ≡ Some g → Prefix (log_at S c) g.log
+  copy-behind c w g up m e = elim (leads-or-follows S.words.deployment w c (site_start S c) m.start_is) [
     | inl k ↦ prefix-same (log_at S c) g.log (subst (LeadsIn (S.sites c)) e (m.leading k)).1
-    | inr (l, f) ↦ lacks (line (start_at S c) (term_of w) (between S l c)) (subst (FollowsIn (S.sites c) (line (start_at S c) (term_of w) (between S l c))) e (m.following l f))
+    | inr (l, f) ↦ lacks (line (site_start S c) (term_of w) (between S l c)) (subst (FollowsIn (S.sites c) (line (site_start S c) (term_of w) (between S l c))) e (m.following l f))
   ]
     where
       lacks : (ln : List Line) → FollowsIn (S.sites c) ln (Some g) → Prefix (log_at S c) g.log
       lacks ln (inl x) = (x.0, sym x.3)
       lacks ln (inr x) =
-          let n = leadership-entered S H (part S c) (term_of w) g e w (record { decided = m.decided; term_is = refl }) c (start_at S c) (running-slot S H c up) refl m.start_is in
+          let n = leadership-entered S H (part S c) (term_of w) g e w (record { decided = m.decided; term_is = refl }) c (site_start S c) (running-slot S H c up) refl m.start_is in
           let one : n.0 ≡ m.entered = same-some (sym n.1 ∙ m.is_entered) in
           prefix-trans (log_at S c) g.begun g.log
           (subst (λ l. Prefix l g.begun) (ap (λ y. y.log) one ∙ sym (m.still x.1).0) n.3)
@@ -53,9 +53,9 @@ module _ (S : LogState) (H : Holds S) where
 
   -- Of a copy in a term that wasn't begun: its leader hasn't repaired it, or itself.
   copy-waits : (c : ℕ) (w : Membership) → MemberOk S c w → S.logs.leadership (part S c) (term_of w) ≡ None → (S.sites c).repaired ≡ false
-  copy-waits c w m e = elim (leads-or-follows S.words.deployment w c (start_at S c) m.start_is) [
+  copy-waits c w m e = elim (leads-or-follows S.words.deployment w c (site_start S c) m.start_is) [
     | inl k ↦ subst (LeadsIn (S.sites c)) e (m.leading k)
-    | inr (l, f) ↦ (subst (FollowsIn (S.sites c) (line (start_at S c) (term_of w) (between S l c))) e (m.following l f)).0
+    | inr (l, f) ↦ (subst (FollowsIn (S.sites c) (line (site_start S c) (term_of w) (between S l c))) e (m.following l f)).0
   ]
 
   -- its log is the one with which it entered, a prefix of the log of the last leader before
@@ -69,11 +69,11 @@ module _ (S : LogState) (H : Holds S) where
   pub last-before : (c : ℕ) (w : Membership) → MemberOk S c w → S.logs.leadership (part S c) (term_of w) ≡ None → (v : ℕ) × Last S.logs (part S c) v (term_of w)
   last-before c w m e = let low = base-least S H w m.decided in last-below S H (part S c) (term_of w) (omega (arith, low, unbegun))
     where
-      unbegun : base_of S ≡ term_of w → ⊥
+      unbegun : epoch_base S ≡ term_of w → ⊥
       unbegun b = none-and-some e (subst (λ x. S.logs.leadership (part S c) x ≡ Some (H.first (part S c)).0) b (H.first (part S c)).1)
 
   -- Two copies in one term.
-  copies-meet : (c d : ℕ) (w v : Membership) → 0 < start_at S c → 0 < start_at S d → MemberOk S c w → MemberOk S d v → part S c ≡ part S d → term_of w ≡ term_of v
+  copies-meet : (c d : ℕ) (w v : Membership) → 0 < site_start S c → 0 < site_start S d → MemberOk S c w → MemberOk S d v → part S c ≡ part S d → term_of w ≡ term_of v
       → Prefix (log_at S c) (log_at S d) ⊎ Prefix (log_at S d) (log_at S c)
   copies-meet c d w v up ud m n p t = choice (S.logs.leadership (part S c) (term_of w)) refl
     where
@@ -130,31 +130,31 @@ module _ (S : LogState) (H : Holds S) where
       omega (arith, firm, k)
 
   -- A joiner that has loaded its tables has taken its stream.
-  record Loaded (c : ℕ) : Type 0 where
+  record LoadedJoiner (c : ℕ) : Type 0 where
     pub word : Membership
     pub view : (S.sites c).view ≡ Some word
     pub joining : Joining
     pub stream_start : ℕ
     pub took : Took S c word joining stream_start
 
-  has-loaded : (c : ℕ) (j : Joining) → (S.sites c).joining ≡ Some j → j.is_loaded ≡ true → Loaded c
+  has-loaded : (c : ℕ) (j : Joining) → (S.sites c).joining ≡ Some j → j.is_loaded ≡ true → LoadedJoiner c
   has-loaded c j e l = seen (S.sites c).view refl ((H.sites c).joiner j e).view
     where
-      streamed : (w : Membership) → (S.sites c).view ≡ Some w → (o : Option Streamed) → StreamIn S c w j o → Loaded c
+      streamed : (w : Membership) → (S.sites c).view ≡ Some w → (o : Option Streamed) → StreamIn S c w j o → LoadedJoiner c
       streamed w v None k = absurd (not-both j.is_loaded l k.loads)
       streamed w v (Some st) k = record { word = w; view = v; joining = j; stream_start = st.stream_start; took = k }
 
-      seen : (o : Option Membership) → (S.sites c).view ≡ o → ViewIn S c j o → Loaded c
+      seen : (o : Option Membership) → (S.sites c).view ≡ o → ViewIn S c j o → LoadedJoiner c
       seen None v k = absurd (not-both j.is_loaded l k.loads)
       seen (Some w) v k = streamed w v j.stream k.stream
 
-  joiner-follows : (c l : ℕ) → Loaded c → HeldLeadership l → part S c ≡ part S l → term_at S c ≡ term_at S l
+  joiner-follows : (c l : ℕ) → LoadedJoiner c → HeldLeadership l → part S c ≡ part S l → term_at S c ≡ term_at S l
       → Prefix (log_at S c) (log_at S l) × ((S.sites l).firm ≤ length (log_at S c))
   joiner-follows c l j k p t =
       let u : term_of j.word ≡ term_of k.word = sym (view-term c j.word j.view) ∙ t ∙ view-term l k.word k.view in
       let g : S.logs.leadership (part S c) (term_of j.word) ≡ Some k.leadership = rw (p, u) k.led in
       let one : j.took.leadership ≡ k.leadership = same-some (sym j.took.led ∙ g) in
-      let n = ((H.streamed c (term_of j.word) (record { start = start_at S c; stream_start = j.stream_start }) j.took.streamed).running refl).2 in
+      let n = ((H.streamed c (term_of j.word) (record { start = site_start S c; stream_start = j.stream_start }) j.took.streamed).running refl).2 in
       let firm : (S.sites l).firm ≤ S.logs.reach (part S c) (term_of j.word) = rw (p, u) k.member.firm in
       ((j.joining.tasks ++ j.took.more, k.log ∙ ap (λ x. x.log) (sym one) ∙ sym j.took.whole ∙ append_assoc (log_at S c) j.joining.tasks j.took.more), omega (arith, firm, n))
 
@@ -169,8 +169,8 @@ module _ (w : World) (k : HasLogs w) where
 
   -- the words of two copies
   record Words (c d : ℕ) : Type 0 where
-    pub up : 0 < start_at S c
-    pub up_too : 0 < start_at S d
+    pub up : 0 < site_start S c
+    pub up_too : 0 < site_start S d
     pub first : Membership
     pub second : Membership
     pub member : MemberOk S c first

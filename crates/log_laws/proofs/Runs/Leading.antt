@@ -8,7 +8,7 @@ use Rattle.cluster_model.specs.Words.{Deployment, term_of, term_in, leader}
 use Rattle.cluster_model.specs.SiteState.{SiteState, Joining, site_term, is_leader, leads}
 use Rattle.cluster_model.specs.World.{AuthoritativeLog, authoritative_after}
 use Rattle.cluster_steps.proofs.Lists.{none-and-some, same-some, not-both}
-use Rattle.log_laws.specs.Histories.{LogState, Logs, Leadership, Holds, ViewIn, LeadsIn, part, start_at, log_at, term_at}
+use Rattle.log_laws.specs.Histories.{LogState, Logs, Leadership, LogsHold, ViewIn, LeadsIn, part, site_start, log_at, term_at}
 use Rattle.log_laws.specs.Copies.{AuthoritativeOk}
 use Rattle.log_laws.proofs.Plain.Copies.{leader-is}
 use Rattle.cluster_steps.proofs.Leaders.{leader-view, leads-parts}
@@ -18,16 +18,16 @@ use Rattle.log_laws.proofs.Entries.Leads.{Leading, leading}
 
 -- ---- a site that leads by its word
 
-module _ (T : LogState) (H : Holds T) (i : ℕ) where
+module _ (T : LogState) (H : LogsHold T) (i : ℕ) where
   -- one with a word runs
-  runs-with-word : (w : Membership) → (T.sites i).view ≡ Some w → 0 < start_at T i
-  runs-with-word w e = elim (cases_eq (start_at T i) 0) [
+  runs-with-word : (w : Membership) → (T.sites i).view ≡ Some w → 0 < site_start T i
+  runs-with-word w e = elim (cases_eq (site_start T i) 0) [
     | inl z ↦ absurd (none-and-some ((H.sites i).blank z) e)
     | inr n ↦ omega (arith, n)
   ]
 
   -- and so does one that leads
-  pub leads-runs : leads T.words.deployment i (T.sites i) ≡ true → 0 < start_at T i
+  pub leads-runs : leads T.words.deployment i (T.sites i) ≡ true → 0 < site_start T i
   leads-runs e =
       let v = leader-view T.words.deployment i (T.sites i) (leads-parts T.words.deployment i (T.sites i) e).0 in
       runs-with-word v.1.0 v.1.1
@@ -36,7 +36,7 @@ module _ (T : LogState) (H : Holds T) (i : ℕ) where
   pub heads-authoritative : (p t : ℕ) (g : Leadership) → Heads T.words.deployment i (T.sites i) p t → T.logs.leadership p t ≡ Some g → leads T.words.deployment i (T.sites i) ≡ true
   heads-authoritative p t g h led = choice (T.sites i).joining refl
     where
-      up : 0 < start_at T i
+      up : 0 < site_start T i
       up = runs-with-word h.word h.view
 
       first : leader T.words.deployment h.word (part T i) ≡ Some i
@@ -47,7 +47,7 @@ module _ (T : LogState) (H : Holds T) (i : ℕ) where
 
       -- its start was in the word that it would have taken
       joins : (j : Joining) → ViewIn T i j (Some h.word) → ⊥
-      joins j k = took-unnamed T H (start_at T i) h.word i k.took h.start_is
+      joins j k = took-unnamed T H (site_start T i) h.word i k.took h.start_is
 
       choice : (o : Option Joining) → (T.sites i).joining ≡ o → leads T.words.deployment i (T.sites i) ≡ true
       choice (Some j) e = absurd (joins j (subst (ViewIn T i j) h.view ((H.sites i).joiner j e).view))
@@ -87,7 +87,7 @@ module _ (D : Deployment) (i : ℕ) (s : SiteState) (F G : Logs) (grown : Grown 
   }
 
 -- After a turn of a site that leads, in this term and with this log.
-module _ (T : LogState) (H : Holds T) (F : Logs) (i : ℕ) (grown : Grown T.words.deployment i (T.sites i) F T.logs) (l : AuthoritativeLog) (k : AuthoritativeOk F (part T i) l)
+module _ (T : LogState) (H : LogsHold T) (F : Logs) (i : ℕ) (grown : Grown T.words.deployment i (T.sites i) F T.logs) (l : AuthoritativeLog) (k : AuthoritativeOk F (part T i) l)
     (m : Leading T i) where
   abbrev D : Deployment
   D = T.words.deployment
@@ -138,7 +138,7 @@ module _ (T : LogState) (H : Holds T) (F : Logs) (i : ℕ) (grown : Grown T.word
   }
 
 -- What the history says of the authoritative log of a site's partition, after a turn of that site.
-pub authoritative-turned : (T : LogState) → Holds T → (F : Logs) (i : ℕ) → Grown T.words.deployment i (T.sites i) F T.logs → (l : AuthoritativeLog)
+pub authoritative-turned : (T : LogState) → LogsHold T → (F : Logs) (i : ℕ) → Grown T.words.deployment i (T.sites i) F T.logs → (l : AuthoritativeLog)
     → AuthoritativeOk F (part T i) l → AuthoritativeOk T.logs (part T i) (authoritative_after T.words.deployment i (T.sites i) l)
 authoritative-turned T H F i grown l k = choice (leads T.words.deployment i (T.sites i)) refl
   where
@@ -154,21 +154,21 @@ authoritative-turned T H F i grown l k = choice (leads T.words.deployment i (T.s
 -- ---- the authoritative log only rises
 
 -- of a lead and a later one
-pub record Rises (l m : AuthoritativeLog) : Type 0 where
+pub record AuthoritativeRises (l m : AuthoritativeLog) : Type 0 where
   pub term : l.term ≤ m.term
   pub firm : l.firm ≤ m.firm
 
-pub rises-same : (l : AuthoritativeLog) → Rises l l
+pub rises-same : (l : AuthoritativeLog) → AuthoritativeRises l l
 rises-same l = record { term = omega arith; firm = omega arith }
 
-pub rises-then : (l m n : AuthoritativeLog) → Rises l m → Rises m n → Rises l n
+pub rises-then : (l m n : AuthoritativeLog) → AuthoritativeRises l m → AuthoritativeRises m n → AuthoritativeRises l n
 rises-then l m n f g = record { term = let a = f.term in let b = g.term in omega (arith, a, b); firm = let a = f.firm in let b = g.firm in omega (arith, a, b) }
 
-pub authoritative-rises : (D : Deployment) (i : ℕ) (s : SiteState) (l : AuthoritativeLog) → Rises l (authoritative_after D i s l)
+pub authoritative-rises : (D : Deployment) (i : ℕ) (s : SiteState) (l : AuthoritativeLog) → AuthoritativeRises l (authoritative_after D i s l)
 authoritative-rises D i s l = choice (leads D i s)
   where
     choice : (b : Bool)
-        → Rises l (if b then record { term = max l.term (site_term s); log = if nat_le l.term (site_term s) then s.log else l.log; firm = max l.firm s.firm } else l)
+        → AuthoritativeRises l (if b then record { term = max l.term (site_term s); log = if nat_le l.term (site_term s) then s.log else l.log; firm = max l.firm s.firm } else l)
     choice true = record { term = omega arith; firm = omega arith }
     choice false = rises-same l
 

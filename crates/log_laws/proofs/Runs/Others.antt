@@ -27,7 +27,7 @@ use Rattle.cluster_steps.proofs.Lists.{all-append, all-if, all-mono, set-there}
 use Rattle.cluster_steps.proofs.Channels.{starts-if, stops_all-starts}
 use Rattle.word_laws.proofs.Steps.{same-true, channel-holds}
 use Rattle.word_laws.proofs.Draws.{director-inert-holds, draws-holds}
-use Rattle.log_laws.specs.Histories.{LogState, ForeignOk, Holds}
+use Rattle.log_laws.specs.Histories.{LogState, ForeignOk, LogsHold}
 use Rattle.log_laws.specs.Copies.{log_state, AuthoritativeOk, CountedIn, HasLogs}
 use Rattle.log_laws.proofs.Runs.Boots.{NoStart}
 use Rattle.log_laws.proofs.Runs.Frames.{Agrees, foreign-plain, frames-holds}
@@ -100,10 +100,10 @@ module _ (w : World) (k : HasLogs w) where
 
   -- where words are, the same is so of logs
   framed : (next : ℕ) (owner : ℕ → ℕ) (channel : Actor → Actor → List Letter) → Agrees w.channel channel
-      → word.Holds (record S.words { next = next; channel = channel; owner = owner })
+      → word.WordsHold (record S.words { next = next; channel = channel; owner = owner })
       → ((x : ℕ) → x < S.words.next → owner x ≡ k.owner x)
       → ((from : Actor) (c : ℕ) → AllByRecursion (ForeignOk S c from) (channel from (Site c)))
-      → Holds (record S { words = record S.words { next = next; channel = channel; owner = owner } })
+      → LogsHold (record S { words = record S.words { next = next; channel = channel; owner = owner } })
   framed next owner channel agrees words same_owner foreign =
       frames-holds S next owner channel (λ c. (S.sites c).contents) k.holds agrees words
       (λ x i. same_owner x.start (k.holds.words.history.admitted_ok x i).begun.below) foreign
@@ -112,10 +112,10 @@ module _ (w : World) (k : HasLogs w) where
   foreign-turn : (next : ℕ) (owner : ℕ → ℕ) (channel : Actor → Actor → List Letter) (a : Actor) (out : Sends) → Foreign a
       → Agrees w.channel channel
       → ((from : Actor) (c : ℕ) → AllByRecursion (ForeignOk S c from) (channel from (Site c)))
-      → word.Holds (record S.words { next = next; channel = sent channel a out; owner = owner })
+      → word.WordsHold (record S.words { next = next; channel = sent channel a out; owner = owner })
       → ((x : ℕ) → x < S.words.next → owner x ≡ k.owner x)
       → ((c : ℕ) → AllByRecursion NoStart (out (Site c)))
-      → Holds (record S { words = record S.words { next = next; channel = sent channel a out; owner = owner } })
+      → LogsHold (record S { words = record S.words { next = next; channel = sent channel a out; owner = owner } })
   foreign-turn next owner channel a out far agrees before words same_owner none =
       framed next owner (sent channel a out) (agrees-then w.channel channel (sent channel a out) agrees (sent-agrees channel a out far)) words same_owner
       (sent-foreign S channel a out far before none)
@@ -131,7 +131,7 @@ still : (w : World) (k : HasLogs w) → Keeps w k w
 still w k = record { next = k; history = refl; logs = refl; authoritative = refl }
 
 -- where the histories stay
-pub keeps : (w v : World) (k : HasLogs w) (owner : ℕ → ℕ) → v.authoritative ≡ w.authoritative → CountedIn v → Holds (log_state v owner k.history k.logs)
+pub keeps : (w v : World) (k : HasLogs w) (owner : ℕ → ℕ) → v.authoritative ≡ w.authoritative → CountedIn v → LogsHold (log_state v owner k.history k.logs)
     → ((h : ℕ) → is_host v.deployment h ≡ false → v.agents h ≡ new_agent 0) → Keeps w k v
 keeps w v k owner authoritative counted holds strangers = record {
   next = record {
@@ -169,7 +169,7 @@ to_director-logs E w from (l ∷ ls) o k =
     let S = log_state w k.owner k.history k.logs in
     let v = delivered E w Director from (l ∷ ls) o in
     keeps w v k k.owner refl k.counted
-    (subst (λ n. Holds (record S { words = record S.words { next = n; channel = v.channel } })) (takes-next w.director from l)
+    (subst (λ n. LogsHold (record S { words = record S.words { next = n; channel = v.channel } })) (takes-next w.director from l)
     (foreign-turn w k S.words.next k.owner (took w.channel from Director) Director no_sends tt (took-agrees w.channel from Director tt)
     (took-foreign S w.channel from Director tt k.holds.foreign)
     (channel-holds S.words v.channel (λ h g. refl) (λ h. ap starts_in (append-nil (w.channel Director (Agent h)))) k.holds.words) (λ x l. refl) (λ c. tt)))
@@ -219,9 +219,9 @@ to_scanner-logs E w i from (l ∷ ls) o k =
 
 -- an event of one of them, in which it sends no start to a site
 of-itself : (w v : World) (k : HasLogs w) (a : Actor) (out : Sends) → Foreign a
-    → word.Holds (record (state_of w k.owner k.history) { channel = sent w.channel a out })
+    → word.WordsHold (record (state_of w k.owner k.history) { channel = sent w.channel a out })
     → ((c : ℕ) → AllByRecursion NoStart (out (Site c)))
-    → Holds (record (log_state w k.owner k.history k.logs) { words = record (state_of w k.owner k.history) { channel = sent w.channel a out } })
+    → LogsHold (record (log_state w k.owner k.history k.logs) { words = record (state_of w k.owner k.history) { channel = sent w.channel a out } })
 of-itself w v k a out far words none =
     let S = log_state w k.owner k.history k.logs in
     foreign-turn w k S.words.next k.owner w.channel a out far (record { sites = λ i c. refl; told = λ i h. refl; views = λ g c. refl; agreed = λ g h. refl })
@@ -264,7 +264,7 @@ plain-item : (w : World) (t : Turn DirectorState) (k : HasLogs w) → w.director
 plain-item w t k same none inert =
     let S = log_state w k.owner k.history k.logs in
     keeps w (with_director w t) k k.owner refl k.counted
-    (subst (λ n. Holds (record S { words = record S.words { next = n; channel = sent w.channel Director t.sends } })) same
+    (subst (λ n. LogsHold (record S { words = record S.words { next = n; channel = sent w.channel Director t.sends } })) same
     (of-itself w (with_director w t) k Director t.sends tt (director-inert-holds S.words t.sends k.holds.words none) inert))
     k.strangers
 

@@ -15,8 +15,8 @@ use Rattle.cluster_model.specs.Site.{on_view, from_agent, from_site, from_scanne
 use Rattle.cluster_model.specs.World.{rest}
 use Rattle.cluster_steps.proofs.Lists.{eqb-same}
 use Rattle.log_laws.specs.Histories as log
-use Rattle.log_laws.specs.Histories.{LogState, Holds, AckOk, ReportOk, EndOk, SiteLetterOk, WaitingFrom, WaitingOk, ForeignOk, part, start_at, term_at, between, flow}
-use Rattle.log_laws.proofs.Kept.Moves.{popped, left, Turns, Goes}
+use Rattle.log_laws.specs.Histories.{LogState, LogsHold, AckOk, ReportOk, EndOk, SiteLetterOk, SiteWaitingFrom, SiteWaitingOk, ForeignOk, part, site_start, term_at, between, flow}
+use Rattle.log_laws.proofs.Kept.Moves.{site_popped, left, Turns, LogsGo}
 use Rattle.log_laws.proofs.Plain.Lines.{flow-plain}
 use Rattle.log_laws.proofs.Messages.Pops.{taken-for, pops-plain, leaves}
 use Rattle.log_laws.proofs.Kept.InertTurns.{look-goes}
@@ -46,15 +46,15 @@ taken-here start here l e s t = let k = taken-for start here l e in (not-none l.
 -- ---- messages of which nothing is said
 
 -- from a scanner, and from the director
-scanner-handler : (T : LogState) → Holds T → (i : ℕ) → 0 < start_at T i → (l : Letter) (m : Msg Blocks) → Goes T i (becomes (from_scanner (T.sites i) (record l { body = m })))
-scanner-handler T H i up l m = elim m as (λ m. Goes T i (becomes (from_scanner (T.sites i) (record l { body = m })))) [
+scanner-handler : (T : LogState) → LogsHold T → (i : ℕ) → 0 < site_start T i → (l : Letter) (m : Msg Blocks) → LogsGo T i (becomes (from_scanner (T.sites i) (record l { body = m })))
+scanner-handler T H i up l m = elim m as (λ m. LogsGo T i (becomes (from_scanner (T.sites i) (record l { body = m })))) [
   | msg.Chunk id bytes ↦ chunk-goes T H i id up
   | msg.ScanEnd id count ↦ scan-end-goes T H i id count up
   | m ↦ goes-same T i H
 ]
 
-director-handler : (T : LogState) → Holds T → (i : ℕ) → 0 < start_at T i → (l : Letter) (m : Msg Blocks) → Goes T i (becomes (from_director (T.sites i) (record l { body = m })))
-director-handler T H i up l m = elim m as (λ m. Goes T i (becomes (from_director (T.sites i) (record l { body = m })))) [
+director-handler : (T : LogState) → LogsHold T → (i : ℕ) → 0 < site_start T i → (l : Letter) (m : Msg Blocks) → LogsGo T i (becomes (from_director (T.sites i) (record l { body = m })))
+director-handler T H i up l m = elim m as (λ m. LogsGo T i (becomes (from_director (T.sites i) (record l { body = m })))) [
   | msg.Look ↦ look-goes T i H
   | m ↦ goes-same T i H
 ]
@@ -62,10 +62,10 @@ director-handler T H i up l m = elim m as (λ m. Goes T i (becomes (from_directo
 -- ---- what was said of a message, once it has left
 
 module _ (S : LogState) (from : Actor) (i : ℕ) where
-  ack-popped : (c t n : ℕ) → AckOk S c t n → AckOk (popped S from i) c t n
+  ack-popped : (c t n : ℕ) → AckOk S c t n → AckOk (site_popped S from i) c t n
   ack-popped c t n k = search
 
-  report-popped : (p c t n m : ℕ) (tail : List Entry) → ReportOk S p c t n m tail → ReportOk (popped S from i) p c t n m tail
+  report-popped : (p c t n m : ℕ) (tail : List Entry) → ReportOk S p c t n m tail → ReportOk (site_popped S from i) p c t n m tail
   report-popped p c t n m tail k = record {
     entered = k.entered;
     is_entered = k.is_entered;
@@ -97,21 +97,21 @@ module _ (S : LogState) (i : ℕ) (ws : List Waiting) where
 
 -- ---- the handler of a message that is taken
 
-module _ (E : Database) (stamp : ℕ) (S : LogState) (H : Holds S) (i : ℕ) (up : 0 < start_at S i) where
+module _ (E : Database) (stamp : ℕ) (S : LogState) (H : LogsHold S) (i : ℕ) (up : 0 < site_start S i) where
   -- from a site
-  module _ (slot : ℕ) (l : Letter) (ls : List Letter) (take : arrival (start_at S i) (term_at S i) l ≡ Taken) where
+  module _ (slot : ℕ) (l : Letter) (ls : List Letter) (take : arrival (site_start S i) (term_at S i) l ≡ Taken) where
     abbrev T : LogState
-    T = popped S (Site slot) i
+    T = site_popped S (Site slot) i
 
-    abbrev Handler : Msg Blocks → Type 0
-    Handler m = Goes T i (from_site E S.words.deployment stamp i (S.sites i) slot (record l { body = m }))
+    abbrev OfBody : Msg Blocks → Type 0
+    OfBody m = LogsGo T i (from_site E S.words.deployment stamp i (S.sites i) slot (record l { body = m }))
 
     -- it has left, where nothing of it is looked at
-    gone : (m : Msg Blocks) → S.words.channel (Site slot) (Site i) ≡ record l { body = m } ∷ ls → log.line_in m ≡ [] → log.flow_in l.past m ≡ [] → Holds T
+    gone : (m : Msg Blocks) → S.words.channel (Site slot) (Site i) ≡ record l { body = m } ∷ ls → log.line_in m ≡ [] → log.flow_in l.past m ≡ [] → LogsHold T
     gone m is p q = pops-plain S H (Site slot) i (record l { body = m }) ls is (record { line = λ k e. p; flow = λ k e. q; view = λ e. absurd (cc) })
 
-    here : 0 < l.start → 0 < l.term → (l.start ≡ start_at S i) × (l.term ≡ term_at S i)
-    here s t = taken-here (start_at S i) (term_at S i) l take s t
+    here : 0 < l.start → 0 < l.term → (l.start ≡ site_start S i) × (l.term ≡ term_at S i)
+    here s t = taken-here (site_start S i) (term_at S i) l take s t
 
     left-behind : (m : Msg Blocks) → S.words.channel (Site slot) (Site i) ≡ record l { body = m } ∷ ls → between T slot i ≡ ls
     left-behind m is = rw (eqb-same i, eqb-same slot) (ap rest is)
@@ -132,8 +132,8 @@ module _ (E : Database) (stamp : ℕ) (S : LogState) (H : Holds S) (i : ℕ) (up
             ∙ ap (λ xs. xs ++ flow l.start l.term ls) (flow-plain l.start l.term (record l { body = msg.StreamEnd count }) refl)
             ∙ ap (flow l.start l.term) (sym (left-behind (msg.StreamEnd count) is))
 
-    site-handler : (m : Msg Blocks) → S.words.channel (Site slot) (Site i) ≡ record l { body = m } ∷ ls → SiteLetterOk S slot i (record l { body = m }) → Handler m
-    site-handler m = elim m as (λ m. S.words.channel (Site slot) (Site i) ≡ record l { body = m } ∷ ls → SiteLetterOk S slot i (record l { body = m }) → Handler m) [
+    site-handler : (m : Msg Blocks) → S.words.channel (Site slot) (Site i) ≡ record l { body = m } ∷ ls → SiteLetterOk S slot i (record l { body = m }) → OfBody m
+    site-handler m = elim m as (λ m. S.words.channel (Site slot) (Site i) ≡ record l { body = m } ∷ ls → SiteLetterOk S slot i (record l { body = m }) → OfBody m) [
       | msg.Put position e floor ↦ λ is k. let a = here k.0.0.0 k.0.0.1 in on_put-goes E S H i slot l ls position e floor is up a.0 a.1
       | msg.Ack position ↦ λ is k. let a = here k.0.0 k.0.1 in
           on_ack-goes T (gone (msg.Ack position) is refl refl) i slot position up (ack-popped S (Site slot) i slot (term_at S i) position (rw a.1 at k.1))
@@ -150,57 +150,57 @@ module _ (E : Database) (stamp : ℕ) (S : LogState) (H : Holds S) (i : ℕ) (up
     ]
 
   -- from an agent
-  module _ (h : ℕ) (l : Letter) (ls : List Letter) (take : arrival (start_at S i) (term_at S i) l ≡ Taken) where
+  module _ (h : ℕ) (l : Letter) (ls : List Letter) (take : arrival (site_start S i) (term_at S i) l ≡ Taken) where
     abbrev FromAgent : Msg Blocks → Type 0
-    FromAgent m = Turns (popped S (Agent h) i) i (from_agent E S.words.deployment stamp i (S.sites i) h (record l { body = m }))
+    FromAgent m = Turns (site_popped S (Agent h) i) i (from_agent E S.words.deployment stamp i (S.sites i) h (record l { body = m }))
 
-    heard : (m : Msg Blocks) → S.words.channel (Agent h) (Site i) ≡ record l { body = m } ∷ ls → log.view_in m ≡ [] → Holds (popped S (Agent h) i)
+    heard : (m : Msg Blocks) → S.words.channel (Agent h) (Site i) ≡ record l { body = m } ∷ ls → log.view_in m ≡ [] → LogsHold (site_popped S (Agent h) i)
     heard m is p = pops-plain S H (Agent h) i (record l { body = m }) ls is (record { line = λ k e. absurd (cc); flow = λ k e. absurd (cc); view = λ e. p })
 
     viewed : (w : Membership) → S.words.channel (Agent h) (Site i) ≡ record l { body = msg.View w } ∷ ls → h ≡ host_of_slot S.words.deployment i → FromAgent (msg.View w)
     viewed w is e =
-        let own : log.from_agent S i ≡ record l { body = msg.View w } ∷ ls = rw e at is in
+        let own : log.agent_to_site S i ≡ record l { body = msg.View w } ∷ ls = rw e at is in
         let p = (rw own at (H.views i).plain).0 in
-        subst (λ g. Turns (popped S (Agent g) i) i (on_view E S.words.deployment i stamp (S.sites i) w)) (sym e)
-        (on_view-turns E S H i stamp l ls w own up (not-none l.start (start_at S i) p.1 (taken-for (start_at S i) (term_at S i) l take).0))
+        subst (λ g. Turns (site_popped S (Agent g) i) i (on_view E S.words.deployment i stamp (S.sites i) w)) (sym e)
+        (on_view-turns E S H i stamp l ls w own up (not-none l.start (site_start S i) p.1 (taken-for (site_start S i) (term_at S i) l take).0))
 
     agent-handler : (m : Msg Blocks) → S.words.channel (Agent h) (Site i) ≡ record l { body = m } ∷ ls → ForeignOk S i (Agent h) (record l { body = m }) → FromAgent m
     agent-handler m = elim m as (λ m. S.words.channel (Agent h) (Site i) ≡ record l { body = m } ∷ ls → ForeignOk S i (Agent h) (record l { body = m }) → FromAgent m) [
-      | msg.SpCall call start body ↦ λ is k. goes-turns (popped S (Agent h) i) i _
-          (on_sp_call-goes E (popped S (Agent h) i) (heard (msg.SpCall call start body) is refl) i stamp h call start body up)
+      | msg.SpCall call start body ↦ λ is k. goes-turns (site_popped S (Agent h) i) i _
+          (on_sp_call-goes E (site_popped S (Agent h) i) (heard (msg.SpCall call start body) is refl) i stamp h call start body up)
       | msg.View w ↦ λ is k. viewed w is k
-      | msg.Frag m round body ↦ λ is k. goes-turns (popped S (Agent h) i) i _
-          (on_frag-goes E (popped S (Agent h) i) (heard (msg.Frag m round body) is refl) i m round body up)
-      | msg.Done m o ↦ λ is k. goes-turns (popped S (Agent h) i) i _
-          (on_done-goes E (popped S (Agent h) i) (heard (msg.Done m o) is refl) i stamp m o up)
-      | m ↦ λ is k. goes-turns (popped S (Agent h) i) i _ (goes-same (popped S (Agent h) i) i (heard m is refl))
+      | msg.Frag m round body ↦ λ is k. goes-turns (site_popped S (Agent h) i) i _
+          (on_frag-goes E (site_popped S (Agent h) i) (heard (msg.Frag m round body) is refl) i m round body up)
+      | msg.Done m o ↦ λ is k. goes-turns (site_popped S (Agent h) i) i _
+          (on_done-goes E (site_popped S (Agent h) i) (heard (msg.Done m o) is refl) i stamp m o up)
+      | m ↦ λ is k. goes-turns (site_popped S (Agent h) i) i _ (goes-same (site_popped S (Agent h) i) i (heard m is refl))
     ]
 
   -- All holds after the handler of a message that is taken.
-  pub handler-turns : (from : Actor) (l : Letter) (ls : List Letter) → S.words.channel from (Site i) ≡ l ∷ ls → arrival (start_at S i) (term_at S i) l ≡ Taken
-      → Turns (popped S from i) i (site_handler E S.words.deployment stamp i (S.sites i) from l)
+  pub handler-turns : (from : Actor) (l : Letter) (ls : List Letter) → S.words.channel from (Site i) ≡ l ∷ ls → arrival (site_start S i) (term_at S i) l ≡ Taken
+      → Turns (site_popped S from i) i (site_handler E S.words.deployment stamp i (S.sites i) from l)
   handler-turns (Site slot) l ls is take =
-      goes-turns (popped S (Site slot) i) i (from_site E S.words.deployment stamp i (S.sites i) slot l)
+      goes-turns (site_popped S (Site slot) i) i (from_site E S.words.deployment stamp i (S.sites i) slot l)
       (site-handler slot l ls take l.body is (rw is at (H.letters slot i (running-slot S H i up))).0)
   handler-turns (Agent h) l ls is take = agent-handler h l ls take l.body is (rw is at (H.foreign (Agent h) i)).0
   handler-turns (Scanner x) l ls is take =
-      goes-turns (popped S (Scanner x) i) i (becomes (from_scanner (S.sites i) l))
-      (scanner-handler (popped S (Scanner x) i) (pops-plain S H (Scanner x) i l ls is (record { line = λ k e. absurd (cc); flow = λ k e. absurd (cc); view = λ e. absurd (cc) })) i up l l.body)
+      goes-turns (site_popped S (Scanner x) i) i (becomes (from_scanner (S.sites i) l))
+      (scanner-handler (site_popped S (Scanner x) i) (pops-plain S H (Scanner x) i l ls is (record { line = λ k e. absurd (cc); flow = λ k e. absurd (cc); view = λ e. absurd (cc) })) i up l l.body)
   handler-turns Director l ls is take =
-      goes-turns (popped S Director i) i (becomes (from_director (S.sites i) l))
-      (director-handler (popped S Director i) (pops-plain S H Director i l ls is (record { line = λ k e. absurd (cc); flow = λ k e. absurd (cc); view = λ e. absurd (cc) })) i up l l.body)
+      goes-turns (site_popped S Director i) i (becomes (from_director (S.sites i) l))
+      (director-handler (site_popped S Director i) (pops-plain S H Director i l ls is (record { line = λ k e. absurd (cc); flow = λ k e. absurd (cc); view = λ e. absurd (cc) })) i up l l.body)
   handler-turns (Client n) l ls is take =
-      goes-turns (popped S (Client n) i) i (becomes (S.sites i))
-      (goes-same (popped S (Client n) i) i (pops-plain S H (Client n) i l ls is (record { line = λ k e. absurd (cc); flow = λ k e. absurd (cc); view = λ e. absurd (cc) })))
+      goes-turns (site_popped S (Client n) i) i (becomes (S.sites i))
+      (goes-same (site_popped S (Client n) i) i (pops-plain S H (Client n) i l ls is (record { line = λ k e. absurd (cc); flow = λ k e. absurd (cc); view = λ e. absurd (cc) })))
 
   -- ---- the handler of a message that waited
 
   left-site : (slot : ℕ) (l : Letter) (ws : List Waiting) (m : Msg Blocks) → S.pending i ≡ record { from = Site slot; letter = record l { body = m } } ∷ ws → l.term ≡ term_at S i
-      → (l.start ≡ 0) ⊎ (l.start ≡ start_at S i) → WaitingFrom S i (Site slot) (record l { body = m })
-      → Goes (left S i ws) i (from_site E S.words.deployment stamp i (S.sites i) slot (record l { body = m }))
+      → (l.start ≡ 0) ⊎ (l.start ≡ site_start S i) → SiteWaitingFrom S i (Site slot) (record l { body = m })
+      → LogsGo (left S i ws) i (from_site E S.words.deployment stamp i (S.sites i) slot (record l { body = m }))
   left-site slot l ws m = elim m as (λ m. S.pending i ≡ record { from = Site slot; letter = record l { body = m } } ∷ ws → l.term ≡ term_at S i
-      → (l.start ≡ 0) ⊎ (l.start ≡ start_at S i) → WaitingFrom S i (Site slot) (record l { body = m })
-      → Goes (left S i ws) i (from_site E S.words.deployment stamp i (S.sites i) slot (record l { body = m }))) [
+      → (l.start ≡ 0) ⊎ (l.start ≡ site_start S i) → SiteWaitingFrom S i (Site slot) (record l { body = m })
+      → LogsGo (left S i ws) i (from_site E S.words.deployment stamp i (S.sites i) slot (record l { body = m }))) [
         | msg.Put position e floor ↦ λ is t a k. absurd k
         | msg.Repair from entries ↦ λ is t a k. absurd k
         | msg.StreamStart head ↦ λ is t a k. absurd k
@@ -211,14 +211,14 @@ module _ (E : Database) (stamp : ℕ) (S : LogState) (H : Holds S) (i : ℕ) (up
         | msg.Report position floor tail ↦ λ is t a k.
             on_report-goes E (left S i ws) (leaves S H i _ ws is) i stamp slot position floor tail up
             (report-left S i ws (part S i) slot (term_at S i) position floor tail (rw t at k.1))
-        | msg.JoinAsk start asking ↦ λ is t a k. join-ask-left-goes S H i slot l ws start asking is up (not-none l.start (start_at S i) k.0.0 a) t
+        | msg.JoinAsk start asking ↦ λ is t a k. join-ask-left-goes S H i slot l ws start asking is up (not-none l.start (site_start S i) k.0.0 a) t
         | m ↦ λ is t a k. goes-same (left S i ws) i (leaves S H i _ ws is)
       ]
 
-  left-agent : (h : ℕ) (l : Letter) (ws : List Waiting) (m : Msg Blocks) → Holds (left S i ws) → WaitingFrom S i (Agent h) (record l { body = m })
-      → Goes (left S i ws) i (from_agent E S.words.deployment stamp i (S.sites i) h (record l { body = m }))
-  left-agent h l ws m = elim m as (λ m. Holds (left S i ws) → WaitingFrom S i (Agent h) (record l { body = m })
-      → Goes (left S i ws) i (from_agent E S.words.deployment stamp i (S.sites i) h (record l { body = m }))) [
+  left-agent : (h : ℕ) (l : Letter) (ws : List Waiting) (m : Msg Blocks) → LogsHold (left S i ws) → SiteWaitingFrom S i (Agent h) (record l { body = m })
+      → LogsGo (left S i ws) i (from_agent E S.words.deployment stamp i (S.sites i) h (record l { body = m }))
+  left-agent h l ws m = elim m as (λ m. LogsHold (left S i ws) → SiteWaitingFrom S i (Agent h) (record l { body = m })
+      → LogsGo (left S i ws) i (from_agent E S.words.deployment stamp i (S.sites i) h (record l { body = m }))) [
         | msg.SpCall call start body ↦ λ g k. on_sp_call-goes E (left S i ws) g i stamp h call start body up
         | msg.View w ↦ λ g k. absurd k
         | msg.Frag m round body ↦ λ g k. on_frag-goes E (left S i ws) g i m round body up
@@ -227,12 +227,12 @@ module _ (E : Database) (stamp : ℕ) (S : LogState) (H : Holds S) (i : ℕ) (up
       ]
 
   -- All holds after the handler of a message that waited for the term. One of an actor that isn't a site brings no ask.
-  pub left-goes : (x : Waiting) (ws : List Waiting) → S.pending i ≡ x ∷ ws → x.letter.term ≡ term_at S i → WaitingOk S i x
-      → Goes (left S i ws) i (site_handler E S.words.deployment stamp i (S.sites i) x.from x.letter)
+  pub left-goes : (x : Waiting) (ws : List Waiting) → S.pending i ≡ x ∷ ws → x.letter.term ≡ term_at S i → SiteWaitingOk S i x
+      → LogsGo (left S i ws) i (site_handler E S.words.deployment stamp i (S.sites i) x.from x.letter)
   left-goes x ws is t k = from-each x.from x.letter is t k.0 k.1
     where
       from-each : (from : Actor) (l : Letter) → S.pending i ≡ record { from = from; letter = l } ∷ ws → l.term ≡ term_at S i
-          → (l.start ≡ 0) ⊎ (l.start ≡ start_at S i) → WaitingFrom S i from l → Goes (left S i ws) i (site_handler E S.words.deployment stamp i (S.sites i) from l)
+          → (l.start ≡ 0) ⊎ (l.start ≡ site_start S i) → SiteWaitingFrom S i from l → LogsGo (left S i ws) i (site_handler E S.words.deployment stamp i (S.sites i) from l)
       from-each (Site slot) l is t a k = left-site slot l ws l.body is t a k
       from-each (Agent h) l is t a k = left-agent h l ws l.body (leaves S H i (record { from = Agent h; letter = l }) ws is) k
       from-each (Scanner x) l is t a k = scanner-handler (left S i ws) (leaves S H i (record { from = Scanner x; letter = l }) ws is) i up l l.body

@@ -16,18 +16,18 @@ use Rattle.cluster_model.specs.SiteState.{SiteState, is_member_site, leads}
 use Rattle.cluster_model.specs.Agent.{agent_turn}
 use Rattle.cluster_model.specs.Sync.{owes_in, may_sync, site_turn, sync_turn}
 use Rattle.cluster_model.specs.Environment.{Environment, NoFault, DiskFails, NoMemory, DisksShow}
-use Rattle.cluster_model.specs.World.{World, AuthoritativeLog, Stopped, Input, first_world, stamp_of, took, authoritative_after, with_site, stops_with}
+use Rattle.cluster_model.specs.World.{World, AuthoritativeLog, Stopped, Input, stamp_of, took, authoritative_after, with_site, stops_with}
 use Rattle.cluster_model.specs.Recover.{stays_stopped}
 use Rattle.cluster_model.specs.Events.{is_actor, is_some_letter, can, allows, delivered, recovered_with, may_do, happens, step}
-use Rattle.cluster_model.specs.Runs.{Happening, IsRun, has_failed, may_happen, run}
-use Rattle.word_laws.specs.Chain.{renews_by, renews_at, renews, IsOneEpoch}
+use Rattle.cluster_model.specs.Runs.{Happening, Reached, RunsInEpoch, has_failed, may_happen, renews_by, renews_at, renews}
+use Rattle.cluster_model.proofs.Runs.{reached-kept, in-epoch-kept}
 use Rattle.cluster_steps.proofs.Lists.{if-false, set-here, set-both}
 use Rattle.word_laws.proofs.Worlds.{actor-host, host-apart, memory-runs}
-use Rattle.log_laws.specs.Histories.{Logs, LogState, Holds, start_at}
+use Rattle.log_laws.specs.Histories.{Logs, LogState, LogsHold, site_start}
 use Rattle.log_laws.specs.Copies.{log_state, AuthoritativeOk, HasLogs}
 use Rattle.log_laws.proofs.Kept.Moves.{Grown, Onward}
 use Rattle.log_laws.proofs.Kept.Grown.{onward-same, onward-then}
-use Rattle.log_laws.proofs.Runs.Leading.{Rises, rises-same, rises-then, authoritative-still, authoritative-turned, authoritative-rises, authoritative-counted}
+use Rattle.log_laws.proofs.Runs.Leading.{AuthoritativeRises, rises-same, rises-then, authoritative-still, authoritative-turned, authoritative-rises, authoritative-counted}
 use Rattle.log_laws.proofs.Runs.Boots.{first-logs, anew-logs}
 use Rattle.log_laws.proofs.Runs.Others.{Keeps, to_client-logs, to_director-logs, to_scanner-logs, scan-logs, submit-logs, next-logs, stopped-logs}
 use Rattle.log_laws.proofs.Agents.AgentEvents.{agent-event}
@@ -72,24 +72,24 @@ actor-slot D n e =
 -- ---- a later world
 
 -- one with a history, which is the same one and has only grown, unless an epoch begins anew
-pub record Reaches (w : World) (F : Logs) (anew : Bool) (v : World) : Type 0 where
+pub record LogsReach (w : World) (F : Logs) (anew : Bool) (v : World) : Type 0 where
   pub next : HasLogs v
   pub onward : anew ≡ false → Onward F next.logs
-  pub rises : anew ≡ false → (p : ℕ) → Rises (w.authoritative p) (v.authoritative p)
+  pub rises : anew ≡ false → (p : ℕ) → AuthoritativeRises (w.authoritative p) (v.authoritative p)
 
-same-reaches : (w : World) (c : Bool) (k : HasLogs w) → Reaches w k.logs c w
+same-reaches : (w : World) (c : Bool) (k : HasLogs w) → LogsReach w k.logs c w
 same-reaches w c k = record { next = k; onward = λ e. onward-same k.logs; rises = λ e p. rises-same (w.authoritative p) }
 
 -- where the history stays
-keeps-reaches : (w v : World) (c : Bool) (k : HasLogs w) → Keeps w k v → Reaches w k.logs c v
+keeps-reaches : (w v : World) (c : Bool) (k : HasLogs w) → Keeps w k v → LogsReach w k.logs c v
 keeps-reaches w v c k n = record {
   next = n.next;
   onward = λ e. subst (Onward k.logs) (sym n.logs) (onward-same k.logs);
-  rises = λ e p. subst (Rises (w.authoritative p)) (ap (λ f. f p) (sym n.authoritative)) (rises-same (w.authoritative p));
+  rises = λ e p. subst (AuthoritativeRises (w.authoritative p)) (ap (λ f. f p) (sym n.authoritative)) (rises-same (w.authoritative p));
 }
 
 -- the event is noted in the trace
-noted : (w : World) (F : Logs) (c : Bool) (v : World) (trace : List Event) → Reaches w F c v → Reaches w F c (record v { trace = trace })
+noted : (w : World) (F : Logs) (c : Bool) (v : World) (trace : List Event) → LogsReach w F c v → LogsReach w F c (record v { trace = trace })
 noted w F c v trace r = let n = r.next in record {
   next = record { owner = n.owner; history = n.history; logs = n.logs; holds = n.holds; strangers = n.strangers; authoritative = n.authoritative; counted = n.counted };
   onward = r.onward;
@@ -100,8 +100,8 @@ noted w F c v trace r = let n = r.next in record {
 
 -- after the turn of a site
 pub site-reaches : (w : World) (c : Bool) (k : HasLogs w) (channel : Actor → Actor → List Letter) (stops : List Stopped) (i : ℕ) (t : Turn SiteState) (G : Logs)
-    → Holds (log_state (with_site (record w { channel = channel; stops = stops }) i t) k.owner k.history G) → Grown w.deployment i t.state k.logs G
-    → Reaches w k.logs c (with_site (record w { channel = channel; stops = stops }) i t)
+    → LogsHold (log_state (with_site (record w { channel = channel; stops = stops }) i t) k.owner k.history G) → Grown w.deployment i t.state k.logs G
+    → LogsReach w k.logs c (with_site (record w { channel = channel; stops = stops }) i t)
 site-reaches w c k channel stops i t G H grown = record {
   next = record {
     owner = k.owner;
@@ -138,36 +138,36 @@ site-reaches w c k channel stops i t G H grown = record {
     own-authoritative = subst (λ s. AuthoritativeOk G own (authoritative_after w.deployment i s (w.authoritative own))) site
         (authoritative-turned T H k.logs i (subst (λ s. Grown w.deployment i s k.logs G) (sym site) grown) (w.authoritative own) (k.authoritative own))
 
-    rises : (p : ℕ) → Rises (w.authoritative p) (v.authoritative p)
-    rises = set-both (λ p l. Rises (w.authoritative p) l) w.authoritative own after (authoritative-rises w.deployment i t.state (w.authoritative own)) (λ p n. rises-same (w.authoritative p))
+    rises : (p : ℕ) → AuthoritativeRises (w.authoritative p) (v.authoritative p)
+    rises = set-both (λ p l. AuthoritativeRises (w.authoritative p) l) w.authoritative own after (authoritative-rises w.deployment i t.state (w.authoritative own)) (λ p n. rises-same (w.authoritative p))
 
 -- its history is the one that the turn leaves
 pub site-next : (w : World) (c : Bool) (k : HasLogs w) (channel : Actor → Actor → List Letter) (stops : List Stopped) (i : ℕ) (t : Turn SiteState) (G : Logs)
-    → (H : Holds (log_state (with_site (record w { channel = channel; stops = stops }) i t) k.owner k.history G)) (grown : Grown w.deployment i t.state k.logs G)
+    → (H : LogsHold (log_state (with_site (record w { channel = channel; stops = stops }) i t) k.owner k.history G)) (grown : Grown w.deployment i t.state k.logs G)
     → let n = (site-reaches w c k channel stops i t G H grown).next in (n.owner ≡ k.owner) × (n.history ≡ k.history) × (n.logs ≡ G)
 unfolding site-reaches
 site-next w c k channel stops i t G H grown = (refl, refl, refl)
 
 to_site-reaches : (E : Database) (w : World) (i : ℕ) (from : Actor) (ls : List Letter) (o : Environment) (c : Bool) (k : HasLogs w) → w.channel from (Site i) ≡ ls
-    → nat_lt i (slots w.deployment) ≡ true → Reaches w k.logs c (delivered E w (Site i) from ls o)
+    → nat_lt i (slots w.deployment) ≡ true → LogsReach w k.logs c (delivered E w (Site i) from ls o)
 to_site-reaches E w i from [] o c k is slot = same-reaches w c k
 to_site-reaches E w i from (l ∷ ls) o c k is slot =
     let S = log_state w k.owner k.history k.logs in
     let r = turn-after E (stamp_of w) S k.holds i slot refl from l ls o is in
     site-reaches w c k (took w.channel from (Site i)) (stops_with (stamp_of w) w.stops (Site i) o) i (site_turn E w.deployment (stamp_of w) i (w.sites i) from l o) r.0 r.1 r.2
 
-sync-reaches : (E : Database) (w : World) (i : ℕ) (o : Environment) (c : Bool) (k : HasLogs w) → may_sync (w.sites i) ≡ true → Reaches w k.logs c (happens E w (event.Sync i) o)
+sync-reaches : (E : Database) (w : World) (i : ℕ) (o : Environment) (c : Bool) (k : HasLogs w) → may_sync (w.sites i) ≡ true → LogsReach w k.logs c (happens E w (event.Sync i) o)
 sync-reaches E w i o c k may =
     let S = log_state w k.owner k.history k.logs in
     let up = (and_parts (nat_lt 0 (w.sites i).start) (owes_in (w.sites i) (w.sites i).joining) may).0 in
-    let runs : 0 < start_at S i = grind (arith, nat_tests, up) in
+    let runs : 0 < site_start S i = grind (arith, nat_tests, up) in
     let r = sync-after E S k.holds i refl runs o in
     site-reaches w c k w.channel (stops_with (stamp_of w) w.stops (Site i) o) i (sync_turn E w.deployment i (w.sites i) o) r.0 r.1 r.2
 
 -- ---- events of agents
 
 to_agent-reaches : (E : Database) (w : World) (n : ℕ) (from : Actor) (ls : List Letter) (o : Environment) (c : Bool) (k : HasLogs w) → w.channel from (Agent n) ≡ ls
-    → is_host w.deployment n ≡ true → allows w (event.Deliver (Agent n) from) o ≡ true → Reaches w k.logs c (delivered E w (Agent n) from ls o)
+    → is_host w.deployment n ≡ true → allows w (event.Deliver (Agent n) from) o ≡ true → LogsReach w k.logs c (delivered E w (Agent n) from ls o)
 to_agent-reaches E w n from [] o c k is host may = same-reaches w c k
 to_agent-reaches E w n from (l ∷ ls) o c k is host may =
     let S = log_state w k.owner k.history k.logs in
@@ -190,7 +190,7 @@ to_agent-reaches E w n from (l ∷ ls) o c k is host may =
 -- ---- events
 
 delivered-reaches : (E : Database) (w : World) (to from : Actor) (o : Environment) (k : HasLogs w) → is_actor w.deployment to ≡ true → allows w (event.Deliver to from) o ≡ true
-    → Reaches w k.logs false (delivered E w to from (w.channel from to) o)
+    → LogsReach w k.logs false (delivered E w to from (w.channel from to) o)
 delivered-reaches E w Director from o k there may =
     keeps-reaches w (delivered E w Director from (w.channel from Director) o) false k (to_director-logs E w from (w.channel from Director) o k)
 delivered-reaches E w (Client n) from o k there may =
@@ -200,7 +200,7 @@ delivered-reaches E w (Site i) from o k there may = to_site-reaches E w i from (
 delivered-reaches E w (Scanner i) from o k there may =
     keeps-reaches w (delivered E w (Scanner i) from (w.channel from (Scanner i)) o) false k (to_scanner-logs E w i from (w.channel from (Scanner i)) o k)
 
-recovery-reaches : (E : Database) (w : World) (o : Environment) (k : HasLogs w) → Reaches w k.logs (renews_by o) (recovered_with E w o)
+recovery-reaches : (E : Database) (w : World) (o : Environment) (k : HasLogs w) → LogsReach w k.logs (renews_by o) (recovered_with E w o)
 recovery-reaches E w NoFault k = same-reaches w false k
 recovery-reaches E w (DiskFails answered) k = same-reaches w false k
 recovery-reaches E w (NoMemory answered) k = same-reaches w false k
@@ -208,7 +208,7 @@ recovery-reaches E w (DisksShow shown None) k =
     record { next = anew-logs E w shown k; onward = λ e. absurd (false≢true (sym e)); rises = λ e p. absurd (false≢true (sym e)) }
 recovery-reaches E w (DisksShow shown (Some failed)) k = keeps-reaches w (stays_stopped E w shown failed) false k (stopped-logs E w shown failed k)
 
-happens-reaches : (E : Database) (w : World) (e : Event) (o : Environment) (k : HasLogs w) → can w e ≡ true → allows w e o ≡ true → Reaches w k.logs (renews_at e o) (happens E w e o)
+happens-reaches : (E : Database) (w : World) (e : Event) (o : Environment) (k : HasLogs w) → can w e ≡ true → allows w e o ≡ true → LogsReach w k.logs (renews_at e o) (happens E w e o)
 happens-reaches E w (event.Deliver to from) o k may environment =
     delivered-reaches E w to from o k (and_parts (is_some_letter (w.channel from to)) (is_actor w.deployment to) may).1 environment
 happens-reaches E w (event.Sync i) o k may environment = sync-reaches E w i o false k (and_parts (nat_lt i (slots w.deployment)) (may_sync (w.sites i)) may).1
@@ -218,31 +218,26 @@ happens-reaches E w event.Item o k may environment = keeps-reaches w (happens E 
 happens-reaches E w (event.Submit n) o k may environment = keeps-reaches w (happens E w (event.Submit n) o) false k (submit-logs w n k)
 happens-reaches E w (event.Idle a) o k may environment = same-reaches w false k
 
-step-reaches : (E : Database) (w : World) (e : Happening) → may_happen w e ≡ true → (k : HasLogs w) → Reaches w k.logs (renews e) (step E w e)
+step-reaches : (E : Database) (w : World) (e : Happening) → may_happen w e ≡ true → (k : HasLogs w) → LogsReach w k.logs (renews e) (step E w e)
 step-reaches E w e may k =
     let outer = and_parts (not (has_failed w) && can w e.0) (allows w e.0 e.1) may in
     let inner = and_parts (not (has_failed w)) (can w e.0) outer.0 in
     let v = happens E w e.0 e.1 in
     noted w k.logs (renews e) v (v.trace ++ e.0 ∷ []) (happens-reaches E w e.0 e.1 k inner.1 outer.1)
 
--- ---- runs
+-- ---- reached worlds
 
--- Each world of a run has a history of its logs, if the first one has.
-pub run-logs : (E : Database) (es : List Happening) (w : World) → IsRun E es w → HasLogs w → HasLogs (run E es w)
-run-logs E [] w r k = k
-run-logs E (e ∷ es) w r k = run-logs E es (step E w e) r.1 (step-reaches E w e r.0 k).next
+-- Each world that is reached has a history of its logs.
+pub logs-agree : (E : Database) (input : Input) (w : World) → Reached E input w → HasLogs w
+logs-agree E input w r = reached-kept E HasLogs (λ v e may k. (step-reaches E v e may k).next) input w (λ is. first-logs E input is.base) r
 
 -- Where no recovery works on the way, it is the same one, and has only grown.
-pub run-reaches : (E : Database) (es : List Happening) (w : World) → IsRun E es w → IsOneEpoch es → (k : HasLogs w) → Reaches w k.logs false (run E es w)
-run-reaches E [] w r same k = same-reaches w false k
-run-reaches E (e ∷ es) w r same k =
-    let s = step-reaches E w e r.0 k in
-    let n = run-reaches E es (step E w e) r.1 same.1 s.next in
-    record {
-      next = n.next;
-      onward = λ f. onward-then k.logs s.next.logs n.next.logs (s.onward same.0) (n.onward f);
-      rises = λ f p. rises-then (w.authoritative p) ((step E w e).authoritative p) ((run E es (step E w e)).authoritative p) (s.rises same.0 p) (n.rises f p);
+pub epoch-reaches : (E : Database) (v w : World) → RunsInEpoch E v w → (k : HasLogs v) → LogsReach v k.logs false w
+epoch-reaches E v w r k = in-epoch-kept E (LogsReach v k.logs false) goes-on v w r (same-reaches v false k)
+  where
+    goes-on : (u : World) (e : Happening) → may_happen u e ≡ true → renews e ≡ false → LogsReach v k.logs false u → LogsReach v k.logs false (step E u e)
+    goes-on u e may same n = let s = step-reaches E u e may n.next in record {
+      next = s.next;
+      onward = λ f. onward-then k.logs n.next.logs s.next.logs (n.onward f) (s.onward same);
+      rises = λ f p. rises-then (v.authoritative p) (u.authoritative p) ((step E u e).authoritative p) (n.rises f p) (s.rises same p);
     }
-
-pub logs-agree : (E : Database) (input : Input) (es : List Happening) → 0 < input.base → IsRun E es (first_world E input) → HasLogs (run E es (first_world E input))
-logs-agree E input es some r = run-logs E es (first_world E input) r (first-logs E input some)
