@@ -4,7 +4,7 @@ use Rattle.std.proofs.lemmas.Bool.{and_parts, and_from, not-true}
 use Rattle.std.specs.Prelude.{ℕ, not, is_some, Option, Some, None}
 use Rattle.volt_wire.specs.Word.{Membership}
 use Rattle.cluster_model.specs.Words.{Deployment, part_of_slot, is_some_of}
-use Rattle.cluster_model.specs.SiteState.{SiteState, Joining, is_joiner, leader_in, is_leader, leads, other_copies}
+use Rattle.cluster_model.specs.SiteState.{SiteState, Joining, is_joiner, leader_in, is_leader, leads}
 
 -- whether it is a joiner
 pub not-joiner : (s : SiteState) → is_joiner s ≡ false → s.joining ≡ None

@@ -14,7 +14,7 @@ use Rattle.cluster_model.specs.Events.{is_shown}
 use Rattle.word_laws.specs.Histories as word
 use Rattle.cluster_steps.specs.Lists.{In, Prefix}
 use Rattle.cluster_steps.proofs.Lists.{none-and-some, not-both, all-at, list_all-at}
-use Rattle.log_laws.specs.Histories.{Logs, LogState, Holds, Leadership, IsSlot, part}
+use Rattle.log_laws.specs.Histories.{Logs, LogState, LogsHold, Leadership, IsSlot, part}
 use Rattle.log_laws.specs.Copies.{log_state, HasLogs, AuthoritativeOk}
 use Rattle.log_laws.proofs.Plain.Copies.{range-in}
 use Rattle.cluster_steps.proofs.Prefixes.{prefix-none, prefix-trans, prefixes-order, take-of-prefix, take-short}
@@ -64,7 +64,7 @@ world-shows w owner history logs F halted K shown failed e n = record {
 -- ---- what was counted firm
 
 -- of a content that is good enough
-module _ (S : LogState) (H : Holds S) (F : Firm) (p v : ℕ) (g : Leadership) (led : S.logs.leadership p v ≡ Some g) (low : F p ≤ S.logs.reach p v) where
+module _ (S : LogState) (H : LogsHold S) (F : Firm) (p v : ℕ) (g : Leadership) (led : S.logs.leadership p v ≡ Some g) (low : F p ≤ S.logs.reach p v) where
   written-firm : (x : Content) → Written S p x → AtLeast v (F p) (Some x) → Prefix (take (F p) g.log) x.log
   written-firm x w (inl above) =
       prefix-trans (take (F p) g.log) w.leadership.begun x.log (firm-begun S H p v x.mark (F p) g w.leadership led w.led low above).1 w.begun
@@ -80,7 +80,7 @@ module _ (S : LogState) (H : Holds S) (F : Firm) (p v : ℕ) (g : Leadership) (l
 
 -- ---- any choice
 
-module _ (S : LogState) (H : Holds S) (F : Firm) (halted : Bool) (K : DisksHold S F halted) (shown : ℕ → Shown) (k : Shows S shown) (p : ℕ) where
+module _ (S : LogState) (H : LogsHold S) (F : Firm) (halted : Bool) (K : DisksHold S F halted) (shown : ℕ → Shown) (k : Shows S shown) (p : ℕ) where
   -- all that was counted firm, in the term of its witness
   abbrev counted : List Entry
   counted = take (F p) (K.firm p).leadership.log

@@ -7,7 +7,7 @@ use Rattle.volt_wire.specs.Word.{Membership}
 use Rattle.cluster_model.specs.Disk.{Content, Shown}
 use Rattle.cluster_model.specs.Words.{term_of, term_in}
 use Rattle.cluster_steps.proofs.Lists.{all-mono, same-some, none-and-some}
-use Rattle.log_laws.specs.Histories.{LogState, Holds, Leadership, MemberOk, part, start_at, log_at, term_at}
+use Rattle.log_laws.specs.Histories.{LogState, LogsHold, Leadership, MemberOk, part, site_start, log_at, term_at}
 use Rattle.cluster_steps.specs.Lists.{Prefix}
 use Rattle.cluster_steps.proofs.Prefixes.{prefix-refl, prefix-trans, prefix-take, take-prefix, take-grown, take-of-prefix}
 use Rattle.log_laws.proofs.Runs.Agreeing.{agrees-begun}
@@ -32,7 +32,7 @@ rises-same S T same logs = record {
 
 -- ---- what is everywhere in a led term
 
-module _ (S : LogState) (H : Holds S) (p : ℕ) where
+module _ (S : LogState) (H : LogsHold S) (p : ℕ) where
   -- is in its log
   pub firm-within : (v n : ℕ) (g : Leadership) → S.logs.leadership p v ≡ Some g → n ≤ S.logs.reach p v → n ≤ length g.log
   firm-within v n g led reach = let k = (H.leaderships p v g led).within in omega (arith, k, reach)
@@ -87,7 +87,7 @@ module _ (S T : LogState) (f : Rises S T) where
   content-later F G p true base (Some x) (inr h) = inr (base refl x h)
 
   -- where what was counted firm stays so
-  module _ (H : Holds S) (K : Holds T) (F G : Firm) (p : ℕ) (firm : FirmOk S F p) where
+  module _ (H : LogsHold S) (K : LogsHold T) (F G : Firm) (p : ℕ) (firm : FirmOk S F p) where
     rebuilt-later : G p ≡ F p → (x : Content) → Rebuilt S F p x → Rebuilt T G p x
     rebuilt-later same x r v h led reach =
         let k = f.kept p firm.term firm.leadership firm.led in
@@ -124,8 +124,8 @@ pub record Behind (S : LogState) (c mark : ℕ) : Type 0 where
   pub led : S.logs.leadership (part S c) term ≡ Some later
   pub prefix : Prefix (log_at S c) later.log
 
-module _ (S : LogState) (H : Holds S) (c mark : ℕ) (r : Leadership) (led : S.logs.leadership (part S c) mark ≡ Some r) where
-  word-behind : 0 < start_at S c → (w : Membership) → MemberOk S c w → mark ≤ term_of w → Behind S c mark
+module _ (S : LogState) (H : LogsHold S) (c mark : ℕ) (r : Leadership) (led : S.logs.leadership (part S c) mark ≡ Some r) where
+  word-behind : 0 < site_start S c → (w : Membership) → MemberOk S c w → mark ≤ term_of w → Behind S c mark
   word-behind up w m low = choice (S.logs.leadership (part S c) (term_of w)) refl
     where
       choice : (o : Option Leadership) → S.logs.leadership (part S c) (term_of w) ≡ o → Behind S c mark
@@ -142,14 +142,14 @@ module _ (S : LogState) (H : Holds S) (c mark : ℕ) (r : Leadership) (led : S.l
           }
 
   -- A member's log is a prefix of that of a term that was led: its own, or the last one before.
-  pub member-behind : 0 < start_at S c → (S.sites c).joining ≡ None → mark ≤ term_at S c → Behind S c mark
+  pub member-behind : 0 < site_start S c → (S.sites c).joining ≡ None → mark ≤ term_at S c → Behind S c mark
   member-behind up joins low =
       let k = (H.sites c).member up joins in
       let term : term_at S c ≡ term_of k.0 = ap term_in k.1 in
       word-behind up k.0 k.2 (omega (arith, low, term))
 
   -- So a content with a prefix of its log is written, once that has all that the mark's term began with.
-  pub member-written : 0 < start_at S c → (S.sites c).joining ≡ None → mark ≤ term_at S c
+  pub member-written : 0 < site_start S c → (S.sites c).joining ≡ None → mark ≤ term_at S c
       → (x : Content) → x.mark ≡ mark → Prefix x.log (log_at S c) → Prefix r.begun x.log → Written S (part S c) x
   member-written up joins low x same prefix begun =
       let k = member-behind up joins low in

@@ -19,8 +19,8 @@ use Rattle.word_laws.proofs.Moves as word_moves
 use Rattle.word_laws.proofs.Steps.{unnamed-not}
 use Rattle.word_laws.proofs.Hearings.{agent-there}
 use Rattle.word_laws.proofs.Agreement.{at-good, initiator-named, member-is}
-use Rattle.log_laws.specs.Histories.{LogState, Logs, Holds, JoinerOk, StreamIn, ViewIn, RunViews, SiteLetterOk, IsSlot, start_at, between, from_agent, views}
-use Rattle.log_laws.proofs.Kept.Moves.{after}
+use Rattle.log_laws.specs.Histories.{LogState, Logs, LogsHold, JoinerOk, StreamIn, ViewIn, RunViews, SiteLetterOk, IsSlot, site_start, between, agent_to_site, views}
+use Rattle.log_laws.proofs.Kept.Moves.{after_site}
 use Rattle.log_laws.proofs.Kept.Plumbing.{sent-either}
 use Rattle.log_laws.proofs.Agents.AgentEvents.{AgentGoes}
 use Rattle.cluster_steps.proofs.Leaders.{leader-view, leads-parts}
@@ -49,9 +49,9 @@ unloaded S c j k none = seen (S.sites c).view k.view
     seen None k = k.loads
     seen (Some w) k = streamed w j.stream none k.stream
 
-module _ (S : LogState) (H : Holds S) (c : ℕ) (slot : IsSlot S c) (up : 0 < start_at S c) (j : Joining) (joins : (S.sites c).joining ≡ Some j) (none : j.stream ≡ None) where
+module _ (S : LogState) (H : LogsHold S) (c : ℕ) (slot : IsSlot S c) (up : 0 < site_start S c) (j : Joining) (joins : (S.sites c).joining ≡ Some j) (none : j.stream ≡ None) where
   abbrev a : ℕ
-  a = start_at S c
+  a = site_start S c
 
   joiner : JoinerOk S c j
   joiner = (H.sites c).joiner j joins
@@ -60,7 +60,7 @@ module _ (S : LogState) (H : Holds S) (c : ℕ) (slot : IsSlot S c) (up : 0 < st
   took : (w : Membership) × (S.words.history.took a ≡ Some w)
   took = seen (S.sites c).view joiner.view ((H.views c).running up)
     where
-      seen : (o : Option Membership) → ViewIn S c j o → RunViews S c o (views a (from_agent S c)) → (w : Membership) × (S.words.history.took a ≡ Some w)
+      seen : (o : Option Membership) → ViewIn S c j o → RunViews S c o (views a (agent_to_site S c)) → (w : Membership) × (S.words.history.took a ≡ Some w)
       seen None k r = (r.first, r.took)
       seen (Some w) k r = (w, k.took)
 
@@ -97,12 +97,12 @@ module _ (S : LogState) (H : Holds S) (c : ℕ) (slot : IsSlot S c) (up : 0 < st
 module _ (S : LogState) (K : Halted S) (n : ℕ) (from : Actor) (t : Turn AgentState) (r : AgentGoes S n from t) where
   -- the state after it
   abbrev pub T : LogState
-  T = record S { words = word_moves.after (word_moves.popped S.words from n) n t.state t.sends r.history }
+  T = record S { words = word_moves.after_agent (word_moves.agent_popped S.words from n) n t.state t.sends r.history }
 
   -- its start is named by no word still: none but itself could have admitted it
-  own-unnamed : 0 < word.start_at S.words n → Unnamed T.words (word.start_at S.words n)
+  own-unnamed : 0 < word.agent_start S.words n → Unnamed T.words (word.agent_start S.words n)
   own-unnamed up = record {
-    not_first = ap (λ F. list_any (λ m. m.1 == word.start_at S.words n) F.first) r.grows.first ∙ (K.unnamed n up).0;
+    not_first = ap (λ F. list_any (λ m. m.1 == word.agent_start S.words n) F.first) r.grows.first ∙ (K.unnamed n up).0;
     not_admitted = λ x i e. elim (r.by x i) [
       | inl old ↦ (K.unnamed n up).1 x old e
       | inr new ↦ not-both (names x.at x.start) (subst (λ s. names x.at s ≡ true) (new.0 ∙ sym e) (initiator-named T.words r.holds.words.history x i))
@@ -114,7 +114,7 @@ module _ (S : LogState) (K : Halted S) (n : ℕ) (from : Actor) (t : Turn AgentS
   none-admitted : (x : Admitted) → In x r.history.admitted → In x S.words.history.admitted
   none-admitted x i = elim (r.by x i) [
     | inl old ↦ old
-    | inr new ↦ absurd (unnamed-not T.words (word.start_at S.words n) x.at (at-good T.words r.holds.words.history x i)
+    | inr new ↦ absurd (unnamed-not T.words (word.agent_start S.words n) x.at (at-good T.words r.holds.words.history x i)
         (subst (λ s. names x.at s ≡ true) new.0 (initiator-named T.words r.holds.words.history x i)) (own-unnamed new.1))
   ]
 
@@ -125,7 +125,7 @@ module _ (S : LogState) (K : Halted S) (n : ℕ) (from : Actor) (t : Turn AgentS
   })
     where
       here : T.words.agents n ≡ t.state
-      here = agent-there (word_moves.popped S.words from n) n t.state t.sends r.history
+      here = agent-there (word_moves.agent_popped S.words from n) n t.state t.sends r.history
 
       own : 0 < t.state.start → Unnamed T.words t.state.start
       own up = elim r.goes [
@@ -159,7 +159,7 @@ module _ (S : LogState) (K : Halted S) (n : ℕ) (from : Actor) (t : Turn AgentS
 abbrev pub SiteGoes : LogState → ℕ → SiteState → Type 0
 SiteGoes S i s =
     (s.start ≡ 0)
-    ⊎ ((s.start ≡ start_at S i) × ((k : Joining) → s.joining ≡ Some k → (j : Joining) × ((S.sites i).joining ≡ Some j) × (k.stream ≡ j.stream)))
+    ⊎ ((s.start ≡ site_start S i) × ((k : Joining) → s.joining ≡ Some k → (j : Joining) × ((S.sites i).joining ≡ Some j) × (k.stream ≡ j.stream)))
     ⊎ (((j : Joining) × (s.joining ≡ Some j) × (j.stream ≡ None)) × (In s.start (S.logs.ran i) → ⊥))
 
 -- Only one that leads begins a stream.
@@ -169,27 +169,27 @@ LeadersBegin D i s l = elim l.body as (λ _. Type 0) [
   | _ ↦ Unit {0}
 ]
 
-module _ (S : LogState) (H : Holds S) (K : Halted S) (ch : Actor → Actor → List Letter)
+module _ (S : LogState) (H : LogsHold S) (K : Halted S) (ch : Actor → Actor → List Letter)
     (fewer : (a b : Actor) (l : Letter) → In l (ch a b) → In l (S.words.channel a b)) (i : ℕ) (slot : IsSlot S i) (s : SiteState) (out : Sends) (G : Logs) where
   -- with fewer messages under way
   abbrev less : LogState
   less = record S { words = record S.words { channel = ch } }
 
   abbrev later : LogState
-  later = after less i s out G
+  later = after_site less i s out G
 
-  module _ (L : Holds later) (goes : SiteGoes S i s) (begins : (c : ℕ) → AllByRecursion (LeadersBegin S.words.deployment i s) (out (Site c))) where
+  module _ (L : LogsHold later) (goes : SiteGoes S i s) (begins : (c : ℕ) → AllByRecursion (LeadersBegin S.words.deployment i s) (out (Site c))) where
     site : later.sites i ≡ s
     site = set-here S.sites i s
 
     -- one that goes on as a member would be named by a word
-    not-member : 0 < s.start → s.start ≡ start_at S i → s.joining ≡ None → ⊥
+    not-member : 0 < s.start → s.start ≡ site_start S i → s.joining ≡ None → ⊥
     not-member up same none =
         let j = K.joiners i (subst (λ n. 0 < n) same up) in
         let m = (L.sites i).member (subst (λ x. 0 < x.start) (sym site) up) (ap (λ x. x.joining) site ∙ none) in
         let good = H.words.history.decided_good m.0 m.2.decided in
-        let start : start_of_slot S.words.deployment m.0 i ≡ Some (start_at S i) = m.2.start_is ∙ ap Some (ap (λ x. x.start) site ∙ same) in
-        unnamed-not S.words (start_at S i) m.0 good (member-is S.words H.words.history m.0 (host_of_slot S.words.deployment i) (start_at S i) good start).0
+        let start : start_of_slot S.words.deployment m.0 i ≡ Some (site_start S i) = m.2.start_is ∙ ap Some (ap (λ x. x.start) site ∙ same) in
+        unnamed-not S.words (site_start S i) m.0 good (member-is S.words H.words.history m.0 (host_of_slot S.words.deployment i) (site_start S i) good start).0
         (joiner-unnamed S H i slot (subst (λ n. 0 < n) same up) j.0 j.1 j.2)
 
     goes-joins : 0 < s.start → (j : Joining) × (s.joining ≡ Some j) × (j.stream ≡ None)
@@ -199,7 +199,7 @@ module _ (S : LogState) (H : Holds S) (K : Halted S) (ch : Actor → Actor → L
       | inr (inr k) ↦ k.0
     ]
       where
-        on : (o : Option Joining) → s.joining ≡ o → s.start ≡ start_at S i
+        on : (o : Option Joining) → s.joining ≡ o → s.start ≡ site_start S i
             → ((k : Joining) → s.joining ≡ Some k → (j : Joining) × ((S.sites i).joining ≡ Some j) × (k.stream ≡ j.stream))
             → (j : Joining) × (s.joining ≡ Some j) × (j.stream ≡ None)
         on None e same k = absurd (not-member up same e)
@@ -208,7 +208,7 @@ module _ (S : LogState) (H : Holds S) (K : Halted S) (ch : Actor → Actor → L
             let m = k j e in
             (j, e, m.2 ∙ ap (λ x. x.stream) (same-some (sym m.1 ∙ was.1)) ∙ was.2)
 
-    still-joiners : (c : ℕ) → 0 < start_at later c → (j : Joining) × ((later.sites c).joining ≡ Some j) × (j.stream ≡ None)
+    still-joiners : (c : ℕ) → 0 < site_start later c → (j : Joining) × ((later.sites c).joining ≡ Some j) × (j.stream ≡ None)
     still-joiners = set-both (λ c x. 0 < x.start → (j : Joining) × (x.joining ≡ Some j) × (j.stream ≡ None)) S.sites i s goes-joins (λ c other up. K.joiners c up)
 
     -- So it doesn't lead.
@@ -219,9 +219,9 @@ module _ (S : LogState) (H : Holds S) (K : Halted S) (ch : Actor → Actor → L
         none-and-some (leader-view S.words.deployment i s (leads-parts S.words.deployment i s e).0).0 j.1
 
     -- what was under way
-    old-streams : (c m : ℕ) → 0 < start_at later c → AllByRecursion (NoStreamFor (start_at later c)) (ch (Site m) (Site c))
+    old-streams : (c m : ℕ) → 0 < site_start later c → AllByRecursion (NoStreamFor (site_start later c)) (ch (Site m) (Site c))
     old-streams c m up = set-both (λ c x. 0 < x.start → AllByRecursion (NoStreamFor x.start) (ch (Site m) (Site c))) S.sites i s own
-        (λ c other up. still c (start_at S c) (K.streams c m up))
+        (λ c other up. still c (site_start S c) (K.streams c m up))
         c up
       where
         -- of fewer messages
@@ -258,7 +258,7 @@ module _ (S : LogState) (H : Holds S) (K : Halted S) (ch : Actor → Actor → L
       decided = K.decided;
       unnamed = K.unnamed;
       joiners = still-joiners;
-      streams = λ c m up. sent-either less i s out G (λ j ls. AllByRecursion (NoStreamFor (start_at later c)) ls) (Site c)
-          (all-append (NoStreamFor (start_at later c)) (ch (Site i) (Site c)) (out (Site c)) (old-streams c i up) (new-streams c (start_at later c)))
+      streams = λ c m up. sent-either less i s out G (λ j ls. AllByRecursion (NoStreamFor (site_start later c)) ls) (Site c)
+          (all-append (NoStreamFor (site_start later c)) (ch (Site i) (Site c)) (out (Site c)) (old-streams c i up) (new-streams c (site_start later c)))
           (λ j other. old-streams c j up) m;
     }

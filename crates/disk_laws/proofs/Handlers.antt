@@ -12,7 +12,7 @@ use Rattle.cluster_model.specs.SiteState.{SiteState, Joining, Joiner, site_term,
 use Rattle.cluster_steps.specs.Lists.{In, Prefix}
 use Rattle.cluster_steps.proofs.Lists.{all-append, all-mono, in-map-from, none-and-some, same-some}
 use Rattle.cluster_steps.proofs.SiteTurns.{Plain, PlainWaiting}
-use Rattle.log_laws.specs.Histories.{LogState, HeldOk, WaitingFrom, WaitingOk}
+use Rattle.log_laws.specs.Histories.{LogState, HeldOk, SiteWaitingFrom, SiteWaitingOk}
 use Rattle.cluster_steps.proofs.Leaders.{leader-view, leads-parts}
 use Rattle.cluster_steps.proofs.Prefixes.{prefix-refl, prefix-trans}
 
@@ -233,15 +233,15 @@ handler-becomes D i s u h = record { at = h; sends = λ x c. tt }
 -- ---- what waits
 
 -- What waits at a site is plain.
-pub waiting-plain : (S : LogState) (c : ℕ) (x : Waiting) → WaitingOk S c x → PlainWaiting x
+pub waiting-plain : (S : LogState) (c : ℕ) (x : Waiting) → SiteWaitingOk S c x → PlainWaiting x
 waiting-plain S c x k = go x.from x.letter k.1
   where
-    go : (from : Actor) (l : Letter) → WaitingFrom S c from l → Plain from l
-    go (Site j) l = elim l.body as (λ b. WaitingFrom S c (Site j) (record l { body = b }) → Plain (Site j) (record l { body = b })) [
+    go : (from : Actor) (l : Letter) → SiteWaitingFrom S c from l → Plain from l
+    go (Site j) l = elim l.body as (λ b. SiteWaitingFrom S c (Site j) (record l { body = b }) → Plain (Site j) (record l { body = b })) [
       | msg.StreamStart head ↦ λ x. x
       | b ↦ λ x. tt
     ]
-    go (Agent h) l = elim l.body as (λ b. WaitingFrom S c (Agent h) (record l { body = b }) → Plain (Agent h) (record l { body = b })) [
+    go (Agent h) l = elim l.body as (λ b. SiteWaitingFrom S c (Agent h) (record l { body = b }) → Plain (Agent h) (record l { body = b })) [
       | msg.View w ↦ λ x. x
       | b ↦ λ x. tt
     ]

@@ -1,26 +1,15 @@
 -- The laws of disks, from what holds of each world.
-use Rattle.std.proofs.Common.{◌<◌, List, ◌++◌, sym, subst}
-use Rattle.std.specs.Prelude.{ℕ}
+use Rattle.std.specs.Prelude.{ℕ, List}
 use Rattle.cluster_model.specs.Engine.{Database}
-use Rattle.cluster_model.specs.World.{Input, first_world}
-use Rattle.cluster_model.specs.Runs.{Happening, IsRun, run}
-use Rattle.word_laws.proofs.Worlds.{run-append, run-first, run-second}
+use Rattle.cluster_model.specs.World.{World, Input}
+use Rattle.cluster_model.specs.Runs.{Reached, RunsTo}
 use Rattle.disk_laws.specs.Survival.{Survives, MayShow, GoesOnWithFirm}
 use Rattle.disk_laws.proofs.Boots.{firm_in}
 use Rattle.disk_laws.proofs.Choices.{no-choice-lacks}
-use Rattle.disk_laws.proofs.Worlds.{run-goes, disks-agree}
+use Rattle.disk_laws.proofs.Worlds.{runs-go, disks-agree}
 
-pub firm-survives : (E : Database) (input : Input) (es more : List Happening) (p : ℕ) → 0 < input.base → IsRun E (es ++ more) (first_world E input)
-    → Survives (run E es (first_world E input)) (run E (es ++ more) (first_world E input)) p
-firm-survives E input es more p some r =
-    let w = run E es (first_world E input) in
-    let d = disks-agree E input es some (run-first E es more (first_world E input) r) in
-    subst (λ v. Survives w v p) (sym (run-append E es more (first_world E input)))
-    ((run-goes E more w (run-second E es more (first_world E input) r) d).survives p)
+pub firm-survives : (E : Database) (input : Input) (v w : World) (p : ℕ) → Reached E input v → RunsTo E v w → Survives v w p
+firm-survives E input v w p r s = (runs-go E v w s (disks-agree E input v r)).survives p
 
-pub choice-firm : (E : Database) (input : Input) (es : List Happening) (shown : List ℕ) (p : ℕ) → 0 < input.base → IsRun E es (first_world E input)
-    → MayShow (run E es (first_world E input)) shown → GoesOnWithFirm E (run E es (first_world E input)) shown p
-choice-firm E input es shown p some r may =
-    let w = run E es (first_world E input) in
-    let d = disks-agree E input es some r in
-    no-choice-lacks E w d.logs (firm_in w) d.halted d.disks shown may p (d.logs.authoritative p)
+pub choice-firm : (E : Database) (input : Input) (w : World) (shown : List ℕ) (p : ℕ) → Reached E input w → MayShow w shown → GoesOnWithFirm E w shown p
+choice-firm E input w shown p r may = let d = disks-agree E input w r in no-choice-lacks E w d.logs (firm_in w) d.halted d.disks shown may p (d.logs.authoritative p)

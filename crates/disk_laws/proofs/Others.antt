@@ -10,7 +10,7 @@ use Rattle.cluster_model.specs.AgentState.{AgentState}
 use Rattle.word_laws.specs.Histories.{History}
 use Rattle.cluster_steps.proofs.Lists.{all-mono}
 use Rattle.word_laws.proofs.Moves as word_moves
-use Rattle.log_laws.specs.Histories.{LogState, part, start_at, between}
+use Rattle.log_laws.specs.Histories.{LogState, part, site_start, between}
 use Rattle.cluster_steps.proofs.Prefixes.{prefix-refl}
 use Rattle.log_laws.proofs.Agents.AgentEvents.{AgentGoes}
 use Rattle.disk_laws.specs.Disks.{Top, Firm, ContentOk, DiskOk, StreamLetter, Halted, FirmOk, DisksHold}
@@ -67,12 +67,12 @@ disks-plain S F halted K next ch owner same = disks-worded S F halted K next S.w
   decided = k.decided;
   unnamed = k.unnamed;
   joiners = k.joiners;
-  streams = λ c i up. subst (AllByRecursion (NoStreamFor (start_at S c))) (sym (same i c)) (k.streams c i up);
+  streams = λ c i up. subst (AllByRecursion (NoStreamFor (site_start S c))) (sym (same i c)) (k.streams c i up);
 })
 
 -- the turn of an agent that took a message
 pub disks-agent : (S : LogState) (F : Firm) (halted : Bool) → DisksHold S F halted → (n : ℕ) (from : Actor) (t : Turn AgentState) (r : AgentGoes S n from t)
-    → DisksHold (record S { words = word_moves.after (word_moves.popped S.words from n) n t.state t.sends r.history }) F halted
+    → DisksHold (record S { words = word_moves.after_agent (word_moves.agent_popped S.words from n) n t.state t.sends r.history }) F halted
 disks-agent S F halted K n from t r =
-    let W = word_moves.after (word_moves.popped S.words from n) n t.state t.sends r.history in
+    let W = word_moves.after_agent (word_moves.agent_popped S.words from n) n t.state t.sends r.history in
     disks-worded S F halted K W.next W.agents W.channel W.owner W.history (λ i c. refl) (λ e. halted-agent S (K.halts e) n from t r)

@@ -13,10 +13,10 @@ use Rattle.cluster_model.specs.SiteState.{SiteState, site_term, leads}
 use Rattle.cluster_model.specs.World.{AuthoritativeLog, set_at, authoritative_after}
 use Rattle.cluster_steps.specs.Lists.{In}
 use Rattle.cluster_steps.proofs.Lists.{all-at, all-from, all-append, none-and-some, if-false, set-here, set-there}
-use Rattle.log_laws.specs.Histories.{LogState, Logs, Holds, IsSlot, part, start_at, log_at, between}
+use Rattle.log_laws.specs.Histories.{LogState, Logs, LogsHold, IsSlot, part, site_start, log_at, between}
 use Rattle.cluster_steps.proofs.Leaders.{leader-view, leads-parts}
 use Rattle.log_laws.proofs.Entries.Leads.{Leading, leading}
-use Rattle.log_laws.proofs.Kept.Moves.{Grown, after}
+use Rattle.log_laws.proofs.Kept.Moves.{Grown, after_site}
 use Rattle.log_laws.proofs.Kept.Plumbing.{here, there, sent-either}
 use Rattle.log_laws.proofs.Runs.Leading.{leads-runs}
 use Rattle.disk_laws.proofs.Contents.{Rises, contents-later, firm-later}
@@ -51,16 +51,16 @@ authoritative-raised D i s authoritative = record {
 
 -- ---- one site changes, and what is under way
 
-module _ (S : LogState) (H : Holds S) (F M : Firm) (halted : Bool) (K : DisksHold S F halted) (ch : Actor → Actor → List Letter)
+module _ (S : LogState) (H : LogsHold S) (F M : Firm) (halted : Bool) (K : DisksHold S F halted) (ch : Actor → Actor → List Letter)
     (fewer : (a b : Actor) (l : Letter) → In l (ch a b) → In l (S.words.channel a b)) (i : ℕ) (slot : IsSlot S i) (s : SiteState) (out : Sends) (G : Logs) where
   -- with fewer messages under way
   abbrev pub less : LogState
   less = record S { words = record S.words { channel = ch } }
 
   abbrev pub later : LogState
-  later = after less i s out G
+  later = after_site less i s out G
 
-  module _ (L : Holds later) (grown : Grown S.words.deployment i s S.logs G) (raised : Raised S.words.deployment i s F M) (halts : halted ≡ true → Halted later) where
+  module _ (L : LogsHold later) (grown : Grown S.words.deployment i s S.logs G) (raised : Raised S.words.deployment i s F M) (halts : halted ≡ true → Halted later) where
     abbrev D : Deployment
     D = S.words.deployment
 
@@ -68,7 +68,7 @@ module _ (S : LogState) (H : Holds S) (F M : Firm) (halted : Bool) (K : DisksHol
     site = here less i s out G
 
     -- one that leads runs
-    leader-up : leads D i s ≡ true → 0 < start_at later i
+    leader-up : leads D i s ≡ true → 0 < site_start later i
     leader-up l = leads-runs later L i (subst (λ x. leads D i x ≡ true) (sym site) l)
 
     -- ---- after a recovery that was stopped nobody leads
@@ -141,7 +141,7 @@ module _ (S : LogState) (H : Holds S) (F M : Firm) (halted : Bool) (K : DisksHol
         };
       }
         where
-          up : 0 < start_at later i
+          up : 0 < site_start later i
           up = leader-up l
 
           x : Leading later i

@@ -22,9 +22,9 @@ use Rattle.cluster_model.specs.Environment.{Environment, NoFault, DiskFails, NoM
 use Rattle.cluster_steps.specs.Lists.{In, Prefix}
 use Rattle.cluster_steps.proofs.Lists.{all-mono, none-and-some, same-some, not-both}
 use Rattle.word_laws.proofs.Members.{start-is_member}
-use Rattle.log_laws.specs.Histories.{LogState, Logs, Leadership, Holds, IsSlot, SiteLetterOk, WaitingOk, JoinerOk, ViewIn, StreamIn, InWord, Took, HeldOk, StreamedOk, from_agent, part, start_at, log_at, term_at}
+use Rattle.log_laws.specs.Histories.{LogState, Logs, Leadership, LogsHold, IsSlot, SiteLetterOk, SiteWaitingOk, JoinerOk, ViewIn, StreamIn, InWord, Took, HeldOk, StreamedOk, agent_to_site, part, site_start, log_at, term_at}
 use Rattle.cluster_steps.proofs.Prefixes.{prefixes-order, prefix-trans, prefix-take}
-use Rattle.log_laws.proofs.Kept.Moves.{Grown, after, popped}
+use Rattle.log_laws.proofs.Kept.Moves.{Grown, after_site, site_popped}
 use Rattle.log_laws.proofs.Kept.Plumbing.{here}
 use Rattle.log_laws.proofs.Messages.Pops.{taken-for, waits-for}
 use Rattle.log_laws.proofs.NewTerms.Taking.{later-word}
@@ -70,34 +70,34 @@ both-not : (b : Bool) → b ≡ true → not b ≡ true → ⊥
 both-not true e q = absurd (cc)
 both-not false e q = absurd (cc)
 
-module _ (S : LogState) (H : Holds S) (F : Firm) (halted : Bool) (K : DisksHold S F halted) (i : ℕ) (slot : IsSlot S i) where
+module _ (S : LogState) (H : LogsHold S) (F : Firm) (halted : Bool) (K : DisksHold S F halted) (i : ℕ) (slot : IsSlot S i) where
   abbrev D : Deployment
   D = S.words.deployment
 
   abbrev s : SiteState
   s = S.sites i
 
-  waits-plain : 0 < start_at S i → AllByRecursion PlainWaiting s.waiting
-  waits-plain up = all-mono (WaitingOk S i) PlainWaiting (waiting-plain S i) s.waiting ((H.sites i).keeps up).waiting
+  waits-plain : 0 < site_start S i → AllByRecursion PlainWaiting s.waiting
+  waits-plain up = all-mono (SiteWaitingOk S i) PlainWaiting (waiting-plain S i) s.waiting ((H.sites i).keeps up).waiting
 
   -- ---- a stream that the joiner takes
 
   module _ (k : ℕ) (l : Letter) (head : StreamHead) (ls : List Letter) (is : S.words.channel (Site k) (Site i) ≡ record l { body = msg.StreamStart head } ∷ ls)
-      (up : 0 < start_at S i) (take-it : arrival (start_at S i) (term_at S i) (record l { body = msg.StreamStart head }) ≡ Taken) where
+      (up : 0 < site_start S i) (take-it : arrival (site_start S i) (term_at S i) (record l { body = msg.StreamStart head }) ≡ Taken) where
     reached : (0 < l.start) × (0 < l.term)
     reached = (subst (AllByRecursion (SiteLetterOk S k i)) is (H.letters k i slot)).0.0
 
     letter : StreamOk S i (record l { body = msg.StreamStart head }) head.mark
     letter = (subst (AllByRecursion (StreamLetter S i)) is (K.streams k i slot)).0
 
-    start-is : l.start ≡ start_at S i
-    start-is = elim (taken-for (start_at S i) (term_at S i) (record l { body = msg.StreamStart head }) take-it).0 [
+    start-is : l.start ≡ site_start S i
+    start-is = elim (taken-for (site_start S i) (term_at S i) (record l { body = msg.StreamStart head }) take-it).0 [
       | inl z ↦ let a = reached.0 in absurd (omega (arith, a, z))
       | inr e ↦ e
     ]
 
     term-is : l.term ≡ term_at S i
-    term-is = elim (taken-for (start_at S i) (term_at S i) (record l { body = msg.StreamStart head }) take-it).1 [
+    term-is = elim (taken-for (site_start S i) (term_at S i) (record l { body = msg.StreamStart head }) take-it).1 [
       | inl z ↦ let a = reached.1 in absurd (omega (arith, a, z))
       | inr e ↦ e
     ]
@@ -158,10 +158,10 @@ module _ (S : LogState) (H : Holds S) (F : Firm) (halted : Bool) (K : DisksHold 
 
       pub stream-kept : (t : Turn SiteState) → DiskHandler D i u t → Kept S F halted (Site k) i t
       stream-kept t handler M G L grown raised =
-          let halts : halted ≡ true → Halted (after (popped S (Site k) i) i t.state t.sends G) = λ e. absurd (not-both halted e goes-on) in
-          let C : Shown → Type 0 = ContentOk (after (popped S (Site k) i) i t.state t.sends G) M halted (part S i) in
+          let halts : halted ≡ true → Halted (after_site (site_popped S (Site k) i) i t.state t.sends G) = λ e. absurd (not-both halted e goes-on) in
+          let C : Shown → Type 0 = ContentOk (after_site (site_popped S (Site k) i) i t.state t.sends G) M halted (part S i) in
           handler-disks S H F halted K (taken-from S (Site k) i) (fewer S (Site k) i) i slot t M G L grown raised halts u
-          (stream-own C (G.leadership (part S i)) (M (part S i)) (none-ok (after (popped S (Site k) i) i t.state t.sends G) M halted (part S i)))
+          (stream-own C (G.leadership (part S i)) (M (part S i)) (none-ok (after_site (site_popped S (Site k) i) i t.state t.sends G) M halted (part S i)))
           unwritten handler (subst (λ n. 0 < n) (sym handler.at.start) up) ((H.sites i).keeps up).held (firm-before S H F halted K i slot up)
           (wiped-tops S H F halted K (taken-from S (Site k) i) (fewer S (Site k) i) i slot t M G L grown raised halts wiped)
           (λ e. absurd (not-both halted e goes-on))
@@ -184,13 +184,13 @@ module _ (S : LogState) (H : Holds S) (F : Firm) (halted : Bool) (K : DisksHold 
 
   -- ---- a word
 
-  module _ (h : ℕ) (l : Letter) (w : Membership) (ls : List Letter) (is : S.words.channel (Agent h) (Site i) ≡ record l { body = msg.View w } ∷ ls) (up : 0 < start_at S i) where
-    module _ (take-it : arrival (start_at S i) (term_at S i) (record l { body = msg.View w }) ≡ Taken) where
-      abbrev word-for : l.start ≡ start_at S i
+  module _ (h : ℕ) (l : Letter) (w : Membership) (ls : List Letter) (is : S.words.channel (Agent h) (Site i) ≡ record l { body = msg.View w } ∷ ls) (up : 0 < site_start S i) where
+    module _ (take-it : arrival (site_start S i) (term_at S i) (record l { body = msg.View w }) ≡ Taken) where
+      abbrev word-for : l.start ≡ site_start S i
       word-for = word-start S H i slot up h l w ls is take-it
 
-      later-named : (v : Membership) → s.view ≡ Some v → is_member w (host_of_slot D i) (start_at S i) ≡ true
-      later-named v e = start-is_member w (host_of_slot D i) (start_at S i) (later-word S H h i l w ls is word-for up v e).1
+      later-named : (v : Membership) → s.view ≡ Some v → is_member w (host_of_slot D i) (site_start S i) ≡ true
+      later-named v e = start-is_member w (host_of_slot D i) (site_start S i) (later-word S H h i l w ls is word-for up v e).1
 
       higher : term_at S i < term_of w
       higher = later-term S H i slot up h l w ls is take-it
@@ -205,15 +205,15 @@ module _ (S : LogState) (H : Holds S) (F : Firm) (halted : Bool) (K : DisksHold 
           where
             choice : (o : Option Membership) → s.view ≡ o → o ≡ None
             choice None e = refl
-            choice (Some v) e = absurd (both-not (is_member w (host_of_slot D i) (start_at S i)) (later-named v e)
-                (and_parts (is_joiner s) (not (is_member w (host_of_slot D i) (start_at S i))) stays).1)
+            choice (Some v) e = absurd (both-not (is_member w (host_of_slot D i) (site_start S i)) (later-named v e)
+                (and_parts (is_joiner s) (not (is_member w (host_of_slot D i) (site_start S i))) stays).1)
 
         joins-own : (C : Shown → Type 0) (led : ℕ → Option Leadership) (top : ℕ) → Own halted C led top s → Own halted C led top (as_joiner s w)
         joins-own C led top o = record {
           some = o.some;
           contents = o.contents;
           marks = λ e. all-mono (λ x. mark_of x ≤ s.greatest) (λ x. mark_of x ≤ max s.greatest (term_of w)) (λ x a. omega (arith, a)) (shown_at S i) (o.marks e);
-          member = λ _ none. absurd (not-none s.joining (and_parts (is_joiner s) (not (is_member w (host_of_slot D i) (start_at S i))) stays).0 none);
+          member = λ _ none. absurd (not-none s.joining (and_parts (is_joiner s) (not (is_member w (host_of_slot D i) (site_start S i))) stays).0 none);
           joiner = λ e j q.
               let none : j.stream ≡ None = (subst (ViewIn S i j) view-none ((H.sites i).joiner j q).view).stream in
               subst (OwnStream (as_joiner s w) j) (sym none) (old j none (o.joiner e j q));
@@ -227,7 +227,7 @@ module _ (S : LogState) (H : Holds S) (F : Firm) (halted : Bool) (K : DisksHold 
             let halts = halts-after S H F halted K (taken-from S (Agent h) i) (fewer S (Agent h) i) i slot t G L (handler-goes S i t (as_joiner s w) handler refl (λ j e. (j, e, refl)))
             (handler-begins S i t (as_joiner s w) handler held) in
             handler-disks S H F halted K (taken-from S (Agent h) i) (fewer S (Agent h) i) i slot t M G L grown raised halts (as_joiner s w)
-            (joins-own (ContentOk (after (popped S (Agent h) i) i t.state t.sends G) M halted (part S i)) (G.leadership (part S i)) (M (part S i))
+            (joins-own (ContentOk (after_site (site_popped S (Agent h) i) i t.state t.sends G) M halted (part S i)) (G.leadership (part S i)) (M (part S i))
             (own-before S H F halted K (taken-from S (Agent h) i) (fewer S (Agent h) i) i slot t M G L grown raised halts))
             ((H.sites i).keeps up).on_disk handler (subst (λ n. 0 < n) (sym handler.at.start) up) held (firm-before S H F halted K i slot up)
             (same-tops S H F halted K (taken-from S (Agent h) i) (fewer S (Agent h) i) i slot t M G L grown raised halts handler.at.contents)
@@ -250,8 +250,8 @@ module _ (S : LogState) (H : Holds S) (F : Firm) (halted : Bool) (K : DisksHold 
           taken : Took S i v j st.stream_start
           taken = subst (StreamIn S i v j) stream in_word.stream
 
-          streamed : StreamedOk S i (term_of v) (record { start = start_at S i; stream_start = st.stream_start })
-          streamed = H.streamed i (term_of v) (record { start = start_at S i; stream_start = st.stream_start }) taken.streamed
+          streamed : StreamedOk S i (term_of v) (record { start = site_start S i; stream_start = st.stream_start })
+          streamed = H.streamed i (term_of v) (record { start = site_start S i; stream_start = st.stream_start }) taken.streamed
 
           log-prefix : Prefix (log_at S i) streamed.leadership.log
           log-prefix = subst (λ g. Prefix (log_at S i) g.log) (same-some (sym taken.led ∙ streamed.led))
@@ -285,9 +285,9 @@ module _ (S : LogState) (H : Holds S) (F : Firm) (halted : Bool) (K : DisksHold 
       -- ---- one that is a member from then on
 
       module _ (stays : stays_joiner D i s w ≡ false) (t : Turn SiteState) (handler : DiskHandler D i (as_entered s w) t) (M : Firm) (G : Logs)
-          (L : Holds (after (popped S (Agent h) i) i t.state t.sends G)) (grown : Grown D i t.state S.logs G) (raised : Raised D i t.state F M) where
+          (L : LogsHold (after_site (site_popped S (Agent h) i) i t.state t.sends G)) (grown : Grown D i t.state S.logs G) (raised : Raised D i t.state F M) where
         abbrev U : LogState
-        U = after (popped S (Agent h) i) i t.state t.sends G
+        U = after_site (site_popped S (Agent h) i) i t.state t.sends G
 
         halts : halted ≡ true → Halted U
         halts = halts-after S H F halted K (taken-from S (Agent h) i) (fewer S (Agent h) i) i slot t G L (handler-goes S i t (as_entered s w) handler refl (λ j e. absurd (cc)))
@@ -298,7 +298,7 @@ module _ (S : LogState) (H : Holds S) (F : Firm) (halted : Bool) (K : DisksHold 
         entered-on = elim (cases_Bool halted) [
           | inr e ↦ e
           | inl e ↦
-              let site = here (popped S (Agent h) i) i t.state t.sends G in
+              let site = here (site_popped S (Agent h) i) i t.state t.sends G in
               let j = (halts e).joiners i (subst (λ x. 0 < x.start) (sym site) (subst (λ n. 0 < n) (sym handler.at.start) up)) in
               absurd (none-and-some (handler.at.member refl) (ap (λ x. x.joining) (sym site) ∙ j.1))
         ]
@@ -363,40 +363,40 @@ module _ (S : LogState) (H : Holds S) (F : Firm) (halted : Bool) (K : DisksHold 
 
     -- Its turn: it is taken, or dropped; it doesn't wait.
     pub view-kept : (E : Database) (stamp : ℕ) → Kept S F halted (Agent h) i (site_runs E D stamp i s (Agent h) (record l { body = msg.View w }))
-    view-kept E stamp = choice (arrival (start_at S i) (term_at S i) (record l { body = msg.View w })) refl
+    view-kept E stamp = choice (arrival (site_start S i) (term_at S i) (record l { body = msg.View w })) refl
       where
         t : Turn SiteState
         t = site_runs E D stamp i s (Agent h) (record l { body = msg.View w })
 
-        taken : arrival (start_at S i) (term_at S i) (record l { body = msg.View w }) ≡ Taken → (b : Bool) → stays_joiner D i s w ≡ b → Kept S F halted (Agent h) i t
+        taken : arrival (site_start S i) (term_at S i) (record l { body = msg.View w }) ≡ Taken → (b : Bool) → stays_joiner D i s w ≡ b → Kept S F halted (Agent h) i t
         taken e true q = joins-kept e q t (joins-handler E D i stamp s (record l { body = msg.View w }) (waits-plain up) e h w refl q)
         taken e false q = λ M G L grown raised.
             enters-disks e q t (enters-handler E D i stamp s (record l { body = msg.View w }) (waits-plain up) e h w refl q) M G L grown raised
 
-        choice : (a : Arrival) → arrival (start_at S i) (term_at S i) (record l { body = msg.View w }) ≡ a → Kept S F halted (Agent h) i t
+        choice : (a : Arrival) → arrival (site_start S i) (term_at S i) (record l { body = msg.View w }) ≡ a → Kept S F halted (Agent h) i t
         choice Taken e = taken e (stays_joiner D i s w) refl
         choice Refused e = handler-kept S H F halted K (Agent h) i slot t up (refused-handler E D i stamp s (Agent h) (record l { body = msg.View w }) (waits-plain up) e)
         choice Waits e =
-            let a = (waits-for (start_at S i) (term_at S i) (record l { body = msg.View w }) e).1 in
+            let a = (waits-for (site_start S i) (term_at S i) (record l { body = msg.View w }) e).1 in
             let b = (meant-for S H i slot up h l w ls is).0 in
             absurd (omega (arith, a, b))
 
   -- ---- a stream, whether it is taken or not
 
   stream-turn : (from : Actor) (l : Letter) (head : StreamHead) (ls : List Letter) → S.words.channel from (Site i) ≡ record l { body = msg.StreamStart head } ∷ ls
-      → 0 < start_at S i → (E : Database) (stamp : ℕ) → Kept S F halted from i (site_runs E D stamp i s from (record l { body = msg.StreamStart head }))
-  stream-turn (Site k) l head ls is up E stamp = choice (arrival (start_at S i) (term_at S i) (record l { body = msg.StreamStart head })) refl
+      → 0 < site_start S i → (E : Database) (stamp : ℕ) → Kept S F halted from i (site_runs E D stamp i s from (record l { body = msg.StreamStart head }))
+  stream-turn (Site k) l head ls is up E stamp = choice (arrival (site_start S i) (term_at S i) (record l { body = msg.StreamStart head })) refl
     where
-      reach : (0 < l.start) × (0 < l.term) × (start_at S i ≡ l.start → l.term ≤ term_at S i)
+      reach : (0 < l.start) × (0 < l.term) × (site_start S i ≡ l.start → l.term ≤ term_at S i)
       reach = let r = (subst (AllByRecursion (SiteLetterOk S k i)) is (H.letters k i slot)).0 in (r.0.0, r.0.1, r.2)
 
-      choice : (a : Arrival) → arrival (start_at S i) (term_at S i) (record l { body = msg.StreamStart head }) ≡ a
+      choice : (a : Arrival) → arrival (site_start S i) (term_at S i) (record l { body = msg.StreamStart head }) ≡ a
           → Kept S F halted (Site k) i (site_runs E D stamp i s (Site k) (record l { body = msg.StreamStart head }))
       choice Taken e = start-kept k l head ls is up e E stamp
       choice Refused e = handler-kept S H F halted K (Site k) i slot (site_runs E D stamp i s (Site k) (record l { body = msg.StreamStart head })) up
           (refused-handler E D i stamp s (Site k) (record l { body = msg.StreamStart head }) (waits-plain up) e)
       choice Waits e =
-          let w = waits-for (start_at S i) (term_at S i) (record l { body = msg.StreamStart head }) e in
+          let w = waits-for (site_start S i) (term_at S i) (record l { body = msg.StreamStart head }) e in
           elim w.0 [
             | inl z ↦ let a = reach.0 in absurd (omega (arith, a, z))
             | inr q ↦ let a = reach.2 (sym q) in let b = w.1 in absurd (omega (arith, a, b))
@@ -406,10 +406,10 @@ module _ (S : LogState) (H : Holds S) (F : Firm) (halted : Bool) (K : DisksHold 
   stream-turn (Client n) l head ls is up E stamp = absurd ((rw is at (H.foreign (Client n) i)).0)
   stream-turn (Scanner x) l head ls is up E stamp = absurd ((rw is at (H.foreign (Scanner x) i)).0)
 
-  plain-turn : (from : Actor) (l : Letter) → Plain from l → 0 < start_at S i → (E : Database) (stamp : ℕ) → Kept S F halted from i (site_runs E D stamp i s from l)
+  plain-turn : (from : Actor) (l : Letter) → Plain from l → 0 < site_start S i → (E : Database) (stamp : ℕ) → Kept S F halted from i (site_runs E D stamp i s from l)
   plain-turn from l p up E stamp = handler-kept S H F halted K from i slot (site_runs E D stamp i s from l) up (plain-handler E D i stamp s from l (waits-plain up) p)
 
-  view-turn : (from : Actor) (l : Letter) (w : Membership) (ls : List Letter) → S.words.channel from (Site i) ≡ record l { body = msg.View w } ∷ ls → 0 < start_at S i
+  view-turn : (from : Actor) (l : Letter) (w : Membership) (ls : List Letter) → S.words.channel from (Site i) ≡ record l { body = msg.View w } ∷ ls → 0 < site_start S i
       → (E : Database) (stamp : ℕ) → Kept S F halted from i (site_runs E D stamp i s from (record l { body = msg.View w }))
   view-turn (Agent h) l w ls is = view-kept h l w ls is
   view-turn (Site k) l w ls is = plain-turn (Site k) (record l { body = msg.View w }) tt
@@ -422,7 +422,7 @@ module _ (S : LogState) (H : Holds S) (F : Firm) (halted : Bool) (K : DisksHold 
   -- a start that comes is one that the slot hasn't run with
   fresh-start : (from : Actor) (l : Letter) (a : ℕ) (ls : List Letter) → S.words.channel from (Site i) ≡ record l { body = msg.Start a } ∷ ls → In a (S.logs.ran i) → ⊥
   fresh-start (Agent h) l a ls is =
-      let own : from_agent S i ≡ record l { body = msg.Start a } ∷ ls = ap (λ z. S.words.channel (Agent z) (Site i)) (sym (rw is at (H.foreign (Agent h) i)).0) ∙ is in
+      let own : agent_to_site S i ≡ record l { body = msg.Start a } ∷ ls = ap (λ z. S.words.channel (Agent z) (Site i)) (sym (rw is at (H.foreign (Agent h) i)).0) ∙ is in
       ((H.views i).starting a (subst (λ x. In a (starts_in x)) (sym own) (inl refl))).0
   fresh-start (Site k) l a ls is = absurd ((rw is at (H.foreign (Site k) i)).0)
   fresh-start Director l a ls is = absurd ((rw is at (H.foreign Director i)).0)
@@ -447,7 +447,7 @@ module _ (S : LogState) (H : Holds S) (F : Firm) (halted : Bool) (K : DisksHold 
     fails-kept : (start : ℕ) (xs : List Shown) → LeavesShown S halted i xs → Kept S F halted from i (stops_so D i s start xs)
     fails-kept start xs k = stops-kept S H F halted K from i slot (stops_so D i s start xs) refl refl k (stops-none D i start s xs)
 
-    running : (x : Letter) (E : Database) (stamp : ℕ) (b : Bool) → (start_at S i == 0) ≡ b → (0 < start_at S i → Kept S F halted from i (site_runs E D stamp i s from x))
+    running : (x : Letter) (E : Database) (stamp : ℕ) (b : Bool) → (site_start S i == 0) ≡ b → (0 < site_start S i → Kept S F halted from i (site_runs E D stamp i s from x))
         → Kept S F halted from i (if b then becomes s else site_runs E D stamp i s from x)
     running x E stamp true e k = still-kept S H F halted K from i slot
     running x E stamp false e k = k (grind (arith, nat_tests, e))
@@ -459,9 +459,9 @@ module _ (S : LogState) (H : Holds S) (F : Firm) (halted : Bool) (K : DisksHold 
           | msg.Start a ↦ λ is. start-turn a (fresh-start from l a ls is)
           | msg.Stop a ↦ λ is. stop-turn a
           | msg.Power call choice ↦ λ is. noted-kept S H F halted K from i slot s.stop (s.plans ++ (call, choice) ∷ [])
-          | msg.View w ↦ λ is. running (record l { body = msg.View w }) E stamp (start_at S i == 0) refl (λ up. view-turn from l w ls is up E stamp)
-          | msg.StreamStart head ↦ λ is. running (record l { body = msg.StreamStart head }) E stamp (start_at S i == 0) refl (λ up. stream-turn from l head ls is up E stamp)
-          | m ↦ λ is. running (record l { body = m }) E stamp (start_at S i == 0) refl (λ up.
+          | msg.View w ↦ λ is. running (record l { body = msg.View w }) E stamp (site_start S i == 0) refl (λ up. view-turn from l w ls is up E stamp)
+          | msg.StreamStart head ↦ λ is. running (record l { body = msg.StreamStart head }) E stamp (site_start S i == 0) refl (λ up. stream-turn from l head ls is up E stamp)
+          | m ↦ λ is. running (record l { body = m }) E stamp (site_start S i == 0) refl (λ up.
               plain-turn from (record l { body = m }) (plain-for from (record l { body = m }) tt) up E stamp)
         ]
 
@@ -480,7 +480,7 @@ module _ (S : LogState) (H : Holds S) (F : Firm) (halted : Bool) (K : DisksHold 
       → Parts (parts_of_message s (record l { body = msg.StreamStart head }))
   stream-parts k l head ls is = runs (s.start == 0) refl
     where
-      taken : 0 < start_at S i → arrival s.start (site_term s) (record l { body = msg.StreamStart head }) ≡ Taken → (o : Option Joining) → s.joining ≡ o
+      taken : 0 < site_start S i → arrival s.start (site_term s) (record l { body = msg.StreamStart head }) ≡ Taken → (o : Option Joining) → s.joining ≡ o
           → Parts (if may_stream_in s o (record l { body = msg.StreamStart head }) then None ∷ [] else [])
       taken up e None q = no-parts
       taken up e (Some j) q = may (may_stream s j l) refl
@@ -496,7 +496,7 @@ module _ (S : LogState) (H : Holds S) (F : Firm) (halted : Bool) (K : DisksHold 
           }
           may false m = no-parts
 
-      arrives : 0 < start_at S i → (a : Arrival) → arrival s.start (site_term s) (record l { body = msg.StreamStart head }) ≡ a → Parts (elim a as (λ _. List Shown) [
+      arrives : 0 < site_start S i → (a : Arrival) → arrival s.start (site_term s) (record l { body = msg.StreamStart head }) ≡ a → Parts (elim a as (λ _. List Shown) [
         | Taken ↦ if may_stream_in s s.joining (record l { body = msg.StreamStart head }) then None ∷ [] else []
         | Refused ↦ []
         | Waits ↦ []

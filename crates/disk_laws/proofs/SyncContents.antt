@@ -10,7 +10,7 @@ use Rattle.cluster_model.specs.Words.{term_of, term_in}
 use Rattle.cluster_model.specs.SiteState.{SiteState, Streamed, Joining}
 use Rattle.cluster_model.specs.Sync.{joiner_parts, parts_of_sync}
 use Rattle.cluster_steps.proofs.Lists.{all-mono, none-and-some, same-some, not-both}
-use Rattle.log_laws.specs.Histories.{LogState, Leadership, Line, Holds, FollowsIn, LeadsIn, MemberOk, Took, StreamIn, ViewIn, StreamedOk, line, between, part, start_at, log_at, term_at}
+use Rattle.log_laws.specs.Histories.{LogState, Leadership, Line, LogsHold, FollowsIn, LeadsIn, MemberOk, Took, StreamIn, ViewIn, StreamedOk, line, between, part, site_start, log_at, term_at}
 use Rattle.cluster_steps.specs.Lists.{Prefix}
 use Rattle.log_laws.proofs.Plain.Copies.{leads-or-follows}
 use Rattle.cluster_steps.proofs.Prefixes.{prefix-trans, prefix-length, prefixes-order, prefix-take, take-prefix}
@@ -35,7 +35,7 @@ pub record BegunContent (S : LogState) (i mark end : ℕ) : Type 0 where
   pub led : S.logs.leadership (part S i) mark ≡ Some leadership
   pub begun : Prefix leadership.begun (take end (log_at S i))
 
-module _ (S : LogState) (H : Holds S) (i : ℕ) (up : 0 < start_at S i) (F : Firm) (K : DiskOk S F false i) where
+module _ (S : LogState) (H : LogsHold S) (i : ℕ) (up : 0 < site_start S i) (F : Firm) (K : DiskOk S F false i) where
   abbrev s : SiteState
   s = S.sites i
 
@@ -67,9 +67,9 @@ module _ (S : LogState) (H : Holds S) (i : ℕ) (up : 0 < start_at S i) (F : Fir
         follow ln (Some g) e (inr k) = absurd (not-both s.repaired repaired k.1)
 
         there : (g : Leadership) × (S.logs.leadership (part S i) (term_of m.0) ≡ Some g) × Prefix g.begun s.log
-        there = elim (leads-or-follows S.words.deployment m.0 i (start_at S i) m.2.start_is) [
+        there = elim (leads-or-follows S.words.deployment m.0 i (site_start S i) m.2.start_is) [
           | inl k ↦ authoritative (S.logs.leadership (part S i) (term_of m.0)) refl (m.2.leading k)
-          | inr (l, f) ↦ follow (line (start_at S i) (term_of m.0) (between S l i)) (S.logs.leadership (part S i) (term_of m.0)) refl (m.2.following l f)
+          | inr (l, f) ↦ follow (line (site_start S i) (term_of m.0) (between S l i)) (S.logs.leadership (part S i) (term_of m.0)) refl (m.2.following l f)
         ]
 
     -- the mark that it owes is its term's
@@ -148,8 +148,8 @@ module _ (S : LogState) (H : Holds S) (i : ℕ) (up : 0 < start_at S i) (F : Fir
         viewed None e k = absurd (none-and-some k.stream stream)
         viewed (Some w) e k = (w, e, subst (StreamIn S i w j) stream k.stream)
 
-    ok : StreamedOk S i (term_of took.0) (record { start = start_at S i; stream_start = st.stream_start })
-    ok = H.streamed i (term_of took.0) (record { start = start_at S i; stream_start = st.stream_start }) took.2.streamed
+    ok : StreamedOk S i (term_of took.0) (record { start = site_start S i; stream_start = st.stream_start })
+    ok = H.streamed i (term_of took.0) (record { start = site_start S i; stream_start = st.stream_start }) took.2.streamed
 
     pub stream-within : st.stream_start ≤ length s.log
     stream-within = (ok.running refl).3

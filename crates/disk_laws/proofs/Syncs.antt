@@ -13,8 +13,8 @@ use Rattle.cluster_model.specs.SiteState.{SiteState, Joining}
 use Rattle.cluster_model.specs.Sync.{joiner_owes, may_sync, owes_in, parts_of_sync, syncs, stops_so, sync_turn}
 use Rattle.cluster_steps.specs.Lists.{In}
 use Rattle.cluster_steps.proofs.Lists.{not-both}
-use Rattle.log_laws.specs.Histories.{LogState, Logs, Holds, IsSlot, part, start_at}
-use Rattle.log_laws.proofs.Kept.Moves.{Grown, after}
+use Rattle.log_laws.specs.Histories.{LogState, Logs, LogsHold, IsSlot, part, site_start}
+use Rattle.log_laws.proofs.Kept.Moves.{Grown, after_site}
 use Rattle.disk_laws.specs.Disks.{Firm, Top, ContentOk, DisksHold}
 use Rattle.disk_laws.proofs.Order.{all-take, some-after_parts, some-after_failure, all-after_parts, all-after_failure, Raise, raise-after_parts, raise-after_failure, raise-take}
 use Rattle.disk_laws.proofs.Handlers.{DiskHandler}
@@ -37,7 +37,7 @@ sync-streams s may j joins none =
 
 -- ---- all that disks show, after a Sync
 
-module _ (E : Database) (S : LogState) (H : Holds S) (F : Firm) (K : DisksHold S F false) (i : ℕ) (slot : IsSlot S i) (up : 0 < start_at S i) where
+module _ (E : Database) (S : LogState) (H : LogsHold S) (F : Firm) (K : DisksHold S F false) (i : ℕ) (slot : IsSlot S i) (up : 0 < site_start S i) where
   abbrev s : SiteState
   s = S.sites i
 
@@ -63,12 +63,12 @@ module _ (E : Database) (S : LogState) (H : Holds S) (F : Firm) (K : DisksHold S
     t = syncs E S.words.deployment i s
 
     abbrev T : LogState
-    T = after S i t.state t.sends G
+    T = after_site S i t.state t.sends G
 
     handler : DiskHandler S.words.deployment i b t
     handler = syncs-handler E S.words.deployment i b
 
-    module _ (L : Holds T) (grown : Grown S.words.deployment i t.state S.logs G) (raised : Raised S.words.deployment i t.state F M) where
+    module _ (L : LogsHold T) (grown : Grown S.words.deployment i t.state S.logs G) (raised : Raised S.words.deployment i t.state F M) where
       pub syncs-disks : DisksGo S T M false
       syncs-disks = handler-disks S H F false K S.words.channel all-same i slot t M G L grown raised never b
           (disk-on S H F M false K S.words.channel all-same i slot t.state t.sends G L grown raised never i b (wrote-own S H i up F (K.disks i slot)))
@@ -91,8 +91,8 @@ module _ (E : Database) (S : LogState) (H : Holds S) (F : Firm) (K : DisksHold S
     abbrev stop : Turn SiteState
     stop = stops_so S.words.deployment i s start xs
 
-    pub stop-disks : Holds (after S i stop.state stop.sends G) → Grown S.words.deployment i stop.state S.logs G → Raised S.words.deployment i stop.state F M
-        → DisksGo S (after S i stop.state stop.sends G) M false
+    pub stop-disks : LogsHold (after_site S i stop.state stop.sends G) → Grown S.words.deployment i stop.state S.logs G → Raised S.words.deployment i stop.state F M
+        → DisksGo S (after_site S i stop.state stop.sends G) M false
     stop-disks L grown raised = stopped-disks S H F false K S.words.channel all-same i slot stop M G L grown raised never refl some
         (contents-on S H F M false K S.words.channel all-same i slot stop.state stop.sends G L grown raised never (part S i) xs contents) (λ _. marks)
         (raised-tops S H F false K S.words.channel all-same i slot stop M G L grown raised never raise) never (stops-none S.words.deployment i start s xs)
@@ -100,16 +100,16 @@ module _ (E : Database) (S : LogState) (H : Holds S) (F : Firm) (K : DisksHold S
   -- ---- either
 
   pub turn-disks : (o : Environment) (M : Firm) (G : Logs) → let t = sync_turn E S.words.deployment i s o in
-      Holds (after S i t.state t.sends G) → Grown S.words.deployment i t.state S.logs G → Raised S.words.deployment i t.state F M
-      → DisksGo S (after S i t.state t.sends G) M false
+      LogsHold (after_site S i t.state t.sends G) → Grown S.words.deployment i t.state S.logs G → Raised S.words.deployment i t.state F M
+      → DisksGo S (after_site S i t.state t.sends G) M false
   turn-disks NoFault M G L grown raised = syncs-disks M G L grown raised
   turn-disks (DisksShow shown failed) M G L grown raised = syncs-disks M G L grown raised
-  turn-disks (DiskFails answered) M G L grown raised = stop-disks (start_at S i) (after_failure s.contents parts answered)
+  turn-disks (DiskFails answered) M G L grown raised = stop-disks (site_start S i) (after_failure s.contents parts answered)
       (some-after_failure s.contents parts answered (K.disks i slot).some)
       (all-after_failure (ContentOk S F false (part S i)) s.contents parts (K.disks i slot).contents p.contents answered)
       (all-after_failure (λ x. mark_of x ≤ s.greatest) s.contents parts ((K.disks i slot).marks refl) p.marks answered)
       (raise-after_failure s.contents parts p.raise answered) M G L grown raised
-  turn-disks (NoMemory answered) M G L grown raised = stop-disks (start_at S i) (after_parts s.contents (take answered parts))
+  turn-disks (NoMemory answered) M G L grown raised = stop-disks (site_start S i) (after_parts s.contents (take answered parts))
       (some-after_parts s.contents (take answered parts) (K.disks i slot).some)
       (all-after_parts (ContentOk S F false (part S i)) s.contents (take answered parts) (K.disks i slot).contents
       (all-take (ContentOk S F false (part S i)) answered parts p.contents))
@@ -118,10 +118,10 @@ module _ (E : Database) (S : LogState) (H : Holds S) (F : Firm) (K : DisksHold S
       (raise-after_parts s.contents (take answered parts) (raise-take s.contents parts p.raise answered)) M G L grown raised
 
 -- All that disks show is well after a site's Sync. After a recovery that was stopped there is none, since nobody has taken a stream.
-pub sync-disks : (E : Database) (S : LogState) → Holds S → (F : Firm) (halted : Bool) → DisksHold S F halted → (i : ℕ) → IsSlot S i → may_sync (S.sites i) ≡ true
+pub sync-disks : (E : Database) (S : LogState) → LogsHold S → (F : Firm) (halted : Bool) → DisksHold S F halted → (i : ℕ) → IsSlot S i → may_sync (S.sites i) ≡ true
     → (o : Environment) (M : Firm) (G : Logs) → let t = sync_turn E S.words.deployment i (S.sites i) o in
-    Holds (after S i t.state t.sends G) → Grown S.words.deployment i t.state S.logs G → Raised S.words.deployment i t.state F M
-    → DisksGo S (after S i t.state t.sends G) M halted
+    LogsHold (after_site S i t.state t.sends G) → Grown S.words.deployment i t.state S.logs G → Raised S.words.deployment i t.state F M
+    → DisksGo S (after_site S i t.state t.sends G) M halted
 sync-disks E S H F false K i slot may o M G L grown raised = turn-disks E S H F K i slot (sync-runs (S.sites i) may) o M G L grown raised
 sync-disks E S H F true K i slot may o M G L grown raised =
     let j = (K.halts refl).joiners i (sync-runs (S.sites i) may) in

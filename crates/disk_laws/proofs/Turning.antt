@@ -16,9 +16,9 @@ use Rattle.cluster_model.specs.World.{took}
 use Rattle.cluster_steps.specs.Lists.{In}
 use Rattle.cluster_steps.proofs.Channels.{took-all}
 use Rattle.cluster_steps.proofs.Lists.{all-if, all-at, all-from, all-mono, if-true, same-some}
-use Rattle.log_laws.specs.Histories.{LogState, Logs, Holds, IsSlot, HeldOk, CountedOk, part, start_at, term_at}
+use Rattle.log_laws.specs.Histories.{LogState, Logs, LogsHold, IsSlot, HeldOk, CountedOk, part, site_start, term_at}
 use Rattle.cluster_steps.proofs.Leaders.{leader-view, leads-parts}
-use Rattle.log_laws.proofs.Kept.Moves.{Grown, NoStreamStart, after, popped}
+use Rattle.log_laws.proofs.Kept.Moves.{Grown, NoStreamStart, after_site, site_popped}
 use Rattle.log_laws.proofs.Kept.Plumbing.{here, there}
 use Rattle.log_laws.proofs.Runs.Leading.{leads-runs}
 use Rattle.disk_laws.specs.Disks.{AtLeast, Top, Firm, ContentOk, DiskOk, StreamLetter, Halted, DisksHold, shown_at}
@@ -40,8 +40,8 @@ pub record DisksGo (S T : LogState) (M : Firm) (halted : Bool) : Type 0 where
 -- partition, where it leads, has counted firm by then.
 abbrev pub Kept : LogState → Firm → Bool → Actor → ℕ → Turn SiteState → Type 0
 Kept S F halted from i t =
-    (M : Firm) (G : Logs) → Holds (after (popped S from i) i t.state t.sends G) → Grown S.words.deployment i t.state S.logs G
-    → Raised S.words.deployment i t.state F M → DisksGo S (after (popped S from i) i t.state t.sends G) M halted
+    (M : Firm) (G : Logs) → LogsHold (after_site (site_popped S from i) i t.state t.sends G) → Grown S.words.deployment i t.state S.logs G
+    → Raised S.words.deployment i t.state F M → DisksGo S (after_site (site_popped S from i) i t.state t.sends G) M halted
 
 -- The disk of slot i may be wiped: another slot of its partition shows this mark or a later one, and all of its own are lower.
 pub record Wiped (S : LogState) (i : ℕ) : Type 0 where
@@ -84,7 +84,7 @@ no-letter S c l k = elim l.body as (λ m. NoStreamStart (record l { body = m }) 
 ] k
 
 -- what the site counted firm is no more than what was
-pub firm-before : (S : LogState) → Holds S → (F : Firm) (halted : Bool) → DisksHold S F halted → (i : ℕ) → IsSlot S i → 0 < start_at S i → (S.sites i).firm ≤ F (part S i)
+pub firm-before : (S : LogState) → LogsHold S → (F : Firm) (halted : Bool) → DisksHold S F halted → (i : ℕ) → IsSlot S i → 0 < site_start S i → (S.sites i).firm ≤ F (part S i)
 firm-before S H F halted K i slot up = choice (S.sites i).joining refl
   where
     choice : (o : Option Joining) → (S.sites i).joining ≡ o → (S.sites i).firm ≤ F (part S i)
@@ -93,15 +93,15 @@ firm-before S H F halted K i slot up = choice (S.sites i).joining refl
 
 -- ---- a turn, with fewer messages under way
 
-module _ (S : LogState) (H : Holds S) (F : Firm) (halted : Bool) (K : DisksHold S F halted) (ch : Actor → Actor → List Letter)
+module _ (S : LogState) (H : LogsHold S) (F : Firm) (halted : Bool) (K : DisksHold S F halted) (ch : Actor → Actor → List Letter)
     (fewer : (a b : Actor) (l : Letter) → In l (ch a b) → In l (S.words.channel a b)) (i : ℕ) (slot : IsSlot S i) where
   abbrev less : LogState
   less = record S { words = record S.words { channel = ch } }
 
-  module _ (t : Turn SiteState) (M : Firm) (G : Logs) (L : Holds (after less i t.state t.sends G)) (grown : Grown S.words.deployment i t.state S.logs G)
-      (raised : Raised S.words.deployment i t.state F M) (halts : halted ≡ true → Halted (after less i t.state t.sends G)) where
+  module _ (t : Turn SiteState) (M : Firm) (G : Logs) (L : LogsHold (after_site less i t.state t.sends G)) (grown : Grown S.words.deployment i t.state S.logs G)
+      (raised : Raised S.words.deployment i t.state F M) (halts : halted ≡ true → Halted (after_site less i t.state t.sends G)) where
     abbrev T : LogState
-    T = after less i t.state t.sends G
+    T = after_site less i t.state t.sends G
 
     abbrev C : Shown → Type 0
     C = ContentOk T M halted (part S i)
@@ -180,7 +180,7 @@ module _ (S : LogState) (H : Holds S) (F : Firm) (halted : Bool) (K : DisksHold 
         | b ↦ λ k. tt
       ] k
         where
-          there-up : 0 < start_at T i
+          there-up : 0 < site_start T i
           there-up = subst (λ x. 0 < x.start) (sym site) up
 
           -- the receiver is of the site's partition, which counts it
@@ -206,7 +206,7 @@ module _ (S : LogState) (H : Holds S) (F : Firm) (halted : Bool) (K : DisksHold 
             | inr r ↦ inr (handler.at.mark ∙ r.mark ∙ sym (at-term S.words.deployment i m t.state handler.at), (let a = r.disk in let b = handler.at.on_disk in omega (arith, a, b)))
           ]
 
-    pub handler-same : 0 < start_at S i → DiskHandler S.words.deployment i (S.sites i) t → DisksGo S T M halted
+    pub handler-same : 0 < site_start S i → DiskHandler S.words.deployment i (S.sites i) t → DisksGo S T M halted
     handler-same up handler = handler-disks (S.sites i) own-before ((H.sites i).keeps up).on_disk handler (subst (λ n. 0 < n) (sym handler.at.start) up) ((H.sites i).keeps up).held
         (firm-before S H F halted K i slot up) (same-tops handler.at.contents) (same-still handler.at.contents)
 
@@ -218,7 +218,7 @@ module _ (S : LogState) (H : Holds S) (F : Firm) (halted : Bool) (K : DisksHold 
     stopped-disks down some contents marks tops still none = assembled own tops still (λ l. let u = leader-up l in absurd (omega (arith, u, down)))
         (λ c _. all-mono NoStreamStart (StreamLetter T c) (no-letter T c) (t.sends (Site c)) (none c))
       where
-        down-there : start_at T i ≡ 0
+        down-there : site_start T i ≡ 0
         down-there = ap (λ x. x.start) site ∙ down
 
         own : DiskOk T M halted i
@@ -283,14 +283,14 @@ module _ (S : LogState) (H : Holds S) (F : Firm) (halted : Bool) (K : DisksHold 
 
   -- ---- what goes on while all is stopped
 
-  pub halts-after : (t : Turn SiteState) (G : Logs) → Holds (after less i t.state t.sends G) → SiteGoes S i t.state
-      → ((c : ℕ) → AllByRecursion (LeadersBegin S.words.deployment i t.state) (t.sends (Site c))) → halted ≡ true → Halted (after less i t.state t.sends G)
+  pub halts-after : (t : Turn SiteState) (G : Logs) → LogsHold (after_site less i t.state t.sends G) → SiteGoes S i t.state
+      → ((c : ℕ) → AllByRecursion (LeadersBegin S.words.deployment i t.state) (t.sends (Site c))) → halted ≡ true → Halted (after_site less i t.state t.sends G)
   halts-after t G L goes begins e = halted-site S H (K.halts e) ch fewer i slot t.state t.sends G L goes begins
 
 -- ---- behind a turn that leaves the disk, from a state on
 
 module _ (S : LogState) (i : ℕ) where
-  pub handler-goes : (t : Turn SiteState) (m : SiteState) → DiskHandler S.words.deployment i m t → m.start ≡ start_at S i
+  pub handler-goes : (t : Turn SiteState) (m : SiteState) → DiskHandler S.words.deployment i m t → m.start ≡ site_start S i
       → ((j : Joining) → m.joining ≡ Some j → (k : Joining) × ((S.sites i).joining ≡ Some k) × (j.stream ≡ k.stream)) → SiteGoes S i t.state
   handler-goes t m handler start joins = inr (inl (
     handler.at.start ∙ start,
@@ -315,14 +315,14 @@ pub fewer : (S : LogState) (from : Actor) (i : ℕ) (a b : Actor) (l : Letter) �
 fewer S from i a b l m = all-at (λ x. In x (S.words.channel a b)) (taken-from S from i a b)
     (took-all (λ x. In x (S.words.channel a b)) S.words.channel from (Site i) a b (all-from (λ x. In x (S.words.channel a b)) (S.words.channel a b) (λ x k. k))) l m
 
-module _ (S : LogState) (H : Holds S) (F : Firm) (halted : Bool) (K : DisksHold S F halted) (from : Actor) (i : ℕ) (slot : IsSlot S i) where
+module _ (S : LogState) (H : LogsHold S) (F : Firm) (halted : Bool) (K : DisksHold S F halted) (from : Actor) (i : ℕ) (slot : IsSlot S i) where
   abbrev ch : Actor → Actor → List Letter
   ch = taken-from S from i
 
   abbrev on : (a b : Actor) (l : Letter) → In l (ch a b) → In l (S.words.channel a b)
   on = fewer S from i
 
-  pub handler-kept : (t : Turn SiteState) → 0 < start_at S i → DiskHandler S.words.deployment i (S.sites i) t → Kept S F halted from i t
+  pub handler-kept : (t : Turn SiteState) → 0 < site_start S i → DiskHandler S.words.deployment i (S.sites i) t → Kept S F halted from i t
   handler-kept t up handler M G L grown raised = handler-same S H F halted K ch on i slot t M G L grown raised
       (halts-after S H F halted K ch on i slot t G L (handler-goes S i t (S.sites i) handler refl (λ j e. (j, e, refl)))
       (handler-begins S i t (S.sites i) handler ((H.sites i).keeps up).held)) up handler
@@ -351,7 +351,7 @@ module _ (S : LogState) (H : Holds S) (F : Firm) (halted : Bool) (K : DisksHold 
 
   -- a number is noted
   pub noted-kept : (stop : ℕ) (plans : List (ℕ × ℕ)) → Kept S F halted from i (becomes (record (S.sites i) { stop = stop; plans = plans }))
-  noted-kept stop plans = elim (cases_eq (start_at S i) 0) [
+  noted-kept stop plans = elim (cases_eq (site_start S i) 0) [
     | inl z ↦ stops-kept (becomes (record (S.sites i) { stop = stop; plans = plans })) z refl leaves-same (λ c. tt)
     | inr n ↦ handler-kept (becomes (record (S.sites i) { stop = stop; plans = plans })) (omega (arith, n))
         (disk-same S.words.deployment i (S.sites i) (record (S.sites i) { stop = stop; plans = plans }) refl refl refl)

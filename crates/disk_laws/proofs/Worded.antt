@@ -15,7 +15,7 @@ use Rattle.cluster_steps.proofs.Lists.{none-and-some}
 use Rattle.cluster_steps.proofs.SiteTurns.{stays_joiner}
 use Rattle.word_laws.proofs.Agreement.{member-is}
 use Rattle.word_laws.proofs.Members.{is_member-start}
-use Rattle.log_laws.specs.Histories.{LogState, Holds, IsSlot, ViewIn, InWord, StreamIn, start_at, log_at, term_at}
+use Rattle.log_laws.specs.Histories.{LogState, LogsHold, IsSlot, ViewIn, InWord, StreamIn, site_start, log_at, term_at}
 use Rattle.log_laws.proofs.Messages.Pops.{taken-for}
 use Rattle.log_laws.proofs.NewTerms.Entering.{took-admitted, ran-owner, running-ran}
 use Rattle.log_laws.proofs.NewTerms.Taking.{first-word, later-word}
@@ -27,7 +27,7 @@ second-not true true e q = refl
 second-not true false e q = absurd (cc)
 second-not false b e q = absurd (cc)
 
-module _ (S : LogState) (H : Holds S) (i : ℕ) where
+module _ (S : LogState) (H : LogsHold S) (i : ℕ) where
   abbrev s : SiteState
   s = S.sites i
 
@@ -43,15 +43,15 @@ module _ (S : LogState) (H : Holds S) (i : ℕ) where
       seen None u = (u.loads, u.empty)
       seen (Some w) u = streamed w j.stream none u.stream
 
-  module _ (slot : IsSlot S i) (up : 0 < start_at S i) (h : ℕ) (l : Letter) (w : Membership) (ls : List Letter)
+  module _ (slot : IsSlot S i) (up : 0 < site_start S i) (h : ℕ) (l : Letter) (w : Membership) (ls : List Letter)
       (is : S.words.channel (Agent h) (Site i) ≡ record l { body = msg.View w } ∷ ls) where
     pub meant-for : (l.term ≡ 0) × (0 < l.start)
     meant-for = (subst (AllByRecursion (λ l. elim l.body as (λ _. Type 0) [ msg.View w ↦ (l.term ≡ 0) × (0 < l.start) | _ ↦ Unit {0} ]))
         (ap (λ z. S.words.channel (Agent z) (Site i)) (sym (rw is at (H.foreign (Agent h) i)).0) ∙ is) (H.views i).plain).0
 
-    module _ (take : arrival (start_at S i) (term_at S i) (record l { body = msg.View w }) ≡ Taken) where
-      pub word-start : l.start ≡ start_at S i
-      word-start = elim (taken-for (start_at S i) (term_at S i) (record l { body = msg.View w }) take).0 [
+    module _ (take : arrival (site_start S i) (term_at S i) (record l { body = msg.View w }) ≡ Taken) where
+      pub word-start : l.start ≡ site_start S i
+      word-start = elim (taken-for (site_start S i) (term_at S i) (record l { body = msg.View w }) take).0 [
         | inl z ↦ let a = meant-for.1 in absurd (omega (arith, a, z))
         | inr e ↦ e
       ]
@@ -62,7 +62,7 @@ module _ (S : LogState) (H : Holds S) (i : ℕ) where
         where
           choice : (o : Option Membership) → s.view ≡ o → term_at S i < term_of w
           choice None e =
-              let a = some-term S H w (took-decided S H (start_at S i) w (first-word S H h i l w ls is word-start up e)) in
+              let a = some-term S H w (took-decided S H (site_start S i) w (first-word S H h i l w ls is word-start up e)) in
               let b : term_at S i ≡ 0 = ap term_in e in
               omega (arith, a, b)
           choice (Some v) e = let a = (later-word S H h i l w ls is word-start up v e).2 in let b : term_at S i ≡ term_of v = ap term_in e in omega (arith, a, b)
@@ -74,14 +74,14 @@ module _ (S : LogState) (H : Holds S) (i : ℕ) where
             let in_word : InWord S i v j = subst (ViewIn S i j) e ((H.sites i).joiner j joins).view in
             let lw = later-word S H h i l w ls is word-start up v e in
             let good = H.words.history.decided_good w lw.0 in
-            let named = (member-is S.words H.words.history w (host_of_slot S.words.deployment i) (start_at S i) good lw.1).0 in
-            let x = took-admitted S H (start_at S i) v w in_word.took lw.0 named in
-            let owner = ap S.words.owner x.2 ∙ ran-owner S H i (start_at S i) (running-ran S H i up) in
+            let named = (member-is S.words H.words.history w (host_of_slot S.words.deployment i) (site_start S i) good lw.1).0 in
+            let x = took-admitted S H (site_start S i) v w in_word.took lw.0 named in
+            let owner = ap S.words.owner x.2 ∙ ran-owner S H i (site_start S i) (running-ran S H i up) in
             (H.loads.admitted x.0 x.1 i (and_from (nat_lt i (slots S.words.deployment)) (host_of_slot S.words.deployment i == S.words.owner x.0.start)
             slot (eq-eqb (host_of_slot S.words.deployment i) (S.words.owner x.0.start) (sym owner)))).1 up (sym x.2) j joins
 
         -- and one without a word doesn't become a member
         pub word-unnamed : s.view ≡ None → stays_joiner S.words.deployment i s w ≡ false → ⊥
-        word-unnamed e enters = took-unnamed S H (start_at S i) w i (first-word S H h i l w ls is word-start up e)
-            (is_member-start w (host_of_slot S.words.deployment i) (start_at S i)
-            (second-not (is_joiner s) (is_member w (host_of_slot S.words.deployment i) (start_at S i)) (a-joiner s j joins) enters))
+        word-unnamed e enters = took-unnamed S H (site_start S i) w i (first-word S H h i l w ls is word-start up e)
+            (is_member-start w (host_of_slot S.words.deployment i) (site_start S i)
+            (second-not (is_joiner s) (is_member w (host_of_slot S.words.deployment i) (site_start S i)) (a-joiner s j joins) enters))

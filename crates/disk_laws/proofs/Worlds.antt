@@ -1,5 +1,5 @@
 -- In each world of a run what disks show is well, and what was counted firm survives each event.
-use Rattle.std.proofs.Common.{◌≡◌, ◌<◌, ◌≤◌, Bool, true, false, List, [], ◌∷◌, ◌++◌, length, refl, sym, subst, ap, ◌∙◌, ◌==◌, arith}
+use Rattle.std.proofs.Common.{◌≡◌, ◌≤◌, Bool, true, false, List, [], ◌∷◌, ◌++◌, length, refl, sym, subst, ap, ◌∙◌, ◌==◌, arith}
 use Rattle.std.proofs.lemmas.Bool.{and_parts}
 use Rattle.std.proofs.lemmas.List.{length-take-le}
 use Rattle.std.specs.Prelude.{ℕ, ◌&&◌, not, nat_lt, Some, None}
@@ -14,18 +14,19 @@ use Rattle.cluster_model.specs.SiteState.{SiteState}
 use Rattle.cluster_model.specs.Agent.{agent_turn}
 use Rattle.cluster_model.specs.Sync.{may_sync, site_turn, sync_turn}
 use Rattle.cluster_model.specs.Environment.{Environment, NoFault, DiskFails, NoMemory, DisksShow}
-use Rattle.cluster_model.specs.World.{World, Stopped, Input, first_world, stamp_of, took, with_site, stops_with}
+use Rattle.cluster_model.specs.World.{World, Stopped, Input, stamp_of, took, with_site, stops_with}
 use Rattle.cluster_model.specs.Recover.{starts_anew, stays_stopped}
 use Rattle.cluster_model.specs.Events.{is_actor, is_some_letter, is_shown, is_slot_or_none, may_recover, can, allows, delivered, recovered_with, may_do, happens, step}
-use Rattle.cluster_model.specs.Runs.{Happening, IsRun, has_failed, may_happen, run}
+use Rattle.cluster_model.specs.Runs.{Happening, Reached, RunsTo, has_failed, may_happen}
+use Rattle.cluster_model.proofs.Runs.{reached-kept, runs-kept}
 use Rattle.cluster_steps.proofs.Lists.{if-false}
 use Rattle.word_laws.proofs.Worlds.{actor-host, host-apart, memory-runs}
-use Rattle.log_laws.specs.Histories.{Logs, LogState, Holds}
+use Rattle.log_laws.specs.Histories.{Logs, LogState, LogsHold}
 use Rattle.log_laws.specs.Copies.{log_state, HasLogs}
 use Rattle.cluster_steps.proofs.Prefixes.{prefix-trans, prefix-length, prefixes-order, prefix-take}
 use Rattle.log_laws.proofs.Kept.Moves.{Grown, Onward}
 use Rattle.log_laws.proofs.Kept.Grown.{onward-same}
-use Rattle.log_laws.proofs.Runs.Leading.{Rises, rises-same}
+use Rattle.log_laws.proofs.Runs.Leading.{AuthoritativeRises, rises-same}
 use Rattle.log_laws.proofs.Runs.Boots.{first-logs, anew-logs}
 use Rattle.log_laws.proofs.Runs.Others.{Keeps, to_client-logs, to_director-logs, to_scanner-logs, scan-logs, submit-logs, next-logs, stopped-logs}
 use Rattle.log_laws.proofs.Agents.AgentEvents.{agent-event}
@@ -59,7 +60,7 @@ pub record DisksGoOn (w v : World) : Type 0 where
 -- ---- what survives
 
 -- in one epoch
-survives-onward : (w v : World) (k : HasLogs w) (n : HasLogs v) → Onward k.logs n.logs → ((p : ℕ) → Rises (w.authoritative p) (v.authoritative p)) → (p : ℕ) → Survives w v p
+survives-onward : (w v : World) (k : HasLogs w) (n : HasLogs v) → Onward k.logs n.logs → ((p : ℕ) → AuthoritativeRises (w.authoritative p) (v.authoritative p)) → (p : ℕ) → Survives w v p
 survives-onward w v k n onward rises p = let f = keeps-firm w v k n onward rises p in record { within = f.within; more = f.more; kept = f.kept }
 
 pub survives-same : (w : World) (k : HasLogs w) (p : ℕ) → Survives w w p
@@ -110,7 +111,7 @@ keeps-goes w v d n disks = record {
   where
     keeps-survives : (w v : World) (d : HasDisks w) (n : Keeps w d.logs v) → (p : ℕ) → Survives w v p
     keeps-survives w v d n = survives-onward w v d.logs n.next (subst (Onward d.logs.logs) (sym n.logs) (onward-same d.logs.logs))
-        (λ p. subst (Rises (w.authoritative p)) (ap (λ f. f p) (sym n.authoritative)) (rises-same (w.authoritative p)))
+        (λ p. subst (AuthoritativeRises (w.authoritative p)) (ap (λ f. f p) (sym n.authoritative)) (rises-same (w.authoritative p)))
 
 -- the event is noted in the trace
 noted : (w v : World) (trace : List Event) → DisksGoOn w v → DisksGoOn w (record v { trace = trace })
@@ -206,7 +207,7 @@ module _ (w : World) (d : HasDisks w) (channel : Actor → Actor → List Letter
   abbrev after-turn : World
   after-turn = with_site (record w { channel = channel; stops = stops }) i t
 
-  site-goes : (G : Logs) (H : Holds (log_state after-turn d.logs.owner d.logs.history G)) → Grown w.deployment i t.state d.logs.logs G
+  site-goes : (G : Logs) (H : LogsHold (log_state after-turn d.logs.owner d.logs.history G)) → Grown w.deployment i t.state d.logs.logs G
       → DisksGo (log_state w d.logs.owner d.logs.history d.logs.logs) (log_state after-turn d.logs.owner d.logs.history G) (firm_in after-turn) d.halted → DisksGoOn w after-turn
   site-goes G H grown go =
       let k = d.logs in
@@ -292,24 +293,24 @@ happens-goes E w event.Item o d may environment = item-goes E w o d
 happens-goes E w (event.Submit n) o d may environment = submit-goes E w n o d
 happens-goes E w (event.Idle a) o d may environment = same-goes w d
 
-step-goes : (E : Database) (w : World) (e : Happening) → may_happen w e ≡ true → HasDisks w → DisksGoOn w (step E w e)
+pub step-goes : (E : Database) (w : World) (e : Happening) → may_happen w e ≡ true → HasDisks w → DisksGoOn w (step E w e)
 step-goes E w e may d =
     let outer = and_parts (not (has_failed w) && can w e.0) (allows w e.0 e.1) may in
     let inner = and_parts (not (has_failed w)) (can w e.0) outer.0 in
     let v = happens E w e.0 e.1 in
     noted w v (v.trace ++ e.0 ∷ []) (happens-goes E w e.0 e.1 d inner.1 outer.1)
 
--- ---- runs
+-- ---- reached worlds
+
+-- All holds in each world that is reached.
+pub disks-agree : (E : Database) (input : Input) (w : World) → Reached E input w → HasDisks w
+disks-agree E input w r = reached-kept E HasDisks (λ v e may d. (step-goes E v e may d).next) input w
+    (λ is. record { logs = first-logs E input is.base; halted = false; disks = first-disks E input is.base }) r
 
 -- What is firm survives all that happens.
-pub run-goes : (E : Database) (es : List Happening) (w : World) → IsRun E es w → HasDisks w → DisksGoOn w (run E es w)
-run-goes E [] w r d = same-goes w d
-run-goes E (e ∷ es) w r d =
-    let s = step-goes E w e r.0 d in
-    let n = run-goes E es (step E w e) r.1 s.next in
-    record { next = n.next; survives = λ p. survives-then w (step E w e) (run E es (step E w e)) p (s.survives p) (n.survives p) }
-
--- So it is in each world of a run.
-pub disks-agree : (E : Database) (input : Input) (es : List Happening) → 0 < input.base → IsRun E es (first_world E input) → HasDisks (run E es (first_world E input))
-disks-agree E input es some r =
-    (run-goes E es (first_world E input) r (record { logs = first-logs E input some; halted = false; disks = first-disks E input some })).next
+pub runs-go : (E : Database) (v w : World) → RunsTo E v w → HasDisks v → DisksGoOn v w
+runs-go E v w r d = runs-kept E (DisksGoOn v) goes-on v w r (same-goes v d)
+  where
+    goes-on : (u : World) (e : Happening) → may_happen u e ≡ true → DisksGoOn v u → DisksGoOn v (step E u e)
+    goes-on u e may g = let n = step-goes E u e may g.next in
+        record { next = n.next; survives = λ p. survives-then v u (step E u e) p (g.survives p) (n.survives p) }

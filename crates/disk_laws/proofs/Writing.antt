@@ -7,7 +7,7 @@ use Rattle.cluster_model.specs.Disk.{Shown, after_parts, mark_of}
 use Rattle.cluster_model.specs.SiteState.{SiteState, Streamed, Joining, site_term}
 use Rattle.cluster_model.specs.Sync.{content, mark_owed, joiner_parts, joiner_written, member_written, written, parts_of_sync}
 use Rattle.cluster_steps.proofs.Lists.{none-and-some, same-some, not-both}
-use Rattle.log_laws.specs.Histories.{LogState, Holds, HeldOk, part, start_at, term_at}
+use Rattle.log_laws.specs.Histories.{LogState, LogsHold, HeldOk, part, site_start, term_at}
 use Rattle.disk_laws.specs.Disks.{Firm, ContentOk, MemberDisk, StreamDisk, DiskOk, own_content}
 use Rattle.disk_laws.proofs.Order.{some-after_parts, all-after_parts}
 use Rattle.disk_laws.proofs.Own.{OwnAt, OwnMember, OwnStream}
@@ -16,7 +16,7 @@ use Rattle.disk_laws.proofs.SyncContents.{PartsOk, BegunContent, disk, owed-mark
 
 -- ---- what it shows once all is written
 
-module _ (S : LogState) (H : Holds S) (i : ℕ) (up : 0 < start_at S i) (F : Firm) (K : DiskOk S F false i) where
+module _ (S : LogState) (H : LogsHold S) (i : ℕ) (up : 0 < site_start S i) (F : Firm) (K : DiskOk S F false i) where
   abbrev s : SiteState
   s = S.sites i
 

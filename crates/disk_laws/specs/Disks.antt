@@ -8,7 +8,7 @@ use Rattle.cluster_model.specs.Letters.{Letter}
 use Rattle.cluster_model.specs.SiteState.{SiteState, Streamed, Joining}
 use Rattle.cluster_steps.specs.Lists.{In, Prefix}
 use Rattle.word_laws.specs.Histories.{Admitted}
-use Rattle.log_laws.specs.Histories.{LogState, Leadership, IsSlot, part, start_at, log_at, term_at, between}
+use Rattle.log_laws.specs.Histories.{LogState, Leadership, IsSlot, part, site_start, log_at, term_at, between}
 
 -- ---- how good a content is
 
@@ -92,7 +92,7 @@ pub record DiskOk (S : LogState) (F : Firm) (halted : Bool) (c : ℕ) : Type 0 w
   pub some : (shown_at S c ≡ []) → ⊥
   pub contents : AllByRecursion (ContentOk S F halted (part S c)) (shown_at S c)
   pub marks : halted ≡ false → AllByRecursion (λ x. mark_of x ≤ (S.sites c).greatest) (shown_at S c)
-  pub member : 0 < start_at S c → (S.sites c).joining ≡ None → MemberDisk S F c
+  pub member : 0 < site_start S c → (S.sites c).joining ≡ None → MemberDisk S F c
   pub joiner : halted ≡ false → (j : Joining) → (S.sites c).joining ≡ Some j → StreamDisk S c j j.stream
 
 -- ---- a stream under way
@@ -117,9 +117,9 @@ pub record Halted (S : LogState) : Type 0 where
   pub unnamed : (h : ℕ) → 0 < (S.words.agents h).start
       → (list_any (λ m. m.1 == (S.words.agents h).start) S.words.history.first.first ≡ false)
       × ((x : Admitted) → In x S.words.history.admitted → x.start ≡ (S.words.agents h).start → ⊥)
-  pub joiners : (c : ℕ) → 0 < start_at S c → (j : Joining) × ((S.sites c).joining ≡ Some j) × (j.stream ≡ None)
-  pub streams : (c i : ℕ) → 0 < start_at S c
-      → AllByRecursion (λ l. elim l.body as (λ _. Type 0) [ msg.StreamStart head ↦ l.start ≡ start_at S c → ⊥ | _ ↦ Unit {0} ]) (between S i c)
+  pub joiners : (c : ℕ) → 0 < site_start S c → (j : Joining) × ((S.sites c).joining ≡ Some j) × (j.stream ≡ None)
+  pub streams : (c i : ℕ) → 0 < site_start S c
+      → AllByRecursion (λ l. elim l.body as (λ _. Type 0) [ msg.StreamStart head ↦ l.start ≡ site_start S c → ⊥ | _ ↦ Unit {0} ]) (between S i c)
 
 -- ---- what holds in every run
 

@@ -25,7 +25,7 @@ use Rattle.cluster_steps.proofs.Frames.{InertLetter, InertSends, with_rest}
 use Rattle.cluster_steps.proofs.Steps.{LetsGo, MayTell, SmallSteps, MayBeTold, with_stream}
 use Rattle.cluster_steps.proofs.SiteWalk.{after_sync-walk}
 use Rattle.cluster_steps.proofs.SiteTurns.{Plain, PlainWaiting, MayTakeAsks, takes_asks-cases, handler-from, handler-known, settles-walk, sync_turn-cases, taken-walk, site_turn-cases, whole_turn, Wrote, wrote, written_site}
-use Rattle.log_laws.specs.Histories.{Holds, LogState, WaitingOk, start_at}
+use Rattle.log_laws.specs.Histories.{LogsHold, LogState, SiteWaitingOk, site_start}
 use Rattle.disk_laws.proofs.Handlers.{waiting-plain}
 use Rattle.disk_laws.proofs.Worded.{unstreamed}
 use Rattle.reply_laws.specs.Answers.{Claims, ClaimsFit, HeldAnswer, HoldsAnswers, OfTerm, SentAnswer, ToInitiator, TurnAnswers, is_answer}
@@ -197,9 +197,9 @@ module _ (E : Database) (D : Deployment) (i : ℕ) (T : Claims) (fits : ClaimsFi
 -- ---- what the laws of logs give of a site
 
 -- nothing waits at it that never does
-pub waits-plain : (S : LogState) → Holds S → (i : ℕ) → 0 < start_at S i → AllByRecursion PlainWaiting (S.sites i).waiting
-waits-plain S H i up = all-mono (WaitingOk S i) PlainWaiting (waiting-plain S i) (S.sites i).waiting ((H.sites i).keeps up).waiting
+pub waits-plain : (S : LogState) → LogsHold S → (i : ℕ) → 0 < site_start S i → AllByRecursion PlainWaiting (S.sites i).waiting
+waits-plain S H i up = all-mono (SiteWaitingOk S i) PlainWaiting (waiting-plain S i) (S.sites i).waiting ((H.sites i).keeps up).waiting
 
 -- a joiner that has no stream has no entries
-pub no-log : (S : LogState) → Holds S → (i : ℕ) → NoLog (S.sites i)
+pub no-log : (S : LogState) → LogsHold S → (i : ℕ) → NoLog (S.sites i)
 no-log S H i j joins none = (unstreamed S H i j joins none).1

@@ -17,10 +17,11 @@ use Rattle.cluster_model.specs.Letters.{same, Letter, Turn}
 use Rattle.cluster_model.specs.SiteState.{SiteState, is_joiner, leader_in, leads, no_site, member_site}
 use Rattle.cluster_model.specs.Sync.{may_sync, site_turn, sync_turn}
 use Rattle.cluster_model.specs.Environment.{Environment, NoFault, DiskFails, NoMemory, DisksShow}
-use Rattle.cluster_model.specs.World.{World, Input, first_world, stamp_of, set_at, took, sent, rest, new_word, start_from}
+use Rattle.cluster_model.specs.World.{World, Input, stamp_of, set_at, took, sent, rest, new_word, start_from}
 use Rattle.cluster_model.specs.Recover.{new_base, new_log, new_site, starts_anew}
 use Rattle.cluster_model.specs.Events.{can, allows, delivered, recovered_with, happens, step}
-use Rattle.cluster_model.specs.Runs.{Happening, IsRun, has_failed, may_happen, run}
+use Rattle.cluster_model.specs.Runs.{Happening, Reached, has_failed, may_happen}
+use Rattle.cluster_model.proofs.Runs.{reached-kept}
 use Rattle.cluster_steps.proofs.Lists.{all-append, all-mono, all-if, all-rest, set-here, set-both}
 use Rattle.cluster_steps.specs.Lists.{Prefix}
 use Rattle.log_laws.specs.Copies.{log_state}
@@ -31,7 +32,7 @@ use Rattle.log_laws.proofs.Runs.Lasting.{in-authoritative}
 use Rattle.disk_laws.specs.Survival.{Survives, firm_entries}
 use Rattle.disk_laws.proofs.Boots.{first-disks}
 use Rattle.disk_laws.proofs.Syncs.{sync-runs}
-use Rattle.disk_laws.proofs.Worlds.{HasDisks, survives-same, run-goes}
+use Rattle.disk_laws.proofs.Worlds.{HasDisks, survives-same, step-goes}
 use Rattle.reply_laws.specs.Answers.{ClaimsFit, Claim, Stands, ClaimOf, is_answer, HoldsAnswers, Answered, SentAnswer, TurnAnswers}
 use Rattle.reply_laws.proofs.Answers.{stands-on}
 use Rattle.reply_laws.proofs.Turns.{no-log, site_turn-answers, sync_turn-answers, waits-plain}
@@ -245,22 +246,20 @@ unnoted w trace d = let n = d.logs in record {
 
 step-answers : (E : Database) (w : World) (e : Happening) → may_happen w e ≡ true → HasDisks w → HasAnswers E w → HasDisks (step E w e) × HasAnswers E (step E w e)
 step-answers E w e may d k =
-    let g = run-goes E (e ∷ []) w (may, tt) d in
+    let g = step-goes E w e may d in
     let outer = and_parts (not (has_failed w) && can w e.0) (allows w e.0 e.1) may in
     let inner = and_parts (not (has_failed w)) (can w e.0) outer.0 in
     let v = happens E w e.0 e.1 in
     let r = event-answers E w k d e.0 e.1 inner.1 (unnoted v (v.trace ++ e.0 ∷ []) g.next) (λ p. firm-grows w (step E w e) d g.next p (g.survives p)) in
     (g.next, record { held = r.held; sent = r.sent })
 
-pub run-answers : (E : Database) (es : List Happening) (w : World) → IsRun E es w → HasDisks w → HasAnswers E w → HasAnswers E (run E es w)
-run-answers E [] w r d k = k
-run-answers E (e ∷ es) w r d k = let s = step-answers E w e r.0 d k in run-answers E es (step E w e) r.1 s.0 s.1
-
--- So it is in each world of a run: at first no site holds an answer.
-pub answers-agree : (E : Database) (input : Input) (es : List Happening) → 0 < input.base → IsRun E es (first_world E input) → HasAnswers E (run E es (first_world E input))
-answers-agree E input es some r =
-    run-answers E es (first_world E input) r (record { logs = first-logs E input some; halted = false; disks = first-disks E input some })
-    (record { held = λ i. first i (nat_lt i (slots input.deployment)); sent = λ i h. tt })
+-- So it is in each world that is reached: at first no site holds an answer.
+pub answers-agree : (E : Database) (input : Input) (w : World) → Reached E input w → HasAnswers E w
+answers-agree E input w r = (reached-kept E (λ v. HasDisks v × HasAnswers E v) (λ v e may k. step-answers E v e may k.0 k.1) input w
+    (λ is. (
+      record { logs = first-logs E input is.base; halted = false; disks = first-disks E input is.base },
+      record { held = λ i. first i (nat_lt i (slots input.deployment)); sent = λ i h. tt },
+    )) r).1
   where
     word : Membership
     word = new_word input.deployment input.base 1

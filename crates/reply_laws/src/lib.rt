@@ -4,11 +4,11 @@
 //! Each is a function without a body; the clause is the law.
 #![tactic(auto)]
 
-ghost use Rattle.std.specs.Prelude.{ℕ, ◌≡◌, ◌<◌, List};
+ghost use Rattle.std.specs.Prelude.{ℕ, List};
 ghost use Rattle.volt_wire.specs.declared.end.End.{End};
 ghost use Rattle.cluster_model.specs.Letters.{Letter};
-ghost use Rattle.cluster_model.specs.World.{Input, first_world};
-ghost use Rattle.cluster_model.specs.Runs.{Happening, IsRun, run};
+ghost use Rattle.cluster_model.specs.World.{World, Input};
+ghost use Rattle.cluster_model.specs.Runs.{Reached};
 ghost use Rattle.cluster_steps.specs.Lists.{In};
 ghost use Rattle.reply_laws.specs.UnderWay.{RepliesTo, AnswersRound, TellsEnd, CallStandsFirm, RoundStandsFirm, EndStandsFirm, under_way};
 
@@ -18,33 +18,30 @@ use cluster_model::laws::AnyDatabase;
 /// partition: the call stands there, and the reply is what the database answers to it behind the entries
 /// before it.
 pub fn replies_are_of_firm_entries<B: AnyDatabase>()
-    ensures { (input : Input) (es : List Happening) (i h call : ℕ) (end : End) (l : Letter)
-        → 0 < input.base
-        → IsRun B.database es (first_world B.database input)
-        → In l (under_way (run B.database es (first_world B.database input)) i h)
+    ensures { (input : Input) (w : World) (i h call : ℕ) (end : End) (l : Letter)
+        → Reached B.database input w
+        → In l (under_way w i h)
         → RepliesTo l call end
-        → CallStandsFirm B.database (run B.database es (first_world B.database input)) i call end }
+        → CallStandsFirm B.database w i call end }
 {}
 
 /// So is the part of a round that is under way from a site to an agent: the round stands among the firm
 /// entries of the site's partition, and the part is what the database answers to it behind the entries
 /// before it.
 pub fn answers_of_rounds_are_of_firm_entries<B: AnyDatabase>()
-    ensures { (input : Input) (es : List Happening) (i h m round : ℕ) (partial : List ℕ) (l : Letter)
-        → 0 < input.base
-        → IsRun B.database es (first_world B.database input)
-        → In l (under_way (run B.database es (first_world B.database input)) i h)
+    ensures { (input : Input) (w : World) (i h m round : ℕ) (partial : List ℕ) (l : Letter)
+        → Reached B.database input w
+        → In l (under_way w i h)
         → AnswersRound l m round partial
-        → RoundStandsFirm B.database (run B.database es (first_world B.database input)) i m round partial }
+        → RoundStandsFirm B.database w i m round partial }
 {}
 
 /// Where a site tells an agent that a transaction has ended, an end of it stands among the firm entries of
 /// the site's partition.
 pub fn ends_are_of_firm_entries<B: AnyDatabase>()
-    ensures { (input : Input) (es : List Happening) (i h m : ℕ) (l : Letter)
-        → 0 < input.base
-        → IsRun B.database es (first_world B.database input)
-        → In l (under_way (run B.database es (first_world B.database input)) i h)
+    ensures { (input : Input) (w : World) (i h m : ℕ) (l : Letter)
+        → Reached B.database input w
+        → In l (under_way w i h)
         → TellsEnd l m
-        → EndStandsFirm (run B.database es (first_world B.database input)) i m }
+        → EndStandsFirm w i m }
 {}

@@ -21,7 +21,7 @@ use Rattle.cluster_model.specs.SiteState.{SiteState, leads}
 use Rattle.cluster_model.specs.Site.{standing, copy_acks, least_of}
 use Rattle.cluster_model.specs.Disk.{Shown, chosen}
 use Rattle.cluster_steps.specs.Lists.{In, Prefix}
-use Rattle.log_laws.specs.Histories.{LogState, Leadership, WordOf, Addressed, IsSlot, is_for, part, start_at, term_at}
+use Rattle.log_laws.specs.Histories.{LogState, Leadership, WordOf, Addressed, IsSlot, is_for, part, site_start, term_at}
 use Rattle.disk_laws.specs.Disks.{Firm, Top, Shows}
 use Rattle.reply_laws.specs.Answers.{Claim, Claims, HoldsAnswers}
 use Rattle.transaction_laws.specs.Machine.{IsOpen, WellFormed, first_stage, stage}
@@ -264,7 +264,7 @@ pub record SiteCalls (S : LogState) (K : Transactions) (c : ℕ) : Type 0 where
   pub held : HoldsAnswers ToOrders (S.sites c)
   pub orders : (w : Membership) → (S.sites c).joining ≡ None → (S.sites c).view ≡ Some w → leader S.words.deployment w (part S c) ≡ Some c
       → (h a : ℕ) → initiator w ≡ Some (h, a)
-      → orders (start_at S c) (term_of w) (S.words.channel (Agent h) (Site c)) ≡ K.due (part S c) (term_of w)
+      → orders (site_start S c) (term_of w) (S.words.channel (Agent h) (Site c)) ≡ K.due (part S c) (term_of w)
   pub counts : leads S.words.deployment c (S.sites c) ≡ true → CountsOk S c
   -- it counts no joiner before it has what its term begins with
   pub unrepaired : (S.sites c).repaired ≡ false → (S.sites c).joiners ≡ []
@@ -349,6 +349,6 @@ pub record CallsHold (E : Database) (S : LogState) (F : Firm) (halted : Bool) (K
   pub to_sites : (h c : ℕ) → IsSlot S c → AllByRecursion (ToSiteOk S h c) (S.words.channel (Agent h) (Site c))
   pub to_agents : (c h : ℕ) → IsSlot S c → AllByRecursion (AnswerOk E S F K (part S c)) (S.words.channel (Site c) (Agent h))
   pub environment : (c h : ℕ) → (IsSlot S c → ⊥) → S.words.channel (Site c) (Agent h) ≡ []
-  pub sites : (c : ℕ) → IsSlot S c → 0 < start_at S c → SiteCalls S K c
+  pub sites : (c : ℕ) → IsSlot S c → 0 < site_start S c → SiteCalls S K c
   pub agents : (h : ℕ) → AgentCalls E S F K h
   pub halts : halted ≡ true → (shown : ℕ → Shown) → Shows S shown → (L : Transactions) × Aligned E S.words.deployment now L (chosen S.words.deployment shown)

@@ -3,20 +3,15 @@ use Rattle.std.specs.Prelude.{ℕ, ◌≡◌, ◌<◌, ◌⊎◌, true, nat_lt, 
 use Rattle.volt_base.specs.declared.entry.Entry.TheVariants.{Done}
 use Rattle.volt_base.specs.declared.entry.Outcome.{Outcome}
 use Rattle.volt_base.specs.declared.entry.Outcome.TheVariants.{Dropped, Kept, Aborted, Snapshot}
-use Rattle.partition_ring.specs.Placement.{IsLayout}
 use Rattle.volt_wire.specs.Word.{Membership}
 use Rattle.cluster_model.specs.Disk.{recovered}
 use Rattle.cluster_model.specs.Engine.{Database}
 use Rattle.cluster_model.specs.Log.{nothing_open, open_in}
 use Rattle.cluster_model.specs.Recover.{shown_of}
-use Rattle.cluster_model.specs.Words.{Deployment, slots, parts, initiator}
+use Rattle.cluster_model.specs.Words.{slots, parts, initiator}
 use Rattle.cluster_model.specs.World.{World}
 use Rattle.cluster_steps.specs.Lists.{In}
 use Rattle.transaction_laws.specs.Machine.{WellFormed, RiseWithin, first_stage, points}
-
--- a layout that isn't refused
-abbrev pub IsLaidOut : Deployment → Type 0
-IsLaidOut D = IsLayout D.layout.hosts D.layout.sites D.layout.k
 
 abbrev pub IsSlotOf : World → ℕ → Type 0
 IsSlotOf w i = nat_lt i (slots w.deployment) ≡ true

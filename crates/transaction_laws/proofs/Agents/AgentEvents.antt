@@ -21,13 +21,13 @@ use Rattle.word_laws.proofs.Members.{initiator-member}
 use Rattle.word_laws.proofs.Agreement.{member-is}
 use Rattle.word_laws.proofs.Moves as word_moves
 use Rattle.word_laws.proofs.Turns.{tells, concludes}
-use Rattle.word_laws.proofs.Arrivals.{Takes, Stops_, Ignores, Runs_, takes-cases, runs-taken, runs-waits, runs-refused, turn-cases, stopped-cases}
+use Rattle.word_laws.proofs.Arrivals.{AgentTakes, Stops_, Ignores, Runs_, takes-cases, runs-taken, runs-waits, runs-refused, turn-cases, stopped-cases}
 use Rattle.word_laws.proofs.Hearings.{handler-grows, agent-there, then-assoc, concludes-none}
 use Rattle.word_laws.proofs.AgentEvents.{handler-event, none-waited, comes-first, start-of-body}
-use Rattle.log_laws.specs.Histories.{LogState, AskedOk, IsSlot, part, Holds}
+use Rattle.log_laws.specs.Histories.{LogState, AskedOk, IsSlot, part, LogsHold}
 use Rattle.log_laws.proofs.Messages.Pops.{taken-for}
-use Rattle.log_laws.proofs.Agents.Views.{turned}
-use Rattle.log_laws.proofs.Agents.AgentTurns.{Rest, rest-of, holds-of, heard, rest-heard}
+use Rattle.log_laws.proofs.Agents.Views.{agent_turned}
+use Rattle.log_laws.proofs.Agents.AgentTurns.{Rest, rest-of, holds-of, agent_heard, rest-heard}
 use Rattle.log_laws.proofs.Agents.AgentWords.{concludes-agent}
 use Rattle.log_laws.proofs.Agents.AgentHandlers.{may-join, first-agent}
 use Rattle.log_laws.proofs.Agents.AgentEvents.{AgentGoes, first-asks, decided-pops, agent-event}
@@ -56,9 +56,9 @@ calls-later E S F halted K now stamp l k = record {
 -- transactions, holds after it.
 abbrev AgentCallsGo : Database → LogState → Firm → Bool → ℕ → ℕ → Actor → Turn AgentState → Type 0
 AgentCallsGo E S F halted stamp n from t =
-    (r : AgentGoes S n from t) × (L : Transactions) × CallsHold E (record S { words = word_moves.after (word_moves.popped S.words from n) n t.state t.sends r.history }) F halted L stamp
+    (r : AgentGoes S n from t) × (L : Transactions) × CallsHold E (record S { words = word_moves.after_agent (word_moves.agent_popped S.words from n) n t.state t.sends r.history }) F halted L stamp
 
-module _ (E : Database) (S : LogState) (F : Firm) (halted : Bool) (K : Transactions) (stamp n : ℕ) (from : Actor) (lay : LaidOut S) (H : Holds S) (C : CallsHold E S F halted K stamp) where
+module _ (E : Database) (S : LogState) (F : Firm) (halted : Bool) (K : Transactions) (stamp n : ℕ) (from : Actor) (lay : LaidOut S) (H : LogsHold S) (C : CallsHold E S F halted K stamp) where
   abbrev a : AgentState
   a = S.words.agents n
 
@@ -133,8 +133,8 @@ came-answer E S F halted K stamp n from l ls C is c e = elim (cases_Bool (nat_lt
     some-left : [] ≡ l ∷ ls → ⊥
     some-left q = absurd (cc)
 
-module _ (E : Database) (S : LogState) (F : Firm) (halted : Bool) (K : Transactions) (stamp n : ℕ) (from : Actor) (l : Letter) (ls : List Letter) (lay : LaidOut S) (H : Holds S)
-    (C : CallsHold E S F halted K stamp) (up : 0 < word.start_at S.words n) (is : S.words.channel from (Agent n) ≡ l ∷ ls)
+module _ (E : Database) (S : LogState) (F : Firm) (halted : Bool) (K : Transactions) (stamp n : ℕ) (from : Actor) (l : Letter) (ls : List Letter) (lay : LaidOut S) (H : LogsHold S)
+    (C : CallsHold E S F halted K stamp) (up : 0 < word.agent_start S.words n) (is : S.words.channel from (Agent n) ≡ l ∷ ls)
     (take : arrival (S.words.agents n).start (term_in (S.words.agents n).decided) l ≡ Taken) where
   abbrev D : Deployment
   D = S.words.deployment
@@ -144,7 +144,7 @@ module _ (E : Database) (S : LogState) (F : Firm) (halted : Bool) (K : Transacti
 
   -- the state without the message
   abbrev P : LogState
-  P = heard S from n
+  P = agent_heard S from n
 
   left : Rest P
   left = rest-heard S from n (rest-of S H)
@@ -164,7 +164,7 @@ module _ (E : Database) (S : LogState) (F : Firm) (halted : Bool) (K : Transacti
   -- the word that it may decide
   concluded-calls : CallsHandler E F halted stamp P K n (told ▸ concludes D n)
   concluded-calls = then-calls E F halted stamp P K n told (concludes D n) told-calls (concludes-none D n)
-      (λ k q c u. let T = turned P n told.state told.sends told-calls.handler.handler.history in
+      (λ k q c u. let T = agent_turned P n told.state told.sends told-calls.handler.handler.history in
       concludes-calls E F halted stamp T (holds-of T k q) told-calls.after c n u (concludes-agent T n k q u))
 
   -- a handler with all that follows, and then those that waited
@@ -182,7 +182,7 @@ module _ (E : Database) (S : LogState) (F : Firm) (halted : Bool) (K : Transacti
 
   taken-calls : CallsHandler E F halted stamp P K n (whole ▸ takes_waiting E D n stamp)
   taken-calls = then-calls E F halted stamp P K n whole (takes_waiting E D n stamp) whole-calls (none-waited E D n stamp)
-      (λ k q c u. waited-calls E F halted stamp n (turned P n whole.state whole.sends whole-calls.handler.handler.history) lay k q whole-calls.after c u
+      (λ k q c u. waited-calls E F halted stamp n (agent_turned P n whole.state whole.sends whole-calls.handler.handler.history) lay k q whole-calls.after c u
       (subst (λ b. may_decide n b b.own ≡ false) (sym (agent-there P.words n whole.state whole.sends whole-calls.handler.handler.history)) whole-settled))
 
   taken-go : AgentCallsGo E S F halted stamp n from (whole ▸ takes_waiting E D n stamp)
@@ -195,7 +195,7 @@ module _ (E : Database) (S : LogState) (F : Firm) (halted : Bool) (K : Transacti
         | inr z ↦ inr (ap (λ b. b.own) z)
       ];
       by = taken-calls.handler.handler.by;
-      holds = holds-of (turned P n (whole ▸ takes_waiting E D n stamp).state (whole ▸ takes_waiting E D n stamp).sends taken-calls.handler.handler.history) taken-calls.handler.handler.holds taken-calls.handler.rest;
+      holds = holds-of (agent_turned P n (whole ▸ takes_waiting E D n stamp).state (whole ▸ takes_waiting E D n stamp).sends taken-calls.handler.handler.history) taken-calls.handler.handler.holds taken-calls.handler.rest;
     },
     taken-calls.after,
     taken-calls.calls,
@@ -203,7 +203,7 @@ module _ (E : Database) (S : LogState) (F : Firm) (halted : Bool) (K : Transacti
 
 -- ---- the whole
 
-module _ (E : Database) (S : LogState) (F : Firm) (halted : Bool) (K : Transactions) (stamp n : ℕ) (from : Actor) (l : Letter) (ls : List Letter) (lay : LaidOut S) (H : Holds S)
+module _ (E : Database) (S : LogState) (F : Firm) (halted : Bool) (K : Transactions) (stamp n : ℕ) (from : Actor) (l : Letter) (ls : List Letter) (lay : LaidOut S) (H : LogsHold S)
     (C : CallsHold E S F halted K stamp) (is : S.words.channel from (Agent n) ≡ l ∷ ls) where
   abbrev there : AgentState
   there = S.words.agents n
@@ -216,7 +216,7 @@ module _ (E : Database) (S : LogState) (F : Firm) (halted : Bool) (K : Transacti
 
   -- ---- of an agent that runs
 
-  module _ (up : 0 < word.start_at S.words n) where
+  module _ (up : 0 < word.agent_start S.words n) where
     running : (there.start == 0) ≡ false
     running = grind (arith, nat_tests, up)
 
@@ -236,7 +236,7 @@ module _ (E : Database) (S : LogState) (F : Firm) (halted : Bool) (K : Transacti
     runs Waits e r = subst Result (sym (runs-waits E S.words.deployment n stamp there from l e)) waits r
     runs Refused e r = subst Result (sym (runs-refused E S.words.deployment n stamp there from l e)) unchanged r
 
-    takes : Takes E S.words.deployment n stamp there from l → Result (agent_takes E S.words.deployment n stamp there from l)
+    takes : AgentTakes E S.words.deployment n stamp there from l → Result (agent_takes E S.words.deployment n stamp there from l)
     takes (Stops_ e) r = subst Result (sym e) (stops-go E S F halted K stamp n from lay H C (stops S.words.deployment n there.start) refl (λ c. tt)) r
     takes (Ignores e c) r = subst Result (sym e) unchanged r
     takes (Runs_ e c) r = subst Result (sym e) (runs (arrival there.start (term_in there.decided) l) refl) r
@@ -250,7 +250,7 @@ module _ (E : Database) (S : LogState) (F : Firm) (halted : Bool) (K : Transacti
 
   -- ---- of one that is stopped
 
-  module _ (z : word.start_at S.words n ≡ 0) where
+  module _ (z : word.agent_start S.words n ≡ 0) where
     -- the start that comes to it hasn't begun
     fresh : (s : ℕ) → from ≡ Director → l.body ≡ msg.Start s → In s (S.words.history.began n) → ⊥
     fresh s f b = (subst (AllByRecursion (λ x. In x (S.words.history.began n) → ⊥))
@@ -272,12 +272,12 @@ module _ (E : Database) (S : LogState) (F : Firm) (halted : Bool) (K : Transacti
 
 -- A message of an agent that is there, with any share of the environment's: what holds of transactions, holds after its turn.
 pub agent-calls : (E : Database) (S : LogState) (F : Firm) (halted : Bool) (K : Transactions) (now n : ℕ) (from : Actor) (l : Letter) (ls : List Letter) (o : Environment)
-    → LaidOut S → Holds S → CallsHold E S F halted K now → S.words.channel from (Agent n) ≡ l ∷ ls → is_host S.words.deployment n ≡ true
+    → LaidOut S → LogsHold S → CallsHold E S F halted K now → S.words.channel from (Agent n) ≡ l ∷ ls → is_host S.words.deployment n ≡ true
     → ((answered : ℕ) → o ≡ NoMemory answered → nat_lt 0 (start_after (S.words.agents n) from l) ≡ true)
     → let t = agent_turn E S.words.deployment n (now + 1) (S.words.agents n) from l o in
     (r : AgentGoes S n from t) × (L : Transactions)
-    × CallsHold E (record S { words = word_moves.after (word_moves.popped S.words from n) n t.state t.sends r.history }) F halted L (now + 1)
-agent-calls E S F halted K now n from l ls o lay H k is host memory = elim (cases_eq (word.start_at S.words n) 0) [
+    × CallsHold E (record S { words = word_moves.after_agent (word_moves.agent_popped S.words from n) n t.state t.sends r.history }) F halted L (now + 1)
+agent-calls E S F halted K now n from l ls o lay H k is host memory = elim (cases_eq (word.agent_start S.words n) 0) [
   | inl z ↦ stopped-go E S F halted K (now + 1) n from l ls lay H C is z o goes
   | inr u ↦ running-go E S F halted K (now + 1) n from l ls lay H C is (omega (arith, u)) o goes
 ]

@@ -16,7 +16,7 @@ use Rattle.cluster_model.specs.AgentState.{AgentState, Phase, Off, Hears, Closes
 use Rattle.cluster_model.specs.Initiator.{works_queue, if_idle, queues, on_frag_done, on_finished, on_mp_state}
 use Rattle.cluster_model.specs.Agent.{to_slot, to_partition, to_initiator, hands_on, unless_down, on_call, on_closed, on_word, on_hello, takes_word, on_decided, asks_initiator, has_loaded, on_loaded, from_agent, from_site, from_director, from_client, agent_handler}
 use Rattle.cluster_steps.proofs.Lists.{all-mono, all-if}
-use Rattle.log_laws.specs.Histories.{LogState, Holds, IsSlot, is_for, part}
+use Rattle.log_laws.specs.Histories.{LogState, LogsHold, IsSlot, is_for, part}
 use Rattle.log_laws.proofs.Plain.Lines.{flat-none, if-none}
 use Rattle.disk_laws.specs.Disks.{Firm}
 use Rattle.transaction_laws.specs.Transactions.{Transactions, Books, IsPart, Stood, StateOk, Initiates, PhaseOk, AnswerOk, order_in, order_of, orders}
@@ -291,7 +291,7 @@ phase-kept E S F K t a b (Closes m parts finished) work next k = rw (work, next)
 phase-kept E S F K t a b Idle work next k = rw (work, next) k
 phase-kept E S F K t a b Works work next k = rw (work, next) k
 
-module _ (E : Database) (S : LogState) (F : Firm) (K : Transactions) (now stamp n : ℕ) (w : Membership) (lay : LaidOut S) (H : Holds S) (B : Books E S F K now) (low : now ≤ stamp)
+module _ (E : Database) (S : LogState) (F : Firm) (K : Transactions) (now stamp n : ℕ) (w : Membership) (lay : LaidOut S) (H : LogsHold S) (B : Books E S F K now) (low : now ≤ stamp)
     (i : Initiates S n w) (phase : PhaseOk E S F K (term_of w) (S.words.agents n) (S.words.agents n).initiating.phase) where
   abbrev a : AgentState
   a = S.words.agents n
@@ -372,7 +372,7 @@ module _ (E : Database) (S : LogState) (F : Firm) (K : Transactions) (now stamp 
       ]
 
 -- The handler of an initiator.
-pub handler-initiates : (E : Database) (S : LogState) (F : Firm) (K : Transactions) (now stamp n : ℕ) (w : Membership) → LaidOut S → Holds S → Books E S F K now → now ≤ stamp → Initiates S n w
+pub handler-initiates : (E : Database) (S : LogState) (F : Firm) (K : Transactions) (now stamp n : ℕ) (w : Membership) → LaidOut S → LogsHold S → Books E S F K now → now ≤ stamp → Initiates S n w
     → PhaseOk E S F K (term_of w) (S.words.agents n) (S.words.agents n).initiating.phase → (from : Actor) (l : Letter)
     → (l.term ≡ 0) ⊎ (l.term ≡ term_of w) → ((c : ℕ) → from ≡ Site c → IsSlot S c × AnswerOk E S F K (part S c) l)
     → InitiatorGoes E S F K stamp n w (S.words.agents n) (agent_handler E S.words.deployment n stamp (S.words.agents n) from l)

@@ -25,11 +25,11 @@ use Rattle.cluster_steps.proofs.Channels.{sent-both, took-all}
 use Rattle.word_laws.proofs.Moves.{Grows}
 use Rattle.word_laws.proofs.Turns.{tells, tells-state, concludes, concludes-not, concludes-is, decides-state}
 use Rattle.word_laws.proofs.Steps.{after-after}
-use Rattle.word_laws.proofs.Hearings.{Handler, handler-grows, agent-there, after-handler, then-inert}
-use Rattle.log_laws.specs.Histories.{LogState, Holds, WordOf, MemberOk, IsSlot, is_for, part, start_at}
+use Rattle.word_laws.proofs.Hearings.{WordsTurn, handler-grows, agent-there, after-handler, then-inert}
+use Rattle.log_laws.specs.Histories.{LogState, LogsHold, WordOf, MemberOk, IsSlot, is_for, part, site_start}
 use Rattle.log_laws.proofs.Plain.Lines.{flat-none, if-none, for-false}
 use Rattle.log_laws.proofs.Kept.Terms.{same-word}
-use Rattle.log_laws.proofs.Agents.Views.{turned}
+use Rattle.log_laws.proofs.Agents.Views.{agent_turned}
 use Rattle.log_laws.proofs.Agents.AgentTurns.{Rest, MayJoin, AgentHandler}
 use Rattle.disk_laws.specs.Disks.{Firm}
 use Rattle.transaction_laws.specs.Transactions.{Transactions, Books, JobOk, PhaseOk, Initiates, AnswerOk, ToSiteOk, WaitingAnswer, SiteCalls, AgentCalls, CallsHold, orders, order_of}
@@ -75,16 +75,16 @@ pub record Mine (E : Database) (S : LogState) (F : Firm) (L : Transactions) (n :
       ⊎ ((w : Membership) × (0 < a.start) × (a.decided ≡ Some w) × (initiator w ≡ Some (n, a.start)) × PhaseOk E S F L (term_of w) a a.initiating.phase)
   pub waiting : AllByRecursion (WaitingAnswer E S F L) a.waiting
 
-module _ (E : Database) (F : Firm) (halted : Bool) (stamp : ℕ) (S : LogState) (H : Holds S) (K : Transactions) (C : CallsHold E S F halted K stamp)
+module _ (E : Database) (F : Firm) (halted : Bool) (stamp : ℕ) (S : LogState) (H : LogsHold S) (K : Transactions) (C : CallsHold E S F halted K stamp)
     (o : Option Actor) (n : ℕ) (t : Turn AgentState) (G : History) (grows : Grows S.words.history G) where
   -- the state after it
   abbrev T : LogState
-  T = turned (base S o n) n t.state t.sends G
+  T = agent_turned (base S o n) n t.state t.sends G
 
   -- What is due, once the agent has sent this.
   abbrev DueThen : Transactions → ℕ → Type 0
   DueThen L c = (v : Membership) → (S.sites c).joining ≡ None → (S.sites c).view ≡ Some v → leader S.words.deployment v (part S c) ≡ Some c
-      → (h a : ℕ) → initiator v ≡ Some (h, a) → orders (start_at S c) (term_of v) (T.words.channel (Agent h) (Site c)) ≡ L.due (part S c) (term_of v)
+      → (h a : ℕ) → initiator v ≡ Some (h, a) → orders (site_start S c) (term_of v) (T.words.channel (Agent h) (Site c)) ≡ L.due (part S c) (term_of v)
 
   onto : Onto S T F F
   onto = onto-worded S T.words.agents T.words.channel G grows.decided F
@@ -171,7 +171,7 @@ module _ (E : Database) (F : Firm) (halted : Bool) (stamp : ℕ) (S : LogState) 
       (own : (w : Membership) (a : ℕ) → In w S.words.history.decided → initiator w ≡ Some (n, a) → 0 < a → t.state.start ≡ a
       → ((S.words.agents n).start ≡ a → L.heard ≤ term_in (S.words.agents n).decided) → L.heard ≤ term_in t.state.decided)
       (letters : (c : ℕ) → IsSlot S c → AllByRecursion (ToSiteOk S n c) (t.sends (Site c)))
-      (due : (c : ℕ) → IsSlot S c → 0 < start_at S c → SiteCalls S K c → DueThen L c)
+      (due : (c : ℕ) → IsSlot S c → 0 < site_start S c → SiteCalls S K c → DueThen L c)
       (mine : Mine E S F L n t.state)
       (others : (h : ℕ) → (h ≡ n → ⊥) → (w : Membership) → Initiates S h w → PhaseOk E S F K (term_of w) (S.words.agents h) (S.words.agents h).initiating.phase
       → PhaseOk E S F L (term_of w) (S.words.agents h) (S.words.agents h).initiating.phase) where
@@ -244,10 +244,10 @@ waits-heard E S F K L low x k = elim x.from as (λ a. WaitingAnswer E S F K (rec
 ] k
 
 -- a site that runs as a member of this word
-member-of : (S : LogState) → Holds S → (c : ℕ) → 0 < start_at S c → (v : Membership) → (S.sites c).joining ≡ None → (S.sites c).view ≡ Some v → MemberOk S c v
+member-of : (S : LogState) → LogsHold S → (c : ℕ) → 0 < site_start S c → (v : Membership) → (S.sites c).joining ≡ None → (S.sites c).view ≡ Some v → MemberOk S c v
 member-of S H c up v joins view = let m = (H.sites c).member up joins in subst (MemberOk S c) (same-some (sym m.1 ∙ view)) m.2
 
-module _ (E : Database) (F : Firm) (halted : Bool) (stamp : ℕ) (S : LogState) (H : Holds S) (K : Transactions) (C : CallsHold E S F halted K stamp)
+module _ (E : Database) (F : Firm) (halted : Bool) (stamp : ℕ) (S : LogState) (H : LogsHold S) (K : Transactions) (C : CallsHold E S F halted K stamp)
     (o : Option Actor) (n : ℕ) (t : Turn AgentState) (G : History) (grows : Grows S.words.history G) where
   -- ---- the turn of an initiator
 
@@ -259,10 +259,10 @@ module _ (E : Database) (F : Firm) (halted : Bool) (stamp : ℕ) (S : LogState) 
     word-is = record { decided = has-decided S.words H.words n w i.has_decided; term_is = refl }
 
     -- What is due to the leader of its word is what it sends; elsewhere it is as it was.
-    due-initiates : (c : ℕ) → IsSlot S c → 0 < start_at S c → SiteCalls S K c → DueThen E F halted stamp S H K C o n t G grows L c
-    due-initiates c slot up k v joins view leads h a init = sent-both (λ ls. orders (start_at S c) (term_of v) ls ≡ L.due (part S c) (term_of v)) (left S.words.channel o n) n t.sends h (Site c)
-        (λ e. subst (λ z. orders (start_at S c) (term_of v) (left S.words.channel o n (Agent z) (Site c) ++ t.sends (Site c)) ≡ L.due (part S c) (term_of v)) e
-        (orders-append (start_at S c) (term_of v) (left S.words.channel o n (Agent n) (Site c)) (t.sends (Site c)) ∙ here e (cases_eq (term_of v) (term_of w))))
+    due-initiates : (c : ℕ) → IsSlot S c → 0 < site_start S c → SiteCalls S K c → DueThen E F halted stamp S H K C o n t G grows L c
+    due-initiates c slot up k v joins view leads h a init = sent-both (λ ls. orders (site_start S c) (term_of v) ls ≡ L.due (part S c) (term_of v)) (left S.words.channel o n) n t.sends h (Site c)
+        (λ e. subst (λ z. orders (site_start S c) (term_of v) (left S.words.channel o n (Agent z) (Site c) ++ t.sends (Site c)) ≡ L.due (part S c) (term_of v)) e
+        (orders-append (site_start S c) (term_of v) (left S.words.channel o n (Agent n) (Site c)) (t.sends (Site c)) ∙ here e (cases_eq (term_of v) (term_of w))))
         (λ d. was h refl ∙ there d (cases_eq (term_of v) (term_of w)))
       where
         m : MemberOk S c v
@@ -271,25 +271,25 @@ module _ (E : Database) (F : Firm) (halted : Bool) (stamp : ℕ) (S : LogState) 
         same : term_of v ≡ term_of w → v ≡ w
         same e = same-word S H (term_of w) v w (record { decided = m.decided; term_is = e }) word-is
 
-        was : (z : ℕ) → z ≡ h → orders (start_at S c) (term_of v) (left S.words.channel o n (Agent z) (Site c)) ≡ K.due (part S c) (term_of v)
-        was z e = ap (orders (start_at S c) (term_of v)) (left-sites S.words.channel o n z c) ∙ k.orders v joins view leads z a (init ∙ ap (λ y. Some (y, a)) (sym e))
+        was : (z : ℕ) → z ≡ h → orders (site_start S c) (term_of v) (left S.words.channel o n (Agent z) (Site c)) ≡ K.due (part S c) (term_of v)
+        was z e = ap (orders (site_start S c) (term_of v)) (left-sites S.words.channel o n z c) ∙ k.orders v joins view leads z a (init ∙ ap (λ y. Some (y, a)) (sym e))
 
         here : n ≡ h → (term_of v ≡ term_of w) ⊎ (term_of v ≡ term_of w → ⊥)
-            → orders (start_at S c) (term_of v) (left S.words.channel o n (Agent n) (Site c)) ++ orders (start_at S c) (term_of v) (t.sends (Site c)) ≡ L.due (part S c) (term_of v)
-        here e (inl q) = ap (λ xs. xs ++ orders (start_at S c) (term_of v) (t.sends (Site c))) (was n e)
-            ∙ subst (λ z. K.due (part S c) z ++ orders (start_at S c) z (t.sends (Site c)) ≡ L.due (part S c) z) (sym q)
-            (sym (g.sends.due c (start_at S c) slot (subst (λ z. leader S.words.deployment z (part S c) ≡ Some c) (same q) leads)
-            (subst (λ z. start_of_slot S.words.deployment z c ≡ Some (start_at S c)) (same q) m.start_is)))
-        here e (inr d) = ap (λ xs. xs ++ orders (start_at S c) (term_of v) (t.sends (Site c))) (was n e)
-            ∙ ap (λ xs. K.due (part S c) (term_of v) ++ xs) (flat-none (order_of (start_at S c) (term_of v)) (t.sends (Site c))
-            (all-mono _ _ (sent-elsewhere S n w c (start_at S c) (term_of v) d) (t.sends (Site c)) (g.sends.letters c slot)))
+            → orders (site_start S c) (term_of v) (left S.words.channel o n (Agent n) (Site c)) ++ orders (site_start S c) (term_of v) (t.sends (Site c)) ≡ L.due (part S c) (term_of v)
+        here e (inl q) = ap (λ xs. xs ++ orders (site_start S c) (term_of v) (t.sends (Site c))) (was n e)
+            ∙ subst (λ z. K.due (part S c) z ++ orders (site_start S c) z (t.sends (Site c)) ≡ L.due (part S c) z) (sym q)
+            (sym (g.sends.due c (site_start S c) slot (subst (λ z. leader S.words.deployment z (part S c) ≡ Some c) (same q) leads)
+            (subst (λ z. start_of_slot S.words.deployment z c ≡ Some (site_start S c)) (same q) m.start_is)))
+        here e (inr d) = ap (λ xs. xs ++ orders (site_start S c) (term_of v) (t.sends (Site c))) (was n e)
+            ∙ ap (λ xs. K.due (part S c) (term_of v) ++ xs) (flat-none (order_of (site_start S c) (term_of v)) (t.sends (Site c))
+            (all-mono _ _ (sent-elsewhere S n w c (site_start S c) (term_of v) d) (t.sends (Site c)) (g.sends.letters c slot)))
             ∙ append-nil (K.due (part S c) (term_of v)) ∙ sym (g.sends.others (part S c) (term_of v) d)
 
         there : (n ≡ h → ⊥) → (term_of v ≡ term_of w) ⊎ (term_of v ≡ term_of w → ⊥) → K.due (part S c) (term_of v) ≡ L.due (part S c) (term_of v)
         there d (inl q) = absurd (d (ap (λ z. z.0) (same-some (sym i.initiates ∙ ap initiator (sym (same q)) ∙ init))))
         there d (inr q) = sym (g.sends.others (part S c) (term_of v) q)
 
-    initiates-then : CallsHold E (turned (base S o n) n t.state t.sends G) F halted L stamp
+    initiates-then : CallsHold E (agent_turned (base S o n) n t.state t.sends G) F halted L stamp
     initiates-then = calls-then E F halted stamp S H K C o n t G grows L g.books g.heard
         (λ v a d init some is before. subst (λ d. L.heard ≤ term_in d) (sym g.decided) (before (sym g.start ∙ is)))
         (λ c slot. all-mono _ _ (sent-letter S n w c) (t.sends (Site c)) (g.sends.letters c slot))
@@ -303,25 +303,25 @@ module _ (E : Database) (F : Firm) (halted : Bool) (stamp : ℕ) (S : LogState) 
 
   -- ---- a turn in which no round and no end is sent, and after which all that is due is as it was
 
-  due-inert : ((c : ℕ) → AllByRecursion NoOrder (t.sends (Site c))) → (c : ℕ) → IsSlot S c → 0 < start_at S c → SiteCalls S K c → DueThen E F halted stamp S H K C o n t G grows K c
-  due-inert none c slot up k v joins view leads h a init = sent-both (λ ls. orders (start_at S c) (term_of v) ls ≡ K.due (part S c) (term_of v)) (left S.words.channel o n) n t.sends h (Site c)
-      (λ e. orders-append (start_at S c) (term_of v) (left S.words.channel o n (Agent h) (Site c)) (t.sends (Site c))
-      ∙ ap (λ xs. orders (start_at S c) (term_of v) (left S.words.channel o n (Agent h) (Site c)) ++ xs) (no-orders (start_at S c) (term_of v) (t.sends (Site c)) (none c))
+  due-inert : ((c : ℕ) → AllByRecursion NoOrder (t.sends (Site c))) → (c : ℕ) → IsSlot S c → 0 < site_start S c → SiteCalls S K c → DueThen E F halted stamp S H K C o n t G grows K c
+  due-inert none c slot up k v joins view leads h a init = sent-both (λ ls. orders (site_start S c) (term_of v) ls ≡ K.due (part S c) (term_of v)) (left S.words.channel o n) n t.sends h (Site c)
+      (λ e. orders-append (site_start S c) (term_of v) (left S.words.channel o n (Agent h) (Site c)) (t.sends (Site c))
+      ∙ ap (λ xs. orders (site_start S c) (term_of v) (left S.words.channel o n (Agent h) (Site c)) ++ xs) (no-orders (site_start S c) (term_of v) (t.sends (Site c)) (none c))
       ∙ append-nil _ ∙ was)
       (λ d. was)
     where
-      was : orders (start_at S c) (term_of v) (left S.words.channel o n (Agent h) (Site c)) ≡ K.due (part S c) (term_of v)
-      was = ap (orders (start_at S c) (term_of v)) (left-sites S.words.channel o n h c) ∙ k.orders v joins view leads h a init
+      was : orders (site_start S c) (term_of v) (left S.words.channel o n (Agent h) (Site c)) ≡ K.due (part S c) (term_of v)
+      was = ap (orders (site_start S c) (term_of v)) (left-sites S.words.channel o n h c) ∙ k.orders v joins view leads h a init
 
   pub inert-then : ((c : ℕ) → AllByRecursion NoOrder (t.sends (Site c))) → Mine E S F K n t.state
       → ((w : Membership) (a : ℕ) → In w S.words.history.decided → initiator w ≡ Some (n, a) → 0 < a → t.state.start ≡ a
       → ((S.words.agents n).start ≡ a → K.heard ≤ term_in (S.words.agents n).decided) → K.heard ≤ term_in t.state.decided)
-      → CallsHold E (turned (base S o n) n t.state t.sends G) F halted K stamp
+      → CallsHold E (agent_turned (base S o n) n t.state t.sends G) F halted K stamp
   inert-then none mine own = calls-then E F halted stamp S H K C o n t G grows K C.books (omega arith) own
       (λ c slot. all-mono _ _ (no-order-letter S n c) (t.sends (Site c)) (none c)) (due-inert none) mine (λ h d w i k. k)
 
   -- the handler of one that isn't an initiator
-  off-then : OffGoes (S.words.agents n) t → CallsHold E (turned (base S o n) n t.state t.sends G) F halted K stamp
+  off-then : OffGoes (S.words.agents n) t → CallsHold E (agent_turned (base S o n) n t.state t.sends G) F halted K stamp
   off-then g = inert-then g.sends (record { initiating = inl (g.phase, g.work, g.next); waiting = waits g.kept }) (λ w a d init some is. own g.kept a some is)
     where
       waits : ((t.state ≡ new_agent 0) ⊎ ((t.state.start ≡ (S.words.agents n).start) × (t.state.decided ≡ (S.words.agents n).decided) × (t.state.waiting ≡ (S.words.agents n).waiting)))
@@ -389,12 +389,12 @@ pub record CallsHandler (E : Database) (F : Firm) (halted : Bool) (stamp : ℕ) 
   pub handler : AgentHandler P n t
   pub after : Transactions
   pub heard : K.heard ≤ after.heard
-  pub calls : CallsHold E (turned P n t.state t.sends handler.handler.history) F halted after stamp
+  pub calls : CallsHold E (agent_turned P n t.state t.sends handler.handler.history) F halted after stamp
 
 -- One turn, and then another one of an agent that goes on. One that has stopped does nothing then.
 pub then-calls : (E : Database) (F : Firm) (halted : Bool) (stamp : ℕ) (P : LogState) (K : Transactions) (n : ℕ) (t : Turn AgentState) (f : AgentState → Turn AgentState)
     (r : CallsHandler E F halted stamp P K n t) → f (new_agent 0) ≡ becomes (new_agent 0)
-    → (let T = turned P n t.state t.sends r.handler.handler.history in word.Holds T.words → Rest T → CallsHold E T F halted r.after stamp → 0 < word.start_at T.words n
+    → (let T = agent_turned P n t.state t.sends r.handler.handler.history in word.WordsHold T.words → Rest T → CallsHold E T F halted r.after stamp → 0 < word.agent_start T.words n
     → CallsHandler E F halted stamp T r.after n (f (T.words.agents n))) → CallsHandler E F halted stamp P K n (t ▸ f)
 then-calls E F halted stamp P K n t f r silent g = elim r.handler.handler.goes [
   | inl q ↦ both (subst (λ z. CallsHandler E F halted stamp T r.after n (f z)) here (g r.handler.handler.holds r.handler.rest r.calls (subst (λ x. 0 < x) (sym (ap (λ x. x.start) here ∙ q.0)) q.1)))
@@ -402,7 +402,7 @@ then-calls E F halted stamp P K n t f r silent g = elim r.handler.handler.goes [
 ]
   where
     T : LogState
-    T = turned P n t.state t.sends r.handler.handler.history
+    T = agent_turned P n t.state t.sends r.handler.handler.history
 
     here : T.words.agents n ≡ t.state
     here = agent-there P.words n t.state t.sends r.handler.handler.history
@@ -415,16 +415,16 @@ then-calls E F halted stamp P K n t f r silent g = elim r.handler.handler.goes [
       calls = subst (λ x. CallsHold E x F halted q.after stamp) one q.calls;
     }
       where
-        k : (both : Handler (MayJoin P) P.words n (t ▸ f)) × (both.history ≡ q.handler.handler.history)
+        k : (both : WordsTurn (MayJoin P) P.words n (t ▸ f)) × (both.history ≡ q.handler.handler.history)
         k = after-handler P.words n t f r.handler.handler q.handler.handler
 
-        one : turned T n (f t.state).state (f t.state).sends q.handler.handler.history ≡ turned P n (f t.state).state (λ b. t.sends b ++ (f t.state).sends b) k.0.history
+        one : agent_turned T n (f t.state).state (f t.state).sends q.handler.handler.history ≡ agent_turned P n (f t.state).state (λ b. t.sends b ++ (f t.state).sends b) k.0.history
         one = ap (λ w. record P { words = w }) (after-after P.words n t.state (f t.state).state t.sends (f t.state).sends r.handler.handler.history q.handler.handler.history)
-            ∙ ap (turned P n (f t.state).state (λ b. t.sends b ++ (f t.state).sends b)) (sym k.1)
+            ∙ ap (agent_turned P n (f t.state).state (λ b. t.sends b ++ (f t.state).sends b)) (sym k.1)
 
 -- ---- the handler of a message, and what the agent says of a new word then
 
-pub told-handler : (E : Database) (F : Firm) (halted : Bool) (stamp : ℕ) (S : LogState) → LaidOut S → Holds S → (K : Transactions) → CallsHold E S F halted K stamp
+pub told-handler : (E : Database) (F : Firm) (halted : Bool) (stamp : ℕ) (S : LogState) → LaidOut S → LogsHold S → (K : Transactions) → CallsHold E S F halted K stamp
     → (o : Option Actor) (n : ℕ) (from : Actor) (l : Letter)
     → AgentHandler (base S o n) n (agent_handler E S.words.deployment n stamp (S.words.agents n) from l ▸ tells n (S.words.agents n).own)
     → ((l.term ≡ 0) ⊎ (l.term ≡ term_in (S.words.agents n).decided)) → ((c : ℕ) → from ≡ Site c → IsSlot S c × AnswerOk E S F K (part S c) l)
@@ -469,13 +469,13 @@ phase-job E S F K t a (Closes m parts finished) k = (k.2, inr k.3)
 phase-job E S F K t a Idle k = (rw k.1 tt, inr k.2)
 phase-job E S F K t a Works k = (rw k.2.1 k.2.2, inr k.1)
 
-module _ (E : Database) (F : Firm) (halted : Bool) (stamp : ℕ) (S : LogState) (H : Holds S) (K : Transactions) (C : CallsHold E S F halted K stamp) (n : ℕ)
-    (up : 0 < word.start_at S.words n) where
+module _ (E : Database) (F : Firm) (halted : Bool) (stamp : ℕ) (S : LogState) (H : LogsHold S) (K : Transactions) (C : CallsHold E S F halted K stamp) (n : ℕ)
+    (up : 0 < word.agent_start S.words n) where
   abbrev a : AgentState
   a = S.words.agents n
 
   -- it stays as it is
-  pub stays-then : (G : History) → Grows S.words.history G → CallsHold E (turned S n a (λ b. []) G) F halted K stamp
+  pub stays-then : (G : History) → Grows S.words.history G → CallsHold E (agent_turned S n a (λ b. []) G) F halted K stamp
   stays-then G grows = inert-then E F halted stamp S H K C None n (becomes a) G grows (λ c. tt) (record {
     initiating = elim (C.agents n).initiating [
       | inl q ↦ inl q
@@ -500,13 +500,13 @@ module _ (E : Database) (F : Firm) (halted : Bool) (stamp : ℕ) (S : LogState) 
     with_word = record a { decided = Some v; pending = filter (λ p. not (is_in p.target v.lost)) a.pending }
 
     abbrev U : LogState
-    U = turned S n decides.state decides.sends r.handler.history
+    U = agent_turned S n decides.state decides.sends r.handler.history
 
     is : In v U.words.history.decided
     is = has-decided U.words r.handler.holds n v (ap (λ x. x.decided) (agent-there S.words n decides.state decides.sends r.handler.history) ∙ (decides-state S.words.deployment n a v).decided)
 
     -- nothing that it sends is a round or an end, and its word is above the one before
-    decided-with : (b : AgentState) → b.start ≡ a.start → b.decided ≡ Some v → Mine E S F K n b → CallsHold E (turned S n b decides.sends r.handler.history) F halted K stamp
+    decided-with : (b : AgentState) → b.start ≡ a.start → b.decided ≡ Some v → Mine E S F K n b → CallsHold E (agent_turned S n b decides.sends r.handler.history) F halted K stamp
     decided-with b start word mine = inert-then E F halted stamp S H K C None n (record { state = b; sends = decides.sends }) r.handler.history (handler-grows r.handler)
         (λ c. all-if NoOrder (is_slot_of S.words.deployment n c && not (is_down S.words.deployment v)) (letter_to a.start (msg.View v) ∷ []) [] (tt, tt) tt) mine
         (λ w x d init some e before. rw word (above a.decided refl (before (sym start ∙ e))))
@@ -519,7 +519,7 @@ module _ (E : Database) (F : Firm) (halted : Bool) (stamp : ℕ) (S : LogState) 
     decided-then = go (initiates n with_word (Some v)) refl
       where
         go : (c : Bool) → initiates n with_word (Some v) ≡ c
-            → CallsHold E (turned S n (if c then with_phase with_word (Hears []) else with_phase with_word Off) decides.sends r.handler.history) F halted K stamp
+            → CallsHold E (agent_turned S n (if c then with_phase with_word (Hears []) else with_phase with_word Off) decides.sends r.handler.history) F halted K stamp
         go true e = let init = initiates-is n with_word v e in decided-with (with_phase with_word (Hears [])) refl refl (record {
           initiating = inr (
             v,

@@ -14,21 +14,21 @@ use Rattle.cluster_model.specs.AgentState.{AgentState, Phase, Off, Hears, Closes
 use Rattle.cluster_model.specs.Agent.{is_word, may_decide, agent_handler, unless_stopped, takes_each, takes_waiting}
 use Rattle.word_laws.specs.Histories as word
 use Rattle.cluster_steps.specs.Lists.{In, OnSome}
-use Rattle.word_laws.specs.Histories.{State, GoodWord, SaidBy, OwnOk, CameOk, QueuedOk, WaitingFrom, WaitingOk, names}
+use Rattle.word_laws.specs.Histories.{State, GoodWord, SaidBy, OwnOk, CameOk, QueuedAdmissionOk, AgentWaitingFrom, AgentWaitingOk, names}
 use Rattle.cluster_steps.proofs.Lists.{all-mono, all-filter, all-from, all-at, in-filter, in-cases, some-here, not-both, set-here}
 use Rattle.word_laws.proofs.Algebra.{same_word-is, names-admits, with_admitted-admits}
 use Rattle.word_laws.proofs.Members.{members-all, initiates-is}
-use Rattle.word_laws.proofs.Moves.{Calm, AdmitsNow, asked_by}
+use Rattle.word_laws.proofs.Calm.{Calm, AdmitsNow, asked_by, loaded_by, handler-calm}
 use Rattle.word_laws.proofs.Agreement.{said-good, member-of, term-same}
-use Rattle.word_laws.proofs.Turns.{tells, tells-state, concludes, concludes-not, handler-calm, may_decide-cases}
+use Rattle.word_laws.proofs.Turns.{tells, tells-state, concludes, concludes-not, may_decide-cases}
 use Rattle.word_laws.proofs.Arrivals.{unless-running, waiting-brings}
 use Rattle.word_laws.proofs.Steps.{waiting-shrinks}
 use Rattle.word_laws.proofs.Hearings.{handler-grows, handler-plain, agent-there, then-assoc, then-inert}
 use Rattle.word_laws.proofs.AgentEvents.{calm-event, asked-waiting, none-taken}
 use Rattle.word_laws.proofs.OwnWords.{said_to, spoken}
 use Rattle.word_laws.proofs.Admissions.{not-admitted, admits-holds}
-use Rattle.log_laws.specs.Histories.{LogState, AskedOk, Holds}
-use Rattle.log_laws.proofs.Agents.Views.{turned}
+use Rattle.log_laws.specs.Histories.{LogState, AskedOk, LogsHold}
+use Rattle.log_laws.proofs.Agents.Views.{agent_turned}
 use Rattle.log_laws.proofs.Agents.AgentTurns.{Rest, holds-of, AgentHandler, plain-agent, stay-agent}
 use Rattle.log_laws.proofs.Agents.AgentHandlers.{may-join, first-agent}
 use Rattle.log_laws.proofs.Agents.AgentEvents.{waits-on, asks-on}
@@ -39,9 +39,9 @@ use Rattle.transaction_laws.proofs.Agents.AgentTurns.{CallsHandler, waits-then, 
 
 -- ---- a word that an initiator has just made isn't decided at once
 
-module _ (S : State) (H : word.Holds S) (n : ℕ) (W V : Membership) (j h term : ℕ) (up : 0 < word.start_at S n) (own : (S.agents n).own ≡ Some W)
-    (decided : (S.agents n).decided ≡ Some V) (same : same_word W V ≡ true) (init : initiator V ≡ Some (n, word.start_at S n)) (came : CameOk S h n term j) (term_is : term_of W ≡ term)
-    (over : word.start_at S n < j) where
+module _ (S : State) (H : word.WordsHold S) (n : ℕ) (W V : Membership) (j h term : ℕ) (up : 0 < word.agent_start S n) (own : (S.agents n).own ≡ Some W)
+    (decided : (S.agents n).decided ≡ Some V) (same : same_word W V ≡ true) (init : initiator V ≡ Some (n, word.agent_start S n)) (came : CameOk S h n term j) (term_is : term_of W ≡ term)
+    (over : word.agent_start S n < j) where
   -- the word with the start in it
   abbrev X : Membership
   X = with_admitted j h W
@@ -49,7 +49,7 @@ module _ (S : State) (H : word.Holds S) (n : ℕ) (W V : Membership) (j h term :
   -- what the agent says of it
   abbrev out : Sends
   out b = elim b as (λ _. List Letter) [
-    | Agent g ↦ said_to n (word.start_at S n) X g
+    | Agent g ↦ said_to n (word.agent_start S n) X g
     | _ ↦ []
   ]
 
@@ -61,7 +61,7 @@ module _ (S : State) (H : word.Holds S) (n : ℕ) (W V : Membership) (j h term :
       good = said-good S H.history s u i
 
       like : u ≡ X
-      like = same_word-is u X (good.first ∙ sym (some-here (OwnOk S (word.start_at S n)) (S.agents n).own W own (H.agents n).own).good.first) e
+      like = same_word-is u X (good.first ∙ sym (some-here (OwnOk S (word.agent_start S n)) (S.agents n).own W own (H.agents n).own).good.first) e
 
       r : word.Recorded S u j
       r = good.recorded j (subst (λ x. admits x j ≡ true) (sym like) (with_admitted-admits j h W))
@@ -71,25 +71,25 @@ module _ (S : State) (H : word.Holds S) (n : ℕ) (W V : Membership) (j h term :
   joins = subst (λ z. start_of X z ≡ Some j) came.0.owned (member-of T K.history X j good (names-admits X j (with_admitted-admits j h W)) unlost)
     where
       T : State
-      T = spoken S n X (S.agents n).said out (record { start = j; by = word.start_at S n; at = W } ∷ S.history.admitted)
+      T = spoken S n X (S.agents n).said out (record { start = j; by = word.agent_start S n; at = W } ∷ S.history.admitted)
 
-      K : word.Holds T
+      K : word.WordsHold T
       K = admits-holds S H n W V j h term out up own decided same init came term_is over (λ g. refl)
 
       good : GoodWord T X
-      good = (some-here (OwnOk T (word.start_at T n)) (T.agents n).own X (ap (λ x. x.own) (set-here S.agents n _)) (K.agents n).own).good
+      good = (some-here (OwnOk T (word.agent_start T n)) (T.agents n).own X (ap (λ x. x.own) (set-here S.agents n _)) (K.agents n).own).good
 
       -- the word that it took is this one without it
       took : came.0.word ≡ W
       took =
           let k = H.history.took_ok j came.0.word came.0.took in
-          let w = some-here (OwnOk S (word.start_at S n)) (S.agents n).own W own (H.agents n).own in
+          let w = some-here (OwnOk S (word.agent_start S n)) (S.agents n).own W own (H.agents n).own in
           term-same S H.history came.0.word W (H.history.decided_good came.0.word k.0) w.good (H.history.chain came.0.word W k.0 in-decided) (came.0.term_is ∙ sym term_is)
         where
           in-decided : In W S.history.decided
           in-decided =
               let v = some-here (λ x. In x S.history.decided × (names x (S.agents n).start ≡ true)) (S.agents n).decided V decided (H.agents n).decided in
-              let w = some-here (OwnOk S (word.start_at S n)) (S.agents n).own W own (H.agents n).own in
+              let w = some-here (OwnOk S (word.agent_start S n)) (S.agents n).own W own (H.agents n).own in
               subst (λ x. In x S.history.decided) (sym (same_word-is W V (w.good.first ∙ sym (H.history.decided_good V v.0).first) same)) v.0
 
       unlost : is_in j X.lost ≡ false
@@ -110,9 +110,9 @@ module _ (S : State) (H : word.Holds S) (n : ℕ) (W V : Membership) (j h term :
       go (Some u) k e = unsaid k.0 u k.2 e
 
 -- A handler that brings no word leaves nothing to decide, where nothing was.
-calm-settled : (S : State) → word.Holds S → (n : ℕ) (came : List Queued) (t : Turn AgentState) → 0 < word.start_at S n → Calm n (S.agents n) came t
-    → ((j h term : ℕ) → In (Admission j h term) came → QueuedOk S n (Admission j h term)) → may_decide n (S.agents n) (S.agents n).own ≡ false → may_decide n t.state t.state.own ≡ false
-calm-settled S H n came t up c new settled = elim c.own [
+calm-settled : (S : State) → word.WordsHold S → (D : Deployment) (n : ℕ) (came : List Queued) (loaded : List ℕ) (t : Turn AgentState) → 0 < word.agent_start S n → Calm D n (S.agents n) came loaded t
+    → ((j h term : ℕ) → In (Admission j h term) came → QueuedAdmissionOk S n (Admission j h term)) → may_decide n (S.agents n) (S.agents n).own ≡ false → may_decide n t.state t.state.own ≡ false
+calm-settled S H D n came loaded t up c new settled = elim c.own [
   | inl same ↦ rw same (still (S.agents n).own settled)
   | inr m ↦ rw m.becomes (undecided S H n m.word m.decided m.start m.host m.term up m.is_own m.is_decided m.same (init m) (asks m) m.term_is m.above t.state c.said)
 ]
@@ -121,7 +121,7 @@ calm-settled S H n came t up c new settled = elim c.own [
     still None e = e
     still (Some w) e = rw (c.start, c.decided, c.said) e
 
-    init : (m : AdmitsNow (S.agents n) came t.state.own) → initiator m.decided ≡ Some (n, word.start_at S n)
+    init : (m : AdmitsNow (S.agents n) came t.state.own) → initiator m.decided ≡ Some (n, word.agent_start S n)
     init m = elim (H.agents n).initiates [
       | inl off ↦ absurd (m.works off)
       | inr i ↦ initiates-is n (S.agents n) m.decided (ap (λ z. initiates n (S.agents n) z) (sym m.is_decided) ∙ i)
@@ -129,7 +129,7 @@ calm-settled S H n came t up c new settled = elim c.own [
 
     asks : (m : AdmitsNow (S.agents n) came t.state.own) → CameOk S m.host n m.term m.start
     asks m = elim (in-cases (Admission m.start m.host m.term) (S.agents n).initiating.queue came m.queued) [
-      | inl i ↦ all-at (QueuedOk S n) (S.agents n).initiating.queue (H.agents n).queue (Admission m.start m.host m.term) i
+      | inl i ↦ all-at (QueuedAdmissionOk S n) (S.agents n).initiating.queue (H.agents n).queue (Admission m.start m.host m.term) i
       | inr i ↦ new m.start m.host m.term i
     ]
 
@@ -141,8 +141,8 @@ record OneWaited (E : Database) (F : Firm) (halted : Bool) (stamp : ℕ) (S : Lo
   pub decided : t.state.decided ≡ (S.words.agents n).decided
   pub settled : may_decide n t.state t.state.own ≡ false
 
-module _ (E : Database) (F : Firm) (halted : Bool) (stamp : ℕ) (S : LogState) (lay : LaidOut S) (h : word.Holds S.words) (r : Rest S) (K : Transactions) (C : CallsHold E S F halted K stamp)
-    (n : ℕ) (up : 0 < word.start_at S.words n) (from : Actor) (l : Letter) (w : WaitingFrom S.words n from l) (asked : AskedOk S from l)
+module _ (E : Database) (F : Firm) (halted : Bool) (stamp : ℕ) (S : LogState) (lay : LaidOut S) (h : word.WordsHold S.words) (r : Rest S) (K : Transactions) (C : CallsHold E S F halted K stamp)
+    (n : ℕ) (up : 0 < word.agent_start S.words n) (from : Actor) (l : Letter) (w : AgentWaitingFrom S.words n from l) (asked : AskedOk S from l)
     (answer : WaitingAnswer E S F K (record { from = from; letter = l })) (term : l.term ≡ term_in (S.words.agents n).decided)
     (settled : may_decide n (S.words.agents n) (S.words.agents n).own ≡ false) where
   abbrev D : Deployment
@@ -161,12 +161,12 @@ module _ (E : Database) (F : Firm) (halted : Bool) (stamp : ℕ) (S : LogState) 
   running : a.start == 0 ≡ false
   running = grind (arith, nat_tests, up)
 
-  calm : Calm n a (asked_by from l) t
+  calm : Calm D n a (asked_by from l) (loaded_by a from l) t
   calm = handler-calm E D n stamp a from l (waiting-brings S.words n from l w)
 
   settled-then : may_decide n told.state told.state.own ≡ false
   settled-then = subst (λ x. may_decide n x x.own ≡ false) (sym (tells-state n a.own t.state))
-      (calm-settled S.words h n (asked_by from l) t up calm (asked-waiting S.words n from l w) settled)
+      (calm-settled S.words h D n (asked_by from l) (loaded_by a from l) t up calm (asked-waiting S.words n from l w) settled)
 
   told-turn : AgentHandler S n told
   told-turn = first-agent S n r up E stamp from l asked (λ b. h)
@@ -188,15 +188,15 @@ module _ (E : Database) (F : Firm) (halted : Bool) (stamp : ℕ) (S : LogState) 
 
 -- such a message
 record IsWaited (E : Database) (F : Firm) (S : LogState) (K : Transactions) (n : ℕ) (x : Waiting) : Type 0 where
-  pub from : WaitingFrom S.words n x.from x.letter
+  pub from : AgentWaitingFrom S.words n x.from x.letter
   pub asked : AskedOk S x.from x.letter
   pub answer : WaitingAnswer E S F K x
   pub term : x.letter.term ≡ term_in (S.words.agents n).decided
 
 -- It is one still after a turn in which the agent's word stays.
-waited-still : (E : Database) (F : Firm) (halted : Bool) (stamp n : ℕ) (S : LogState) → Holds S → (K : Transactions) → CallsHold E S F halted K stamp → (t : Turn AgentState)
+waited-still : (E : Database) (F : Firm) (halted : Bool) (stamp n : ℕ) (S : LogState) → LogsHold S → (K : Transactions) → CallsHold E S F halted K stamp → (t : Turn AgentState)
     (r : CallsHandler E F halted stamp S K n t) → t.state.decided ≡ (S.words.agents n).decided → (y : Waiting) → IsWaited E F S K n y
-    → IsWaited E F (turned S n t.state t.sends r.handler.handler.history) r.after n y
+    → IsWaited E F (agent_turned S n t.state t.sends r.handler.handler.history) r.after n y
 waited-still E F halted stamp n S H K C t r same y k = record {
   from = (waits-on S n t r.handler (y ∷ []) (k.from, tt)).0;
   asked = (asks-on S n t r.handler (y ∷ []) (k.asked, tt)).0;
@@ -204,8 +204,8 @@ waited-still E F halted stamp n S H K C t r same y k = record {
   term = k.term ∙ sym (ap (λ b. term_in b.decided) (agent-there S.words n t.state t.sends r.handler.handler.history) ∙ ap term_in same);
 }
 
-waited-each : (E : Database) (F : Firm) (halted : Bool) (stamp n : ℕ) (ws : List Waiting) (S : LogState) → LaidOut S → word.Holds S.words → Rest S → (K : Transactions) → CallsHold E S F halted K stamp
-    → 0 < word.start_at S.words n → AllByRecursion (IsWaited E F S K n) ws → may_decide n (S.words.agents n) (S.words.agents n).own ≡ false
+waited-each : (E : Database) (F : Firm) (halted : Bool) (stamp n : ℕ) (ws : List Waiting) (S : LogState) → LaidOut S → word.WordsHold S.words → Rest S → (K : Transactions) → CallsHold E S F halted K stamp
+    → 0 < word.agent_start S.words n → AllByRecursion (IsWaited E F S K n) ws → may_decide n (S.words.agents n) (S.words.agents n).own ≡ false
     → CallsHandler E F halted stamp S K n (takes_each E S.words.deployment n stamp ws (S.words.agents n))
 waited-each E F halted stamp n [] S lay h r K C up w settled = let handler = stay-agent S n h r up in record {
   handler = handler;
@@ -215,7 +215,7 @@ waited-each E F halted stamp n [] S lay h r K C up w settled = let handler = sta
 }
 waited-each E F halted stamp n (x ∷ ws) S lay h r K C up w settled =
     then-calls E F halted stamp S K n t (takes_each E S.words.deployment n stamp ws) one.handler (none-taken E S.words.deployment n stamp ws)
-    (λ k q c u. waited-each E F halted stamp n ws (turned S n t.state t.sends one.handler.handler.handler.history) lay k q one.handler.after c u
+    (λ k q c u. waited-each E F halted stamp n ws (agent_turned S n t.state t.sends one.handler.handler.handler.history) lay k q one.handler.after c u
     (all-mono _ _ (waited-still E F halted stamp n S (holds-of S h r) K C t one.handler one.decided) ws w.1)
     (subst (λ b. may_decide n b b.own ≡ false) (sym (agent-there S.words n t.state t.sends one.handler.handler.handler.history)) one.settled))
   where
@@ -234,8 +234,8 @@ phase-same E S F K t a b Idle e k = rw e k
 phase-same E S F K t a b Works e k = rw e k
 
 -- The agent takes those of its term, and keeps those of higher ones.
-module _ (E : Database) (F : Firm) (halted : Bool) (stamp n : ℕ) (S : LogState) (lay : LaidOut S) (h : word.Holds S.words) (r : Rest S) (K : Transactions) (C : CallsHold E S F halted K stamp)
-    (up : 0 < word.start_at S.words n) where
+module _ (E : Database) (F : Firm) (halted : Bool) (stamp n : ℕ) (S : LogState) (lay : LaidOut S) (h : word.WordsHold S.words) (r : Rest S) (K : Transactions) (C : CallsHold E S F halted K stamp)
+    (up : 0 < word.agent_start S.words n) where
   abbrev agent : AgentState
   agent = S.words.agents n
 
@@ -246,7 +246,7 @@ module _ (E : Database) (F : Firm) (halted : Bool) (stamp n : ℕ) (S : LogState
   kept = record agent { waiting = above_term here agent.waiting }
 
   kept-turn : AgentHandler S n (becomes kept)
-  kept-turn = plain-agent S n (becomes kept) r (handler-plain S.words n (becomes kept) (inl (refl, up)) (waiting-shrinks S.words n (λ w. nat_lt here w.letter.term) h)) (record {
+  kept-turn = plain-agent S n (becomes kept) r (handler-plain S.words n (becomes kept) (inl (refl, up)) (waiting-shrinks S.words n (λ w. nat_lt here w.letter.term) h) (λ b. tt)) (record {
     start = refl;
     decided = refl;
     taken = refl;
@@ -273,7 +273,7 @@ module _ (E : Database) (F : Firm) (halted : Bool) (stamp n : ℕ) (S : LogState
 
   taken : AllByRecursion (IsWaited E F S K n) (of_term here agent.waiting)
   taken = all-from (IsWaited E F S K n) (of_term here agent.waiting) (λ x i. let f = in-filter (λ w. w.letter.term == here) x agent.waiting i in record {
-    from = all-at (WaitingOk S.words n) agent.waiting (h.agents n).waiting x f.0;
+    from = all-at (AgentWaitingOk S.words n) agent.waiting (h.agents n).waiting x f.0;
     asked = all-at (λ y. AskedOk S y.from y.letter) agent.waiting (r.loads.waiting n) x f.0;
     answer = all-at (WaitingAnswer E S F K) agent.waiting (C.agents n).waiting x f.0;
     term = eqb-true x.letter.term here f.1;
@@ -281,7 +281,7 @@ module _ (E : Database) (F : Firm) (halted : Bool) (stamp n : ℕ) (S : LogState
 
   pub waited-calls : may_decide n agent agent.own ≡ false → CallsHandler E F halted stamp S K n (takes_waiting E S.words.deployment n stamp agent)
   waited-calls settled = then-calls E F halted stamp S K n (becomes kept) (takes_each E S.words.deployment n stamp ws) kept-calls (none-taken E S.words.deployment n stamp ws)
-      (λ k q c u. waited-each E F halted stamp n ws (turned S n kept (λ b. []) kept-calls.handler.handler.history) lay k q kept-calls.after c u
+      (λ k q c u. waited-each E F halted stamp n ws (agent_turned S n kept (λ b. []) kept-calls.handler.handler.history) lay k q kept-calls.after c u
       (all-mono _ _ (waited-still E F halted stamp n S (holds-of S h r) K C (becomes kept) kept-calls refl) ws taken)
       (subst (λ b. may_decide n b b.own ≡ false) (sym (agent-there S.words n kept (λ b. []) kept-calls.handler.handler.history)) settled))
     where

@@ -16,7 +16,7 @@ use Rattle.cluster_model.specs.AgentState.{AgentState, Job, RunCall, TakeSnapsho
 use Rattle.cluster_model.specs.Initiator.{to_all_leaders, new_work, begins, body_of_round}
 use Rattle.cluster_steps.specs.Lists.{In, Prefix}
 use Rattle.cluster_steps.proofs.Lists.{in-cases, all-append, same-some, none-and-some}
-use Rattle.log_laws.specs.Histories.{LogState, Holds}
+use Rattle.log_laws.specs.Histories.{LogState, LogsHold}
 use Rattle.cluster_steps.proofs.Prefixes.{prefix-grows}
 use Rattle.disk_laws.specs.Disks.{Firm}
 use Rattle.transaction_laws.specs.Machine.{Stage, Fits, WellFormed, first_stage, next_stage, stage}
@@ -154,7 +154,7 @@ module _ (E : Database) (S : LogState) (F : Firm) (K : Transactions) (now : ℕ)
 
 -- ---- the turn
 
-module _ (E : Database) (S : LogState) (F : Firm) (K : Transactions) (now stamp n : ℕ) (w : Membership) (lay : LaidOut S) (H : Holds S) (B : Books E S F K now) (l : now ≤ stamp)
+module _ (E : Database) (S : LogState) (F : Firm) (K : Transactions) (now stamp n : ℕ) (w : Membership) (lay : LaidOut S) (H : LogsHold S) (B : Books E S F K now) (l : now ≤ stamp)
     (i : Initiates S n w) (a : AgentState) (word : a.decided ≡ Some w) (heard : K.heard ≡ term_of w) (next : K.number < a.initiating.next) (rest : AtRest S K) where
   abbrev m : ℕ
   m = a.initiating.next

@@ -13,7 +13,7 @@ use Rattle.cluster_model.specs.AgentState.{AgentState, Heard}
 use Rattle.cluster_model.specs.Initiator.{open_told, own_decision, closing_outcome, open_parts, done_to, closes_open}
 use Rattle.cluster_steps.specs.Lists.{In}
 use Rattle.cluster_steps.proofs.Lists.{not-both, in-map, in-map-from, in-filter, filter-in}
-use Rattle.log_laws.specs.Histories.{LogState, Holds}
+use Rattle.log_laws.specs.Histories.{LogState, LogsHold}
 use Rattle.log_laws.proofs.Plain.Copies.{is_in-in, in-is_in}
 use Rattle.disk_laws.specs.Disks.{Firm}
 use Rattle.transaction_laws.specs.Machine.{first_stage, stage}
@@ -111,7 +111,7 @@ open-in m told x i is q = in-is_in x.part (open_parts m told)
     (in-map (λ t. t.part) x (filter (λ t. t.is_open && t.transaction == m) told) (filter-in (λ t. t.is_open && t.transaction == m) x told i (and_from x.is_open (x.transaction == m) is (eq-eqb x.transaction m q))))
 
 -- `a` is the agent as the turn has it by then. It has heard of all partitions.
-module _ (E : Database) (S : LogState) (F : Firm) (K : Transactions) (now stamp n : ℕ) (w : Membership) (lay : LaidOut S) (H : Holds S) (B : Books E S F K now) (l : now ≤ stamp)
+module _ (E : Database) (S : LogState) (F : Firm) (K : Transactions) (now stamp n : ℕ) (w : Membership) (lay : LaidOut S) (H : LogsHold S) (B : Books E S F K now) (l : now ≤ stamp)
     (i : Initiates S n w) (a : AgentState) (start : a.start ≡ (S.words.agents n).start) (word : a.decided ≡ Some w) (heard : K.heard ≡ term_of w) (next : K.number < a.initiating.next)
     (job : JobOk K a.initiating.work) (told : List Heard) (stand : (x : Heard) → In x told → ToldIs E S F K x)
     (tells : (p : ℕ) → IsPart S p → (x : Heard) × In x told × (x.part ≡ p)) where

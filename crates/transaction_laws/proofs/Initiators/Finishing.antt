@@ -14,7 +14,7 @@ use Rattle.cluster_model.specs.Letters.{Turn, becomes}
 use Rattle.cluster_model.specs.AgentState.{AgentState, Phase, Off, Hears, Closes, Idle, Works, Work, Decision}
 use Rattle.cluster_model.specs.Initiator.{with_phase, with_work, all_finished, ends_job, settles, on_finished}
 use Rattle.cluster_steps.proofs.Lists.{same-some, none-and-some, all-behind, list_all-at}
-use Rattle.log_laws.specs.Histories.{LogState, Holds}
+use Rattle.log_laws.specs.Histories.{LogState, LogsHold}
 use Rattle.log_laws.proofs.Plain.Copies.{is_in-in}
 use Rattle.disk_laws.specs.Disks.{Firm}
 use Rattle.transaction_laws.specs.Machine.{WellFormed, first_stage, stage}
@@ -77,7 +77,7 @@ more-finished P p q finished k h is = elim (or_cases (p == q) (is_in q finished)
 -- ---- the turn
 
 -- `a` is an initiator with this word, to which the leader of partition p says that the end of transaction m stands in its log for good.
-module _ (E : Database) (S : LogState) (F : Firm) (K : Transactions) (now stamp n : ℕ) (w : Membership) (lay : LaidOut S) (H : Holds S) (B : Books E S F K now) (l : now ≤ stamp)
+module _ (E : Database) (S : LogState) (F : Firm) (K : Transactions) (now stamp n : ℕ) (w : Membership) (lay : LaidOut S) (H : LogsHold S) (B : Books E S F K now) (l : now ≤ stamp)
     (i : Initiates S n w) (a : AgentState) (start : a.start ≡ (S.words.agents n).start) (word : a.decided ≡ Some w) (k : PhaseOk E S F K (term_of w) a a.initiating.phase)
     (p m : ℕ) (part : IsPart S p) (stood : (o : Outcome) × Stood S F p (term_of w) (Done m o)) where
   -- It is of no interest.

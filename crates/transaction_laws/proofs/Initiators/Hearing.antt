@@ -13,7 +13,7 @@ use Rattle.cluster_model.specs.AgentState.{AgentState, Phase, Off, Hears, Closes
 use Rattle.cluster_model.specs.Initiator.{with_phase, greatest_told, open_told, has_told, first_number, closes_open, hears, on_mp_state}
 use Rattle.cluster_steps.specs.Lists.{In, Prefix}
 use Rattle.cluster_steps.proofs.Lists.{same-some, all-append, all-at}
-use Rattle.log_laws.specs.Histories.{LogState, Holds}
+use Rattle.log_laws.specs.Histories.{LogState, LogsHold}
 use Rattle.cluster_steps.proofs.Prefixes.{prefix-trans, prefix-append}
 use Rattle.disk_laws.specs.Disks.{Firm}
 use Rattle.transaction_laws.specs.Machine.{WellFormed, first_stage, stage}
@@ -31,7 +31,7 @@ use Rattle.transaction_laws.proofs.Initiators.Closing.{closes_open-goes}
 -- ---- the history once all partitions have told
 
 -- Of one that told.
-module _ (E : Database) (S : LogState) (F : Firm) (K : Transactions) (now : ℕ) (H : Holds S) (B : Books E S F K now) (t : ℕ) (up : K.heard < t)
+module _ (E : Database) (S : LogState) (F : Firm) (K : Transactions) (now : ℕ) (H : LogsHold S) (B : Books E S F K now) (t : ℕ) (up : K.heard < t)
     (x : Heard) (k : StateOk E S F x.part t x.transaction x.is_open x.outcome) where
   abbrev before : HeardPart S F K x.part
   before = B.heard.each x.part k.part
@@ -76,7 +76,7 @@ module _ (E : Database) (S : LogState) (F : Firm) (K : Transactions) (now : ℕ)
   decided-still : (y : ℕ) → point_in K.agreed ≡ Some y → Prefix (K.decided x.part) (whole S K t x.part)
   decided-still y is = subst (Prefix (K.decided x.part)) (sym whole-is) (kept (K.decided x.part) (before.decided y is).0 (before.decided y is).1).0
 
-module _ (E : Database) (S : LogState) (F : Firm) (K : Transactions) (now n : ℕ) (w : Membership) (H : Holds S) (B : Books E S F K now) (i : Initiates S n w) (up : K.heard < term_of w)
+module _ (E : Database) (S : LogState) (F : Firm) (K : Transactions) (now n : ℕ) (w : Membership) (H : LogsHold S) (B : Books E S F K now) (i : Initiates S n w) (up : K.heard < term_of w)
     (tells : (p : ℕ) → IsPart S p → (x : Heard) × (x.part ≡ p) × StateOk E S F x.part (term_of w) x.transaction x.is_open x.outcome) where
   abbrev t : ℕ
   t = term_of w
@@ -136,7 +136,7 @@ module _ (E : Database) (S : LogState) (F : Firm) (K : Transactions) (now n : �
 
 -- ---- the number that a new initiator goes on from
 
-module _ (E : Database) (S : LogState) (F : Firm) (K : Transactions) (now n : ℕ) (w : Membership) (H : Holds S) (B : Books E S F K now) (i : Initiates S n w) (up : K.heard < term_of w)
+module _ (E : Database) (S : LogState) (F : Firm) (K : Transactions) (now n : ℕ) (w : Membership) (H : LogsHold S) (B : Books E S F K now) (i : Initiates S n w) (up : K.heard < term_of w)
     (told : List Heard) (states : AllByRecursion (λ x. StateOk E S F x.part (term_of w) x.transaction x.is_open x.outcome) told)
     (tells : (p : ℕ) → IsPart S p → (x : Heard) × In x told × (x.part ≡ p)) where
   state-of : (x : Heard) → In x told → StateOk E S F x.part (term_of w) x.transaction x.is_open x.outcome
@@ -198,7 +198,7 @@ module _ (E : Database) (S : LogState) (F : Firm) (K : Transactions) (now n : �
 
 -- ---- the turn
 
-module _ (E : Database) (S : LogState) (F : Firm) (K : Transactions) (now stamp n : ℕ) (w : Membership) (lay : LaidOut S) (H : Holds S) (B : Books E S F K now) (l : now ≤ stamp)
+module _ (E : Database) (S : LogState) (F : Firm) (K : Transactions) (now stamp n : ℕ) (w : Membership) (lay : LaidOut S) (H : LogsHold S) (B : Books E S F K now) (l : now ≤ stamp)
     (i : Initiates S n w) (a : AgentState) (start : a.start ≡ (S.words.agents n).start) (word : a.decided ≡ Some w) where
   -- what has been told by then, with the last one that was
   module _ (told : List Heard) (k : PhaseOk E S F K (term_of w) a (Hears told)) where

@@ -19,7 +19,7 @@ use Rattle.word_laws.proofs.Algebra.{firsts, any-firsts, admits-firsts, subset-l
 use Rattle.word_laws.proofs.Members.{first-in, in-not_lost, is_member-start, initiator-member}
 use Rattle.word_laws.proofs.Turns.{may_decide-cases}
 use Rattle.word_laws.proofs.Agreement.{hosts-of, one-first, one-start, term-same, member-is, runs-not-lost}
-use Rattle.log_laws.specs.Histories.{LogState, base_of, sent_term}
+use Rattle.log_laws.specs.Histories.{LogState, epoch_base, sent_term}
 use Rattle.log_laws.proofs.Agents.Decided.{decides-above}
 use Rattle.disk_laws.specs.Disks.{Firm}
 use Rattle.transaction_laws.specs.Transactions.{Transactions, HeardOk, Initiates}
@@ -234,18 +234,18 @@ within-term S v w g k h =
 -- ---- agents that run
 
 -- a start whose agent runs is lost in no decided word
-running-unlost : (S : State) → word.Holds S → (n : ℕ) → 0 < word.start_at S n → (w : Membership) → In w S.history.decided → is_in (word.start_at S n) w.lost ≡ false
-running-unlost S H n up w d = runs-not-lost S H.history w (word.start_at S n) (H.history.decided_good w d) (ap (word.start_at S) ((H.hosts n).running up).0)
+running-unlost : (S : State) → word.WordsHold S → (n : ℕ) → 0 < word.agent_start S n → (w : Membership) → In w S.history.decided → is_in (word.agent_start S n) w.lost ≡ false
+running-unlost S H n up w d = runs-not-lost S H.history w (word.agent_start S n) (H.history.decided_good w d) (ap (word.agent_start S) ((H.hosts n).running up).0)
 
 -- what an agent has decided was decided
-pub has-decided : (S : State) → word.Holds S → (n : ℕ) (w : Membership) → (S.agents n).decided ≡ Some w → In w S.history.decided
+pub has-decided : (S : State) → word.WordsHold S → (n : ℕ) (w : Membership) → (S.agents n).decided ≡ Some w → In w S.history.decided
 has-decided S H n w e = (some-here (λ x. In x S.history.decided × (names x (S.agents n).start ≡ true)) (S.agents n).decided w e (H.agents n).decided).0
 
 -- No two agents that run are initiators of the words that they have decided.
-pub one-initiator : (S : LogState) → word.Holds S.words → (h g : ℕ) (w v : Membership) → Initiates S h w → Initiates S g v → h ≡ g
+pub one-initiator : (S : LogState) → word.WordsHold S.words → (h g : ℕ) (w v : Membership) → Initiates S h w → Initiates S g v → h ≡ g
 one-initiator S H h g w v i k = elim (H.history.chain w v dw dv) [
-  | inl p ↦ ap (λ z. z.0) (same-some (sym (initiator-lasts S.words H.history w h (word.start_at S.words h) dw i.initiates v dv p (running-unlost S.words H h i.runs v dv)) ∙ k.initiates))
-  | inr p ↦ ap (λ z. z.0) (same-some (sym i.initiates ∙ initiator-lasts S.words H.history v g (word.start_at S.words g) dv k.initiates w dw p (running-unlost S.words H g k.runs w dw)))
+  | inl p ↦ ap (λ z. z.0) (same-some (sym (initiator-lasts S.words H.history w h (word.agent_start S.words h) dw i.initiates v dv p (running-unlost S.words H h i.runs v dv)) ∙ k.initiates))
+  | inr p ↦ ap (λ z. z.0) (same-some (sym i.initiates ∙ initiator-lasts S.words H.history v g (word.agent_start S.words g) dv k.initiates w dw p (running-unlost S.words H g k.runs w dw)))
 ]
   where
     dw : In w S.words.history.decided
@@ -257,12 +257,12 @@ one-initiator S H h g w v i k = elim (H.history.chain w v dw dv) [
 -- ---- an agent decides a word
 
 -- T comes after S, in which the agent of host n may decide v; there that is decided
-module _ (S : LogState) (T : State) (H : word.Holds S.words) (J : word.Holds T) (n : ℕ) (v : Membership) (up : 0 < word.start_at S.words n)
+module _ (S : LogState) (T : State) (H : word.WordsHold S.words) (J : word.WordsHold T) (n : ℕ) (v : Membership) (up : 0 < word.agent_start S.words n)
     (own : (S.words.agents n).own ≡ Some v) (may : may_decide n (S.words.agents n) (Some v) ≡ true) (is : In v T.history.decided)
     (decided : (w : Membership) → In w S.words.history.decided → In w T.history.decided)
     (took_word : (s : ℕ) (w : Membership) → S.words.history.took s ≡ Some w → T.history.took s ≡ Some w) where
   abbrev a : ℕ
-  a = word.start_at S.words n
+  a = word.agent_start S.words n
 
   -- it is above the word that the agent decided before
   pub before-below : (w : Membership) → (S.words.agents n).decided ≡ Some w → term_of w < term_of v
@@ -285,7 +285,7 @@ module _ (S : LogState) (T : State) (H : word.Holds S.words) (J : word.Holds T) 
       unlost = (member-is T J.history v n a (J.history.decided_good v is) (is_member-start v n a (may_decide-cases n (S.words.agents n) v may).0)).1
 
   -- The initiator of the word is above the term that was heard.
-  pub decides-heard : (E : Database) (F : Firm) (K : Transactions) (now : ℕ) → 0 < base_of S → HeardOk E S F K now → initiator v ≡ Some (n, a) → K.heard < term_of v
+  pub decides-heard : (E : Database) (F : Firm) (K : Transactions) (now : ℕ) → 0 < epoch_base S → HeardOk E S F K now → initiator v ≡ Some (n, a) → K.heard < term_of v
   decides-heard E F K now some k init = elim (J.history.chain u v du is) [
     | inr p ↦ again p
     | inl p ↦ elim (cases_eq (term_of u) (term_of v)) [

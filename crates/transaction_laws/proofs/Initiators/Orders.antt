@@ -17,10 +17,10 @@ use Rattle.cluster_steps.specs.Lists.{In}
 use Rattle.word_laws.specs.Histories.{names}
 use Rattle.cluster_steps.proofs.Lists.{eqb-same, if-true, if-false, some-here}
 use Rattle.word_laws.proofs.Members.{is_some_of-is}
-use Rattle.log_laws.specs.Histories.{LogState, Holds, Leadership, IsSlot, part}
+use Rattle.log_laws.specs.Histories.{LogState, LogsHold, Leadership, IsSlot, part}
 use Rattle.log_laws.proofs.Kept.Terms.{some-term, some-start}
 use Rattle.disk_laws.specs.Disks.{Firm}
-use Rattle.transaction_laws.specs.Worlds.{IsLaidOut}
+use Rattle.cluster_model.specs.Words.{IsLaidOut}
 use Rattle.transaction_laws.specs.Transactions.{Transactions, Books, HeardPart, HeardOk, LeadershipFits, DueOk, Aligned, Initiates, IsPart, IsOrder, OrderOk, led_log, whole, order_in, order_of, orders}
 use Rattle.transaction_laws.proofs.Kept.Moves.{SendsDue, SentOrder}
 
@@ -71,7 +71,7 @@ due-kept S K to e p t n = due-none S K to e p t
 -- ---- what an initiator sends
 
 -- the word that an agent has decided is one of the epoch
-pub decided-word : (S : LogState) → Holds S → (n : ℕ) (w : Membership) → (S.words.agents n).decided ≡ Some w → In w S.words.history.decided
+pub decided-word : (S : LogState) → LogsHold S → (n : ℕ) (w : Membership) → (S.words.agents n).decided ≡ Some w → In w S.words.history.decided
 decided-word S H n w e = (some-here (λ x. In x S.words.history.decided × (names x (S.words.agents n).start ≡ true)) (S.words.agents n).decided w e (H.words.agents n).decided).0
 
 -- an order is one, and other messages are none
@@ -89,7 +89,7 @@ order-one start term m e is =
     ∙ if-true (start == start && term == term) (order_in m) [] (and_from (start == start) (term == term) (eqb-same start) (eqb-same term)) ∙ is
 
 -- What an initiator sends to leaders of partitions is due from then on.
-pub orders-sent : (E : Database) (S : LogState) (F : Firm) (K L : Transactions) (now n : ℕ) (w : Membership) → LaidOut S → Holds S → Books E S F K now → Initiates S n w → K.heard ≡ term_of w
+pub orders-sent : (E : Database) (S : LogState) (F : Firm) (K L : Transactions) (now n : ℕ) (w : Membership) → LaidOut S → LogsHold S → Books E S F K now → Initiates S n w → K.heard ≡ term_of w
     → (m : Msg Blocks) (e : Entry) → order_in m ≡ e ∷ [] → (to : ℕ → Bool) → L.due ≡ due_with S K to e
     → SendsDue S n w K L (to_leaders S.words.deployment w to m)
 orders-sent E S F K L now n w lay H B i heard m e is to due = record { letters = letters; due = more; others = others }

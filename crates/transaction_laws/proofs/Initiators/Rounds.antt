@@ -18,7 +18,7 @@ use Rattle.cluster_model.specs.AgentState.{AgentState, Phase, Off, Hears, Closes
 use Rattle.cluster_model.specs.Initiator.{to_all_leaders, with_work, has_part, in_order, outcome_of, decides, goes_on, feeds, ends_round, gathers, on_frag_done}
 use Rattle.cluster_steps.specs.Lists.{In, Prefix}
 use Rattle.cluster_steps.proofs.Lists.{or-false, is_none-none, same-some, list_all-at, all-append, in-cases, none-and-some}
-use Rattle.log_laws.specs.Histories.{LogState, Holds}
+use Rattle.log_laws.specs.Histories.{LogState, LogsHold}
 use Rattle.log_laws.proofs.Plain.Lines.{both-empty}
 use Rattle.cluster_steps.proofs.Prefixes.{prefix-refl, prefix-same, prefix-grows}
 use Rattle.disk_laws.specs.Disks.{Firm}
@@ -204,7 +204,7 @@ with-part E S F K now B v p partial body part k stood = (k.0, λ q is. ((k.1 q i
     ]
 
 -- `a` is the agent as the turn has it by then: with its start and word.
-module _ (E : Database) (S : LogState) (F : Firm) (K : Transactions) (now stamp n : ℕ) (w : Membership) (lay : LaidOut S) (H : Holds S) (B : Books E S F K now) (low : now ≤ stamp)
+module _ (E : Database) (S : LogState) (F : Firm) (K : Transactions) (now stamp n : ℕ) (w : Membership) (lay : LaidOut S) (H : LogsHold S) (B : Books E S F K now) (low : now ≤ stamp)
     (i : Initiates S n w) (a : AgentState) (word : a.decided ≡ Some w) (heard : K.heard ≡ term_of w) (next : K.number < a.initiating.next) where
   -- It sends this to all leaders, with a history in which it is due.
   sends-goes : (L : Transactions) (b : AgentState) (m : Msg Blocks) (e : Entry) → order_in m ≡ e ∷ [] → IsOrder e → L.heard ≡ K.heard → L.due ≡ due_with S K (λ p. true) e
@@ -334,7 +334,7 @@ module _ (E : Database) (S : LogState) (F : Firm) (K : Transactions) (now stamp 
             (heard, next, (v, refl, (m, λ d is. absurd (none-and-some none is)), subst (AtHand E S F K v) (sym none) k))
 
 -- FragDone changes nothing but the job at hand.
-pub frag_done-goes : (E : Database) (S : LogState) (F : Firm) (K : Transactions) (now stamp n : ℕ) (w : Membership) → LaidOut S → Holds S → Books E S F K now → now ≤ stamp → Initiates S n w
+pub frag_done-goes : (E : Database) (S : LogState) (F : Firm) (K : Transactions) (now stamp n : ℕ) (w : Membership) → LaidOut S → LogsHold S → Books E S F K now → now ≤ stamp → Initiates S n w
     → (a : AgentState) → a.start ≡ (S.words.agents n).start → a.decided ≡ Some w → PhaseOk E S F K (term_of w) a a.initiating.phase
     → (p m round : ℕ) (partial body : List ℕ) → IsPart S p → Stood S F p (term_of w) (Frag m round body)
     → InitiatorGoes E S F K stamp n w a (on_frag_done E S.words.deployment stamp a a.initiating.phase a.initiating.work p m round partial)

@@ -15,7 +15,7 @@ use Rattle.cluster_model.specs.AgentState.{AgentState, Work, Job, RunCall, TakeS
 use Rattle.cluster_model.specs.Initiator.{begins, admitting, works_queue, answers, no_work, rests, ends_job, settles}
 use Rattle.cluster_steps.specs.Lists.{In, Prefix}
 use Rattle.cluster_steps.proofs.Lists.{in-left, in-cases}
-use Rattle.log_laws.specs.Histories.{LogState, Holds}
+use Rattle.log_laws.specs.Histories.{LogState, LogsHold}
 use Rattle.cluster_steps.proofs.Prefixes.{prefix-rest}
 use Rattle.disk_laws.specs.Disks.{Firm}
 use Rattle.transaction_laws.specs.Machine.{first_stage, stage}
@@ -136,7 +136,7 @@ aside-answers D n a (RunCall call host start body) (Some e) =
 -- ---- turns
 
 -- It is idle, and works what waits in its queue.
-pub works_queue-goes : (E : Database) (S : LogState) (F : Firm) (K : Transactions) (now stamp n : ℕ) (w : Membership) → LaidOut S → Holds S → Books E S F K now → now ≤ stamp → Initiates S n w
+pub works_queue-goes : (E : Database) (S : LogState) (F : Firm) (K : Transactions) (now stamp n : ℕ) (w : Membership) → LaidOut S → LogsHold S → Books E S F K now → now ≤ stamp → Initiates S n w
     → (a : AgentState) → a.start ≡ (S.words.agents n).start → a.decided ≡ Some w → a.initiating.phase ≡ Idle → PhaseOk E S F K (term_of w) a Idle
     → (queue : List Queued) → InitiatorGoes E S F K stamp n w a (works_queue E S.words.deployment a queue)
 works_queue-goes E S F K now stamp n w lay H B l i a start word phase k [] =
@@ -154,7 +154,7 @@ works_queue-goes E S F K now stamp n w lay H B l i a start word phase k (Admissi
     (works_queue-goes E S F K now stamp n w lay H B l i b start word phase k later))
 
 -- Where all is settled and nothing is at hand.
-module _ (E : Database) (S : LogState) (F : Firm) (K : Transactions) (now stamp n : ℕ) (w : Membership) (lay : LaidOut S) (H : Holds S) (B : Books E S F K now) (l : now ≤ stamp)
+module _ (E : Database) (S : LogState) (F : Firm) (K : Transactions) (now stamp n : ℕ) (w : Membership) (lay : LaidOut S) (H : LogsHold S) (B : Books E S F K now) (l : now ≤ stamp)
     (i : Initiates S n w) (a : AgentState) (start : a.start ≡ (S.words.agents n).start) (word : a.decided ≡ Some w) (heard : K.heard ≡ term_of w) (next : K.number < a.initiating.next)
     (all : (p : ℕ) → IsPart S p → Settled E S F K p) where
   rests-goes : InitiatorGoes E S F K stamp n w a (rests E S.words.deployment a)
@@ -170,7 +170,7 @@ module _ (E : Database) (S : LogState) (F : Firm) (K : Transactions) (now stamp 
       (begins-goes E S F (settled E S F K now B all) now stamp n w lay H (settled-books E S F K now B all) l i a word heard next (settled-rests E S F K now B all) job)
 
 -- `a` is the agent as the turn has it by then: with its start and word.
-module _ (E : Database) (S : LogState) (F : Firm) (K : Transactions) (now stamp n : ℕ) (w : Membership) (lay : LaidOut S) (H : Holds S) (B : Books E S F K now) (l : now ≤ stamp)
+module _ (E : Database) (S : LogState) (F : Firm) (K : Transactions) (now stamp n : ℕ) (w : Membership) (lay : LaidOut S) (H : LogsHold S) (B : Books E S F K now) (l : now ≤ stamp)
     (i : Initiates S n w) (a : AgentState) (start : a.start ≡ (S.words.agents n).start) (word : a.decided ≡ Some w) (heard : K.heard ≡ term_of w) (next : K.number < a.initiating.next)
     (all : (p : ℕ) → IsPart S p → Settled E S F K p) where
   pub ends_job-goes : (job : Job) (e : Option End) → InitiatorGoes E S F K stamp n w a (ends_job E S.words.deployment n a job e)

@@ -14,7 +14,7 @@ use Rattle.cluster_model.specs.Initiator.{greatest_told, open_told, has_told, la
 use Rattle.cluster_model.specs.Site.{standing}
 use Rattle.cluster_steps.specs.Lists.{In, Prefix}
 use Rattle.cluster_steps.proofs.Lists.{same-some, list_all-at, list_any-from, not-both, if-false}
-use Rattle.log_laws.specs.Histories.{LogState, Holds, Leadership}
+use Rattle.log_laws.specs.Histories.{LogState, LogsHold, Leadership}
 use Rattle.cluster_steps.proofs.Prefixes.{prefix-rest, prefix-grows, prefix-length}
 use Rattle.disk_laws.specs.Disks.{Firm}
 use Rattle.transaction_laws.specs.Machine.{WellFormed, first_stage, stage, stage_behind}
@@ -133,7 +133,7 @@ pub record ToldIs (E : Database) (S : LogState) (F : Firm) (K : Transactions) (x
 abbrev pub heard_with : Transactions → ℕ → ℕ → Option Outcome → Transactions
 heard_with K t number agreed = record K { heard = t; number = number; agreed = agreed }
 
-module _ (E : Database) (S : LogState) (F : Firm) (K : Transactions) (now : ℕ) (H : Holds S) (B : Books E S F K now) (t : ℕ) (up : K.heard < t)
+module _ (E : Database) (S : LogState) (F : Firm) (K : Transactions) (now : ℕ) (H : LogsHold S) (B : Books E S F K now) (t : ℕ) (up : K.heard < t)
     (x : Heard) (k : StateOk E S F x.part t x.transaction x.is_open x.outcome) where
   abbrev begun : List Entry
   begun = k.leadership.begun

@@ -20,7 +20,7 @@ use Rattle.cluster_steps.specs.Lists.{In, Prefix}
 use Rattle.cluster_steps.proofs.Lists.{same-some, none-and-some, not-both, in-left, in-right, in-cases, all-at, all-append, all-mono, all-behind}
 use Rattle.word_laws.proofs.Agreement.{member-is}
 use Rattle.word_laws.proofs.Members.{initiator-member}
-use Rattle.log_laws.specs.Histories.{LogState, Logs, Leadership, Last, Holds, known, base_of, part}
+use Rattle.log_laws.specs.Histories.{LogState, Logs, Leadership, Last, LogsHold, known, epoch_base, part}
 use Rattle.cluster_steps.proofs.Prefixes.{prefix-refl, prefix-append, prefix-trans, prefix-grows, prefix-length, prefixes-order, prefix-take, prefix-rest}
 use Rattle.log_laws.proofs.Kept.Terms.{base-least, last-below}
 use Rattle.log_laws.proofs.Runs.Agreeing.{agrees-begun}
@@ -104,7 +104,7 @@ heard-part S T F M o K due p k = let h = o.onward.kept p K.heard k.leadership k.
 -- ---- terms that were led and whose initiator hasn't heard of all
 
 -- What a term begins with is a prefix of the log of the last one before that was led.
-begun-behind : (S : LogState) → Holds S → (p t : ℕ) (g : Leadership) → S.logs.leadership p t ≡ Some g → base_of S < t → (v : ℕ) × (l : Last S.logs p v t) × Prefix g.begun l.leadership.log
+begun-behind : (S : LogState) → LogsHold S → (p t : ℕ) (g : Leadership) → S.logs.leadership p t ≡ Some g → epoch_base S < t → (v : ℕ) × (l : Last S.logs p v t) × Prefix g.begun l.leadership.log
 begun-behind S H p t g is above =
     let r = (H.leaderships p t g is).begun_by above in
     let entered = H.entered r.0 t r.1 r.4 in
@@ -113,11 +113,11 @@ begun-behind S H p t g is above =
     (l.0, l.1, subst (λ z. Prefix z l.1.leadership.log) r.5 behind)
 
 -- In such a term the leader's log has no round and no end that isn't in that of the term that was heard, in its place.
-pub inert-leadership : (E : Database) (S : LogState) (F : Firm) (K : Transactions) (now : ℕ) → Holds S → Books E S F K now → (p t : ℕ) (g h : Leadership) → IsPart S p
+pub inert-leadership : (E : Database) (S : LogState) (F : Firm) (K : Transactions) (now : ℕ) → LogsHold S → Books E S F K now → (p t : ℕ) (g h : Leadership) → IsPart S p
     → S.logs.leadership p K.heard ≡ Some g → S.logs.leadership p t ≡ Some h → K.heard ≤ t → Under h.log g.log
 inert-leadership E S F K now H B p t g h part led is up = upwards (t + 1) t h (omega arith) is up
   where
-    above-base : (t : ℕ) → K.heard < t → base_of S < t
+    above-base : (t : ℕ) → K.heard < t → epoch_base S < t
     above-base t above = let k = H.leaderships p K.heard g led in omega (arith, base-least S H k.word k.is_word.decided, k.is_word.term_is, above)
 
     same : (t : ℕ) (h : Leadership) → S.logs.leadership p t ≡ Some h → t ≡ K.heard → Under h.log g.log
@@ -138,7 +138,7 @@ inert-leadership E S F K now H B p t g h part led is up = upwards (t + 1) t h (o
     ]
 
 -- What is everywhere in a term is a prefix of the log of a later one, from its beginning on.
-pub everywhere-prefix : (S : LogState) (F : Firm) → Holds S → (p t u : ℕ) (g h : Leadership) (xs : List Entry) → S.logs.leadership p t ≡ Some g → S.logs.leadership p u ≡ Some h → t < u
+pub everywhere-prefix : (S : LogState) (F : Firm) → LogsHold S → (p t u : ℕ) (g h : Leadership) (xs : List Entry) → S.logs.leadership p t ≡ Some g → S.logs.leadership p u ≡ Some h → t < u
     → Prefix xs g.log → Everywhere S F p t (length xs) → Prefix xs h.begun
 everywhere-prefix S F H p t u g h xs led is l f k =
     let a = agrees-begun S H p t g led u h is l in
@@ -249,7 +249,7 @@ goes-inert E F G due next stamp p t k none =
 
 -- ---- the turn of a site
 
-module _ (E : Database) (S T : LogState) (F M : Firm) (K : Transactions) (now : ℕ) (due : ℕ → ℕ → List Entry) (H : Holds S) (J : Holds T) (o : Onto S T F M)
+module _ (E : Database) (S T : LogState) (F M : Firm) (K : Transactions) (now : ℕ) (due : ℕ → ℕ → List Entry) (H : LogsHold S) (J : LogsHold T) (o : Onto S T F M)
     (moved : (p t : ℕ) → IsPart S p → Moved E S.logs T.logs K.due due (now + 1) p t) (B : Books E S F K now) where
   abbrev L : Transactions
   L = with_due K due
@@ -334,7 +334,7 @@ module _ (E : Database) (S T : LogState) (F M : Firm) (K : Transactions) (now : 
       b = between-goes E S.logs T.logs (K.due p t) (due p t) (now + 1) p t k (due-one S K p t (B.due p t))
 
   -- the epoch is the same
-  same-base : base_of T ≡ base_of S
+  same-base : epoch_base T ≡ epoch_base S
   same-base = sym (J.words.history.decided_good S.words.history.first (o.decided S.words.history.first H.words.history.first_decided)).base
 
   abbrev Fits : ℕ → ℕ → Leadership → Type 0
@@ -351,8 +351,8 @@ module _ (E : Database) (S T : LogState) (F M : Firm) (K : Transactions) (now : 
     omega (arith, prefix-point (first_stage E p) k.leadership.begun (b.1.leadership.log ++ due p b.0) whole f.formed, f.past),
   )
     where
-      above : base_of T < t
-      above = let r = J.leaderships p t k.leadership k.led in elim (cases_eq t (base_of T)) [
+      above : epoch_base T < t
+      above = let r = J.leaderships p t k.leadership k.led in elim (cases_eq t (epoch_base T)) [
         | inl e ↦ let f = H.first p in absurd (none-and-some k.none (ap (S.logs.leadership p) (e ∙ same-base) ∙ f.1))
         | inr d ↦ omega (arith, base-least T J r.word r.is_word.decided, r.is_word.term_is, d)
       ]
@@ -551,7 +551,7 @@ module _ (E : Database) (S T : LogState) (F M : Firm) (K : Transactions) (now : 
 
 -- With what it makes of the logs of leaders, all that the history says holds at its stamp, and so does what holds of initiators. Nobody's word
 -- and no start of an agent changes.
-pub books-moved : (E : Database) (S T : LogState) (F M : Firm) (K : Transactions) (now : ℕ) (due : ℕ → ℕ → List Entry) → Holds S → Holds T → Onto S T F M
+pub books-moved : (E : Database) (S T : LogState) (F M : Firm) (K : Transactions) (now : ℕ) (due : ℕ → ℕ → List Entry) → LogsHold S → LogsHold T → Onto S T F M
     → T.words.agents ≡ S.words.agents → ((p t : ℕ) → IsPart S p → Moved E S.logs T.logs K.due due (now + 1) p t)
     → ((p t : ℕ) → (IsPart S p → ⊥) → due p t ≡ K.due p t)
     → Books E S F K now → Books E T M (with_due K due) (now + 1)
@@ -561,7 +561,7 @@ books-moved E S T F M K now due H J o agents moved others B = record {
   heard = heard-on E S T F M K now due H J o moved B agents;
 }
 
-pub phase-moved : (E : Database) (S T : LogState) (F M : Firm) (K : Transactions) (now : ℕ) (due : ℕ → ℕ → List Entry) → Holds S → Holds T → Onto S T F M
+pub phase-moved : (E : Database) (S T : LogState) (F M : Firm) (K : Transactions) (now : ℕ) (due : ℕ → ℕ → List Entry) → LogsHold S → LogsHold T → Onto S T F M
     → ((p t : ℕ) → IsPart S p → Moved E S.logs T.logs K.due due (now + 1) p t)
     → Books E S F K now → (t : ℕ) (a : AgentState) (phase : Phase) → PhaseOk E S F K t a phase → PhaseOk E T M (with_due K due) t a phase
 phase-moved E S T F M K now due H J o moved B t a Off k = k
@@ -616,7 +616,7 @@ books-later E S F K now stamp l B = record {
     k = B.heard.aligned
 
 -- with another state of words, in which an agent's own start and word are not lower
-pub books-worded : (E : Database) (S T : LogState) (F : Firm) (K : Transactions) (now : ℕ) → Holds S → T.words.deployment ≡ S.words.deployment → T.logs ≡ S.logs → T.sites ≡ S.sites
+pub books-worded : (E : Database) (S T : LogState) (F : Firm) (K : Transactions) (now : ℕ) → LogsHold S → T.words.deployment ≡ S.words.deployment → T.logs ≡ S.logs → T.sites ≡ S.sites
     → ((w : Membership) → In w S.words.history.decided → In w T.words.history.decided)
     → ((w : Membership) (h a : ℕ) → In w S.words.history.decided → initiator w ≡ Some (h, a) → 0 < a → (T.words.agents h).start ≡ a
     → ((S.words.agents h).start ≡ a → K.heard ≤ term_in (S.words.agents h).decided) → K.heard ≤ term_in (T.words.agents h).decided)

@@ -9,7 +9,7 @@ use Rattle.cluster_model.specs.Words.{term_of}
 use Rattle.cluster_model.specs.Disk.{chosen}
 use Rattle.cluster_model.specs.Letters.{Letter, Waiting}
 use Rattle.cluster_steps.proofs.Lists.{all-mono}
-use Rattle.log_laws.specs.Histories.{LogState, Holds, part, start_at}
+use Rattle.log_laws.specs.Histories.{LogState, LogsHold, part, site_start}
 use Rattle.log_laws.proofs.Kept.Grown.{onward-same}
 use Rattle.disk_laws.specs.Disks.{Firm}
 use Rattle.transaction_laws.specs.Transactions.{Transactions, AnswerOk, ToSiteOk, SiteCalls, InitiatingOk, WaitingAnswer, CallsHold, orders}
@@ -19,7 +19,7 @@ use Rattle.transaction_laws.proofs.Kept.Later.{answer-on, to_site-on, books-move
 
 -- ---- other numbers, owners and messages
 
-module _ (E : Database) (S : LogState) (F : Firm) (halted : Bool) (K : Transactions) (now : ℕ) (H : Holds S) (k : CallsHold E S F halted K now)
+module _ (E : Database) (S : LogState) (F : Firm) (halted : Bool) (K : Transactions) (now : ℕ) (H : LogsHold S) (k : CallsHold E S F halted K now)
     (next : ℕ) (ch : Actor → Actor → List Letter) (owner : ℕ → ℕ)
     (down : (h c : ℕ) → ch (Agent h) (Site c) ≡ S.words.channel (Agent h) (Site c)) (up : (c h : ℕ) → ch (Site c) (Agent h) ≡ S.words.channel (Site c) (Agent h)) where
   abbrev T : LogState
@@ -41,12 +41,12 @@ module _ (E : Database) (S : LogState) (F : Firm) (halted : Bool) (K : Transacti
   site-kept c s = record {
     waiting = s.waiting;
     held = s.held;
-    orders = λ w joins view first h a init. ap (orders (start_at S c) (term_of w)) (down h c) ∙ s.orders w joins view first h a init;
+    orders = λ w joins view first h a init. ap (orders (site_start S c) (term_of w)) (down h c) ∙ s.orders w joins view first h a init;
     counts = λ leads. let n = s.counts leads in record { counted = n.counted; joined = n.joined };
     unrepaired = s.unrepaired;
   }
 
-  module _ (J : Holds T) where
+  module _ (J : LogsHold T) where
     agent-kept : (h : ℕ) → InitiatingOk E S F K h → InitiatingOk E T F L h
     agent-kept h (inl off) = inl off
     agent-kept h (inr on) = let i = on.1 in inr (

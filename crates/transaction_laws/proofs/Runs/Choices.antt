@@ -6,7 +6,7 @@ use Rattle.volt_base.specs.declared.entry.Entry.{Entry}
 use Rattle.cluster_model.specs.Engine.{Database}
 use Rattle.cluster_model.specs.Disk.{Shown, chosen}
 use Rattle.cluster_steps.proofs.Lists.{all-at}
-use Rattle.log_laws.specs.Histories.{LogState, Holds, Leadership, part}
+use Rattle.log_laws.specs.Histories.{LogState, LogsHold, Leadership, part}
 use Rattle.cluster_steps.specs.Lists.{Prefix}
 use Rattle.cluster_steps.proofs.Prefixes.{prefix-trans, prefix-append, prefix-take, prefixes-order, take-grown}
 use Rattle.disk_laws.specs.Disks.{Written, Firm, ContentOk, DisksHold, Shows, shown_at}
@@ -20,7 +20,7 @@ use Rattle.transaction_laws.proofs.Entries.Machine.{formed-prefix, prefix-point}
 use Rattle.transaction_laws.proofs.Entries.Aligned.{under-prefix, under-trans, aligned-under}
 use Rattle.transaction_laws.proofs.Kept.Later.{inert-leadership}
 
-module _ (E : Database) (S : LogState) (F : Firm) (K : Transactions) (now : ℕ) (H : Holds S) (disks : DisksHold S F false) (B : Books E S F K now) (shown : ℕ → Shown)
+module _ (E : Database) (S : LogState) (F : Firm) (K : Transactions) (now : ℕ) (H : LogsHold S) (disks : DisksHold S F false) (B : Books E S F K now) (shown : ℕ → Shown)
     (shows : Shows S shown) (p : ℕ) (is_part : IsPart S p) where
   abbrev log : List Entry
   log = chosen S.words.deployment shown p
@@ -96,7 +96,7 @@ module _ (E : Database) (S : LogState) (F : Firm) (K : Transactions) (now : ℕ)
       (chosen-firm S H F false disks shown shows p f.term f.leadership f.led f.reach)
 
 -- Whatever the disks show.
-pub choice-aligned : (E : Database) (S : LogState) (F : Firm) (K : Transactions) (now : ℕ) → Holds S → DisksHold S F false → Books E S F K now → (shown : ℕ → Shown) → Shows S shown
+pub choice-aligned : (E : Database) (S : LogState) (F : Firm) (K : Transactions) (now : ℕ) → LogsHold S → DisksHold S F false → Books E S F K now → (shown : ℕ → Shown) → Shows S shown
     → Aligned E S.words.deployment now K (chosen S.words.deployment shown)
 choice-aligned E S F K now H disks B shown shows =
     aligned-under E S.words.deployment now now K (whole S K K.heard) (chosen S.words.deployment shown) (omega arith) B.heard.aligned

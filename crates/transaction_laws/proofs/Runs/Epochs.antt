@@ -28,7 +28,7 @@ use Rattle.cluster_steps.specs.Lists.{In}
 use Rattle.word_laws.specs.Histories.{names}
 use Rattle.cluster_steps.proofs.Lists.{all-mono, eqb-same, if-true, if-false, some-here, same-some, none-and-some, not-both}
 use Rattle.word_laws.proofs.Epochs.{initiator-first}
-use Rattle.log_laws.specs.Histories.{LogState, Holds, IsSlot, Leadership, part, start_at}
+use Rattle.log_laws.specs.Histories.{LogState, LogsHold, IsSlot, Leadership, part, site_start}
 use Rattle.log_laws.specs.Copies.{log_state, HasLogs}
 use Rattle.log_laws.proofs.Plain.Copies.{slots-part}
 use Rattle.cluster_steps.proofs.Prefixes.{prefix-refl}
@@ -106,7 +106,7 @@ record CallsBegin (E : Database) (S : LogState) (base start now : ℕ) (log : �
   over : (p : ℕ) → IsPart S p → Recovered E S.words.deployment now log p
   even : AppliedInAll S.words.deployment log
 
-module _ (E : Database) (S : LogState) (H : Holds S) (base start now : ℕ) (log : ℕ → List Entry) (k : CallsBegin E S base start now log) where
+module _ (E : Database) (S : LogState) (H : LogsHold S) (base start now : ℕ) (log : ℕ → List Entry) (k : CallsBegin E S base start now log) where
   abbrev D : Deployment
   D = S.words.deployment
 
@@ -275,7 +275,7 @@ module _ (E : Database) (S : LogState) (H : Holds S) (base start now : ℕ) (log
       record {
         waiting = rw (ap (λ s. s.waiting) e) tt;
         held = rw (ap (λ s. s.held) e) tt;
-        orders = λ w j v l h a i. ap (orders (start_at S c) (term_of w)) (k.orders h c);
+        orders = λ w j v l h a i. ap (orders (site_start S c) (term_of w)) (k.orders h c);
         counts = λ l. record {
           counted = λ n r. subst (λ s. n ≤ s.firm) (sym e) (least-begins c q n (ap (acknowledged D c) (sym e) ∙ r));
           joined = λ g led. rw (ap (λ s. s.joiners) e) tt;
@@ -331,7 +331,7 @@ first-calls E I positive lay now =
 -- ---- what disks may show
 
 -- Whatever contents the disks show, the chosen logs are aligned.
-pub any-aligned : (E : Database) (S : LogState) (F : Firm) (halted : Bool) (K : Transactions) (now stamp : ℕ) → Holds S → DisksHold S F halted → CallsHold E S F halted K now
+pub any-aligned : (E : Database) (S : LogState) (F : Firm) (halted : Bool) (K : Transactions) (now stamp : ℕ) → LogsHold S → DisksHold S F halted → CallsHold E S F halted K now
     → now ≤ stamp → (shown : ℕ → Shown) → Shows S shown → (L : Transactions) × Aligned E S.words.deployment stamp L (chosen S.words.deployment shown)
 any-aligned E S F false K now stamp H disks k l shown shows = (K, choice-aligned E S F K stamp H disks (books-later E S F K now stamp l k.books) shown shows)
 any-aligned E S F true K now stamp H disks k l shown shows =

@@ -1,5 +1,5 @@
 -- The laws of transactions, from what holds in each world of a run.
-use Rattle.std.proofs.Common.{◌≡◌, ◌<◌, true, List, ◌++◌, length, refl, ap, ◌∙◌, arith, inl, inr}
+use Rattle.std.proofs.Common.{◌≡◌, true, List, ◌++◌, length, refl, ap, ◌∙◌, arith, inl, inr}
 use Rattle.std.specs.Prelude.{ℕ, Some, None, option_map, is_none}
 use Rattle.volt_base.specs.declared.entry.Entry.{Entry}
 use Rattle.volt_base.specs.declared.entry.Outcome.{Outcome}
@@ -8,9 +8,9 @@ use Rattle.cluster_model.specs.Disk.{chosen, recovered}
 use Rattle.cluster_model.specs.Engine.{Database}
 use Rattle.cluster_model.specs.Log.{nothing_open}
 use Rattle.cluster_model.specs.Recover.{shown_of}
-use Rattle.cluster_model.specs.Runs.{Happening, IsRun, run}
+use Rattle.cluster_model.specs.Runs.{Reached}
 use Rattle.cluster_model.specs.Words.{part_of_slot}
-use Rattle.cluster_model.specs.World.{World, Input, first_world}
+use Rattle.cluster_model.specs.World.{World, Input}
 use Rattle.log_laws.specs.Histories.{LogState}
 use Rattle.cluster_steps.specs.Lists.{Prefix}
 use Rattle.log_laws.specs.Copies.{log_state, log_of}
@@ -20,7 +20,7 @@ use Rattle.disk_laws.proofs.Boots.{firm_in}
 use Rattle.disk_laws.proofs.Choices.{world-shows}
 use Rattle.transaction_laws.specs.Machine.{WellFormed, RiseWithin, first_stage, stage, points}
 use Rattle.transaction_laws.specs.Transactions.{Transactions, Aligned, point_in}
-use Rattle.transaction_laws.specs.Worlds.{IsLaidOut, IsSlotOf, IsPartOf, IsInitiator, GoesOnClosed, IsApplied, GoesOnAlike, EndsAlike, StandsOrIsOpen}
+use Rattle.transaction_laws.specs.Worlds.{IsSlotOf, IsPartOf, IsInitiator, GoesOnClosed, IsApplied, GoesOnAlike, EndsAlike, StandsOrIsOpen}
 use Rattle.transaction_laws.proofs.Entries.Machine.{formed-prefix, prefix-point, open_in-stage}
 use Rattle.transaction_laws.proofs.Entries.Aligned.{Recovered, aligned-recovered, recovered-even}
 use Rattle.transaction_laws.proofs.Entries.Even.{one-way, stands-or-open}
@@ -111,12 +111,9 @@ stands-or-is-open E w now d p q part other m o applied i =
 
 -- ---- the laws
 
-module _ (E : Database) (input : Input) (es : List Happening) (laid : IsLaidOut input.deployment) (some : 0 < input.base) (r : IsRun E es (first_world E input)) where
-  abbrev w : World
-  w = run E es (first_world E input)
-
+module _ (E : Database) (input : Input) (w : World) (r : Reached E input w) where
   d : HasCalls E (length w.trace) w
-  d = calls-agree E input es laid some r
+  d = calls-agree E input w r
 
   pub points-within : (i : ℕ) → IsSlotOf w i → RiseWithin 0 (length w.trace) (points (log_of w i))
   points-within i slot = site-points E (length w.trace) w d i slot

@@ -6,7 +6,7 @@ use Rattle.volt_base.specs.declared.entry.Entry.{Entry}
 use Rattle.cluster_model.specs.Engine.{Database}
 use Rattle.cluster_model.specs.World.{AuthoritativeLog}
 use Rattle.cluster_steps.proofs.Lists.{same-some}
-use Rattle.log_laws.specs.Histories.{LogState, Holds}
+use Rattle.log_laws.specs.Histories.{LogState, LogsHold}
 use Rattle.cluster_steps.specs.Lists.{Prefix}
 use Rattle.log_laws.specs.Copies.{AuthoritativeOk}
 use Rattle.cluster_steps.proofs.Prefixes.{prefix-append, prefix-trans}
@@ -18,7 +18,7 @@ use Rattle.transaction_laws.proofs.Entries.Machine.{formed-prefix, prefix-point}
 use Rattle.transaction_laws.proofs.Entries.Aligned.{under-prefix, under-trans, aligned-under}
 use Rattle.transaction_laws.proofs.Kept.Later.{inert-leadership, everywhere-prefix}
 
-module _ (E : Database) (S : LogState) (F : Firm) (K : Transactions) (now : ℕ) (H : Holds S) (B : Books E S F K now) (p : ℕ) (part : IsPart S p) (l : AuthoritativeLog) (k : AuthoritativeOk S.logs p l) where
+module _ (E : Database) (S : LogState) (F : Firm) (K : Transactions) (now : ℕ) (H : LogsHold S) (B : Books E S F K now) (p : ℕ) (part : IsPart S p) (l : AuthoritativeLog) (k : AuthoritativeOk S.logs p l) where
   abbrev h : HeardPart S F K p
   h = B.heard.each p part
 
@@ -51,7 +51,7 @@ module _ (E : Database) (S : LogState) (F : Firm) (K : Transactions) (now : ℕ)
         (everywhere-prefix S F H p K.heard l.term h.leadership k.leadership xs h.led k.led (omega (arith, later, n)) f firm) (H.leaderships p l.term k.leadership k.led).grown
   ])
 
-pub leads-aligned : (E : Database) (S : LogState) (F : Firm) (K : Transactions) (now : ℕ) → Holds S → Books E S F K now → (authoritative : ℕ → AuthoritativeLog) → ((p : ℕ) → AuthoritativeOk S.logs p (authoritative p))
+pub leads-aligned : (E : Database) (S : LogState) (F : Firm) (K : Transactions) (now : ℕ) → LogsHold S → Books E S F K now → (authoritative : ℕ → AuthoritativeLog) → ((p : ℕ) → AuthoritativeOk S.logs p (authoritative p))
     → Aligned E S.words.deployment now K (λ p. (authoritative p).log)
 leads-aligned E S F K now H B authoritative k =
     aligned-under E S.words.deployment now now K (whole S K K.heard) (λ p. (authoritative p).log) (omega arith) B.heard.aligned

@@ -5,7 +5,7 @@ use Rattle.std.specs.Prelude.{ℕ, Option, Some, None}
 use Rattle.volt_wire.specs.Word.{Membership}
 use Rattle.cluster_model.specs.Words.{term_of, term_in}
 use Rattle.cluster_model.specs.SiteState.{Joining, Streamed}
-use Rattle.log_laws.specs.Histories.{LogState, Holds, Leadership, ViewIn, StreamIn, base_of, part, start_at, log_at, term_at}
+use Rattle.log_laws.specs.Histories.{LogState, LogsHold, Leadership, ViewIn, StreamIn, epoch_base, part, site_start, log_at, term_at}
 use Rattle.cluster_steps.specs.Lists.{Prefix}
 use Rattle.log_laws.proofs.Kept.Terms.{base-least}
 use Rattle.cluster_steps.proofs.Prefixes.{prefix-none}
@@ -18,22 +18,22 @@ pub record LedLog (S : LogState) (c : ℕ) : Type 0 where
   pub is_led : S.logs.leadership (part S c) term ≡ Some leadership
   pub prefix : Prefix (log_at S c) leadership.log
 
-module _ (S : LogState) (H : Holds S) (c : ℕ) where
+module _ (S : LogState) (H : LogsHold S) (c : ℕ) where
   empty-led : log_at S c ≡ [] → LedLog S c
   empty-led e = let f = H.first (part S c) in record {
-    term = base_of S;
+    term = epoch_base S;
     leadership = f.0;
     is_led = f.1;
     prefix = subst (λ l. Prefix l f.0.log) (sym e) (prefix-none f.0.log);
   }
 
-  member-led : 0 < start_at S c → (S.sites c).joining ≡ None → LedLog S c
+  member-led : 0 < site_start S c → (S.sites c).joining ≡ None → LedLog S c
   member-led up joins =
       let m = (H.sites c).member up joins in
       let f = H.first (part S c) in
       let low = base-least S H m.0 m.2.decided in
       let term : term_at S c ≡ term_of m.0 = ap term_in m.1 in
-      let k = member-behind S H c (base_of S) f.0 f.1 up joins (omega (arith, low, term)) in
+      let k = member-behind S H c (epoch_base S) f.0 f.1 up joins (omega (arith, low, term)) in
       record { term = k.term; leadership = k.later; is_led = k.led; prefix = k.prefix }
 
   joiner-led : (j : Joining) → (S.sites c).joining ≡ Some j → LedLog S c
@@ -52,12 +52,12 @@ module _ (S : LogState) (H : Holds S) (c : ℕ) where
       seen None k = empty-led k.empty
       seen (Some w) k = streamed w j.stream k.stream
 
-  pub log-led : (start_at S c ≡ 0 → log_at S c ≡ []) → LedLog S c
-  log-led blank = elim (cases_eq (start_at S c) 0) [
+  pub log-led : (site_start S c ≡ 0 → log_at S c ≡ []) → LedLog S c
+  log-led blank = elim (cases_eq (site_start S c) 0) [
     | inl z ↦ empty-led (blank z)
     | inr n ↦ choice (omega (arith, n)) (S.sites c).joining refl
   ]
     where
-      choice : 0 < start_at S c → (o : Option Joining) → (S.sites c).joining ≡ o → LedLog S c
+      choice : 0 < site_start S c → (o : Option Joining) → (S.sites c).joining ≡ o → LedLog S c
       choice up None e = member-led up e
       choice up (Some j) e = joiner-led j e

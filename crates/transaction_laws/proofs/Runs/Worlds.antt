@@ -13,14 +13,15 @@ use Rattle.cluster_model.specs.SiteState.{SiteState, no_site, member_site}
 use Rattle.cluster_model.specs.Agent.{agent_turn}
 use Rattle.cluster_model.specs.Sync.{may_sync, site_turn, sync_turn}
 use Rattle.cluster_model.specs.Environment.{Environment, NoFault, DiskFails, NoMemory, DisksShow}
-use Rattle.cluster_model.specs.World.{World, Stopped, Input, first_world, stamp_of, took, with_site, stops_with, new_word, start_from}
+use Rattle.cluster_model.specs.World.{World, Stopped, Input, IsInput, first_world, stamp_of, took, with_site, stops_with, new_word, start_from}
 use Rattle.cluster_model.specs.Recover.{new_base, new_log, new_site, starts_anew, stays_stopped}
 use Rattle.cluster_model.specs.Events.{is_actor, is_some_letter, is_shown, is_slot_or_none, may_recover, can, allows, delivered, recovered_with, may_do, happens, step}
-use Rattle.cluster_model.specs.Runs.{Happening, IsRun, has_failed, may_happen, run}
+use Rattle.cluster_model.specs.Runs.{Happening, Reached, has_failed, may_happen}
+use Rattle.cluster_model.proofs.Runs.{reached-kept}
 use Rattle.word_laws.specs.Histories as word
 use Rattle.cluster_steps.proofs.Lists.{if-false, set-both}
 use Rattle.word_laws.proofs.Worlds.{actor-host, host-apart, memory-runs}
-use Rattle.log_laws.specs.Histories.{Logs, LogState, Holds}
+use Rattle.log_laws.specs.Histories.{Logs, LogState, LogsHold}
 use Rattle.log_laws.specs.Copies.{log_state, HasLogs}
 use Rattle.log_laws.proofs.Kept.Moves.{Grown}
 use Rattle.log_laws.proofs.Runs.Boots.{first-logs, anew-logs}
@@ -36,7 +37,7 @@ use Rattle.disk_laws.proofs.Others.{disks-plain, disks-agent}
 use Rattle.reply_laws.proofs.Turns.{waits-plain}
 use Rattle.disk_laws.proofs.SiteTurns.{site_turn-kept}
 use Rattle.transaction_laws.specs.Transactions.{Transactions, CallsHold}
-use Rattle.transaction_laws.specs.Worlds.{IsLaidOut}
+use Rattle.cluster_model.specs.Words.{IsLaidOut}
 use Rattle.transaction_laws.proofs.Runs.Blank.{Blank, turn-blank, sync-blank}
 use Rattle.transaction_laws.proofs.Kept.Others.{calls-plain}
 use Rattle.transaction_laws.proofs.Agents.AgentEvents.{agent-calls}
@@ -87,7 +88,7 @@ module _ (E : Database) (now : ℕ) (w : World) (d : HasCalls E now w) where
   plain-known : (next : ℕ) (ch : Actor → Actor → List Letter) (owner : ℕ → ℕ)
       → ((i c : ℕ) → ch (Site i) (Site c) ≡ w.channel (Site i) (Site c)) → ((h c : ℕ) → ch (Agent h) (Site c) ≡ w.channel (Agent h) (Site c))
       → ((c h : ℕ) → ch (Site c) (Agent h) ≡ w.channel (Site c) (Agent h))
-      → Holds (record S { words = record S.words { next = next; channel = ch; owner = owner } })
+      → LogsHold (record S { words = record S.words { next = next; channel = ch; owner = owner } })
       → Known E (now + 1) (record S { words = record S.words { next = next; channel = ch; owner = owner } }) (firm_in w) d.halted
   plain-known next ch owner between down up h = record {
     disks = disks-plain S (firm_in w) d.halted d.disks next ch owner between;
@@ -96,9 +97,9 @@ module _ (E : Database) (now : ℕ) (w : World) (d : HasCalls E now w) where
   }
 
 -- with the same histories of words and logs
-kept-holds : (w v : World) (k : HasLogs w) (n : Keeps w k v) → Holds (log_state v n.next.owner k.history k.logs)
+kept-holds : (w v : World) (k : HasLogs w) (n : Keeps w k v) → LogsHold (log_state v n.next.owner k.history k.logs)
 kept-holds w v k n =
-    subst (λ h. Holds (log_state v n.next.owner h k.logs)) n.history (subst (λ G. Holds (log_state v n.next.owner n.next.history G)) n.logs n.next.holds)
+    subst (λ h. LogsHold (log_state v n.next.owner h k.logs)) n.history (subst (λ G. LogsHold (log_state v n.next.owner n.next.history G)) n.logs n.next.holds)
 
 keeps-calls : (E : Database) (now : ℕ) (w v : World) (k : HasLogs w) (n : Keeps w k v) (halted : Bool) → IsLaidOut v.deployment → ((i : ℕ) → Blank (v.sites i))
     → Known E now (log_state v n.next.owner k.history k.logs) (firm_in v) halted → HasCalls E now v
@@ -190,7 +191,7 @@ module _ (E : Database) (w : World) (d : HasCalls E (length w.trace) w) (channel
   abbrev after-turn : World
   after-turn = with_site (record w { channel = channel; stops = stops }) i t
 
-  site-known : (G : Logs) (H : Holds (log_state after-turn d.logs.owner d.logs.history G)) → Grown w.deployment i t.state d.logs.logs G
+  site-known : (G : Logs) (H : LogsHold (log_state after-turn d.logs.owner d.logs.history G)) → Grown w.deployment i t.state d.logs.logs G
       → Known E (length w.trace + 1) (log_state after-turn d.logs.owner d.logs.history G) (firm_in after-turn) d.halted → Blank t.state → HasCalls E (length w.trace + 1) after-turn
   site-known G H grown known blank =
       let k = d.logs in
@@ -342,11 +343,7 @@ step-calls E w e may d =
     let same : length w.trace + 1 ≡ length (v.trace ++ e.0 ∷ []) = sym (length-append v.trace (e.0 ∷ []) ∙ ap (λ t. length t + 1) (happens-trace E w e.0 e.1)) in
     subst (λ n. HasCalls E n (step E w e)) same (noted E (length w.trace + 1) v (v.trace ++ e.0 ∷ []) (happens-calls E w e.0 e.1 d inner.1 outer.1))
 
--- ---- runs
-
-run-calls : (E : Database) (es : List Happening) (w : World) → IsRun E es w → HasCalls E (length w.trace) w → HasCalls E (length (run E es w).trace) (run E es w)
-run-calls E [] w r d = d
-run-calls E (e ∷ es) w r d = run-calls E es (step E w e) r.1 (step-calls E w e r.0 d)
+-- ---- reached worlds
 
 -- no site of the first world is blank but where there is no slot
 first-blank : (E : Database) (I : Input) (i : ℕ) → Blank ((first_world E I).sites i)
@@ -356,15 +353,17 @@ first-blank E I i = choice (nat_lt i (slots I.deployment))
     choice true z = absurd (omega (arith, z))
     choice false z = refl
 
--- All holds in each world of a run.
-pub calls-agree : (E : Database) (I : Input) (es : List Happening) → IsLaidOut I.deployment → 0 < I.base → IsRun E es (first_world E I)
-    → HasCalls E (length (run E es (first_world E I)).trace) (run E es (first_world E I))
-calls-agree E I es laid some r = run-calls E es (first_world E I) r (record {
-  laid = laid;
-  logs = first-logs E I some;
-  halted = false;
-  disks = first-disks E I some;
-  transactions = _;
-  calls = first-calls E I some laid 0;
-  blank = first-blank E I;
-})
+-- All holds in each world that is reached.
+pub calls-agree : (E : Database) (I : Input) (w : World) → Reached E I w → HasCalls E (length w.trace) w
+calls-agree E I w r = reached-kept E (λ v. HasCalls E (length v.trace) v) (step-calls E) I w first r
+  where
+    first : IsInput I → HasCalls E 0 (first_world E I)
+    first is = record {
+      laid = is.deployment.layout;
+      logs = first-logs E I is.base;
+      halted = false;
+      disks = first-disks E I is.base;
+      transactions = _;
+      calls = first-calls E I is.base is.deployment.layout 0;
+      blank = first-blank E I;
+    }

@@ -15,11 +15,11 @@ use Rattle.cluster_model.specs.SiteState.{SiteState, Reported, site_term, leads}
 use Rattle.cluster_model.specs.Site.{longest, lacks}
 use Rattle.cluster_steps.specs.Lists.{In, Prefix}
 use Rattle.cluster_steps.proofs.Lists.{all-at, all-behind, eqb-same, if-false, if-true, is_none-none, none-and-some, same-some}
-use Rattle.log_laws.specs.Histories.{LogState, Logs, Entered, Leadership, WordOf, Holds, IsSlot, LeadsIn, MemberOk, ReportOk, part, start_at, log_at, term_at}
+use Rattle.log_laws.specs.Histories.{LogState, Logs, Entered, Leadership, WordOf, LogsHold, IsSlot, LeadsIn, MemberOk, ReportOk, part, site_start, log_at, term_at}
 use Rattle.log_laws.proofs.Plain.Copies.{leader-is}
 use Rattle.cluster_steps.proofs.Leaders.{leads-from}
 use Rattle.cluster_steps.proofs.Prefixes.{prefix-length, prefixes-order}
-use Rattle.log_laws.proofs.Kept.Moves.{Enters, Grown, Heads, after}
+use Rattle.log_laws.proofs.Kept.Moves.{Enters, Grown, Heads, after_site}
 use Rattle.log_laws.proofs.Kept.Plumbing.{here}
 use Rattle.log_laws.proofs.Kept.Terms.{entered-start, leadership-entered, running-slot, same-word}
 use Rattle.log_laws.proofs.Entries.Leads.{Leading, leading}
@@ -87,7 +87,7 @@ repaired-short s reports n low each = elim (longest-cases (length s.log) None re
 -- ---- a site that leads after a turn
 
 -- Slot i has this site after its turn, with what it sent, and these channels before that.
-module _ (S : LogState) (H : Holds S) (i : ℕ) (ch : Actor → Actor → List Letter) (u : SiteState) (out : Sends) (G : Logs) where
+module _ (S : LogState) (H : LogsHold S) (i : ℕ) (ch : Actor → Actor → List Letter) (u : SiteState) (out : Sends) (G : Logs) where
   abbrev D : Deployment
   D = S.words.deployment
 
@@ -95,16 +95,16 @@ module _ (S : LogState) (H : Holds S) (i : ℕ) (ch : Actor → Actor → List L
   s = S.sites i
 
   abbrev pub next : LogState
-  next = after (record S { words = record S.words { channel = ch } }) i u out G
+  next = after_site (record S { words = record S.words { channel = ch } }) i u out G
 
   -- In a term that it heads, and that is led, it leads.
-  pub heads-own : Holds next → (p t : ℕ) (g : Leadership) → G.leadership p t ≡ Some g → Heads D i u p t → (leads D i u ≡ true) × (p ≡ part S i) × (t ≡ site_term u)
+  pub heads-own : LogsHold next → (p t : ℕ) (g : Leadership) → G.leadership p t ≡ Some g → Heads D i u p t → (leads D i u ≡ true) × (p ≡ part S i) × (t ≡ site_term u)
   heads-own J p t g is heads =
       let there = here (record S { words = record S.words { channel = ch } }) i u out G in
       let authoritative = heads-authoritative next J i p t g (subst (λ x. Heads D i x p t) (sym there) heads) is in
       (ap (leads D i) (sym there) ∙ authoritative, sym heads.part_is, sym heads.term_is ∙ ap term_in (sym heads.view))
 
-  module _ (J : Holds next) (enters : Enters i (length (log_at S i)) S.logs G) (on : (u.start ≡ start_at S i) ⊎ (u.view ≡ None)) (authoritative : leads D i u ≡ true) where
+  module _ (J : LogsHold next) (enters : Enters i (length (log_at S i)) S.logs G) (on : (u.start ≡ site_start S i) ⊎ (u.view ≡ None)) (authoritative : leads D i u ≡ true) where
     site : next.sites i ≡ u
     site = here (record S { words = record S.words { channel = ch } }) i u out G
 
@@ -125,14 +125,14 @@ module _ (S : LogState) (H : Holds S) (i : ℕ) (ch : Actor → Actor → List L
     log = ap (λ x. x.log) (sym site) ∙ k.log
 
     -- it goes on with its start
-    pub start : start_at next i ≡ start_at S i
+    pub start : site_start next i ≡ site_start S i
     start = ap (λ x. x.start) site ∙ go on
       where
-        go : (u.start ≡ start_at S i) ⊎ (u.view ≡ None) → u.start ≡ start_at S i
+        go : (u.start ≡ site_start S i) ⊎ (u.view ≡ None) → u.start ≡ site_start S i
         go (inl e) = e
         go (inr e) = absurd (none-and-some e view)
 
-    pub runs : 0 < start_at S i
+    pub runs : 0 < site_start S i
     runs = subst (λ n. 0 < n) start (leads-runs next J i authoritative-there)
 
     slot : IsSlot S i
@@ -141,13 +141,13 @@ module _ (S : LogState) (H : Holds S) (i : ℕ) (ch : Actor → Actor → List L
     word : WordOf S (term_of k.word) k.word
     word = record { decided = k.member.decided; term_is = refl }
 
-    member-start : start_of_slot D k.word i ≡ Some (start_at S i)
+    member-start : start_of_slot D k.word i ≡ Some (site_start S i)
     member-start = k.member.start_is ∙ ap Some start
 
     -- ---- what it was before
 
     -- It had entered the term with this start: so it was in it, with this word.
-    in-term : (e : Entered) → S.logs.entered i (term_of k.word) ≡ Some e → e.start ≡ start_at S i
+    in-term : (e : Entered) → S.logs.entered i (term_of k.word) ≡ Some e → e.start ≡ site_start S i
         → (s.joining ≡ None) × (s.view ≡ Some k.word) × MemberOk S i k.word
     in-term e is own =
         let r = (H.entered i (term_of k.word) e is).running (sym own) in
@@ -161,7 +161,7 @@ module _ (S : LogState) (H : Holds S) (i : ℕ) (ch : Actor → Actor → List L
     pub led-before : (g : Leadership) → S.logs.leadership (part S i) (term_of k.word) ≡ Some g
         → (leads D i s ≡ true) × (s.view ≡ Some k.word) × (log_at S i ≡ g.log)
     led-before g is =
-        let e = leadership-entered S H (part S i) (term_of k.word) g is k.word word i (start_at S i) slot refl member-start in
+        let e = leadership-entered S H (part S i) (term_of k.word) g is k.word word i (site_start S i) slot refl member-start in
         let m = in-term e.0 e.1 e.2 in
         let l = subst (LeadsIn s) is (m.2.leading k.first) in
         (leads-from D i s (leader-is D i s k.word m.1 m.0 k.first) l.0, m.1, l.1)
@@ -169,7 +169,7 @@ module _ (S : LogState) (H : Holds S) (i : ℕ) (ch : Actor → Actor → List L
     -- The term wasn't led: what it begins with has all that its log had.
     own-low : S.logs.leadership (part S i) (term_of k.word) ≡ None → length (log_at S i) ≤ length k.leadership.begun
     own-low none =
-        let r = leadership-entered next J (part S i) (term_of k.word) k.leadership k.led k.word (record { decided = k.member.decided; term_is = refl }) i (start_at next i) slot refl k.member.start_is in
+        let r = leadership-entered next J (part S i) (term_of k.word) k.leadership k.led k.word (record { decided = k.member.decided; term_is = refl }) i (site_start next i) slot refl k.member.start_is in
         let low = prefix-length r.0.log k.leadership.begun r.3 in
         elim (enters.now (term_of k.word) r.0 r.1) [
           | inl old ↦
@@ -275,9 +275,9 @@ taken-first : (due taken : List Entry) → (taken ≡ []) ⊎ (due ≡ taken) �
 taken-first due taken (inl e) = rw e
 taken-first due taken (inr e) = rw e (sym (ap (λ xs. taken ++ xs) (drop_all (length taken) taken (omega arith)) ∙ append-nil taken))
 
-module _ (E : Database) (S : LogState) (H : Holds S) (K : Transactions) (due : (p t : ℕ) → DueOk S K p t) (stamp i : ℕ) (ch : Actor → Actor → List Letter) (u : SiteState) (out : Sends)
-    (G : Logs) (J : Holds (next S H i ch u out G)) (grown : Grown S.words.deployment i u S.logs G) (enters : Enters i (length (log_at S i)) S.logs G)
-    (on : (u.start ≡ start_at S i) ⊎ (u.view ≡ None)) (taken : List Entry) where
+module _ (E : Database) (S : LogState) (H : LogsHold S) (K : Transactions) (due : (p t : ℕ) → DueOk S K p t) (stamp i : ℕ) (ch : Actor → Actor → List Letter) (u : SiteState) (out : Sends)
+    (G : Logs) (J : LogsHold (next S H i ch u out G)) (grown : Grown S.words.deployment i u S.logs G) (enters : Enters i (length (log_at S i)) S.logs G)
+    (on : (u.start ≡ site_start S i) ⊎ (u.view ≡ None)) (taken : List Entry) where
   -- What must be so of the site's own turn.
   pub record OwnTurn : Type 0 where
     pub steady : leads S.words.deployment i (S.sites i) ≡ true → leads S.words.deployment i u ≡ true → u.view ≡ (S.sites i).view → SteadyLog stamp (S.sites i) u taken

@@ -12,8 +12,8 @@ use Rattle.cluster_model.specs.SiteState.{SiteState, leads}
 use Rattle.cluster_model.specs.Sync.{site_turn, sync_turn}
 use Rattle.cluster_steps.proofs.Lists.{all-at, all-from, all-mono}
 use Rattle.cluster_steps.proofs.SiteTurns.{NoWord, PlainWaiting, plain-word, sync-waits, turn-waits}
-use Rattle.log_laws.specs.Histories.{LogState, Logs, Holds, IsSlot, part, start_at, log_at}
-use Rattle.log_laws.proofs.Kept.Moves.{Enters, Grown, after, popped}
+use Rattle.log_laws.specs.Histories.{LogState, Logs, LogsHold, IsSlot, part, site_start, log_at}
+use Rattle.log_laws.proofs.Kept.Moves.{Enters, Grown, after_site, site_popped}
 use Rattle.log_laws.proofs.Kept.Terms.{some-start}
 use Rattle.log_laws.proofs.Entries.Leads.{Leading, leading}
 use Rattle.disk_laws.specs.Disks.{DisksHold, Firm}
@@ -32,18 +32,18 @@ use Rattle.transaction_laws.proofs.Sites.SiteOrders.{head-ok, left-orders, own-o
 use Rattle.transaction_laws.proofs.Sites.SiteTurned.{OwnFacts, turned-calls}
 use Rattle.transaction_laws.proofs.Sites.SiteWalk.{taken_by}
 
-module _ (E : Database) (S : LogState) (H : Holds S) (F : Firm) (halted : Bool) (K : Transactions) (now : ℕ) (C : CallsHold E S F halted K now) (lay : LaidOut S) (i : ℕ)
+module _ (E : Database) (S : LogState) (H : LogsHold S) (F : Firm) (halted : Bool) (K : Transactions) (now : ℕ) (C : CallsHold E S F halted K now) (lay : LaidOut S) (i : ℕ)
     (slot : IsSlot S i) (disks : DisksHold S F halted) where
   -- what was so of the site
-  before : 0 < start_at S i → SiteCalls S K i
+  before : 0 < site_start S i → SiteCalls S K i
   before up = C.sites i slot up
 
   under-way : (h : ℕ) → AllByRecursion (ToSiteOk S h i) (S.words.channel (Agent h) (Site i))
   under-way h = C.to_sites h i slot
 
   -- a leader runs
-  leading-runs : Leading S i → 0 < start_at S i
-  leading-runs k = some-start S H k.word i (start_at S i) k.member.decided k.member.start_is
+  leading-runs : Leading S i → 0 < site_start S i
+  leading-runs k = some-start S H k.word i (site_start S i) k.member.decided k.member.start_is
 
   -- ---- it takes a message
 
@@ -55,12 +55,12 @@ module _ (E : Database) (S : LogState) (H : Holds S) (F : Firm) (halted : Bool) 
     out = (site_turn E S.words.deployment (now + 1) i (S.sites i) from l o).sends
 
     abbrev T : LogState
-    T = after (popped S from i) i u out G
+    T = after_site (site_popped S from i) i u out G
 
-    module _ (J : Holds T) (grown : Grown S.words.deployment i u S.logs G) (enters : Enters i (length (log_at S i)) S.logs G) (on : (u.start ≡ start_at S i) ⊎ (u.view ≡ None))
+    module _ (J : LogsHold T) (grown : Grown S.words.deployment i u S.logs G) (enters : Enters i (length (log_at S i)) S.logs G) (on : (u.start ≡ site_start S i) ⊎ (u.view ≡ None))
         (go : DisksGo S T M halted) (raised : Raised S.words.deployment i u F M) where
       abbrev ch : Actor → Actor → List Letter
-      ch = (popped S from i).words.channel
+      ch = (site_popped S from i).words.channel
 
       abbrev taken : List Entry
       taken = taken_by (S.sites i) from l
@@ -99,7 +99,7 @@ module _ (E : Database) (S : LogState) (H : Holds S) (F : Firm) (halted : Bool) 
 
   -- ---- it syncs
 
-  module _ (up : 0 < start_at S i) (o : Environment) (G : Logs) (M : Firm) where
+  module _ (up : 0 < site_start S i) (o : Environment) (G : Logs) (M : Firm) where
     abbrev synced : SiteState
     synced = (sync_turn E S.words.deployment i (S.sites i) o).state
 
@@ -107,10 +107,10 @@ module _ (E : Database) (S : LogState) (H : Holds S) (F : Firm) (halted : Bool) 
     says = (sync_turn E S.words.deployment i (S.sites i) o).sends
 
     abbrev later : LogState
-    later = after S i synced says G
+    later = after_site S i synced says G
 
-    module _ (J : Holds later) (grown : Grown S.words.deployment i synced S.logs G) (enters : Enters i (length (log_at S i)) S.logs G)
-        (on : (synced.start ≡ start_at S i) ⊎ (synced.view ≡ None)) (go : DisksGo S later M halted) (raised : Raised S.words.deployment i synced F M) where
+    module _ (J : LogsHold later) (grown : Grown S.words.deployment i synced S.logs G) (enters : Enters i (length (log_at S i)) S.logs G)
+        (on : (synced.start ≡ site_start S i) ⊎ (synced.view ≡ None)) (go : DisksGo S later M halted) (raised : Raised S.words.deployment i synced F M) where
       still-leads : leads S.words.deployment i synced ≡ true → (synced.log ≡ log_at S i) × (synced.view ≡ (S.sites i).view) × (leads S.words.deployment i (S.sites i) ≡ true)
       still-leads = sync-steady E S.words.deployment i (S.sites i) o
 

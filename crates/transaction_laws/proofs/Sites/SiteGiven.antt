@@ -17,7 +17,7 @@ use Rattle.cluster_model.specs.Environment.{Environment}
 use Rattle.cluster_model.specs.Sync.{site_turn}
 use Rattle.cluster_steps.specs.Lists.{In}
 use Rattle.cluster_steps.proofs.Lists.{all-at, all-from, not-both, all-both, all-mono, none-and-some, same-some}
-use Rattle.log_laws.specs.Histories.{LogState, Holds, ReportOk, SiteLetterOk, WaitingFrom, WaitingOk, IsSlot, line, line_in, between, part, start_at, term_at}
+use Rattle.log_laws.specs.Histories.{LogState, LogsHold, ReportOk, SiteLetterOk, SiteWaitingFrom, SiteWaitingOk, IsSlot, line, line_in, between, part, site_start, term_at}
 use Rattle.cluster_steps.proofs.Leaders.{leader-view}
 use Rattle.log_laws.proofs.Plain.Copies.{is-leader, leader-follows-none}
 use Rattle.log_laws.proofs.Plain.Lines.{line-empty, for-true}
@@ -33,20 +33,20 @@ use Rattle.transaction_laws.proofs.Sites.SiteCounts.{Counted, AboveMark, Unrepai
 
 -- ---- what waits, and what was reported
 
-pub site-waits : (S : LogState) → Holds S → (i : ℕ) → 0 < start_at S i → AllByRecursion (λ x. WaitsPlain x.from x.letter) (S.sites i).waiting
+pub site-waits : (S : LogState) → LogsHold S → (i : ℕ) → 0 < site_start S i → AllByRecursion (λ x. WaitsPlain x.from x.letter) (S.sites i).waiting
     → AllByRecursion WaitsQuietly (S.sites i).waiting
 site-waits S H i up plain =
-    all-both (WaitingOk S i) (λ x. WaitsPlain x.from x.letter) WaitsQuietly (waits-quietly S i) (S.sites i).waiting ((H.sites i).keeps up).waiting plain
+    all-both (SiteWaitingOk S i) (λ x. WaitsPlain x.from x.letter) WaitsQuietly (waits-quietly S i) (S.sites i).waiting ((H.sites i).keeps up).waiting plain
 
 -- of partition p, in term t
 abbrev pub ReportsOk : LogState → ℕ → ℕ → Reported → Type 0
 ReportsOk S p t r = ReportOk S p r.slot t r.position r.floor r.tail
 
-waiting-report : (S : LogState) (i t : ℕ) (x : Waiting) → WaitingOk S i x → x.letter.term ≡ t → ReportOf (ReportsOk S (part S i) t) x.from x.letter
+waiting-report : (S : LogState) (i t : ℕ) (x : Waiting) → SiteWaitingOk S i x → x.letter.term ≡ t → ReportOf (ReportsOk S (part S i) t) x.from x.letter
 waiting-report S i t x k = go x.from x.letter k.1
   where
-    go : (from : Actor) (l : Letter) → WaitingFrom S i from l → l.term ≡ t → ReportOf (ReportsOk S (part S i) t) from l
-    go (Site j) l = elim l.body as (λ b. WaitingFrom S i (Site j) (record l { body = b }) → l.term ≡ t → ReportOf (ReportsOk S (part S i) t) (Site j) (record l { body = b })) [
+    go : (from : Actor) (l : Letter) → SiteWaitingFrom S i from l → l.term ≡ t → ReportOf (ReportsOk S (part S i) t) from l
+    go (Site j) l = elim l.body as (λ b. SiteWaitingFrom S i (Site j) (record l { body = b }) → l.term ≡ t → ReportOf (ReportsOk S (part S i) t) (Site j) (record l { body = b })) [
       | msg.Report position floor tail ↦ λ k e. subst (λ n. ReportOk S (part S i) j n position floor tail) e k.1
       | b ↦ λ k e. tt
     ]
@@ -55,37 +55,37 @@ waiting-report S i t x k = go x.from x.letter k.1
     go (Client n) l = λ k e. tt
     go (Scanner n) l = λ k e. tt
 
-pub waiting-reports : (S : LogState) → Holds S → (i : ℕ) → 0 < start_at S i → (t : ℕ)
+pub waiting-reports : (S : LogState) → LogsHold S → (i : ℕ) → 0 < site_start S i → (t : ℕ)
     → AllByRecursion (λ x. x.letter.term ≡ t → ReportOf (ReportsOk S (part S i) t) x.from x.letter) (S.sites i).waiting
 waiting-reports S H i up t =
-    all-mono (WaitingOk S i) (λ x. x.letter.term ≡ t → ReportOf (ReportsOk S (part S i) t) x.from x.letter) (waiting-report S i t) (S.sites i).waiting ((H.sites i).keeps up).waiting
+    all-mono (SiteWaitingOk S i) (λ x. x.letter.term ≡ t → ReportOf (ReportsOk S (part S i) t) x.from x.letter) (waiting-report S i t) (S.sites i).waiting ((H.sites i).keeps up).waiting
 
 -- ---- marks
 
-pub site-marked : (S : LogState) (F : Firm) (halted : Bool) → DisksHold S F halted → (i : ℕ) → IsSlot S i → 0 < start_at S i
+pub site-marked : (S : LogState) (F : Firm) (halted : Bool) → DisksHold S F halted → (i : ℕ) → IsSlot S i → 0 < site_start S i
     → (S.sites i).joining ≡ None → (S.sites i).mark ≡ term_at S i → (S.sites i).repaired ≡ true
 site-marked S F halted K i slot up joins = ((K.disks i slot).member up joins).marked
 
 -- ---- a leader gets no entry from another site
 
-module _ (S : LogState) (H : Holds S) (i : ℕ) (slot : IsSlot S i) (up : 0 < start_at S i) where
+module _ (S : LogState) (H : LogsHold S) (i : ℕ) (slot : IsSlot S i) (up : 0 < site_start S i) where
   abbrev s : SiteState
   s = S.sites i
 
   -- nothing is for it to append
-  no-line : is_leader S.words.deployment i s ≡ true → (c : ℕ) → line (start_at S i) (term_at S i) (between S c i) ≡ []
+  no-line : is_leader S.words.deployment i s ≡ true → (c : ℕ) → line (site_start S i) (term_at S i) (between S c i) ≡ []
   no-line authoritative c =
       let m = (H.sites i).member up (leader-view S.words.deployment i s authoritative).0 in
       let first = (is-leader S.words.deployment i s m.0 m.1 authoritative).1 in
-      ap (λ o. line (start_at S i) (term_in o) (between S c i)) m.1 ∙ m.2.others c (leader-follows-none S.words.deployment m.0 i c first)
+      ap (λ o. line (site_start S i) (term_in o) (between S c i)) m.1 ∙ m.2.others c (leader-follows-none S.words.deployment m.0 i c first)
 
   -- so no message that it takes is
-  module _ (c : ℕ) (l : Letter) (ls : List Letter) (is : between S c i ≡ l ∷ ls) (take : arrival (start_at S i) (term_at S i) l ≡ Taken) where
+  module _ (c : ℕ) (l : Letter) (ls : List Letter) (is : between S c i ≡ l ∷ ls) (take : arrival (site_start S i) (term_at S i) l ≡ Taken) where
     lines : is_leader S.words.deployment i s ≡ true → (0 < l.start) × (0 < l.term) → line_in l.body ≡ []
     lines authoritative some =
-        let a = taken-here (start_at S i) (term_at S i) l take some.0 some.1 in
-        let here = line-empty (start_at S i) (term_at S i) (between S c i) (no-line authoritative c) l (subst (In l) (sym is) (inl refl)) in
-        rw (for-true (start_at S i) (term_at S i) l a.0 a.1) at here
+        let a = taken-here (site_start S i) (term_at S i) l take some.0 some.1 in
+        let here = line-empty (site_start S i) (term_at S i) (between S c i) (no-line authoritative c) l (subst (In l) (sym is) (inl refl)) in
+        rw (for-true (site_start S i) (term_at S i) l a.0 a.1) at here
 
     letter : SiteLetterOk S c i l
     letter = (subst (AllByRecursion (SiteLetterOk S c i)) is (H.letters c i slot)).0
@@ -100,7 +100,7 @@ module _ (S : LogState) (H : Holds S) (i : ℕ) (slot : IsSlot S i) (up : 0 < st
 
     report-from : ReportOf (ReportsOk S (part S i) (term_at S i)) (Site c) l
     report-from = (elim l.body as (λ b. SiteLetterOk S c i (record l { body = b }) → ReportOf (ReportsOk S (part S i) (term_at S i)) (Site c) (record l { body = b })) [
-      | msg.Report position floor tail ↦ λ k. let a = taken-here (start_at S i) (term_at S i) l take k.0.0 k.0.1 in
+      | msg.Report position floor tail ↦ λ k. let a = taken-here (site_start S i) (term_at S i) l take k.0.0 k.0.1 in
           subst (λ n. ReportOk S (part S i) c n position floor tail) a.1 k.1
       | b ↦ λ k. tt
     ]) letter
@@ -108,7 +108,7 @@ module _ (S : LogState) (H : Holds S) (i : ℕ) (slot : IsSlot S i) (up : 0 < st
   -- ---- a word that comes
 
   module _ (h : ℕ) (l : Letter) (w : Membership) (ls : List Letter) (is : S.words.channel (Agent h) (Site i) ≡ record l { body = msg.View w } ∷ ls)
-      (take : arrival (start_at S i) (term_at S i) (record l { body = msg.View w }) ≡ Taken) where
+      (take : arrival (site_start S i) (term_at S i) (record l { body = msg.View w }) ≡ Taken) where
     higher : term_at S i < term_of w
     higher = later-term S H i slot up h l w ls is take
 
@@ -143,7 +143,7 @@ module _ (S : LogState) (H : Holds S) (i : ℕ) (slot : IsSlot S i) (up : 0 < st
 
   -- ---- any message that it takes
 
-  module _ (from : Actor) (l : Letter) (ls : List Letter) (is : S.words.channel from (Site i) ≡ l ∷ ls) (take : arrival (start_at S i) (term_at S i) l ≡ Taken) where
+  module _ (from : Actor) (l : Letter) (ls : List Letter) (is : S.words.channel from (Site i) ≡ l ∷ ls) (take : arrival (site_start S i) (term_at S i) l ≡ Taken) where
     pub site-comes : Comes S.words.deployment i s from l
     site-comes = go from is
       where
@@ -188,7 +188,7 @@ module _ (S : LogState) (H : Holds S) (i : ℕ) (slot : IsSlot S i) (up : 0 < st
 
 -- ---- the turn
 
-module _ (E : Database) (stamp : ℕ) (S : LogState) (H : Holds S) (i : ℕ) (slot : IsSlot S i) (up : 0 < start_at S i) (from : Actor) (l : Letter) (ls : List Letter)
+module _ (E : Database) (stamp : ℕ) (S : LogState) (H : LogsHold S) (i : ℕ) (slot : IsSlot S i) (up : 0 < site_start S i) (from : Actor) (l : Letter) (ls : List Letter)
     (is : S.words.channel from (Site i) ≡ l ∷ ls) (plain : AllByRecursion (λ x. WaitsPlain x.from x.letter) (S.sites i).waiting) (o : Environment) where
   -- the site behind it
   abbrev u : SiteState
@@ -197,7 +197,7 @@ module _ (E : Database) (stamp : ℕ) (S : LogState) (H : Holds S) (i : ℕ) (sl
   waits : AllByRecursion WaitsQuietly (S.sites i).waiting
   waits = site-waits S H i up plain
 
-  comes : arrival (start_at S i) (term_at S i) l ≡ Taken → Comes S.words.deployment i (S.sites i) from l
+  comes : arrival (site_start S i) (term_at S i) l ≡ Taken → Comes S.words.deployment i (S.sites i) from l
   comes = site-comes S H i slot up from l ls is
 
   pub given-steady : leads S.words.deployment i (S.sites i) ≡ true → leads S.words.deployment i u ≡ true → u.view ≡ (S.sites i).view
@@ -221,7 +221,7 @@ module _ (E : Database) (stamp : ℕ) (S : LogState) (H : Holds S) (i : ℕ) (sl
           quiet-word x.from x.letter (all-at WaitsQuietly (S.sites i).waiting waits x (k.waits x m))))).view ∙ k.view
 
   -- a report that it takes is of its term
-  own-report : leads S.words.deployment i u ≡ true → arrival (start_at S i) (term_at S i) l ≡ Taken → ReportOf (ReportsOk S (part S i) (site_term u)) from l
+  own-report : leads S.words.deployment i u ≡ true → arrival (site_start S i) (term_at S i) l ≡ Taken → ReportOf (ReportsOk S (part S i) (site_term u)) from l
   own-report led take = go from (site-same-word led) (site-report S H i slot up from l ls is take)
     where
       go : (from : Actor) → ((c : ℕ) → from ≡ Site c → u.view ≡ (S.sites i).view) → ReportOf (ReportsOk S (part S i) (term_at S i)) from l

@@ -16,11 +16,11 @@ use Rattle.cluster_model.specs.SiteState.{SiteState}
 use Rattle.cluster_model.specs.World.{rest}
 use Rattle.cluster_steps.proofs.Lists.{all-mono, and-false, eqb-same, if-false, if-true, none-and-some, not-both, same-some}
 use Rattle.word_laws.proofs.Steps as word_steps
-use Rattle.log_laws.specs.Histories.{LogState, Holds, IsSlot, is_for, part, start_at, term_at}
+use Rattle.log_laws.specs.Histories.{LogState, LogsHold, IsSlot, is_for, part, site_start, term_at}
 use Rattle.log_laws.proofs.Plain.Lines.{both-empty, flat-none, for-false, for-true, if-none, true-for}
 use Rattle.log_laws.proofs.Messages.Pops.{refused-for, waits-for}
 use Rattle.log_laws.proofs.Runs.SiteHandlers.{taken-here}
-use Rattle.log_laws.proofs.Kept.Moves.{popped}
+use Rattle.log_laws.proofs.Kept.Moves.{site_popped}
 use Rattle.log_laws.proofs.Kept.Plumbing.{popped-here}
 use Rattle.log_laws.proofs.Kept.Terms.{leadership-entered, same-word}
 use Rattle.log_laws.proofs.Entries.Leads.{Leading}
@@ -30,12 +30,12 @@ use Rattle.transaction_laws.proofs.Sites.SiteWalk.{taken_by}
 -- ---- channels to a site that takes a message
 
 -- from the agents that didn't send it, and to other slots
-popped-agent : (S : LogState) (from : Actor) (i h : ℕ) → (from ≡ Agent h → ⊥) → (popped S from i).words.channel (Agent h) (Site i) ≡ S.words.channel (Agent h) (Site i)
+popped-agent : (S : LogState) (from : Actor) (i h : ℕ) → (from ≡ Agent h → ⊥) → (site_popped S from i).words.channel (Agent h) (Site i) ≡ S.words.channel (Agent h) (Site i)
 popped-agent S from i h n =
     let e = false_from_ne_true (same from (Agent h)) (λ q. n (word_steps.same-true from (Agent h) q)) in
     if-false (i == i && same from (Agent h)) (rest (S.words.channel (Agent h) (Site i))) (S.words.channel (Agent h) (Site i)) (ap (λ b. i == i && b) e ∙ and-false (i == i))
 
-pub popped-there : (S : LogState) (from a : Actor) (i c : ℕ) → (c ≡ i → ⊥) → (popped S from i).words.channel a (Site c) ≡ S.words.channel a (Site c)
+pub popped-there : (S : LogState) (from a : Actor) (i c : ℕ) → (c ≡ i → ⊥) → (site_popped S from i).words.channel a (Site c) ≡ S.words.channel a (Site c)
 popped-there S from a i c n = let e : (i == c) ≡ false = grind (arith, nat_tests, n) in rw e refl
 
 -- ---- rounds and ends
@@ -73,27 +73,27 @@ pub head-ok : (S : LogState) (i : ℕ) → ((h : ℕ) → AllByRecursion (ToSite
     → S.words.channel from (Site i) ≡ l ∷ ls → (h : ℕ) → from ≡ Agent h → ToSiteOk S h i l
 head-ok S i ok from l ls is h e = (subst (AllByRecursion (ToSiteOk S h i)) (ap (λ a. S.words.channel a (Site i)) (sym e) ∙ is) (ok h)).0
 
-module _ (S : LogState) (H : Holds S) (i : ℕ) (slot : IsSlot S i) where
+module _ (S : LogState) (H : LogsHold S) (i : ℕ) (slot : IsSlot S i) where
   abbrev s : SiteState
   s = S.sites i
 
   -- The receiver has been in the term of one that is for it.
-  order-below : (h : ℕ) (l : Letter) → OrderOk S h i l → l.start ≡ start_at S i → l.term ≤ term_at S i
+  order-below : (h : ℕ) (l : Letter) → OrderOk S h i l → l.start ≡ site_start S i → l.term ≤ term_at S i
   order-below h l k own =
       let e = leadership-entered S H (part S i) l.term k.leadership k.led k.word k.is_word i l.start slot refl k.start_is in
       ((H.entered i l.term e.0 e.1).running (sym own ∙ sym e.2)).1
 
   -- So it takes it, or drops it.
-  order-waits : (h : ℕ) (l : Letter) → OrderOk S h i l → arrival (start_at S i) (term_at S i) l ≡ Waits → ⊥
+  order-waits : (h : ℕ) (l : Letter) → OrderOk S h i l → arrival (site_start S i) (term_at S i) l ≡ Waits → ⊥
   order-waits h l k e =
-      let w = waits-for (start_at S i) (term_at S i) l e in
+      let w = waits-for (site_start S i) (term_at S i) l e in
       elim w.0 [
         | inl z ↦ let a = k.addressed.0 in absurd (omega (arith, a, z))
         | inr q ↦ let a = order-below h l k q in let b = w.1 in absurd (omega (arith, a, b))
       ]
 
-  pub order-waits-none : (from : Actor) (l : Letter) → ((h : ℕ) → from ≡ Agent h → ToSiteOk S h i l) → arrival (start_at S i) (term_at S i) l ≡ Waits → WaitsPlain from l
-  order-waits-none (Agent h) l ok e = (elim l.body as (λ m. ToSiteOk S h i (record l { body = m }) → arrival (start_at S i) (term_at S i) (record l { body = m }) ≡ Waits → WaitsPlain (Agent h) (record l { body = m })) [
+  pub order-waits-none : (from : Actor) (l : Letter) → ((h : ℕ) → from ≡ Agent h → ToSiteOk S h i l) → arrival (site_start S i) (term_at S i) l ≡ Waits → WaitsPlain from l
+  order-waits-none (Agent h) l ok e = (elim l.body as (λ m. ToSiteOk S h i (record l { body = m }) → arrival (site_start S i) (term_at S i) (record l { body = m }) ≡ Waits → WaitsPlain (Agent h) (record l { body = m })) [
     | msg.Frag m round body ↦ λ k e. order-waits h (record l { body = msg.Frag m round body }) k e
     | msg.Done m o ↦ λ k e. order-waits h (record l { body = msg.Done m o }) k e
     | m ↦ λ k e. tt
@@ -104,10 +104,10 @@ module _ (S : LogState) (H : Holds S) (i : ℕ) (slot : IsSlot S i) where
   order-waits-none (Scanner x) l ok e = tt
 
   -- What it takes is what is for its start and term.
-  order-taken : (h : ℕ) (l : Letter) → ToSiteOk S h i l → order_of (start_at S i) (term_at S i) l ≡ taken_by s (Agent h) l
+  order-taken : (h : ℕ) (l : Letter) → ToSiteOk S h i l → order_of (site_start S i) (term_at S i) l ≡ taken_by s (Agent h) l
   order-taken h l k = elim (order-one S h i l k) [
-    | inl e ↦ none-ordered (start_at S i) (term_at S i) l e ∙ sym (none-taken e (arrival (start_at S i) (term_at S i) l))
-    | inr (o, _) ↦ either o (arrival (start_at S i) (term_at S i) l) refl
+    | inl e ↦ none-ordered (site_start S i) (term_at S i) l e ∙ sym (none-taken e (arrival (site_start S i) (term_at S i) l))
+    | inr (o, _) ↦ either o (arrival (site_start S i) (term_at S i) l) refl
   ]
     where
       at : Arrival → List Entry
@@ -122,9 +122,9 @@ module _ (S : LogState) (H : Holds S) (i : ℕ) (slot : IsSlot S i) where
       none-taken e Refused = refl
       none-taken e Waits = refl
 
-      either : OrderOk S h i l → (a : Arrival) → arrival (start_at S i) (term_at S i) l ≡ a → order_of (start_at S i) (term_at S i) l ≡ at a
-      either o Taken e = let q = taken-here (start_at S i) (term_at S i) l e o.addressed.0 o.addressed.1 in own-ordered (start_at S i) (term_at S i) l q.0 q.1
-      either o Refused e = other-ordered (start_at S i) (term_at S i) l (λ a b. elim (refused-for (start_at S i) (term_at S i) l e) [
+      either : OrderOk S h i l → (a : Arrival) → arrival (site_start S i) (term_at S i) l ≡ a → order_of (site_start S i) (term_at S i) l ≡ at a
+      either o Taken e = let q = taken-here (site_start S i) (term_at S i) l e o.addressed.0 o.addressed.1 in own-ordered (site_start S i) (term_at S i) l q.0 q.1
+      either o Refused e = other-ordered (site_start S i) (term_at S i) l (λ a b. elim (refused-for (site_start S i) (term_at S i) l e) [
         | inl n ↦ n a
         | inr low ↦ let x = low.1 in absurd (omega (arith, x, b))
       ])
@@ -147,14 +147,14 @@ due-first S K p t (inr (d, g, is, _, _, _)) (x ∷ xs) ys e =
     let none : xs ++ ys ≡ [] = cc in
     inr (sym e ∙ ap (λ zs. (x ∷ xs) ++ zs) (both-empty xs ys none).1 ∙ append-nil (x ∷ xs))
 
-module _ (S : LogState) (H : Holds S) (K : Transactions) (due : (p t : ℕ) → DueOk S K p t) (i : ℕ) (slot : IsSlot S i)
+module _ (S : LogState) (H : LogsHold S) (K : Transactions) (due : (p t : ℕ) → DueOk S K p t) (i : ℕ) (slot : IsSlot S i)
     (ok : (h : ℕ) → AllByRecursion (ToSiteOk S h i) (S.words.channel (Agent h) (Site i))) (calls : SiteCalls S K i) (k : Leading S i) where
   term-is : term_at S i ≡ term_of k.word
   term-is = ap term_in k.view
 
   -- what is due to it is under way from the initiator of its word
-  pub own-orders : (h a : ℕ) → initiator k.word ≡ Some (h, a) → orders (start_at S i) (term_at S i) (S.words.channel (Agent h) (Site i)) ≡ K.due (part S i) (term_at S i)
-  own-orders h a e = subst (λ t. orders (start_at S i) t (S.words.channel (Agent h) (Site i)) ≡ K.due (part S i) t) (sym term-is) (calls.orders k.word k.joins k.view k.first h a e)
+  pub own-orders : (h a : ℕ) → initiator k.word ≡ Some (h, a) → orders (site_start S i) (term_at S i) (S.words.channel (Agent h) (Site i)) ≡ K.due (part S i) (term_at S i)
+  own-orders h a e = subst (λ t. orders (site_start S i) t (S.words.channel (Agent h) (Site i)) ≡ K.due (part S i) t) (sym term-is) (calls.orders k.word k.joins k.view k.first h a e)
 
   -- and from no other agent
   own-initiator : (h : ℕ) (l : Letter) (o : OrderOk S h i l) → l.term ≡ term_at S i → initiator k.word ≡ Some (h, o.by)
@@ -172,47 +172,47 @@ module _ (S : LogState) (H : Holds S) (K : Transactions) (due : (p t : ℕ) → 
 
     taking : (a : Actor) → ((h : ℕ) → a ≡ Agent h → ToSiteOk S h i l) → Taking a
     taking (Agent h) okl = let take = order-taken S H i slot h l (okl h refl) in elim (order-one S h i l (okl h refl)) [
-      | inl e ↦ inl (sym take ∙ none-ordered (start_at S i) (term_at S i) l e)
-      | inr (o, _) ↦ elim (cases_Bool (is_for (start_at S i) (term_at S i) l)) [
-        | inl y ↦ inr (h, o.by, refl, own-initiator h l o (true-for (start_at S i) (term_at S i) l y).1)
-        | inr n ↦ inl (sym take ∙ if-false (is_for (start_at S i) (term_at S i) l) (order_in l.body) [] n)
+      | inl e ↦ inl (sym take ∙ none-ordered (site_start S i) (term_at S i) l e)
+      | inr (o, _) ↦ elim (cases_Bool (is_for (site_start S i) (term_at S i) l)) [
+        | inl y ↦ inr (h, o.by, refl, own-initiator h l o (true-for (site_start S i) (term_at S i) l y).1)
+        | inr n ↦ inl (sym take ∙ if-false (is_for (site_start S i) (term_at S i) l) (order_in l.body) [] n)
       ]
     ]
-    taking (Site c) okl = inl (takes-nothing (arrival (start_at S i) (term_at S i) l))
-    taking Director okl = inl (takes-nothing (arrival (start_at S i) (term_at S i) l))
-    taking (Client n) okl = inl (takes-nothing (arrival (start_at S i) (term_at S i) l))
-    taking (Scanner x) okl = inl (takes-nothing (arrival (start_at S i) (term_at S i) l))
+    taking (Site c) okl = inl (takes-nothing (arrival (site_start S i) (term_at S i) l))
+    taking Director okl = inl (takes-nothing (arrival (site_start S i) (term_at S i) l))
+    taking (Client n) okl = inl (takes-nothing (arrival (site_start S i) (term_at S i) l))
+    taking (Scanner x) okl = inl (takes-nothing (arrival (site_start S i) (term_at S i) l))
 
     -- of a channel from the initiator: what it takes, and what is under way behind that
     module _ (h a : ℕ) (init : initiator k.word ≡ Some (h, a)) (e : from ≡ Agent h) where
-      take-first : order_of (start_at S i) (term_at S i) l ≡ taken_by (S.sites i) from l
+      take-first : order_of (site_start S i) (term_at S i) l ≡ taken_by (S.sites i) from l
       take-first = order-taken S H i slot h l (from-agent h e) ∙ ap (λ b. taken_by (S.sites i) b l) (sym e)
 
       from-is : S.words.channel (Agent h) (Site i) ≡ l ∷ ls
       from-is = ap (λ b. S.words.channel b (Site i)) (sym e) ∙ is
 
-      parts : taken_by (S.sites i) from l ++ orders (start_at S i) (term_at S i) ls ≡ K.due (part S i) (term_at S i)
-      parts = ap (λ xs. xs ++ orders (start_at S i) (term_at S i) ls) (sym take-first) ∙ ap (orders (start_at S i) (term_at S i)) (sym from-is) ∙ own-orders h a init
+      parts : taken_by (S.sites i) from l ++ orders (site_start S i) (term_at S i) ls ≡ K.due (part S i) (term_at S i)
+      parts = ap (λ xs. xs ++ orders (site_start S i) (term_at S i) ls) (sym take-first) ∙ ap (orders (site_start S i) (term_at S i)) (sym from-is) ∙ own-orders h a init
 
-      left : (popped S from i).words.channel (Agent h) (Site i) ≡ ls
-      left = ap (λ b. (popped S from i).words.channel b (Site i)) (sym e) ∙ popped-here S from i ∙ ap rest is
+      left : (site_popped S from i).words.channel (Agent h) (Site i) ≡ ls
+      left = ap (λ b. (site_popped S from i).words.channel b (Site i)) (sym e) ∙ popped-here S from i ∙ ap rest is
 
     -- What it takes was due.
     pub taken-due : (taken_by (S.sites i) from l ≡ []) ⊎ (K.due (part S i) (term_at S i) ≡ taken_by (S.sites i) from l)
     taken-due = elim (taking from from-agent) [
       | inl none ↦ inl none
-      | inr (h, b, e, init) ↦ due-first S K (part S i) (term_at S i) (due (part S i) (term_at S i)) (taken_by (S.sites i) from l) (orders (start_at S i) (term_at S i) ls) (parts h b init e)
+      | inr (h, b, e, init) ↦ due-first S K (part S i) (term_at S i) (due (part S i) (term_at S i)) (taken_by (S.sites i) from l) (orders (site_start S i) (term_at S i) ls) (parts h b init e)
     ]
 
     -- The rest of what is due is under way.
     pub left-orders : (h a : ℕ) → initiator k.word ≡ Some (h, a)
-        → orders (start_at S i) (term_at S i) ((popped S from i).words.channel (Agent h) (Site i)) ≡ drop (length (taken_by (S.sites i) from l)) (K.due (part S i) (term_at S i))
+        → orders (site_start S i) (term_at S i) ((site_popped S from i).words.channel (Agent h) (Site i)) ≡ drop (length (taken_by (S.sites i) from l)) (K.due (part S i) (term_at S i))
     left-orders h a init = elim (cases_Bool (same from (Agent h))) [
       | inl y ↦ let e = word_steps.same-true from (Agent h) y in
-          ap (orders (start_at S i) (term_at S i)) (left h a init e)
-          ∙ sym (drop-append_seam (taken_by (S.sites i) from l) (orders (start_at S i) (term_at S i) ls))
+          ap (orders (site_start S i) (term_at S i)) (left h a init e)
+          ∙ sym (drop-append_seam (taken_by (S.sites i) from l) (orders (site_start S i) (term_at S i) ls))
           ∙ ap (drop (length (taken_by (S.sites i) from l))) (parts h a init e)
-      | inr n ↦ ap (orders (start_at S i) (term_at S i)) (popped-agent S from i h (λ e. apart n e)) ∙ own-orders h a init
+      | inr n ↦ ap (orders (site_start S i) (term_at S i)) (popped-agent S from i h (λ e. apart n e)) ∙ own-orders h a init
           ∙ ap (λ xs. drop (length xs) (K.due (part S i) (term_at S i))) (sym (nothing (λ e. apart n e) (taking from from-agent)))
     ]
       where

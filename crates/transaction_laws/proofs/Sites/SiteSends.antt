@@ -15,7 +15,7 @@ use Rattle.cluster_model.specs.SiteState.{SiteState, Joiner, site_term, leads, o
 use Rattle.cluster_model.specs.Site.{acked_in, copy_acks, has_all_on_disk, least, lesser, own_ack, standing}
 use Rattle.cluster_steps.proofs.Lists.{all-append, none-and-some}
 use Rattle.word_laws.proofs.Members.{is_some_of-is}
-use Rattle.log_laws.specs.Histories.{LogState, Holds, IsSlot, part, start_at}
+use Rattle.log_laws.specs.Histories.{LogState, LogsHold, IsSlot, part, site_start}
 use Rattle.cluster_steps.specs.Lists.{Prefix}
 use Rattle.cluster_steps.proofs.Prefixes.{prefix-length, prefix-rest}
 use Rattle.log_laws.proofs.Kept.Terms.{some-term}
@@ -83,7 +83,7 @@ standing-calls E p prefix log f calls = ap (λ o. standing o (last_done E p pref
 
 -- ---- a site that leads
 
-module _ (E : Database) (T : LogState) (J : Holds T) (M : Firm) (halted : Bool) (disks : DisksHold T M halted) (L : Transactions) (now : ℕ) (books : Books E T M L now) (i : ℕ)
+module _ (E : Database) (T : LogState) (J : LogsHold T) (M : Firm) (halted : Bool) (disks : DisksHold T M halted) (L : Transactions) (now : ℕ) (books : Books E T M L now) (i : ℕ)
     (slot : IsSlot T i) (inside : IsPart T (part T i)) (counts : leads T.words.deployment i (T.sites i) ≡ true → CountsOk T i) where
   abbrev D : Deployment
   D = T.words.deployment
@@ -92,7 +92,7 @@ module _ (E : Database) (T : LogState) (J : Holds T) (M : Firm) (halted : Bool) 
   s = T.sites i
 
   module _ (authoritative : leads D i s ≡ true) where
-    up : 0 < start_at T i
+    up : 0 < site_start T i
     up = leads-runs T J i authoritative
 
     abbrev k : Leading T i

@@ -14,7 +14,7 @@ use Rattle.cluster_model.specs.Letters.{Letter, Sends, Waiting}
 use Rattle.cluster_model.specs.SiteState.{SiteState, site_term, leads}
 use Rattle.cluster_steps.specs.Lists.{In}
 use Rattle.cluster_steps.proofs.Lists.{all-append, all-at, all-from, all-mono, in-none, none-and-some, same-some}
-use Rattle.log_laws.specs.Histories.{LogState, Logs, LeadsIn, Leadership, Holds, IsSlot, part, start_at, log_at, term_at}
+use Rattle.log_laws.specs.Histories.{LogState, Logs, LeadsIn, Leadership, LogsHold, IsSlot, part, site_start, log_at, term_at}
 use Rattle.log_laws.proofs.Plain.Copies.{leader-is}
 use Rattle.cluster_steps.proofs.Leaders.{leader-view, leads-from}
 use Rattle.cluster_steps.proofs.Prefixes.{prefix-length}
@@ -37,9 +37,9 @@ use Rattle.transaction_laws.proofs.Sites.Leaderships.{OwnTurn, all-moved, due-he
 use Rattle.transaction_laws.proofs.Sites.SiteOrders.{none-under-way}
 use Rattle.transaction_laws.proofs.Sites.SiteCounts.{Counted, Unrepaired}
 
-module _ (E : Database) (S : LogState) (H : Holds S) (F M : Firm) (halted : Bool) (K : Transactions) (now : ℕ) (C : CallsHold E S F halted K now) (lay : LaidOut S) (i : ℕ)
-    (slot : IsSlot S i) (ch : Actor → Actor → List Letter) (u : SiteState) (out : Sends) (G : Logs) (J : Holds (next S H i ch u out G)) (grown : Grown S.words.deployment i u S.logs G)
-    (enters : Enters i (length (log_at S i)) S.logs G) (on : (u.start ≡ start_at S i) ⊎ (u.view ≡ None)) (disks : DisksHold (next S H i ch u out G) M halted)
+module _ (E : Database) (S : LogState) (H : LogsHold S) (F M : Firm) (halted : Bool) (K : Transactions) (now : ℕ) (C : CallsHold E S F halted K now) (lay : LaidOut S) (i : ℕ)
+    (slot : IsSlot S i) (ch : Actor → Actor → List Letter) (u : SiteState) (out : Sends) (G : Logs) (J : LogsHold (next S H i ch u out G)) (grown : Grown S.words.deployment i u S.logs G)
+    (enters : Enters i (length (log_at S i)) S.logs G) (on : (u.start ≡ site_start S i) ⊎ (u.view ≡ None)) (disks : DisksHold (next S H i ch u out G) M halted)
     (raised : Raised S.words.deployment i u F M) (tops : (p m n : ℕ) → Top S p m n → Top (next S H i ch u out G) p m n) (taken : List Entry) where
   abbrev D : Deployment
   D = S.words.deployment
@@ -55,10 +55,10 @@ module _ (E : Database) (S : LogState) (H : Holds S) (F M : Firm) (halted : Bool
     pub counted : leads D i u ≡ true → Counted D i u
     pub joined : (low : ℕ) → (leads D i (S.sites i) ≡ true → u.view ≡ (S.sites i).view → AllByRecursion (λ j. low ≤ j.stream_start) (S.sites i).joiners) → leads D i u ≡ true
         → low ≤ length u.log → AllByRecursion (λ j. low ≤ j.stream_start) u.joiners
-    pub unrepaired : 0 < start_at S i → Unrepaired u
+    pub unrepaired : 0 < site_start S i → Unrepaired u
     -- what is due to it then is under way
     pub left : (k : Leading S i) (h a : ℕ) → initiator k.word ≡ Some (h, a)
-        → orders (start_at S i) (term_at S i) (ch (Agent h) (Site i)) ≡ drop (length taken) (K.due (part S i) (term_at S i))
+        → orders (site_start S i) (term_at S i) (ch (Agent h) (Site i)) ≡ drop (length taken) (K.due (part S i) (term_at S i))
     -- no more was under way than before, and to other sites the same
     pub less : (a b : Actor) (l : Letter) → In l (ch a b) → In l (S.words.channel a b)
     pub there : (h c : ℕ) → (c ≡ i → ⊥) → ch (Agent h) (Site c) ≡ S.words.channel (Agent h) (Site c)
@@ -155,7 +155,7 @@ module _ (E : Database) (S : LogState) (H : Holds S) (F M : Firm) (halted : Bool
         | inr heads ↦ let r = heads-own S H i ch u out G J (part S c) (term_of w) g is heads in absurd (not-both-lead c n w decided first r.1 r.0 r.2)
       ]
 
-    other-site : (c : ℕ) → (c ≡ i → ⊥) → 0 < start_at S c → SiteCalls S K c → SiteCalls T L c
+    other-site : (c : ℕ) → (c ≡ i → ⊥) → 0 < site_start S c → SiteCalls S K c → SiteCalls T L c
     other-site c n up k = record {
       waiting = rw same k.waiting;
       held = subst (HoldsAnswers ToOrders) (sym same) k.held;
@@ -163,7 +163,7 @@ module _ (E : Database) (S : LogState) (H : Holds S) (F M : Firm) (halted : Bool
           let joined = ap (λ x. x.joining) (sym same) ∙ joins in
           let viewed = ap (λ x. x.view) (sym same) ∙ view in
           ap (λ x. orders x.start (term_of w) (ch (Agent h) (Site c))) same
-          ∙ ap (orders (start_at S c) (term_of w)) (facts.there h c n)
+          ∙ ap (orders (site_start S c) (term_of w)) (facts.there h c n)
           ∙ k.orders w joined viewed first h a init
           ∙ sym (due-other c n w (decided-at w joined viewed) first);
       counts = λ authoritative. counts-kept (leading S c H up (ap (leads D c) (sym same) ∙ authoritative)) (k.counts (ap (leads D c) (sym same) ∙ authoritative));
@@ -190,7 +190,7 @@ module _ (E : Database) (S : LogState) (H : Holds S) (F M : Firm) (halted : Bool
     mine : T.sites i ≡ u
     mine = here (record S { words = record S.words { channel = ch } }) i u out G
 
-    module _ (calls : 0 < start_at S i → SiteCalls S K i) where
+    module _ (calls : 0 < site_start S i → SiteCalls S K i) where
       -- as the leader of a term
       module _ (authoritative : leads D i u ≡ true) where
         abbrev k : Leading T i
@@ -199,7 +199,7 @@ module _ (E : Database) (S : LogState) (H : Holds S) (F M : Firm) (halted : Bool
         term-is : site_term u ≡ term_of k.word
         term-is = ap site_term (sym mine) ∙ ap term_in k.view
 
-        up : 0 < start_at S i
+        up : 0 < site_start S i
         up = runs S H i ch u out G J enters on authoritative
 
         -- no stream began before what its term began with
@@ -246,7 +246,7 @@ module _ (E : Database) (S : LogState) (H : Holds S) (F M : Firm) (halted : Bool
               let t : term_at S i ≡ term_of w = ap term_in b.1 ∙ ap term_of (sym same) in
               let v = same-some (sym m.view ∙ b.1 ∙ ap Some (sym same)) in
               ap (λ n. orders n (term_of w) (ch (Agent h) (Site i))) (ap (λ x. x.start) (sym mine) ∙ start S H i ch u out G J enters on y)
-              ∙ subst (λ n. orders (start_at S i) n (ch (Agent h) (Site i)) ≡ due (part S i) n) t
+              ∙ subst (λ n. orders (site_start S i) n (ch (Agent h) (Site i)) ≡ due (part S i) n) t
               (facts.left m h a (ap initiator v ∙ init) ∙ sym (due-here S K i u taken y (ap term_in view ∙ sym t)))
 
           go : (o : Option Leadership) → S.logs.leadership (part S i) (term_of w) ≡ o → orders u.start (term_of w) (ch (Agent h) (Site i)) ≡ due (part S i) (term_of w)
@@ -256,7 +256,7 @@ module _ (E : Database) (S : LogState) (H : Holds S) (F M : Firm) (halted : Bool
           go (Some g) e = led g e
 
       -- one that has just begun counts none
-      unrepaired-here : 0 < u.start → (u.start ≡ start_at S i) ⊎ (u.view ≡ None) → Unrepaired u
+      unrepaired-here : 0 < u.start → (u.start ≡ site_start S i) ⊎ (u.view ≡ None) → Unrepaired u
       unrepaired-here some (inl e) = facts.unrepaired (omega (arith, some, e))
       unrepaired-here some (inr none) = λ _. elim ((J.sites i).keeps (subst (λ x. 0 < x.start) (sym mine) some)).leads [
         | inl e ↦ ap (λ x. x.joiners) (sym mine) ∙ e
@@ -279,9 +279,9 @@ module _ (E : Database) (S : LogState) (H : Holds S) (F M : Firm) (halted : Bool
 
       -- ---- all sites, and what they say
 
-      sites : (c : ℕ) → IsSlot S c → 0 < start_at T c → SiteCalls T L c
+      sites : (c : ℕ) → IsSlot S c → 0 < site_start T c → SiteCalls T L c
       sites c is some = elim (cases_eq c i) [
-        | inl e ↦ subst (SiteCalls T L) (sym e) (own-site (subst (λ x. 0 < x.start) mine (subst (λ z. 0 < start_at T z) e some)))
+        | inl e ↦ subst (SiteCalls T L) (sym e) (own-site (subst (λ x. 0 < x.start) mine (subst (λ z. 0 < site_start T z) e some)))
         | inr n ↦
             let was = subst (λ x. 0 < x.start) (there (record S { words = record S.words { channel = ch } }) i u out G c n) some in
             other-site c n was (C.sites c is was)

@@ -25,7 +25,7 @@ use Rattle.cluster_steps.proofs.Steps.{KnownOf, with_entry}
 use Rattle.cluster_steps.proofs.SiteWalk.{handler-walk, leads_with-walk, works_calls-walk}
 use Rattle.cluster_steps.proofs.SiteTurns.{ForHost, NoWord, Wrote, takes_asks-cases, enters-walk, handler-keeps, joins-walk, stays_joiner, site_turn-cases, view-keeps, whole_turn, whole-keeps, worked_turn, worked-walk}
 use Rattle.cluster_steps.proofs.StateSteps.{Comes, ComesPlainly, Over, Plainly, ReportOf, StateSteps, over-steps, over-tells, with_others}
-use Rattle.log_laws.specs.Histories.{LogState, WaitingFrom, WaitingOk}
+use Rattle.log_laws.specs.Histories.{LogState, SiteWaitingFrom, SiteWaitingOk}
 use Rattle.transaction_laws.specs.Transactions.{WaitsPlain, order_in}
 
 -- ---- messages
@@ -49,17 +49,17 @@ InertKind from l = Unit {0}
 abbrev pub WaitsQuietly : Waiting → Type 0
 WaitsQuietly x = InertKind x.from x.letter
 
-pub waits-quietly : (S : LogState) (c : ℕ) (x : Waiting) → WaitingOk S c x → WaitsPlain x.from x.letter → WaitsQuietly x
+pub waits-quietly : (S : LogState) (c : ℕ) (x : Waiting) → SiteWaitingOk S c x → WaitsPlain x.from x.letter → WaitsQuietly x
 waits-quietly S c x k p = go x.from x.letter k.1 p
   where
-    go : (from : Actor) (l : Letter) → WaitingFrom S c from l → WaitsPlain from l → InertKind from l
-    go (Site j) l = elim l.body as (λ b. WaitingFrom S c (Site j) (record l { body = b }) → WaitsPlain (Site j) (record l { body = b }) → InertKind (Site j) (record l { body = b })) [
+    go : (from : Actor) (l : Letter) → SiteWaitingFrom S c from l → WaitsPlain from l → InertKind from l
+    go (Site j) l = elim l.body as (λ b. SiteWaitingFrom S c (Site j) (record l { body = b }) → WaitsPlain (Site j) (record l { body = b }) → InertKind (Site j) (record l { body = b })) [
       | msg.Put position e floor ↦ λ k p. k
       | msg.Repair from entries ↦ λ k p. k
       | msg.StreamStart head ↦ λ k p. k
       | b ↦ λ k p. tt
     ]
-    go (Agent h) l = elim l.body as (λ b. WaitingFrom S c (Agent h) (record l { body = b }) → WaitsPlain (Agent h) (record l { body = b }) → InertKind (Agent h) (record l { body = b })) [
+    go (Agent h) l = elim l.body as (λ b. SiteWaitingFrom S c (Agent h) (record l { body = b }) → WaitsPlain (Agent h) (record l { body = b }) → InertKind (Agent h) (record l { body = b })) [
       | msg.View w ↦ λ k p. k
       | msg.Frag m round body ↦ λ k p. p
       | msg.Done m o ↦ λ k p. p

@@ -2,4 +2,4 @@ use Rattle.transaction_laws.proofs.Runs.Laws.{points-within}
 use Rattle.transaction_laws.proofs.points_never_fall.Goals as goal
 
 pub returns : goal.returns
-returns g c = λ input es i laid some r slot. points-within g.B.AnyDatabase.database input es laid some r i slot
+returns g c = λ input w i r slot. points-within g.B.AnyDatabase.database input w r i slot

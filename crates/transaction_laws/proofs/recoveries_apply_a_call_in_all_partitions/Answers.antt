@@ -2,4 +2,4 @@ use Rattle.transaction_laws.proofs.Runs.Laws.{goes-on-alike}
 use Rattle.transaction_laws.proofs.recoveries_apply_a_call_in_all_partitions.Goals as goal
 
 pub returns : goal.returns
-returns g c = λ input es shown p q laid some r may part other. goes-on-alike g.B.AnyDatabase.database input es laid some r shown p q may part other
+returns g c = λ input w shown p q r may part other. goes-on-alike g.B.AnyDatabase.database input w r shown p q may part other
