@@ -13,7 +13,7 @@ use Rattle.cluster_model.specs.Words.{all_parts, is_in, term_of}
 use Rattle.cluster_model.specs.Letters.{Turn, becomes}
 use Rattle.cluster_model.specs.AgentState.{AgentState, Phase, Off, Hears, Closes, Idle, Works, Work, Decision}
 use Rattle.cluster_model.specs.Initiator.{with_phase, with_work, all_finished, ends_job, settles, on_finished}
-use Rattle.cluster_steps.proofs.Lists.{same-some, none-and-some, all-behind, list_all-at}
+use Rattle.cluster_steps.proofs.Lists.{all-first, same-some, none-and-some, all-behind, list_all-at}
 use Rattle.log_laws.specs.Histories.{LogState, LogsHold}
 use Rattle.log_laws.proofs.Plain.Copies.{is_in-in}
 use Rattle.disk_laws.specs.Disks.{Firm}
@@ -23,7 +23,7 @@ use Rattle.transaction_laws.proofs.Kept.Moves.{InitiatorGoes}
 use Rattle.transaction_laws.proofs.Entries.Machine.{first-sound, stage-append, done-last}
 use Rattle.transaction_laws.proofs.Initiators.Orders.{LaidOut}
 use Rattle.transaction_laws.proofs.Initiators.Turns.{goes-still, goes-from}
-use Rattle.transaction_laws.proofs.Entries.Since.{all-first, part-in, due-calls}
+use Rattle.transaction_laws.proofs.Entries.Since.{part-in, due-calls}
 use Rattle.transaction_laws.proofs.Initiators.Settling.{settles-goes, ends_job-goes}
 
 -- ---- where the last transaction ends, and its end stands for good

@@ -17,7 +17,7 @@ use Rattle.cluster_model.specs.Letters.{Letter}
 use Rattle.cluster_model.specs.AgentState.{AgentState, Phase, Off, Hears, Closes, Idle, Works, Work, Decision}
 use Rattle.cluster_model.specs.Site.{standing}
 use Rattle.cluster_steps.specs.Lists.{In, Prefix}
-use Rattle.cluster_steps.proofs.Lists.{same-some, none-and-some, not-both, in-left, in-right, in-cases, all-at, all-append, all-mono, all-behind}
+use Rattle.cluster_steps.proofs.Lists.{all-first, same-some, none-and-some, not-both, in-left, in-right, in-cases, all-at, all-append, all-mono, all-behind}
 use Rattle.word_laws.proofs.Agreement.{member-is}
 use Rattle.word_laws.proofs.Members.{initiator-member}
 use Rattle.log_laws.specs.Histories.{LogState, Logs, Leadership, Last, LogsHold, known, epoch_base, part}
@@ -29,7 +29,7 @@ use Rattle.transaction_laws.specs.Machine.{Stage, WellFormed, first_stage, stage
 use Rattle.transaction_laws.specs.Transactions.{Transactions, Books, LeadershipFits, HeardPart, HeardOk, DueOk, Aligned, IsPart, IsCall, OnlyCalls, OfNumber, NoRound, Everywhere, Stood, StateOk, OrderOk, AnswerOk, ToSiteOk, Settled, Fed, IsEnded, AtHand, PhaseOk, led_log, whole, since}
 use Rattle.transaction_laws.proofs.Kept.Moves.{Onto, BeginsTerm, GoesOnTerm, Moved, with_due, Under, CallsAt}
 use Rattle.transaction_laws.proofs.Entries.Machine.{AtMostOne, formed-append, formed-prefix, prefix-point, calls-only, calls-formed, calls-point, due-formed, due-opened, due-number, due-point, stage-append}
-use Rattle.transaction_laws.proofs.Entries.Since.{all-first, call-number, call-round}
+use Rattle.transaction_laws.proofs.Entries.Since.{call-number, call-round}
 use Rattle.transaction_laws.proofs.Entries.Aligned.{under-refl, under-prefix, under-trans, under-calls, aligned-under}
 
 -- ---- what only grows
