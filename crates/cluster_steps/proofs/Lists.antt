@@ -164,6 +164,10 @@ pub all-map : {A B : Type 0} (P : B → Type 0) (f : A → B) → ((x : A) → P
 all-map P f g [] = tt
 all-map P f g (x ∷ xs) = (g x, all-map P f g xs)
 
+pub all-first : {A : Type 0} (P : A → Type 0) (xs ys : List A) → AllByRecursion P (xs ++ ys) → AllByRecursion P xs
+all-first P [] ys h = tt
+all-first P (x ∷ xs) ys h = (h.0, all-first P xs ys h.1)
+
 pub all-behind : {A : Type 0} (P : A → Type 0) (xs ys : List A) → AllByRecursion P (xs ++ ys) → AllByRecursion P ys
 all-behind P [] ys h = h
 all-behind P (x ∷ xs) ys h = all-behind P xs ys h.1

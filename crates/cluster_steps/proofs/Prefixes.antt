@@ -1,7 +1,7 @@
 -- Logs that are a prefix of others, and what is behind a position.
-use Rattle.std.proofs.Common.{◌≡◌, ◌+◌, ◌-◌, ◌≤◌, List, [], ◌∷◌, ◌++◌, length, drop, append_assoc, append-nil, length-append, drop-drop, refl, sym, subst, ap, ◌∙◌, ◌⊎◌, inl, inr, arith, take, length-take, take_all, take-append-drop}
+use Rattle.std.proofs.Common.{◌≡◌, ◌+◌, ◌-◌, ◌≤◌, List, [], ◌∷◌, ◌++◌, length, drop, append_assoc, append-nil, drop-drop, refl, sym, subst, ap, ◌∙◌, ◌⊎◌, inl, inr, arith, take, length-take, take_all, take-append-drop}
 use Rattle.std.proofs.lemmas.Bool.{cases_lt}
-use Rattle.std.proofs.lemmas.List.{drop-append-le, nil_from_length, take-append-le}
+use Rattle.std.proofs.lemmas.List.{drop-append-le, take-append-le}
 use Rattle.std.proofs.lemmas.List.Prefix.{front_rest, front_fits}
 use Rattle.std.specs.Prelude.{ℕ}
 use Rattle.volt_base.specs.declared.entry.Entry.{Entry}
@@ -32,12 +32,6 @@ prefix-same xs ys e = subst (Prefix xs) e (prefix-refl xs)
 -- it isn't longer
 pub prefix-length : (xs ys : List Entry) → Prefix xs ys → length xs ≤ length ys
 prefix-length xs ys (more, e) = front_fits ys xs more e
-
--- it is the whole list, if it is as long
-pub prefix-whole : (xs ys : List Entry) → Prefix xs ys → length ys ≤ length xs → xs ≡ ys
-prefix-whole xs ys (more, e) l =
-    let none : more ≡ [] = nil_from_length more (omega (arith, l, ap length e, length-append xs more)) in
-    sym (e ∙ ap (λ z. xs ++ z) none ∙ append-nil xs)
 
 -- ---- two lists of which each is a prefix of a third one
 

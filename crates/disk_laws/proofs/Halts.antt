@@ -95,7 +95,7 @@ module _ (S : LogState) (H : LogsHold S) (c : ℕ) (slot : IsSlot S c) (up : 0 <
 -- ---- a turn of an agent
 
 module _ (S : LogState) (K : Halted S) (n : ℕ) (from : Actor) (t : Turn AgentState) (r : AgentGoes S n from t) where
-  -- the state after_site it
+  -- the state after it
   abbrev pub T : LogState
   T = record S { words = word_moves.after_agent (word_moves.agent_popped S.words from n) n t.state t.sends r.history }
 

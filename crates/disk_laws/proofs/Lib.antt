@@ -15,5 +15,6 @@ pub mod SyncContents
 pub mod SyncParts
 pub mod Syncs
 pub mod Turning
+pub mod Worded
 pub mod Worlds
 pub mod Writing

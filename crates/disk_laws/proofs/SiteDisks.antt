@@ -23,7 +23,7 @@ use Rattle.disk_laws.proofs.Contents.{Rises, contents-later, firm-later}
 use Rattle.disk_laws.proofs.Own.{OwnAt, disk-own, own-disk, own-on}
 use Rattle.disk_laws.specs.Disks.{AtLeast, Top, Firm, ContentOk, DiskOk, StreamLetter, Halted, FirmOk, DisksHold}
 
--- ---- what is firm, after_site a turn of one site
+-- ---- what is firm, after a turn of one site
 
 -- The greatest position that was counted firm is as it was, but for the site's partition, where a leader may have raised it.
 pub record Raised (D : Deployment) (i : ℕ) (s : SiteState) (F G : Firm) : Type 0 where
@@ -71,7 +71,7 @@ module _ (S : LogState) (H : LogsHold S) (F M : Firm) (halted : Bool) (K : Disks
     leader-up : leads D i s ≡ true → 0 < site_start later i
     leader-up l = leads-runs later L i (subst (λ x. leads D i x ≡ true) (sym site) l)
 
-    -- ---- after_site a recovery that was stopped nobody leads
+    -- ---- after a recovery that was stopped nobody leads
 
     none-leads : halted ≡ true → leads D i s ≡ true → ⊥
     none-leads e l =

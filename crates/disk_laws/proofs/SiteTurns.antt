@@ -1,6 +1,6 @@
--- Disks hold after_site a site has taken a message, whatever the environment's share is.
+-- Disks hold after a site has taken a message, whatever the environment's share is.
 use Rattle.std.proofs.Common.{◌≡◌, ◌<◌, ◌≤◌, Bool, true, false, List, [], ◌∷◌, ◌++◌, length, take, length-take, append_assoc, refl, sym, subst, ap, ◌∙◌, ◌⊎◌, inl, inr, ◌==◌, arith}
-use Rattle.std.proofs.lemmas.Bool.{cases_Bool, and_parts, and_from, eq-eqb}
+use Rattle.std.proofs.lemmas.Bool.{cases_Bool, and_parts}
 use Rattle.std.proofs.lemmas.Bool.Decides.{nat_tests}
 use Rattle.std.specs.Prelude.{ℕ, ◌&&◌, not, nat_lt, nat_le, is_none, is_some, max, if◌then◌else◌, Option, Some, None}
 use Rattle.std.specs.List.{AllByRecursion}
@@ -11,7 +11,7 @@ use Rattle.volt_wire.specs.declared.actor.Actor.TheVariants.{Director, Client, A
 use Rattle.volt_wire.specs.declared.message.Msg.{Msg}
 use Rattle.volt_wire.specs.declared.message.Msg.TheVariants as msg
 use Rattle.cluster_model.specs.Engine.{Database}
-use Rattle.cluster_model.specs.Words.{Deployment, host_of_slot, is_slot_of, is_member, term_of, term_in}
+use Rattle.cluster_model.specs.Words.{Deployment, host_of_slot, is_member, term_of, term_in}
 use Rattle.cluster_model.specs.Disk.{Shown, mark_of, after_parts, after_failure}
 use Rattle.cluster_model.specs.Letters.{Blocks, Letter, Turn, becomes, sending, only, open_letter, Arrival, arrival, Taken, Refused, Waits}
 use Rattle.cluster_model.specs.SiteState.{SiteState, Joining, Streamed, new_joiner, stopped_site, site_term, is_joiner}
@@ -21,23 +21,20 @@ use Rattle.cluster_model.specs.Laws.{starts_in}
 use Rattle.cluster_model.specs.Environment.{Environment, NoFault, DiskFails, NoMemory, DisksShow}
 use Rattle.cluster_steps.specs.Lists.{In, Prefix}
 use Rattle.cluster_steps.proofs.Lists.{all-mono, none-and-some, same-some, not-both}
-use Rattle.word_laws.proofs.Agreement.{member-is}
-use Rattle.word_laws.proofs.Members.{is_member-start, start-is_member}
+use Rattle.word_laws.proofs.Members.{start-is_member}
 use Rattle.log_laws.specs.Histories.{LogState, Logs, Leadership, LogsHold, IsSlot, SiteLetterOk, SiteWaitingOk, JoinerOk, ViewIn, StreamIn, InWord, Took, HeldOk, StreamedOk, agent_to_site, part, site_start, log_at, term_at}
-use Rattle.cluster_steps.proofs.Leaders.{a-joiner}
-use Rattle.log_laws.proofs.NewTerms.Entering.{took-admitted, ran-owner, running-ran}
 use Rattle.cluster_steps.proofs.Prefixes.{prefixes-order, prefix-trans, prefix-take}
 use Rattle.log_laws.proofs.Kept.Moves.{Grown, after_site, site_popped}
 use Rattle.log_laws.proofs.Kept.Plumbing.{here}
 use Rattle.log_laws.proofs.Messages.Pops.{taken-for, waits-for}
-use Rattle.log_laws.proofs.NewTerms.Taking.{first-word, later-word}
-use Rattle.log_laws.proofs.Kept.Terms.{took-unnamed}
+use Rattle.log_laws.proofs.NewTerms.Taking.{later-word}
 use Rattle.disk_laws.specs.Disks.{Firm, ContentOk, StreamDisk, StreamOk, StreamLetter, Halted, DisksHold, shown_at}
 use Rattle.disk_laws.proofs.Order.{Raise, in-take, in-after_parts, in-after_failure, some-after_parts, some-after_failure, raise-take, raise-after_parts, raise-after_failure}
 use Rattle.cluster_steps.proofs.Steps.{with_stream}
 use Rattle.cluster_steps.proofs.SiteTurns.{Plain, PlainWaiting, as_entered, as_joiner, stays_joiner}
 use Rattle.disk_laws.proofs.Handlers.{DiskHandler, waiting-plain}
 use Rattle.disk_laws.proofs.SiteHandlers.{plain-handler, refused-handler, stream-handler, joins-handler, enters-handler, entered-held}
+use Rattle.disk_laws.proofs.Worded.{later-term, meant-for, unstreamed, word-based, word-start, word-unnamed}
 use Rattle.disk_laws.proofs.Own.{Own, OwnMember, OwnStream}
 use Rattle.disk_laws.proofs.SiteDisks.{Raised, firm-up}
 use Rattle.disk_laws.proofs.Turning.{DisksGo, Kept, Wiped, LeavesShown, firm-before, own-before, same-tops, wiped-tops, same-still, handler-disks, handler-kept, handler-goes, handler-begins, halts-after, still-kept, begins-kept, stops-kept, leaves-same, noted-kept, none-ok, stops-none, taken-from, fewer}
@@ -73,12 +70,6 @@ both-not : (b : Bool) → b ≡ true → not b ≡ true → ⊥
 both-not true e q = absurd (cc)
 both-not false e q = absurd (cc)
 
--- where it isn't both, it isn't the second
-second-not : (a b : Bool) → a ≡ true → (a && not b) ≡ false → b ≡ true
-second-not true true e q = refl
-second-not true false e q = absurd (cc)
-second-not false b e q = absurd (cc)
-
 module _ (S : LogState) (H : LogsHold S) (F : Firm) (halted : Bool) (K : DisksHold S F halted) (i : ℕ) (slot : IsSlot S i) where
   abbrev D : Deployment
   D = S.words.deployment
@@ -88,21 +79,6 @@ module _ (S : LogState) (H : LogsHold S) (F : Firm) (halted : Bool) (K : DisksHo
 
   waits-plain : 0 < site_start S i → AllByRecursion PlainWaiting s.waiting
   waits-plain up = all-mono (SiteWaitingOk S i) PlainWaiting (waiting-plain S i) s.waiting ((H.sites i).keeps up).waiting
-
-  -- a joiner that has no stream has loaded nothing
-  unbased : (j : Joining) → s.joining ≡ Some j → j.stream ≡ None → (j.is_loaded ≡ false) × (log_at S i ≡ [])
-  unbased j e none = seen s.view k.view
-    where
-      k : JoinerOk S i j
-      k = (H.sites i).joiner j e
-
-      streamed : (w : Membership) (o : Option Streamed) → o ≡ None → StreamIn S i w j o → (j.is_loaded ≡ false) × (log_at S i ≡ [])
-      streamed w None q u = (u.loads, u.empty)
-      streamed w (Some st) q u = absurd (none-and-some q refl)
-
-      seen : (o : Option Membership) → ViewIn S i j o → (j.is_loaded ≡ false) × (log_at S i ≡ [])
-      seen None u = (u.loads, u.empty)
-      seen (Some w) u = streamed w j.stream none u.stream
 
   -- ---- a stream that the joiner takes
 
@@ -161,13 +137,13 @@ module _ (S : LogState) (H : LogsHold S) (F : Firm) (halted : Bool) (K : DisksHo
       unwritten : s.on_disk ≤ length l.past
       unwritten =
           let a = ((H.sites i).keeps up).on_disk in
-          let b = ap length (unbased j joins fresh).1 in
+          let b = ap length (unstreamed S H i j joins fresh).1 in
           omega (arith, a, b)
 
       blank-based : j.is_based ≡ false
       blank-based = elim (cases_Bool j.is_based) [
         | inr e ↦ e
-        | inl e ↦ absurd (not-both j.is_loaded (((H.sites i).joiner j joins).based e) (unbased j joins fresh).0)
+        | inl e ↦ absurd (not-both j.is_loaded (((H.sites i).joiner j joins).based e) (unstreamed S H i j joins fresh).0)
       ]
 
       stream-own : (C : Shown → Type 0) (led : ℕ → Option Leadership) (top : ℕ) → C None → Own halted C led top u
@@ -209,24 +185,15 @@ module _ (S : LogState) (H : LogsHold S) (F : Firm) (halted : Bool) (K : DisksHo
   -- ---- a word
 
   module _ (h : ℕ) (l : Letter) (w : Membership) (ls : List Letter) (is : S.words.channel (Agent h) (Site i) ≡ record l { body = msg.View w } ∷ ls) (up : 0 < site_start S i) where
-    own-is : agent_to_site S i ≡ record l { body = msg.View w } ∷ ls
-    own-is = ap (λ z. S.words.channel (Agent z) (Site i)) (sym (rw is at (H.foreign (Agent h) i)).0) ∙ is
-
-    meant : (l.term ≡ 0) × (0 < l.start)
-    meant = (rw own-is at (H.views i).plain).0
-
     module _ (take-it : arrival (site_start S i) (term_at S i) (record l { body = msg.View w }) ≡ Taken) where
-      word-start : l.start ≡ site_start S i
-      word-start = elim (taken-for (site_start S i) (term_at S i) (record l { body = msg.View w }) take-it).0 [
-        | inl z ↦ let a = meant.1 in absurd (omega (arith, a, z))
-        | inr e ↦ e
-      ]
+      abbrev word-for : l.start ≡ site_start S i
+      word-for = word-start S H i slot up h l w ls is take-it
 
       later-named : (v : Membership) → s.view ≡ Some v → is_member w (host_of_slot D i) (site_start S i) ≡ true
-      later-named v e = start-is_member w (host_of_slot D i) (site_start S i) (later-word S H h i l w ls is word-start up v e).1
+      later-named v e = start-is_member w (host_of_slot D i) (site_start S i) (later-word S H h i l w ls is word-for up v e).1
 
-      higher : (v : Membership) → s.view ≡ Some v → term_at S i < term_of w
-      higher v e = let a = (later-word S H h i l w ls is word-start up v e).2 in let b = ap term_in e in omega (arith, a, b)
+      higher : term_at S i < term_of w
+      higher = later-term S H i slot up h l w ls is take-it
 
       held : AllByRecursion HeldOk (in_new_term s w).held
       held = entered-held s w ((H.sites i).keeps up).held
@@ -277,15 +244,7 @@ module _ (S : LogState) (H : LogsHold S) (F : Firm) (halted : Bool) (K : DisksHo
 
         -- its base is on disk
         based : j.is_based ≡ true
-        based =
-            let lw = later-word S H h i l w ls is word-start up v view in
-            let good = H.words.history.decided_good w lw.0 in
-            let named = (member-is S.words H.words.history w (host_of_slot D i) (site_start S i) good lw.1).0 in
-            let x = took-admitted S H (site_start S i) v w in_word.took lw.0 named in
-            let owned = ran-owner S H i (site_start S i) (running-ran S H i up) in
-            let here : is_slot_of D (S.words.owner x.0.start) i ≡ true =
-            and_from _ (host_of_slot D i == S.words.owner x.0.start) slot (eq-eqb _ _ (sym (ap S.words.owner x.2 ∙ owned))) in
-            (H.loads.admitted x.0 x.1 i here).1 up (sym x.2) j joins
+        based = word-based S H i slot up h l w ls is take-it j joins v view
 
         module _ (st : Streamed) (stream : j.stream ≡ Some st) where
           taken : Took S i v j st.stream_start
@@ -311,7 +270,7 @@ module _ (S : LogState) (H : LogsHold S) (F : Firm) (halted : Bool) (K : DisksHo
               let f = os.2 based in
               let e : s.mark ≡ term_of v = f.1 ∙ os.0 ∙ ap term_in view in
               let r = kept (part S i) (term_of v) streamed.leadership streamed.led in
-              let above = (later-word S H h i l w ls is word-start up v view).2 in
+              let above = (later-word S H h i l w ls is word-for up v view).2 in
               record {
                 shows = f.0;
                 mark = omega (arith, e, above);
@@ -358,7 +317,7 @@ module _ (S : LogState) (H : LogsHold S) (F : Firm) (halted : Bool) (K : DisksHo
         member-own none =
             let m = old-own.member up none in
             let v = (H.sites i).member up none in
-            let above = higher v.0 v.1 in
+            let above = higher in
             record {
               shows = m.shows;
               mark = let a = m.mark in omega (arith, a, above);
@@ -377,13 +336,11 @@ module _ (S : LogState) (H : LogsHold S) (F : Firm) (halted : Bool) (K : DisksHo
                 → OwnMember (G.leadership (part S i)) (M (part S i)) (as_entered s w)
             streamed-own v e (Some st) q k = admitted-own j joins v e st q G grown.onward.kept (M (part S i)) firm-top k
             streamed-own v e None q k =
-                absurd (not-both j.is_loaded (((H.sites i).joiner j joins).based (based j joins v e)) (unbased j joins q).0)
+                absurd (not-both j.is_loaded (((H.sites i).joiner j joins).based (based j joins v e)) (unstreamed S H i j joins q).0)
 
             worded : (o : Option Membership) → s.view ≡ o → OwnMember (G.leadership (part S i)) (M (part S i)) (as_entered s w)
             worded (Some v) e = streamed-own v e j.stream refl (old-own.joiner entered-on j joins)
-            worded None e =
-                let counted = second-not (is_joiner s) (is_member w (host_of_slot D i) (site_start S i)) (a-joiner s j joins) stays in
-                absurd (took-unnamed S H (site_start S i) w i (first-word S H h i l w ls is word-start up e) (is_member-start w (host_of_slot D i) (site_start S i) counted))
+            worded None e = absurd (word-unnamed S H i slot up h l w ls is take-it j joins e stays)
 
         entered-own : Own halted (ContentOk U M halted (part S i)) (G.leadership (part S i)) (M (part S i)) (as_entered s w)
         entered-own = record {
@@ -421,7 +378,7 @@ module _ (S : LogState) (H : LogsHold S) (F : Firm) (halted : Bool) (K : DisksHo
         choice Refused e = handler-kept S H F halted K (Agent h) i slot t up (refused-handler E D i stamp s (Agent h) (record l { body = msg.View w }) (waits-plain up) e)
         choice Waits e =
             let a = (waits-for (site_start S i) (term_at S i) (record l { body = msg.View w }) e).1 in
-            let b = meant.0 in
+            let b = (meant-for S H i slot up h l w ls is).0 in
             absurd (omega (arith, a, b))
 
   -- ---- a stream, whether it is taken or not

@@ -1,4 +1,4 @@
--- A site writes what it owes its disk: all that disks show is well after_site it, also where the disk fails or no memory is found.
+-- A site writes what it owes its disk: all that disks show is well after it, also where the disk fails or no memory is found.
 use Rattle.std.proofs.Common.{◌≡◌, ◌<◌, ◌≤◌, Bool, true, false, List, [], take, refl, sym, subst, ap, true≢false, arith}
 use Rattle.std.proofs.lemmas.Bool.{and_parts}
 use Rattle.std.proofs.lemmas.Bool.Decides.{nat_tests}
@@ -35,7 +35,7 @@ sync-streams s may j joins none =
     let o : joiner_owes s j ≡ true = subst (λ x. owes_in s x ≡ true) joins (and_parts (nat_lt 0 s.start) (owes_in s s.joining) may).1 in
     not-both (is_some j.stream) (and_parts (is_some j.stream) _ o).0 (ap is_some none)
 
--- ---- all that disks show, after_site a Sync
+-- ---- all that disks show, after a Sync
 
 module _ (E : Database) (S : LogState) (H : LogsHold S) (F : Firm) (K : DisksHold S F false) (i : ℕ) (slot : IsSlot S i) (up : 0 < site_start S i) where
   abbrev s : SiteState
@@ -84,7 +84,7 @@ module _ (E : Database) (S : LogState) (H : LogsHold S) (F : Firm) (K : DisksHol
           tops = raised-tops S H F false K S.words.channel all-same i slot t M G L grown raised never
               (subst (Raise s.contents) (sym handler.at.contents) (raise-after_parts s.contents parts p.raise))
 
-  -- ---- it stops, after_site parts of which some were written
+  -- ---- it stops, after parts of which some were written
 
   module _ (start : ℕ) (xs : List Shown) (some : (xs ≡ []) → ⊥) (contents : AllByRecursion (ContentOk S F false (part S i)) xs)
       (marks : AllByRecursion (λ x. mark_of x ≤ s.greatest) xs) (raise : Raise s.contents xs) (M : Firm) (G : Logs) where
@@ -117,7 +117,7 @@ module _ (E : Database) (S : LogState) (H : LogsHold S) (F : Firm) (K : DisksHol
       (all-take (λ x. mark_of x ≤ s.greatest) answered parts p.marks))
       (raise-after_parts s.contents (take answered parts) (raise-take s.contents parts p.raise answered)) M G L grown raised
 
--- All that disks show is well after_site a site's Sync. After a recovery that was stopped there is none, since nobody has taken a stream.
+-- All that disks show is well after a site's Sync. After a recovery that was stopped there is none, since nobody has taken a stream.
 pub sync-disks : (E : Database) (S : LogState) → LogsHold S → (F : Firm) (halted : Bool) → DisksHold S F halted → (i : ℕ) → IsSlot S i → may_sync (S.sites i) ≡ true
     → (o : Environment) (M : Firm) (G : Logs) → let t = sync_turn E S.words.deployment i (S.sites i) o in
     LogsHold (after_site S i t.state t.sends G) → Grown S.words.deployment i t.state S.logs G → Raised S.words.deployment i t.state F M

@@ -1,4 +1,4 @@
--- Disks hold after_site a turn with which a site takes a message, by what the turn makes of the site.
+-- Disks hold after a turn with which a site takes a message, by what the turn makes of the site.
 use Rattle.std.proofs.Common.{◌≡◌, ◌<◌, ◌≤◌, Bool, true, false, true≢false, List, [], ◌∷◌, length, refl, sym, subst, ap, ◌∙◌, ◌⊎◌, inl, inr, ◌==◌, arith}
 use Rattle.std.proofs.lemmas.Bool.{cases_eq}
 use Rattle.std.specs.Prelude.{ℕ, max, Option, Some, None}
@@ -36,7 +36,7 @@ pub record DisksGo (S T : LogState) (M : Firm) (halted : Bool) : Type 0 where
   pub tops : (p m n : ℕ) → Top S p m n → Top T p m n
   pub still : halted ≡ true → (c : ℕ) (y : Shown) → In y (shown_at T c) → In y (shown_at S c)
 
--- Disks hold after_site this turn of the site of slot i, with which it takes the first message from this actor: with what the leader of its
+-- Disks hold after this turn of the site of slot i, with which it takes the first message from this actor: with what the leader of its
 -- partition, where it leads, has counted firm by then.
 abbrev pub Kept : LogState → Firm → Bool → Actor → ℕ → Turn SiteState → Type 0
 Kept S F halted from i t =

@@ -25,8 +25,9 @@ use Rattle.cluster_steps.proofs.Frames.{InertLetter, InertSends, with_rest}
 use Rattle.cluster_steps.proofs.Steps.{LetsGo, MayTell, SmallSteps, MayBeTold, with_stream}
 use Rattle.cluster_steps.proofs.SiteWalk.{after_sync-walk}
 use Rattle.cluster_steps.proofs.SiteTurns.{Plain, PlainWaiting, MayTakeAsks, takes_asks-cases, handler-from, handler-known, settles-walk, sync_turn-cases, taken-walk, site_turn-cases, whole_turn, Wrote, wrote, written_site}
-use Rattle.log_laws.specs.Histories.{LogsHold, LogState, StreamIn, ViewIn, SiteWaitingOk, log_at, site_start}
+use Rattle.log_laws.specs.Histories.{LogsHold, LogState, SiteWaitingOk, site_start}
 use Rattle.disk_laws.proofs.Handlers.{waiting-plain}
+use Rattle.disk_laws.proofs.Worded.{unstreamed}
 use Rattle.reply_laws.specs.Answers.{Claims, ClaimsFit, HeldAnswer, HoldsAnswers, OfTerm, SentAnswer, ToInitiator, TurnAnswers, is_answer}
 use Rattle.reply_laws.proofs.Answers.{Answers, NoLog, SentFirm, all-held-on, answers-same, answers-settles, answers-steps, inert-answer, not-answer}
 
@@ -201,8 +202,4 @@ waits-plain S H i up = all-mono (SiteWaitingOk S i) PlainWaiting (waiting-plain 
 
 -- a joiner that has no stream has no entries
 pub no-log : (S : LogState) → LogsHold S → (i : ℕ) → NoLog (S.sites i)
-no-log S H i j joins none = go (S.sites i).view refl ((H.sites i).joiner j joins).view
-  where
-    go : (o : Option Membership) → (S.sites i).view ≡ o → ViewIn S i j (S.sites i).view → log_at S i ≡ []
-    go None e k = (subst (ViewIn S i j) e k).empty
-    go (Some w) e k = (subst (StreamIn S i w j) none (subst (ViewIn S i j) e k).stream).empty
+no-log S H i j joins none = (unstreamed S H i j joins none).1

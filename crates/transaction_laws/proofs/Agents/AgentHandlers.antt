@@ -46,7 +46,7 @@ no-sent S n w c l k = elim l.body as (λ m. NoOrder (record l { body = m }) → 
   | m ↦ λ k. tt
 ] k
 
-no-orders : (start term : ℕ) (ls : List Letter) → AllByRecursion NoOrder ls → orders start term ls ≡ []
+pub no-orders : (start term : ℕ) (ls : List Letter) → AllByRecursion NoOrder ls → orders start term ls ≡ []
 no-orders start term ls h = flat-none (order_of start term) ls (all-mono NoOrder (λ l. order_of start term l ≡ []) (λ l k. rw (no-order l k) (if-none (is_for start term l))) ls h)
 
 -- Nothing more is due.

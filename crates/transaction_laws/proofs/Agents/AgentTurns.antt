@@ -36,7 +36,7 @@ use Rattle.transaction_laws.specs.Transactions.{Transactions, Books, JobOk, Phas
 use Rattle.transaction_laws.proofs.Kept.Moves.{Onto, NoOrder, SentOrder, InitiatorGoes, OffGoes}
 use Rattle.transaction_laws.proofs.Kept.Later.{answer-on, to_site-on, books-worded}
 use Rattle.transaction_laws.proofs.Initiators.Orders.{LaidOut}
-use Rattle.transaction_laws.proofs.Agents.AgentHandlers.{handler-initiates, handler-off}
+use Rattle.transaction_laws.proofs.Agents.AgentHandlers.{no-orders, handler-initiates, handler-off}
 use Rattle.transaction_laws.proofs.Kept.Worded.{onto-worded, phase-worded, shows-worded}
 use Rattle.transaction_laws.proofs.Initiators.InitiatorWords.{one-initiator, has-decided, before-below, stays-initiator, decides-heard}
 
@@ -199,17 +199,6 @@ module _ (E : Database) (F : Firm) (halted : Bool) (stamp : ℕ) (S : LogState) 
 
 orders-append : (start term : ℕ) (xs ys : List Letter) → orders start term (xs ++ ys) ≡ orders start term xs ++ orders start term ys
 orders-append start term xs ys = flat_map-append (order_of start term) xs ys
-
--- other messages are none
-no-order : (start term : ℕ) (l : Letter) → NoOrder l → order_of start term l ≡ []
-no-order start term l k = elim l.body as (λ m. NoOrder (record l { body = m }) → order_of start term (record l { body = m }) ≡ []) [
-  | msg.Frag m round body ↦ λ k. absurd k
-  | msg.Done m o ↦ λ k. absurd k
-  | m ↦ λ k. if-none (is_for start term l)
-] k
-
-no-orders : (start term : ℕ) (ls : List Letter) → AllByRecursion NoOrder ls → orders start term ls ≡ []
-no-orders start term ls k = flat-none (order_of start term) ls (all-mono NoOrder (λ l. order_of start term l ≡ []) (no-order start term) ls k)
 
 no-order-letter : (S : LogState) (n c : ℕ) (l : Letter) → NoOrder l → ToSiteOk S n c l
 no-order-letter S n c l k = elim l.body as (λ m. NoOrder (record l { body = m }) → ToSiteOk S n c (record l { body = m })) [

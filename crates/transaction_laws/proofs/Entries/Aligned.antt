@@ -16,12 +16,12 @@ use Rattle.cluster_model.specs.Words.{Deployment, parts, all_parts}
 use Rattle.cluster_model.specs.Disk.{Shown, chosen, recovered, greatest_open, resolved, closed, resolved_log}
 use Rattle.cluster_model.specs.World.{greatest_done}
 use Rattle.cluster_steps.specs.Lists.{In, Prefix}
-use Rattle.cluster_steps.proofs.Lists.{same-some, none-and-some, eqb-same, if-true, in-left, in-cases, in-map, in-map-from, all-at, all-from, all-append, all-mono, all-behind}
+use Rattle.cluster_steps.proofs.Lists.{all-first, same-some, none-and-some, eqb-same, if-true, in-left, in-cases, in-map, in-map-from, all-at, all-from, all-append, all-mono, all-behind}
 use Rattle.cluster_steps.proofs.Prefixes.{prefix-refl, prefix-none, prefix-trans, prefix-same, prefixes-compare, prefix-drop, drop-behind}
 use Rattle.transaction_laws.specs.Machine.{WellFormed, first_stage, stage}
 use Rattle.transaction_laws.specs.Transactions.{Transactions, IsCall, OnlyCalls, OfNumber, NoRound, Aligned, point_in, since}
 use Rattle.transaction_laws.proofs.Kept.Moves.{Under}
-use Rattle.transaction_laws.proofs.Entries.Since.{all-first, call-number, call-round, part-in, in-part, open-number}
+use Rattle.transaction_laws.proofs.Entries.Since.{call-number, call-round, part-in, in-part, open-number}
 use Rattle.transaction_laws.proofs.Entries.Endings.{OpenAt, Closing, EndsOrSame, end-last, known-closing, closing-fits, closing-past, aligned-ended}
 use Rattle.transaction_laws.proofs.Entries.Even.{AppliedInAll, even-logs}
 use Rattle.transaction_laws.proofs.Entries.Machine.{stage-append, formed-append, open_in-stage, last-number}

@@ -20,11 +20,6 @@ use Rattle.transaction_laws.proofs.Entries.Machine.{first-sound, stage-append, f
 
 -- ---- lists
 
--- what holds of all entries, holds of the first ones
-pub all-first : (P : Entry → Type 0) (xs ys : List Entry) → AllByRecursion P (xs ++ ys) → AllByRecursion P xs
-all-first P [] ys h = tt
-all-first P (x ∷ xs) ys h = (h.0, all-first P xs ys h.1)
-
 -- each partition is one of all
 pub part-in : (D : Deployment) (p : ℕ) → nat_lt p (parts D) ≡ true → In p (all_parts D)
 part-in D p part = range-in p 0 (parts D) (omega arith) (grind (arith, nat_tests, part))

@@ -1,10 +1,9 @@
 -- A turn of a site, in its effect on the logs of leaders: the term that it leads goes on with calls behind what was due, or it begins.
-use Rattle.std.proofs.Common.{◌≡◌, ◌<◌, Bool, true, false, List, [], ◌∷◌, ◌++◌, append_assoc, append-nil, length-append, length-drop, refl, sym, subst, ap, ◌∙◌, ◌⊎◌, inl, inr, ◌==◌, arith}
+use Rattle.std.proofs.Common.{◌≡◌, ◌<◌, Bool, true, false, List, [], ◌++◌, append_assoc, append-nil, length-append, length-drop, refl, sym, subst, ap, ◌∙◌, ◌⊎◌, inl, inr, ◌==◌, arith}
 use Rattle.std.proofs.lemmas.Bool.{and_from, and_parts, cases_Bool, eq-eqb, eqb-true}
 use Rattle.std.proofs.lemmas.List.{drop_all, nil_from_length}
 use Rattle.std.proofs.Math.Seq.{drop-append_seam}
 use Rattle.std.specs.Prelude.{ℕ, ◌≤◌, ◌-◌, ◌&&◌, length, drop, if◌then◌else◌, Option, Some, None, option_map}
-use Rattle.std.specs.List.{AllByRecursion}
 use Rattle.volt_base.specs.declared.entry.Entry.{Entry}
 use Rattle.volt_wire.specs.declared.actor.Actor.{Actor}
 use Rattle.cluster_model.specs.Engine.{Database}
@@ -14,7 +13,7 @@ use Rattle.cluster_model.specs.Letters.{Letter, Sends}
 use Rattle.cluster_model.specs.SiteState.{SiteState, Reported, site_term, leads}
 use Rattle.cluster_model.specs.Site.{longest, lacks}
 use Rattle.cluster_steps.specs.Lists.{In, Prefix}
-use Rattle.cluster_steps.proofs.Lists.{all-at, all-behind, eqb-same, if-false, if-true, is_none-none, none-and-some, same-some}
+use Rattle.cluster_steps.proofs.Lists.{all-first, all-at, all-behind, eqb-same, if-false, if-true, is_none-none, none-and-some, same-some}
 use Rattle.log_laws.specs.Histories.{LogState, Logs, Entered, Leadership, WordOf, LogsHold, IsSlot, LeadsIn, MemberOk, ReportOk, part, site_start, log_at, term_at}
 use Rattle.log_laws.proofs.Plain.Copies.{leader-is}
 use Rattle.cluster_steps.proofs.Leaders.{leads-from}
@@ -32,11 +31,6 @@ use Rattle.transaction_laws.proofs.Entries.Machine.{calls-only, calls-opened, op
 use Rattle.transaction_laws.proofs.Sites.SiteLogs.{SteadyLog, Started, repaired_log}
 
 -- ---- logs
-
--- what holds of all in a list holds of the first ones
-all-first : {A : Type 0} (P : A → Type 0) (xs ys : List A) → AllByRecursion P (xs ++ ys) → AllByRecursion P xs
-all-first P [] ys h = tt
-all-first P (x ∷ xs) ys h = (h.0, all-first P xs ys h.1)
 
 -- nothing is open behind a log
 nothing-opened : (E : Database) (p : ℕ) (log : List Entry) → nothing_open log ≡ true → (stage E p log).opened ≡ None
@@ -84,9 +78,9 @@ repaired-short s reports n low each = elim (longest-cases (length s.log) None re
       omega (arith, low, e, f, g, a, b, longer, k.2, k.3)
 ]
 
--- ---- a site that leads after_site a turn
+-- ---- a site that leads after a turn
 
--- Slot i has this site after_site its turn, with what it sent, and these channels before that.
+-- Slot i has this site after its turn, with what it sent, and these channels before that.
 module _ (S : LogState) (H : LogsHold S) (i : ℕ) (ch : Actor → Actor → List Letter) (u : SiteState) (out : Sends) (G : Logs) where
   abbrev D : Deployment
   D = S.words.deployment
@@ -217,7 +211,7 @@ module _ (S : LogState) (H : LogsHold S) (i : ℕ) (ch : Actor → Actor → Lis
       ];
     }
 
--- ---- what is due after_site the turn
+-- ---- what is due after the turn
 
 -- whether it leads on in its term
 abbrev pub leads_on : LogState → ℕ → SiteState → Bool

@@ -1,4 +1,4 @@
--- A site takes a message, or syncs: all that holds of transactions holds after_site it.
+-- A site takes a message, or syncs: all that holds of transactions holds after it.
 use Rattle.std.proofs.Common.{◌≡◌, ◌<◌, Bool, true, List, [], ◌∷◌, ◌++◌, append-nil, refl, sym, ◌∙◌, ◌⊎◌, inl, ◌+◌}
 use Rattle.std.specs.Prelude.{ℕ, length, None}
 use Rattle.std.specs.List.{AllByRecursion}
@@ -90,7 +90,7 @@ module _ (E : Database) (S : LogState) (H : LogsHold S) (F : Firm) (halted : Boo
         there = λ h c n. popped-there S from (Agent h) i c n;
       }
 
-      -- All that holds of transactions holds after_site it.
+      -- All that holds of transactions holds after it.
       pub site-calls : (due : ℕ → ℕ → List Entry) × CallsHold E T M halted (with_due K due) (now + 1)
       site-calls = (
         due_after S K i u taken,
@@ -140,7 +140,7 @@ module _ (E : Database) (S : LogState) (H : LogsHold S) (F : Firm) (halted : Boo
         there = λ h c n. refl;
       }
 
-      -- All that holds of transactions holds after_site it.
+      -- All that holds of transactions holds after it.
       pub sync-calls : (due : ℕ → ℕ → List Entry) × CallsHold E later M halted (with_due K due) (now + 1)
       sync-calls = (
         due_after S K i synced [],

@@ -1,7 +1,7 @@
 -- What the laws of logs and of disks give of a message that a site takes, and of those that wait at it.
-use Rattle.std.proofs.Common.{◌≡◌, ◌<◌, ◌≤◌, Bool, true, false, List, [], ◌∷◌, refl, sym, subst, ap, ◌∙◌, inl, inr, ◌==◌, arith}
-use Rattle.std.proofs.lemmas.Bool.{cases_Bool, and_from, eq-eqb}
-use Rattle.std.specs.Prelude.{ℕ, ◌&&◌, not, nat_lt, length, Option, Some, None}
+use Rattle.std.proofs.Common.{◌≡◌, ◌<◌, ◌≤◌, Bool, true, false, List, [], ◌∷◌, refl, sym, subst, ap, ◌∙◌, inl, inr, arith}
+use Rattle.std.proofs.lemmas.Bool.{cases_Bool}
+use Rattle.std.specs.Prelude.{ℕ, length, Option, Some, None}
 use Rattle.std.specs.List.{AllByRecursion}
 use Rattle.volt_wire.specs.Word.{Membership}
 use Rattle.volt_wire.specs.declared.actor.Actor.{Actor}
@@ -9,38 +9,27 @@ use Rattle.volt_wire.specs.declared.actor.Actor.TheVariants.{Director, Client, A
 use Rattle.volt_wire.specs.declared.message.Msg.{Msg}
 use Rattle.volt_wire.specs.declared.message.Msg.TheVariants as msg
 use Rattle.cluster_model.specs.Engine.{Database}
-use Rattle.cluster_model.specs.Words.{slots, host_of_slot, is_member, term_of, term_in}
+use Rattle.cluster_model.specs.Words.{term_of, term_in}
 use Rattle.cluster_model.specs.Letters.{Blocks, Letter, Turn, Waiting, arrival, Taken}
-use Rattle.cluster_model.specs.SiteState.{SiteState, Joining, Streamed, Reported, is_joiner, is_leader, leads, site_term}
+use Rattle.cluster_model.specs.SiteState.{SiteState, Joining, Streamed, Reported, is_leader, leads, site_term}
 use Rattle.cluster_model.specs.Site.{site_handler}
 use Rattle.cluster_model.specs.Environment.{Environment}
 use Rattle.cluster_model.specs.Sync.{site_turn}
 use Rattle.cluster_steps.specs.Lists.{In}
 use Rattle.cluster_steps.proofs.Lists.{all-at, all-from, not-both, all-both, all-mono, none-and-some, same-some}
-use Rattle.word_laws.proofs.Agreement.{member-is}
-use Rattle.word_laws.proofs.Members.{is_member-start}
-use Rattle.log_laws.specs.Histories.{LogState, LogsHold, JoinerOk, ViewIn, InWord, StreamIn, ReportOk, SiteLetterOk, SiteWaitingFrom, SiteWaitingOk, IsSlot, line, line_in, between, part, site_start, term_at}
-use Rattle.cluster_steps.proofs.Leaders.{leader-view, a-joiner}
+use Rattle.log_laws.specs.Histories.{LogState, LogsHold, ReportOk, SiteLetterOk, SiteWaitingFrom, SiteWaitingOk, IsSlot, line, line_in, between, part, site_start, term_at}
+use Rattle.cluster_steps.proofs.Leaders.{leader-view}
 use Rattle.log_laws.proofs.Plain.Copies.{is-leader, leader-follows-none}
 use Rattle.log_laws.proofs.Plain.Lines.{line-empty, for-true}
-use Rattle.log_laws.proofs.Messages.Pops.{taken-for}
-use Rattle.log_laws.proofs.NewTerms.Entering.{took-admitted, ran-owner, running-ran}
-use Rattle.log_laws.proofs.NewTerms.Taking.{first-word, later-word}
-use Rattle.log_laws.proofs.Kept.Terms.{some-term, took-decided, took-unnamed}
 use Rattle.log_laws.proofs.Runs.SiteHandlers.{taken-here}
 use Rattle.disk_laws.specs.Disks.{Firm, StreamDisk, DisksHold}
 use Rattle.cluster_steps.proofs.SiteTurns.{KeepsWord, NoWord, anew, handler-keeps, stays_joiner, site_turn-cases, whole_turn, whole-keeps}
+use Rattle.disk_laws.proofs.Worded.{later-term, unstreamed, word-based, word-unnamed}
 use Rattle.transaction_laws.specs.Transactions.{WaitsPlain}
 use Rattle.cluster_steps.proofs.StateSteps.{Comes, ReportOf}
 use Rattle.transaction_laws.proofs.Sites.SiteWalk.{WaitsQuietly, quiet-word, waits-quietly, taken_by}
 use Rattle.transaction_laws.proofs.Sites.SiteLogs.{SteadyLog, Started, stopped-not-leads, site-steady, site-starts}
 use Rattle.transaction_laws.proofs.Sites.SiteCounts.{Counted, AboveMark, Unrepaired, site-counted, site-joined, site-unrepaired}
-
--- where it isn't both, it isn't the second
-second-not : (a b : Bool) → a ≡ true → (a && not b) ≡ false → b ≡ true
-second-not true true e q = refl
-second-not true false e q = absurd (cc)
-second-not false b e q = absurd (cc)
 
 -- ---- what waits, and what was reported
 
@@ -120,56 +109,8 @@ module _ (S : LogState) (H : LogsHold S) (i : ℕ) (slot : IsSlot S i) (up : 0 <
 
   module _ (h : ℕ) (l : Letter) (w : Membership) (ls : List Letter) (is : S.words.channel (Agent h) (Site i) ≡ record l { body = msg.View w } ∷ ls)
       (take : arrival (site_start S i) (term_at S i) (record l { body = msg.View w }) ≡ Taken) where
-    meant : (l.term ≡ 0) × (0 < l.start)
-    meant = (subst (AllByRecursion (λ l. elim l.body as (λ _. Type 0) [ msg.View w ↦ (l.term ≡ 0) × (0 < l.start) | _ ↦ Unit {0} ]))
-        (ap (λ z. S.words.channel (Agent z) (Site i)) (sym (rw is at (H.foreign (Agent h) i)).0) ∙ is) (H.views i).plain).0
-
-    for-it : l.start ≡ site_start S i
-    for-it = elim (taken-for (site_start S i) (term_at S i) (record l { body = msg.View w }) take).0 [
-      | inl z ↦ let a = meant.1 in absurd (omega (arith, a, z))
-      | inr e ↦ e
-    ]
-
-    -- it is of a later term
     higher : term_at S i < term_of w
-    higher = choice s.view refl
-      where
-        choice : (o : Option Membership) → s.view ≡ o → term_at S i < term_of w
-        choice None e =
-            let a = some-term S H w (took-decided S H (site_start S i) w (first-word S H h i l w ls is for-it up e)) in
-            let b : term_at S i ≡ 0 = ap term_in e in
-            omega (arith, a, b)
-        choice (Some v) e = let a = (later-word S H h i l w ls is for-it up v e).2 in let b : term_at S i ≡ term_of v = ap term_in e in omega (arith, a, b)
-
-    -- ---- a joiner that it makes a member
-
-    module _ (j : Joining) (joins : s.joining ≡ Some j) where
-      ok : JoinerOk S i j
-      ok = (H.sites i).joiner j joins
-
-      -- it was admitted, so its base is on disk
-      based : (v : Membership) → s.view ≡ Some v → j.is_based ≡ true
-      based v e =
-          let in_word : InWord S i v j = subst (ViewIn S i j) e ok.view in
-          let lw = later-word S H h i l w ls is for-it up v e in
-          let good = H.words.history.decided_good w lw.0 in
-          let named = (member-is S.words H.words.history w (host_of_slot S.words.deployment i) (site_start S i) good lw.1).0 in
-          let x = took-admitted S H (site_start S i) v w in_word.took lw.0 named in
-          let owner = ap S.words.owner x.2 ∙ ran-owner S H i (site_start S i) (running-ran S H i up) in
-          (H.loads.admitted x.0 x.1 i (and_from (nat_lt i (slots S.words.deployment)) (host_of_slot S.words.deployment i == S.words.owner x.0.start)
-          slot (eq-eqb (host_of_slot S.words.deployment i) (S.words.owner x.0.start) (sym owner)))).1 up (sym x.2) j joins
-
-      -- without a stream it hasn't loaded
-      unloaded : (v : Membership) → s.view ≡ Some v → j.stream ≡ None → j.is_loaded ≡ false
-      unloaded v e none = streamed j.stream none (subst (ViewIn S i j) e ok.view).stream
-        where
-          streamed : (o : Option Streamed) → o ≡ None → StreamIn S i v j o → j.is_loaded ≡ false
-          streamed None q u = u.loads
-          streamed (Some st) q u = absurd (none-and-some q refl)
-
-      -- without a word it isn't named by this one
-      unworded : s.view ≡ None → is_member w (host_of_slot S.words.deployment i) (site_start S i) ≡ true → ⊥
-      unworded e named = took-unnamed S H (site_start S i) w i (first-word S H h i l w ls is for-it up e) (is_member-start w (host_of_slot S.words.deployment i) (site_start S i) named)
+    higher = later-term S H i slot up h l w ls is take
 
     module _ (F : Firm) (halted : Bool) (K : DisksHold S F halted) where
       -- its mark is that of the word in which it took its stream
@@ -180,10 +121,10 @@ module _ (S : LogState) (H : LogsHold S) (i : ℕ) (slot : IsSlot S i) (up : 0 <
           stopped x st q = let k = (K.halts x).joiners i up in none-and-some (ap (λ y. y.stream) (same-some (sym joins ∙ k.1)) ∙ k.2) q
 
           on : halted ≡ false → (st : Streamed) → j.stream ≡ Some st → s.mark ≡ term_at S i
-          on x st q = let k : StreamDisk S i j (Some st) = subst (StreamDisk S i j) q ((K.disks i slot).joiner x j joins) in (k.2 (based j joins v e)).1 ∙ k.0
+          on x st q = let k : StreamDisk S i j (Some st) = subst (StreamDisk S i j) q ((K.disks i slot).joiner x j joins) in (k.2 (word-based S H i slot up h l w ls is take j joins v e)).1 ∙ k.0
 
           go : (o : Option Streamed) → j.stream ≡ o → s.mark ≡ term_at S i
-          go None q = absurd (not-both j.is_loaded ((ok j joins).based (based j joins v e)) (unloaded j joins v e q))
+          go None q = absurd (not-both j.is_loaded (((H.sites i).joiner j joins).based (word-based S H i slot up h l w ls is take j joins v e)) (unstreamed S H i j joins q).0)
           go (Some st) q = elim (cases_Bool halted) [
             | inl x ↦ absurd (stopped x st q)
             | inr x ↦ on x st q
@@ -193,8 +134,7 @@ module _ (S : LogState) (H : LogsHold S) (i : ℕ) (slot : IsSlot S i) (up : 0 <
       below enters = choice s.joining refl
         where
           joined : (j : Joining) → s.joining ≡ Some j → (o : Option Membership) → s.view ≡ o → s.mark < term_of w
-          joined j joins None e = absurd (unworded j joins e
-              (second-not (is_joiner s) (is_member w (host_of_slot S.words.deployment i) (site_start S i)) (a-joiner s j joins) enters))
+          joined j joins None e = absurd (word-unnamed S H i slot up h l w ls is take j joins e enters)
           joined j joins (Some v) e = let a = stream-mark j joins v e in omega (arith, a, higher)
 
           choice : (o : Option Joining) → s.joining ≡ o → s.mark < term_of w
