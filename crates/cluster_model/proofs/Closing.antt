@@ -203,8 +203,8 @@ pub record ClosedLast (D : Deployment) (h : ℕ) (start : ℕ) (t : Turn AgentSt
   pub state : t.state ≡ new_agent 0
   pub says : (g : ℕ) → is_host D g ≡ true → (g == h) ≡ false → EndsWith (open_letter (msg.Closed start)) (t.sends (Agent g))
 
-abbrev pub Over : Deployment → ℕ → ℕ → Turn AgentState → Type 0
-Over D h start t = (t.state.start ≡ start) ⊎ ClosedLast D h start t
+abbrev pub StaysOrCloses : Deployment → ℕ → ℕ → Turn AgentState → Type 0
+StaysOrCloses D h start t = (t.state.start ≡ start) ⊎ ClosedLast D h start t
 
 stops-over : (D : Deployment) (h start : ℕ) → ClosedLast D h start (stops D h start)
 stops-over D h start = record {
@@ -238,17 +238,17 @@ after-other D h start t f s = record {
 }
 
 -- Decided is the one handler in which an agent may stop
-on_decided-over : (D : Deployment) (h : ℕ) (a : AgentState) (decided taken : Option Membership) (w : Membership) → Over D h a.start (on_decided D h a decided taken w)
+on_decided-over : (D : Deployment) (h : ℕ) (a : AgentState) (decided taken : Option Membership) (w : Membership) → StaysOrCloses D h a.start (on_decided D h a decided taken w)
 on_decided-over D h a (Some decided) taken w = inl refl
 on_decided-over D h a None None w = inl refl
 on_decided-over D h a None (Some taken) w = over-if (nat_lt (term_of taken) (term_of w) && not (admits w a.start))
   where
-    over-if : (c : Bool) → Over D h a.start (if c then stops_with_host D h a.start else becomes a)
+    over-if : (c : Bool) → StaysOrCloses D h a.start (if c then stops_with_host D h a.start else becomes a)
     over-if true = inr (stops_with_host-over D h a.start)
     over-if false = inl refl
 
-from_agent-over : (E : Database) (D : Deployment) (h stamp : ℕ) (a : AgentState) (g : ℕ) (l : Letter) → Over D h a.start (from_agent E D h stamp a g l)
-from_agent-over E D h stamp a g l = elim l.body as (λ m. Over D h a.start (from_agent E D h stamp a g (record l { body = m }))) [
+from_agent-over : (E : Database) (D : Deployment) (h stamp : ℕ) (a : AgentState) (g : ℕ) (l : Letter) → StaysOrCloses D h a.start (from_agent E D h stamp a g l)
+from_agent-over E D h stamp a g l = elim l.body as (λ m. StaysOrCloses D h a.start (from_agent E D h stamp a g (record l { body = m }))) [
   | msg.Closed start ↦ inl (on_closed-start a a.own start)
   | msg.Word base lost admitted ↦ inl (on_word-start a a.own g base lost admitted)
   | msg.Hello start ↦ inl (on_hello-start h a a.decided g start)
@@ -281,7 +281,7 @@ from_client-start D a n l = elim l.body as (λ m. (from_client D a n (record l {
   | _ ↦ refl
 ]
 
-handler-over : (E : Database) (D : Deployment) (h stamp : ℕ) (a : AgentState) (from : Actor) (l : Letter) → Over D h a.start (agent_handler E D h stamp a from l)
+handler-over : (E : Database) (D : Deployment) (h stamp : ℕ) (a : AgentState) (from : Actor) (l : Letter) → StaysOrCloses D h a.start (agent_handler E D h stamp a from l)
 handler-over E D h stamp a Director l = inl (from_director-start E D h a l)
 handler-over E D h stamp a (Client n) l = inl (from_client-start D a n l)
 handler-over E D h stamp a (Agent g) l = from_agent-over E D h stamp a g l
@@ -314,7 +314,7 @@ agrees-nothing : (D : Deployment) (h : ℕ) (before : Option Membership)
 agrees-nothing D h None = (refl, λ g. refl)
 agrees-nothing D h (Some w) = (refl, λ g. refl)
 
-pub handler_and_word-over : (E : Database) (D : Deployment) (h stamp : ℕ) (a : AgentState) (from : Actor) (l : Letter) → Over D h a.start (handler_and_word E D h stamp a from l)
+pub handler_and_word-over : (E : Database) (D : Deployment) (h stamp : ℕ) (a : AgentState) (from : Actor) (l : Letter) → StaysOrCloses D h a.start (handler_and_word E D h stamp a from l)
 handler_and_word-over E D h stamp a from l = elim (handler-over E D h stamp a from l) [
   | inl q ↦ inl (agrees-start D h a.own (agent_handler E D h stamp a from l).state ∙ q)
   | inr s ↦ let n = agrees-nothing D h a.own in inr (then-nothing D h a.start (agent_handler E D h stamp a from l) (agrees D h a.own) s n.0 n.1)
@@ -328,10 +328,10 @@ takes_each-nothing : (E : Database) (D : Deployment) (h stamp : ℕ) (ws : List 
 takes_each-nothing E D h stamp [] = (refl, λ g. refl)
 takes_each-nothing E D h stamp (w ∷ ws) = takes_each-nothing E D h stamp ws
 
-over-start : (D : Deployment) (h s r : ℕ) (t : Turn AgentState) → r ≡ s → Over D h r t → Over D h s t
-over-start D h s r t e o = subst (λ k. Over D h k t) e o
+over-start : (D : Deployment) (h s r : ℕ) (t : Turn AgentState) → r ≡ s → StaysOrCloses D h r t → StaysOrCloses D h s t
+over-start D h s r t e o = subst (λ k. StaysOrCloses D h k t) e o
 
-takes_each-over : (E : Database) (D : Deployment) (h stamp : ℕ) (ws : List Waiting) (a : AgentState) → Over D h a.start (takes_each E D h stamp ws a)
+takes_each-over : (E : Database) (D : Deployment) (h stamp : ℕ) (ws : List Waiting) (a : AgentState) → StaysOrCloses D h a.start (takes_each E D h stamp ws a)
 takes_each-over E D h stamp [] a = inl refl
 takes_each-over E D h stamp (w ∷ ws) a = elim (unless-over (a.start == 0)) [
   | inl q ↦ elim (takes_each-over E D h stamp ws (unless_stopped E D h stamp a w.from w.letter).state) [
@@ -343,11 +343,11 @@ takes_each-over E D h stamp (w ∷ ws) a = elim (unless-over (a.start == 0)) [
       inr (then-nothing D h a.start (unless_stopped E D h stamp a w.from w.letter) (takes_each E D h stamp ws) s n.0 n.1)
 ]
   where
-    unless-over : (c : Bool) → Over D h a.start (if c then becomes a else handler_and_word E D h stamp a w.from w.letter)
+    unless-over : (c : Bool) → StaysOrCloses D h a.start (if c then becomes a else handler_and_word E D h stamp a w.from w.letter)
     unless-over true = inl refl
     unless-over false = handler_and_word-over E D h stamp a w.from w.letter
 
-takes_waiting-over : (E : Database) (D : Deployment) (h stamp : ℕ) (a : AgentState) → Over D h a.start (takes_waiting E D h stamp a)
+takes_waiting-over : (E : Database) (D : Deployment) (h stamp : ℕ) (a : AgentState) → StaysOrCloses D h a.start (takes_waiting E D h stamp a)
 takes_waiting-over E D h stamp a = takes_each-over E D h stamp (of_term (term_in a.decided) a.waiting) (record a { waiting = above_term (term_in a.decided) a.waiting })
 
 takes_waiting-nothing : (E : Database) (D : Deployment) (h stamp : ℕ)
@@ -356,7 +356,7 @@ takes_waiting-nothing E D h stamp = (refl, λ g. refl)
 
 -- ---- the whole of a message
 
-taken-over : (E : Database) (D : Deployment) (h stamp : ℕ) (a : AgentState) (from : Actor) (l : Letter) → Over D h a.start (handler_and_word E D h stamp a from l ▸ takes_waiting E D h stamp)
+taken-over : (E : Database) (D : Deployment) (h stamp : ℕ) (a : AgentState) (from : Actor) (l : Letter) → StaysOrCloses D h a.start (handler_and_word E D h stamp a from l ▸ takes_waiting E D h stamp)
 taken-over E D h stamp a from l = elim (handler_and_word-over E D h stamp a from l) [
   | inl q ↦ elim (takes_waiting-over E D h stamp (handler_and_word E D h stamp a from l).state) [
     | inl p ↦ inl (p ∙ q)
@@ -367,8 +367,8 @@ taken-over E D h stamp a from l = elim (handler_and_word-over E D h stamp a from
       inr (then-nothing D h a.start (handler_and_word E D h stamp a from l) (takes_waiting E D h stamp) s n.0 n.1)
 ]
 
-runs-over : (E : Database) (D : Deployment) (h stamp : ℕ) (a : AgentState) (from : Actor) (l : Letter) → Over D h a.start (agent_runs E D h stamp a from l)
-runs-over E D h stamp a from l = elim (arrival a.start (term_in a.decided) l) as (λ x. Over D h a.start (elim x as (λ _. Turn AgentState) [
+runs-over : (E : Database) (D : Deployment) (h stamp : ℕ) (a : AgentState) (from : Actor) (l : Letter) → StaysOrCloses D h a.start (agent_runs E D h stamp a from l)
+runs-over E D h stamp a from l = elim (arrival a.start (term_in a.decided) l) as (λ x. StaysOrCloses D h a.start (elim x as (λ _. Turn AgentState) [
   | Taken ↦ handler_and_word E D h stamp a from l ▸ takes_waiting E D h stamp
   | Waits ↦ becomes (record a { waiting = a.waiting ++ record { from = from; letter = l } ∷ [] })
   | Refused ↦ becomes a
@@ -378,11 +378,11 @@ runs-over E D h stamp a from l = elim (arrival a.start (term_in a.decided) l) as
   | Refused ↦ inl refl
 ]
 
-over-choice : (D : Deployment) (h s : ℕ) (c : Bool) (x y : Turn AgentState) → Over D h s x → Over D h s y → Over D h s (if c then x else y)
+over-choice : (D : Deployment) (h s : ℕ) (c : Bool) (x y : Turn AgentState) → StaysOrCloses D h s x → StaysOrCloses D h s y → StaysOrCloses D h s (if c then x else y)
 over-choice D h s true x y p q = p
 over-choice D h s false x y p q = q
 
-start-over : (D : Deployment) (h : ℕ) (a : AgentState) (from : Actor) (start : ℕ) → (a.start == 0) ≡ false → Over D h a.start (takes_start D h a from start)
+start-over : (D : Deployment) (h : ℕ) (a : AgentState) (from : Actor) (start : ℕ) → (a.start == 0) ≡ false → StaysOrCloses D h a.start (takes_start D h a from start)
 start-over D h a Director start runs = rw runs (inl refl)
 start-over D h a (Client n) start runs = inl refl
 start-over D h a (Agent g) start runs = inl refl
@@ -390,8 +390,8 @@ start-over D h a (Site s) start runs = inl refl
 start-over D h a (Scanner x) start runs = inl refl
 
 -- of a running agent
-pub takes-over : (E : Database) (D : Deployment) (h stamp : ℕ) (a : AgentState) (from : Actor) (l : Letter) → (a.start == 0) ≡ false → Over D h a.start (agent_takes E D h stamp a from l)
-takes-over E D h stamp a from l runs = elim l.body as (λ m. Over D h a.start (agent_takes E D h stamp a from (record l { body = m }))) [
+pub takes-over : (E : Database) (D : Deployment) (h stamp : ℕ) (a : AgentState) (from : Actor) (l : Letter) → (a.start == 0) ≡ false → StaysOrCloses D h a.start (agent_takes E D h stamp a from l)
+takes-over E D h stamp a from l runs = elim l.body as (λ m. StaysOrCloses D h a.start (agent_takes E D h stamp a from (record l { body = m }))) [
   | msg.Start start ↦ start-over D h a from start runs
   | msg.Stop start ↦ rw runs (over-choice D h a.start _ _ _ (inr (stops-over D h a.start)) (inl refl))
   | m ↦ rw runs (runs-over E D h stamp a from (record l { body = m }))
@@ -411,7 +411,7 @@ start_after-same a from l runs = elim l.body as (λ m. start_after a from (recor
   | _ ↦ refl
 ]
 
-pub turn-over : (E : Database) (D : Deployment) (h stamp : ℕ) (a : AgentState) (from : Actor) (l : Letter) (o : Environment) → (a.start == 0) ≡ false → Over D h a.start (agent_turn E D h stamp a from l o)
+pub turn-over : (E : Database) (D : Deployment) (h stamp : ℕ) (a : AgentState) (from : Actor) (l : Letter) (o : Environment) → (a.start == 0) ≡ false → StaysOrCloses D h a.start (agent_turn E D h stamp a from l o)
 turn-over E D h stamp a from l NoFault runs = takes-over E D h stamp a from l runs
 turn-over E D h stamp a from l (DiskFails answered) runs = takes-over E D h stamp a from l runs
 turn-over E D h stamp a from l (NoMemory answered) runs =

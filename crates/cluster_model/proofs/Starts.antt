@@ -50,11 +50,11 @@ delivered-next E w to from (l ∷ ls) o = received-next E _ to from l o
 -- ---- so what is drawn rises
 
 -- numbers that rise from one on and stay below another, and numbers that rise from there on
-abbrev Between : ℕ → ℕ → List ℕ → Type 0
-Between low high [] = low ≤ high
-Between low high (x ∷ xs) = (low ≤ x) × Between (x + 1) high xs
+abbrev RiseBetween : ℕ → ℕ → List ℕ → Type 0
+RiseBetween low high [] = low ≤ high
+RiseBetween low high (x ∷ xs) = (low ≤ x) × RiseBetween (x + 1) high xs
 
-Rise-append : (low high : ℕ) (xs ys : List ℕ) → Between low high xs → RiseFrom high ys → RiseFrom low (xs ++ ys)
+Rise-append : (low high : ℕ) (xs ys : List ℕ) → RiseBetween low high xs → RiseFrom high ys → RiseFrom low (xs ++ ys)
 Rise-append low high [] ys b h = Rise-lower low high ys b h
   where
     Rise-lower : (low high : ℕ) (ys : List ℕ) → low ≤ high → RiseFrom high ys → RiseFrom low ys
@@ -63,7 +63,7 @@ Rise-append low high [] ys b h = Rise-lower low high ys b h
 Rise-append low high (x ∷ xs) ys b h = (b.0, Rise-append (x + 1) high xs ys b.1 h)
 
 -- an item of the script
-drawn-for : (D : Deployment) (d : DirectorState) (i : Item) → Between d.next_start (does D d i).state.next_start (drawn_for (does D d i).sends i)
+drawn-for : (D : Deployment) (d : DirectorState) (i : Item) → RiseBetween d.next_start (does D d i).state.next_start (drawn_for (does D d i).sends i)
 drawn-for D d (item.Lose host) = omega arith
 drawn-for D d (item.Rejoin host) = let e : (host == host) ≡ true = grind (arith, nat_tests) in rw e (omega arith, omega arith)
 drawn-for D d item.Snapshot = omega arith
@@ -73,29 +73,29 @@ drawn-for D d item.Halt = omega arith
 drawn-for D d item.Recover = omega arith
 drawn-for D d item.Quiet = omega arith
 
-drawn-item : (w : World) (may : Bool) (items : List TimedItem) → Between w.director.next_start (does_next w.deployment may w.director items).state.next_start (drawn_by_item w may items)
+drawn-item : (w : World) (may : Bool) (items : List TimedItem) → RiseBetween w.director.next_start (does_next w.deployment may w.director items).state.next_start (drawn_by_item w may items)
 drawn-item w true (next ∷ left) = drawn-for w.deployment (record w.director { items = left }) next.item
 drawn-item w true [] = omega arith
 drawn-item w false items = omega arith
 
 -- a recovery
-drawn-hosts : (n host start : ℕ) → Between start (start + n) (map (λ m. m.1) (hosts_from n host start))
+drawn-hosts : (n host start : ℕ) → RiseBetween start (start + n) (map (λ m. m.1) (hosts_from n host start))
 drawn-hosts zero host start = omega arith
 drawn-hosts (suc n) host start =
     let e : start + 1 + n ≡ start + suc n = omega arith in
-    (omega arith, subst (λ k. Between (start + 1) k (map (λ m. m.1) (hosts_from n (host + 1) (start + 1)))) e (drawn-hosts n (host + 1) (start + 1)))
+    (omega arith, subst (λ k. RiseBetween (start + 1) k (map (λ m. m.1) (hosts_from n (host + 1) (start + 1)))) e (drawn-hosts n (host + 1) (start + 1)))
 
-drawn-recovers : (E : Database) (w : World) (shown : List ℕ) (failed : Option (ℕ × Bool)) → Between w.director.next_start (recovers E w shown failed).director.next_start (drawn_by_recovery w (DisksShow shown failed))
+drawn-recovers : (E : Database) (w : World) (shown : List ℕ) (failed : Option (ℕ × Bool)) → RiseBetween w.director.next_start (recovers E w shown failed).director.next_start (drawn_by_recovery w (DisksShow shown failed))
 drawn-recovers E w shown None = drawn-hosts w.deployment.layout.hosts 0 w.director.next_start
 drawn-recovers E w shown (Some failed) = omega arith
 
-drawn-recovery : (E : Database) (w : World) (o : Environment) → Between w.director.next_start (recovered_with E w o).director.next_start (drawn_by_recovery w o)
+drawn-recovery : (E : Database) (w : World) (o : Environment) → RiseBetween w.director.next_start (recovered_with E w o).director.next_start (drawn_by_recovery w o)
 drawn-recovery E w NoFault = omega arith
 drawn-recovery E w (DiskFails answered) = omega arith
 drawn-recovery E w (NoMemory answered) = omega arith
 drawn-recovery E w (DisksShow shown failed) = drawn-recovers E w shown failed
 
-drawn-step : (E : Database) (w : World) (e : Event) (o : Environment) → Between w.director.next_start (step E w (e, o)).director.next_start (drawn_by w e o)
+drawn-step : (E : Database) (w : World) (e : Event) (o : Environment) → RiseBetween w.director.next_start (step E w (e, o)).director.next_start (drawn_by w e o)
 drawn-step E w (event.Deliver to from) o = delivered-next E w to from (w.channel from to) o
 drawn-step E w (event.Sync i) o = omega arith
 drawn-step E w (event.Scan i) o = omega arith

@@ -517,9 +517,16 @@ sent_term a = elim a.decided as (λ _. ℕ) [
   | None ↦ term_in a.taken
 ]
 
+-- A word is for a start, and of no term.
+abbrev pub PlainView : Letter → Type 0
+PlainView l = elim l.body as (λ _. Type 0) [
+  | msg.View w ↦ (l.term ≡ 0) × (0 < l.start)
+  | _ ↦ Unit {0}
+]
+
 -- Between a slot's site and its host's agent.
 pub record ViewsOk (S : LogState) (c : ℕ) : Type 0 where
-  pub plain : AllByRecursion (λ l. elim l.body as (λ _. Type 0) [ msg.View w ↦ (l.term ≡ 0) × (0 < l.start) | _ ↦ Unit {0} ]) (agent_to_site S c)
+  pub plain : AllByRecursion PlainView (agent_to_site S c)
   -- starts that were under way or ran have begun
   pub began : (s : ℕ) → In s (starts_in (agent_to_site S c)) ⊎ In s (S.logs.ran c) ⊎ ((w : Membership) × In w (views s (agent_to_site S c)))
       → In s (S.words.history.began (host_of_slot S.words.deployment c))

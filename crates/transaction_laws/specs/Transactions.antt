@@ -283,8 +283,8 @@ pub record Settled (E : Database) (S : LogState) (F : Firm) (K : Transactions) (
   pub over : (stage E p prefix).opened ≡ None
 
 -- The last transaction ends there, once what is due is taken.
-abbrev pub Ended : Database → LogState → Transactions → ℕ → Type 0
-Ended E S K p = ((stage E p (whole S K K.heard p)).opened ≡ None) × ((stage E p (whole S K K.heard p)).number ≡ K.number)
+abbrev pub IsEnded : Database → LogState → Transactions → ℕ → Type 0
+IsEnded E S K p = ((stage E p (whole S K K.heard p)).opened ≡ None) × ((stage E p (whole S K K.heard p)).number ≡ K.number)
 
 -- its last round is firm there
 pub record Fed (S : LogState) (F : Firm) (K : Transactions) (p : ℕ) : Type 0 where
@@ -300,7 +300,7 @@ JobOk K (Some w) = (w.transaction ≡ K.number) × ((d : Decision) → w.decisio
 abbrev pub AtHand : Database → LogState → Firm → Transactions → Work → Option Decision → Type 0
 AtHand E S F K w None = (w.finished ≡ [])
     × ((p : ℕ) → IsPart S p → ((stage E p (whole S K K.heard p)).opened ≡ Some (K.number, w.round)) × (has_part w.gathered p ≡ true → Fed S F K p))
-AtHand E S F K w (Some d) = (p : ℕ) → IsPart S p → Ended E S K p × (is_in p w.finished ≡ true → Settled E S F K p)
+AtHand E S F K w (Some d) = (p : ℕ) → IsPart S p → IsEnded E S K p × (is_in p w.finished ≡ true → Settled E S F K p)
 
 -- Of an initiator in term t.
 abbrev pub PhaseOk : Database → LogState → Firm → Transactions → ℕ → AgentState → Phase → Type 0
@@ -310,7 +310,7 @@ PhaseOk E S F K t a (Hears told) =
     × (((a.initiating.next ≡ 0) × (a.initiating.work ≡ None)) ⊎ (K.number < a.initiating.next))
 PhaseOk E S F K t a (Closes m parts finished) =
     (K.heard ≡ t) × (m ≡ K.number) × JobOk K a.initiating.work × (K.number < a.initiating.next)
-    × ((p : ℕ) → IsPart S p → (is_in p parts ≡ true → Ended E S K p) × ((is_in p parts ≡ false) ⊎ (is_in p finished ≡ true) → Settled E S F K p))
+    × ((p : ℕ) → IsPart S p → (is_in p parts ≡ true → IsEnded E S K p) × ((is_in p parts ≡ false) ⊎ (is_in p finished ≡ true) → Settled E S F K p))
 PhaseOk E S F K t a Idle =
     (K.heard ≡ t) × (a.initiating.work ≡ None) × (K.number < a.initiating.next)
     × ((p : ℕ) → IsPart S p → (K.due p K.heard ≡ []) × OnlyCalls (since K (whole S K K.heard) p))

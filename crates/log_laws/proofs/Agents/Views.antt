@@ -18,7 +18,7 @@ use Rattle.cluster_steps.proofs.Lists.{all-mono, all-append, eqb-same, in-left, 
 use Rattle.cluster_steps.proofs.Channels.{starts-append, sent-both}
 use Rattle.word_laws.proofs.Moves as word
 use Rattle.word_laws.proofs.Moves.{Grows}
-use Rattle.log_laws.specs.Histories.{LogState, view_in, view_of, views, MemberViews, FirstViews, RunViews, Starting, ViewsOk, sent_term, site_start, term_at, agent_to_site}
+use Rattle.log_laws.specs.Histories.{PlainView, LogState, view_in, view_of, views, MemberViews, FirstViews, RunViews, Starting, ViewsOk, sent_term, site_start, term_at, agent_to_site}
 use Rattle.log_laws.proofs.Plain.Lines.{flat-none, views-append, views-same, views-none, views-plain, views-here, views-other}
 use Rattle.log_laws.proofs.Agents.AgentSends.{NoView}
 use Rattle.log_laws.proofs.Kept.KeepsViews.{first_views-later, run_views-later}
@@ -77,12 +77,6 @@ starting-right s (l ∷ ls) ys e none k =
     both-empty (x ∷ xs) ys e = absurd (cc)
 
 -- ---- what holds between a slot's site and its host's agent, by what the agent is and what is under way
-
-abbrev PlainView : Letter → Type 0
-PlainView l = elim l.body as (λ _. Type 0) [
-  | msg.View w ↦ (l.term ≡ 0) × (0 < l.start)
-  | _ ↦ Unit {0}
-]
 
 -- nothing was sent by this start
 abbrev pub Unsent : LogState → ℕ → ℕ → List Letter → Type 0

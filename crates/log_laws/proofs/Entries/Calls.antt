@@ -19,7 +19,7 @@ use Rattle.cluster_steps.proofs.Lists.{all-append}
 use Rattle.log_laws.specs.Histories.{LogState, HeldOk, HeldFor, LogsHold, site_start}
 use Rattle.log_laws.proofs.Kept.Moves.{LogsGo}
 use Rattle.log_laws.proofs.Kept.Plumbing.{GoesFrom, goes-then, goes-same}
-use Rattle.log_laws.proofs.Kept.InertTurns.{unwatched, inert-becomes, calls-goes}
+use Rattle.log_laws.proofs.Kept.InertTurns.{inert-becomes, calls-goes}
 use Rattle.log_laws.proofs.Kept.Rests.{part-from}
 use Rattle.log_laws.proofs.Entries.Leads.{leads-goes, leads-on}
 
@@ -38,8 +38,10 @@ authoritative-from S i s part goes up authoritative T here same pending H =
 -- an answer to an agent
 held-goes : (S : LogState) (i h : ℕ) (l : Letter) → HeldFor (Agent h) l → LogsHold S → LogsGo S i (becomes (holds (S.sites i) (Agent h) l))
 held-goes S i h l k H = inert-becomes S i (holds (S.sites i) (Agent h) l) H
-    (unwatched (S.sites i) (holds (S.sites i) (Agent h) l)
-    (λ old. all-append HeldOk (S.sites i).held (record { position = length (S.sites i).log + 1; to = Agent h; letter = l } ∷ []) old (k, tt)))
+    (record {
+      same = refl;
+      held = λ old. all-append HeldOk (S.sites i).held (record { position = length (S.sites i).log + 1; to = Agent h; letter = l } ∷ []) old (k, tt);
+    })
 
 -- ---- calls
 

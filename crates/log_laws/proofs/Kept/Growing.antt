@@ -2,7 +2,7 @@
 use Rattle.std.proofs.Common.{◌≡◌, ◌<◌, Bool, true, false, List, [], ◌++◌, refl, sym, subst, ap, ◌∙◌, inl, inr, true≢false, arith}
 use Rattle.std.proofs.lemmas.Bool.{cases_eq}
 use Rattle.std.proofs.lemmas.List.{length-append}
-use Rattle.std.specs.Prelude.{ℕ, ◌≤◌, length, Option, Some, None}
+use Rattle.std.specs.Prelude.{ℕ, ◌≤◌, Option, Some, None}
 use Rattle.std.specs.List.{AllByRecursion}
 use Rattle.volt_base.specs.declared.entry.Entry.{Entry}
 use Rattle.volt_wire.specs.Word.{Membership}
@@ -10,7 +10,7 @@ use Rattle.volt_wire.specs.declared.actor.Actor.{Actor}
 use Rattle.volt_wire.specs.declared.actor.Actor.TheVariants.{Director, Agent, Site}
 use Rattle.cluster_model.specs.Words.{host_of_slot, term_of, leader}
 use Rattle.cluster_model.specs.Letters.{Letter, Waiting}
-use Rattle.cluster_model.specs.SiteState.{SiteState, Joining, Joiner, Scanning, site_term}
+use Rattle.cluster_model.specs.SiteState.{SiteState, Joining, Joiner, Scanning}
 use Rattle.cluster_model.specs.World.{set_at}
 use Rattle.cluster_model.specs.Laws.{starts_in}
 use Rattle.cluster_steps.specs.Lists.{In}
@@ -18,7 +18,7 @@ use Rattle.cluster_steps.proofs.Lists.{all-mono, none-and-some, set-here, set-th
 use Rattle.word_laws.proofs.Steps.{channel-holds}
 use Rattle.log_laws.specs.Histories.{LogState, Leadership, FollowsIn, LeadsIn, MemberOk, JoinerOk, AckOk, ReportOk, AsksToJoin, CountedOk, SiteWaitingOk, KeepsOk, SiteOk, SiteLetterOk, ForeignOk, ToldOk, BeginsAt, IsSlot, IsCounted, LogsHold, agent_to_site, follows, line, flow, between, part, site_start, log_at, term_at}
 use Rattle.cluster_steps.proofs.Prefixes.{prefix-grows}
-use Rattle.log_laws.proofs.Kept.Moves.{Stays, LogsLater, SameLeaderships, JoinsOn}
+use Rattle.log_laws.proofs.Kept.Moves.{SiteRises, site-stays, Stays, LogsLater, SameLeaderships, JoinsOn}
 use Rattle.log_laws.proofs.Kept.Laters.{letter-later, waiting-later, ack-later, report-later, ask-later, counted-later, entered-later, streamed-later, leaderships-later, unleds-later, first-later, loads-later}
 use Rattle.log_laws.proofs.Kept.Plumbing.{words-later}
 use Rattle.log_laws.proofs.Kept.Keeps.{still-same, kept-same, counted-from, keeps-with, site-keeps-with}
@@ -53,15 +53,15 @@ module _ (S : LogState) (H : LogsHold S) (i : ℕ) (more : List Entry) (floor : 
   -- ---- what only grows
 
   stays : (c : ℕ) → Stays S T c
-  stays c = record {
-    start = set-both (λ h x. x.start ≡ site_start S h) S.sites i s refl (λ h n. refl) c;
-    earlier = set-both (λ h x. x.earlier ≡ (S.sites h).earlier) S.sites i s refl (λ h n. refl) c;
-    log = set-both (λ h x. length (log_at S h) ≤ length x.log) S.sites i s (rw length-append (omega arith)) (λ h n. omega arith) c;
-    term = set-both (λ h x. term_at S h ≤ site_term x) S.sites i s (omega arith) (λ h n. omega arith) c;
-    member = set-both (λ h x. (S.sites h).joining ≡ None → x.joining ≡ None) S.sites i s (λ e. e) (λ h n e. e) c;
-    loaded = set-both (λ h x. (m : Joining) → x.joining ≡ Some m → (j : Joining) × ((S.sites h).joining ≡ Some j) × (j.is_based ≡ true → m.is_based ≡ true)) S.sites i s
-        (λ m e. (m, e, λ y. y)) (λ h n m e. (m, e, λ y. y)) c;
-  }
+  stays c = set-both (λ h x. SiteRises (S.sites h) x) S.sites i s (record {
+    start = refl;
+    earlier = refl;
+    greatest = omega arith;
+    log = rw length-append (omega arith);
+    term = omega arith;
+    member = λ e. e;
+    loaded = λ m e. (m, e, λ y. y);
+  }) (λ h n. site-stays (S.sites h)) c
 
   pub grew-later : LogsLater S T
   grew-later = record {

@@ -37,6 +37,7 @@ module _ (S : LogState) (ch : Actor → Actor → List Letter) (sites : ℕ → 
     sites = λ c. let s = still c in inl (record {
       start = s.start;
       earlier = s.earlier;
+      greatest = let e = s.greatest in omega (arith, e);
       log = rw (s.log) (omega arith);
       term = rw (s.view) (omega arith);
       member = λ e. s.joining ∙ e;

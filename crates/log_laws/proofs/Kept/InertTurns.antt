@@ -25,25 +25,6 @@ use Rattle.log_laws.proofs.Kept.Inert.{ChannelsOk, SiteStill, still-at, kept-at,
 
 -- ---- what isn't looked at
 
--- Two sites are the same in all that is looked at. Answers that are held are for agents still.
-pub record Unwatched (s t : SiteState) : Type 0 where
-  pub start : t.start ≡ s.start
-  pub greatest : t.greatest ≡ s.greatest
-  pub earlier : t.earlier ≡ s.earlier
-  pub view : t.view ≡ s.view
-  pub joining : t.joining ≡ s.joining
-  pub log : t.log ≡ s.log
-  pub floor : t.floor ≡ s.floor
-  pub on_disk : t.on_disk ≡ s.on_disk
-  pub repaired : t.repaired ≡ s.repaired
-  pub reports : t.reports ≡ s.reports
-  pub acks : t.acks ≡ s.acks
-  pub firm : t.firm ≡ s.firm
-  pub joiners : t.joiners ≡ s.joiners
-  pub asks : t.asks ≡ s.asks
-  pub waiting : t.waiting ≡ s.waiting
-  pub held : AllByRecursion HeldOk s.held → AllByRecursion HeldOk t.held
-
 -- the first site with what isn't looked at of the second one
 abbrev pub with_unwatched : SiteState → SiteState → SiteState
 with_unwatched s t = record s {
@@ -61,25 +42,10 @@ with_unwatched s t = record s {
   plans = t.plans;
 }
 
-pub unwatched : (s t : SiteState) → (AllByRecursion HeldOk s.held → AllByRecursion HeldOk t.held) → Unwatched s (with_unwatched s t)
-unwatched s t held = record {
-  start = refl;
-  greatest = refl;
-  earlier = refl;
-  view = refl;
-  joining = refl;
-  log = refl;
-  floor = refl;
-  on_disk = refl;
-  repaired = refl;
-  reports = refl;
-  acks = refl;
-  firm = refl;
-  joiners = refl;
-  asks = refl;
-  waiting = refl;
-  held = held;
-}
+-- A site is another one in that alone; answers that are held are for agents still.
+pub record Unwatched (s t : SiteState) : Type 0 where
+  pub same : t ≡ with_unwatched s t
+  pub held : AllByRecursion HeldOk s.held → AllByRecursion HeldOk t.held
 
 -- a message that isn't looked at, by who gets it
 abbrev pub Silent : Actor → Letter → Type 0
@@ -206,36 +172,36 @@ module _ (S : LogState) (H : LogsHold S) (i : ℕ) (out : Sends) (silent : (b : 
 -- A turn in which nothing changes that is looked at, and nothing is sent that is: the history stays.
 pub inert-after : (S : LogState) (i : ℕ) (s : SiteState) (out : Sends) → LogsHold S → Unwatched (S.sites i) s → ((b : Actor) → AllByRecursion (Silent b) (out b))
     → LogsHold (after_site S i s out S.logs)
-inert-after S i s out H u silent = still-holds S i s (sent S.words.channel (Site i) out) H site (channels-silent S H i out silent) (silent-asks S H i out silent s site u.waiting)
+inert-after S i s out H u silent = still-holds S i s (sent S.words.channel (Site i) out) H site (channels-silent S H i out silent) (silent-asks S H i out silent s site (ap (λ x. x.waiting) u.same))
   where
     site : SiteStill S i s
     site = record {
       still = record {
-        start = u.start;
-        greatest = u.greatest;
-        earlier = u.earlier;
-        view = u.view;
-        joining = u.joining;
-        log = u.log;
-        floor = u.floor;
-        repaired = u.repaired;
-        firm = u.firm;
+        start = ap (λ x. x.start) u.same;
+        greatest = ap (λ x. x.greatest) u.same;
+        earlier = ap (λ x. x.earlier) u.same;
+        view = ap (λ x. x.view) u.same;
+        joining = ap (λ x. x.joining) u.same;
+        log = ap (λ x. x.log) u.same;
+        floor = ap (λ x. x.floor) u.same;
+        repaired = ap (λ x. x.repaired) u.same;
+        firm = ap (λ x. x.firm) u.same;
       };
-      kept = record { acks = u.acks; reports = u.reports; joiners = u.joiners; asks = u.asks; on_disk = u.on_disk; held = u.held };
-      waiting = λ up. rw (u.waiting) ((H.sites i).keeps up).waiting;
-      none = λ z. u.waiting ∙ ((H.sites i).stopped z).0;
+      kept = record { acks = ap (λ x. x.acks) u.same; reports = ap (λ x. x.reports) u.same; joiners = ap (λ x. x.joiners) u.same; asks = ap (λ x. x.asks) u.same; on_disk = ap (λ x. x.on_disk) u.same; held = u.held };
+      waiting = λ up. rw (ap (λ x. x.waiting) u.same) ((H.sites i).keeps up).waiting;
+      none = λ z. (ap (λ x. x.waiting) u.same) ∙ ((H.sites i).stopped z).0;
     }
 
 pub inert-goes : (S : LogState) (i : ℕ) (t : Turn SiteState) → LogsHold S → Unwatched (S.sites i) t.state → ((b : Actor) → AllByRecursion (Silent b) (t.sends b)) → LogsGo S i t
 inert-goes S i t H u silent = record {
   logs = S.logs;
-  start = u.start;
-  view = u.view;
+  start = ap (λ x. x.start) u.same;
+  view = ap (λ x. x.view) u.same;
   plain = λ c. items S H i t.sends silent NoStreamStart c (λ l k. k.plain);
   holds = inert-after S i t.state t.sends H u silent;
   grown = grown-same S.words.deployment i t.state S.logs;
   enters = enters-same i (length (log_at S i)) S.logs S.logs refl;
-  longer = let e = ap length u.log in omega (arith, e);
+  longer = let e = ap length (ap (λ x. x.log) u.same) in omega (arith, e);
 }
 
 -- one in which nothing is sent
@@ -277,7 +243,7 @@ tells-goes E D S i H = goes-if S i (leads D i s && not s.has_told && not (is_fir
     told : (o : Option (ℕ × ℕ)) → LogsGo S i (tells_initiator E D i s o)
     told None = goes-same S i H
     told (Some first) = inert-goes S i (tells_initiator E D i s (Some first)) H
-        (unwatched s (record s { has_told = true }) (λ k. k))
+        (record { same = refl; held = λ k. k })
         (silent-only first.0 (letter_in (site_term s) first.1 (standing (open_in s.log) (last_done E (part_of_slot D i) s.log)))
         (stands first.0 (site_term s) first.1 (open_in s.log) (last_done E (part_of_slot D i) s.log)))
 
@@ -285,7 +251,7 @@ tells-goes E D S i H = goes-if S i (leads D i s && not s.has_told && not (is_fir
 pub shows-goes : (E : Database) (D : Deployment) (S : LogState) (i : ℕ) → LogsHold S → LogsGo S i (shows E D i (S.sites i))
 shows-goes E D S i H = goes-if S i (nat_lt 0 s.looks && nothing_open s.log) shown (becomes s)
     (inert-goes S i shown H
-    (unwatched s (record s { looks = 0 }) (λ k. k))
+    (record { same = refl; held = λ k. k })
     silent)
     (goes-same S i H)
   where
@@ -308,11 +274,11 @@ shows-goes E D S i H = goes-if S i (nat_lt 0 s.looks && nothing_open s.log) show
 -- a look, and a cut of power, are noted
 pub look-goes : (S : LogState) (i : ℕ) → LogsHold S → LogsGo S i (becomes (on_look (S.sites i)))
 look-goes S i H = goes-if-becomes S i (is_joiner (S.sites i)) (S.sites i) (record (S.sites i) { looks = (S.sites i).looks + 1 }) (goes-same S i H)
-    (inert-becomes S i (record (S.sites i) { looks = (S.sites i).looks + 1 }) H (unwatched (S.sites i) (record (S.sites i) { looks = (S.sites i).looks + 1 }) (λ k. k)))
+    (inert-becomes S i (record (S.sites i) { looks = (S.sites i).looks + 1 }) H (record { same = refl; held = λ k. k }))
 
 pub power-goes : (S : LogState) (i call choice : ℕ) → LogsHold S → LogsGo S i (becomes (on_power (S.sites i) call choice))
-power-goes S i call choice H = inert-becomes S i (on_power (S.sites i) call choice) H (unwatched (S.sites i) (on_power (S.sites i) call choice) (λ k. k))
+power-goes S i call choice H = inert-becomes S i (on_power (S.sites i) call choice) H (record { same = refl; held = λ k. k })
 
 -- other calls wait
 pub calls-goes : (S : LogState) (i : ℕ) (calls : List AskedCall) → LogsHold S → LogsGo S i (becomes (record (S.sites i) { calls = calls }))
-calls-goes S i calls H = inert-becomes S i (record (S.sites i) { calls = calls }) H (unwatched (S.sites i) (record (S.sites i) { calls = calls }) (λ k. k))
+calls-goes S i calls H = inert-becomes S i (record (S.sites i) { calls = calls }) H (record { same = refl; held = λ k. k })

@@ -1,5 +1,5 @@
 -- Of what the proofs speak: the state after a turn of a site, what is kept in a later one, and what a turn adds to the history.
-use Rattle.std.proofs.Common.{◌≡◌, ◌<◌, List, ◌⊎◌}
+use Rattle.std.proofs.Common.{refl, ◌≡◌, ◌<◌, List, ◌⊎◌, arith}
 use Rattle.std.specs.Prelude.{ℕ, ◌≤◌, length, Some, None, true}
 use Rattle.std.specs.List.{AllByRecursion}
 use Rattle.volt_wire.specs.Word.{Membership}
@@ -8,7 +8,7 @@ use Rattle.volt_wire.specs.declared.actor.Actor.TheVariants.{Site}
 use Rattle.volt_wire.specs.declared.message.Msg.TheVariants as msg
 use Rattle.cluster_model.specs.Words.{Deployment, part_of_slot, term_of, leader, start_of_slot}
 use Rattle.cluster_model.specs.Letters.{Letter, Sends, Turn, Waiting}
-use Rattle.cluster_model.specs.SiteState.{SiteState, Joining}
+use Rattle.cluster_model.specs.SiteState.{SiteState, Joining, site_term}
 use Rattle.cluster_model.specs.World.{took, sent, set_at}
 use Rattle.cluster_steps.specs.Lists.{In, Prefix}
 use Rattle.word_laws.proofs.Moves as word
@@ -34,15 +34,31 @@ left S i ws = record S { pending = set_at S.pending i ws }
 
 -- ---- what is so in S is so in a later T
 
--- a slot's site goes on: with its start, a log and a term that only grow, and, as a joiner, with its base on disk if it was there
-pub record Stays (S T : LogState) (c : ℕ) : Type 0 where
-  pub start : site_start T c ≡ site_start S c
-  pub earlier : (T.sites c).earlier ≡ (S.sites c).earlier
-  pub log : length (log_at S c) ≤ length (log_at T c)
-  pub term : term_at S c ≤ term_at T c
-  pub member : (S.sites c).joining ≡ None → (T.sites c).joining ≡ None
-  pub loaded : (k : Joining) → (T.sites c).joining ≡ Some k
-      → (j : Joining) × ((S.sites c).joining ≡ Some j) × (j.is_based ≡ true → k.is_based ≡ true)
+-- A site goes on: with its start, a log and a term that only grow, and, as a joiner, with its base on disk if it was there.
+pub record SiteRises (a b : SiteState) : Type 0 where
+  pub start : b.start ≡ a.start
+  pub earlier : b.earlier ≡ a.earlier
+  pub greatest : a.greatest ≤ b.greatest
+  pub log : length a.log ≤ length b.log
+  pub term : site_term a ≤ site_term b
+  pub member : a.joining ≡ None → b.joining ≡ None
+  pub loaded : (k : Joining) → b.joining ≡ Some k → (j : Joining) × (a.joining ≡ Some j) × (j.is_based ≡ true → k.is_based ≡ true)
+
+-- one that is as it was
+pub site-stays : (a : SiteState) → SiteRises a a
+site-stays a = record {
+  start = refl;
+  earlier = refl;
+  greatest = omega arith;
+  log = omega arith;
+  term = omega arith;
+  member = λ e. e;
+  loaded = λ k e. (k, e, λ l. l);
+}
+
+-- so it is with a slot's site
+abbrev pub Stays : LogState → LogState → ℕ → Type 0
+Stays S T c = SiteRises (S.sites c) (T.sites c)
 
 -- it runs anew, with a start that its slot hasn't run with
 pub record RunsAnew (S T : LogState) (c : ℕ) : Type 0 where

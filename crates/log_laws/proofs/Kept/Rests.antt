@@ -135,6 +135,7 @@ module _ (S : LogState) (H : LogsHold S) (states : ℕ → SiteState) (i : ℕ) 
     sites = λ c. inl (record {
       start = refl;
       earlier = refl;
+      greatest = omega arith;
       log = omega arith;
       term = omega arith;
       member = (rests c).member;

@@ -81,6 +81,7 @@ module _ (S : LogState) (ch : Actor → Actor → List Letter) (f : ℕ → Site
     sites = λ c. let g = m.sites c in inl (record {
       start = g.start;
       earlier = g.earlier;
+      greatest = let e = g.greatest in omega (arith, e);
       log = g.log;
       term = rw g.view (omega arith);
       member = g.member;

@@ -1,5 +1,5 @@
 -- Turns of one site by which the history of logs grows: what holds of the other slots, of messages and of what was loaded stays so.
-use Rattle.std.proofs.Common.{◌≡◌, ◌<◌, true, List, [], ◌++◌, refl, sym, subst, ap, ◌∙◌, ◌⊎◌, inl, inr, ◌==◌, arith}
+use Rattle.std.proofs.Common.{◌≡◌, ◌<◌, List, [], ◌++◌, refl, sym, subst, ap, ◌∙◌, ◌⊎◌, inl, inr, ◌==◌, arith}
 use Rattle.std.proofs.lemmas.Bool.{cases_eq}
 use Rattle.std.specs.Prelude.{ℕ, ◌≤◌, length, filter, map, Option, Some, None}
 use Rattle.std.specs.List.{AllByRecursion}
@@ -9,14 +9,14 @@ use Rattle.volt_wire.specs.declared.actor.Actor.TheVariants.{Agent, Site}
 use Rattle.volt_wire.specs.declared.message.Msg.TheVariants as msg
 use Rattle.cluster_model.specs.Words.{term_of, host_of_slot}
 use Rattle.cluster_model.specs.Letters.{Letter, Waiting}
-use Rattle.cluster_model.specs.SiteState.{SiteState, Joining, Joiner, Ask, site_term}
+use Rattle.cluster_model.specs.SiteState.{SiteState, Joining, Joiner, Ask}
 use Rattle.cluster_model.specs.World.{set_at}
 use Rattle.word_laws.specs.Histories as word
 use Rattle.cluster_steps.specs.Lists.{In}
 use Rattle.word_laws.specs.Histories.{Distinct}
 use Rattle.cluster_steps.proofs.Lists.{all-from, all-at, all-append, all-mono, in-left, in-right, in-map, filter-in, eqb-same, set-here, set-there, set-both}
 use Rattle.log_laws.specs.Histories.{LogState, LogsHold, Entered, Streaming, Leadership, EnteredOk, StreamedOk, LeadershipOk, UnledOk, SiteOk, KeepsOk, MemberOk, JoinerOk, InWord, Coming, ViewsOk, LoadsOk, ForeignOk, AckOk, ReportOk, CountedOk, HeldOk, SiteLetterOk, SiteWaitingOk, AsksToJoin, EndOk, MeantFor, IsCounted, IsSlot, ToldOk, AskedOk, QueuedLoadedOk, epoch_base, part, site_start, term_at, between, agent_to_site, line, flow, stream_ends_in, ask_of, wait_of, asks_in, asks_waiting, asks_kept, asks_of_term, asked}
-use Rattle.log_laws.proofs.Kept.Moves.{LogsLater, EntersNow}
+use Rattle.log_laws.proofs.Kept.Moves.{SiteRises, site-stays, LogsLater, EntersNow}
 use Rattle.log_laws.proofs.Kept.Laters.{been-later, ack-later, report-later, ask-later, counted-later, loaded-later, all_loaded-later, end-later, told-later, asked-later, queued-later, stays, letter-later-with, waiting-later-with}
 use Rattle.log_laws.proofs.Plain.Lines.{in-flat, flow-same, ends-same}
 use Rattle.log_laws.proofs.Kept.Asked.{AtMost, at-most-is, at-most-both, at-most-same, at-most-none}
@@ -42,27 +42,7 @@ put-here f a b v = put-both (λ c d x. c ≡ a → d ≡ b → x ≡ v) f a b v 
 pub put-there : {A : Type 0} (f : ℕ → ℕ → A) (a b : ℕ) (v : A) (c d : ℕ) → (c ≡ a → d ≡ b → ⊥) → put_at f a b v c d ≡ f c d
 put-there f a b v c d n = put-both (λ c d x. (c ≡ a → d ≡ b → ⊥) → x ≡ f c d) f a b v (λ n. absurd (n refl refl)) (λ c d _ _. refl) c d n
 
--- ---- a site that goes on
-
-pub record SiteRises (a b : SiteState) : Type 0 where
-  pub start : b.start ≡ a.start
-  pub earlier : b.earlier ≡ a.earlier
-  pub greatest : a.greatest ≤ b.greatest
-  pub log : length a.log ≤ length b.log
-  pub term : site_term a ≤ site_term b
-  pub member : a.joining ≡ None → b.joining ≡ None
-  pub loaded : (k : Joining) → b.joining ≡ Some k → (j : Joining) × (a.joining ≡ Some j) × (j.is_based ≡ true → k.is_based ≡ true)
-
-pub goes-on-same : (a : SiteState) → SiteRises a a
-goes-on-same a = record {
-  start = refl;
-  earlier = refl;
-  greatest = omega arith;
-  log = omega arith;
-  term = omega arith;
-  member = λ e. e;
-  loaded = λ k e. (k, e, λ l. l);
-}
+-- ---- the state
 
 -- the state after a turn of the site of slot i, with these channels and this history of terms
 abbrev pub site_turned : LogState → ℕ → SiteState → (Actor → Actor → List Letter) → (ℕ → ℕ → Option Entered) → (ℕ → ℕ → Option Leadership) → (ℕ → ℕ → ℕ) → LogState
@@ -82,7 +62,7 @@ turned-later S i s ch en re rc goes entered now reach = record {
   words = words-later S ch;
   ran = λ c a is. is;
   greatest = λ c. (all c).greatest;
-  sites = λ c. let k = all c in inl (record { start = k.start; earlier = k.earlier; log = k.log; term = k.term; member = k.member; loaded = k.loaded });
+  sites = λ c. inl (all c);
   entered = entered;
   entered_now = now;
   streamed = λ c t x is. is;
@@ -91,7 +71,7 @@ turned-later S i s ch en re rc goes entered now reach = record {
 }
   where
     all : (c : ℕ) → SiteRises (S.sites c) (set_at S.sites i s c)
-    all = set-both (λ c z. SiteRises (S.sites c) z) S.sites i s goes (λ c _. goes-on-same (S.sites c))
+    all = set-both (λ c z. SiteRises (S.sites c) z) S.sites i s goes (λ c _. site-stays (S.sites c))
 
 -- what is said of a channel, where what a site sent to others is behind what was there
 pub said-same : {A : Type 0} (f : List Letter → A) (S : LogState) (i : ℕ) (ch : Actor → Actor → List Letter) (new : ℕ → List Letter)

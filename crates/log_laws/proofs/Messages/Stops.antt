@@ -20,7 +20,7 @@ use Rattle.cluster_model.specs.Laws.{starts_in}
 use Rattle.cluster_steps.specs.Lists.{In}
 use Rattle.cluster_steps.proofs.Lists.{all-if, all-mono, not-both, same-some, set-both, set-here, set-there, set-twice}
 use Rattle.log_laws.specs.Histories.{LogState, Logs, Entered, Streaming, LogsHold, IsCounted, SiteLetterOk, ForeignOk, IsSlot, SiteOk, KeepsOk, ViewsOk, JoinerOk, FirstViews, Starting, part, site_start, log_at, term_at, between, agent_to_site, views, asks_in, asks_waiting, asks_of_term}
-use Rattle.log_laws.proofs.Kept.Moves.{Grown, Enters, after_site, site_popped, LogsLater, SiteLater, Stays, SameLeaderships, JoinsOn}
+use Rattle.log_laws.proofs.Kept.Moves.{SiteRises, site-stays, Grown, Enters, after_site, site_popped, LogsLater, SiteLater, Stays, SameLeaderships, JoinsOn}
 use Rattle.log_laws.proofs.Kept.Grown.{grown-same, grown-reach, enters-same}
 use Rattle.log_laws.proofs.Kept.Laters.{stays, same-leaderships, ask-later-on, letter-later-with, end-later-if, loads-later, entered-later, streamed-later, leaderships-later}
 use Rattle.log_laws.proofs.Plain.Lines.{if-none}
@@ -29,18 +29,11 @@ use Rattle.log_laws.proofs.Kept.Keeps.{SiteStays, still-same, Uncounted, counted
 use Rattle.log_laws.proofs.Kept.KeepsViews.{foreign-later, first_views-later, views-keeps}
 use Rattle.log_laws.proofs.Kept.Plumbing.{words-later, goes-same, here, popped-here, popped-after, first-after}
 use Rattle.log_laws.proofs.Messages.Pops.{pops-kind, pops-stopped}
-use Rattle.log_laws.proofs.Kept.InertTurns.{Silent, Unwatched, unwatched, inert-after}
+use Rattle.log_laws.proofs.Kept.InertTurns.{Silent, Unwatched, inert-after}
 
 -- a site that is as it was goes on
 pub stays-same : (S T : LogState) (c : ℕ) → T.sites c ≡ S.sites c → Stays S T c
-stays-same S T c e = record {
-  start = ap (λ x. x.start) e;
-  earlier = ap (λ x. x.earlier) e;
-  log = rw (ap (λ x. length x.log) e) (omega arith);
-  term = rw (ap site_term e) (omega arith);
-  member = λ z. ap (λ x. x.joining) e ∙ z;
-  loaded = λ k z. (k, ap (λ x. x.joining) (sym e) ∙ z, λ y. y);
-}
+stays-same S T c e = subst (SiteRises (S.sites c)) (sym e) (site-stays (S.sites c))
 
 -- ---- a site of another start, or none
 
@@ -172,7 +165,7 @@ pub renewed-sends : (S : LogState) (i : ℕ) (s : SiteState) (ran : ℕ → List
 renewed-sends S i s ran out H silent =
     subst (λ f. LogsHold (record S { words = record S.words { channel = sent S.words.channel (Site i) out }; sites = f; logs = record S.logs { ran = ran } }))
     (set-twice S.sites i s s)
-    (inert-after (site_renewed S i s ran) i s out H (subst (λ z. Unwatched z s) (sym (set-here S.sites i s)) (unwatched s s (λ k. k))) silent)
+    (inert-after (site_renewed S i s ran) i s out H (subst (λ z. Unwatched z s) (sym (set-here S.sites i s)) (record { same = refl; held = λ k. k })) silent)
 
 -- ---- a site that stops
 
@@ -481,7 +474,7 @@ on_stop-after S H from i l ls a is none = choice (nat_le (S.sites i).start a)
     )
     choice false = (
       S.logs,
-      inert-after (site_popped S from i) i noted no_sends (pops-kind S H from i (record l { body = msg.Stop a }) ls is tt) (unwatched (S.sites i) noted (λ k. k)) (λ b. tt),
+      inert-after (site_popped S from i) i noted no_sends (pops-kind S H from i (record l { body = msg.Stop a }) ls is tt) (record { same = refl; held = λ k. k }) (λ b. tt),
       grown-same S.words.deployment i noted S.logs,
       enters-same i (length (log_at S i)) S.logs S.logs refl,
       inl refl,

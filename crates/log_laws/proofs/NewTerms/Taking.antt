@@ -17,7 +17,7 @@ use Rattle.cluster_model.specs.Laws.{starts_in}
 use Rattle.cluster_steps.specs.Lists.{In}
 use Rattle.cluster_steps.proofs.Lists.{if-true, if-false, and-false, all-at, all-from, all-append, all-mono, eqb-same, set-here}
 use Rattle.cluster_steps.proofs.Channels.{took-all}
-use Rattle.log_laws.specs.Histories.{LogState, Logs, LogsHold, ViewsOk, MemberViews, FirstViews, RunViews, Starting, ForeignOk, site_start, term_at, agent_to_site, between, views, IsSlot, MeantFor, SiteLetterOk, is_for, line_of, flow_of, end_of, line, flow, stream_ends_in, sent_term}
+use Rattle.log_laws.specs.Histories.{PlainView, LogState, Logs, LogsHold, ViewsOk, MemberViews, FirstViews, RunViews, Starting, ForeignOk, site_start, term_at, agent_to_site, between, views, IsSlot, MeantFor, SiteLetterOk, is_for, line_of, flow_of, end_of, line, flow, stream_ends_in, sent_term}
 use Rattle.log_laws.proofs.Kept.Moves.{after_site, site_popped, LogsLater}
 use Rattle.log_laws.proofs.Plain.Lines.{views-here, line-other, flow-other, ends-other, line-none, flow-none, ends-none, if-none}
 use Rattle.log_laws.proofs.Kept.KeepsViews.{LeavesViews, leaves-first, member_views-later, first_views-later}
@@ -159,9 +159,6 @@ module _ (S : LogState) (H : LogsHold S) (h i : ℕ) (l : Letter) (w : Membershi
 
       left : agent_to_site T i ≡ ls
       left = popped-own
-
-      abbrev PlainView : Letter → Type 0
-      PlainView l = elim l.body as (λ _. Type 0) [ msg.View w ↦ (l.term ≡ 0) × (0 < l.start) | _ ↦ Unit {0} ]
 
       start-is : site_start T i ≡ site_start S i
       start-is = ap (λ z. z.start) (set-here S.sites i s) ∙ same-start

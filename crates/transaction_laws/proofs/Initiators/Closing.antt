@@ -17,7 +17,7 @@ use Rattle.log_laws.specs.Histories.{LogState, LogsHold}
 use Rattle.log_laws.proofs.Plain.Copies.{is_in-in, in-is_in}
 use Rattle.disk_laws.specs.Disks.{Firm}
 use Rattle.transaction_laws.specs.Machine.{first_stage, stage}
-use Rattle.transaction_laws.specs.Transactions.{Transactions, Books, HeardPart, Aligned, Initiates, IsPart, Settled, Ended, JobOk, whole}
+use Rattle.transaction_laws.specs.Transactions.{Transactions, Books, HeardPart, Aligned, Initiates, IsPart, Settled, IsEnded, JobOk, whole}
 use Rattle.transaction_laws.proofs.Kept.Moves.{InitiatorGoes, SendsDue}
 use Rattle.transaction_laws.proofs.Entries.Machine.{stage-append}
 use Rattle.transaction_laws.proofs.Kept.Later.{books-later}
@@ -81,7 +81,7 @@ module _ (E : Database) (S : LogState) (F : Firm) (K : Transactions) (now : ℕ)
   closed-books = orders-books E S F K after now now e to B (omega arith) tt refl refl (λ q other _. none q other) each aligned
 
   -- There it ends, once it is taken.
-  closed-ended : (q : ℕ) → IsPart S q → to q ≡ true → Ended E S after q
+  closed-ended : (q : ℕ) → IsPart S q → to q ≡ true → IsEnded E S after q
   closed-ended q other y = let s = ap (stage E q) (whole-to S K to e q other y) ∙ stage-append (first_stage E q) (log q) (e ∷ []) in (ap (λ s. s.opened) s, ap (λ s. s.number) s)
 
   -- Elsewhere what is settled stays so.
@@ -145,7 +145,7 @@ module _ (E : Database) (S : LogState) (F : Firm) (K : Transactions) (now stamp 
         subst (λ q. (r : ℕ) × OpenAt E K (whole S K K.heard) q r) at (open-at E S F K now B told stand tells y here still x j o).1
 
     -- each partition ends it, or is settled
-    each-closes : (p : ℕ) → IsPart S p → (to p ≡ true → Ended E S closed p) × ((to p ≡ false) ⊎ (is_in p [] ≡ true) → Settled E S F closed p)
+    each-closes : (p : ℕ) → IsPart S p → (to p ≡ true → IsEnded E S closed p) × ((to p ≡ false) ⊎ (is_in p [] ≡ true) → Settled E S F closed p)
     each-closes p part = (closed-ended E S F K now B y.part at.0 (stand y here).part at.1 o ends to opened none p part, either)
       where
         shut : to p ≡ false → (x : Heard) → In x told → x.part ≡ p → x.is_open ≡ false

@@ -18,7 +18,7 @@ use Rattle.log_laws.specs.Histories.{LogState, LogsHold}
 use Rattle.log_laws.proofs.Plain.Copies.{is_in-in}
 use Rattle.disk_laws.specs.Disks.{Firm}
 use Rattle.transaction_laws.specs.Machine.{WellFormed, first_stage, stage}
-use Rattle.transaction_laws.specs.Transactions.{Transactions, Books, Initiates, IsPart, IsCall, OnlyCalls, Everywhere, Stood, Settled, Ended, JobOk, AtHand, PhaseOk, led_log, whole}
+use Rattle.transaction_laws.specs.Transactions.{Transactions, Books, Initiates, IsPart, IsCall, OnlyCalls, Everywhere, Stood, Settled, IsEnded, JobOk, AtHand, PhaseOk, led_log, whole}
 use Rattle.transaction_laws.proofs.Kept.Moves.{InitiatorGoes}
 use Rattle.transaction_laws.proofs.Entries.Machine.{first-sound, stage-append, done-last}
 use Rattle.transaction_laws.proofs.Initiators.Orders.{LaidOut}
@@ -28,7 +28,7 @@ use Rattle.transaction_laws.proofs.Initiators.Settling.{settles-goes, ends_job-g
 
 -- ---- where the last transaction ends, and its end stands for good
 
-module _ (E : Database) (S : LogState) (F : Firm) (K : Transactions) (now : ℕ) (B : Books E S F K now) (p : ℕ) (part : IsPart S p) (e : Ended E S K p)
+module _ (E : Database) (S : LogState) (F : Firm) (K : Transactions) (now : ℕ) (B : Books E S F K now) (p : ℕ) (part : IsPart S p) (e : IsEnded E S K p)
     (o : Outcome) (d : Stood S F p K.heard (Done K.number o)) where
   abbrev due : List Entry
   due = K.due p K.heard
@@ -85,7 +85,7 @@ module _ (E : Database) (S : LogState) (F : Firm) (K : Transactions) (now stamp 
   still = goes-still E S F K stamp n w a now a B l refl refl refl k
 
   -- In the partition all is settled, where its last transaction ends and that is this one.
-  settled-now : K.heard ≡ term_of w → m ≡ K.number → Ended E S K p → Settled E S F K p
+  settled-now : K.heard ≡ term_of w → m ≡ K.number → IsEnded E S K p → Settled E S F K p
   settled-now heard is ended = ended-settled E S F K now B p part ended stood.0
       (subst (λ t. Stood S F p t (Done K.number stood.0)) (sym heard) (subst (λ x. Stood S F p (term_of w) (Done x stood.0)) is stood.1))
 

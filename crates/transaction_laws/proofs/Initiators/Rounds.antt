@@ -23,7 +23,7 @@ use Rattle.log_laws.proofs.Plain.Lines.{both-empty}
 use Rattle.cluster_steps.proofs.Prefixes.{prefix-refl, prefix-same, prefix-grows}
 use Rattle.disk_laws.specs.Disks.{Firm}
 use Rattle.transaction_laws.specs.Machine.{Stage, IsOpen, WellFormed, Fits, EndFits, point_after, first_stage, next_stage, stage_behind, stage}
-use Rattle.transaction_laws.specs.Transactions.{Transactions, Books, Initiates, IsPart, IsOrder, HeardPart, Stood, Fed, Ended, Settled, AtHand, JobOk, PhaseOk, Aligned, led_log, whole, OfNumber, since, point_in, order_in}
+use Rattle.transaction_laws.specs.Transactions.{Transactions, Books, Initiates, IsPart, IsOrder, HeardPart, Stood, Fed, IsEnded, Settled, AtHand, JobOk, PhaseOk, Aligned, led_log, whole, OfNumber, since, point_in, order_in}
 use Rattle.transaction_laws.proofs.Entries.Machine.{first-sound, stage-sound, stage-append, formed-append, calls-opened, frag-last, opened-no-end}
 use Rattle.transaction_laws.proofs.Kept.Moves.{SendsDue, InitiatorGoes, with_due}
 use Rattle.transaction_laws.proofs.Initiators.Orders.{LaidOut, due_with, orders-sent, orders-books}
@@ -279,7 +279,7 @@ module _ (E : Database) (S : LogState) (F : Firm) (K : Transactions) (now stamp 
       top = h.top;
     }
 
-    end-at-hand : (p : ℕ) → IsPart S p → Ended E S end_sent p × (is_in p v.finished ≡ true → Settled E S F end_sent p)
+    end-at-hand : (p : ℕ) → IsPart S p → IsEnded E S end_sent p × (is_in p v.finished ≡ true → Settled E S F end_sent p)
     end-at-hand p part = (
       let q = ap (stage E p) (end-more p part) ∙ stage-append (first_stage E p) (whole S K K.heard p) (Done K.number o ∷ []) in
           (ap (λ s. s.opened) q, ap (λ s. s.number) q),

@@ -26,7 +26,7 @@ use Rattle.log_laws.proofs.Kept.Terms.{base-least, last-below}
 use Rattle.log_laws.proofs.Runs.Agreeing.{agrees-begun}
 use Rattle.disk_laws.specs.Disks.{Firm, Top, AtLeast}
 use Rattle.transaction_laws.specs.Machine.{Stage, WellFormed, first_stage, stage_behind, stage}
-use Rattle.transaction_laws.specs.Transactions.{Transactions, Books, LeadershipFits, HeardPart, HeardOk, DueOk, Aligned, IsPart, IsCall, OnlyCalls, OfNumber, NoRound, Everywhere, Stood, StateOk, OrderOk, AnswerOk, ToSiteOk, Settled, Fed, Ended, AtHand, PhaseOk, led_log, whole, since}
+use Rattle.transaction_laws.specs.Transactions.{Transactions, Books, LeadershipFits, HeardPart, HeardOk, DueOk, Aligned, IsPart, IsCall, OnlyCalls, OfNumber, NoRound, Everywhere, Stood, StateOk, OrderOk, AnswerOk, ToSiteOk, Settled, Fed, IsEnded, AtHand, PhaseOk, led_log, whole, since}
 use Rattle.transaction_laws.proofs.Kept.Moves.{Onto, BeginsTerm, GoesOnTerm, Moved, with_due, Under, CallsAt}
 use Rattle.transaction_laws.proofs.Entries.Machine.{AtMostOne, formed-append, formed-prefix, prefix-point, calls-only, calls-formed, calls-point, due-formed, due-opened, due-number, due-point, stage-append}
 use Rattle.transaction_laws.proofs.Entries.Since.{call-number, call-round}
@@ -504,7 +504,7 @@ module _ (E : Database) (S T : LogState) (F M : Firm) (K : Transactions) (now : 
       behind = ap (drop n) q.1 ∙ drop-append-le n k.old.log k.runs.calls (prefix-length u.prefix k.old.log stands)
 
   -- Where the last transaction ended, it has ended.
-  ended-on : (p : ℕ) → IsPart S p → Ended E S K p → Ended E T L p
+  ended-on : (p : ℕ) → IsPart S p → IsEnded E S K p → IsEnded E T L p
   ended-on p part e = (between-opened E p (now + 1) (before p) (after p) (between p part) ∙ e.0, between-number E p (now + 1) (before p) (after p) (between p part) ∙ e.1)
 
   -- While a transaction is open and nothing is due, the log stays as it is.
