@@ -1,0 +1,4 @@
+pub mod Utf8Bytes
+pub mod KeyLemmas
+pub mod KeyOrder
+pub mod IndexLemmas
