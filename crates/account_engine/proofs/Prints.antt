@@ -12,14 +12,14 @@ use Rattle.volt_report.specs.Spelling.{end_text, newline}
 use Rattle.account_engine.specs.declared.reply.Answer.{Answer}
 use Rattle.account_engine.specs.declared.reply.Answer.TheVariants.{Nothing, Integer, Fault}
 use Rattle.account_engine.specs.Spelling.{reply_bytes}
-use Rattle.account_engine.specs.Answers.{end_of, is_given, answer_of}
+use Rattle.account_engine.specs.Answers.{end_of_answer, is_given, answer_of}
 use Rattle.account_engine.specs.Again.{value_again}
 
-pub text-nothing : end_text (end_of Nothing) ≡ codes "ok 0\n"
+pub text-nothing : end_text (end_of_answer Nothing) ≡ codes "ok 0\n"
 unfolding digits
 text-nothing = refl
 
-pub text-integer : (z : ℤ) → end_text (end_of (Integer z)) ≡ codes "ok 1\n " ++ signed_decimal z ++ newline
+pub text-integer : (z : ℤ) → end_text (end_of_answer (Integer z)) ≡ codes "ok 1\n " ++ signed_decimal z ++ newline
 unfolding digits
 text-integer z =
     let text : List ℕ = signed_decimal z in
@@ -29,7 +29,7 @@ text-integer z =
 pub record HasAnswer (e : ReportEnd) : Type 0 where
   pub answer : Answer
   pub read : answer_of (reply_bytes e) ≡ Some answer
-  pub end : end_of answer ≡ e
+  pub end : end_of_answer answer ≡ e
 
 pub has_answer : (e : ReportEnd) → is_given e ≡ true → HasAnswer e
 has_answer (report.Kept []) given = record { answer = Nothing; read = refl; end = refl }
@@ -38,8 +38,8 @@ has_answer (report.Fault code) given = record { answer = Fault code; read = refl
 has_answer e given = absurd cc
 
 -- what was read of a reply is its end
-pub end-read : (bytes : List ℕ) (r : Option Answer) (a : Answer) (e : ReportEnd) → r ≡ answer_of bytes → r ≡ Some a → is_given e ≡ true → bytes ≡ reply_bytes e → end_of a ≡ e
+pub end-read : (bytes : List ℕ) (r : Option Answer) (a : Answer) (e : ReportEnd) → r ≡ answer_of bytes → r ≡ Some a → is_given e ≡ true → bytes ≡ reply_bytes e → end_of_answer a ≡ e
 end-read bytes r a e read is given spelled =
     let h = has_answer e given in
     let same : a ≡ h.answer = same_Some a h.answer (sym is ∙ read ∙ ap answer_of spelled ∙ h.read) in
-    ap end_of same ∙ h.end
+    ap end_of_answer same ∙ h.end

@@ -6,14 +6,17 @@ use Rattle.std.proofs.lemmas.Bool.{and_parts, cases_Bool, cond-true, cond-false,
 use Rattle.std.proofs.lemmas.Int.{of_z-to_z}
 use Rattle.std.proofs.lemmas.List.{append-nil, nil_from_length, take-append-drop, length-take, get_or-drop, get_or-take, get_or_past}
 use Rattle.std.proofs.lemmas.Nat.{be_bytes_2, be_bytes_8}
-use Rattle.std.proofs.lemmas.Option.{option_and_then_some, cond_some, none-some}
+use Rattle.std.proofs.lemmas.Option.{cond_some, none-some}
+use Rattle.volt_base.specs.Reading.{◌>>=◌}
+use Rattle.volt_base.proofs.Fields.{bind_some}
 use Rattle.volt_value.specs.declared.value.Value.TheVariants.{Int}
 use Rattle.account_engine.specs.declared.call.AccountCall.{AccountCall}
 use Rattle.account_engine.specs.declared.call.AccountCall.TheVariants.{Put, Get}
 use Rattle.account_engine.specs.Calls.{is_value, is_valid}
-use Rattle.account_engine.specs.Spelling.{value_bytes, body_bytes}
+use Rattle.volt_value.specs.Spelling.{value_bytes}
+use Rattle.account_engine.specs.Spelling.{body_of}
 use Rattle.account_engine.specs.Again.{call_again}
-use Rattle.account_engine.specs.Reading.{if_value, if_ended, integer_at, value_at, put_of, get_of, call_with, call_of}
+use Rattle.account_engine.specs.Reading.{if_value, if_ended, integer_then_rest, value_then_rest, put_of_values, get_of_values, call_with, call_of_body}
 
 -- ---- tests that gave a value
 
@@ -58,7 +61,7 @@ pub record Takes (bytes text rest : List ℕ) : Type 0 where
 abbrev integer_bytes : ℤ → List ℕ
 integer_bytes z = to_be_bytes w64 (cast_unsigned w64 z)
 
-integer_takes : (bytes : List ℕ) (x : ℤ × List ℕ) → IsBytes bytes → integer_at bytes ≡ Some x → Takes bytes (integer_bytes x.0) x.1 × (is_value x.0 ≡ true)
+integer_takes : (bytes : List ℕ) (x : ℤ × List ℕ) → IsBytes bytes → integer_then_rest bytes ≡ Some x → Takes bytes (integer_bytes x.0) x.1 × (is_value x.0 ≡ true)
 integer_takes bytes x fits e =
     let n : ℕ = from_be_bytes w64 (take 8 bytes) in
     let z : ℤ = cast_signed w64 n in
@@ -74,10 +77,10 @@ integer_takes bytes x fits e =
 
 -- ---- values
 
-value_takes : (bytes : List ℕ) (x : ℤ × List ℕ) → IsBytes bytes → value_at bytes ≡ Some x → Takes bytes (value_bytes (Int x.0)) x.1 × (is_value x.0 ≡ true)
+value_takes : (bytes : List ℕ) (x : ℤ × List ℕ) → IsBytes bytes → value_then_rest bytes ≡ Some x → Takes bytes (value_bytes (Int x.0)) x.1 × (is_value x.0 ≡ true)
 value_takes [] x fits e = absurd cc
 value_takes (kind ∷ bytes) x fits e =
-    let is = not_else (eqb kind 1) (integer_at bytes) x e in
+    let is = not_else (eqb kind 1) (integer_then_rest bytes) x e in
     let t = integer_takes bytes x (IsBytes-rest kind bytes fits) is.1 in
     let one : kind ≡ 1 = eqb-true kind 1 is.0 in
     let parts : kind ∷ bytes ≡ value_bytes (Int x.0) ++ x.1 = ap (λ (k : ℕ). k ∷ bytes) one ∙ ap (λ (b : List ℕ). 1 ∷ b) t.0.parts in
@@ -93,41 +96,41 @@ ended_is rest x y e =
 -- the call is valid, and these are its values
 pub record IsRead (procedure count : ℕ) (values : List ℕ) (c : AccountCall) : Type 0 where
   pub valid : is_valid c ≡ true
-  pub spelled : to_be_bytes w16 procedure ++ count ∷ values ≡ body_bytes c
+  pub spelled : to_be_bytes w16 procedure ++ count ∷ values ≡ body_of c
 
-put_takes : (values : List ℕ) (c : AccountCall) → IsBytes values → put_of values ≡ Some c → IsRead 0 2 values c
+put_takes : (values : List ℕ) (c : AccountCall) → IsBytes values → put_of_values values ≡ Some c → IsRead 0 2 values c
 put_takes values c fits e =
-    option_and_then_some _ (value_at values) c e (λ id at_id e1.
-    option_and_then_some _ (value_at id.1) c e1 (λ balance at_balance e2.
-    let first = value_takes values id fits at_id in
-    let second = value_takes id.1 balance first.0.rest_fits at_balance in
-    let end = ended_is balance.1 (Put id.0 balance.0) c e2 in
-    let all : values ≡ value_bytes (Int id.0) ++ value_bytes (Int balance.0) = first.0.parts ∙ ap (λ (r : List ℕ). value_bytes (Int id.0) ++ r) (second.0.parts ∙ ap (λ (r : List ℕ). value_bytes (Int balance.0) ++ r) end.0 ∙ append-nil (value_bytes (Int balance.0))) in
-    subst (λ (d : AccountCall). IsRead 0 2 values d) end.1 (record { valid = and_true _ _ first.1 second.1; spelled = ap (λ (r : List ℕ). 0 ∷ 0 ∷ 2 ∷ r) all })))
+    let id = bind_some (value_then_rest values) (λ i. value_then_rest i.1 >>= λ b. if_ended b.1 (Put i.0 b.0)) c e in
+    let balance = bind_some (value_then_rest id.0.1) (λ b. if_ended b.1 (Put id.0.0 b.0)) c id.2 in
+    let first = value_takes values id.0 fits id.1 in
+    let second = value_takes id.0.1 balance.0 first.0.rest_fits balance.1 in
+    let end = ended_is balance.0.1 (Put id.0.0 balance.0.0) c balance.2 in
+    let all : values ≡ value_bytes (Int id.0.0) ++ value_bytes (Int balance.0.0) = first.0.parts ∙ ap (λ (r : List ℕ). value_bytes (Int id.0.0) ++ r) (second.0.parts ∙ ap (λ (r : List ℕ). value_bytes (Int balance.0.0) ++ r) end.0 ∙ append-nil (value_bytes (Int balance.0.0))) in
+    subst (λ (d : AccountCall). IsRead 0 2 values d) end.1 (record { valid = and_true _ _ first.1 second.1; spelled = ap (λ (r : List ℕ). 0 ∷ 0 ∷ 2 ∷ r) all })
 
-get_takes : (values : List ℕ) (c : AccountCall) → IsBytes values → get_of values ≡ Some c → IsRead 1 1 values c
+get_takes : (values : List ℕ) (c : AccountCall) → IsBytes values → get_of_values values ≡ Some c → IsRead 1 1 values c
 get_takes values c fits e =
-    option_and_then_some _ (value_at values) c e (λ id at_id e1.
-    let first = value_takes values id fits at_id in
-    let end = ended_is id.1 (Get id.0) c e1 in
-    let all : values ≡ value_bytes (Int id.0) = first.0.parts ∙ ap (λ (r : List ℕ). value_bytes (Int id.0) ++ r) end.0 ∙ append-nil (value_bytes (Int id.0)) in
-    subst (λ (d : AccountCall). IsRead 1 1 values d) end.1 (record { valid = first.1; spelled = ap (λ (r : List ℕ). 0 ∷ 1 ∷ 1 ∷ r) all }))
+    let id = bind_some (value_then_rest values) (λ i. if_ended i.1 (Get i.0)) c e in
+    let first = value_takes values id.0 fits id.1 in
+    let end = ended_is id.0.1 (Get id.0.0) c id.2 in
+    let all : values ≡ value_bytes (Int id.0.0) = first.0.parts ∙ ap (λ (r : List ℕ). value_bytes (Int id.0.0) ++ r) end.0 ∙ append-nil (value_bytes (Int id.0.0)) in
+    subst (λ (d : AccountCall). IsRead 1 1 values d) end.1 (record { valid = first.1; spelled = ap (λ (r : List ℕ). 0 ∷ 1 ∷ 1 ∷ r) all })
 
 with_takes : (procedure count : ℕ) (values : List ℕ) (c : AccountCall) → IsBytes values → call_with procedure count values ≡ Some c → IsRead procedure count values c
 with_takes procedure count values c fits e =
-    let get = cond (eqb procedure 1 && eqb count 1) (get_of values) None in
+    let get = cond (eqb procedure 1 && eqb count 1) (get_of_values values) None in
     elim (cases_Bool (eqb procedure 0 && eqb count 2)) [
       | inl put ↦
           let is = and_parts _ _ put in
-          let read : put_of values ≡ Some c = sym (cond-true _ (put_of values) get put) ∙ e in
+          let read : put_of_values values ≡ Some c = sym (cond-true _ (put_of_values values) get put) ∙ e in
           rw (eqb-true procedure 0 is.0, eqb-true count 2 is.1) (put_takes values c fits read)
       | inr other ↦
-          let read = not_else (eqb procedure 1 && eqb count 1) (get_of values) c (sym (cond-false _ (put_of values) get other) ∙ e) in
+          let read = not_else (eqb procedure 1 && eqb count 1) (get_of_values values) c (sym (cond-false _ (put_of_values values) get other) ∙ e) in
           let is = and_parts _ _ read.0 in
           rw (eqb-true procedure 1 is.0, eqb-true count 1 is.1) (get_takes values c fits read.1)
     ]
 
-pub call_takes : (bytes : List ℕ) (c : AccountCall) → IsBytes bytes → call_of bytes ≡ Some c → (is_valid c ≡ true) × (bytes ≡ body_bytes c)
+pub call_takes : (bytes : List ℕ) (c : AccountCall) → IsBytes bytes → call_of_body bytes ≡ Some c → (is_valid c ≡ true) × (bytes ≡ body_of c)
 call_takes [] c fits e = absurd cc
 call_takes (high ∷ []) c fits e = absurd cc
 call_takes (high ∷ low ∷ []) c fits e = absurd cc
@@ -140,10 +143,10 @@ call_takes (high ∷ low ∷ count ∷ values) c fits e =
 
 -- ---- what a reader promises
 
-pub is_read : (bytes : List ℕ) (r : Option AccountCall) → IsBytes bytes → r ≡ call_of bytes → IfSome r (λ c. (is_valid c ≡ true) × (bytes ≡ body_bytes c))
+pub is_read : (bytes : List ℕ) (r : Option AccountCall) → IsBytes bytes → r ≡ call_of_body bytes → IfSome r (λ c. (is_valid c ≡ true) × (bytes ≡ body_of c))
 is_read bytes None fits e = tt
 is_read bytes (Some c) fits e = call_takes bytes c fits (sym e)
 
-pub is_refused : (bytes : List ℕ) (r : Option AccountCall) → r ≡ call_of bytes → IfNone r ((c : AccountCall) → is_valid c ≡ true → bytes ≡ body_bytes c → ⊥)
-is_refused bytes None e = λ c valid is. none-some c (e ∙ ap call_of is ∙ call_again c valid)
+pub is_refused : (bytes : List ℕ) (r : Option AccountCall) → r ≡ call_of_body bytes → IfNone r ((c : AccountCall) → is_valid c ≡ true → bytes ≡ body_of c → ⊥)
+is_refused bytes None e = λ c valid is. none-some c (e ∙ ap call_of_body is ∙ call_again c valid)
 is_refused bytes (Some c) e = tt

@@ -18,7 +18,7 @@ use Rattle.account_engine.specs.declared.call.AccountCall.{AccountCall}
 use Rattle.account_engine.specs.declared.call.AccountCall.TheVariants.{Put, Get}
 use Rattle.account_engine.specs.Calls.{ValidCall}
 use Rattle.account_engine.specs.Spelling.{reply_bytes}
-use Rattle.account_engine.specs.Reading.{call_of}
+use Rattle.account_engine.specs.Reading.{call_of_body}
 
 -- the rows of the table, each an id and its balance, by rising ids
 abbrev pub Rows : Type 0
@@ -63,11 +63,11 @@ reply rows (Get id) = found (balance_of rows id)
 abbrev pub table_name : List ℕ
 table_name = codes "acct"
 
-abbrev pub row_line : ℤ × ℤ → RowLine
-row_line row = record { table = table_name; row = Int row.0 ∷ Int row.1 ∷ [] }
+abbrev pub line_of_row : ℤ × ℤ → RowLine
+line_of_row row = record { table = table_name; row = Int row.0 ∷ Int row.1 ∷ [] }
 
 abbrev pub row_lines : Rows → List RowLine
-row_lines rows = map row_line rows
+row_lines rows = map line_of_row rows
 
 -- a row of two integers is added, and any other is passed over
 abbrev pub with_values : Rows → List Value → Rows
@@ -109,24 +109,24 @@ carried_out s call point (Some c) = record { rows = rows_after s.rows c; applied
 
 -- the state after an entry: one that is no whole call changes nothing
 abbrev pub after : AccountsState → Entry → AccountsState
-after s (Sp call point body) = carried_out s call point (call_of body)
+after s (Sp call point body) = carried_out s call point (call_of_body body)
 after s (Frag m round body) = s
 after s (Done m outcome) = s
 
 -- the reply to a call
-abbrev pub answered : AccountsState → Option AccountCall → List ℕ
-answered s None = []
-answered s (Some c) = reply_bytes (reply s.rows c)
+abbrev pub answer_to : AccountsState → Option AccountCall → List ℕ
+answer_to s None = []
+answer_to s (Some c) = reply_bytes (reply s.rows c)
 
 -- what an entry answers: one that is no whole call has no reply
 abbrev pub answer : AccountsState → Entry → List ℕ
-answer s (Sp call point body) = answered s (call_of body)
+answer s (Sp call point body) = answer_to s (call_of_body body)
 answer s (Frag m round body) = []
 answer s (Done m outcome) = []
 
 -- an entry fits where it is a whole call whose body spells one
 abbrev pub fits : Entry → Bool
-fits (Sp call point body) = is_some (call_of body)
+fits (Sp call point body) = is_some (call_of_body body)
 fits (Frag m round body) = false
 fits (Done m outcome) = false
 

@@ -11,8 +11,10 @@ use Rattle.volt_value.specs.declared.value.Value.TheVariants.{Int}
 use Rattle.account_engine.specs.declared.call.AccountCall.{AccountCall}
 use Rattle.account_engine.specs.declared.call.AccountCall.TheVariants.{Put, Get}
 use Rattle.account_engine.specs.Calls.{is_value, is_valid}
-use Rattle.account_engine.specs.Spelling.{value_bytes, body_bytes}
-use Rattle.account_engine.specs.Reading.{◌>>=◌, if_value, if_ended, value_at, call_of}
+use Rattle.volt_value.specs.Spelling.{value_bytes}
+use Rattle.account_engine.specs.Spelling.{body_of}
+use Rattle.volt_base.specs.Reading.{◌>>=◌}
+use Rattle.account_engine.specs.Reading.{if_value, if_ended, value_then_rest, call_of_body}
 
 -- a value has 64 bits
 fits_value : (z : ℤ) → is_value z ≡ true → FitsSigned w64 z
@@ -31,13 +33,13 @@ goes_on f z rest held =
     ap (λ (y : ℤ). if_value y rest >>= f) (integer_again z held) ∙ ap (λ (b : Bool). (if b then Some (z, rest) else None) >>= f) held
 
 -- a value is read from its bytes
-pub value_again : (z : ℤ) → is_value z ≡ true → value_at (value_bytes (Int z)) ≡ Some (z, [])
+pub value_again : (z : ℤ) → is_value z ≡ true → value_then_rest (value_bytes (Int z)) ≡ Some (z, [])
 value_again z held = ap (λ (y : ℤ). if_value y []) (integer_again z held) ∙ ap (λ (b : Bool). if b then Some (z, []) else None) held
 
 -- and a call from its body
-pub call_again : (c : AccountCall) → is_valid c ≡ true → call_of (body_bytes c) ≡ Some c
+pub call_again : (c : AccountCall) → is_valid c ≡ true → call_of_body (body_of c) ≡ Some c
 call_again (Put id balance) valid =
     let parts = and_parts (is_value id) (is_value balance) valid in
-    goes_on (λ i. value_at i.1 >>= λ b. if_ended b.1 (Put i.0 b.0)) id (value_bytes (Int balance)) parts.0
+    goes_on (λ i. value_then_rest i.1 >>= λ b. if_ended b.1 (Put i.0 b.0)) id (value_bytes (Int balance)) parts.0
     ∙ goes_on (λ b. if_ended b.1 (Put id b.0)) balance [] parts.1
 call_again (Get id) valid = goes_on (λ i. if_ended i.1 (Get i.0)) id [] valid

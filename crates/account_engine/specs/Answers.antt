@@ -7,14 +7,14 @@ use Rattle.volt_report.specs.Report.{ReportEnd}
 use Rattle.account_engine.specs.declared.reply.Answer.{Answer}
 use Rattle.account_engine.specs.declared.reply.Answer.TheVariants.{Nothing, Integer, Fault}
 use Rattle.account_engine.specs.Calls.{is_value}
-use Rattle.account_engine.specs.Reading.{value_at}
+use Rattle.account_engine.specs.Reading.{value_then_rest}
 use Rattle.account_engine.specs.Accounts.{one_integer}
 
 -- the end of a call with this answer
-abbrev pub end_of : Answer → ReportEnd
-end_of Nothing = report.Kept []
-end_of (Integer z) = one_integer z
-end_of (Fault code) = report.Fault code
+abbrev pub end_of_answer : Answer → ReportEnd
+end_of_answer Nothing = report.Kept []
+end_of_answer (Integer z) = one_integer z
+end_of_answer (Fault code) = report.Fault code
 
 -- the ends of calls: no row, one row of one integer, or a fault
 abbrev pub is_given : ReportEnd → Bool
@@ -26,7 +26,7 @@ is_given _ = false
 -- the answer of these rows, as a reply spells them
 abbrev pub row_of : List ℕ → Option Answer
 row_of (zero ∷ zero ∷ zero ∷ zero ∷ []) = Some Nothing
-row_of (zero ∷ zero ∷ zero ∷ suc zero ∷ suc zero ∷ values) = option_map (λ v. Integer v.0) (value_at values)
+row_of (zero ∷ zero ∷ zero ∷ suc zero ∷ suc zero ∷ values) = option_map (λ v. Integer v.0) (value_then_rest values)
 row_of _ = None
 
 -- the answer that a reply spells

@@ -5,8 +5,8 @@ use Rattle.soundness.specs.Carries.{Carries}
 use Rattle.soundness.specs.Sound.{is_answer}
 use Rattle.account_engine.specs.declared.call.AccountCall.{AccountCall}
 use Rattle.account_engine.specs.declared.call.AccountCall.TheVariants.{Put, Get}
-use Rattle.account_engine.specs.Spelling.{body_bytes, reply_bytes}
-use Rattle.account_engine.specs.Accounts.{Rows, balance_of, duplicate, one_integer, found, reply, accounts, carried_out, answered, accounts_semantics}
+use Rattle.account_engine.specs.Spelling.{body_of, reply_bytes}
+use Rattle.account_engine.specs.Accounts.{Rows, balance_of, duplicate, one_integer, found, reply, accounts, carried_out, answer_to, accounts_semantics}
 use Rattle.account_engine.specs.Again.{call_again}
 use Rattle.std.specs.Prelude.{pos, if◌then◌else◌}
 
@@ -27,12 +27,12 @@ is_answer-reply rows (Get id) = is_answer-found (balance_of rows id)
 -- states stand for their rows, and calls and replies are spelled as the engine reads and writes them
 abbrev pub carried : Carries accounts_semantics accounts
 carried = record {
-  body = λ c. body_bytes c.call;
+  body = λ c. body_of c.call;
   reply_bytes = reply_bytes;
   database = λ s. s.rows;
   opens = refl;
   after = λ s call point c. ap (λ (o : Option AccountCall). (carried_out s call point o).rows) (call_again c.call c.valid);
-  answers = λ s call point c. ap (answered s) (call_again c.call c.valid);
+  answers = λ s call point c. ap (answer_to s) (call_again c.call c.valid);
   is_answer = λ rows c. is_answer-reply rows c.call;
   opens_applied = refl;
   applied = λ s call point c. ap (λ (o : Option AccountCall). (carried_out s call point o).applied) (call_again c.call c.valid);

@@ -4,24 +4,19 @@ use Rattle.std.specs.Int.{w16, w32, w64, to_be_bytes, cast_unsigned}
 use Rattle.std.specs.List.{flat_map}
 use Rattle.volt_value.specs.declared.value.Value.{Value}
 use Rattle.volt_value.specs.declared.value.Value.TheVariants as value
+use Rattle.volt_value.specs.Spelling.{value_bytes}
 use Rattle.volt_report.specs.Report.{ReportEnd, Kept, User, Fault, Statements, Steps, Unknown, Lost, Down}
 use Rattle.account_engine.specs.declared.call.AccountCall.{AccountCall}
 use Rattle.account_engine.specs.declared.call.AccountCall.TheVariants.{Put, Get}
 
--- a value: what it is, and then an integer's two's complement, the highest byte first, or a text's length and bytes
-abbrev pub value_bytes : Value → List ℕ
-value_bytes value.Null = 0 ∷ []
-value_bytes (value.Int z) = 1 ∷ to_be_bytes w64 (cast_unsigned w64 z)
-value_bytes (value.Text t) = 2 ∷ to_be_bytes w32 (length t) ++ t
-
 -- the number of a procedure and of its values
-abbrev pub head : ℕ → ℕ → List ℕ
-head procedure count = to_be_bytes w16 procedure ++ count ∷ []
+abbrev pub body_head : ℕ → ℕ → List ℕ
+body_head procedure count = to_be_bytes w16 procedure ++ count ∷ []
 
 -- The body of a call. Procedures are numbered in their order in the catalog.
-abbrev pub body_bytes : AccountCall → List ℕ
-body_bytes (Put id balance) = head 0 2 ++ value_bytes (value.Int id) ++ value_bytes (value.Int balance)
-body_bytes (Get id) = head 1 1 ++ value_bytes (value.Int id)
+abbrev pub body_of : AccountCall → List ℕ
+body_of (Put id balance) = body_head 0 2 ++ value_bytes (value.Int id) ++ value_bytes (value.Int balance)
+body_of (Get id) = body_head 1 1 ++ value_bytes (value.Int id)
 
 -- a row: how many values it has, and these
 abbrev pub row_bytes : List Value → List ℕ

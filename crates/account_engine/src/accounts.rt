@@ -3,7 +3,7 @@
 ghost use Rattle.std.specs.Prelude.{◌≡◌, ◌++◌, [], ◌∷◌, true, OnOk, IfOk};
 ghost use Rattle.account_engine.specs.Accounts as spec;
 ghost use Rattle.account_engine.specs.Spelling.{reply_bytes};
-ghost use Rattle.account_engine.specs.Answers.{end_of};
+ghost use Rattle.account_engine.specs.Answers.{end_of_answer};
 ghost use Rattle.volt_report.specs.Spelling.{table_line};
 
 use crate::call::AccountCall;
@@ -47,7 +47,7 @@ impl Accounts {
     fn run(&mut self, call: &AccountCall) -> Result<Answer, AllocError>
         ensures rows { OnOk result (self.new.rows ≡ spec.rows_after self.old.rows call.now) }
         ensures applied { self.new.applied ≡ self.old.applied }
-        ensures answer { IfOk result (λ answer. end_of answer ≡ spec.reply self.old.rows call.now) }
+        ensures answer { IfOk result (λ answer. end_of_answer answer ≡ spec.reply self.old.rows call.now) }
     {
         match call {
             AccountCall::Put { id, balance } => {
@@ -130,7 +130,7 @@ impl Engine for Accounts {
 /// Appends the line of a row.
 fn push_line(text: &mut Vec<u8>, id: i64, balance: i64) -> Result<(), AllocError>
     ensures { OnOk result
-        (text.new.items ≡ text.old.items ++ table_line (spec.row_line (id, balance))) }
+        (text.new.items ≡ text.old.items ++ table_line (spec.line_of_row (id, balance))) }
 {
     let mut number = Buffer::new();
     text.extend_from_slice(b" acct ")?;

@@ -6,7 +6,8 @@ ghost use Rattle.volt_value.specs.declared.value.Value.{Value};
 ghost use Rattle.volt_value.specs.declared.value.Value.TheVariants.{Int};
 ghost use Rattle.account_engine.specs.declared.call.AccountCall.{AccountCall};
 ghost use Rattle.account_engine.specs.Calls as calls;
-ghost use Rattle.account_engine.specs.Spelling.{value_bytes, body_bytes};
+ghost use Rattle.volt_value.specs.Spelling.{value_bytes};
+ghost use Rattle.account_engine.specs.Spelling.{body_of};
 ghost use Rattle.account_engine.specs.Reading as reading;
 
 use std::alloc::{AllocError, Global};
@@ -47,7 +48,7 @@ impl AccountCall {
     /// first.
     pub fn encode(&self, alloc: Global) -> Result<Bytes, AllocError>
         requires { calls.is_valid self.now ≡ true }
-        ensures { IfOk result (λ body. body ≡ body_bytes self.now) }
+        ensures { IfOk result (λ body. body ≡ body_of self.now) }
     {
         let mut body = Vec::new(alloc);
         match self {
@@ -68,10 +69,10 @@ impl AccountCall {
 
     /// The call that a body spells, all of it; None exactly where it spells none.
     pub fn decode(body: &[u8]) -> Option<AccountCall>
-        ensures exact { result ≡ reading.call_of body.now }
-        ensures read { IfSome result (λ c. (calls.is_valid c ≡ true) × (body.now ≡ body_bytes c)) }
+        ensures exact { result ≡ reading.call_of_body body.now }
+        ensures read { IfSome result (λ c. (calls.is_valid c ≡ true) × (body.now ≡ body_of c)) }
         ensures refused { IfNone result
-            ((c : AccountCall) → calls.is_valid c ≡ true → body.now ≢ body_bytes c) }
+            ((c : AccountCall) → calls.is_valid c ≡ true → body.now ≢ body_of c) }
     {
         call_of(body)
     }
@@ -94,7 +95,7 @@ pub fn push_integer(into: &mut Vec<u8>, integer: i64) -> Result<(), AllocError>
 }
 
 fn integer_at(bytes: &[u8]) -> Option<(i64, &[u8])>
-    ensures { option_map (λ x. (x.0, x.1.now)) result ≡ reading.integer_at bytes.now }
+    ensures { option_map (λ x. (x.0, x.1.now)) result ≡ reading.integer_then_rest bytes.now }
 {
     if bytes.len() < 8 {
         return None;
@@ -112,7 +113,7 @@ fn integer_at(bytes: &[u8]) -> Option<(i64, &[u8])>
 
 /// The value at the beginning, an integer, and the bytes behind it.
 pub fn value_at(bytes: &[u8]) -> Option<(i64, &[u8])>
-    ensures { option_map (λ x. (x.0, x.1.now)) result ≡ reading.value_at bytes.now }
+    ensures { option_map (λ x. (x.0, x.1.now)) result ≡ reading.value_then_rest bytes.now }
 {
     match bytes {
         [INTEGER, rest @ ..] => integer_at(rest),
@@ -121,7 +122,7 @@ pub fn value_at(bytes: &[u8]) -> Option<(i64, &[u8])>
 }
 
 fn put_of(values: &[u8]) -> Option<AccountCall>
-    ensures { result ≡ reading.put_of values.now }
+    ensures { result ≡ reading.put_of_values values.now }
 {
     let (id, rest) = value_at(values)?;
     let (balance, rest) = value_at(rest)?;
@@ -133,7 +134,7 @@ fn put_of(values: &[u8]) -> Option<AccountCall>
 }
 
 fn get_of(values: &[u8]) -> Option<AccountCall>
-    ensures { result ≡ reading.get_of values.now }
+    ensures { result ≡ reading.get_of_values values.now }
 {
     let (id, rest) = value_at(values)?;
     if rest.is_empty() {
@@ -156,7 +157,7 @@ fn call_with(procedure: u16, count: u8, values: &[u8]) -> Option<AccountCall>
 }
 
 fn call_of(body: &[u8]) -> Option<AccountCall>
-    ensures { result ≡ reading.call_of body.now }
+    ensures { result ≡ reading.call_of_body body.now }
 {
     match body {
         [high, low, count, values @ ..] => {

@@ -35,7 +35,7 @@ impl Answer {
     /// The reply: a byte 0, the number of rows in 4 bytes, and of a row a byte 1 and its integer; or
     /// a byte 2 and the code.
     pub fn encode(self, alloc: Global) -> Result<Bytes, AllocError>
-        ensures { IfOk result (λ reply. reply ≡ reply_bytes (answers.end_of self)) }
+        ensures { IfOk result (λ reply. reply ≡ reply_bytes (answers.end_of_answer self)) }
     {
         let mut reply = Vec::new(alloc);
         match self {
@@ -63,7 +63,7 @@ impl Answer {
     /// Appends the text of the answer, as a report prints it.
     pub fn print(self, into: &mut Vec<u8>) -> Result<(), AllocError>
         ensures { OnOk result
-            (into.new.items ≡ into.old.items ++ spelling.end_text (answers.end_of self)) }
+            (into.new.items ≡ into.old.items ++ spelling.end_text (answers.end_of_answer self)) }
     {
         match self {
             Answer::Nothing => into.extend_from_slice(b"ok 0\n")?,

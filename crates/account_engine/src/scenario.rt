@@ -6,14 +6,14 @@ ghost use Rattle.volt_report.specs.Report.{Kept, Fault};
 ghost use Rattle.volt_report.specs.Spelling.{spelling};
 ghost use Rattle.one_host_model.specs.Runs.{IsRun, TakesFirst, enabled, serial};
 ghost use Rattle.soundness.specs.Sound.{Sound};
-ghost use Rattle.soundness.specs.Tied.{Shows};
-ghost use Rattle.account_engine.specs.Spelling.{body_bytes, reply_bytes};
+ghost use Rattle.soundness.specs.Tied.{ShowsWorld};
+ghost use Rattle.account_engine.specs.Spelling.{body_of, reply_bytes};
 ghost use Rattle.account_engine.specs.Accounts.{accounts, accounts_semantics};
 ghost use Rattle.account_engine.specs.Scenario as scenario;
 
 /// The body of `Put 1 10`: procedure 0, two values, 1 and 10.
 pub fn put_has_this_body()
-    ensures { body_bytes scenario.put_1_10.call
+    ensures { body_of scenario.put_1_10.call
         ≡ 0 ∷ 0 ∷ 2 ∷ 1 ∷ 0 ∷ 0 ∷ 0 ∷ 0 ∷ 0 ∷ 0 ∷ 0 ∷ 1 ∷ 1 ∷ 0 ∷ 0 ∷ 0 ∷ 0 ∷ 0 ∷ 0 ∷ 0 ∷ 10 ∷ [] }
 {}
 
@@ -36,7 +36,7 @@ pub fn first_run_is_this()
     ensures quiescent { enabled scenario.last ≡ [] }
     ensures serial { serial accounts_semantics scenario.last
         ≡ scenario.put_point ∷ scenario.get_point ∷ [] }
-    ensures shows { Shows accounts_semantics reply_bytes scenario.last scenario.report }
+    ensures shows { ShowsWorld accounts_semantics reply_bytes scenario.last scenario.report }
 {}
 
 /// Its report is sound.

@@ -5,7 +5,7 @@ use Rattle.one_host_model.specs.World.{World}
 use Rattle.one_host_model.specs.Runs.{ended, copies, serial}
 use Rattle.cluster_core.specs.declared.world.Outcomes.{Outcomes}
 
-pub record Tells (S : Semantics) (outcomes : Outcomes) (w : World) : Type 0 where
+pub record TellsOutcomes (S : Semantics) (outcomes : Outcomes) (w : World) : Type 0 where
   pub ended : outcomes.ends.items ≡ ended w
   pub shown : outcomes.copies.items ≡ copies S w
   pub list : outcomes.serial.items ≡ serial S w

@@ -5,7 +5,7 @@ ghost use Rattle.one_host_model.specs.Runs.{is_one_of_them, is_event_of_them, en
 ghost use Rattle.cluster_core.specs.Channels.{queue_of};
 ghost use Rattle.cluster_core.specs.Outbox.{sent_to};
 ghost use Rattle.cluster_core.specs.World.{StandsFor, HasThemAlone, if_it_may};
-ghost use Rattle.cluster_core.specs.Outcomes.{Tells};
+ghost use Rattle.cluster_core.specs.Outcomes.{TellsOutcomes};
 
 use crate::agent::Agent;
 use crate::channels::Channels;
@@ -129,7 +129,7 @@ impl<M: MakeEngine> World<M> {
     /// What there is to report of the world.
     pub fn into_parts(self) -> Result<Outcomes, AllocError>
         ensures { IfOk result (λ outcomes. (w : model.World)
-            → StandsFor M.E.meaning M.E.state self w → Tells M.E.meaning outcomes w) }
+            → StandsFor M.E.meaning M.E.state self w → TellsOutcomes M.E.meaning outcomes w) }
     {
         let rows = self.site.engine.dump(self.alloc)?;
         let serial = Vec::from_slice(self.alloc, self.site.engine.applied())?;

@@ -9,7 +9,7 @@ use Rattle.one_host_model.specs.Runs.{run, IsRun, IsQuiescent, is_event_of_them,
 use Rattle.one_host_model.proofs.Events.{IsQuiescent-enabled}
 use Rattle.soundness.specs.Meaning.{Meaning}
 use Rattle.soundness.specs.Carries.{Carries}
-use Rattle.soundness.specs.Law.{start_of}
+use Rattle.soundness.specs.Law.{first_world_of}
 use Rattle.soundness.proofs.Past.{Past}
 use Rattle.soundness.proofs.Channels.{is_used, each_used}
 use Rattle.soundness.proofs.Phases.{Phase, Stands}
@@ -30,16 +30,16 @@ of_them S M h calls w past n phase left told st (Submit k) m =
 of_them S M h calls w past n phase left told st _ m = absurd (false≢true m)
 
 -- the law of the events that may happen
-pub event_is_of_them : (S : Semantics) (M : Meaning) (h : Carries S M) (calls : List M.Call) (es : List Event) (e : Event) → IsRun S es (start_of S M h calls) → can (run S es (start_of S M h calls)) e ≡ true → is_event_of_them e ≡ true
+pub event_is_of_them : (S : Semantics) (M : Meaning) (h : Carries S M) (calls : List M.Call) (es : List Event) (e : Event) → IsRun S es (first_world_of S M h calls) → can (run S es (first_world_of S M h calls)) e ≡ true → is_event_of_them e ≡ true
 event_is_of_them S M h calls es e is_run m =
     let g = run_is_good S M h calls es is_run in
-    of_them S M h calls (run S es (start_of S M h calls)) g.0 g.1 g.2 g.3 g.4 g.5 e m
+    of_them S M h calls (run S es (first_world_of S M h calls)) g.0 g.1 g.2 g.3 g.4 g.5 e m
 
 -- the law of the end of a run
-pub nothing_enabled_is_quiescent : (S : Semantics) (M : Meaning) (h : Carries S M) (calls : List M.Call) (es : List Event) → IsRun S es (start_of S M h calls) → enabled (run S es (start_of S M h calls)) ≡ [] → IsQuiescent (run S es (start_of S M h calls))
+pub nothing_enabled_is_quiescent : (S : Semantics) (M : Meaning) (h : Carries S M) (calls : List M.Call) (es : List Event) → IsRun S es (first_world_of S M h calls) → enabled (run S es (first_world_of S M h calls)) ≡ [] → IsQuiescent (run S es (first_world_of S M h calls))
 nothing_enabled_is_quiescent S M h calls es is_run none =
-    IsQuiescent-enabled (run S es (start_of S M h calls)) (λ e m. event_is_of_them S M h calls es e is_run m) none
+    IsQuiescent-enabled (run S es (first_world_of S M h calls)) (λ e m. event_is_of_them S M h calls es e is_run m) none
 
 -- the law of service
-pub run_serves : (S : Semantics) (M : Meaning) (h : Carries S M) (calls : List M.Call) (es : List Event) → IsRun S es (start_of S M h calls) → serves (run S es (start_of S M h calls)) ≡ true
+pub run_serves : (S : Semantics) (M : Meaning) (h : Carries S M) (calls : List M.Call) (es : List Event) → IsRun S es (first_world_of S M h calls) → serves (run S es (first_world_of S M h calls)) ≡ true
 run_serves S M h calls es is_run = let g = run_is_good S M h calls es is_run in ap (λ a. nat_lt 0 a.start) g.5.agent

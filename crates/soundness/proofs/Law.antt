@@ -19,9 +19,9 @@ use Rattle.one_host_model.specs.World.{World, step, due, is_some_message, receiv
 use Rattle.one_host_model.specs.Runs.{run, IsRun, IsQuiescent}
 use Rattle.soundness.specs.Meaning.{Meaning}
 use Rattle.soundness.specs.Sound.{Sound, is_answer}
-use Rattle.soundness.specs.Tied.{Shows}
+use Rattle.soundness.specs.Tied.{ShowsWorld}
 use Rattle.soundness.specs.Carries.{Carries, world_calls, script}
-use Rattle.soundness.specs.Law.{start_of, Reported}
+use Rattle.soundness.specs.Law.{first_world_of, HasSoundReport}
 use Rattle.soundness.proofs.Past.{Past, calls_of, applied_from, database_of, entries_from, lines_from, report_of, length-applied_from, database_after_log, applied_after_log}
 use Rattle.soundness.proofs.Explained.{report_is_sound, lines_numbered}
 use Rattle.soundness.proofs.Phases.{Phase, Idle, Called, Sent, Logged, Replied, Answered, Stands, Good}
@@ -33,7 +33,7 @@ due_of_others M body m k [] u = refl
 due_of_others M body m k (c ∷ calls) u = grind (arith, nat_tests, due_of_others M body m (k + 1) calls u)
 
 -- the first world is a world of some run
-Good-start : (S : Semantics) (M : Meaning) (h : Carries S M) (calls : List M.Call) → Good S M h calls (start_of S M h calls)
+Good-start : (S : Semantics) (M : Meaning) (h : Carries S M) (calls : List M.Call) → Good S M h calls (first_world_of S M h calls)
 Good-start S M h calls = (
   [],
   1,
@@ -90,7 +90,7 @@ length_trace-run S [] w = omega arith
 length_trace-run S (e ∷ es) w = omega (arith, length_trace-run S es (step S w e), length_trace-step S w e)
 
 -- what the last world shows where all calls ended
-shows_past : (S : Semantics) (M : Meaning) (h : Carries S M) (calls : List M.Call) (w : World) (past : List (Past M.Call)) (n told : ℕ) → Stands S M h calls w past n Idle [] told → Shows S h.reply_bytes w (report_of M past w.trace)
+shows_past : (S : Semantics) (M : Meaning) (h : Carries S M) (calls : List M.Call) (w : World) (past : List (Past M.Call)) (n told : ℕ) → Stands S M h calls w past n Idle [] told → ShowsWorld S h.reply_bytes w (report_of M past w.trace)
 shows_past S M h calls w past n told st =
     let state = tables S 0 (w.sites 0) in
     let d = database_of M (M.database []) past in
@@ -127,8 +127,8 @@ quiescent_is_idle S M h calls w past n (Replied c s p) left told quiescent st = 
 quiescent_is_idle S M h calls w past n (Answered c s p) left told quiescent st = absurd (false≢true (sym (quiescent (Deliver (Client 1) (Agent 0))) ∙ ap is_some_message st.channels.answer))
 
 -- so the world that a run from the first one leads to is a world of some run
-pub run_is_good : (S : Semantics) (M : Meaning) (h : Carries S M) (calls : List M.Call) (es : List Event) → IsRun S es (start_of S M h calls) → Good S M h calls (run S es (start_of S M h calls))
-run_is_good S M h calls es is_run = Good-run S M h calls es (start_of S M h calls) (Good-start S M h calls) is_run
+pub run_is_good : (S : Semantics) (M : Meaning) (h : Carries S M) (calls : List M.Call) (es : List Event) → IsRun S es (first_world_of S M h calls) → Good S M h calls (run S es (first_world_of S M h calls))
+run_is_good S M h calls es is_run = Good-run S M h calls es (first_world_of S M h calls) (Good-start S M h calls) is_run
 
 -- each line is an answer
 lines_answered : (S : Semantics) (M : Meaning) (h : Carries S M) (n : ℕ) (d : M.Database) (past : List (Past M.Call)) → AllByRecursion (λ line. is_answer line.end ≡ true) (lines_from M n d past)
@@ -136,9 +136,9 @@ lines_answered S M h n d [] = tt
 lines_answered S M h n d (p ∷ past) = (h.is_answer d p.call, lines_answered S M h (n + 1) (M.after d p.call) past)
 
 -- the law of quiescent runs
-pub quiescent_is_sound : (S : Semantics) (M : Meaning) (h : Carries S M) (calls : List M.Call) (es : List Event) → IsRun S es (start_of S M h calls) → IsQuiescent (run S es (start_of S M h calls)) → Reported S M h calls (run S es (start_of S M h calls))
+pub quiescent_is_sound : (S : Semantics) (M : Meaning) (h : Carries S M) (calls : List M.Call) (es : List Event) → IsRun S es (first_world_of S M h calls) → IsQuiescent (run S es (first_world_of S M h calls)) → HasSoundReport S M h calls (run S es (first_world_of S M h calls))
 quiescent_is_sound S M h calls es is_run quiescent =
-    let w = run S es (start_of S M h calls) in
+    let w = run S es (first_world_of S M h calls) in
     let g = run_is_good S M h calls es is_run in
     let past = g.0 in
     let st = quiescent_is_idle S M h calls w past g.1 g.2 g.3 g.4 quiescent g.5 in
@@ -160,11 +160,11 @@ trace-run S (e ∷ es) w =
     ∙ append_assoc w.trace (e ∷ []) es
 
 -- the law of traces
-pub run_is_noted : (S : Semantics) (M : Meaning) (h : Carries S M) (calls : List M.Call) (es : List Event) → (run S es (start_of S M h calls)).trace ≡ es
-run_is_noted S M h calls es = trace-run S es (start_of S M h calls)
+pub run_is_noted : (S : Semantics) (M : Meaning) (h : Carries S M) (calls : List M.Call) (es : List Event) → (run S es (first_world_of S M h calls)).trace ≡ es
+run_is_noted S M h calls es = trace-run S es (first_world_of S M h calls)
 
 -- the law of short runs
-pub run_is_short : (S : Semantics) (M : Meaning) (h : Carries S M) (calls : List M.Call) (es : List Event) → IsRun S es (start_of S M h calls) → length es ≤ 7 * length calls
+pub run_is_short : (S : Semantics) (M : Meaning) (h : Carries S M) (calls : List M.Call) (es : List Event) → IsRun S es (first_world_of S M h calls) → length es ≤ 7 * length calls
 run_is_short S M h calls es is_run =
     let g = run_is_good S M h calls es is_run in
-    omega (arith, g.5.counted, length_trace-run S es (start_of S M h calls))
+    omega (arith, g.5.counted, length_trace-run S es (first_world_of S M h calls))

@@ -12,8 +12,8 @@ use Rattle.soundness.specs.Meaning.{Meaning}
 use Rattle.soundness.specs.Carries.{Carries}
 
 -- the one row of the one table
-abbrev pub rows_of : ℕ → List RowLine
-rows_of total = record { table = []; row = Int (pos total) ∷ [] } ∷ []
+abbrev pub total_rows : ℕ → List RowLine
+total_rows total = record { table = []; row = Int (pos total) ∷ [] } ∷ []
 
 abbrev pub adding : Meaning
 adding =
@@ -25,11 +25,11 @@ adding =
       reply = λ total n. Kept ((Int (pos total) ∷ []) ∷ []);
       parts = 1;
       is_call_of = λ p n. p == 0;
-      part = λ p total. rows_of total;
+      part = λ p total. total_rows total;
     }
 
 -- the number, and the calls that were applied
-pub record Tally : Type 0 where
+pub record AddingState : Type 0 where
   pub total : ℕ
   pub applied : List Applied
 
@@ -38,19 +38,19 @@ abbrev pub amount : List ℕ → ℕ
 amount [] = 0
 amount (n ∷ body) = n
 
-abbrev pub tally_after : Tally → Entry → Tally
+abbrev pub tally_after : AddingState → Entry → AddingState
 tally_after s (Sp call point body) = record { total = s.total + amount body; applied = s.applied ++ record { call = call; point = point } ∷ [] }
 tally_after s e = s
 
 abbrev pub adding_engine : Semantics
 adding_engine =
     record {
-      State = Tally;
+      State = AddingState;
       opening = λ p. record { total = 0; applied = [] };
       fits = λ s e. true;
       after = tally_after;
       answer = λ s e. end_text (Kept ((Int (pos s.total) ∷ []) ∷ []));
-      rows = λ s. flat_map table_line (rows_of s.total);
+      rows = λ s. flat_map table_line (total_rows s.total);
       applied = λ s. s.applied;
     }
 

@@ -19,7 +19,7 @@ abbrev pub copy_shown : CopyLine → CopyRows
 copy_shown c = record { slot = c.slot; position = c.position; rows = flat_map table_line c.rows }
 
 -- The report shows this world: its trace, ends, copies and serial list. Its opening is empty, and no look was asked for.
-pub record Shows (S : Semantics) (reply_bytes : ReportEnd → List ℕ) (w : World) (r : Report) : Type 0 where
+pub record ShowsWorld (S : Semantics) (reply_bytes : ReportEnd → List ℕ) (w : World) (r : Report) : Type 0 where
   pub opening : r.opening ≡ []
   pub ends : map (ended_line reply_bytes) r.calls ≡ ended w
   pub serial : r.serial ≡ serial S w
@@ -34,4 +34,4 @@ pub record Tied (S : Semantics) (reply_bytes : ReportEnd → List ℕ) (first : 
   pub schedule : TakesFirst S r.trace first
   pub quiescent : IsQuiescent (run S r.trace first)
   pub serving : serves (run S r.trace first) ≡ true
-  pub shows : Shows S reply_bytes (run S r.trace first) r
+  pub shows : ShowsWorld S reply_bytes (run S r.trace first) r

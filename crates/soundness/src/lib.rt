@@ -11,9 +11,9 @@ ghost use Rattle.one_host_model.specs.World.{can};
 ghost use Rattle.one_host_model.specs.Runs.{run, IsRun, IsQuiescent, is_event_of_them, enabled, serves};
 ghost use Rattle.soundness.specs.Meaning.{Meaning};
 ghost use Rattle.soundness.specs.Sound.{Sound};
-ghost use Rattle.soundness.specs.Tied.{Shows};
+ghost use Rattle.soundness.specs.Tied.{ShowsWorld};
 ghost use Rattle.soundness.specs.Carries.{Carries, script};
-ghost use Rattle.soundness.specs.Law.{start_of, Reported};
+ghost use Rattle.soundness.specs.Law.{first_world_of, HasSoundReport};
 
 /// A meaning of calls, and an engine that carries it out.
 pub trait Carried {
@@ -31,46 +31,46 @@ pub trait Carried {
 /// call has ended.
 pub fn quiescent_runs_are_sound<C: Carried>()
     ensures { (calls : List C.meaning.Call) (es : List Event)
-        → IsRun C.semantics es (start_of C.semantics C.meaning C.carries calls)
-        → IsQuiescent (run C.semantics es (start_of C.semantics C.meaning C.carries calls))
-        → Reported C.semantics C.meaning C.carries calls
-        (run C.semantics es (start_of C.semantics C.meaning C.carries calls)) }
+        → IsRun C.semantics es (first_world_of C.semantics C.meaning C.carries calls)
+        → IsQuiescent (run C.semantics es (first_world_of C.semantics C.meaning C.carries calls))
+        → HasSoundReport C.semantics C.meaning C.carries calls
+        (run C.semantics es (first_world_of C.semantics C.meaning C.carries calls)) }
 {}
 
 /// A run has at most seven events for each call.
 pub fn runs_are_short<C: Carried>()
     ensures { (calls : List C.meaning.Call) (es : List Event)
-        → IsRun C.semantics es (start_of C.semantics C.meaning C.carries calls)
+        → IsRun C.semantics es (first_world_of C.semantics C.meaning C.carries calls)
         → length es ≤ 7 * length calls }
 {}
 
 /// The trace of a run is its events.
 pub fn runs_are_noted<C: Carried>()
     ensures { (calls : List C.meaning.Call) (es : List Event)
-        → (run C.semantics es (start_of C.semantics C.meaning C.carries calls)).trace ≡ es }
+        → (run C.semantics es (first_world_of C.semantics C.meaning C.carries calls)).trace ≡ es }
 {}
 
 /// In a run only events of the one client, the one agent and the one site may happen.
 pub fn events_are_of_them<C: Carried>()
     ensures { (calls : List C.meaning.Call) (es : List Event) (e : Event)
-        → IsRun C.semantics es (start_of C.semantics C.meaning C.carries calls)
-        → can (run C.semantics es (start_of C.semantics C.meaning C.carries calls)) e ≡ true
+        → IsRun C.semantics es (first_world_of C.semantics C.meaning C.carries calls)
+        → can (run C.semantics es (first_world_of C.semantics C.meaning C.carries calls)) e ≡ true
         → is_event_of_them e ≡ true }
 {}
 
 /// Where no event of their list may happen, a run has ended quiescent: no event at all may happen.
 pub fn quiescent_where_nothing_is_enabled<C: Carried>()
     ensures { (calls : List C.meaning.Call) (es : List Event)
-        → IsRun C.semantics es (start_of C.semantics C.meaning C.carries calls)
-        → enabled (run C.semantics es (start_of C.semantics C.meaning C.carries calls)) ≡ []
-        → IsQuiescent (run C.semantics es (start_of C.semantics C.meaning C.carries calls)) }
+        → IsRun C.semantics es (first_world_of C.semantics C.meaning C.carries calls)
+        → enabled (run C.semantics es (first_world_of C.semantics C.meaning C.carries calls)) ≡ []
+        → IsQuiescent (run C.semantics es (first_world_of C.semantics C.meaning C.carries calls)) }
 {}
 
 /// The cluster serves in every world of a run: its agent keeps the start that it began with.
 pub fn runs_serve<C: Carried>()
     ensures { (calls : List C.meaning.Call) (es : List Event)
-        → IsRun C.semantics es (start_of C.semantics C.meaning C.carries calls)
-        → serves (run C.semantics es (start_of C.semantics C.meaning C.carries calls)) ≡ true }
+        → IsRun C.semantics es (first_world_of C.semantics C.meaning C.carries calls)
+        → serves (run C.semantics es (first_world_of C.semantics C.meaning C.carries calls)) ≡ true }
 {}
 
 #[cfg(test)]

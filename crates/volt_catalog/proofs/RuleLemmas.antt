@@ -9,7 +9,7 @@ use Rattle.volt_catalog.specs.declared.table.IndexDef.{IndexDef}
 use Rattle.volt_catalog.specs.declared.fault.CatalogFault.{CatalogFault}
 use Rattle.volt_catalog.specs.declared.fault.CatalogFault.TheVariants.{DuplicateName, NoSuchName, NoPrimaryKey, KeyLacksPartitionColumn, TooMany}
 use Rattle.volt_catalog.specs.Names.{lower, same_name, differ}
-use Rattle.volt_catalog.specs.Rules.{Contents, first_fault, has_table, repeats_a_name, passes_a_limit, has_columns, lack_part, is_table_with, part_of, fault_of_table, most_indexes, has_index, fault_of_index}
+use Rattle.volt_catalog.specs.Rules.{Contents, first_fault, has_table, repeats_a_name, passes_a_limit, has_columns, lack_part, is_table_with, part_column_of, fault_of_table, most_indexes, has_index, fault_of_index}
 use Rattle.volt_catalog.specs.Catalog.{IsCatalog, is_table, is_index, with_table, with_index}
 use Rattle.volt_catalog.proofs.NameLemmas.{list_any-map}
 use Rattle.volt_catalog.proofs.ColumnLemmas.{bytes_eq-turned}
@@ -96,10 +96,10 @@ with_table_is catalog table is unpartitioned accepted =
 
 -- the rules that an index meets
 pub index_kept : (catalog : Contents) (index : IndexDef) → fault_of_index catalog index ≡ None
-    → AreKept (has_index catalog index.name) (not (is_table_with index.columns (slice_get catalog.tables index.table))) (index.unique && lack_part index.columns (part_of (slice_get catalog.tables index.table)))
+    → AreKept (has_index catalog index.name) (not (is_table_with index.columns (slice_get catalog.tables index.table))) (index.unique && lack_part index.columns (part_column_of (slice_get catalog.tables index.table)))
     (nat_le most_indexes (length catalog.indexes))
 index_kept catalog index accepted =
-    kept (has_index catalog index.name) (not (is_table_with index.columns (slice_get catalog.tables index.table))) (index.unique && lack_part index.columns (part_of (slice_get catalog.tables index.table)))
+    kept (has_index catalog index.name) (not (is_table_with index.columns (slice_get catalog.tables index.table))) (index.unique && lack_part index.columns (part_column_of (slice_get catalog.tables index.table)))
     (nat_le most_indexes (length catalog.indexes)) DuplicateName NoSuchName KeyLacksPartitionColumn TooMany accepted
 
 pub index_name_is_new : (catalog : Contents) (index : IndexDef) → fault_of_index catalog index ≡ None → has_index catalog index.name ≡ false

@@ -4,11 +4,11 @@ use Rattle.std.specs.List.{list_all}
 use Rattle.volt_catalog.specs.declared.table.Table.{Table}
 use Rattle.volt_catalog.specs.declared.table.IndexDef.{IndexDef}
 use Rattle.volt_catalog.specs.Names.{same_name, differ}
-use Rattle.volt_catalog.specs.Rules.{Contents, most_tables, most_indexes, within_limits, has_columns, is_table_with, lack_part, part_of}
+use Rattle.volt_catalog.specs.Rules.{Contents, most_tables, most_indexes, within_limits, has_columns, is_table_with, lack_part, part_column_of}
 
 -- a catalog without tables and indexes
-abbrev pub nothing : Contents
-nothing = record { tables = []; indexes = [] }
+abbrev pub empty_catalog : Contents
+empty_catalog = record { tables = []; indexes = [] }
 
 -- one more table, or one more index, at the end
 abbrev pub with_table : Contents → Table → Contents
@@ -43,7 +43,7 @@ is_table table = differ (map (λ column. column.name) table.columns) && has_colu
 abbrev pub is_index : List Table → IndexDef → Bool
 is_index tables index =
     let table = slice_get tables index.table in
-    is_table_with index.columns table && not (index.unique && lack_part index.columns (part_of table))
+    is_table_with index.columns table && not (index.unique && lack_part index.columns (part_column_of table))
 
 pub record IsCatalog (catalog : Contents) : Type 0 where
   pub few_tables : length catalog.tables ≤ most_tables

@@ -99,9 +99,9 @@ lack_part numbers None = false
 lack_part numbers (Some part) = not (list_any (λ number. number == part) numbers)
 
 -- the partitioning column of a table, where the table is there and has one
-abbrev pub part_of : Option Table → Option ℕ
-part_of None = None
-part_of (Some table) = table.part
+abbrev pub part_column_of : Option Table → Option ℕ
+part_column_of None = None
+part_column_of (Some table) = table.part
 
 abbrev pub fault_of_index : Contents → IndexDef → Option CatalogFault
 fault_of_index catalog index =
@@ -109,7 +109,7 @@ fault_of_index catalog index =
     first_fault (
     (has_index catalog index.name, DuplicateName)
     ∷ (not (is_table_with index.columns table), NoSuchName)
-    ∷ (index.unique && lack_part index.columns (part_of table), KeyLacksPartitionColumn)
+    ∷ (index.unique && lack_part index.columns (part_column_of table), KeyLacksPartitionColumn)
     ∷ (nat_le most_indexes (length catalog.indexes), TooMany)
     ∷ [])
 

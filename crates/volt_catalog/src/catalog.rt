@@ -40,7 +40,7 @@ impl Model for Catalog {
 impl Catalog {
     /// A catalog without tables and indexes.
     pub fn new(alloc: Global) -> Catalog
-        ensures { result ≡ catalog.nothing }
+        ensures { result ≡ catalog.empty_catalog }
     {
         Catalog {
             alloc,
@@ -166,7 +166,7 @@ impl Catalog {
 
     /// The partitioning column of a table, where the table is there and has one.
     fn part_of(&self, table: u16) -> Option<u8>
-        ensures { result ≡ rules.part_of (slice_get self.now.tables table) }
+        ensures { result ≡ rules.part_column_of (slice_get self.now.tables table) }
     {
         match self.tables.get(table as usize) {
             Some(table) => table.part,

@@ -13,8 +13,8 @@ use Rattle.one_host_model.specs.declared.input.WorldCall.{WorldCall}
 use Rattle.account_engine.specs.declared.call.AccountCall.{AccountCall}
 use Rattle.account_engine.specs.declared.call.AccountCall.TheVariants as account
 use Rattle.account_engine.specs.Calls.{ValidCall, is_value, is_valid}
-use Rattle.account_engine.specs.Spelling.{body_bytes}
-use Rattle.volt_cmd.specs.Script.{Asks, IsAsked, given, written}
+use Rattle.account_engine.specs.Spelling.{body_of}
+use Rattle.volt_cmd.specs.Script.{Asks, IsAsked, given_calls, script_call}
 use Rattle.volt_cmd.specs.Headline.{ReadsAll, IsWrongAt}
 
 -- Texts that are longer than they may be
@@ -121,13 +121,13 @@ abbrev pub meant : ScriptCall → AccountCall
 meant (script.Put id balance) = account.Put id balance
 meant (script.Get id) = account.Get id
 
-written-meant : (c : ScriptCall) → written (meant c) ≡ c
-written-meant (script.Put id balance) = refl
-written-meant (script.Get id) = refl
+script_call-meant : (c : ScriptCall) → script_call (meant c) ≡ c
+script_call-meant (script.Put id balance) = refl
+script_call-meant (script.Get id) = refl
 
-pub meant-written : (c : AccountCall) → meant (written c) ≡ c
-meant-written (account.Put id balance) = refl
-meant-written (account.Get id) = refl
+pub meant-script_call : (c : AccountCall) → meant (script_call c) ≡ c
+meant-script_call (account.Put id balance) = refl
+meant-script_call (account.Get id) = refl
 
 -- it is valid where its numbers are BIGINTs
 meant_is_valid : (c : ScriptCall) → HasBigints c → is_valid (meant c) ≡ true
@@ -139,10 +139,10 @@ meant_calls : (script : List ScriptCall) → AllByRecursion HasBigints script �
 meant_calls [] h = []
 meant_calls (c ∷ cs) h = record { call = meant c; valid = meant_is_valid c h.0 } ∷ meant_calls cs h.1
 
-meant_calls_same : (script : List ScriptCall) (h : AllByRecursion HasBigints script) → script ≡ map (λ c. written c.call) (meant_calls script h)
+meant_calls_same : (script : List ScriptCall) (h : AllByRecursion HasBigints script) → script ≡ map (λ c. script_call c.call) (meant_calls script h)
 unfolding meant_calls
 meant_calls_same [] h = refl
-meant_calls_same (c ∷ cs) h = ap (λ (x : ScriptCall). x ∷ cs) (sym (written-meant c)) ∙ ap (λ (xs : List ScriptCall). written (meant c) ∷ xs) (meant_calls_same cs h.1)
+meant_calls_same (c ∷ cs) h = ap (λ (x : ScriptCall). x ∷ cs) (sym (script_call-meant c)) ∙ ap (λ (xs : List ScriptCall). script_call (meant c) ∷ xs) (meant_calls_same cs h.1)
 
 meant_calls_length : (script : List ScriptCall) (h : AllByRecursion HasBigints script) → length (meant_calls script h) ≡ length script
 unfolding meant_calls
@@ -168,19 +168,19 @@ asked_of_text text calls few small is = is_asked calls
 
 -- what the world is given for a script's call
 abbrev pub world_call_of : ScriptCall → WorldCall
-world_call_of c = record { client = 1; part = Some 0; body = body_bytes (meant c) }
+world_call_of c = record { client = 1; part = Some 0; body = body_of (meant c) }
 
 -- whichever call of the engine this one says, it is valid
 abbrev pub MeansValid : ScriptCall → Type 0
-MeansValid c = (a : AccountCall) → written a ≡ c → is_valid a ≡ true
+MeansValid c = (a : AccountCall) → script_call a ≡ c → is_valid a ≡ true
 
 -- what is said as a valid call is, is valid
-valid_by : (a : AccountCall) (v : ValidCall) → written a ≡ written v.call → is_valid a ≡ true
+valid_by : (a : AccountCall) (v : ValidCall) → script_call a ≡ script_call v.call → is_valid a ≡ true
 valid_by a v e =
-    let same : a ≡ v.call = sym (meant-written a) ∙ ap meant e ∙ meant-written v.call in
+    let same : a ≡ v.call = sym (meant-script_call a) ∙ ap meant e ∙ meant-script_call v.call in
     ap is_valid same ∙ v.valid
 
-valid_of_asked : (asked : List ValidCall) → AllByRecursion MeansValid (map (λ c. written c.call) asked)
+valid_of_asked : (asked : List ValidCall) → AllByRecursion MeansValid (map (λ c. script_call c.call) asked)
 valid_of_asked [] = tt
 valid_of_asked (v ∷ vs) = (λ a e. valid_by a v e, valid_of_asked vs)
 
@@ -190,14 +190,14 @@ all_valid script asked = All-from_recursion MeansValid script
     (subst (λ (cs : List ScriptCall). AllByRecursion MeansValid cs) (sym asked.1.same) (valid_of_asked asked.0))
 
 -- what the world is given for the calls that are asked for
-given_one : (v : ValidCall) (made : List WorldCall) → world_call_of (written v.call) ∷ made ≡ record { client = 1; part = Some 0; body = body_bytes v.call } ∷ made
-given_one v made = rw (meant-written v.call) refl
+given_one : (v : ValidCall) (made : List WorldCall) → world_call_of (script_call v.call) ∷ made ≡ record { client = 1; part = Some 0; body = body_of v.call } ∷ made
+given_one v made = rw (meant-script_call v.call) refl
 
-given_is : (asked : List ValidCall) → map world_call_of (map (λ c. written c.call) asked) ≡ given asked
+given_is : (asked : List ValidCall) → map world_call_of (map (λ c. script_call c.call) asked) ≡ given_calls asked
 given_is [] = refl
-given_is (v ∷ vs) = rw (given_is vs) (given_one v (given vs))
+given_is (v ∷ vs) = rw (given_is vs) (given_one v (given_calls vs))
 
-pub given_of : (script : List ScriptCall) (asked : List ValidCall) → Asks script asked → map world_call_of script ≡ given asked
+pub given_of : (script : List ScriptCall) (asked : List ValidCall) → Asks script asked → map world_call_of script ≡ given_calls asked
 given_of script asked h = ap (map world_call_of) h.same ∙ given_is asked
 
 -- all of it is client 1's

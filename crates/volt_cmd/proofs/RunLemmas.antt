@@ -14,8 +14,8 @@ use Rattle.account_engine.specs.Accounts.{AccountsState, accounts, accounts_sema
 use Rattle.account_engine.specs.Carrying.{carried}
 use Rattle.cluster_core.specs.declared.world.World as code
 use Rattle.cluster_core.specs.World.{StandsFor, HasThemAlone}
-use Rattle.volt_cmd.specs.Script.{start, given}
-use Rattle.volt_cmd.specs.Reached.{Reached, Ended}
+use Rattle.volt_cmd.specs.Script.{start, given_calls}
+use Rattle.volt_cmd.specs.Running.{FollowsSchedule, EndsQuiescent}
 
 run-push : (S : Semantics) (es : List Event) (e : Event) (w : World) → run S (es ++ e ∷ []) w ≡ step S (run S es w) e
 run-push S [] e w = refl
@@ -49,19 +49,19 @@ no_head (e ∷ es) h = absurd cc
 
 module _ {M E : Type 0} (state : E → AccountsState) (calls : List ValidCall) where
   -- before the first event
-  pub reached_start : (world : code.World M E) → StandsFor accounts_semantics state world (start calls) → (r : Reached state calls world) × (length r.events ≡ 0)
+  pub reached_start : (world : code.World M E) → StandsFor accounts_semantics state world (start calls) → (r : FollowsSchedule state calls world) × (length r.events ≡ 0)
   reached_start world h = (record { events = []; is_run = tt; schedule = tt; stands = h }, refl)
 
   -- in a run only events of the world's actors may happen
-  pub alone : (world : code.World M E) (r : Reached state calls world) → HasThemAlone (run accounts_semantics r.events (start calls))
+  pub alone : (world : code.World M E) (r : FollowsSchedule state calls world) → HasThemAlone (run accounts_semantics r.events (start calls))
   alone world r e m = event_is_of_them accounts_semantics accounts carried calls r.events e r.is_run m
 
   -- after the first event that may happen
-  pub reached_next : (world next : code.World M E) (e : Event) (r : Reached state calls world) (n : ℕ)
+  pub reached_next : (world next : code.World M E) (e : Event) (r : FollowsSchedule state calls world) (n : ℕ)
       → length r.events ≡ n
       → head (enabled (run accounts_semantics r.events (start calls))) ≡ Some e
       → StandsFor accounts_semantics state next (step accounts_semantics (run accounts_semantics r.events (start calls)) e)
-      → (s : Reached state calls next) × (length s.events ≡ n + 1)
+      → (s : FollowsSchedule state calls next) × (length s.events ≡ n + 1)
   reached_next world next e r n count first h =
       let w = run accounts_semantics r.events (start calls) in (
         record {
@@ -74,18 +74,18 @@ module _ {M E : Type 0} (state : E → AccountsState) (calls : List ValidCall) w
       )
 
   -- where no event may happen
-  pub ended : (world : code.World M E) (r : Reached state calls world) → head (enabled (run accounts_semantics r.events (start calls))) ≡ None → Ended state calls world
+  pub ended : (world : code.World M E) (r : FollowsSchedule state calls world) → head (enabled (run accounts_semantics r.events (start calls))) ≡ None → EndsQuiescent state calls world
   ended world r none = record {
     reached = r;
     quiescent = nothing_enabled_is_quiescent accounts_semantics accounts carried calls r.events r.is_run (no_head (enabled (run accounts_semantics r.events (start calls))) none);
   }
 
   -- a run is short
-  pub short : (world : code.World M E) (r : Reached state calls world) → length r.events ≤ 7 * length calls
+  pub short : (world : code.World M E) (r : FollowsSchedule state calls world) → length r.events ≤ 7 * length calls
   short world r = run_is_short accounts_semantics accounts carried calls r.events r.is_run
 
 -- the calls that the world is given are all of client 1
-pub of_one_client : (calls : List ValidCall) (k : ℕ) (d : WorldCall) → k < length (given calls) → (get_or (given calls) k d).client ≡ 1
+pub of_one_client : (calls : List ValidCall) (k : ℕ) (d : WorldCall) → k < length (given_calls calls) → (get_or (given_calls calls) k d).client ≡ 1
 of_one_client [] k d lt = absurd (omega arith)
 of_one_client (c ∷ calls) zero d lt = refl
 of_one_client (c ∷ calls) (suc k) d lt = of_one_client calls k d (omega arith)

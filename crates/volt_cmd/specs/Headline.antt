@@ -14,10 +14,10 @@ use Rattle.account_engine.specs.Calls.{ValidCall}
 use Rattle.account_engine.specs.Spelling.{reply_bytes}
 use Rattle.account_engine.specs.Accounts.{accounts, accounts_semantics}
 use Rattle.cluster_core.specs.declared.world.Outcomes.{Outcomes}
-use Rattle.cluster_core.specs.Outcomes.{Tells}
+use Rattle.cluster_core.specs.Outcomes.{TellsOutcomes}
 use Rattle.volt_cmd.specs.declared.status.Status.{Status}
 use Rattle.volt_cmd.specs.declared.status.Status.TheVariants.{Ok, BadUse, ReadFault, WriteFault, NoMemory, NotBuilt}
-use Rattle.volt_cmd.specs.Script.{start, written}
+use Rattle.volt_cmd.specs.Script.{start, script_call}
 
 -- whether the words are a command: `run` alone
 abbrev pub is_command : List (List ℕ) → Bool
@@ -30,13 +30,13 @@ pub record Ran (calls : List ValidCall) (o : Outcomes) : Type 0 where
   pub is_run : IsRun accounts_semantics events (start calls)
   pub schedule : TakesFirst accounts_semantics events (start calls)
   pub quiescent : IsQuiescent (run accounts_semantics events (start calls))
-  pub tells : Tells accounts_semantics o (run accounts_semantics events (start calls))
+  pub tells : TellsOutcomes accounts_semantics o (run accounts_semantics events (start calls))
 
 -- The bytes have a meaning, and the text is the spelling of one report that is sound for it and tied to a run of it. The
 -- report has a line for each call of the input, in their order, and each of them was answered.
 pub record Explains (bytes text : List ℕ) : Type 0 where
   pub calls : List ValidCall
-  pub input : calls_of_text bytes ≡ Some (map (λ c. written c.call) calls)
+  pub input : calls_of_text bytes ≡ Some (map (λ c. script_call c.call) calls)
   pub report : Report
   pub sound : Sound accounts (script accounts calls) report
   pub tied : Tied accounts_semantics reply_bytes (start calls) report

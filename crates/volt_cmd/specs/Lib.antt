@@ -1,5 +1,5 @@
 pub mod Script
 pub mod Prints
 pub mod Headline
-pub mod Reached
+pub mod Running
 pub mod Status

@@ -13,13 +13,13 @@ use Rattle.account_engine.specs.Accounts.{accounts}
 use Rattle.account_engine.specs.Carrying.{carried}
 
 -- what the script says of a call
-abbrev pub written : AccountCall → ScriptCall
-written (account.Put id balance) = script.Put id balance
-written (account.Get id) = script.Get id
+abbrev pub script_call : AccountCall → ScriptCall
+script_call (account.Put id balance) = script.Put id balance
+script_call (account.Get id) = script.Get id
 
 -- The script has these calls, each of them valid, and not too many.
 pub record Asks (script : List ScriptCall) (calls : List ValidCall) : Type 0 where
-  pub same : script ≡ map (λ c. written c.call) calls
+  pub same : script ≡ map (λ c. script_call c.call) calls
   pub few : length calls ≤ most_calls
 
 -- some valid calls are those of the script
@@ -27,8 +27,8 @@ abbrev pub IsAsked : List ScriptCall → Type 0
 IsAsked script = (calls : List ValidCall) × Asks script calls
 
 -- what the world is given for them, and the world before the first event
-abbrev pub given : List ValidCall → List WorldCall
-given calls = world_calls accounts carried.body calls
+abbrev pub given_calls : List ValidCall → List WorldCall
+given_calls calls = world_calls accounts carried.body calls
 
 abbrev pub start : List ValidCall → World
-start calls = first_world (given calls)
+start calls = first_world (given_calls calls)

@@ -5,8 +5,8 @@ ghost use Rattle.volt_base.specs.Faults.{Increased};
 ghost use Rattle.volt_io.specs.States.{SourceGivesAtMost};
 ghost use Rattle.volt_form.specs.Form.{longest_input, calls_of_text, first_wrong_line};
 ghost use Rattle.account_engine.specs.Calls.{ValidCall, is_valid};
-ghost use Rattle.account_engine.specs.Spelling.{body_bytes};
-ghost use Rattle.volt_cmd.specs.Script.{Asks, IsAsked, given, written};
+ghost use Rattle.account_engine.specs.Spelling.{body_of};
+ghost use Rattle.volt_cmd.specs.Script.{Asks, IsAsked, given_calls, script_call};
 ghost use Rattle.volt_cmd.specs.Headline.{ReadsAll, IsWrongAt};
 
 use account_engine::AccountCall;
@@ -66,7 +66,7 @@ fn calls_of(alloc: Global, text: &[u8]) -> Result<Vec<ScriptCall>, InputFault>
 
 /// The call of the engine that the script says.
 fn account_call(call: &ScriptCall) -> AccountCall
-    ensures { written result ≡ call.now }
+    ensures { script_call result ≡ call.now }
 {
     match call {
         ScriptCall::Put { id, balance } => AccountCall::Put {
@@ -82,7 +82,7 @@ fn world_call(alloc: Global, call: &AccountCall) -> Result<WorldCall, AllocError
     requires { is_valid call.now ≡ true }
     ensures client { IfOk result (λ made. made.client ≡ 1) }
     ensures part { IfOk result (λ made. made.part ≡ Some 0) }
-    ensures body { IfOk result (λ made. made.body ≡ body_bytes call.now) }
+    ensures body { IfOk result (λ made. made.body ≡ body_of call.now) }
 {
     Ok(WorldCall {
         client: 1,
@@ -95,7 +95,7 @@ fn world_call(alloc: Global, call: &AccountCall) -> Result<WorldCall, AllocError
 pub fn world_input(alloc: Global, calls: &[ScriptCall]) -> Result<WorldInput, AllocError>
     requires { IsAsked calls.now }
     ensures given { IfOk result (λ input. (asked : List ValidCall)
-        → Asks calls.now asked → input.calls.items ≡ given asked) }
+        → Asks calls.now asked → input.calls.items ≡ given_calls asked) }
     ensures ones { IfOk result (λ input. All (λ call. call.client ≡ 1) input.calls.items) }
 {
     let mut made = Vec::new(alloc);

@@ -4,37 +4,8 @@ use super::*;
 use std::alloc::{AllocError, Global};
 use std::test::Fail;
 use std::thread::Threads;
+use volt_form::HEAD;
 use volt_io::memory::{MemSink, MemSource};
-
-const HEAD: &[u8] = b"%deployment
-hosts = 1
-sites = 1
-k = 0
-clients = 1
-%ddl
-CREATE TABLE acct (id BIGINT NOT NULL, bal BIGINT NOT NULL, PRIMARY KEY (id));
-PARTITION TABLE acct ON COLUMN id;
-CREATE PROCEDURE Put PARTITION ON TABLE acct COLUMN id PARAMETER 0 AS INSERT INTO acct VALUES (?, ?);
-CREATE PROCEDURE Get PARTITION ON TABLE acct COLUMN id PARAMETER 0 AS SELECT bal FROM acct WHERE id = ?;
-CREATE PROCEDURE Add PARTITION ON TABLE acct COLUMN id PARAMETER 0 AS PROGRAM (id BIGINT, n BIGINT) BEGIN
-  SQL r = SELECT bal FROM acct WHERE id = :id;
-  IF ROWS(r) = 0 THEN ABORT 'no account'; END;
-  LET b = FIRST(r.bal) + :n;
-  IF :b < 0 THEN ABORT 'below zero'; END;
-  SQL UPDATE acct SET bal = :b WHERE id = :id;
-  RETURN :b;
-END;
-CREATE PROCEDURE Move AS PROGRAM (src BIGINT, dst BIGINT, n BIGINT) BEGIN
-  SQL r = SELECT bal FROM acct WHERE id = :src;
-  SQL t = SELECT bal FROM acct WHERE id = :dst;
-  IF ROWS(r) = 0 OR ROWS(t) = 0 OR FIRST(r.bal) < :n THEN ABORT 'cannot move'; END;
-  SQL UPDATE acct SET bal = bal - :n WHERE id = :src;
-  SQL UPDATE acct SET bal = bal + :n WHERE id = :dst;
-  RETURN FIRST(r.bal) - :n;
-END;
-CREATE PROCEDURE Total AS SELECT SUM(bal) FROM acct;
-%script
-";
 
 const FIRST_CALLS: &str = "client 1 call Put 1 10\nclient 1 call Get 1\n";
 

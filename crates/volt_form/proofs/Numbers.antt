@@ -5,7 +5,7 @@ use Rattle.std.proofs.lemmas.List.{at_drop_more}
 use Rattle.std.specs.Char.{digit_value, is_ascii_digit}
 use Rattle.std.specs.Str.{all_ascii_digits}
 use Rattle.std.specs.Str.Parse.{digits_value_after, digits_value}
-use Rattle.volt_form.specs.Form.{magnitude_of, greatest, after, number_of}
+use Rattle.volt_form.specs.Form.{magnitude_of, greatest, after_prefix, number_of_word}
 
 -- more digits never make a smaller number
 pub value_grows : (n : ℕ) (ds : List ℕ) → n ≤ digits_value_after 10 n ds
@@ -47,19 +47,19 @@ unfolding magnitude_of
 magnitude_is ds h i j = grind (arith, nat_tests)
 
 -- no word writes no number
-pub number_of-nil : number_of [] ≡ None
-unfolding number_of
+pub number_of-nil : number_of_word [] ≡ None
+unfolding number_of_word
 number_of-nil = refl
 
 -- behind a minus sign digits write the negative of their number
-pub number_of-minus : (word digits : List ℕ) → after (codes "-") word ≡ Some digits → number_of word ≡ option_map (λ n. neg_ℤ (pos n)) (magnitude_of digits)
-unfolding number_of
+pub number_of-minus : (word digits : List ℕ) → after_prefix (codes "-") word ≡ Some digits → number_of_word word ≡ option_map (λ n. neg_ℤ (pos n)) (magnitude_of digits)
+unfolding number_of_word
 number_of-minus [] digits h = grind arith
 number_of-minus (c ∷ cs) digits h = grind (arith, nat_tests)
 
 -- and without one their number
-pub number_of-plain : (word : List ℕ) → after (codes "-") word ≡ None → number_of word ≡ option_map pos (magnitude_of word)
-unfolding number_of
+pub number_of-plain : (word : List ℕ) → after_prefix (codes "-") word ≡ None → number_of_word word ≡ option_map pos (magnitude_of word)
+unfolding number_of_word
 number_of-plain [] h = rw (no_magnitude-empty [] refl)
 number_of-plain (c ∷ cs) h = grind (arith, nat_tests)
 

@@ -1,16 +1,12 @@
 -- The one form of an input's text: a deployment of one site, the starter catalog, and a script of calls.
-use Rattle.std.specs.Prelude.{ℕ, ◌+◌, ◌&&◌, ◌==◌, nat_lt, nat_le, if◌then◌else◌, List, [], ◌∷◌, length, take, drop, ℤ, pos, neg_ℤ, ◌≤ℤ◌, Option, Some, None, option_map, option_and_then, is_some, codes, bytes_eq}
+use Rattle.std.specs.Prelude.{ℕ, ◌+◌, ◌&&◌, ◌==◌, nat_lt, nat_le, if◌then◌else◌, List, [], ◌∷◌, length, take, drop, ℤ, pos, neg_ℤ, ◌≤ℤ◌, Option, Some, None, option_map, is_some, codes, bytes_eq}
 use Rattle.std.specs.List.{before_first, after_first}
 use Rattle.std.specs.Option.{option_or}
 use Rattle.std.specs.Str.{all_ascii_digits, byte}
 use Rattle.std.specs.Str.Parse.{digits_value}
+use Rattle.volt_base.specs.Reading.{◌>>=◌}
 use Rattle.volt_form.specs.declared.call.ScriptCall.{ScriptCall}
 use Rattle.volt_form.specs.declared.call.ScriptCall.TheVariants.{Put, Get}
-
--- `x ← o` goes on with what is there, and gives None where nothing is
-infixl 10 ◌>>=◌
-abbrev pub ◌>>=◌ : {A B : Type 0} → Option A → (A → Option B) → Option B
-o >>= f = option_and_then f o
 
 -- Texts and their lines
 
@@ -31,8 +27,8 @@ lines_of (b ∷ bs) = let after = lines_of bs in
     if b == 10 then record { ended = [] ∷ after.ended; rest = after.rest } else onto_first b after.ended after.rest
 
 -- what follows the prefix, where the text begins with it
-abbrev pub after : List ℕ → List ℕ → Option (List ℕ)
-after prefix text = if bytes_eq (take (length prefix) text) prefix then Some (drop (length prefix) text) else None
+abbrev pub after_prefix : List ℕ → List ℕ → Option (List ℕ)
+after_prefix prefix text = if bytes_eq (take (length prefix) text) prefix then Some (drop (length prefix) text) else None
 
 -- Numbers and calls
 
@@ -46,30 +42,30 @@ magnitude_of digits = if nat_lt 0 (length digits) && all_ascii_digits digits && 
     then Some (digits_value 10 digits) else None
 
 -- the number that a word writes: digits, with or without a minus sign directly before them
-unfoldable pub number_of : List ℕ → Option ℤ
-number_of [] = None
-number_of (c ∷ cs) = if c == byte "-" then option_map (λ n. neg_ℤ (pos n)) (magnitude_of cs) else option_map pos (magnitude_of (c ∷ cs))
+unfoldable pub number_of_word : List ℕ → Option ℤ
+number_of_word [] = None
+number_of_word (c ∷ cs) = if c == byte "-" then option_map (λ n. neg_ℤ (pos n)) (magnitude_of cs) else option_map pos (magnitude_of (c ∷ cs))
 
 -- a Put of two numbers, with one space between them
-unfoldable pub put_of : List ℕ → Option ScriptCall
-put_of numbers = do
-  id ← number_of (before_first (λ b. b == byte " ") numbers)
-  balance ← number_of (after_first (λ b. b == byte " ") numbers)
+unfoldable pub put_of_numbers : List ℕ → Option ScriptCall
+put_of_numbers numbers = do
+  id ← number_of_word (before_first (λ b. b == byte " ") numbers)
+  balance ← number_of_word (after_first (λ b. b == byte " ") numbers)
   Some (Put id balance)
 
 -- a Get of one number
-unfoldable pub get_of : List ℕ → Option ScriptCall
-get_of number = option_map (λ id. Get id) (number_of number)
+unfoldable pub get_of_number : List ℕ → Option ScriptCall
+get_of_number number = option_map (λ id. Get id) (number_of_word number)
 
 -- the call of a script's line, where it is one
-unfoldable pub call_of : List ℕ → Option ScriptCall
-call_of line = option_or (after (codes "client 1 call Put ") line >>= put_of) (after (codes "client 1 call Get ") line >>= get_of)
+unfoldable pub call_of_line : List ℕ → Option ScriptCall
+call_of_line line = option_or (after_prefix (codes "client 1 call Put ") line >>= put_of_numbers) (after_prefix (codes "client 1 call Get ") line >>= get_of_number)
 
 -- the calls of lines that all are a call's
 abbrev pub calls_of_lines : List (List ℕ) → Option (List ScriptCall)
 calls_of_lines [] = Some []
 calls_of_lines (line ∷ lines) = do
-  call ← call_of line
+  call ← call_of_line line
   calls ← calls_of_lines lines
   Some (call ∷ calls)
 
@@ -147,7 +143,7 @@ calls_of_text text = if nat_le (length text) longest_input then calls_in (lines_
 -- the first wrong line from this number on, after the head: no call, or one too many, or not ended by an LF
 abbrev pub wrong_call : ℕ → List (List ℕ) → List ℕ → Option ℕ
 wrong_call number [] rest = if length rest == 0 then None else Some number
-wrong_call number (line ∷ lines) rest = if nat_le number (head_size + most_calls) && is_some (call_of line)
+wrong_call number (line ∷ lines) rest = if nat_le number (head_size + most_calls) && is_some (call_of_line line)
     then wrong_call (number + 1) lines rest else Some number
 
 -- the first wrong line from this number on, where these lines of the head come first

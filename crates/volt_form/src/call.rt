@@ -1,7 +1,7 @@
 //! The calls of a script.
 
 ghost use Rattle.std.specs.Prelude.{◌≡◌};
-ghost use Rattle.volt_form.specs.Form.{put_of, get_of, call_of};
+ghost use Rattle.volt_form.specs.Form.{put_of_numbers, get_of_number, call_of_line};
 
 use crate::lines::{after, cut_at};
 use crate::number::read_number;
@@ -16,9 +16,9 @@ pub enum ScriptCall {
 }
 
 /// The call of the numbers of a Put.
-#[tactic(auto, using(crate::proofs::CallLemmas::put_of_no_space), unfolding(crate::specs::Form::put_of))]
+#[tactic(auto, using(crate::proofs::CallLemmas::put_of_no_space), unfolding(crate::specs::Form::put_of_numbers))]
 fn read_put(numbers: &[u8]) -> Option<ScriptCall>
-    ensures { result ≡ put_of numbers.now }
+    ensures { result ≡ put_of_numbers numbers.now }
 {
     let (id, balance) = cut_at(numbers, b' ')?;
     Some(ScriptCall::Put {
@@ -28,9 +28,9 @@ fn read_put(numbers: &[u8]) -> Option<ScriptCall>
 }
 
 /// The call of the number of a Get.
-#[tactic(auto, unfolding(crate::specs::Form::get_of))]
+#[tactic(auto, unfolding(crate::specs::Form::get_of_number))]
 fn read_get(number: &[u8]) -> Option<ScriptCall>
-    ensures { result ≡ get_of number.now }
+    ensures { result ≡ get_of_number number.now }
 {
     Some(ScriptCall::Get {
         id: read_number(number)?,
@@ -38,9 +38,9 @@ fn read_get(number: &[u8]) -> Option<ScriptCall>
 }
 
 /// The call of a script's line, where it is one.
-#[tactic(auto, unfolding(crate::specs::Form::call_of))]
+#[tactic(auto, unfolding(crate::specs::Form::call_of_line))]
 pub fn read_call(line: &[u8]) -> Option<ScriptCall>
-    ensures { result ≡ call_of line.now }
+    ensures { result ≡ call_of_line line.now }
 {
     if let Some(numbers) = after(line, b"client 1 call Put ") {
         return read_put(numbers);

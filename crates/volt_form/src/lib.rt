@@ -13,5 +13,6 @@ mod number;
 mod reader;
 
 pub use call::ScriptCall;
+pub use head::HEAD;
 pub use laws::{calls_within_bounds, lines_make_the_text, wrong_or_of_form};
 pub use reader::{FormFault, LONGEST_INPUT, MOST_CALLS, read_form};

@@ -2,7 +2,7 @@
 
 ghost use Rattle.std.specs.Prelude.{◌≡◌, ◌<◌, ◌==◌, [], ◌∷◌, MatchOption, IfSome, IfNone, length, option_copied, position};
 ghost use Rattle.std.specs.List.{position_or_len, before_first, after_first};
-ghost use Rattle.volt_form.specs.Form.{after, lines_of};
+ghost use Rattle.volt_form.specs.Form.{after_prefix, lines_of};
 
 /// The place of the first such byte of a text.
 fn place_of(text: &[u8], byte: u8) -> Option<usize>
@@ -25,7 +25,7 @@ pub fn cut_at(text: &[u8], byte: u8) -> Option<(&[u8], &[u8])>
 
 /// What follows the prefix, where the text begins with it.
 pub fn after<'a>(text: &'a [u8], prefix: &[u8]) -> Option<&'a [u8]>
-    ensures { option_copied result ≡ after prefix.now text.now }
+    ensures { option_copied result ≡ after_prefix prefix.now text.now }
 {
     text.strip_prefix(prefix)
 }

@@ -1,7 +1,7 @@
 //! Numbers as a script writes them.
 
 ghost use Rattle.std.specs.Prelude.{◌≡◌, ◌≤◌, IfSome};
-ghost use Rattle.volt_form.specs.Form.{greatest, magnitude_of, number_of};
+ghost use Rattle.volt_form.specs.Form.{greatest, magnitude_of, number_of_word};
 
 use crate::lines::after;
 
@@ -31,7 +31,7 @@ fn read_magnitude(digits: &[u8]) -> Option<u64>
 /// The number that a word writes: digits, with or without a minus sign directly before them.
 #[tactic(auto, using(crate::proofs::Numbers::signs))]
 pub fn read_number(word: &[u8]) -> Option<i64>
-    ensures { result ≡ number_of word.now }
+    ensures { result ≡ number_of_word word.now }
 {
     match after(word, b"-") {
         Some(digits) => Some(-(read_magnitude(digits)? as i64)),

@@ -6,13 +6,13 @@ use Rattle.std.specs.Map.Iter.{deref_pair}
 use Rattle.std.proofs.lemmas.Map.Iter.{rest_more}
 use Rattle.std.proofs.lemmas.Int.{to_z-of_z}
 use Rattle.volt_report.specs.Spelling.{table_line}
-use Rattle.account_engine.specs.Accounts.{Rows, row_line, row_lines}
+use Rattle.account_engine.specs.Accounts.{Rows, line_of_row, row_lines}
 use Rattle.account_engine.proofs.accounts.AccountsEngine.dump.Goals as goal
 
 -- the text of one row more
-one_more : (text next all : List ℕ) (row : ℤ × ℤ) (left rest : Rows) → left ≡ row ∷ rest → next ≡ text ++ table_line (row_line row) → text ++ flat_map table_line (row_lines left) ≡ all → next ++ flat_map table_line (row_lines rest) ≡ all
+one_more : (text next all : List ℕ) (row : ℤ × ℤ) (left rest : Rows) → left ≡ row ∷ rest → next ≡ text ++ table_line (line_of_row row) → text ++ flat_map table_line (row_lines left) ≡ all → next ++ flat_map table_line (row_lines rest) ≡ all
 one_more text next all row left rest prefix is so_far =
-    ap (λ (t : List ℕ). t ++ flat_map table_line (row_lines rest)) is ∙ append_assoc text (table_line (row_line row)) (flat_map table_line (row_lines rest)) ∙ ap (λ (l : Rows). text ++ flat_map table_line (row_lines l)) (sym prefix) ∙ so_far
+    ap (λ (t : List ℕ). t ++ flat_map table_line (row_lines rest)) is ∙ append_assoc text (table_line (line_of_row row)) (flat_map table_line (row_lines rest)) ∙ ap (λ (l : Rows). text ++ flat_map table_line (row_lines l)) (sym prefix) ∙ so_far
 
 pub loop-id-preserved : goal.loop-id-preserved
 loop-id-preserved c =
