@@ -450,7 +450,6 @@ pub record Wrote (s b : SiteState) : Type 0 where
   pub view : b.view ≡ s.view
   pub log : b.log ≡ s.log
   pub repaired : b.repaired ≡ s.repaired
-  pub firm : b.firm ≡ s.firm
   pub held : b.held ≡ s.held
   pub joiners : b.joiners ≡ s.joiners
   pub waiting : b.waiting ≡ s.waiting
@@ -459,26 +458,26 @@ pub record Wrote (s b : SiteState) : Type 0 where
 pub wrote : (s : SiteState) → Wrote s (written_site s)
 wrote s = go s.joining refl
   where
-    same : (b : SiteState) → b.start ≡ s.start → b.view ≡ s.view → b.log ≡ s.log → b.repaired ≡ s.repaired → b.firm ≡ s.firm → b.held ≡ s.held → b.joiners ≡ s.joiners
+    same : (b : SiteState) → b.start ≡ s.start → b.view ≡ s.view → b.log ≡ s.log → b.repaired ≡ s.repaired → b.held ≡ s.held → b.joiners ≡ s.joiners
         → b.waiting ≡ s.waiting → (b.joining ≡ None → s.joining ≡ None) → Wrote s b
-    same b start view log repaired firm held joiners waiting member =
-        record { start = start; view = view; log = log; repaired = repaired; firm = firm; held = held; joiners = joiners; waiting = waiting; member = member }
+    same b start view log repaired held joiners waiting member =
+        record { start = start; view = view; log = log; repaired = repaired; held = held; joiners = joiners; waiting = waiting; member = member }
 
     shown : List Shown
     shown = after_parts s.contents (parts_of_sync s s.joining)
 
     streams : (j : Joining) → s.joining ≡ Some j → (o : Option Streamed) → Wrote s (record (joiner_written s j o) { contents = shown })
-    streams j e None = same _ refl refl refl refl refl refl refl refl (λ none. none)
+    streams j e None = same _ refl refl refl refl refl refl refl (λ none. none)
     streams j e (Some st) = choice j.is_loaded
       where
         choice : (c : Bool) → Wrote s (record (if c
             then record s { joining = Some (record j { written = j.blocks; is_based = true }); on_disk = length s.log; mark = st.mark; base = st.stream_start }
             else record s { joining = Some (record j { written = j.blocks }) }) { contents = shown })
-        choice true = same _ refl refl refl refl refl refl refl refl (λ none. absurd (cc))
-        choice false = same _ refl refl refl refl refl refl refl refl (λ none. absurd (cc))
+        choice true = same _ refl refl refl refl refl refl refl (λ none. absurd (cc))
+        choice false = same _ refl refl refl refl refl refl refl (λ none. absurd (cc))
 
     go : (o : Option Joining) → s.joining ≡ o → Wrote s (record (written s o) { contents = shown })
-    go None e = same _ refl refl refl refl refl refl refl refl (λ none. none)
+    go None e = same _ refl refl refl refl refl refl refl (λ none. none)
     go (Some j) e = streams j e j.stream
 
 -- ---- what waits behind a turn

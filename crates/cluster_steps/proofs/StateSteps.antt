@@ -73,7 +73,6 @@ pub record Apart (D : Deployment) (i : ℕ) (s u : SiteState) : Type 0 where
   pub after : is_leader D i u ≡ false
   pub view : u.view ≡ s.view
   pub joiners : u.joiners ≡ s.joiners
-  pub waiting : u.waiting ≡ s.waiting
   pub repaired : u.repaired ≡ false → s.repaired ≡ false
 
 -- A goes on over the steps that follow the handler of a message.
@@ -126,7 +125,7 @@ module _ (D : Deployment) (i : ℕ) (A : SiteState → SiteState → Type 0) (W 
   over-settles = record {
     moves = over-moves;
     joins = λ s j k log is stream based more. W.apart s _
-        (record { before = joiner-apart D i s j is; after = refl; view = refl; joiners = refl; waiting = refl; repaired = λ e. e });
+        (record { before = joiner-apart D i s j is; after = refl; view = refl; joiners = refl; repaired = λ e. e });
     counted = λ s authoritative acks joiners same.
         let m = with_acks s acks joiners in
         let n = record m { firm = firm_now D i m } in
@@ -149,9 +148,9 @@ over-steps E D stamp i P A W = let S = W.settles in record {
   reported = λ s slot l position floor tail k. W.reported s _ k.2;
   noted = λ s idle acks joiners same. W.noted s idle acks joiners same.begins;
   put = λ s slot l position e floor k. let n = false_from_ne_true (is_leader D i s) k.1 in
-      S.apart s (with_entry s e) (record { before = n; after = n; view = refl; joiners = refl; waiting = refl; repaired = λ r. r });
+      S.apart s (with_entry s e) (record { before = n; after = n; view = refl; joiners = refl; repaired = λ r. r });
   repair = λ s slot l from entries k. let n = false_from_ne_true (is_leader D i s) k.1 in
-      S.apart s (with_repair s from entries) (record { before = n; after = n; view = refl; joiners = refl; waiting = refl; repaired = λ r. absurd (cc) });
+      S.apart s (with_repair s from entries) (record { before = n; after = n; view = refl; joiners = refl; repaired = λ r. absurd (cc) });
   stream = λ s slot l head j k is may.
-      S.apart s (with_stream s j l head) (record { before = joiner-apart D i s j is; after = refl; view = refl; joiners = refl; waiting = refl; repaired = λ r. r });
+      S.apart s (with_stream s j l head) (record { before = joiner-apart D i s j is; after = refl; view = refl; joiners = refl; repaired = λ r. r });
 }

@@ -215,7 +215,6 @@ pub record TakesJoiner (D : Deployment) (i : ℕ) (v u : SiteState) : Type 0 whe
   pub leads : leads D i v ≡ true
   pub new : Joiner
   pub stream_start : new.stream_start ≡ length v.log
-  pub position : new.position ≡ length v.log
   pub is : u ≡ record (with_others v u) { joiners = v.joiners ++ new ∷ [] }
 
 module _ (E : Database) (D : Deployment) (i : ℕ) (v : SiteState) where
@@ -225,7 +224,6 @@ module _ (E : Database) (D : Deployment) (i : ℕ) (v : SiteState) where
     leads = authoritative;
     new = record { slot = a.slot; start = a.start; stream_start = length v.log; position = length v.log; count = None };
     stream_start = refl;
-    position = refl;
     is = refl;
   }))
 
