@@ -1,17 +1,18 @@
 -- What the two halves of an append make of a log's file.
-use Rattle.std.proofs.Common.{◌≡◌, ℕ, zero, suc, ◌+◌, ◌-◌, ◌^◌, ◌<◌, ◌≤◌, List, [], ◌∷◌, ◌++◌, length, take, drop, replicate, refl, sym, ap, ◌∙◌, inl, inr, append_assoc, append-nil, length-append, arith, All}
-use Rattle.std.proofs.lemmas.List.{length-take-le, take-append-le, take_at, drop_at}
+use Rattle.std.proofs.Common.{◌≡◌, ℕ, suc, ◌+◌, ◌-◌, ◌^◌, ◌<◌, ◌≤◌, List, [], ◌∷◌, ◌++◌, length, take, drop, replicate, refl, sym, ap, ◌∙◌, inl, inr, append_assoc, append-nil, length-append, arith, All}
+use Rattle.std.proofs.lemmas.List.{length-take-le, take-append-le, take_at, drop_at, take-take}
+use Rattle.std.proofs.lemmas.Grind.{same_number_lists}
 use Rattle.std.proofs.lemmas.List.Elements.{All-append, All-drop, All-replicate}
 use Rattle.std.proofs.Math.Seq.{drop-append-add}
 use Rattle.volt_base.specs.Spelling.{body_bytes}
 use Rattle.volt_disk.specs.declared.listing.Listing.TheVariants.{Kept}
 use Rattle.volt_disk.specs.File.{File, IsImage, settled, seen, bytes_if_listed}
 use Rattle.volt_disk.specs.Effects.{lengthened, overwritten}
-use Rattle.volt_disk.proofs.Images.{length-overwritten}
+use Rattle.volt_disk.proofs.Overwritten.{length-overwritten}
 use Rattle.gate_log.specs.Batches.{open_gate, batches, spelled}
 use Rattle.gate_log.specs.Log.{IsRest, IsReady, EachImage, HoldsAlways, HoldsWithOrWithout, KeepsPrefix}
 use Rattle.gate_log.specs.declared.log.GateLog.{GateLog}
-use Rattle.gate_log.proofs.Files.{same_places, length-lengthened}
+use Rattle.gate_log.proofs.Files.{length-lengthened}
 use Rattle.gate_log.proofs.Batches.{batches-kept, batches-opened, batches-gate, spelled-append, AllFit-push, IsRest-zeros, IsRest-closed}
 
 pub seen-settled : (f : File) → f ≡ settled f.bytes → seen f ≡ f.bytes
@@ -23,14 +24,8 @@ pub settled-only : (bytes image : List ℕ) → IsImage (settled bytes) image �
 settled-only bytes image (inl torn) =
     let low = torn.no_shorter in
     let high = torn.no_longer in
-    same_places image bytes (omega arith) (λ i less. torn.others i less (λ none. none))
+    same_number_lists image bytes (omega arith) (λ i less. torn.others i less (λ none. none))
 settled-only bytes image (inr gone) = absurd gone.0
-
-take-within : (n m : ℕ) (xs : List ℕ) → n ≤ m → take n (take m xs) ≡ take n xs
-take-within zero m xs le = refl
-take-within (suc n) zero xs le = absurd (omega arith)
-take-within (suc n) (suc m) [] le = refl
-take-within (suc n) (suc m) (x ∷ xs) le = ap (λ l. x ∷ l) (take-within n m xs (omega arith))
 
 -- a gate and a body behind whole batches
 pub gate-shape : (P R bb : List ℕ) (size x : ℕ) → length P + 1 + length bb ≤ size → length (P ++ R) ≤ size → overwritten (length P) (x ∷ []) (overwritten (length P + 1) bb (lengthened size (P ++ R))) ≡ P ++ x ∷ (bb ++ drop (length P + 1 + length bb) (lengthened size (P ++ R)))
@@ -41,7 +36,7 @@ gate-shape P R bb size x room fits =
     let prefix : length (take (E + 1) L) ≡ E + 1 = length-take-le (E + 1) L (omega arith) in
     let before : take E (overwritten (E + 1) bb L) ≡ P =
     take-append-le E (take (E + 1) L) (bb ++ drop (E + 1 + length bb) L) (omega arith)
-    ∙ (take-within E (E + 1) L (omega arith)
+    ∙ (take-take E (E + 1) L (omega arith)
     ∙ (ap (take E) (append_assoc P R (replicate (size - length (P ++ R)) 0)) ∙ take_at P (R ++ replicate (size - length (P ++ R)) 0) E refl)) in
     let behind : drop (E + 1) (overwritten (E + 1) bb L) ≡ bb ++ drop (E + 1 + length bb) L =
     drop_at (take (E + 1) L) (bb ++ drop (E + 1 + length bb) L) (E + 1) prefix in

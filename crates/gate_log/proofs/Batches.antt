@@ -7,7 +7,7 @@ use Rattle.volt_base.specs.Spelling.{body_bytes}
 use Rattle.volt_base.specs.Reading.{number_at, body_at}
 use Rattle.volt_base.proofs.Fields.{body_again, bind_some}
 use Rattle.gate_log.specs.Batches.{open_gate, batch_bytes, first_batch, first_and, first_batches, batches, spelled, AllFit}
-use Rattle.gate_log.proofs.Files.{same_places}
+use Rattle.std.proofs.lemmas.Grind.{same_number_lists}
 use Rattle.gate_log.specs.Log.{IsRest, KeepsPrefix}
 
 pub first_batch-open : (body rest : List ℕ) → length body < 2 ^ 32 → first_batch (batch_bytes body ++ rest) ≡ Some (body, rest)
@@ -123,7 +123,7 @@ batches-kept bodies rest bytes image parts closed fits keeps =
     let long : length (spelled bodies) ≤ length image = let n = keeps.no_shorter in omega arith in
     let len : length (take (length (spelled bodies)) image) ≡ length (spelled bodies) = length-take-le (length (spelled bodies)) image long in
     let prefix : take (length (spelled bodies)) image ≡ spelled bodies =
-    same_places (take (length (spelled bodies)) image) (spelled bodies) len (λ i less.
+    same_number_lists (take (length (spelled bodies)) image) (spelled bodies) len (λ i less.
     get_or-take (length (spelled bodies)) image i 0 (omega (arith, less, len))
     ∙ (keeps.same i (omega (arith, less, len))
     ∙ (ap (λ b. get_or b i 0) parts ∙ get_or_append_left (spelled bodies) rest 0 i (omega (arith, less, len))))) in

@@ -1,21 +1,13 @@
 -- What a crash leaves of a file whose prefix is kept, or of which one byte is under way.
 use Rattle.std.proofs.Common.{◌≡◌, ◌≢◌, ◌⊎◌, ℕ, zero, suc, ◌+◌, ◌-◌, ◌<◌, ◌≤◌, List, [], ◌∷◌, ◌++◌, length, take, drop, replicate, get_or, refl, sym, ◌∙◌, inl, inr, arith, length-append}
 use Rattle.std.proofs.lemmas.List.{get_or_past, get_or_append_left, get_or-append_right, length-replicate, length-take-le}
+use Rattle.std.proofs.lemmas.Grind.{same_number_lists}
 use Rattle.std.proofs.lemmas.Bool.{cases_lt, cases_eq}
 use Rattle.volt_disk.specs.declared.listing.Listing.TheVariants.{Kept}
 use Rattle.volt_disk.specs.File.{File, IsInRange, IsInSome, settled}
 use Rattle.volt_disk.specs.Effects.{lengthened, overwritten, growth_asked, grown, write_asked, after_write, FailsAs}
-use Rattle.volt_disk.proofs.Images.{length-overwritten, get-overwritten}
+use Rattle.volt_disk.proofs.Overwritten.{length-overwritten, get-overwritten}
 use Rattle.gate_log.specs.Log.{EachImage, KeepsPrefix}
-
--- two lists with the same places are one
-pub same_places : (xs ys : List ℕ) → length xs ≡ length ys → ((i : ℕ) → i < length xs → get_or xs i 0 ≡ get_or ys i 0) → xs ≡ ys
-same_places [] [] len each = refl
-same_places [] (y ∷ ys) len each = absurd (omega arith)
-same_places (x ∷ xs) [] len each = absurd (omega arith)
-same_places (x ∷ xs) (y ∷ ys) len each =
-    let head : x ≡ y = each 0 (omega arith) in
-    let tail = same_places xs ys (omega arith) (λ i less. each (suc i) (omega (arith, less))) in cc
 
 pub FailsAs-any : (P : File → Type 0) (old asked taken new : File) → FailsAs old asked taken new → P old → P asked → P taken → P new
 FailsAs-any P old asked taken new (inl same) o a t = rw same o
@@ -128,7 +120,7 @@ Settling-image place bytes f within s image (inl torn) =
     let any = get_or image place 0 in
     let len : length (overwritten place (any ∷ []) bytes) ≡ length bytes = length-overwritten place (any ∷ []) bytes (omega arith) in (
       any,
-      same_places image (overwritten place (any ∷ []) bytes) (omega arith) (λ i less.
+      same_number_lists image (overwritten place (any ∷ []) bytes) (omega arith) (λ i less.
           elim (cases_eq i place) [
             | inl here ↦ rw here (sym (get-overwritten_at place any bytes within))
             | inr other ↦ torn.others i less (s.clear i other) ∙ (s.same i other ∙ sym (get-overwritten place (any ∷ []) bytes i (omega arith) (λ r. let l = r.0 in let h = r.1 in other (omega arith))))

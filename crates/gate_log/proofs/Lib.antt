@@ -3,3 +3,4 @@ pub mod Batches
 pub mod Append
 pub mod ReadBatches
 pub mod Opened
+pub mod CallLemmas

@@ -2,22 +2,23 @@
 use Rattle.std.proofs.Common.{◌≡◌, ◌≢◌, ℕ, suc, ◌+◌, ◌-◌, ◌<◌, ◌≤◌, List, [], ◌∷◌, ◌++◌, length, take, drop, replicate, get_or, refl, sym, ap, subst, ◌∙◌, inl, inr, append_assoc, append-nil, length-append, length-drop, arith}
 use Rattle.std.proofs.lemmas.List.{take_at, drop_at, drop_all, get_or-append-add, length-replicate, nil_from_length}
 use Rattle.std.proofs.lemmas.List.Elements.{All-replicate}
+use Rattle.std.proofs.lemmas.Grind.{same_number_lists}
 use Rattle.std.proofs.lemmas.Bool.{cases_eq}
 use Rattle.volt_disk.specs.declared.listing.Listing.TheVariants.{Kept}
 use Rattle.volt_disk.specs.File.{File, settled, seen, bytes_if_listed}
 use Rattle.volt_disk.specs.Effects.{overwritten, write_asked, after_write, synced, synced_if, FailsAs}
-use Rattle.volt_disk.proofs.Images.{length-overwritten, get-overwritten}
+use Rattle.volt_disk.proofs.Overwritten.{length-overwritten, get-overwritten}
 use Rattle.gate_log.specs.Batches.{open_gate, batches, spelled}
 use Rattle.gate_log.specs.Log.{IsFound, IsCleared, IsReady, EachImage, HoldsAlways, KeepsPrefix}
 use Rattle.gate_log.specs.declared.log.GateLog.{GateLog}
-use Rattle.gate_log.proofs.Files.{same_places, FailsAs-any, Holding, Holding-image, Holding-settled, Holding-write_asked, Holding-written, get-overwritten_at}
+use Rattle.gate_log.proofs.Files.{FailsAs-any, Holding, Holding-image, Holding-settled, Holding-write_asked, Holding-written, get-overwritten_at}
 use Rattle.gate_log.proofs.Batches.{batches-rest, batches-kept, IsRest-closed}
 use Rattle.gate_log.proofs.Append.{settled-only}
 
 -- a byte is put in the place of itself
 pub overwritten-same : (place : ℕ) (bytes : List ℕ) → place < length bytes → overwritten place (get_or bytes place 0 ∷ []) bytes ≡ bytes
 overwritten-same place bytes within =
-    same_places (overwritten place (get_or bytes place 0 ∷ []) bytes) bytes (length-overwritten place (get_or bytes place 0 ∷ []) bytes (omega arith)) (λ i less.
+    same_number_lists (overwritten place (get_or bytes place 0 ∷ []) bytes) bytes (length-overwritten place (get_or bytes place 0 ∷ []) bytes (omega arith)) (λ i less.
     elim (cases_eq i place) [
       | inl here ↦ rw here (get-overwritten_at place (get_or bytes place 0) bytes within)
       | inr other ↦ get-overwritten place (get_or bytes place 0 ∷ []) bytes i (omega arith) (λ r. let l = r.0 in let h = r.1 in other (omega arith))

@@ -1,8 +1,6 @@
 -- A log of batches in a file of a disk.
-use Rattle.std.specs.Prelude.{◌≡◌, ◌≢◌, ◌⊎◌, ℕ, zero, suc, ◌+◌, ◌<◌, ◌≤◌, List, [], ◌∷◌, ◌++◌, length, drop, slice_index, All}
-use Rattle.volt_disk.specs.declared.power.Power.{Power}
+use Rattle.std.specs.Prelude.{◌≡◌, ◌≢◌, ◌⊎◌, ℕ, ◌+◌, ◌<◌, ◌≤◌, List, [], ◌∷◌, ◌++◌, length, drop, slice_index, All}
 use Rattle.volt_disk.specs.File.{File, IsImage, settled}
-use Rattle.volt_disk.specs.Power.{after_call}
 use Rattle.gate_log.specs.Batches.{open_gate, batches, spelled, AllFit}
 use Rattle.gate_log.specs.declared.log.GateLog.{GateLog}
 
@@ -33,20 +31,14 @@ abbrev pub HoldsWithOrWithout : List (List ℕ) → List ℕ → File → Type 0
 HoldsWithOrWithout bodies body f =
     EachImage f (λ image. (batches image ≡ bodies) ⊎ (batches image ≡ bodies ++ body ∷ []))
 
+-- whatever a crash leaves of the file now, it holds the batches of what a crash might have left of it before
+abbrev pub HoldsAsBefore : File → File → Type 0
+HoldsAsBefore before now = EachImage now (λ image. (old : List ℕ) × IsImage before old × (batches image ≡ batches old))
+
 -- an image is no shorter, and has the same bytes at the first places; behind its end there are zeros
 pub record KeepsPrefix (n : ℕ) (bytes image : List ℕ) : Type 0 where
   pub no_shorter : length bytes ≤ length image
   pub same : (i : ℕ) → i < n → slice_index image i ≡ slice_index bytes i
-
--- after so many counted calls
-abbrev pub after_calls : ℕ → Power → Power
-after_calls zero power = power
-after_calls (suc n) power = after_calls n (after_call power)
-
--- no call planned a loss of power
-pub record SamePlans (before now : Power) : Type 0 where
-  pub plans : now.plans ≡ before.plans
-  pub last : now.last ≡ before.last
 
 -- the batches of the bytes end at a place, and none stands there
 pub record IsFound (place : ℕ) (bytes : List ℕ) : Type 0 where

@@ -1,11 +1,12 @@
 //! The log: batches behind gates.
-ghost use Rattle.std.specs.Prelude.{◌≡◌, ◌≢◌, ◌+◌, ◌<◌, ◌≤◌, ◌^◌, ℕ, [], ◌∷◌, ◌++◌, IsTrue, length, drop, IfOk, OnOk, OnErr};
-ghost use Rattle.volt_base.specs.Faults.{Increased};
+ghost use Rattle.std.specs.Prelude.{◌≡◌, ◌≢◌, ◌+◌, ◌<◌, ◌≤◌, ◌^◌, max, ℕ, [], ◌∷◌, ◌++◌, IsTrue, length, drop, OnOk, OnErr};
 ghost use Rattle.volt_disk.specs.File.{seen, settled};
 ghost use Rattle.volt_disk.specs.Effects.{lengthened, overwritten, write_asked, after_write, synced, FailsAs};
 ghost use Rattle.volt_base.specs.Spelling.{body_bytes};
 ghost use Rattle.gate_log.specs.Batches.{batches, open_gate};
-ghost use Rattle.gate_log.specs.Log.{IsReady, EachImage, HoldsAlways, HoldsWithOrWithout, KeepsPrefix, after_calls, SamePlans};
+ghost use Rattle.gate_log.specs.Log.{IsReady, EachImage, HoldsAlways, HoldsWithOrWithout, KeepsPrefix};
+ghost use Rattle.gate_log.specs.Calls.{MakesCalls};
+ghost use Rattle.volt_disk.specs.declared.listing.Listing.TheVariants.{Kept};
 
 use volt_disk::disk::{Disk, DiskFailed};
 
@@ -35,10 +36,10 @@ impl GateLog {
     /// Appends a batch. Its first four bytes are room for the length of its body, which are the
     /// others: the call writes them there.
     ///
-    /// It makes five calls of the disk: it grows the file, writes length and body behind the closed
-    /// gate, syncs, opens the gate, and syncs. So after `Ok` the file holds the batch as its last,
-    /// whatever a crash leaves of it, and after an `Err` it holds the batches before, with the new
-    /// one or without it. It takes no memory.
+    /// It makes five calls of the disk: it grows the file as far as the batch needs, writes length
+    /// and body behind the closed gate, syncs, opens the gate, and syncs. So after `Ok` the file
+    /// holds the batch as its last, whatever a crash leaves of it. After an `Err` it holds the batches
+    /// before, with the new one or without it, and it may be opened again. It takes no memory.
     pub fn append<D: Disk>(&mut self, disk: &mut D, batch: &mut [u8]) -> Result<(), DiskFailed>
         requires ready { IsTrue D.tells → IsReady self.old (D.told disk.old self.old.file) }
         requires length { 4 ≤ length batch.old }
@@ -51,18 +52,23 @@ impl GateLog {
         ensures partly { OnErr result (IsTrue D.tells
             → HoldsWithOrWithout (batches (seen (D.told disk.old self.old.file))) (drop 4 batch.old) (D.told disk.new self.old.file)) }
 
+        // The file is as long as the batch needs, and stays in the folder's list.
+        ensures len { OnOk result (IsTrue D.tells → length (seen (D.told disk.new self.old.file))
+            ≡ max (length (seen (D.told disk.old self.old.file))) (self.old.end + 1 + length batch.old)) }
+        ensures no_longer { OnErr result (IsTrue D.tells → (D.told disk.new self.old.file).most
+            ≤ max (length (seen (D.told disk.old self.old.file))) (self.old.end + 1 + length batch.old)) }
+        ensures listed { IsTrue D.tells → (D.told disk.new self.old.file).listing ≡ Kept }
+
         // The log after it.
         ensures ready { OnOk result (IsTrue D.tells → IsReady self.new (D.told disk.new self.new.file)) }
         ensures file { self.new.file ≡ self.old.file }
         ensures ends { OnOk result (self.new.end ≡ self.old.end + 1 + length batch.old) }
-        ensures kept { drop 4 batch.new ≡ drop 4 batch.old }
+        ensures failed { OnErr result (self.new ≡ self.old) }
+        ensures batch { batch.new ≡ body_bytes (drop 4 batch.old) }
 
         // The disk.
         ensures others { IsTrue D.tells → (n : ℕ) → n ≢ self.old.file → D.told disk.new n ≡ D.told disk.old n }
-        ensures calls { OnOk result (D.power disk.new ≡ after_calls 5 (D.power disk.old)) }
-        ensures plans { SamePlans (D.power disk.old) (D.power disk.new) }
-        ensures rises { OnErr result (Increased (D.count disk.old) (D.count disk.new)) }
-        ensures never_falls { D.count disk.old ≤ D.count disk.new }
+        ensures calls { MakesCalls 5 result (D.power disk.old) (D.power disk.new) (D.count disk.old) (D.count disk.new) }
     {
         put_length(batch);
         let end = self.end + 1 + batch.len() as u64;
@@ -104,12 +110,11 @@ fn write_behind_gate<D: Disk>(
         ≡ settled (overwritten (gate + 1) bytes.now (lengthened size (D.told disk.old file).bytes))) }
     ensures partly { OnErr result (IsTrue D.tells
         → EachImage (D.told disk.new file) (KeepsPrefix (gate + 1) (D.told disk.old file).bytes)) }
+    ensures no_longer { OnErr result (IsTrue D.tells → (D.told disk.new file).most ≤ size) }
+    ensures listed { IsTrue D.tells → (D.told disk.new file).listing ≡ Kept }
 
     ensures others { IsTrue D.tells → (n : ℕ) → n ≢ file → D.told disk.new n ≡ D.told disk.old n }
-    ensures calls { OnOk result (D.power disk.new ≡ after_calls 3 (D.power disk.old)) }
-    ensures plans { SamePlans (D.power disk.old) (D.power disk.new) }
-    ensures rises { OnErr result (Increased (D.count disk.old) (D.count disk.new)) }
-    ensures never_falls { D.count disk.old ≤ D.count disk.new }
+    ensures calls { MakesCalls 3 result (D.power disk.old) (D.power disk.new) (D.count disk.old) (D.count disk.new) }
 {
     disk.grow(file, size)?;
     write_and_sync(disk, file, gate + 1, bytes)
@@ -129,12 +134,11 @@ pub(crate) fn write_gate<D: Disk>(
         ≡ settled (overwritten gate (byte ∷ []) (D.told disk.old file).bytes)) }
     ensures partly { OnErr result (IsTrue D.tells → EachImage (D.told disk.new file)
         (λ image. (any : ℕ) × (image ≡ overwritten gate (any ∷ []) (D.told disk.old file).bytes))) }
+    ensures no_longer { OnErr result (IsTrue D.tells → (D.told disk.new file).most ≤ length (D.told disk.old file).bytes) }
+    ensures listed { IsTrue D.tells → (D.told disk.new file).listing ≡ Kept }
 
     ensures others { IsTrue D.tells → (n : ℕ) → n ≢ file → D.told disk.new n ≡ D.told disk.old n }
-    ensures calls { OnOk result (D.power disk.new ≡ after_calls 2 (D.power disk.old)) }
-    ensures plans { SamePlans (D.power disk.old) (D.power disk.new) }
-    ensures rises { OnErr result (Increased (D.count disk.old) (D.count disk.new)) }
-    ensures never_falls { D.count disk.old ≤ D.count disk.new }
+    ensures calls { MakesCalls 2 result (D.power disk.old) (D.power disk.new) (D.count disk.old) (D.count disk.new) }
 {
     write_and_sync(disk, file, gate, &[byte])
 }
@@ -155,10 +159,7 @@ pub(crate) fn write_and_sync<D: Disk>(
         (D.told disk.new file)) }
 
     ensures others { IsTrue D.tells → (n : ℕ) → n ≢ file → D.told disk.new n ≡ D.told disk.old n }
-    ensures calls { OnOk result (D.power disk.new ≡ after_calls 2 (D.power disk.old)) }
-    ensures plans { SamePlans (D.power disk.old) (D.power disk.new) }
-    ensures rises { OnErr result (Increased (D.count disk.old) (D.count disk.new)) }
-    ensures never_falls { D.count disk.old ≤ D.count disk.new }
+    ensures calls { MakesCalls 2 result (D.power disk.old) (D.power disk.new) (D.count disk.old) (D.count disk.new) }
 {
     disk.write_at(file, at, bytes)?;
     disk.sync(file)

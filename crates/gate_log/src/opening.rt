@@ -1,18 +1,18 @@
 //! Opening a log and reading its batches.
-ghost use Rattle.std.specs.Prelude.{◌≡◌, ◌≢◌, ◌⊎◌, ◌+◌, ◌-◌, ◌<◌, ◌≤◌, ℕ, [], ◌∷◌, IsTrue, length, replicate, slice_index, vec_len, IfOk, OnOk, OnErr};
-ghost use Rattle.volt_base.specs.Faults.{Increased};
-ghost use Rattle.volt_disk.specs.File.{seen, settled, IsImage};
+ghost use Rattle.std.specs.Prelude.{◌≡◌, ◌≢◌, ◌+◌, ◌-◌, ◌<◌, ◌≤◌, ℕ, [], ◌∷◌, IsTrue, length, replicate, slice_index, vec_len, IfOk, OnOk, OnErr};
+ghost use Rattle.volt_disk.specs.File.{seen, settled};
 ghost use Rattle.volt_disk.specs.Effects.{overwritten, write_asked, after_write, synced, FailsAs};
 ghost use Rattle.volt_disk.specs.declared.disk.LogFault.{LogFault};
 ghost use Rattle.volt_disk.specs.declared.listing.Listing.TheVariants.{Kept};
 ghost use Rattle.gate_log.specs.Batches.{batches, open_gate};
-ghost use Rattle.gate_log.specs.Log.{IsFound, IsCleared, IsReady, EachImage, KeepsPrefix, HoldsAlways, after_calls, SamePlans};
+ghost use Rattle.gate_log.specs.Log.{IsFound, IsCleared, IsReady, EachImage, HoldsAlways, HoldsAsBefore};
+ghost use Rattle.gate_log.specs.Calls.{after_calls, MakesUpTo};
 
 use crate::log::{GateLog, OPEN, write_and_sync, write_gate};
 use crate::reading::{bodies_of, len_of_batches};
 use std::alloc::{AllocError, Global};
 use volt_base::Bytes;
-use volt_disk::disk::{Disk, DiskFailed, LogFault};
+use volt_disk::disk::{Disk, LogFault};
 
 /// A closed gate.
 const CLOSED: u8 = 0;
@@ -23,8 +23,10 @@ impl GateLog {
     /// if that is open, and syncs; then it writes zeros from behind that gate to the end of the file,
     /// and syncs. So no byte that stands there can count as a batch once a later one is appended.
     ///
-    /// After `Ok` the file holds the batches that a read gave before, whatever a crash leaves of it.
-    /// After an `Err` it holds these, or what a crash might have left before the call.
+    /// After `Ok` the file holds the batches that a read gave before, whatever a crash leaves of it,
+    /// and it is as long as before. After an `Err` too it holds batches that a crash might have left
+    /// before the call, and it may be opened again. Where it ran out of memory the file was synced,
+    /// and nothing was written.
     pub fn open<D: Disk>(alloc: Global, disk: &mut D, file: u64) -> Result<GateLog, LogFault>
         requires listed { IsTrue D.tells → (D.told disk.old file).listing ≡ Kept }
 
@@ -32,13 +34,15 @@ impl GateLog {
         ensures ready { IfOk result (λ log. IsTrue D.tells → IsReady log (D.told disk.new file)) }
         ensures holds { OnOk result (IsTrue D.tells
             → HoldsAlways (batches (seen (D.told disk.old file))) (D.told disk.new file)) }
-        ensures partly { OnErr result (IsTrue D.tells → EachImage (D.told disk.new file)
-            (λ image. IsImage (D.told disk.old file) image ⊎ (batches image ≡ batches (seen (D.told disk.old file))))) }
+        ensures before { IsTrue D.tells → HoldsAsBefore (D.told disk.old file) (D.told disk.new file) }
+        ensures unwritten { result ≡ Err LogFault.NoMemory → IsTrue D.tells
+            → D.told disk.new file ≡ synced (D.told disk.old file) }
+        ensures len { OnOk result (IsTrue D.tells
+            → length (seen (D.told disk.new file)) ≡ length (seen (D.told disk.old file))) }
+        ensures listed { IsTrue D.tells → (D.told disk.new file).listing ≡ Kept }
 
         ensures others { IsTrue D.tells → (n : ℕ) → n ≢ file → D.told disk.new n ≡ D.told disk.old n }
-        ensures plans { SamePlans (D.power disk.old) (D.power disk.new) }
-        ensures rises { result ≡ Err LogFault.DiskFailed → Increased (D.count disk.old) (D.count disk.new) }
-        ensures never_falls { D.count disk.old ≤ D.count disk.new }
+        ensures calls { MakesUpTo 7 result (D.power disk.old) (D.power disk.new) (D.count disk.old) (D.count disk.new) }
     {
         disk.sync(file)?;
         let bytes = read_file(alloc, disk, file)?;
@@ -57,9 +61,8 @@ impl GateLog {
             → bodies.items ≡ batches (seen (D.told disk.old file))) }
         ensures same { IsTrue D.tells → (n : ℕ) → D.told disk.new n ≡ D.told disk.old n }
 
-        ensures plans { SamePlans (D.power disk.old) (D.power disk.new) }
-        ensures rises { result ≡ Err LogFault.DiskFailed → Increased (D.count disk.old) (D.count disk.new) }
-        ensures never_falls { D.count disk.old ≤ D.count disk.new }
+        ensures read { OnOk result (D.power disk.new ≡ after_calls 2 (D.power disk.old)) }
+        ensures calls { MakesUpTo 2 result (D.power disk.old) (D.power disk.new) (D.count disk.old) (D.count disk.new) }
     {
         let bytes = read_file(alloc, disk, file)?;
         Ok(bodies_of(alloc, &bytes)?)
@@ -71,9 +74,8 @@ fn read_file<D: Disk>(alloc: Global, disk: &mut D, file: u64) -> Result<Vec<u8>,
     ensures bytes { IfOk result (λ bytes. IsTrue D.tells → bytes.items ≡ seen (D.told disk.old file)) }
     ensures same { IsTrue D.tells → (n : ℕ) → D.told disk.new n ≡ D.told disk.old n }
 
-    ensures plans { SamePlans (D.power disk.old) (D.power disk.new) }
-    ensures rises { result ≡ Err LogFault.DiskFailed → Increased (D.count disk.old) (D.count disk.new) }
-    ensures never_falls { D.count disk.old ≤ D.count disk.new }
+    ensures read { OnOk result (D.power disk.new ≡ after_calls 2 (D.power disk.old)) }
+    ensures calls { MakesUpTo 2 result (D.power disk.old) (D.power disk.new) (D.count disk.old) (D.count disk.new) }
 {
     let size = disk.size(file)?;
     let mut bytes = zeros(alloc, size as usize)?;
@@ -95,11 +97,11 @@ fn clear_rest<D: Disk>(
 
     ensures cleared { OnOk result (IsTrue D.tells → IsCleared end bytes.now (D.told disk.new file)) }
     ensures partly { OnErr result (IsTrue D.tells → HoldsAlways (batches bytes.now) (D.told disk.new file)) }
+    ensures unwritten { result ≡ Err LogFault.NoMemory → IsTrue D.tells → D.told disk.new file ≡ D.told disk.old file }
+    ensures listed { IsTrue D.tells → (D.told disk.new file).listing ≡ Kept }
 
     ensures others { IsTrue D.tells → (n : ℕ) → n ≢ file → D.told disk.new n ≡ D.told disk.old n }
-    ensures plans { SamePlans (D.power disk.old) (D.power disk.new) }
-    ensures rises { result ≡ Err LogFault.DiskFailed → Increased (D.count disk.old) (D.count disk.new) }
-    ensures never_falls { D.count disk.old ≤ D.count disk.new }
+    ensures calls { MakesUpTo 4 result (D.power disk.old) (D.power disk.new) (D.count disk.old) (D.count disk.new) }
 {
     if end == bytes.len() {
         return Ok(());
@@ -111,7 +113,7 @@ fn clear_rest<D: Disk>(
 }
 
 // Closes the gate at a place, if it is open, and syncs.
-fn close_gate<D: Disk>(disk: &mut D, file: u64, gate: usize, bytes: &[u8]) -> Result<(), DiskFailed>
+fn close_gate<D: Disk>(disk: &mut D, file: u64, gate: usize, bytes: &[u8]) -> Result<(), LogFault>
     requires durable { IsTrue D.tells → D.told disk.old file ≡ settled bytes.now }
     requires within { gate < length bytes.now }
 
@@ -120,17 +122,16 @@ fn close_gate<D: Disk>(disk: &mut D, file: u64, gate: usize, bytes: &[u8]) -> Re
     ensures partly { OnErr result (slice_index bytes.now gate ≡ open_gate) }
     ensures any { OnErr result (IsTrue D.tells → EachImage (D.told disk.new file)
         (λ image. (any : ℕ) × (image ≡ overwritten gate (any ∷ []) bytes.now))) }
+    ensures listed { IsTrue D.tells → (D.told disk.new file).listing ≡ Kept }
+    ensures failed { OnErr result (result ≡ Err LogFault.DiskFailed) }
 
     ensures others { IsTrue D.tells → (n : ℕ) → n ≢ file → D.told disk.new n ≡ D.told disk.old n }
-    ensures plans { SamePlans (D.power disk.old) (D.power disk.new) }
-    ensures rises { OnErr result (Increased (D.count disk.old) (D.count disk.new)) }
-    ensures never_falls { D.count disk.old ≤ D.count disk.new }
+    ensures calls { MakesUpTo 2 result (D.power disk.old) (D.power disk.new) (D.count disk.old) (D.count disk.new) }
 {
     if bytes[gate] == OPEN {
-        write_gate(disk, file, gate as u64, CLOSED)
-    } else {
-        Ok(())
+        write_gate(disk, file, gate as u64, CLOSED)?;
     }
+    Ok(())
 }
 
 fn zeros(alloc: Global, len: usize) -> Result<Vec<u8>, AllocError>

@@ -1,3 +1,6 @@
-pub mod StoredLemmas
-pub mod FileList
-pub mod Images
+pub mod Overwritten
+pub mod UndoLemmas
+pub mod DrawLemmas
+pub mod FileLemmas
+pub mod PowerLemmas
+pub mod MemoryLemmas

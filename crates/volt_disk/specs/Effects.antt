@@ -1,7 +1,9 @@
 -- What the calls of a disk do to a file.
-use Rattle.std.specs.Prelude.{◌≡◌, ◌⊎◌, ℕ, ◌+◌, ◌-◌, max, List, [], ◌∷◌, ◌++◌, length, take, drop, replicate}
+use Rattle.std.specs.Prelude.{◌≡◌, ◌⊎◌, ℕ, ◌+◌, ◌-◌, ◌≤◌, max, List, [], ◌∷◌, ◌++◌, length, take, drop, replicate}
 use Rattle.volt_disk.specs.declared.listing.Listing.{Listing}
 use Rattle.volt_disk.specs.declared.listing.Listing.TheVariants.{Kept, Leaving, Removed}
+use Rattle.volt_disk.specs.declared.change.Change.{Change}
+use Rattle.volt_disk.specs.declared.change.Change.TheVariants.{Grow, Write, Remove}
 use Rattle.volt_disk.specs.File.{File, IsImage, settled, no_file}
 
 -- bytes with zeros behind them, up to a length
@@ -58,6 +60,24 @@ names_synced_if Removed f = no_file
 -- after a sync of the names a file is there where a read finds it, and else not
 abbrev pub names_synced : File → File
 names_synced f = names_synced_if f.listing f
+
+-- a growth doesn't shrink the bytes, and a write stays within them
+abbrev pub CanChange : Change → List ℕ → Type 0
+CanChange (Grow to) bytes = length bytes ≤ to
+CanChange (Write at part) bytes = at + length part.now ≤ length bytes
+CanChange Remove bytes = Unit {0}
+
+-- a change that was asked for
+abbrev pub asked : Change → File → File
+asked (Grow to) f = growth_asked to f
+asked (Write at bytes) f = write_asked at (length bytes.now) f
+asked Remove f = removal_asked f
+
+-- a change that was made
+abbrev pub made : Change → File → File
+made (Grow to) f = grown to f
+made (Write at bytes) f = after_write at bytes.now f
+made Remove f = removed f
 
 -- A failed call has taken its effect or not. Where it hasn't, it counts as asked for, unless the disk knows that
 -- nothing of it was begun.

@@ -3,5 +3,6 @@ pub mod Effects
 pub mod Power
 pub mod Draws
 pub mod Stored
+pub mod Undo
 pub mod Memory
 pub mod Folder

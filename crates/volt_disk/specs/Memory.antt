@@ -1,18 +1,21 @@
 -- A disk in memory: its files, and which of its calls fail.
-use Rattle.std.specs.Prelude.{◌≡◌, ◌⊎◌, ℕ, ◌==◌, Bool, if◌then◌else◌, List, [], Option, Some, None, Result, Ok, Err, IsErr}
+use Rattle.std.specs.Prelude.{◌≡◌, ◌≢◌, ◌⊎◌, ℕ, ◌==◌, Bool, true, false, if◌then◌else◌, List, [], Option, Some, None, Result, Ok, Err}
 use Rattle.std.specs.List.{list_any}
 use Rattle.volt_disk.specs.declared.power.Power.{Power}
 use Rattle.volt_disk.specs.declared.power.Fate.{Fate}
 use Rattle.volt_disk.specs.declared.power.Fate.TheVariants.{Works, Cut, Dark}
 use Rattle.volt_disk.specs.declared.memory.Turn.{Turn}
 use Rattle.volt_disk.specs.declared.memory.Turn.TheVariants.{Done, Numbered, Lost, Off}
-use Rattle.volt_base.specs.Faults.{Increased, one_more}
+use Rattle.volt_disk.specs.declared.change.Change.{Change}
+use Rattle.volt_disk.specs.declared.disk.DiskFailed.{DiskFailed}
+use Rattle.volt_base.specs.Faults.{one_more}
 use Rattle.volt_disk.specs.File.{File}
-use Rattle.volt_disk.specs.Power.{full_power, fate, after_call}
-use Rattle.volt_disk.specs.Stored.{Stored, stored_at, file_of, bytes_before}
+use Rattle.volt_disk.specs.Power.{full_power, fate, after_call, cycled}
+use Rattle.volt_disk.specs.Stored.{Stored, changed, stored_at, with_file, all_lost}
 
 pub record Memory : Type 0 where
-  pub files : List Stored
+  -- by number, in the order of the numbers
+  pub files : List (ℕ × Stored)
   -- the numbers, from 1, of the calls that fail
   pub fail : List ℕ
   -- the number of the next call; past the greatest u64 it stays there
@@ -29,11 +32,7 @@ empty_memory fail = record { files = []; fail = fail; call = 1; faults = 0; star
 
 -- what it tells of a file
 abbrev pub told_of : Memory → ℕ → File
-told_of m n = file_of (stored_at n m.files)
-
--- the bytes that a file had at its last sync
-abbrev pub last_synced : Memory → ℕ → List ℕ
-last_synced m n = bytes_before (stored_at n m.files)
+told_of m n = (stored_at n m.files).file
 
 abbrev pub turn_by : Fate → Bool → Turn
 turn_by Works numbered = if numbered then Numbered else Done
@@ -44,37 +43,56 @@ turn_by Dark numbered = Off
 abbrev pub turn_of : Memory → Turn
 turn_of m = turn_by (fate m.power) (list_any (λ n. n == m.call) m.fail)
 
+-- what a call answers where it doesn't run out of memory: it fails in each turn but the first kind
+abbrev pub answer_in : {T : Type 0} → Turn → T → Result T DiskFailed
+answer_in Done value = Ok value
+answer_in _ value = Err (record {})
+
 -- after a call was counted
 abbrev pub called : Memory → Memory
 called m = record m { call = one_more m.call; power = after_call m.power }
 
--- after a fault
-abbrev pub faulted : Memory → Memory
-faulted m = record m { faults = one_more m.faults }
+-- after a call that failed
+abbrev pub failed : Memory → Memory
+failed m = record (called m) { faults = one_more m.faults }
 
--- after a call that found no memory
-abbrev pub starving : Memory → Memory
-starving m = record m { faults = one_more m.faults; starved = one_more m.starved }
+-- after a call that ran out of memory
+abbrev pub starved : Memory → Memory
+starved m = record (failed m) { starved = one_more m.starved }
 
--- a call fails where it meets something, or finds no memory; and else it works
-abbrev pub FailsBy : {T E : Type 0} → Turn → Result T E → ℕ → ℕ → Type 0
-FailsBy Done (Ok x) before now = now ≡ before
-FailsBy Done (Err e) before now = Increased before now
-FailsBy _ (Ok x) before now = ⊥
-FailsBy _ (Err e) before now = (now ≡ before) ⊎ Increased before now
+-- after a call that changes no file
+abbrev pub counted_in : Turn → Memory → Memory
+counted_in Done m = called m
+counted_in _ m = failed m
 
--- what a call makes of a file: without power nothing, failed by its number what was asked for, and else its effect
-abbrev pub by_turn : Turn → File → File → File → File
-by_turn Done old asked taken = taken
-by_turn Lost old asked taken = taken
-by_turn Numbered old asked taken = asked
-by_turn Off old asked taken = old
+abbrev pub counted : Memory → Memory
+counted m = counted_in (turn_of m) m
 
--- the call changes the file so, unless it found no memory, and then not at all
-abbrev pub ChangesTo : {T E : Type 0} → Result T E → ℕ → ℕ → File → File → File → Type 0
-ChangesTo result before now old new to = (new ≡ to) ⊎ (IsErr result × Increased before now × (new ≡ old))
+-- after a call that changes the files where it works, and else leaves them
+abbrev pub settled_in : Turn → List (ℕ × Stored) → Memory → Memory
+settled_in Done files m = record (called m) { files = files }
+settled_in _ files m = failed m
+
+-- after a call that changes a file where it works; at a planned loss it has taken its effect, failed by its number it was
+-- asked for, and without power nothing of it was begun
+abbrev pub changed_in : Turn → Change → ℕ → Memory → Memory
+changed_in Done change n m = record (called m) { files = with_file n (changed true change (stored_at n m.files)) m.files }
+changed_in Lost change n m = record (failed m) { files = with_file n (changed true change (stored_at n m.files)) m.files }
+changed_in Numbered change n m = record (failed m) { files = with_file n (changed false change (stored_at n m.files)) m.files }
+changed_in Off change n m = failed m
+
+-- A call that changes a file: it answers by its turn and leaves what that says. Or it runs out of memory, which it can
+-- only with power: then it fails and changes no file.
+abbrev pub IsChange : Change → ℕ → Result (Unit {0}) DiskFailed → Memory → Memory → Type 0
+IsChange change n result before now =
+    ((result ≡ answer_in (turn_of before) tt) × (now ≡ changed_in (turn_of before) change n before))
+    ⊎ ((result ≡ Err (record {})) × (turn_of before ≢ Off) × (now ≡ starved before))
 
 -- the choice of a loss of power; where none came true it is 1
 abbrev pub choice_of : Option ℕ → ℕ
 choice_of None = 1
 choice_of (Some choice) = choice
+
+-- after a power cycle
+abbrev pub power_cycled : Memory → Memory
+power_cycled m = record m { files = all_lost (choice_of m.power.lost) (choice_of m.power.lost) m.files; power = cycled m.power }

@@ -1,9 +1,9 @@
--- When a disk loses power.
-use Rattle.std.specs.Prelude.{ℕ, ◌-◌, Bool, true, false, Option, Some, None, nat_le, if◌then◌else◌}
+-- When a disk loses power, and what each counted call does to its power and its faults.
+use Rattle.std.specs.Prelude.{◌≡◌, ℕ, ◌-◌, ◌≤◌, Bool, true, false, IsTrue, Option, Some, None, Result, OnOk, OnErr, nat_le, if◌then◌else◌}
 use Rattle.volt_disk.specs.declared.power.Power.{Power}
 use Rattle.volt_disk.specs.declared.power.Fate.{Fate}
 use Rattle.volt_disk.specs.declared.power.Fate.TheVariants.{Works, Cut, Dark}
-use Rattle.volt_base.specs.Faults.{one_more}
+use Rattle.volt_base.specs.Faults.{Increased, one_more}
 
 -- before the first plan
 abbrev pub full_power : Power
@@ -36,3 +36,11 @@ planned call choice p = record p { cut = Some (call, choice); plans = one_more p
 -- after a power cycle: a plan that hasn't come true stays
 abbrev pub cycled : Power → Power
 cycled p = record p { lost = None }
+
+-- A counted call moves the plan by one call. It works only with power, and fails only where the count of faults
+-- increased, which never falls.
+pub record IsCounted {T E : Type 0} (result : Result T E) (before now : Power) (faults_before faults : ℕ) : Type 0 where
+  pub moves : now ≡ after_call before
+  pub powered : OnOk result (IsTrue (has_power now))
+  pub increases : OnErr result (Increased faults_before faults)
+  pub never_falls : faults_before ≤ faults

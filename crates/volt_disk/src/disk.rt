@@ -1,9 +1,8 @@
 //! What a disk is: numbered files, what a read gives of them, and what a crash may leave.
 ghost use Rattle.std.specs.Prelude.{◌≡◌, ◌≢◌, ◌+◌, ◌≤◌, ℕ, Bool, true, false, IsTrue, length, slice_range, Some, codes, IfOk, OnOk, OnErr};
-ghost use Rattle.volt_base.specs.Faults.{Increased};
-ghost use Rattle.volt_disk.specs.File.{File, seen};
+ghost use Rattle.volt_disk.specs.File.{File, IsImage, seen};
 ghost use Rattle.volt_disk.specs.Effects.{growth_asked, grown, write_asked, after_write, synced, removed, removal_asked, names_synced, FailsAs, CyclesTo};
-ghost use Rattle.volt_disk.specs.Power.{has_power, after_call, planned, cycled};
+ghost use Rattle.volt_disk.specs.Power.{has_power, planned, cycled, IsCounted};
 ghost use Rattle.volt_disk.specs.declared.listing.Listing.TheVariants.{Kept};
 ghost use Rattle.volt_disk.specs.declared.power.Power.{Power};
 
@@ -86,11 +85,7 @@ pub trait Disk {
     fn size(&mut self, file: u64) -> Result<u64, DiskFailed>
         ensures len { IfOk result (λ n. IsTrue tells → n ≡ length (seen (told self.old file))) }
         ensures same { IsTrue tells → (n : ℕ) → told self.new n ≡ told self.old n }
-
-        ensures rises { OnErr result (Increased (count self.old) (count self.new)) }
-        ensures never_falls { count self.old ≤ count self.new }
-        ensures counted { power self.new ≡ after_call (power self.old) }
-        ensures powered { OnOk result (IsTrue (has_power (power self.new))) };
+        ensures counted { IsCounted result (power self.old) (power self.new) (count self.old) (count self.new) };
 
     /// The bytes of a file from an offset on, as many as `into` has room for. After an `Err` what
     /// stands in `into` is free.
@@ -100,11 +95,7 @@ pub trait Disk {
         ensures bytes { OnOk result (IsTrue tells
             → into.new ≡ slice_range (seen (told self.old file)) at (at + length into.old)) }
         ensures same { IsTrue tells → (n : ℕ) → told self.new n ≡ told self.old n }
-
-        ensures rises { OnErr result (Increased (count self.old) (count self.new)) }
-        ensures never_falls { count self.old ≤ count self.new }
-        ensures counted { power self.new ≡ after_call (power self.old) }
-        ensures powered { OnOk result (IsTrue (has_power (power self.new))) };
+        ensures counted { IsCounted result (power self.old) (power self.new) (count self.old) (count self.new) };
 
     /// Adds zeros to a file up to a length, and makes the file where it isn't there. It doesn't
     /// shrink a file, and a file that was removed isn't grown before its name was synced.
@@ -118,11 +109,7 @@ pub trait Disk {
         ensures others { IsTrue tells → (n : ℕ) → n ≢ file → told self.new n ≡ told self.old n }
         ensures dark { IsTrue tells → has_power (power self.old) ≡ false
             → (n : ℕ) → told self.new n ≡ told self.old n }
-
-        ensures rises { OnErr result (Increased (count self.old) (count self.new)) }
-        ensures never_falls { count self.old ≤ count self.new }
-        ensures counted { power self.new ≡ after_call (power self.old) }
-        ensures powered { OnOk result (IsTrue (has_power (power self.new))) };
+        ensures counted { IsCounted result (power self.old) (power self.new) (count self.old) (count self.new) };
 
     /// Puts bytes in the place of those of a file, within its length.
     fn write_at(&mut self, file: u64, at: u64, bytes: &[u8]) -> Result<(), DiskFailed>
@@ -136,22 +123,16 @@ pub trait Disk {
         ensures others { IsTrue tells → (n : ℕ) → n ≢ file → told self.new n ≡ told self.old n }
         ensures dark { IsTrue tells → has_power (power self.old) ≡ false
             → (n : ℕ) → told self.new n ≡ told self.old n }
+        ensures counted { IsCounted result (power self.old) (power self.new) (count self.old) (count self.new) };
 
-        ensures rises { OnErr result (Increased (count self.old) (count self.new)) }
-        ensures never_falls { count self.old ≤ count self.new }
-        ensures counted { power self.new ≡ after_call (power self.old) }
-        ensures powered { OnOk result (IsTrue (has_power (power self.new))) };
-
-    /// After it a crash leaves of this file what a read gives. A sync that fails settles nothing.
+    /// After it a crash leaves of this file what a read gives, as it might have before. A sync that
+    /// fails settles nothing.
     fn sync(&mut self, file: u64) -> Result<(), DiskFailed>
         ensures synced { OnOk result (IsTrue tells → told self.new file ≡ synced (told self.old file)) }
+        ensures image { OnOk result (IsTrue tells → IsImage (told self.old file) (seen (told self.old file))) }
         ensures failed { OnErr result (IsTrue tells → told self.new file ≡ told self.old file) }
         ensures others { IsTrue tells → (n : ℕ) → n ≢ file → told self.new n ≡ told self.old n }
-
-        ensures rises { OnErr result (Increased (count self.old) (count self.new)) }
-        ensures never_falls { count self.old ≤ count self.new }
-        ensures counted { power self.new ≡ after_call (power self.old) }
-        ensures powered { OnOk result (IsTrue (has_power (power self.new))) };
+        ensures counted { IsCounted result (power self.old) (power self.new) (count self.old) (count self.new) };
 
     /// Removes a file. Until the names are synced a crash may leave it as it was.
     fn remove(&mut self, file: u64) -> Result<(), DiskFailed>
@@ -161,22 +142,14 @@ pub trait Disk {
         ensures others { IsTrue tells → (n : ℕ) → n ≢ file → told self.new n ≡ told self.old n }
         ensures dark { IsTrue tells → has_power (power self.old) ≡ false
             → (n : ℕ) → told self.new n ≡ told self.old n }
-
-        ensures rises { OnErr result (Increased (count self.old) (count self.new)) }
-        ensures never_falls { count self.old ≤ count self.new }
-        ensures counted { power self.new ≡ after_call (power self.old) }
-        ensures powered { OnOk result (IsTrue (has_power (power self.new))) };
+        ensures counted { IsCounted result (power self.old) (power self.new) (count self.old) (count self.new) };
 
     /// After it no removed file comes back. A sync that fails settles nothing.
     fn sync_names(&mut self) -> Result<(), DiskFailed>
         ensures synced { OnOk result (IsTrue tells
             → (n : ℕ) → told self.new n ≡ names_synced (told self.old n)) }
         ensures failed { OnErr result (IsTrue tells → (n : ℕ) → told self.new n ≡ told self.old n) }
-
-        ensures rises { OnErr result (Increased (count self.old) (count self.new)) }
-        ensures never_falls { count self.old ≤ count self.new }
-        ensures counted { power self.new ≡ after_call (power self.old) }
-        ensures powered { OnOk result (IsTrue (has_power (power self.new))) };
+        ensures counted { IsCounted result (power self.old) (power self.new) (count self.old) (count self.new) };
 
     /// Plans the loss of power at the `call`-th coming call, counted from 1. The calls above count,
     /// those below don't. The call at which the plan comes true fails, and each later one until

@@ -1,10 +1,10 @@
 //! A disk over real files, all in one folder. It is the edge to the environment: it tells no bytes,
 //! and no clause says what a file gives or takes.
-ghost use Rattle.std.specs.Prelude.{◌≡◌, ◌≤◌, ℕ, false, is_ok, IsTrue, OnOk, OnErr};
+ghost use Rattle.std.specs.Prelude.{◌≡◌, ◌≤◌, ℕ, false, is_ok};
 ghost use Rattle.volt_base.specs.Faults.{Increased};
 ghost use Rattle.volt_disk.specs.File.{no_file};
-ghost use Rattle.volt_disk.specs.Folder.{new_folder, counted_folder, faulted_folder, called_folder};
-ghost use Rattle.volt_disk.specs.Power.{has_power, after_call, planned, cycled};
+ghost use Rattle.volt_disk.specs.Folder.{new_folder, faulted_folder, called_folder};
+ghost use Rattle.volt_disk.specs.Power.{planned, cycled, IsCounted};
 
 use crate::disk::{Disk, DiskFailed};
 use crate::power::{Fate, Power};
@@ -23,35 +23,29 @@ pub struct Tally {
 }
 
 impl Tally {
-    // Counts a call, and says whether it may go on.
-    fn begin(&mut self) -> bool
-        ensures after { self.new ≡ counted_folder self.old }
-        ensures powered { IsTrue result → IsTrue (has_power self.new.power) }
-    {
-        self.power.count_call() == Fate::Works
-    }
-
-    // What a call answers: where it didn't work, a fault is counted.
-    fn answer<T: Drop>(&mut self, done: io::Result<T>) -> Result<T, DiskFailed>
-        ensures good { OnOk result (self.new ≡ self.old) }
-        ensures failed { OnErr result (self.new ≡ faulted_folder self.old) }
-        ensures rises { OnErr result (Increased self.old.faults self.new.faults) }
-        ensures never_falls { self.old.faults ≤ self.new.faults }
-    {
-        match done {
-            Ok(value) => Ok(value),
-            Err(_) => Err(self.fault()),
-        }
-    }
-
     // Counts a fault.
     fn fault(&mut self) -> DiskFailed
         ensures after { self.new ≡ faulted_folder self.old }
-        ensures rises { Increased self.old.faults self.new.faults }
+        ensures increases { Increased self.old.faults self.new.faults }
         ensures never_falls { self.old.faults ≤ self.new.faults }
     {
         self.faults = self.faults.saturating_add(1);
         DiskFailed
+    }
+
+    // A counted call: with power it does its work, and a fault is counted where that fails.
+    fn call<T: Drop, G: FnOnce() -> io::Result<T>>(&mut self, work: G) -> Result<T, DiskFailed>
+        requires { G.IsAlwaysCallable work }
+        ensures after { self.new ≡ called_folder (is_ok result) self.old }
+        ensures counted { IsCounted result self.old.power self.new.power self.old.faults self.new.faults }
+    {
+        if self.power.count_call() != Fate::Works {
+            return Err(self.fault());
+        }
+        match work() {
+            Ok(value) => Ok(value),
+            Err(_) => Err(self.fault()),
+        }
     }
 }
 
@@ -97,7 +91,8 @@ impl<F: Files + Send + Drop> FileDisk<F> {
 }
 
 // The path of a file.
-fn path_of(alloc: Global, folder: &str, file: u64) -> io::Result<String> {
+fn path_of(alloc: Global, folder: &String, file: u64) -> io::Result<String> {
+    let folder = folder.as_str();
     match format!(in alloc; "{folder}/{file}.vf") {
         Ok(path) => Ok(path),
         Err(_) => Err(io::Error::from(ErrorKind::OutOfMemory)),
@@ -113,32 +108,16 @@ fn fits(at: u64, len: usize, size: u64) -> bool {
     at <= size && len as u64 <= size - at
 }
 
-fn size_of<F: Files>(rt: &F, path: io::Result<String>) -> io::Result<u64> {
-    size_at(rt, path?.as_str())
-}
-
-fn size_at<F: Files>(rt: &F, path: &str) -> io::Result<u64> {
+// The length of a file, 0 where it isn't there.
+fn size_of<F: Files>(rt: &F, path: &str) -> io::Result<u64> {
     match fs::metadata(rt, path) {
         Ok(metadata) => Ok(metadata.len()),
-        Err(error) => {
-            if error.kind() == ErrorKind::NotFound {
-                Ok(0)
-            } else {
-                Err(error)
-            }
-        }
+        Err(error) => unless_missing(error).map(|()| 0),
     }
 }
 
-fn read_file<F: Files>(
-    rt: &F,
-    path: io::Result<String>,
-    at: u64,
-    into: &mut [u8],
-) -> io::Result<()> {
-    let path = path?;
-    let path = path.as_str();
-    if !fits(at, into.len(), size_at(rt, path)?) {
+fn read_file<F: Files>(rt: &F, path: &str, at: u64, into: &mut [u8]) -> io::Result<()> {
+    if !fits(at, into.len(), size_of(rt, path)?) {
         return Err(beyond());
     }
     if into.is_empty() {
@@ -149,9 +128,7 @@ fn read_file<F: Files>(
     file.read_exact(into)
 }
 
-fn grow_file<F: Files>(rt: &F, path: io::Result<String>, to: u64) -> io::Result<()> {
-    let path = path?;
-    let path = path.as_str();
+fn grow_file<F: Files>(rt: &F, path: &str, to: u64) -> io::Result<()> {
     let file = OpenOptions::new().write(true).create(true).open(rt, path)?;
     if file.metadata()?.len() > to {
         return Err(beyond());
@@ -159,10 +136,8 @@ fn grow_file<F: Files>(rt: &F, path: io::Result<String>, to: u64) -> io::Result<
     file.set_len(to)
 }
 
-fn write_file<F: Files>(rt: &F, path: io::Result<String>, at: u64, bytes: &[u8]) -> io::Result<()> {
-    let path = path?;
-    let path = path.as_str();
-    if !fits(at, bytes.len(), size_at(rt, path)?) {
+fn write_file<F: Files>(rt: &F, path: &str, at: u64, bytes: &[u8]) -> io::Result<()> {
+    if !fits(at, bytes.len(), size_of(rt, path)?) {
         return Err(beyond());
     }
     if bytes.is_empty() {
@@ -173,28 +148,12 @@ fn write_file<F: Files>(rt: &F, path: io::Result<String>, at: u64, bytes: &[u8])
     file.write_all(bytes)
 }
 
-// Syncs a file, where it is there, and the folder.
-fn sync_file<F: Files>(rt: &F, path: io::Result<String>, folder: &str) -> io::Result<()> {
-    match OpenOptions::new().read(true).open(rt, path?.as_str()) {
-        Ok(file) => file.sync_all()?,
-        Err(error) => unless_missing(error)?,
-    }
-    sync_folder(rt, folder)
+// Syncs a file or a folder.
+fn sync_path<F: Files>(rt: &F, path: &str) -> io::Result<()> {
+    OpenOptions::new().read(true).open(rt, path)?.sync_all()
 }
 
-fn sync_folder<F: Files>(rt: &F, folder: &str) -> io::Result<()> {
-    let folder = OpenOptions::new().read(true).open(rt, folder)?;
-    folder.sync_all()
-}
-
-// A file that isn't there is removed.
-fn remove_file<F: Files>(rt: &F, path: io::Result<String>) -> io::Result<()> {
-    match fs::remove_file(rt, path?.as_str()) {
-        Ok(()) => Ok(()),
-        Err(error) => unless_missing(error),
-    }
-}
-
+// What is asked of a file that isn't there is done.
 fn unless_missing(error: io::Error) -> io::Result<()> {
     if error.kind() == ErrorKind::NotFound {
         Ok(())
@@ -214,120 +173,74 @@ impl<F: Files + Send + Drop> Disk for FileDisk<F> {
 
     fn size(&mut self, file: u64) -> Result<u64, DiskFailed>
         ensures after { self.new ≡ called_folder (is_ok result) self.old }
-
-        // As each disk.
-        ensures rises { OnErr result (Increased self.old.faults self.new.faults) }
-        ensures never_falls { self.old.faults ≤ self.new.faults }
-        ensures counted { self.new.power ≡ after_call self.old.power }
-        ensures powered { OnOk result (IsTrue (has_power self.new.power)) }
+        ensures counted { IsCounted result self.old.power self.new.power self.old.faults self.new.faults }
     {
-        if !self.tally.begin() {
-            return Err(self.tally.fault());
-        }
-        let path = path_of(self.alloc, self.folder.as_str(), file);
-        let done = size_of(&self.rt, path);
-        self.tally.answer(done)
+        self.tally.call(|| size_of(&self.rt, path_of(self.alloc, &self.folder, file)?.as_str()))
     }
 
     fn read_at(&mut self, file: u64, at: u64, into: &mut [u8]) -> Result<(), DiskFailed>
         ensures after { self.new ≡ called_folder (is_ok result) self.old }
-
-        // As each disk.
-        ensures rises { OnErr result (Increased self.old.faults self.new.faults) }
-        ensures never_falls { self.old.faults ≤ self.new.faults }
-        ensures counted { self.new.power ≡ after_call self.old.power }
-        ensures powered { OnOk result (IsTrue (has_power self.new.power)) }
+        ensures counted { IsCounted result self.old.power self.new.power self.old.faults self.new.faults }
     {
-        if !self.tally.begin() {
-            return Err(self.tally.fault());
-        }
-        let path = path_of(self.alloc, self.folder.as_str(), file);
-        let done = read_file(&self.rt, path, at, into);
-        self.tally.answer(done)
+        self.tally.call(|| read_file(
+            &self.rt,
+            path_of(self.alloc, &self.folder, file)?.as_str(),
+            at,
+            into,
+        ))
     }
 
     fn grow(&mut self, file: u64, to: u64) -> Result<(), DiskFailed>
         ensures after { self.new ≡ called_folder (is_ok result) self.old }
-
-        // As each disk.
-        ensures rises { OnErr result (Increased self.old.faults self.new.faults) }
-        ensures never_falls { self.old.faults ≤ self.new.faults }
-        ensures counted { self.new.power ≡ after_call self.old.power }
-        ensures powered { OnOk result (IsTrue (has_power self.new.power)) }
+        ensures counted { IsCounted result self.old.power self.new.power self.old.faults self.new.faults }
     {
-        if !self.tally.begin() {
-            return Err(self.tally.fault());
-        }
-        let path = path_of(self.alloc, self.folder.as_str(), file);
-        let done = grow_file(&self.rt, path, to);
-        self.tally.answer(done)
+        self.tally.call(|| grow_file(
+            &self.rt,
+            path_of(self.alloc, &self.folder, file)?.as_str(),
+            to,
+        ))
     }
 
     fn write_at(&mut self, file: u64, at: u64, bytes: &[u8]) -> Result<(), DiskFailed>
         ensures after { self.new ≡ called_folder (is_ok result) self.old }
-
-        // As each disk.
-        ensures rises { OnErr result (Increased self.old.faults self.new.faults) }
-        ensures never_falls { self.old.faults ≤ self.new.faults }
-        ensures counted { self.new.power ≡ after_call self.old.power }
-        ensures powered { OnOk result (IsTrue (has_power self.new.power)) }
+        ensures counted { IsCounted result self.old.power self.new.power self.old.faults self.new.faults }
     {
-        if !self.tally.begin() {
-            return Err(self.tally.fault());
-        }
-        let path = path_of(self.alloc, self.folder.as_str(), file);
-        let done = write_file(&self.rt, path, at, bytes);
-        self.tally.answer(done)
+        self.tally.call(|| write_file(
+            &self.rt,
+            path_of(self.alloc, &self.folder, file)?.as_str(),
+            at,
+            bytes,
+        ))
     }
 
     fn sync(&mut self, file: u64) -> Result<(), DiskFailed>
         ensures after { self.new ≡ called_folder (is_ok result) self.old }
-
-        // As each disk.
-        ensures rises { OnErr result (Increased self.old.faults self.new.faults) }
-        ensures never_falls { self.old.faults ≤ self.new.faults }
-        ensures counted { self.new.power ≡ after_call self.old.power }
-        ensures powered { OnOk result (IsTrue (has_power self.new.power)) }
+        ensures counted { IsCounted result self.old.power self.new.power self.old.faults self.new.faults }
     {
-        if !self.tally.begin() {
-            return Err(self.tally.fault());
-        }
-        let path = path_of(self.alloc, self.folder.as_str(), file);
-        let done = sync_file(&self.rt, path, self.folder.as_str());
-        self.tally.answer(done)
+        self.tally.call(|| {
+            sync_path(&self.rt, path_of(self.alloc, &self.folder, file)?.as_str()).or_else(
+                unless_missing,
+            )?;
+            sync_path(&self.rt, self.folder.as_str())
+        })
     }
 
     fn remove(&mut self, file: u64) -> Result<(), DiskFailed>
         ensures after { self.new ≡ called_folder (is_ok result) self.old }
-
-        // As each disk.
-        ensures rises { OnErr result (Increased self.old.faults self.new.faults) }
-        ensures never_falls { self.old.faults ≤ self.new.faults }
-        ensures counted { self.new.power ≡ after_call self.old.power }
-        ensures powered { OnOk result (IsTrue (has_power self.new.power)) }
+        ensures counted { IsCounted result self.old.power self.new.power self.old.faults self.new.faults }
     {
-        if !self.tally.begin() {
-            return Err(self.tally.fault());
-        }
-        let path = path_of(self.alloc, self.folder.as_str(), file);
-        let done = remove_file(&self.rt, path);
-        self.tally.answer(done)
+        self.tally.call(|| fs::remove_file(
+            &self.rt,
+            path_of(self.alloc, &self.folder, file)?.as_str(),
+        ).or_else(unless_missing))
     }
 
     fn sync_names(&mut self) -> Result<(), DiskFailed>
         ensures after { self.new ≡ called_folder (is_ok result) self.old }
-
-        // As each disk.
-        ensures rises { OnErr result (Increased self.old.faults self.new.faults) }
-        ensures never_falls { self.old.faults ≤ self.new.faults }
-        ensures counted { self.new.power ≡ after_call self.old.power }
-        ensures powered { OnOk result (IsTrue (has_power self.new.power)) }
+        ensures counted { IsCounted result self.old.power self.new.power self.old.faults self.new.faults }
     {
-        if !self.tally.begin() {
-            return Err(self.tally.fault());
-        }
-        let done = sync_folder(&self.rt, self.folder.as_str());
-        self.tally.answer(done)
+        self.tally
+            .call(|| sync_path(&self.rt, self.folder.as_str()))
     }
 
     fn plan_cut(&mut self, call: u64, choice: u64)

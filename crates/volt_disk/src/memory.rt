@@ -1,18 +1,20 @@
 //! A disk in memory. It tells its bytes, fails as it is told to, and loses power as planned.
 ghost use Rattle.std.specs.Prelude.{◌≡◌, ◌≢◌, ◌+◌, ◌≤◌, ℕ, true, false, IsTrue, length, slice_range, IfOk, OnOk, OnErr};
-ghost use Rattle.volt_base.specs.Faults.{Increased};
-ghost use Rattle.volt_disk.specs.File.{seen};
-ghost use Rattle.volt_disk.specs.Effects.{growth_asked, grown, write_asked, after_write, synced, removed, removal_asked, names_synced, FailsAs, CyclesTo};
-ghost use Rattle.volt_disk.specs.Power.{has_power, after_call, planned, cycled};
-ghost use Rattle.volt_disk.specs.Stored.{stored_at, all_lost};
-ghost use Rattle.volt_disk.specs.Memory.{Memory, empty_memory, told_of, turn_by, turn_of, called, faulted, starving, FailsBy, by_turn, ChangesTo, choice_of, last_synced};
+ghost use Rattle.volt_disk.specs.File.{IsImage, seen};
+ghost use Rattle.volt_disk.specs.Effects.{CanChange, growth_asked, grown, write_asked, after_write, synced, removed, removal_asked, names_synced, asked, made, FailsAs, CyclesTo};
+ghost use Rattle.volt_disk.specs.Power.{has_power, planned, cycled, IsCounted};
+ghost use Rattle.volt_disk.specs.Stored.{with_synced, all_names_synced};
+ghost use Rattle.volt_disk.specs.Memory.{Memory, empty_memory, told_of, turn_by, turn_of, answer_in, called, failed, counted, settled_in, IsChange, power_cycled};
+ghost use Rattle.volt_base.specs.Faults.{Increased, one_more};
 ghost use Rattle.volt_disk.specs.declared.listing.Listing.TheVariants.{Kept};
 
+use crate::change::Change;
 use crate::disk::{Disk, DiskFailed};
 use crate::files;
 use crate::power::{Fate, Power};
 use crate::stored::MemFile;
 use std::alloc::{AllocError, Global};
+use std::collections::BTreeMap;
 use std::marker::Model;
 
 /// What a call of a disk in memory meets.
@@ -54,7 +56,7 @@ impl Turn {
 #[derive(Debug, Drop)]
 pub struct MemDisk {
     alloc: Global,
-    files: Vec<MemFile>,
+    files: BTreeMap<u64, MemFile>,
     fail: Vec<u64>,
     call: u64,
     faults: u64,
@@ -68,7 +70,7 @@ impl Model for MemDisk {
     ghost Value = { Memory };
 
     ghost view = { λ d. record {
-      files = d.files.items;
+      files = d.files.entries;
       fail = d.fail.items;
       call = d.call;
       faults = d.faults;
@@ -84,7 +86,7 @@ impl MemDisk {
     {
         MemDisk {
             alloc,
-            files: Vec::new(alloc),
+            files: BTreeMap::new(alloc),
             fail,
             call: 1,
             faults: 0,
@@ -112,24 +114,45 @@ impl MemDisk {
 
     // Counts a fault.
     fn fault(&mut self) -> DiskFailed
-        ensures after { self.new ≡ faulted self.old }
-        ensures rises { Increased self.old.faults self.new.faults }
+        ensures after { self.new ≡ record self.old { faults = one_more self.old.faults } }
+        ensures increases { Increased self.old.faults self.new.faults }
         ensures never_falls { self.old.faults ≤ self.new.faults }
     {
         self.faults = self.faults.saturating_add(1);
         DiskFailed
     }
 
-    // Counts a call that found no memory.
-    fn starve(&mut self) -> DiskFailed
-        ensures after { self.new ≡ starving self.old }
-        ensures rises { Increased self.old.faults self.new.faults }
-        ensures never_falls { self.old.faults ≤ self.new.faults }
-        ensures hungrier { Increased self.old.starved self.new.starved }
+    // A counted call that changes no file but where it works.
+    fn count(&mut self) -> Result<(), DiskFailed>
+        ensures answer { result ≡ answer_in (turn_of self.old) tt }
+        ensures after { self.new ≡ counted self.old }
+        ensures counted { IsCounted result self.old.power self.new.power self.old.faults self.new.faults }
     {
-        self.faults = self.faults.saturating_add(1);
-        self.starved = self.starved.saturating_add(1);
-        DiskFailed
+        match self.begin() {
+            Turn::Done => Ok(()),
+            _ => Err(self.fault()),
+        }
+    }
+
+    // A counted call that changes a file.
+    fn change(&mut self, file: u64, change: &Change) -> Result<(), DiskFailed>
+        requires { CanChange change.now (told_of self.old file).bytes }
+        ensures exact { IsChange change.now file result self.old self.new }
+        ensures counted { IsCounted result self.old.power self.new.power self.old.faults self.new.faults }
+    {
+        let turn = self.begin();
+        if turn == Turn::Off {
+            return Err(self.fault());
+        }
+        let is_made = turn != Turn::Numbered;
+        match files::change(self.alloc, &mut self.files, file, change, is_made) {
+            Ok(()) if turn == Turn::Done => Ok(()),
+            Ok(()) => Err(self.fault()),
+            Err(AllocError) => {
+                self.starved = self.starved.saturating_add(1);
+                Err(self.fault())
+            }
+        }
     }
 }
 
@@ -143,206 +166,74 @@ impl Disk for MemDisk {
     ghost count = { λ d. d.faults };
 
     fn size(&mut self, file: u64) -> Result<u64, DiskFailed>
-        ensures fails { FailsBy (turn_of self.old) result self.old.starved self.new.starved }
-        ensures files { self.new.files ≡ self.old.files }
-
-        // As each disk.
-        ensures len { IfOk result (λ n. n ≡ length (seen (told_of self.old file))) }
-        ensures rises { OnErr result (Increased self.old.faults self.new.faults) }
-        ensures never_falls { self.old.faults ≤ self.new.faults }
-        ensures counted { self.new.power ≡ after_call self.old.power }
-        ensures powered { OnOk result (IsTrue (has_power self.new.power)) }
+        ensures answer { result ≡ answer_in (turn_of self.old) (length (seen (told_of self.old file))) }
+        ensures after { self.new ≡ counted self.old }
+        ensures counted { IsCounted result self.old.power self.new.power self.old.faults self.new.faults }
     {
-        match self.begin() {
-            Turn::Done => Ok(files::seen_of(&self.files, file).len() as u64),
-            Turn::Lost => Err(self.fault()),
-            Turn::Numbered => Err(self.fault()),
-            Turn::Off => Err(self.fault()),
-        }
+        self.count()?;
+        Ok(files::seen_of(&self.files, file).len() as u64)
     }
 
     fn read_at(&mut self, file: u64, at: u64, into: &mut [u8]) -> Result<(), DiskFailed>
         requires { at + length into.old ≤ length (seen (told_of self.old file)) }
 
-        ensures fails { FailsBy (turn_of self.old) result self.old.starved self.new.starved }
-        ensures files { self.new.files ≡ self.old.files }
-
-        // As each disk.
+        ensures answer { result ≡ answer_in (turn_of self.old) tt }
         ensures bytes { OnOk result (into.new ≡ slice_range (seen (told_of self.old file)) at (at + length into.old)) }
-        ensures rises { OnErr result (Increased self.old.faults self.new.faults) }
-        ensures never_falls { self.old.faults ≤ self.new.faults }
-        ensures counted { self.new.power ≡ after_call self.old.power }
-        ensures powered { OnOk result (IsTrue (has_power self.new.power)) }
+        ensures after { self.new ≡ counted self.old }
+        ensures counted { IsCounted result self.old.power self.new.power self.old.faults self.new.faults }
     {
-        match self.begin() {
-            Turn::Done => {
-                let start = at as usize;
-                let seen = files::seen_of(&self.files, file);
-                into.copy_from_slice(&seen[start..start + into.len()]);
-                Ok(())
-            }
-            Turn::Lost => Err(self.fault()),
-            Turn::Numbered => Err(self.fault()),
-            Turn::Off => Err(self.fault()),
-        }
+        self.count()?;
+        let start = at as usize;
+        let seen = files::seen_of(&self.files, file);
+        into.copy_from_slice(&seen[start..start + into.len()]);
+        Ok(())
     }
 
     fn grow(&mut self, file: u64, to: u64) -> Result<(), DiskFailed>
         requires listed { (told_of self.old file).listing ≡ Kept }
         requires no_shorter { length (seen (told_of self.old file)) ≤ to }
 
-        ensures fails { FailsBy (turn_of self.old) result self.old.starved self.new.starved }
-        ensures changes { ChangesTo result self.old.starved self.new.starved (told_of self.old file) (told_of self.new file)
-            (by_turn (turn_of self.old) (told_of self.old file) (growth_asked to (told_of self.old file)) (grown to (told_of self.old file))) }
-        ensures synced_bytes { (n : ℕ) → last_synced self.new n ≡ last_synced self.old n }
-
-        // As each disk.
-        ensures grown { OnOk result (told_of self.new file ≡ grown to (told_of self.old file)) }
-        ensures failed { OnErr result (FailsAs (told_of self.old file)
-            (growth_asked to (told_of self.old file)) (grown to (told_of self.old file)) (told_of self.new file)) }
-        ensures others { (n : ℕ) → n ≢ file → told_of self.new n ≡ told_of self.old n }
-        ensures dark { has_power self.old.power ≡ false → (n : ℕ) → told_of self.new n ≡ told_of self.old n }
-        ensures rises { OnErr result (Increased self.old.faults self.new.faults) }
-        ensures never_falls { self.old.faults ≤ self.new.faults }
-        ensures counted { self.new.power ≡ after_call self.old.power }
-        ensures powered { OnOk result (IsTrue (has_power self.new.power)) }
+        ensures exact { IsChange (Change.Grow to) file result self.old self.new }
+        ensures counted { IsCounted result self.old.power self.new.power self.old.faults self.new.faults }
     {
-        match self.begin() {
-            Turn::Done => match files::grow(self.alloc, &mut self.files, file, to) {
-                Ok(()) => Ok(()),
-                Err(AllocError) => Err(self.starve()),
-            },
-            Turn::Lost => match files::grow(self.alloc, &mut self.files, file, to) {
-                Ok(()) => Err(self.fault()),
-                Err(AllocError) => Err(self.starve()),
-            },
-            Turn::Numbered => match files::ask_growth(self.alloc, &mut self.files, file, to) {
-                Ok(()) => Err(self.fault()),
-                Err(AllocError) => Err(self.starve()),
-            },
-            Turn::Off => Err(self.fault()),
-        }
+        self.change(file, &Change::Grow { to })
     }
 
     fn write_at(&mut self, file: u64, at: u64, bytes: &[u8]) -> Result<(), DiskFailed>
         requires { at + length bytes.now ≤ length (seen (told_of self.old file)) }
 
-        ensures fails { FailsBy (turn_of self.old) result self.old.starved self.new.starved }
-        ensures changes { ChangesTo result self.old.starved self.new.starved (told_of self.old file) (told_of self.new file)
-            (by_turn (turn_of self.old) (told_of self.old file) (write_asked at (length bytes.now) (told_of self.old file)) (after_write at bytes.now (told_of self.old file))) }
-        ensures synced_bytes { (n : ℕ) → last_synced self.new n ≡ last_synced self.old n }
-
-        // As each disk.
-        ensures written { OnOk result (told_of self.new file ≡ after_write at bytes.now (told_of self.old file)) }
-        ensures failed { OnErr result (FailsAs (told_of self.old file)
-            (write_asked at (length bytes.now) (told_of self.old file)) (after_write at bytes.now (told_of self.old file)) (told_of self.new file)) }
-        ensures others { (n : ℕ) → n ≢ file → told_of self.new n ≡ told_of self.old n }
-        ensures dark { has_power self.old.power ≡ false → (n : ℕ) → told_of self.new n ≡ told_of self.old n }
-        ensures rises { OnErr result (Increased self.old.faults self.new.faults) }
-        ensures never_falls { self.old.faults ≤ self.new.faults }
-        ensures counted { self.new.power ≡ after_call self.old.power }
-        ensures powered { OnOk result (IsTrue (has_power self.new.power)) }
+        ensures exact { IsChange (Change.Write at bytes.entry) file result self.old self.new }
+        ensures counted { IsCounted result self.old.power self.new.power self.old.faults self.new.faults }
     {
-        match self.begin() {
-            Turn::Done => match files::write_at(self.alloc, &mut self.files, file, at, bytes) {
-                Ok(()) => Ok(()),
-                Err(AllocError) => Err(self.starve()),
-            },
-            Turn::Lost => match files::write_at(self.alloc, &mut self.files, file, at, bytes) {
-                Ok(()) => Err(self.fault()),
-                Err(AllocError) => Err(self.starve()),
-            },
-            Turn::Numbered => match files::ask_write(
-                self.alloc,
-                &mut self.files,
-                file,
-                at,
-                bytes.len(),
-            ) {
-                Ok(()) => Err(self.fault()),
-                Err(AllocError) => Err(self.starve()),
-            },
-            Turn::Off => Err(self.fault()),
-        }
+        self.change(file, &Change::Write { at, bytes })
     }
 
     fn sync(&mut self, file: u64) -> Result<(), DiskFailed>
-        ensures fails { FailsBy (turn_of self.old) result self.old.starved self.new.starved }
-
-        // As each disk.
-        ensures synced { OnOk result (told_of self.new file ≡ synced (told_of self.old file)) }
-        ensures failed { OnErr result (told_of self.new file ≡ told_of self.old file) }
-        ensures others { (n : ℕ) → n ≢ file → told_of self.new n ≡ told_of self.old n }
-        ensures rises { OnErr result (Increased self.old.faults self.new.faults) }
-        ensures never_falls { self.old.faults ≤ self.new.faults }
-        ensures counted { self.new.power ≡ after_call self.old.power }
-        ensures powered { OnOk result (IsTrue (has_power self.new.power)) }
+        ensures answer { result ≡ answer_in (turn_of self.old) tt }
+        ensures after { self.new ≡ settled_in (turn_of self.old) (with_synced file self.old.files) self.old }
+        ensures image { OnOk result (IsImage (told_of self.old file) (seen (told_of self.old file))) }
+        ensures counted { IsCounted result self.old.power self.new.power self.old.faults self.new.faults }
     {
-        match self.begin() {
-            Turn::Done => {
-                files::sync(&mut self.files, file);
-                Ok(())
-            }
-            Turn::Lost => Err(self.fault()),
-            Turn::Numbered => Err(self.fault()),
-            Turn::Off => Err(self.fault()),
-        }
+        self.count()?;
+        files::sync(&mut self.files, file);
+        Ok(())
     }
 
     fn remove(&mut self, file: u64) -> Result<(), DiskFailed>
-        ensures fails { FailsBy (turn_of self.old) result self.old.starved self.new.starved }
-        ensures changes { ChangesTo result self.old.starved self.new.starved (told_of self.old file) (told_of self.new file)
-            (by_turn (turn_of self.old) (told_of self.old file) (removal_asked (told_of self.old file)) (removed (told_of self.old file))) }
-        ensures synced_bytes { (n : ℕ) → last_synced self.new n ≡ last_synced self.old n }
-
-        // As each disk.
-        ensures removed { OnOk result (told_of self.new file ≡ removed (told_of self.old file)) }
-        ensures failed { OnErr result (FailsAs (told_of self.old file)
-            (removal_asked (told_of self.old file)) (removed (told_of self.old file)) (told_of self.new file)) }
-        ensures others { (n : ℕ) → n ≢ file → told_of self.new n ≡ told_of self.old n }
-        ensures dark { has_power self.old.power ≡ false → (n : ℕ) → told_of self.new n ≡ told_of self.old n }
-        ensures rises { OnErr result (Increased self.old.faults self.new.faults) }
-        ensures never_falls { self.old.faults ≤ self.new.faults }
-        ensures counted { self.new.power ≡ after_call self.old.power }
-        ensures powered { OnOk result (IsTrue (has_power self.new.power)) }
+        ensures exact { IsChange Change.Remove file result self.old self.new }
+        ensures counted { IsCounted result self.old.power self.new.power self.old.faults self.new.faults }
     {
-        match self.begin() {
-            Turn::Done => match files::remove(self.alloc, &mut self.files, file) {
-                Ok(()) => Ok(()),
-                Err(AllocError) => Err(self.starve()),
-            },
-            Turn::Lost => match files::remove(self.alloc, &mut self.files, file) {
-                Ok(()) => Err(self.fault()),
-                Err(AllocError) => Err(self.starve()),
-            },
-            Turn::Numbered => match files::ask_removal(self.alloc, &mut self.files, file) {
-                Ok(()) => Err(self.fault()),
-                Err(AllocError) => Err(self.starve()),
-            },
-            Turn::Off => Err(self.fault()),
-        }
+        self.change(file, &Change::Remove)
     }
 
     fn sync_names(&mut self) -> Result<(), DiskFailed>
-        ensures fails { FailsBy (turn_of self.old) result self.old.starved self.new.starved }
-
-        // As each disk.
-        ensures synced { OnOk result ((n : ℕ) → told_of self.new n ≡ names_synced (told_of self.old n)) }
-        ensures failed { OnErr result ((n : ℕ) → told_of self.new n ≡ told_of self.old n) }
-        ensures rises { OnErr result (Increased self.old.faults self.new.faults) }
-        ensures never_falls { self.old.faults ≤ self.new.faults }
-        ensures counted { self.new.power ≡ after_call self.old.power }
-        ensures powered { OnOk result (IsTrue (has_power self.new.power)) }
+        ensures answer { result ≡ answer_in (turn_of self.old) tt }
+        ensures after { self.new ≡ settled_in (turn_of self.old) (all_names_synced self.old.files) self.old }
+        ensures counted { IsCounted result self.old.power self.new.power self.old.faults self.new.faults }
     {
-        match self.begin() {
-            Turn::Done => {
-                files::sync_names(&mut self.files);
-                Ok(())
-            }
-            Turn::Lost => Err(self.fault()),
-            Turn::Numbered => Err(self.fault()),
-            Turn::Off => Err(self.fault()),
-        }
+        self.count()?;
+        files::sync_names(&mut self.files);
+        Ok(())
     }
 
     fn plan_cut(&mut self, call: u64, choice: u64)
@@ -353,10 +244,8 @@ impl Disk for MemDisk {
     }
 
     fn power_cycle(&mut self)
-        ensures files { self.new.files ≡ all_lost (choice_of self.old.power.lost) (choice_of self.old.power.lost) self.old.files }
+        ensures after { self.new ≡ power_cycled self.old }
         ensures image { (n : ℕ) → CyclesTo (told_of self.old n) (told_of self.new n) }
-        ensures cycled { self.new.power ≡ cycled self.old.power }
-        ensures no_fault { self.new.faults ≡ self.old.faults }
     {
         let choice = self.power.lost.unwrap_or(1);
         files::lose(&mut self.files, choice);

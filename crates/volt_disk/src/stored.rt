@@ -1,10 +1,11 @@
 //! A file of the disk in memory, with what stood in it before each write since its last sync.
-ghost use Rattle.std.specs.Prelude.{◌≡◌, ◌+◌, ◌-◌, ◌++◌, ◌∷◌, [], ◌≤◌, length, slice_range, slice_set, vec_len, ◌^◌, ◌%◌, OnOk, OnErr};
-ghost use Rattle.volt_disk.specs.File.{IsImage, bytes_if_listed};
-ghost use Rattle.volt_disk.specs.Effects.{lengthened, overwritten, CyclesTo};
-ghost use Rattle.volt_disk.specs.Stored.{Stored, AreWithin, blank, bytes_before, with_only, stored_growth_asked, stored_grown, stored_write_asked, stored_written, stored_synced, stored_removed, stored_removal_asked, stored_names_synced, undone, cut_to, scattered, scattered_all, drawn, lost, file_of};
-ghost use Rattle.volt_disk.specs.declared.listing.Listing.TheVariants.{Kept, Leaving, Removed};
+ghost use Rattle.std.specs.Prelude.{◌≡◌, ◌+◌, ◌-◌, ◌≤◌, [], length, slice_set, ◌^◌, ◌%◌, IsTrue, true, OnOk, OnErr};
+ghost use Rattle.volt_disk.specs.File.{File, IsImage, seen};
+ghost use Rattle.volt_disk.specs.Effects.{CanChange, lengthened, overwritten};
+ghost use Rattle.volt_disk.specs.Stored.{Stored, not_stored, with_only, changed, stored_synced, stored_names_synced, cut_to, scattered, scattered_all, drawn, lost};
+ghost use Rattle.volt_disk.specs.Undo.{AreWithin, undone, ranges};
 
+use crate::change::Change;
 use crate::draws::{draw, next};
 use crate::listing::Listing;
 use std::alloc::{AllocError, Global};
@@ -12,7 +13,7 @@ use std::marker::Model;
 
 /// What stood in a range before it was written.
 #[derive(Debug, Drop)]
-pub struct Replaced {
+struct Replaced {
     at: u64,
     bytes: Vec<u8>,
 }
@@ -28,9 +29,9 @@ impl Model for Replaced {
 impl Replaced {
     // Puts the bytes back.
     fn put_back(&self, bytes: &mut Vec<u8>)
-        requires { self.now.0 + length self.now.1 ≤ vec_len bytes.old }
+        requires { self.now.0 + length self.now.1 ≤ length bytes.old.items }
         ensures after { bytes.new.items ≡ overwritten self.now.0 self.now.1 bytes.old.items }
-        ensures len { vec_len bytes.new ≡ vec_len bytes.old }
+        ensures len { length bytes.new.items ≡ length bytes.old.items }
     {
         put(bytes, self.at as usize, &self.bytes);
     }
@@ -48,7 +49,6 @@ impl Replaced {
 /// A file.
 #[derive(Debug, Drop)]
 pub struct MemFile {
-    number: u64,
     bytes: Vec<u8>,
     least: u64,
     most: u64,
@@ -57,31 +57,25 @@ pub struct MemFile {
 }
 
 impl Model for MemFile {
-    ghost use Rattle.std.specs.Prelude.{◌≤◌, vec_len};
-    ghost use Rattle.volt_disk.specs.Stored.{Stored, AreWithin};
+    ghost use Rattle.std.specs.Prelude.{◌≤◌, length};
+    ghost use Rattle.volt_disk.specs.Stored.{Stored};
 
     ghost Value = { Stored };
 
-    ghost view = { λ f. record {
-      number = f.number;
-      bytes = f.bytes.items;
-      least = f.least;
-      most = f.most;
-      replaced = f.replaced.items;
-      listing = f.listing;
-    } };
+    ghost use Rattle.volt_disk.specs.Undo.{AreWithin, stored_of};
 
-    ghost invariant = { λ f. (f.least ≤ vec_len f.bytes) × (vec_len f.bytes ≤ f.most)
-        × AreWithin (vec_len f.bytes) f.replaced.items };
+    ghost view = { λ f. stored_of f.bytes.items f.least f.most f.replaced.items f.listing };
+
+    ghost invariant = { λ f. (f.least ≤ length f.bytes.items) × (length f.bytes.items ≤ f.most)
+        × AreWithin (length f.bytes.items) f.replaced.items };
 }
 
 impl MemFile {
     /// A file that isn't there.
-    pub fn new(alloc: Global, number: u64) -> MemFile
-        ensures { result ≡ blank number }
+    pub fn new(alloc: Global) -> MemFile
+        ensures { result ≡ not_stored }
     {
         MemFile {
-            number,
             bytes: Vec::new(alloc),
             least: 0,
             most: 0,
@@ -90,16 +84,9 @@ impl MemFile {
         }
     }
 
-    /// Its number.
-    pub fn number(&self) -> u64
-        ensures { result ≡ self.now.number }
-    {
-        self.number
-    }
-
     /// What a read gives.
     pub fn seen(&self) -> &[u8]
-        ensures { result.now ≡ bytes_if_listed self.now.listing self.now.bytes }
+        ensures { result.now ≡ seen self.now.file }
     {
         if self.listing == Listing::Removed {
             &[]
@@ -108,75 +95,81 @@ impl MemFile {
         }
     }
 
-    /// Counts a growth as asked for.
-    pub fn ask_growth(&mut self, to: u64)
-        ensures { self.new ≡ stored_growth_asked to self.old }
+    /// Makes a change, or counts it as asked for.
+    pub fn change(
+        &mut self,
+        alloc: Global,
+        change: &Change,
+        is_made: bool,
+    ) -> Result<(), AllocError>
+        requires { CanChange change.now self.old.file.bytes }
+        ensures ok { OnOk result (self.new ≡ changed is_made change.now self.old) }
+        ensures err { OnErr result (self.new ≡ self.old) }
     {
-        self.most = self.most.max(to);
+        match change {
+            Change::Grow { to } => self.grow(*to, is_made),
+            Change::Write { at, bytes } => self.write(alloc, *at, bytes, is_made),
+            Change::Remove => {
+                self.remove(is_made);
+                Ok(())
+            }
+        }
     }
 
-    /// Adds zeros up to a length.
-    pub fn grow(&mut self, to: u64) -> Result<(), AllocError>
-        requires { length self.old.bytes ≤ to }
-        ensures ok { OnOk result (self.new ≡ stored_grown to self.old) }
+    // Adds zeros up to a length.
+    fn grow(&mut self, to: u64, is_made: bool) -> Result<(), AllocError>
+        requires { length self.old.file.bytes ≤ to }
+        ensures ok { OnOk result (self.new ≡ changed is_made (Change.Grow to) self.old) }
         ensures err { OnErr result (self.new ≡ self.old) }
-        ensures number { self.new.number ≡ self.old.number }
-        ensures synced { bytes_before (stored_grown to self.old) ≡ bytes_before self.old }
     {
-        lengthen(&mut self.bytes, to as usize)?;
+        if is_made {
+            lengthen(&mut self.bytes, to as usize)?;
+        }
         self.most = self.most.max(to);
         Ok(())
     }
 
-    /// Counts a range as written.
-    pub fn ask_write(&mut self, alloc: Global, at: u64, len: usize) -> Result<(), AllocError>
-        requires { at + len ≤ length self.old.bytes }
-        ensures ok { OnOk result (self.new ≡ stored_write_asked at len self.old) }
+    // Puts bytes in their place.
+    fn write(
+        &mut self,
+        alloc: Global,
+        at: u64,
+        bytes: &[u8],
+        is_made: bool,
+    ) -> Result<(), AllocError>
+        requires { at + length bytes.now ≤ length self.old.file.bytes }
+        ensures ok { OnOk result (self.new ≡ changed is_made (Change.Write at bytes.entry) self.old) }
         ensures err { OnErr result (self.new ≡ self.old) }
-        ensures number { self.new.number ≡ self.old.number }
     {
         let start = at as usize;
-        let bytes = Vec::from_slice(alloc, &self.bytes[start..start + len])?;
-        self.replaced.push(Replaced { at, bytes })?;
+        let before = Vec::from_slice(alloc, &self.bytes[start..start + bytes.len()])?;
+        self.replaced.push(Replaced { at, bytes: before })?;
+        if is_made {
+            put(&mut self.bytes, start, bytes);
+        }
         Ok(())
     }
 
-    /// Writes bytes.
-    pub fn write_at(&mut self, alloc: Global, at: u64, bytes: &[u8]) -> Result<(), AllocError>
-        requires { at + length bytes.now ≤ length self.old.bytes }
-        ensures ok { OnOk result (self.new ≡ stored_written at bytes.now self.old) }
-        ensures err { OnErr result (self.new ≡ self.old) }
-        ensures number { self.new.number ≡ self.old.number }
+    // Takes it out of sight.
+    fn remove(&mut self, is_made: bool)
+        ensures { self.new ≡ changed is_made Change.Remove self.old }
     {
-        self.ask_write(alloc, at, bytes.len())?;
-        put(&mut self.bytes, at as usize, bytes);
-        Ok(())
+        if is_made {
+            self.listing = Listing::Removed;
+        } else if self.listing == Listing::Kept {
+            self.listing = Listing::Leaving;
+        }
     }
 
     /// Settles what a read gives, unless it was removed.
     pub fn sync(&mut self)
-        ensures { self.new ≡ stored_synced self.old }
+        ensures after { self.new ≡ stored_synced self.old }
+        ensures image { IsImage self.old.file (seen self.old.file) }
     {
         if self.listing != Listing::Removed {
             self.least = self.bytes.len() as u64;
             self.most = self.bytes.len() as u64;
             self.replaced.clear();
-        }
-    }
-
-    /// Takes it out of sight.
-    pub fn remove(&mut self)
-        ensures { self.new ≡ stored_removed self.old }
-    {
-        self.listing = Listing::Removed;
-    }
-
-    /// Counts its removal as asked for.
-    pub fn ask_removal(&mut self)
-        ensures { self.new ≡ stored_removal_asked self.old }
-    {
-        if self.listing == Listing::Kept {
-            self.listing = Listing::Leaving;
         }
     }
 
@@ -193,7 +186,7 @@ impl MemFile {
 
     // A crash leaves these bytes and no others.
     fn settle(&mut self)
-        ensures { self.new ≡ with_only self.old.bytes self.old }
+        ensures { self.new ≡ with_only self.old.file.bytes }
     {
         self.replaced.clear();
         self.least = self.bytes.len() as u64;
@@ -203,20 +196,19 @@ impl MemFile {
 
     // It isn't there.
     fn empty(&mut self)
-        ensures { self.new ≡ with_only [] self.old }
+        ensures { self.new ≡ with_only [] }
     {
         self.bytes.clear();
         self.replaced.clear();
         self.least = 0;
-        self.most = 0;
-        self.listing = Listing::Kept;
+        self.settle();
     }
 
     /// After a loss of power with a choice, where draws stand at `x`. Gives the state after them.
     pub fn lose(&mut self, choice: u64, x: u64) -> u64
-        ensures after { self.new ≡ with_only (lost choice x self.old).0 self.old }
+        ensures after { self.new ≡ with_only (lost choice x self.old).0 }
         ensures state { result ≡ (lost choice x self.old).1 }
-        ensures cycles { CyclesTo (file_of self.old) (file_of self.new) }
+        ensures image { IsImage self.old.file (lost choice x self.old).0 }
     {
         if choice == 0 {
             self.go_back();
@@ -231,8 +223,8 @@ impl MemFile {
 
     // It has the bytes of its last sync.
     fn go_back(&mut self)
-        ensures after { self.new ≡ with_only (bytes_before self.old) self.old }
-        ensures image { IsImage (file_of self.old) (bytes_before self.old) }
+        ensures after { self.new ≡ with_only self.old.last }
+        ensures image { IsImage self.old.file self.old.last }
     {
         undo(&mut self.bytes, &mut self.replaced);
         self.bytes.truncate(self.least as usize);
@@ -241,8 +233,8 @@ impl MemFile {
 
     // It has what a read gave.
     fn stay(&mut self)
-        ensures after { self.new ≡ with_only (bytes_if_listed self.old.listing self.old.bytes) self.old }
-        ensures image { IsImage (file_of self.old) (bytes_if_listed self.old.listing self.old.bytes) }
+        ensures after { self.new ≡ with_only (seen self.old.file) }
+        ensures image { IsImage self.old.file (seen self.old.file) }
     {
         if self.listing == Listing::Removed {
             self.empty();
@@ -253,34 +245,32 @@ impl MemFile {
 
     // It has an image by draws from `x`. Gives the state after them.
     fn draw(&mut self, x: u64) -> u64
-        ensures after { self.new ≡ with_only (drawn x self.old).0 self.old }
-        ensures state { result ≡ (drawn x self.old).1 }
-        ensures image { IsImage (file_of self.old) (drawn x self.old).0 }
+        ensures after { self.new ≡ with_only (drawn x self.old.file).0 }
+        ensures state { result ≡ (drawn x self.old.file).1 }
+        ensures image { IsImage self.old.file (drawn x self.old.file).0 }
     {
         let x = cut_by_draw(&mut self.bytes, self.least as usize, x);
         let x = scatter_all(&mut self.bytes, &self.replaced, x);
         self.replaced.clear();
-        self.least = self.bytes.len() as u64;
-        self.most = self.bytes.len() as u64;
-        self.listing = Listing::Kept;
+        self.settle();
         x
     }
 }
 
 // Puts a part in its place.
 fn put(bytes: &mut Vec<u8>, at: usize, part: &[u8])
-    requires { at + length part.now ≤ vec_len bytes.old }
+    requires { at + length part.now ≤ length bytes.old.items }
     ensures after { bytes.new.items ≡ overwritten at part.now bytes.old.items }
-    ensures len { vec_len bytes.new ≡ vec_len bytes.old }
+    ensures len { length bytes.new.items ≡ length bytes.old.items }
 {
     bytes[at..at + part.len()].copy_from_slice(part);
 }
 
 // Takes the writes back, the last one first.
 fn undo(bytes: &mut Vec<u8>, replaced: &mut Vec<Replaced>)
-    requires { AreWithin (vec_len bytes.old) replaced.old.items }
+    requires { AreWithin (length bytes.old.items) replaced.old.items }
     ensures bytes { bytes.new.items ≡ undone replaced.old.items bytes.old.items }
-    ensures len { vec_len bytes.new ≡ vec_len bytes.old }
+    ensures len { length bytes.new.items ≡ length bytes.old.items }
     ensures none { replaced.new.items ≡ [] }
 {
     while let Some(last) = replaced.pop() {
@@ -290,7 +280,7 @@ fn undo(bytes: &mut Vec<u8>, replaced: &mut Vec<Replaced>)
 
 // Where the length isn't settled, one draw gives it. Gives the state after it.
 fn cut_by_draw(bytes: &mut Vec<u8>, least: usize, x: u64) -> u64
-    requires { least ≤ vec_len bytes.old }
+    requires { least ≤ length bytes.old.items }
     ensures bytes { bytes.new.items ≡ (cut_to least x bytes.old.items).0 }
     ensures state { result ≡ (cut_to least x bytes.old.items).1 }
 {
@@ -306,8 +296,8 @@ fn cut_by_draw(bytes: &mut Vec<u8>, least: usize, x: u64) -> u64
 // Gives each byte of each range the low byte of a draw, and gives the state after them.
 fn scatter_all(bytes: &mut Vec<u8>, replaced: &Vec<Replaced>, x: u64) -> u64
     requires { AreWithin (2 ^ 64 - 1) replaced.now.items }
-    ensures bytes { bytes.new.items ≡ (scattered_all replaced.now.items (bytes.old.items, x)).0 }
-    ensures state { result ≡ (scattered_all replaced.now.items (bytes.old.items, x)).1 }
+    ensures bytes { bytes.new.items ≡ (scattered_all (ranges replaced.now.items) (bytes.old.items, x)).0 }
+    ensures state { result ≡ (scattered_all (ranges replaced.now.items) (bytes.old.items, x)).1 }
 {
     let mut state = x;
     for range in replaced {
@@ -349,9 +339,9 @@ fn low_byte(n: u64) -> u8
 
 // Adds zeros up to a length.
 fn lengthen(bytes: &mut Vec<u8>, to: usize) -> Result<(), AllocError>
-    requires { vec_len bytes.old ≤ to }
+    requires { length bytes.old.items ≤ to }
     ensures ok { OnOk result (bytes.new.items ≡ lengthened to bytes.old.items) }
-    ensures len { OnOk result (vec_len bytes.new ≡ to) }
+    ensures len { OnOk result (length bytes.new.items ≡ to) }
     ensures err { OnErr result (bytes.new.items ≡ bytes.old.items) }
 {
     bytes.resize(to, 0)

@@ -1,23 +1,33 @@
 //! Tests of what no clause says: that calls succeed where there is memory, and real files.
+ghost use Rattle.std.specs.Prelude.{◌≡◌, ℕ, IsTrue};
+ghost use Rattle.volt_disk.specs.File.{no_file};
+
 use crate::disk::{Disk, DiskFailed};
 use crate::folder::FileDisk;
 use crate::memory::MemDisk;
 use std::fs;
 use std::test::Fail;
 
-// File 1 has six bytes that are synced, and then four more and a write that aren't. File 2 is
-// synced and then removed.
-fn unsettled(rt: &HostRuntime, fail: Vec<u64>) -> Result<MemDisk, Fail> {
-    let mut disk = MemDisk::new(rt.alloc(), fail);
-    disk.grow(1, 6)?;
-    disk.write_at(1, 0, &[1, 2, 3, 4, 5, 6])?;
-    disk.sync(1)?;
+// File 1 has six bytes that are synced, and then four more and a write that aren't. File 2, which is
+// made before it, has a write that isn't synced, and is then removed.
+fn unsettle<D: Disk>(disk: &mut D) -> Result<(), DiskFailed>
+    requires { IsTrue D.tells → (n : ℕ) → D.told disk.old n ≡ no_file }
+{
     disk.grow(2, 2)?;
     disk.write_at(2, 0, &[7, 7])?;
     disk.sync(2)?;
+    disk.write_at(2, 0, &[8])?;
+    disk.grow(1, 6)?;
+    disk.write_at(1, 0, &[1, 2, 3, 4, 5, 6])?;
+    disk.sync(1)?;
     disk.grow(1, 10)?;
     disk.write_at(1, 4, &[9, 9, 9, 9])?;
-    disk.remove(2)?;
+    disk.remove(2)
+}
+
+fn unsettled(rt: &HostRuntime, fail: Vec<u64>) -> Result<MemDisk, Fail> {
+    let mut disk = MemDisk::new(rt.alloc(), fail);
+    unsettle(&mut disk)?;
     Ok(disk)
 }
 
@@ -53,7 +63,7 @@ fn choice_of_a_loss_chooses_the_image(rt: HostRuntime) -> Result<(), Fail> {
         (
             7,
             [1, 2, 3, 4, 63, 49, 145, 233, 0].as_slice(),
-            [7, 7].as_slice(),
+            [3, 7].as_slice(),
         ),
     ];
     for (choice, one, two) in cases {

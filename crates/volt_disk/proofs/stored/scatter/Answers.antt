@@ -1,5 +1,5 @@
 use Rattle.std.proofs.Common.{sym, ap, ◌∙◌, rules, arith}
-use Rattle.volt_disk.proofs.StoredLemmas.{scattered-more, scattered-none}
+use Rattle.volt_disk.proofs.DrawLemmas.{scattered-more, scattered-none}
 use Rattle.volt_disk.proofs.stored.scatter.Goals as goal
 
 pub loop-i-preserved : goal.loop-i-preserved

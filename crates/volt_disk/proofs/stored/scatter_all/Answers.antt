@@ -1,4 +1,4 @@
-use Rattle.volt_disk.proofs.StoredLemmas.{AreWithin-at}
+use Rattle.volt_disk.proofs.UndoLemmas.{AreWithin-at}
 use Rattle.volt_disk.proofs.stored.scatter_all.Goals as goal
 
 pub scatter-state-requires : goal.scatter-state-requires

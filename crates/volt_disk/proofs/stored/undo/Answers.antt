@@ -1,5 +1,5 @@
 use Rattle.std.proofs.Common.{sym, ◌∙◌}
-use Rattle.volt_disk.proofs.StoredLemmas.{AreWithin-prefix, AreWithin-last, undone-push}
+use Rattle.volt_disk.proofs.UndoLemmas.{AreWithin-prefix, AreWithin-last, undone-push}
 use Rattle.volt_disk.proofs.stored.undo.Goals as goal
 
 pub put_back-requires : goal.put_back-requires
