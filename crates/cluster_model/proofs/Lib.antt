@@ -1,4 +1,3 @@
 pub mod Steps
 pub mod Starts
-pub mod Closing
 pub mod Runs

@@ -1,21 +1,17 @@
 //! Laws that show how the definitions hang together: they hold of every world and every event, over
 //! any database. Each is a function without a body; the clause is the law.
 
-ghost use Rattle.std.specs.Prelude.{◌≡◌, ℕ, ◌+◌, ◌==◌, nat_lt, take, true, false, List, ◌∷◌, [], ◌++◌};
+ghost use Rattle.std.specs.Prelude.{◌≡◌, ℕ, ◌+◌, true, false, List, ◌∷◌, [], ◌++◌};
 ghost use Rattle.volt_wire.specs.declared.actor.Actor.{Actor};
 ghost use Rattle.volt_wire.specs.declared.event.Event.{Event};
 ghost use Rattle.volt_wire.specs.declared.event.Event.TheVariants as event;
-ghost use Rattle.volt_wire.specs.declared.actor.Actor.TheVariants.{Agent};
-ghost use Rattle.volt_wire.specs.declared.message.Msg.TheVariants as msg;
 ghost use Rattle.volt_wire.specs.declared.item.TimedItem.{TimedItem};
 ghost use Rattle.cluster_model.specs.Engine.{Database};
-ghost use Rattle.cluster_model.specs.Words.{is_host};
-ghost use Rattle.cluster_model.specs.Letters.{open_letter};
 ghost use Rattle.cluster_model.specs.World.{World, Input, IsInput, first_world, stamp_of};
 ghost use Rattle.cluster_model.specs.Environment.{Environment};
-ghost use Rattle.cluster_model.specs.Events.{allows, can, is_quiet_item, may_do, step};
+ghost use Rattle.cluster_model.specs.Events.{can, is_quiet_item, may_do, step};
 ghost use Rattle.cluster_model.specs.Runs.{Happening, IsOneEpoch, IsRun, Reached, RunsInEpoch, RunsTo, run};
-ghost use Rattle.cluster_model.specs.Laws.{ChangesOne, EndsWith, RiseFrom, is_one_actors, actor_of, drawn_in, left_by, starts_in};
+ghost use Rattle.cluster_model.specs.Laws.{ChangesOne, RiseFrom, is_one_actors, actor_of, drawn_in};
 
 /// A database that stands for any.
 pub trait AnyDatabase {
@@ -84,21 +80,4 @@ pub fn runs_lead_on<B: AnyDatabase>()
 pub fn starts_are_drawn_once<B: AnyDatabase>()
     ensures { (w : World) (es : List Happening)
         → RiseFrom w.director.next_start (drawn_in B.database es w) }
-{}
-
-/// An agent that stops says Closed to each other agent, with the start that it had, and nothing
-/// behind it. While it is stopped it says nothing, until it takes a Start. (That an agent changes in
-/// the messages that it takes alone, and in a recovery, is the first law.)
-pub fn a_stopped_agent_has_said_closed_last<B: AnyDatabase>()
-    ensures closed { (w : World) (h g : ℕ) (from : Actor) (o : Environment)
-        → nat_lt 0 (w.agents h).start ≡ true
-        → ((step B.database w (event.Deliver (Agent h) from, o)).agents h).start ≡ 0
-        → is_host w.deployment g ≡ true → (g == h) ≡ false
-        → EndsWith (open_letter (msg.Closed (w.agents h).start))
-        ((step B.database w (event.Deliver (Agent h) from, o)).channel (Agent h) (Agent g)) }
-    ensures silent { (w : World) (h : ℕ) (from b : Actor) (o : Environment)
-        → can w (event.Deliver (Agent h) from) ≡ true → allows w (event.Deliver (Agent h) from) o ≡ true
-        → (w.agents h).start ≡ 0 → starts_in (take 1 (w.channel from (Agent h))) ≡ []
-        → (step B.database w (event.Deliver (Agent h) from, o)).channel (Agent h) b
-        ≡ left_by w (event.Deliver (Agent h) from) (Agent h) b }
 {}

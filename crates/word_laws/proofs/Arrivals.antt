@@ -13,7 +13,7 @@ use Rattle.cluster_model.specs.Words.{Deployment, term_in}
 use Rattle.cluster_model.specs.Letters.{Blocks, Letter, becomes, ◌▸◌, in_term, arrival, Taken, Refused, Waits}
 use Rattle.cluster_model.specs.AgentState.{AgentState, stops, stops_with_host}
 use Rattle.cluster_model.specs.Agent.{handler_and_word, unless_stopped, takes_waiting, on_start, agent_runs, agent_takes, takes_start, agent_turn}
-use Rattle.cluster_model.proofs.Closing.{start_after-same}
+use Rattle.word_laws.proofs.Closing.{start_after-same}
 use Rattle.word_laws.specs.Histories.{State, AgentWaitingFrom}
 use Rattle.word_laws.proofs.Calm.{BringsWord}
 

@@ -5,6 +5,7 @@ pub mod Moves
 pub mod Agreement
 pub mod Laters
 pub mod Calm
+pub mod Closing
 pub mod Turns
 pub mod Arrivals
 pub mod Steps

@@ -27,7 +27,7 @@ use Rattle.cluster_model.specs.Runs.{Happening, Reached, has_failed, may_happen}
 use Rattle.cluster_model.specs.Laws.{start_in_letter, starts_in}
 use Rattle.cluster_model.proofs.Runs.{reached-kept}
 use Rattle.cluster_model.proofs.Starts.{takes-next}
-use Rattle.cluster_model.proofs.Closing.{turn-over}
+use Rattle.word_laws.proofs.Closing.{turn-over}
 use Rattle.cluster_steps.specs.Lists.{In, OnSome}
 use Rattle.cluster_steps.proofs.Lists.{all-append, all-mono, all-from, all-if, list_any-in, eqb-same, all-both}
 use Rattle.cluster_steps.proofs.Channels.{took-all, starts-append, starts-if, starts-all, stops_all-starts}

@@ -4,9 +4,17 @@
 #![tactic(auto)]
 
 ghost use Rattle.volt_base.specs.Semantics.{Semantics};
-ghost use Rattle.std.specs.Prelude.{◌≡◌};
+ghost use Rattle.std.specs.Prelude.{◌≡◌, ℕ, ◌==◌, nat_lt, take, true, false, []};
+ghost use Rattle.volt_wire.specs.declared.actor.Actor.{Actor};
+ghost use Rattle.volt_wire.specs.declared.actor.Actor.TheVariants.{Agent};
+ghost use Rattle.volt_wire.specs.declared.event.Event.TheVariants as event;
+ghost use Rattle.volt_wire.specs.declared.message.Msg.TheVariants as msg;
 ghost use Rattle.volt_wire.specs.Word.{Membership};
-ghost use Rattle.cluster_model.specs.Words.{term_of};
+ghost use Rattle.cluster_model.specs.Words.{is_host, term_of};
+ghost use Rattle.cluster_model.specs.Letters.{open_letter};
+ghost use Rattle.cluster_model.specs.Environment.{Environment};
+ghost use Rattle.cluster_model.specs.Events.{allows, can, step};
+ghost use Rattle.cluster_model.specs.Laws.{EndsWith, left_by, starts_in};
 ghost use Rattle.cluster_model.specs.World.{World, Input};
 ghost use Rattle.cluster_model.specs.Runs.{Reached, RunsInEpoch};
 ghost use Rattle.word_laws.specs.Chain.{HasDecided, HasWord, InEpoch, OneStartPerHost};
@@ -48,4 +56,21 @@ pub fn one_start_per_host<B: AnyDatabase>()
 /// initiator lost knows whom it admitted; and the rest of `HistoryOk` and `WordsHold`.
 pub fn words_have_a_history<B: AnyDatabase>()
     ensures { (input : Input) (w : World) → Reached B.database input w → InEpoch w }
+{}
+
+/// An agent that stops says Closed to each other agent, with the start that it had, and nothing
+/// behind it. While it is stopped it says nothing, until it takes a Start. (That an agent changes in
+/// the messages that it takes alone, and in a recovery, is a law of `cluster_model`.)
+pub fn a_stopped_agent_has_said_closed_last<B: AnyDatabase>()
+    ensures closed { (w : World) (h g : ℕ) (from : Actor) (o : Environment)
+        → nat_lt 0 (w.agents h).start ≡ true
+        → ((step B.database w (event.Deliver (Agent h) from, o)).agents h).start ≡ 0
+        → is_host w.deployment g ≡ true → (g == h) ≡ false
+        → EndsWith (open_letter (msg.Closed (w.agents h).start))
+        ((step B.database w (event.Deliver (Agent h) from, o)).channel (Agent h) (Agent g)) }
+    ensures silent { (w : World) (h : ℕ) (from b : Actor) (o : Environment)
+        → can w (event.Deliver (Agent h) from) ≡ true → allows w (event.Deliver (Agent h) from) o ≡ true
+        → (w.agents h).start ≡ 0 → starts_in (take 1 (w.channel from (Agent h))) ≡ []
+        → (step B.database w (event.Deliver (Agent h) from, o)).channel (Agent h) b
+        ≡ left_by w (event.Deliver (Agent h) from) (Agent h) b }
 {}

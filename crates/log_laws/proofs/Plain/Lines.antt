@@ -135,9 +135,6 @@ ends-none start term ls h = flat-none (end_of start term) ls h
 pub asks-none : (term : ℕ) (ls : List Letter) → AllByRecursion (λ l. ask_of term l ≡ []) ls → asks_in term ls ≡ []
 asks-none term ls h = flat-none (ask_of term) ls h
 
-pub waits-none : (c term : ℕ) (ws : List Waiting) → AllByRecursion (λ x. wait_of c term x ≡ []) ws → asks_waiting c term ws ≡ []
-waits-none c term ws h = flat-none (wait_of c term) ws h
-
 pub views-none : (start : ℕ) (ls : List Letter) → AllByRecursion (λ l. view_of start l ≡ []) ls → views start ls ≡ []
 views-none start ls h = flat-none (view_of start) ls h
 

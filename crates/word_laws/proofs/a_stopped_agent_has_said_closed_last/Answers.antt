@@ -1,6 +1,5 @@
-use Rattle.cluster_model.proofs.Closing.{closes-last, stays-silent}
-use Rattle.cluster_model.proofs.laws.a_stopped_agent_has_said_closed_last.Goals as goal
+use Rattle.word_laws.proofs.Closing.{closes-last, stays-silent}
+use Rattle.word_laws.proofs.a_stopped_agent_has_said_closed_last.Goals as goal
 
--- src/laws.rt:64:1
 pub returns : goal.returns
 returns g c = record { closed = λ w h k from o runs stopped is other. closes-last g.B.AnyDatabase.database w h k from o runs stopped is other; silent = λ w h k b o some may stopped none. stays-silent g.B.AnyDatabase.database w h k b o some may stopped none }

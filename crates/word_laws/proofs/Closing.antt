@@ -1,25 +1,24 @@
 -- An agent that stops says Closed last.
 use Rattle.std.proofs.Common.{◌≡◌, Bool, true, false, List, [], ◌∷◌, ◌++◌, append-nil, append_assoc, refl, sym, subst, ap, ◌∙◌, ◌⊎◌, inl, inr, ◌==◌, arith}
 use Rattle.std.specs.Prelude.{ℕ, ◌&&◌, not, filter, take, if◌then◌else◌, nat_lt, Option, Some, None}
-use Rattle.volt_base.specs.declared.entry.Outcome.{Outcome}
 use Rattle.volt_wire.specs.Word.{Membership}
 use Rattle.volt_wire.specs.declared.actor.Actor.{Actor}
 use Rattle.volt_wire.specs.declared.actor.Actor.TheVariants.{Director, Client, Agent, Site, Scanner}
-use Rattle.volt_wire.specs.declared.end.End.{End}
 use Rattle.volt_wire.specs.declared.message.Msg.TheVariants as msg
-use Rattle.cluster_model.specs.Engine.{Database, CoordStep, Round, Finish}
-use Rattle.cluster_model.specs.Words.{Deployment, part_of_slot, is_host, all_parts, with_number, is_in, term_of, term_in, initiator, leader, start_of_slot, part_down, admits}
+use Rattle.cluster_model.specs.Engine.{Database}
+use Rattle.cluster_model.specs.Words.{Deployment, is_host, is_in, term_of, term_in, admits}
 use Rattle.cluster_model.specs.Letters.{Letter, Turn, becomes, ◌▸◌, open_letter, arrival, Taken, Refused, Waits, Waiting, of_term, above_term}
 use Rattle.cluster_model.specs.Laws.{EndsWith, left_by, start_in_letter, starts_in}
-use Rattle.cluster_model.specs.AgentState.{AgentState, Phase, Off, Hears, Closes, Idle, Works, Work, Job, RunCall, TakeSnapshot, Queued, Job_, Admission, Heard, new_agent, answers_client, on_reply, stops, stops_with_host}
-use Rattle.cluster_model.specs.Initiator.{begins, admitting, works_queue, if_idle, queues, answers, no_work, with_work, all_finished, open_told, rests, ends_job, goes_on, feeds, ends_round, gathers, on_frag_done, settles, on_finished, closes_open, first_number, hears, on_mp_state, on_decided_word}
-use Rattle.cluster_model.specs.Agent.{to_slot, to_partition, to_initiator, hands_on, unless_down, on_call, on_closed, on_word, on_hello, on_decided, asks_initiator, has_loaded, on_loaded, is_other_word, says, decides_word, agrees, from_agent, from_site, from_director, from_client, agent_handler, handler_and_word, unless_stopped, takes_each, takes_waiting, agent_runs, agent_takes, takes_start, start_taken, start_after, agent_turn}
+use Rattle.cluster_model.specs.AgentState.{AgentState, new_agent, stops, stops_with_host}
+use Rattle.cluster_model.specs.Initiator.{on_decided_word}
+use Rattle.cluster_model.specs.Agent.{on_closed, on_word, on_decided, is_other_word, says, decides_word, agrees, agent_handler, handler_and_word, unless_stopped, takes_each, takes_waiting, agent_runs, agent_takes, takes_start, start_taken, start_after, agent_turn}
 use Rattle.cluster_model.specs.Environment.{Environment, NoFault, DiskFails, NoMemory, DisksShow}
 use Rattle.cluster_model.specs.World.{World, took, stamp_of}
 use Rattle.cluster_model.specs.Events.{delivered, allows, can, is_actor, is_some_letter, step}
 use Rattle.volt_wire.specs.declared.event.Event.TheVariants as event
 use Rattle.std.proofs.lemmas.Bool.{and_parts}
 use Rattle.std.proofs.lemmas.Bool.Decides.{nat_tests}
+use Rattle.word_laws.proofs.Calm.{handler-calm}
 
 -- ---- a choice
 
@@ -31,147 +30,7 @@ kept-state : (s : ℕ) (c : Bool) (x y : AgentState) → x.start ≡ s → y.sta
 kept-state s true x y p q = p
 kept-state s false x y p q = q
 
--- ---- the initiator keeps its start
-
-answers_client-start : (a : AgentState) (call : ℕ) (e : End) (client : Option ℕ) → (answers_client a call e client).state.start ≡ a.start
-answers_client-start a call e None = refl
-answers_client-start a call e (Some n) = refl
-
-on_reply-start : (D : Deployment) (a : AgentState) (call : ℕ) (e : End) → (on_reply D a call e).state.start ≡ a.start
-on_reply-start D a call e = kept-if a.start _ _ _ refl (answers_client-start a call e _)
-
-begins-start : (E : Database) (D : Deployment) (a : AgentState) (job : Job) → (begins E D a job).state.start ≡ a.start
-begins-start E D a (RunCall call host start body) = refl
-begins-start E D a TakeSnapshot = refl
-
-admitting-start : (a : AgentState) (own decided : Option Membership) (start host term : ℕ) → (admitting a own decided start host term).start ≡ a.start
-admitting-start a (Some own) (Some decided) start host term = kept-state a.start _ _ _ refl refl
-admitting-start a (Some own) None start host term = refl
-admitting-start a None decided start host term = refl
-
-works_queue-start : (E : Database) (D : Deployment) (a : AgentState) (q : List Queued) → (works_queue E D a q).state.start ≡ a.start
-works_queue-start E D a [] = refl
-works_queue-start E D a (Job_ job ∷ later) = begins-start E D (record a { initiating = record a.initiating { queue = later } }) job
-works_queue-start E D a (Admission start host term ∷ later) =
-    works_queue-start E D (admitting a a.own a.decided start host term) later ∙ admitting-start a a.own a.decided start host term
-
-if_idle-start : (E : Database) (D : Deployment) (a : AgentState) (phase : Phase) → (if_idle E D a phase).state.start ≡ a.start
-if_idle-start E D a Idle = works_queue-start E D a a.initiating.queue
-if_idle-start E D a Off = refl
-if_idle-start E D a (Hears told) = refl
-if_idle-start E D a (Closes m parts finished) = refl
-if_idle-start E D a Works = refl
-
-queues-start : (E : Database) (D : Deployment) (a : AgentState) (q : Queued) → (queues E D a q).state.start ≡ a.start
-queues-start E D a q = if_idle-start E D (record a { initiating = record a.initiating { queue = a.initiating.queue ++ q ∷ [] } }) a.initiating.phase
-
-answers-start : (D : Deployment) (h : ℕ) (a : AgentState) (job : Job) (e : Option End) → (answers D h a job e).state.start ≡ a.start
-answers-start D h a job None = refl
-answers-start D h a TakeSnapshot (Some e) = refl
-answers-start D h a (RunCall call host start body) (Some e) = kept-if a.start _ _ _ (on_reply-start D a call e) refl
-
-rests-start : (E : Database) (D : Deployment) (a : AgentState) → (rests E D a).state.start ≡ a.start
-rests-start E D a = works_queue-start E D (no_work a) a.initiating.queue
-
-ends_job-start : (E : Database) (D : Deployment) (h : ℕ) (a : AgentState) (job : Job) (e : Option End) → (ends_job E D h a job e).state.start ≡ a.start
-ends_job-start E D h a job e = rests-start E D (answers D h a job e).state ∙ answers-start D h a job e
-
-goes_on-start : (D : Deployment) (stamp : ℕ) (a : AgentState) (w : Work) (next : CoordStep) → (goes_on D stamp a w next).state.start ≡ a.start
-goes_on-start D stamp a w (Round body) = refl
-goes_on-start D stamp a w (Finish keep reply) = refl
-
-feeds-start : (E : Database) (D : Deployment) (stamp : ℕ) (a : AgentState) (w : Work) (body : List ℕ) (asked : CoordStep) → (feeds E D stamp a w body asked).state.start ≡ a.start
-feeds-start E D stamp a w body (Finish keep reply) = refl
-feeds-start E D stamp a w body (Round asked) = goes_on-start D stamp a _ _
-
-ends_round-start : (E : Database) (D : Deployment) (stamp : ℕ) (a : AgentState) (w : Work) (job : Job) → (ends_round E D stamp a w job).state.start ≡ a.start
-ends_round-start E D stamp a w (RunCall call host start body) = feeds-start E D stamp a w body (E.asks body w.fed)
-ends_round-start E D stamp a w TakeSnapshot = refl
-
-gathers-start : (E : Database) (D : Deployment) (stamp : ℕ) (a : AgentState) (w : Work) → (gathers E D stamp a w).state.start ≡ a.start
-gathers-start E D stamp a w = kept-if a.start _ _ _ (ends_round-start E D stamp a w w.job) refl
-
-on_frag_done-start : (E : Database) (D : Deployment) (stamp : ℕ) (a : AgentState) (phase : Phase) (work : Option Work) (p m round : ℕ) (partial : List ℕ) → (on_frag_done E D stamp a phase work p m round partial).state.start ≡ a.start
-on_frag_done-start E D stamp a Works (Some w) p m round partial = kept-if a.start _ _ _ (gathers-start E D stamp a _) refl
-on_frag_done-start E D stamp a Works None p m round partial = refl
-on_frag_done-start E D stamp a Off work p m round partial = refl
-on_frag_done-start E D stamp a (Hears told) work p m round partial = refl
-on_frag_done-start E D stamp a (Closes c parts finished) work p m round partial = refl
-on_frag_done-start E D stamp a Idle work p m round partial = refl
-
-settles-start : (E : Database) (D : Deployment) (h : ℕ) (a : AgentState) (work : Option Work) → (settles E D h a work).state.start ≡ a.start
-settles-start E D h a None = rests-start E D a
-settles-start E D h a (Some w) = elim w.decision as (λ x. (elim x as (λ _. Turn AgentState) [
-  | None ↦ begins E D a w.job
-  | Some d ↦ ends_job E D h a w.job d.end
-]).state.start ≡ a.start) [
-  | None ↦ begins-start E D a w.job
-  | Some d ↦ ends_job-start E D h a w.job d.end
-]
-
-on_finished-start : (E : Database) (D : Deployment) (h : ℕ) (a : AgentState) (phase : Phase) (work : Option Work) (p m : ℕ) → (on_finished E D h a phase work p m).state.start ≡ a.start
-on_finished-start E D h a Works (Some w) p m =
-    let done = record w { finished = p ∷ w.finished } in
-    elim w.decision as (λ x. (elim x as (λ _. Turn AgentState) [
-      | None ↦ becomes a
-      | Some d ↦
-          if w.transaction == m
-          then (if all_finished (all_parts D) done.finished then ends_job E D h (with_work a done) w.job d.end else becomes (with_work a done))
-          else becomes a
-    ]).state.start ≡ a.start) [
-      | None ↦ refl
-      | Some d ↦ kept-if a.start _ _ _ (kept-if a.start _ _ _ (ends_job-start E D h (with_work a done) w.job d.end) refl) refl
-    ]
-on_finished-start E D h a Works None p m = refl
-on_finished-start E D h a (Closes closing parts finished) work p m =
-    kept-if a.start _ _ _ (kept-if a.start _ _ _ (settles-start E D h a work) refl) refl
-on_finished-start E D h a Off work p m = refl
-on_finished-start E D h a (Hears told) work p m = refl
-on_finished-start E D h a Idle work p m = refl
-
-closes_open-start : (E : Database) (D : Deployment) (h : ℕ) (a : AgentState) (told : List Heard) (m : Option ℕ) → (closes_open E D h a told m).state.start ≡ a.start
-closes_open-start E D h a told None = settles-start E D h a a.initiating.work
-closes_open-start E D h a told (Some m) = refl
-
-first_number-start : (a : AgentState) (told : List Heard) → (first_number a told).start ≡ a.start
-first_number-start a told = kept-state a.start _ _ _ refl refl
-
-hears-start : (E : Database) (D : Deployment) (h : ℕ) (a : AgentState) (told : List Heard) → (hears E D h a told).state.start ≡ a.start
-hears-start E D h a told =
-    kept-if a.start _ _ _ (closes_open-start E D h (first_number a told) told (open_told told) ∙ first_number-start a told) refl
-
-on_mp_state-start : (E : Database) (D : Deployment) (h : ℕ) (a : AgentState) (phase : Phase) (p m : ℕ) (is_open : Bool) (outcome : Option Outcome) → (on_mp_state E D h a phase p m is_open outcome).state.start ≡ a.start
-on_mp_state-start E D h a (Hears told) p m is_open outcome = kept-if a.start _ _ _ refl (hears-start E D h a _)
-on_mp_state-start E D h a Off p m is_open outcome = refl
-on_mp_state-start E D h a (Closes c parts finished) p m is_open outcome = refl
-on_mp_state-start E D h a Idle p m is_open outcome = refl
-on_mp_state-start E D h a Works p m is_open outcome = refl
-
--- ---- the handlers of calls and words keep it too
-
-to_slot-start : (a : AgentState) (call n : ℕ) (body : List ℕ) (slot : ℕ) (start : Option ℕ) → (to_slot a call n body slot start).state.start ≡ a.start
-to_slot-start a call n body slot None = refl
-to_slot-start a call n body slot (Some start) = refl
-
-to_partition-start : (D : Deployment) (a : AgentState) (w : Membership) (call n : ℕ) (body : List ℕ) (slot : Option ℕ) → (to_partition D a w call n body slot).state.start ≡ a.start
-to_partition-start D a w call n body None = refl
-to_partition-start D a w call n body (Some slot) = to_slot-start a call n body slot (start_of_slot D w slot)
-
-to_initiator-start : (a : AgentState) (call n : ℕ) (body : List ℕ) (first : Option (ℕ × ℕ)) → (to_initiator a call n body first).state.start ≡ a.start
-to_initiator-start a call n body None = refl
-to_initiator-start a call n body (Some first) = refl
-
-hands_on-start : (D : Deployment) (a : AgentState) (w : Membership) (n call : ℕ) (part : Option ℕ) (body : List ℕ) → (hands_on D a w n call part body).state.start ≡ a.start
-hands_on-start D a w n call (Some part) body = to_partition-start D a w call n body (leader D w part)
-hands_on-start D a w n call None body = to_initiator-start a call n body (initiator w)
-
-unless_down-start : (D : Deployment) (a : AgentState) (w : Membership) (n call : ℕ) (part : Option ℕ) (body : List ℕ) (down : Option ℕ) → (unless_down D a w n call part body down).state.start ≡ a.start
-unless_down-start D a w n call part body (Some down) = refl
-unless_down-start D a w n call part body None = hands_on-start D a w n call part body
-
-on_call-start : (D : Deployment) (a : AgentState) (w : Option Membership) (n call start : ℕ) (part : Option ℕ) (body : List ℕ) → (on_call D a w n call start part body).state.start ≡ a.start
-on_call-start D a None n call start part body = refl
-on_call-start D a (Some w) n call start part body = kept-if a.start _ _ _ (unless_down-start D a w n call part body (part_down D w)) refl
+-- ---- words
 
 on_closed-start : (a : AgentState) (w : Option Membership) (start : ℕ) → (on_closed a w start).start ≡ a.start
 on_closed-start a None start = refl
@@ -180,21 +39,6 @@ on_closed-start a (Some w) start = refl
 on_word-start : (a : AgentState) (w : Option Membership) (host base : ℕ) (lost : List ℕ) (admitted : List (ℕ × ℕ)) → (on_word a w host base lost admitted).start ≡ a.start
 on_word-start a None host base lost admitted = refl
 on_word-start a (Some w) host base lost admitted = kept-state a.start _ _ _ refl refl
-
-on_hello-start : (h : ℕ) (a : AgentState) (w : Option Membership) (host start : ℕ) → (on_hello h a w host start).state.start ≡ a.start
-on_hello-start h a None host start = refl
-on_hello-start h a (Some w) host start = kept-if a.start _ _ _ refl refl
-
-asks_initiator-start : (h : ℕ) (a : AgentState) (w : Membership) (first : Option (ℕ × ℕ)) → (asks_initiator h a w first).state.start ≡ a.start
-asks_initiator-start h a w None = refl
-asks_initiator-start h a w (Some first) = kept-if a.start _ _ _ refl refl
-
-has_loaded-start : (D : Deployment) (h : ℕ) (a : AgentState) (w : Option Membership) → (has_loaded D h a w).state.start ≡ a.start
-has_loaded-start D h a None = refl
-has_loaded-start D h a (Some w) = kept-if a.start _ _ _ (asks_initiator-start h a w (initiator w)) refl
-
-on_loaded-start : (D : Deployment) (h : ℕ) (a : AgentState) (slot start : ℕ) → (on_loaded D h a slot start).state.start ≡ a.start
-on_loaded-start D h a slot start = kept-if a.start _ _ _ (has_loaded-start D h (record a { loaded = with_number slot a.loaded }) a.taken) refl
 
 -- ---- an agent goes on, or it stops and says Closed last
 
@@ -247,45 +91,16 @@ on_decided-over D h a None (Some taken) w = over-if (nat_lt (term_of taken) (ter
     over-if true = inr (stops_with_host-over D h a.start)
     over-if false = inl refl
 
-from_agent-over : (E : Database) (D : Deployment) (h stamp : ℕ) (a : AgentState) (g : ℕ) (l : Letter) → StaysOrCloses D h a.start (from_agent E D h stamp a g l)
-from_agent-over E D h stamp a g l = elim l.body as (λ m. StaysOrCloses D h a.start (from_agent E D h stamp a g (record l { body = m }))) [
+handler-over : (E : Database) (D : Deployment) (h stamp : ℕ) (a : AgentState) (from : Actor) (l : Letter) → StaysOrCloses D h a.start (agent_handler E D h stamp a from l)
+handler-over E D h stamp a (Agent g) l = elim l.body as (λ m. StaysOrCloses D h a.start (agent_handler E D h stamp a (Agent g) (record l { body = m }))) [
   | msg.Closed start ↦ inl (on_closed-start a a.own start)
   | msg.Word base lost admitted ↦ inl (on_word-start a a.own g base lost admitted)
-  | msg.Hello start ↦ inl (on_hello-start h a a.decided g start)
   | msg.Decided w ↦ on_decided-over D h a a.decided a.taken w
-  | msg.MpCall call start body ↦ inl (queues-start E D a (Job_ (RunCall call g start body)))
-  | msg.MpReply call e ↦ inl (on_reply-start D a call e)
-  | msg.Admit start ↦ inl (queues-start E D a (Admission start g l.term))
-  | _ ↦ inl refl
+  | m ↦ inl (handler-calm E D h stamp a (Agent g) (record l { body = m }) (λ k. k)).start
 ]
-
-from_site-start : (E : Database) (D : Deployment) (h stamp : ℕ) (a : AgentState) (s : ℕ) (l : Letter) → (from_site E D h stamp a s l).state.start ≡ a.start
-from_site-start E D h stamp a s l = elim l.body as (λ m. (from_site E D h stamp a s (record l { body = m })).state.start ≡ a.start) [
-  | msg.Reply call start e ↦ on_reply-start D a call e
-  | msg.FragDone m round partial ↦ on_frag_done-start E D stamp a a.initiating.phase a.initiating.work (part_of_slot D s) m round partial
-  | msg.Finished m ↦ on_finished-start E D h a a.initiating.phase a.initiating.work (part_of_slot D s) m
-  | msg.MpState m is_open outcome ↦ on_mp_state-start E D h a a.initiating.phase (part_of_slot D s) m is_open outcome
-  | msg.Loaded start ↦ on_loaded-start D h a s start
-  | _ ↦ refl
-]
-
-from_director-start : (E : Database) (D : Deployment) (h : ℕ) (a : AgentState) (l : Letter) → (from_director E D h a l).state.start ≡ a.start
-from_director-start E D h a l = elim l.body as (λ m. (from_director E D h a (record l { body = m })).state.start ≡ a.start) [
-  | msg.Snap ↦ kept-if a.start _ _ _ (queues-start E D a (Job_ TakeSnapshot)) refl
-  | _ ↦ refl
-]
-
-from_client-start : (D : Deployment) (a : AgentState) (n : ℕ) (l : Letter) → (from_client D a n l).state.start ≡ a.start
-from_client-start D a n l = elim l.body as (λ m. (from_client D a n (record l { body = m })).state.start ≡ a.start) [
-  | msg.Call call start part body ↦ on_call-start D a a.decided n call start part body
-  | _ ↦ refl
-]
-
-handler-over : (E : Database) (D : Deployment) (h stamp : ℕ) (a : AgentState) (from : Actor) (l : Letter) → StaysOrCloses D h a.start (agent_handler E D h stamp a from l)
-handler-over E D h stamp a Director l = inl (from_director-start E D h a l)
-handler-over E D h stamp a (Client n) l = inl (from_client-start D a n l)
-handler-over E D h stamp a (Agent g) l = from_agent-over E D h stamp a g l
-handler-over E D h stamp a (Site s) l = inl (from_site-start E D h stamp a s l)
+handler-over E D h stamp a Director l = inl (handler-calm E D h stamp a Director l (λ k. k)).start
+handler-over E D h stamp a (Client n) l = inl (handler-calm E D h stamp a (Client n) l (λ k. k)).start
+handler-over E D h stamp a (Site s) l = inl (handler-calm E D h stamp a (Site s) l (λ k. k)).start
 handler-over E D h stamp a (Scanner x) l = inl refl
 
 -- ---- what follows a handler
