@@ -10,7 +10,7 @@ use Rattle.cluster_steps.proofs.Lists.{in-left, in-right, in-map}
 
 -- ---- the least of these positions
 
-lesser-parts : (a b : Option ℕ) (m : ℕ) → lesser a b ≡ Some m → (x y : ℕ) × (a ≡ Some x) × (b ≡ Some y) × (m ≤ x) × (m ≤ y)
+pub lesser-parts : (a b : Option ℕ) (m : ℕ) → lesser a b ≡ Some m → (x y : ℕ) × (a ≡ Some x) × (b ≡ Some y) × (m ≤ x) × (m ≤ y)
 lesser-parts (Some x) (Some y) m e = let p : min x y ≡ m = cc in (x, y, refl, refl, omega (arith, p), omega (arith, p))
 lesser-parts (Some x) None m e = absurd (cc)
 lesser-parts None b m e = absurd (cc)

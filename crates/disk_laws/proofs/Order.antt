@@ -1,8 +1,8 @@
 -- How good contents are, what the parts of an event leave of them, and what a recovery chooses.
 use Rattle.std.proofs.Common.{◌≡◌, ◌<◌, ◌≤◌, Bool, true, false, List, [], ◌∷◌, ◌++◌, length, take, drop, take-append-drop, refl, sym, subst, ap, ◌∙◌, ◌⊎◌, inl, inr, ◌==◌, arith}
-use Rattle.std.proofs.lemmas.Bool.{cases_eq, cases_lt, or_cases, and_parts}
+use Rattle.std.proofs.lemmas.Bool.{or_parts, cases_eq, cases_lt, or_cases, and_parts}
 use Rattle.std.proofs.lemmas.Bool.Decides.{nat_tests}
-use Rattle.std.specs.Prelude.{ℕ, ◌&&◌, ◌||◌, nat_lt, if◌then◌else◌, map, unwrap_or, Option, Some, None}
+use Rattle.std.specs.Prelude.{ℕ, ◌&&◌, nat_lt, if◌then◌else◌, map, unwrap_or, Option, Some, None}
 use Rattle.std.specs.List.{AllByRecursion}
 use Rattle.volt_base.specs.declared.entry.Entry.TheVariants.{Done}
 use Rattle.volt_base.specs.declared.entry.Outcome.{Outcome}
@@ -214,10 +214,6 @@ not-better a b e = elim (cases_lt b.mark a.mark) [
       inr (q, within q k.1)
 ]
   where
-    or_parts : (x y : Bool) → (x || y) ≡ false → (x ≡ false) × (y ≡ false)
-    or_parts false y f = (refl, f)
-    or_parts true y f = absurd (cc)
-
     within : a.mark ≡ b.mark → (b.mark == a.mark && nat_lt (length a.log) (length b.log)) ≡ false → length b.log ≤ length a.log
     within q f = elim (cases_lt (length a.log) (length b.log)) [
       | inr l ↦ l

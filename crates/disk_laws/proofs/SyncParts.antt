@@ -1,6 +1,6 @@
 -- What a Sync writes: what a disk shows after each of its parts, and after all of them.
 use Rattle.std.proofs.Common.{◌≡◌, ◌<◌, ◌≤◌, Bool, true, false, List, [], ◌∷◌, ◌++◌, length, append-nil, refl, ap, ◌∙◌, ◌⊎◌, inl, inr, true≢false, arith}
-use Rattle.std.proofs.lemmas.Bool.{and_parts}
+use Rattle.std.proofs.lemmas.Bool.{or_parts, and_parts}
 use Rattle.std.proofs.lemmas.Bool.Decides.{nat_tests}
 use Rattle.std.specs.Prelude.{ℕ, ◌&&◌, ◌||◌, nat_lt, if◌then◌else◌, Option, Some, None, is_some, unwrap_or}
 use Rattle.std.specs.List.{AllByRecursion}
@@ -66,10 +66,6 @@ module _ (s : SiteState) (low : s.on_disk ≤ length s.log) where
   nothing-owed : (nat_lt s.on_disk (length s.log) || is_some s.owes) ≡ false → own_content s ≡ content (mark_owed s) s.base s (length s.log)
   nothing-owed e = choice s.owes refl (or_parts (nat_lt s.on_disk (length s.log)) (is_some s.owes) e)
     where
-      or_parts : (x y : Bool) → (x || y) ≡ false → (x ≡ false) × (y ≡ false)
-      or_parts false y f = (refl, f)
-      or_parts true y f = absurd (cc)
-
       choice : (o : Option ℕ) → s.owes ≡ o → (nat_lt s.on_disk (length s.log) ≡ false) × (is_some o ≡ false)
           → own_content s ≡ content (unwrap_or o s.mark) s.base s (length s.log)
       choice (Some m) q k = absurd (true≢false k.1)

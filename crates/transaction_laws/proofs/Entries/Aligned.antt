@@ -247,7 +247,7 @@ pub record Recovered (E : Database) (D : Deployment) (now : ℕ) (logs : ℕ →
   pub over : (stage E p (logs p)).opened ≡ None
   pub number : (stage E p (logs p)).number ≤ greatest_done E logs (parts D)
 
-greatest-done : (E : Database) (logs : ℕ → List Entry) (n p : ℕ) → p < n → number_of (last_done E p (logs p)) ≤ greatest_done E logs n
+pub greatest-done : (E : Database) (logs : ℕ → List Entry) (n p : ℕ) → p < n → number_of (last_done E p (logs p)) ≤ greatest_done E logs n
 greatest-done E logs zero p l = absurd (omega (arith, l))
 greatest-done E logs (suc n) p l = elim (cases_eq p n) [
   | inl e ↦ subst (λ q. number_of (last_done E q (logs q)) ≤ greatest_done E logs (suc n)) (sym e) (omega arith)

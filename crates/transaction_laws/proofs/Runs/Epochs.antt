@@ -1,6 +1,6 @@
 -- How an epoch begins: all holds of transactions in the first world, once a recovery has worked, and after one that was stopped.
 use Rattle.std.proofs.Common.{◌≡◌, ◌<◌, ◌≤◌, Bool, true, false, List, [], ◌∷◌, ◌++◌, ◌+◌, ◌==◌, ◌⊎◌, append-nil, drop, length, refl, sym, subst, ap, ◌∙◌, inl, inr, arith, zero, suc}
-use Rattle.std.proofs.lemmas.Bool.{and_parts, cases_Bool, cases_eq, eq-eqb, eqb-true, false≢true}
+use Rattle.std.proofs.lemmas.Bool.{and_parts, cases_Bool, eq-eqb, eqb-true, false≢true}
 use Rattle.std.proofs.lemmas.Bool.Decides.{nat_tests}
 use Rattle.std.proofs.lemmas.List.{drop_all}
 use Rattle.std.proofs.lemmas.Nat.{div-mul-add}
@@ -13,7 +13,6 @@ use Rattle.volt_wire.specs.declared.actor.Actor.TheVariants.{Agent, Site}
 use Rattle.volt_wire.specs.declared.event.Event.TheVariants as event
 use Rattle.partition_ring.specs.Placement.{IsLayout, slot_of, slots_of_part}
 use Rattle.cluster_model.specs.Engine.{Database}
-use Rattle.cluster_model.specs.Log.{last_done, number_of}
 use Rattle.cluster_model.specs.Words.{Deployment, slots, parts, part_of_slot, is_host, term_of, term_in, initiator}
 use Rattle.cluster_model.specs.Disk.{Shown, best_of, chosen, mark_of, recovered}
 use Rattle.cluster_model.specs.Letters.{Waiting}
@@ -41,7 +40,7 @@ use Rattle.disk_laws.proofs.Order.{at_least-mark, best-chosen}
 use Rattle.disk_laws.proofs.Recoveries.{new-above, left-top, agent-stopped, site-stopped}
 use Rattle.transaction_laws.specs.Transactions.{Transactions, Everywhere, Aligned, Books, HeardPart, HeardOk, LeadershipFits, IsPart, SiteCalls, InitiatingOk, PhaseOk, AnswerOk, ToSiteOk, WaitingAnswer, CallsHold, acknowledged, since, whole, led_log, orders}
 use Rattle.transaction_laws.proofs.Kept.Moves.{Onto}
-use Rattle.transaction_laws.proofs.Entries.Aligned.{Recovered, aligned-recovered, aligned-again, recovered-even}
+use Rattle.transaction_laws.proofs.Entries.Aligned.{greatest-done, Recovered, aligned-recovered, aligned-again, recovered-even}
 use Rattle.transaction_laws.proofs.Entries.Even.{AppliedInAll}
 use Rattle.transaction_laws.proofs.Kept.Worded.{aligned-later}
 use Rattle.transaction_laws.proofs.Kept.Later.{everywhere-on, answer-on, to_site-on, books-later}
@@ -68,14 +67,6 @@ least-first a (b ∷ bs) n e = go (least b bs) e
     go : (o : Option ℕ) → lesser (Some a) o ≡ Some n → n ≤ a
     go None q = absurd (cc)
     go (Some m) q = omega (arith, same-some q)
-
--- the greatest number that was done isn't below any
-greatest-above : (E : Database) (logs : ℕ → List Entry) (n p : ℕ) → p < n → number_of (last_done E p (logs p)) ≤ greatest_done E logs n
-greatest-above E logs zero p l = absurd (omega (arith, l))
-greatest-above E logs (suc n) p l = elim (cases_eq p n) [
-  | inl e ↦ subst (λ x. number_of (last_done E x (logs x)) ≤ greatest_done E logs (suc n)) (sym e) (omega arith)
-  | inr d ↦ let a = greatest-above E logs n p (omega (arith, l, d)) in omega (arith, a)
-]
 
 -- ---- what holds as an epoch begins
 
@@ -303,7 +294,7 @@ over-first E D now p q = record {
   formed = tt;
   past = omega arith;
   over = refl;
-  number = greatest-above E (λ p. []) (parts D) p (grind (arith, nat_tests, q));
+  number = greatest-done E (λ p. []) (parts D) p (grind (arith, nat_tests, q));
 }
 
 -- In the first world.

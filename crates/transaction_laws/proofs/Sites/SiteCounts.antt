@@ -15,9 +15,9 @@ use Rattle.cluster_model.specs.SiteState.{SiteState, Joining, Joiner, is_leader,
 use Rattle.cluster_model.specs.Site.{acked_in, own_ack, copy_acks, lesser, least, least_of, firm_now, floor_now, sends_firm, counts, takes_asks, in_new_term}
 use Rattle.cluster_model.specs.Environment.{Environment, NoFault, DiskFails, NoMemory, DisksShow}
 use Rattle.cluster_model.specs.Sync.{after_sync, site_turn, syncs, sync_turn}
-use Rattle.cluster_steps.proofs.Lists.{if-true, all-append, not-both, none-and-some, same-some}
+use Rattle.cluster_steps.proofs.Lists.{if-true, all-append, not-both, none-and-some}
 use Rattle.cluster_steps.proofs.Leaders.{leader-view, leads-parts, leads-from}
-use Rattle.cluster_steps.proofs.Least.{least_of-below}
+use Rattle.cluster_steps.proofs.Least.{lesser-parts, least_of-below}
 use Rattle.cluster_steps.proofs.SiteTurns.{stays_joiner}
 use Rattle.transaction_laws.specs.Transactions.{acknowledged}
 use Rattle.cluster_steps.proofs.StateSteps.{Comes, Over, StateSaying, StateSteps, over-moves, over-settles, over-tells, with_others}
@@ -45,11 +45,6 @@ abbrev pub Unrepaired : SiteState → Type 0
 Unrepaired s = s.repaired ≡ false → s.joiners ≡ []
 
 -- ---- the least of what was acknowledged
-
-lesser-parts : (a b : Option ℕ) (m : ℕ) → lesser a b ≡ Some m → (x y : ℕ) × (a ≡ Some x) × (b ≡ Some y) × (m ≤ x) × (m ≤ y)
-lesser-parts (Some x) (Some y) m e = let p : min x y ≡ m = same-some e in (x, y, refl, refl, omega (arith, p), omega (arith, p))
-lesser-parts (Some x) None m e = absurd (cc)
-lesser-parts None b m e = absurd (cc)
 
 lesser-from : (a b : Option ℕ) (n x y : ℕ) → a ≡ Some x → b ≡ Some y → n ≤ x → n ≤ y → (m : ℕ) × (lesser a b ≡ Some m) × (n ≤ m)
 lesser-from a b n x y e f h k = (min x y, rw (e, f), omega (arith, h, k))
