@@ -64,12 +64,12 @@ integer_takes bytes x fits e =
     let z : ℤ = cast_signed w64 n in
     let long = not_then (ltb (length bytes) 8) (if_value z (drop 8 bytes)) x e in
     let held = cond_some (is_value z) (z, drop 8 bytes) x long.1 in
-    let front : 8 ≤ length bytes = ltb-false _ _ long.0 in
+    let prefix : 8 ≤ length bytes = ltb-false _ _ long.0 in
     let few : IsBytes (take 8 bytes) = IsBytes-take 8 bytes fits in
     let small : n < 2 ^ 64 = omega (arith, few 0, few 1, few 2, few 3, few 4, few 5, few 6, few 7) in
     let same : integer_bytes z ≡ take 8 bytes = ap (to_be_bytes w64) (of_z-to_z w64 n small) ∙ be_bytes_8 (take 8 bytes) n (omega (arith, length-take 8 bytes)) few refl in
     let made : ℤ × List ℕ = (z, drop 8 bytes) in
-    let parts : bytes ≡ integer_bytes z ++ drop 8 bytes = sym (take-append-drop 8 bytes) ∙ ap (λ (front : List ℕ). front ++ drop 8 bytes) (sym same) in
+    let parts : bytes ≡ integer_bytes z ++ drop 8 bytes = sym (take-append-drop 8 bytes) ∙ ap (λ (prefix : List ℕ). prefix ++ drop 8 bytes) (sym same) in
     subst (λ (y : ℤ × List ℕ). Takes bytes (integer_bytes y.0) y.1 × (is_value y.0 ≡ true)) held.1 (record { parts = parts; rest_fits = IsBytes-drop 8 bytes fits }, held.0)
 
 -- ---- values
@@ -132,10 +132,10 @@ call_takes [] c fits e = absurd cc
 call_takes (high ∷ []) c fits e = absurd cc
 call_takes (high ∷ low ∷ []) c fits e = absurd cc
 call_takes (high ∷ low ∷ count ∷ values) c fits e =
-    let front : List ℕ = high ∷ low ∷ [] in
-    let read = with_takes (from_be_bytes w16 front) count values c (λ i. fits (suc (suc (suc i)))) e in
-    let two : IsBytes front = IsBytes-take 2 (high ∷ low ∷ count ∷ values) fits in
-    let same : to_be_bytes w16 (from_be_bytes w16 front) ≡ front = be_bytes_2 front _ refl two refl in
+    let prefix : List ℕ = high ∷ low ∷ [] in
+    let read = with_takes (from_be_bytes w16 prefix) count values c (λ i. fits (suc (suc (suc i)))) e in
+    let two : IsBytes prefix = IsBytes-take 2 (high ∷ low ∷ count ∷ values) fits in
+    let same : to_be_bytes w16 (from_be_bytes w16 prefix) ≡ prefix = be_bytes_2 prefix _ refl two refl in
     (read.valid, ap (λ (f : List ℕ). f ++ count ∷ values) (sym same) ∙ read.spelled)
 
 -- ---- what a reader promises

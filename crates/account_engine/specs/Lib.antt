@@ -5,4 +5,4 @@ pub mod Again
 pub mod Accounts
 pub mod Answers
 pub mod Carrying
-pub mod Worked
+pub mod Scenario

@@ -18,7 +18,7 @@ if_value z rest = if is_value z then Some (z, rest) else None
 abbrev pub integer_at : List ℕ → Option (ℤ × List ℕ)
 integer_at bytes = if nat_lt (length bytes) 8 then None else if_value (cast_signed w64 (from_be_bytes w64 (take 8 bytes))) (drop 8 bytes)
 
--- the value at the front, an integer, and the bytes behind it
+-- the value at the beginning, an integer, and the bytes behind it
 abbrev pub value_at : List ℕ → Option (ℤ × List ℕ)
 value_at [] = None
 value_at (kind ∷ bytes) = if kind == 1 then integer_at bytes else None

@@ -99,9 +99,9 @@ fn integer_at(bytes: &[u8]) -> Option<(i64, &[u8])>
     if bytes.len() < 8 {
         return None;
     }
-    let (front, rest) = bytes.split_at(8);
+    let (prefix, rest) = bytes.split_at(8);
     let integer = i64::from_be_bytes([
-        front[0], front[1], front[2], front[3], front[4], front[5], front[6], front[7],
+        prefix[0], prefix[1], prefix[2], prefix[3], prefix[4], prefix[5], prefix[6], prefix[7],
     ]);
     if is_value(integer) {
         Some((integer, rest))
@@ -110,7 +110,7 @@ fn integer_at(bytes: &[u8]) -> Option<(i64, &[u8])>
     }
 }
 
-/// The value at the front, an integer, and the bytes behind it.
+/// The value at the beginning, an integer, and the bytes behind it.
 pub fn value_at(bytes: &[u8]) -> Option<(i64, &[u8])>
     ensures { option_map (λ x. (x.0, x.1.now)) result ≡ reading.value_at bytes.now }
 {

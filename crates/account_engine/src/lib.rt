@@ -6,12 +6,12 @@
 mod accounts;
 mod call;
 mod reply;
-mod worked;
+mod scenario;
 
 pub use accounts::{AccountMaker, Accounts};
 pub use call::AccountCall;
 pub use reply::{print_reply, replies_are_given};
-pub use worked::{
+pub use scenario::{
     first_report_is_sound, first_report_is_spelled_so, first_run_is_this, four_calls_answer_so,
     put_has_this_body, wrong_reports_are_not_sound,
 };

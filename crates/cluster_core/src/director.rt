@@ -19,7 +19,7 @@ impl Director {
         Director { told: 0 }
     }
 
-    /// Takes a message: Told counts one. A count that passes its type is want of memory.
+    /// Takes a message: Told counts one. A count that passes its type is running out of memory.
     pub fn take(&mut self, msg: Msg) -> Result<(), AllocError>
         ensures { OnOk result (self.new.told ≡ told_after self.old.told msg) }
     {

@@ -56,7 +56,7 @@ impl<E: Engine> Site<E> {
         self.log.on_disk < self.log.end
     }
 
-    /// Takes a message. An entry that doesn't fit the engine is want of memory.
+    /// Takes a message. An entry that doesn't fit the engine is running out of memory.
     pub fn take(
         &mut self,
         alloc: Global,

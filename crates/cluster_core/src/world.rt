@@ -113,7 +113,7 @@ impl<M: MakeEngine> World<M> {
         None
     }
 
-    /// One event, which has the next stamp. After want of memory the world may only be dropped.
+    /// One event, which has the next stamp. After running out of memory the world may only be dropped.
     pub fn step(&mut self, event: Event) -> Result<(), AllocError>
         requires { is_event_of_them event ≡ true }
         ensures { OnOk result ((w : model.World)

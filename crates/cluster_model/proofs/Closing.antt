@@ -13,8 +13,8 @@ use Rattle.cluster_model.specs.Letters.{Letter, Turn, becomes, ◌▸◌, open_l
 use Rattle.cluster_model.specs.Laws.{EndsWith, left_by, start_in_letter, starts_in}
 use Rattle.cluster_model.specs.AgentState.{AgentState, Phase, Off, Hears, Closes, Idle, Works, Work, Job, RunCall, TakeSnapshot, Queued, Job_, Admission, Heard, new_agent, answers_client, on_reply, stops, stops_with_host}
 use Rattle.cluster_model.specs.Initiator.{begins, admitting, works_queue, if_idle, queues, answers, no_work, with_work, all_finished, open_told, rests, ends_job, goes_on, feeds, ends_round, gathers, on_frag_done, settles, on_finished, closes_open, first_number, hears, on_mp_state, on_decided_word}
-use Rattle.cluster_model.specs.Agent.{to_slot, to_partition, to_initiator, hands_on, unless_down, on_call, on_closed, on_word, on_hello, on_decided, asks_initiator, has_loaded, on_loaded, is_other_word, says, decides_word, agrees, from_agent, from_site, from_director, from_client, agent_row, row_and_word, unless_stopped, takes_each, takes_waiting, agent_runs, agent_takes, takes_start, start_taken, start_after, agent_turn}
-use Rattle.cluster_model.specs.Outside.{Outside, Fair, DiskFails, NoMemory, DisksShow}
+use Rattle.cluster_model.specs.Agent.{to_slot, to_partition, to_initiator, hands_on, unless_down, on_call, on_closed, on_word, on_hello, on_decided, asks_initiator, has_loaded, on_loaded, is_other_word, says, decides_word, agrees, from_agent, from_site, from_director, from_client, agent_handler, handler_and_word, unless_stopped, takes_each, takes_waiting, agent_runs, agent_takes, takes_start, start_taken, start_after, agent_turn}
+use Rattle.cluster_model.specs.Environment.{Environment, NoFault, DiskFails, NoMemory, DisksShow}
 use Rattle.cluster_model.specs.World.{World, took, stamp_of}
 use Rattle.cluster_model.specs.Events.{delivered, allows, can, is_actor, is_some_letter, step}
 use Rattle.volt_wire.specs.declared.event.Event.TheVariants as event
@@ -115,7 +115,7 @@ on_finished-start E D h a Works (Some w) p m =
     elim w.decision as (λ x. (elim x as (λ _. Turn AgentState) [
       | None ↦ becomes a
       | Some d ↦
-          if w.m == m
+          if w.transaction == m
           then (if all_finished (all_parts D) done.finished then ends_job E D h (with_work a done) w.job d.end else becomes (with_work a done))
           else becomes a
     ]).state.start ≡ a.start) [
@@ -147,7 +147,7 @@ on_mp_state-start E D h a (Closes c parts finished) p m is_open outcome = refl
 on_mp_state-start E D h a Idle p m is_open outcome = refl
 on_mp_state-start E D h a Works p m is_open outcome = refl
 
--- ---- the rows of calls and words keep it too
+-- ---- the handlers of calls and words keep it too
 
 to_slot-start : (a : AgentState) (call n : ℕ) (body : List ℕ) (slot : ℕ) (start : Option ℕ) → (to_slot a call n body slot start).state.start ≡ a.start
 to_slot-start a call n body slot None = refl
@@ -237,7 +237,7 @@ after-other D h start t f s = record {
       (t.sends (Agent g) ++ e.0, ap (λ x. t.sends (Agent g) ++ x) e.1 ∙ sym (append_assoc (t.sends (Agent g)) e.0 _));
 }
 
--- Decided is the one row in which an agent may stop
+-- Decided is the one handler in which an agent may stop
 on_decided-over : (D : Deployment) (h : ℕ) (a : AgentState) (decided taken : Option Membership) (w : Membership) → Over D h a.start (on_decided D h a decided taken w)
 on_decided-over D h a (Some decided) taken w = inl refl
 on_decided-over D h a None None w = inl refl
@@ -281,14 +281,14 @@ from_client-start D a n l = elim l.body as (λ m. (from_client D a n (record l {
   | _ ↦ refl
 ]
 
-row-over : (E : Database) (D : Deployment) (h stamp : ℕ) (a : AgentState) (from : Actor) (l : Letter) → Over D h a.start (agent_row E D h stamp a from l)
-row-over E D h stamp a Director l = inl (from_director-start E D h a l)
-row-over E D h stamp a (Client n) l = inl (from_client-start D a n l)
-row-over E D h stamp a (Agent g) l = from_agent-over E D h stamp a g l
-row-over E D h stamp a (Site s) l = inl (from_site-start E D h stamp a s l)
-row-over E D h stamp a (Scanner x) l = inl refl
+handler-over : (E : Database) (D : Deployment) (h stamp : ℕ) (a : AgentState) (from : Actor) (l : Letter) → Over D h a.start (agent_handler E D h stamp a from l)
+handler-over E D h stamp a Director l = inl (from_director-start E D h a l)
+handler-over E D h stamp a (Client n) l = inl (from_client-start D a n l)
+handler-over E D h stamp a (Agent g) l = from_agent-over E D h stamp a g l
+handler-over E D h stamp a (Site s) l = inl (from_site-start E D h stamp a s l)
+handler-over E D h stamp a (Scanner x) l = inl refl
 
--- ---- what follows a row
+-- ---- what follows a handler
 
 says-start : (h : ℕ) (a : AgentState) (own : Option Membership) → (says h a own).state.start ≡ a.start
 says-start h a None = refl
@@ -314,10 +314,10 @@ agrees-nothing : (D : Deployment) (h : ℕ) (before : Option Membership)
 agrees-nothing D h None = (refl, λ g. refl)
 agrees-nothing D h (Some w) = (refl, λ g. refl)
 
-pub row_and_word-over : (E : Database) (D : Deployment) (h stamp : ℕ) (a : AgentState) (from : Actor) (l : Letter) → Over D h a.start (row_and_word E D h stamp a from l)
-row_and_word-over E D h stamp a from l = elim (row-over E D h stamp a from l) [
-  | inl q ↦ inl (agrees-start D h a.own (agent_row E D h stamp a from l).state ∙ q)
-  | inr s ↦ let n = agrees-nothing D h a.own in inr (then-nothing D h a.start (agent_row E D h stamp a from l) (agrees D h a.own) s n.0 n.1)
+pub handler_and_word-over : (E : Database) (D : Deployment) (h stamp : ℕ) (a : AgentState) (from : Actor) (l : Letter) → Over D h a.start (handler_and_word E D h stamp a from l)
+handler_and_word-over E D h stamp a from l = elim (handler-over E D h stamp a from l) [
+  | inl q ↦ inl (agrees-start D h a.own (agent_handler E D h stamp a from l).state ∙ q)
+  | inr s ↦ let n = agrees-nothing D h a.own in inr (then-nothing D h a.start (agent_handler E D h stamp a from l) (agrees D h a.own) s n.0 n.1)
 ]
 
 -- ---- what waited
@@ -343,9 +343,9 @@ takes_each-over E D h stamp (w ∷ ws) a = elim (unless-over (a.start == 0)) [
       inr (then-nothing D h a.start (unless_stopped E D h stamp a w.from w.letter) (takes_each E D h stamp ws) s n.0 n.1)
 ]
   where
-    unless-over : (c : Bool) → Over D h a.start (if c then becomes a else row_and_word E D h stamp a w.from w.letter)
+    unless-over : (c : Bool) → Over D h a.start (if c then becomes a else handler_and_word E D h stamp a w.from w.letter)
     unless-over true = inl refl
-    unless-over false = row_and_word-over E D h stamp a w.from w.letter
+    unless-over false = handler_and_word-over E D h stamp a w.from w.letter
 
 takes_waiting-over : (E : Database) (D : Deployment) (h stamp : ℕ) (a : AgentState) → Over D h a.start (takes_waiting E D h stamp a)
 takes_waiting-over E D h stamp a = takes_each-over E D h stamp (of_term (term_in a.decided) a.waiting) (record a { waiting = above_term (term_in a.decided) a.waiting })
@@ -356,20 +356,20 @@ takes_waiting-nothing E D h stamp = (refl, λ g. refl)
 
 -- ---- the whole of a message
 
-taken-over : (E : Database) (D : Deployment) (h stamp : ℕ) (a : AgentState) (from : Actor) (l : Letter) → Over D h a.start (row_and_word E D h stamp a from l ▸ takes_waiting E D h stamp)
-taken-over E D h stamp a from l = elim (row_and_word-over E D h stamp a from l) [
-  | inl q ↦ elim (takes_waiting-over E D h stamp (row_and_word E D h stamp a from l).state) [
+taken-over : (E : Database) (D : Deployment) (h stamp : ℕ) (a : AgentState) (from : Actor) (l : Letter) → Over D h a.start (handler_and_word E D h stamp a from l ▸ takes_waiting E D h stamp)
+taken-over E D h stamp a from l = elim (handler_and_word-over E D h stamp a from l) [
+  | inl q ↦ elim (takes_waiting-over E D h stamp (handler_and_word E D h stamp a from l).state) [
     | inl p ↦ inl (p ∙ q)
-    | inr s ↦ inr (after-other D h a.start (row_and_word E D h stamp a from l) (takes_waiting E D h stamp)
-        (subst (λ k. Stopped D h k (takes_waiting E D h stamp (row_and_word E D h stamp a from l).state)) q s))
+    | inr s ↦ inr (after-other D h a.start (handler_and_word E D h stamp a from l) (takes_waiting E D h stamp)
+        (subst (λ k. Stopped D h k (takes_waiting E D h stamp (handler_and_word E D h stamp a from l).state)) q s))
   ]
   | inr s ↦ let n = takes_waiting-nothing E D h stamp in
-      inr (then-nothing D h a.start (row_and_word E D h stamp a from l) (takes_waiting E D h stamp) s n.0 n.1)
+      inr (then-nothing D h a.start (handler_and_word E D h stamp a from l) (takes_waiting E D h stamp) s n.0 n.1)
 ]
 
 runs-over : (E : Database) (D : Deployment) (h stamp : ℕ) (a : AgentState) (from : Actor) (l : Letter) → Over D h a.start (agent_runs E D h stamp a from l)
 runs-over E D h stamp a from l = elim (arrival a.start (term_in a.decided) l) as (λ x. Over D h a.start (elim x as (λ _. Turn AgentState) [
-  | Taken ↦ row_and_word E D h stamp a from l ▸ takes_waiting E D h stamp
+  | Taken ↦ handler_and_word E D h stamp a from l ▸ takes_waiting E D h stamp
   | Waits ↦ becomes (record a { waiting = a.waiting ++ record { from = from; letter = l } ∷ [] })
   | Refused ↦ becomes a
 ])) [
@@ -397,7 +397,7 @@ takes-over E D h stamp a from l runs = elim l.body as (λ m. Over D h a.start (a
   | m ↦ rw runs (runs-over E D h stamp a from (record l { body = m }))
 ]
 
--- of a running agent, whatever the outside does
+-- of a running agent, whatever the environment does
 start_taken-same : (a : AgentState) (from : Actor) (start : ℕ) → (a.start == 0) ≡ false → start_taken a from start ≡ a.start
 start_taken-same a Director start runs = rw runs refl
 start_taken-same a (Client n) start runs = refl
@@ -411,8 +411,8 @@ start_after-same a from l runs = elim l.body as (λ m. start_after a from (recor
   | _ ↦ refl
 ]
 
-turn-over : (E : Database) (D : Deployment) (h stamp : ℕ) (a : AgentState) (from : Actor) (l : Letter) (o : Outside) → (a.start == 0) ≡ false → Over D h a.start (agent_turn E D h stamp a from l o)
-turn-over E D h stamp a from l Fair runs = takes-over E D h stamp a from l runs
+turn-over : (E : Database) (D : Deployment) (h stamp : ℕ) (a : AgentState) (from : Actor) (l : Letter) (o : Environment) → (a.start == 0) ≡ false → Over D h a.start (agent_turn E D h stamp a from l o)
+turn-over E D h stamp a from l NoFault runs = takes-over E D h stamp a from l runs
 turn-over E D h stamp a from l (DiskFails answered) runs = takes-over E D h stamp a from l runs
 turn-over E D h stamp a from l (NoMemory answered) runs =
     over-start D h a.start a.start (agent_turn E D h stamp a from l (NoMemory answered)) refl
@@ -421,7 +421,7 @@ turn-over E D h stamp a from l (DisksShow shown failed) runs = takes-over E D h 
 
 -- ---- in the world
 
-delivered-closes : (E : Database) (w : World) (h g : ℕ) (from : Actor) (ls : List Letter) (o : Outside)
+delivered-closes : (E : Database) (w : World) (h g : ℕ) (from : Actor) (ls : List Letter) (o : Environment)
     → ((w.agents h).start == 0) ≡ false → ((delivered E w (Agent h) from ls o).agents h).start ≡ 0
     → is_host w.deployment g ≡ true → (g == h) ≡ false
     → EndsWith (open_letter (msg.Closed (w.agents h).start)) ((delivered E w (Agent h) from ls o).channel (Agent h) (Agent g))
@@ -440,7 +440,7 @@ delivered-closes E w h g from (l ∷ ls) o runs stopped is other =
     sent-own : (h == h) ≡ true → (before sends : List Letter) → (if h == h then before ++ sends else before) ≡ before ++ sends
     sent-own self before sends = rw self refl
 
-pub closes-last : (E : Database) (w : World) (h g : ℕ) (from : Actor) (o : Outside)
+pub closes-last : (E : Database) (w : World) (h g : ℕ) (from : Actor) (o : Environment)
     → nat_lt 0 (w.agents h).start ≡ true → ((step E w (event.Deliver (Agent h) from, o)).agents h).start ≡ 0
     → is_host w.deployment g ≡ true → (g == h) ≡ false
     → EndsWith (open_letter (msg.Closed (w.agents h).start)) ((step E w (event.Deliver (Agent h) from, o)).channel (Agent h) (Agent g))
@@ -464,16 +464,16 @@ after-none a from l none = elim l.body as (λ m. start_in_letter (record l { bod
   | m ↦ λ e. refl
 ] none
 
-silent-turn : (E : Database) (w : World) (h : ℕ) (from b : Actor) (l : Letter) (ls : List Letter) (o : Outside) → (w.agents h).start ≡ 0 → start_in_letter l ≡ []
+silent-turn : (E : Database) (w : World) (h : ℕ) (from b : Actor) (l : Letter) (ls : List Letter) (o : Environment) → (w.agents h).start ≡ 0 → start_in_letter l ≡ []
     → w.channel from (Agent h) ≡ l ∷ ls → allows w (event.Deliver (Agent h) from) o ≡ true
     → (agent_turn E w.deployment h (stamp_of w) (w.agents h) from l o).sends b ≡ []
-silent-turn E w h from b l ls Fair stopped none is may = silent-takes E w.deployment h (stamp_of w) (w.agents h) from b l (rw stopped refl) none
+silent-turn E w h from b l ls NoFault stopped none is may = silent-takes E w.deployment h (stamp_of w) (w.agents h) from b l (rw stopped refl) none
 silent-turn E w h from b l ls (DiskFails answered) stopped none is may = silent-takes E w.deployment h (stamp_of w) (w.agents h) from b l (rw stopped refl) none
 silent-turn E w h from b l ls (NoMemory answered) stopped none is may =
     let z = rw (is, after-none (w.agents h) from l none, stopped) at may in absurd (cc)
 silent-turn E w h from b l ls (DisksShow shown failed) stopped none is may = silent-takes E w.deployment h (stamp_of w) (w.agents h) from b l (rw stopped refl) none
 
-silent-delivered : (E : Database) (w : World) (h : ℕ) (from b : Actor) (ls : List Letter) (o : Outside) → w.channel from (Agent h) ≡ ls → is_some_letter ls ≡ true
+silent-delivered : (E : Database) (w : World) (h : ℕ) (from b : Actor) (ls : List Letter) (o : Environment) → w.channel from (Agent h) ≡ ls → is_some_letter ls ≡ true
     → allows w (event.Deliver (Agent h) from) o ≡ true → (w.agents h).start ≡ 0 → starts_in (take 1 ls) ≡ []
     → (delivered E w (Agent h) from ls o).channel (Agent h) b ≡ took w.channel from (Agent h) (Agent h) b
 silent-delivered E w h from b [] o is some may stopped none = absurd (cc)
@@ -482,7 +482,7 @@ silent-delivered E w h from b (l ∷ ls) o is some may stopped none =
     let quiet = silent-turn E w h from b l ls o stopped (sym (append-nil (start_in_letter l)) ∙ none) is may in
     rw (self, quiet) (append-nil (took w.channel from (Agent h) (Agent h) b))
 
-pub stays-silent : (E : Database) (w : World) (h : ℕ) (from b : Actor) (o : Outside)
+pub stays-silent : (E : Database) (w : World) (h : ℕ) (from b : Actor) (o : Environment)
     → can w (event.Deliver (Agent h) from) ≡ true → allows w (event.Deliver (Agent h) from) o ≡ true
     → (w.agents h).start ≡ 0 → starts_in (take 1 (w.channel from (Agent h))) ≡ []
     → (step E w (event.Deliver (Agent h) from, o)).channel (Agent h) b ≡ left_by w (event.Deliver (Agent h) from) (Agent h) b

@@ -14,7 +14,7 @@ use Rattle.cluster_model.specs.Engine.{Database}
 use Rattle.cluster_model.specs.Letters.{Letter}
 use Rattle.cluster_model.specs.Words.{Deployment}
 use Rattle.cluster_model.specs.Director.{DirectorState, does, does_next, director_takes}
-use Rattle.cluster_model.specs.Outside.{Outside, Fair, DiskFails, NoMemory, DisksShow}
+use Rattle.cluster_model.specs.Environment.{Environment, NoFault, DiskFails, NoMemory, DisksShow}
 use Rattle.cluster_model.specs.World.{World, hosts_from}
 use Rattle.cluster_model.specs.Recover.{recovers}
 use Rattle.cluster_model.specs.Events.{delivered, received, recovered_with, may_do, step}
@@ -36,14 +36,14 @@ takes-next d (Site s) l = elim l.body as (λ m. d.next_start ≡ (director_takes
 ]
 takes-next d (Scanner x) l = refl
 
-received-next : (E : Database) (w : World) (to from : Actor) (l : Letter) (o : Outside) → w.director.next_start ≤ (received E w to from l o).director.next_start
+received-next : (E : Database) (w : World) (to from : Actor) (l : Letter) (o : Environment) → w.director.next_start ≤ (received E w to from l o).director.next_start
 received-next E w Director from l o = rw (← takes-next w.director from l) (omega arith)
 received-next E w (Client n) from l o = omega arith
 received-next E w (Agent h) from l o = omega arith
 received-next E w (Site i) from l o = omega arith
 received-next E w (Scanner i) from l o = omega arith
 
-delivered-next : (E : Database) (w : World) (to from : Actor) (ls : List Letter) (o : Outside) → w.director.next_start ≤ (delivered E w to from ls o).director.next_start
+delivered-next : (E : Database) (w : World) (to from : Actor) (ls : List Letter) (o : Environment) → w.director.next_start ≤ (delivered E w to from ls o).director.next_start
 delivered-next E w to from [] o = omega arith
 delivered-next E w to from (l ∷ ls) o = received-next E _ to from l o
 
@@ -89,13 +89,13 @@ drawn-recovers : (E : Database) (w : World) (shown : List ℕ) (failed : Option 
 drawn-recovers E w shown None = drawn-hosts w.deployment.layout.hosts 0 w.director.next_start
 drawn-recovers E w shown (Some failed) = omega arith
 
-drawn-recovery : (E : Database) (w : World) (o : Outside) → Between w.director.next_start (recovered_with E w o).director.next_start (drawn_by_recovery w o)
-drawn-recovery E w Fair = omega arith
+drawn-recovery : (E : Database) (w : World) (o : Environment) → Between w.director.next_start (recovered_with E w o).director.next_start (drawn_by_recovery w o)
+drawn-recovery E w NoFault = omega arith
 drawn-recovery E w (DiskFails answered) = omega arith
 drawn-recovery E w (NoMemory answered) = omega arith
 drawn-recovery E w (DisksShow shown failed) = drawn-recovers E w shown failed
 
-drawn-step : (E : Database) (w : World) (e : Event) (o : Outside) → Between w.director.next_start (step E w (e, o)).director.next_start (drawn_by w e o)
+drawn-step : (E : Database) (w : World) (e : Event) (o : Environment) → Between w.director.next_start (step E w (e, o)).director.next_start (drawn_by w e o)
 drawn-step E w (event.Deliver to from) o = delivered-next E w to from (w.channel from to) o
 drawn-step E w (event.Sync i) o = omega arith
 drawn-step E w (event.Scan i) o = omega arith

@@ -13,7 +13,7 @@ use Rattle.cluster_model.specs.Client.{submits}
 use Rattle.cluster_model.specs.Agent.{agent_turn}
 use Rattle.cluster_model.specs.Sync.{site_turn, sync_turn}
 use Rattle.cluster_model.specs.Scanner.{scanner_turn, scan_turn}
-use Rattle.cluster_model.specs.Outside.{Outside}
+use Rattle.cluster_model.specs.Environment.{Environment}
 use Rattle.cluster_model.specs.World.{World, set_at, took, sent, stamp_of}
 use Rattle.cluster_model.specs.Events.{delivered, step, can, may_do, is_actor, is_some_letter}
 use Rattle.cluster_model.specs.Laws.{ChangesOne, is_one_actors, actor_of}
@@ -43,7 +43,7 @@ nothing-appends ls = ([], sym (append-nil ls))
 -- ---- by the receiver of a message
 
 -- the director takes a message
-director_takes-one : (E : Database) (w : World) (from : Actor) (l : Letter) (ls : List Letter) (o : Outside)
+director_takes-one : (E : Database) (w : World) (from : Actor) (l : Letter) (ls : List Letter) (o : Environment)
     → ChangesOne w (delivered E w Director from (l ∷ ls) o) (event.Deliver Director from) Director
 director_takes-one E w from l ls o = record {
   director = λ e. absurd (cc);
@@ -55,7 +55,7 @@ director_takes-one E w from l ls o = record {
   others = λ b c e. sent-others (took w.channel from Director) Director no_sends b c e;
 }
 
-site_takes-one : (E : Database) (w : World) (i : ℕ) (from : Actor) (l : Letter) (ls : List Letter) (o : Outside)
+site_takes-one : (E : Database) (w : World) (i : ℕ) (from : Actor) (l : Letter) (ls : List Letter) (o : Environment)
     → ChangesOne w (delivered E w (Site i) from (l ∷ ls) o) (event.Deliver (Site i) from) (Site i)
 site_takes-one E w i from l ls o = record {
   director = λ e. refl;
@@ -67,7 +67,7 @@ site_takes-one E w i from l ls o = record {
   others = λ b c e. sent-others (took w.channel from (Site i)) (Site i) (site_turn E w.deployment (stamp_of w) i (w.sites i) from l o).sends b c e;
 }
 
-client_takes-one : (E : Database) (w : World) (n : ℕ) (from : Actor) (l : Letter) (ls : List Letter) (o : Outside)
+client_takes-one : (E : Database) (w : World) (n : ℕ) (from : Actor) (l : Letter) (ls : List Letter) (o : Environment)
     → ChangesOne w (delivered E w (Client n) from (l ∷ ls) o) (event.Deliver (Client n) from) (Client n)
 client_takes-one E w n from l ls o = record {
   director = λ e. refl;
@@ -79,7 +79,7 @@ client_takes-one E w n from l ls o = record {
   others = λ b c e. sent-others (took w.channel from (Client n)) (Client n) no_sends b c e;
 }
 
-agent_takes-one : (E : Database) (w : World) (h : ℕ) (from : Actor) (l : Letter) (ls : List Letter) (o : Outside)
+agent_takes-one : (E : Database) (w : World) (h : ℕ) (from : Actor) (l : Letter) (ls : List Letter) (o : Environment)
     → ChangesOne w (delivered E w (Agent h) from (l ∷ ls) o) (event.Deliver (Agent h) from) (Agent h)
 agent_takes-one E w h from l ls o = record {
   director = λ e. refl;
@@ -91,7 +91,7 @@ agent_takes-one E w h from l ls o = record {
   others = λ b c e. sent-others (took w.channel from (Agent h)) (Agent h) (agent_turn E w.deployment h (stamp_of w) (w.agents h) from l o).sends b c e;
 }
 
-scanner_takes-one : (E : Database) (w : World) (i : ℕ) (from : Actor) (l : Letter) (ls : List Letter) (o : Outside)
+scanner_takes-one : (E : Database) (w : World) (i : ℕ) (from : Actor) (l : Letter) (ls : List Letter) (o : Environment)
     → ChangesOne w (delivered E w (Scanner i) from (l ∷ ls) o) (event.Deliver (Scanner i) from) (Scanner i)
 scanner_takes-one E w i from l ls o = record {
   director = λ e. refl;
@@ -103,7 +103,7 @@ scanner_takes-one E w i from l ls o = record {
   others = λ b c e. sent-others (took w.channel from (Scanner i)) (Scanner i) (scanner_turn w.deployment i (w.scanners i) from l o).sends b c e;
 }
 
-received-one : (E : Database) (w : World) (to from : Actor) (l : Letter) (ls : List Letter) (o : Outside)
+received-one : (E : Database) (w : World) (to from : Actor) (l : Letter) (ls : List Letter) (o : Environment)
     → ChangesOne w (delivered E w to from (l ∷ ls) o) (event.Deliver to from) to
 received-one E w Director from l ls o = director_takes-one E w from l ls o
 received-one E w (Client n) from l ls o = client_takes-one E w n from l ls o
@@ -111,14 +111,14 @@ received-one E w (Agent h) from l ls o = agent_takes-one E w h from l ls o
 received-one E w (Site i) from l ls o = site_takes-one E w i from l ls o
 received-one E w (Scanner i) from l ls o = scanner_takes-one E w i from l ls o
 
-delivered-one : (E : Database) (w : World) (to from : Actor) (ls : List Letter) (o : Outside) → is_some_letter ls ≡ true
+delivered-one : (E : Database) (w : World) (to from : Actor) (ls : List Letter) (o : Environment) → is_some_letter ls ≡ true
     → ChangesOne w (delivered E w to from ls o) (event.Deliver to from) to
 delivered-one E w to from [] o e = absurd (cc)
 delivered-one E w to from (l ∷ ls) o e = received-one E w to from l ls o
 
 -- ---- by the event
 
-pub event-one : (E : Database) (w : World) (e : Event) (o : Outside) → is_one_actors e ≡ true → can w e ≡ true
+pub event-one : (E : Database) (w : World) (e : Event) (o : Environment) → is_one_actors e ≡ true → can w e ≡ true
     → ChangesOne w (step E w (e, o)) e (actor_of e)
 event-one E w (event.Deliver to from) o is may =
     let some = (and_parts (is_some_letter (w.channel from to)) (is_actor w.deployment to) may).0 in

@@ -6,7 +6,7 @@ use Rattle.volt_wire.specs.declared.actor.Actor.{Actor}
 use Rattle.volt_wire.specs.declared.actor.Actor.TheVariants.{Director, Client, Agent, Site, Scanner}
 use Rattle.volt_wire.specs.declared.end.End.TheVariants as end
 use Rattle.volt_wire.specs.declared.message.Msg.TheVariants as msg
-use Rattle.cluster_model.specs.Outside.{Outside, NoMemory}
+use Rattle.cluster_model.specs.Environment.{Environment, NoMemory}
 use Rattle.cluster_model.specs.Engine.{Database}
 use Rattle.cluster_model.specs.Words.{Deployment, part_of_slot, is_host, is_client, is_slot_of, slots_of_host, is_in, with_number, term_of, term_in, same_word, union, with_lost, members, start_of, is_member, admits, initiator, leader, start_of_slot, part_down, is_down}
 use Rattle.cluster_model.specs.Letters.{Letter, Sends, Turn, becomes, sending, ◌▸◌, open_letter, letter_to, letter_in, only, arrival, Taken, Refused, Waits, Waiting, of_term, above_term}
@@ -160,7 +160,7 @@ decides_word D h a (Some w) =
     sending (on_decided_word h (record a { decided = Some w; pending = filter (λ p. not (is_in p.target w.lost)) a.pending }))
     (decided_sends D h a w)
 
--- what follows the row of a message, given the word that the agent had before
+-- what follows the handler of a message, given the word that the agent had before
 abbrev pub agrees : Deployment → ℕ → Option Membership → AgentState → Turn AgentState
 agrees D h before a =
     (if is_other_word before a.own then says h a a.own else becomes a)
@@ -204,20 +204,20 @@ from_client D a n l = elim l.body as (λ _. Turn AgentState) [
   | _ ↦ becomes a
 ]
 
--- the row of a message that it takes
-abbrev pub agent_row : Database → Deployment → ℕ → ℕ → AgentState → Actor → Letter → Turn AgentState
-agent_row E D h stamp a Director l = from_director E D h a l
-agent_row E D h stamp a (Client n) l = from_client D a n l
-agent_row E D h stamp a (Agent g) l = from_agent E D h stamp a g l
-agent_row E D h stamp a (Site s) l = from_site E D h stamp a s l
-agent_row E D h stamp a (Scanner x) l = becomes a
+-- the handler of a message that it takes
+abbrev pub agent_handler : Database → Deployment → ℕ → ℕ → AgentState → Actor → Letter → Turn AgentState
+agent_handler E D h stamp a Director l = from_director E D h a l
+agent_handler E D h stamp a (Client n) l = from_client D a n l
+agent_handler E D h stamp a (Agent g) l = from_agent E D h stamp a g l
+agent_handler E D h stamp a (Site s) l = from_site E D h stamp a s l
+agent_handler E D h stamp a (Scanner x) l = becomes a
 
-abbrev pub row_and_word : Database → Deployment → ℕ → ℕ → AgentState → Actor → Letter → Turn AgentState
-row_and_word E D h stamp a from l = agent_row E D h stamp a from l ▸ agrees D h a.own
+abbrev pub handler_and_word : Database → Deployment → ℕ → ℕ → AgentState → Actor → Letter → Turn AgentState
+handler_and_word E D h stamp a from l = agent_handler E D h stamp a from l ▸ agrees D h a.own
 
 -- an agent that has stopped drops what waited
 abbrev pub unless_stopped : Database → Deployment → ℕ → ℕ → AgentState → Actor → Letter → Turn AgentState
-unless_stopped E D h stamp a from l = if a.start == 0 then becomes a else row_and_word E D h stamp a from l
+unless_stopped E D h stamp a from l = if a.start == 0 then becomes a else handler_and_word E D h stamp a from l
 
 -- The messages that waited for its term are taken after all else, in order of coming. None of them brings another word to
 -- decide.
@@ -249,7 +249,7 @@ on_stop D h a start = if nat_le a.start start then stops D h a.start else become
 
 abbrev pub agent_runs : Database → Deployment → ℕ → ℕ → AgentState → Actor → Letter → Turn AgentState
 agent_runs E D h stamp a from l = elim (arrival a.start (term_in a.decided) l) as (λ _. Turn AgentState) [
-  | Taken ↦ row_and_word E D h stamp a from l ▸ takes_waiting E D h stamp
+  | Taken ↦ handler_and_word E D h stamp a from l ▸ takes_waiting E D h stamp
   | Waits ↦ becomes (record a { waiting = a.waiting ++ record { from = from; letter = l } ∷ [] })
   | Refused ↦ becomes a
 ]
@@ -262,7 +262,7 @@ agent_takes E D h stamp a from l = elim l.body as (λ _. Turn AgentState) [
   | _ ↦ if a.start == 0 then becomes a else agent_runs E D h stamp a from l
 ]
 
--- ---- the outside's share
+-- ---- the environment's share
 
 -- the start with which it goes on once it has taken a message, before anything else
 abbrev pub start_taken : AgentState → Actor → ℕ → ℕ
@@ -276,6 +276,6 @@ start_after a from l = elim l.body as (λ _. ℕ) [
 ]
 
 -- An agent that finds no memory stops with its host.
-abbrev pub agent_turn : Database → Deployment → ℕ → ℕ → AgentState → Actor → Letter → Outside → Turn AgentState
+abbrev pub agent_turn : Database → Deployment → ℕ → ℕ → AgentState → Actor → Letter → Environment → Turn AgentState
 agent_turn E D h stamp a from l (NoMemory answered) = stops_with_host D h (start_after a from l)
 agent_turn E D h stamp a from l o = agent_takes E D h stamp a from l

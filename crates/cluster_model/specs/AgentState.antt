@@ -36,7 +36,7 @@ pub record Decision : Type 0 where
 pub record Work : Type 0 where
   pub job : Job
   -- the number of its transaction
-  pub m : ℕ
+  pub transaction : ℕ
   -- the round that is under way, the parts of the rounds before it, and those that came of this one
   pub round : ℕ
   pub fed : List (List (List ℕ))
@@ -48,7 +48,7 @@ pub record Work : Type 0 where
 -- what a partition told of itself in a new term: the transaction that is open, or the last one that was done
 pub record Heard : Type 0 where
   pub part : ℕ
-  pub m : ℕ
+  pub transaction : ℕ
   pub is_open : Bool
   pub outcome : Option Outcome
 
@@ -58,7 +58,7 @@ pub data Phase : Type 0 where
   -- it waits for what all partitions tell of themselves
   Hears : List Heard → Phase
   -- It closes this transaction in these partitions, and it is closed for good in those.
-  Closes : (m : ℕ) (parts : List ℕ) (finished : List ℕ) → Phase
+  Closes : (transaction : ℕ) (parts : List ℕ) (finished : List ℕ) → Phase
   Idle : Phase
   -- it works on the job at hand
   Works : Phase

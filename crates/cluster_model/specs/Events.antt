@@ -20,13 +20,13 @@ use Rattle.cluster_model.specs.Agent.{agent_turn, start_after as agent_start}
 use Rattle.cluster_model.specs.SiteState.{SiteState}
 use Rattle.cluster_model.specs.Sync.{may_sync, parts_of_sync, parts_of_message, site_turn, sync_turn, start_after as site_start}
 use Rattle.cluster_model.specs.Scanner.{may_scan, scanner_turn, scan_turn, start_after as scanner_start}
-use Rattle.cluster_model.specs.Outside.{Outside, Fair, DiskFails, NoMemory, DisksShow}
+use Rattle.cluster_model.specs.Environment.{Environment, NoFault, DiskFails, NoMemory, DisksShow}
 use Rattle.cluster_model.specs.World.{World, took, stamp_of, with_director, with_client, with_agent, with_site, with_scanner, stop_noted}
 use Rattle.cluster_model.specs.Recover.{recovers, count_shown}
 
 -- ---- the receiver takes a message
 
-abbrev pub received : Database → World → Actor → Actor → Letter → Outside → World
+abbrev pub received : Database → World → Actor → Actor → Letter → Environment → World
 received E w Director from l o = with_director w (becomes (director_takes w.director from l))
 received E w (Client n) from l o = with_client w n (becomes (client_takes (stamp_of w) n (w.clients n) from l))
 received E w (Agent h) from l o = with_agent w h (agent_turn E w.deployment h (stamp_of w) (w.agents h) from l o)
@@ -34,7 +34,7 @@ received E w (Site i) from l o = with_site w i (site_turn E w.deployment (stamp_
 received E w (Scanner i) from l o = with_scanner w i (scanner_turn w.deployment i (w.scanners i) from l o)
 
 -- the first message leaves its channel
-abbrev pub delivered : Database → World → Actor → Actor → List Letter → Outside → World
+abbrev pub delivered : Database → World → Actor → Actor → List Letter → Environment → World
 delivered E w to from [] o = w
 delivered E w to from (l ∷ ls) o =
     received E (stop_noted (record w { channel = took w.channel from to }) to o) to from l o
@@ -126,7 +126,7 @@ events D =
 abbrev pub enabled : World → List Event
 enabled w = filter (can w) (events w.deployment)
 
--- ---- which shares the outside may have
+-- ---- which shares the environment may have
 
 abbrev pub first_letter_parts : SiteState → List Letter → ℕ
 first_letter_parts s [] = 0
@@ -160,11 +160,11 @@ runs_with w (Site i) from (l ∷ ls) = nat_lt 0 (site_start (w.sites i) l) && ta
 runs_with w (Scanner i) from (l ∷ ls) = nat_lt 0 (scanner_start (w.scanners i) l) && takes_memory l
 runs_with w to from ls = false
 
-abbrev pub may_want_memory : World → Event → ℕ → Bool
-may_want_memory w (event.Deliver to from) answered = runs_with w to from (w.channel from to) && nat_le answered (parts_of w (event.Deliver to from))
-may_want_memory w (event.Sync i) answered = nat_le answered (parts_of w (event.Sync i))
-may_want_memory w (event.Scan i) answered = answered == 0
-may_want_memory w e answered = false
+abbrev pub may_run_out_of_memory : World → Event → ℕ → Bool
+may_run_out_of_memory w (event.Deliver to from) answered = runs_with w to from (w.channel from to) && nat_le answered (parts_of w (event.Deliver to from))
+may_run_out_of_memory w (event.Sync i) answered = nat_le answered (parts_of w (event.Sync i))
+may_run_out_of_memory w (event.Scan i) answered = answered == 0
+may_run_out_of_memory w e answered = false
 
 -- each disk that showed a content showed one of its own, and the disk that failed is one of a slot
 abbrev pub is_shown : World → List ℕ → Option (ℕ × Bool) → Bool
@@ -175,21 +175,21 @@ abbrev pub is_slot_or_none : Deployment → Option (ℕ × Bool) → Bool
 is_slot_or_none D None = true
 is_slot_or_none D (Some failed) = nat_lt failed.0 (slots D)
 
-abbrev pub allows : World → Event → Outside → Bool
+abbrev pub allows : World → Event → Environment → Bool
 allows w event.Recover (DisksShow shown failed) = is_shown w shown failed && is_slot_or_none w.deployment failed
 allows w event.Recover o = false
-allows w e Fair = true
+allows w e NoFault = true
 allows w e (DiskFails answered) = may_fail_disk w e answered
-allows w e (NoMemory answered) = may_want_memory w e answered
+allows w e (NoMemory answered) = may_run_out_of_memory w e answered
 allows w e (DisksShow shown failed) = false
 
 -- ---- the step
 
-abbrev pub recovered_with : Database → World → Outside → World
+abbrev pub recovered_with : Database → World → Environment → World
 recovered_with E w (DisksShow shown failed) = recovers E w shown failed
 recovered_with E w o = w
 
-abbrev pub happens : Database → World → Event → Outside → World
+abbrev pub happens : Database → World → Event → Environment → World
 happens E w (event.Deliver to from) o = delivered E w to from (w.channel from to) o
 happens E w (event.Sync i) o = with_site (stop_noted w (Site i) o) i (sync_turn E w.deployment i (w.sites i) o)
 happens E w (event.Scan i) o = with_scanner (stop_noted w (Scanner i) o) i (scan_turn w.deployment i (w.scanners i) o)
@@ -199,6 +199,6 @@ happens E w (event.Submit n) o =
     with_client w n (submits w.deployment (stamp_of w) (w.clients n) (w.clients n).left)
 happens E w (event.Idle a) o = w
 
--- the world after an event, with the outside's share of it
-abbrev pub step : Database → World → Event × Outside → World
+-- the world after an event, with the environment's share of it
+abbrev pub step : Database → World → Event × Environment → World
 step E w e = let v = happens E w e.0 e.1 in record v { trace = v.trace ++ e.0 ∷ [] }

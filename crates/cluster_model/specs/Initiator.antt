@@ -47,7 +47,7 @@ no_work a = record a { initiating = record a.initiating { phase = Idle; work = N
 -- the job at hand in its first round, with the next number
 abbrev pub new_work : Job → ℕ → Work
 new_work job m =
-    record { job = job; m = m; round = 1; fed = []; gathered = []; decision = None; finished = [] }
+    record { job = job; transaction = m; round = 1; fed = []; gathered = []; decision = None; finished = [] }
 
 -- the body of a round; where the call ends at its start one round with an empty body goes out first
 abbrev pub body_of_round : CoordStep → List ℕ
@@ -140,13 +140,13 @@ abbrev pub decides : Deployment → ℕ → AgentState → Work → Bool → Lis
 decides D stamp a w keep reply =
     let outcome = outcome_of keep w.job stamp in
     sending (with_work a (record w { decision = Some (record { outcome = outcome; end = Some (end_of_reply reply) }) }))
-    (to_all_leaders D a.decided (msg.Done w.m outcome))
+    (to_all_leaders D a.decided (msg.Done w.transaction outcome))
 
 -- the next round, or the decision
 abbrev pub goes_on : Deployment → ℕ → AgentState → Work → CoordStep → Turn AgentState
 goes_on D stamp a w (Round body) =
     sending (with_work a (record w { round = w.round + 1; gathered = [] }))
-    (to_all_leaders D a.decided (msg.Frag w.m (w.round + 1) body))
+    (to_all_leaders D a.decided (msg.Frag w.transaction (w.round + 1) body))
 goes_on D stamp a w (Finish keep reply) = decides D stamp a w keep reply
 
 -- all parts of the round are there; those of a round that the call didn't ask for aren't fed
@@ -167,7 +167,7 @@ gathers E D stamp a w =
 -- FragDone: with all partitions' parts it feeds the call, and then the next round goes out, or the decision.
 abbrev pub on_frag_done : Database → Deployment → ℕ → AgentState → Phase → Option Work → ℕ → ℕ → ℕ → List ℕ → Turn AgentState
 on_frag_done E D stamp a Works (Some w) p m round partial =
-    if w.m == m && w.round == round && is_none w.decision && not (has_part w.gathered p)
+    if w.transaction == m && w.round == round && is_none w.decision && not (has_part w.gathered p)
     then gathers E D stamp a (record w { gathered = w.gathered ++ (p, partial) ∷ [] })
     else becomes a
 on_frag_done E D stamp a phase work p m round partial = becomes a
@@ -193,7 +193,7 @@ on_finished E D h a Works (Some w) p m =
     elim w.decision as (λ _. Turn AgentState) [
       | None ↦ becomes a
       | Some d ↦
-          if w.m == m
+          if w.transaction == m
           then (if all_finished (all_parts D) done.finished then ends_job E D h (with_work a done) w.job d.end else becomes (with_work a done))
           else becomes a
     ]
@@ -206,20 +206,20 @@ on_finished E D h a phase work p m = becomes a
 -- the greatest number of those told, and the greatest of those that are open, if one is
 abbrev pub greatest_told : List Heard → ℕ
 greatest_told [] = 0
-greatest_told (t ∷ ts) = max t.m (greatest_told ts)
+greatest_told (t ∷ ts) = max t.transaction (greatest_told ts)
 
 abbrev pub open_told : List Heard → Option ℕ
 open_told [] = None
-open_told (t ∷ ts) = if t.is_open then greater (Some t.m) (open_told ts) else open_told ts
+open_told (t ∷ ts) = if t.is_open then greater (Some t.transaction) (open_told ts) else open_told ts
 
 -- the last transaction that a partition told, if none is open there
 abbrev pub last_told : Heard → Option (ℕ × Outcome)
-last_told t = if t.is_open then None else option_map (λ o. (t.m, o)) t.outcome
+last_told t = if t.is_open then None else option_map (λ o. (t.transaction, o)) t.outcome
 
 -- its own decision is the outcome, if it has one of this transaction
 abbrev pub own_decision : ℕ → Option Work → Option Decision
 own_decision m None = None
-own_decision m (Some w) = if w.m == m then w.decision else None
+own_decision m (Some w) = if w.transaction == m then w.decision else None
 
 -- else the first outcome that a partition told of it
 abbrev pub closing_outcome : ℕ → List Heard → Option Decision → Outcome
@@ -228,7 +228,7 @@ closing_outcome m told (Some d) = d.outcome
 
 -- the partitions in which it is open
 abbrev pub open_parts : ℕ → List Heard → List ℕ
-open_parts m told = map (λ t. t.part) (filter (λ t. t.is_open && t.m == m) told)
+open_parts m told = map (λ t. t.part) (filter (λ t. t.is_open && t.transaction == m) told)
 
 abbrev pub done_to : Deployment → Option Membership → List ℕ → ℕ → Outcome → Sends
 done_to D None parts m o b = []
@@ -258,7 +258,7 @@ hears E D h a told =
 abbrev pub on_mp_state : Database → Deployment → ℕ → AgentState → Phase → ℕ → ℕ → Bool → Option Outcome → Turn AgentState
 on_mp_state E D h a (Hears told) p m is_open outcome =
     if has_told told p then becomes a
-    else hears E D h a (told ++ record { part = p; m = m; is_open = is_open; outcome = outcome } ∷ [])
+    else hears E D h a (told ++ record { part = p; transaction = m; is_open = is_open; outcome = outcome } ∷ [])
 on_mp_state E D h a phase p m is_open outcome = becomes a
 
 -- On deciding a word the initiator waits for what the partitions tell. Another agent is none.

@@ -11,7 +11,7 @@ use Rattle.volt_wire.specs.declared.item.Item.TheVariants as item
 use Rattle.volt_wire.specs.declared.message.Msg.TheVariants as msg
 use Rattle.cluster_model.specs.Letters.{same, Letter, Sends}
 use Rattle.cluster_model.specs.Director.{does_next}
-use Rattle.cluster_model.specs.Outside.{Outside, DisksShow}
+use Rattle.cluster_model.specs.Environment.{Environment, DisksShow}
 use Rattle.cluster_model.specs.Recover.{new_base}
 use Rattle.cluster_model.specs.World.{World, took, new_word}
 use Rattle.cluster_model.specs.Events.{may_do, step}
@@ -54,7 +54,7 @@ pub record ChangesOne (w v : World) (e : Event) (a : Actor) : Type 0 where
 
 -- the last of these letters is this one
 abbrev pub EndsWith : Letter → List Letter → Type 0
-EndsWith l ls = (front : List Letter) × (ls ≡ front ++ l ∷ [])
+EndsWith l ls = (prefix : List Letter) × (ls ≡ prefix ++ l ∷ [])
 
 -- ---- starts
 
@@ -78,12 +78,12 @@ drawn_by_item w true (next ∷ left) = drawn_for (does_next w.deployment true w.
 drawn_by_item w _ items = []
 
 -- the starts with which all hosts begin in a recovery that works
-abbrev pub drawn_by_recovery : World → Outside → List ℕ
+abbrev pub drawn_by_recovery : World → Environment → List ℕ
 drawn_by_recovery w (DisksShow shown None) = map (λ m. m.1) (new_word w.deployment (new_base w shown) w.director.next_start).first
 drawn_by_recovery w o = []
 
 -- the starts that an event gives to hosts
-abbrev pub drawn_by : World → Event → Outside → List ℕ
+abbrev pub drawn_by : World → Event → Environment → List ℕ
 drawn_by w event.Item o = drawn_by_item w (may_do w w.director.items) w.director.items
 drawn_by w event.Recover o = drawn_by_recovery w o
 drawn_by w e o = []

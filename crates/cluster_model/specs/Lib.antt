@@ -4,7 +4,7 @@ pub mod Words
 pub mod Letters
 pub mod Director
 pub mod Client
-pub mod Outside
+pub mod Environment
 pub mod AgentState
 pub mod Initiator
 pub mod Agent
@@ -18,5 +18,5 @@ pub mod Recover
 pub mod Events
 pub mod Runs
 pub mod Toy
-pub mod Rows
+pub mod Scenarios
 pub mod Laws

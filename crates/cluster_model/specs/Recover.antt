@@ -129,7 +129,7 @@ starts_anew E w shown =
       sites = λ i. if nat_lt i (slots D) then new_site D i (w.sites i) word (start_from D start i) (logs (part_of_slot D i)) else w.sites i;
       scanners = λ i. if nat_lt i (slots D) then record { start = start_from D start i; stop = (w.scanners i).stop; scan = None } else w.scanners i;
       channel = new_channels D start w.channel;
-      lead_of = λ p. record { term = word.base; log = logs p; firm = length (logs p) };
+      authoritative = λ p. record { term = word.base; log = logs p; firm = length (logs p) };
       recoveries = w.recoveries ++ remembered w shown None ∷ [];
     }
 

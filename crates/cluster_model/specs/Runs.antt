@@ -11,14 +11,14 @@ use Rattle.cluster_model.specs.Client.{Ended}
 use Rattle.cluster_model.specs.Director.{Seen}
 use Rattle.cluster_model.specs.SiteState.{is_member_site}
 use Rattle.cluster_model.specs.World.{World, Recovery}
-use Rattle.cluster_model.specs.Outside.{Outside, Fair, DisksShow}
+use Rattle.cluster_model.specs.Environment.{Environment, NoFault, DisksShow}
 use Rattle.cluster_model.specs.Events.{can, allows, events, enabled, serves, step}
 
 -- ---- runs
 
--- what happens in a run: events, each with the outside's share of it
+-- what happens in a run: events, each with the environment's share of it
 abbrev pub Happening : Type 0
-Happening = Event × Outside
+Happening = Event × Environment
 
 -- the world after these
 abbrev pub run : Database → List Happening → World → World
@@ -41,12 +41,12 @@ IsRun E [] w = Unit {0}
 IsRun E (e ∷ es) w = (may_happen w e ≡ true) × IsRun E es (step E w e)
 
 -- no event but Idle may happen
-abbrev pub IsQuiet : World → Type 0
-IsQuiet w = enabled w ≡ []
+abbrev pub IsQuiescent : World → Type 0
+IsQuiescent w = enabled w ≡ []
 
--- A run ends well in a quiet world that serves.
+-- A run ends well in a quiescent world that serves.
 abbrev pub IsSettled : World → Type 0
-IsSettled w = IsQuiet w × (serves w ≡ true)
+IsSettled w = IsQuiescent w × (serves w ≡ true)
 
 -- ---- schedules
 
@@ -79,12 +79,12 @@ TakesDrawn E x [] w = Unit {0}
 TakesDrawn E x (e ∷ es) w =
     (slice_get (enabled w) (choice (drawn x) (length (enabled w))) ≡ Some e.0) × TakesDrawn E (drawn x) es (step E w e)
 
--- the outside does nothing: no disk fails, memory is there, and each disk shows the first of its contents
-abbrev pub undisturbed : Event → Outside
+-- the environment does nothing: no disk fails, memory is there, and each disk shows the first of its contents
+abbrev pub undisturbed : Event → Environment
 undisturbed event.Recover = DisksShow [] None
-undisturbed e = Fair
+undisturbed e = NoFault
 
--- the world after so many events that `first` chooses, while the outside does nothing
+-- the world after so many events that `first` chooses, while the environment does nothing
 abbrev pub first_step : Database → World → Option Event → World
 first_step E w None = w
 first_step E w (Some e) = step E w (e, undisturbed e)
@@ -93,9 +93,9 @@ abbrev pub by_first : Database → ℕ → World → World
 by_first E zero w = w
 by_first E (suc n) w = by_first E n (first_step E w (first_enabled w))
 
--- these events, while the outside does nothing
-abbrev pub fair : List Event → List Happening
-fair es = map (λ e. (e, undisturbed e)) es
+-- these events, while the environment does nothing
+abbrev pub no_fault : List Event → List Happening
+no_fault es = map (λ e. (e, undisturbed e)) es
 
 -- ---- what a report shows of a world
 

@@ -3,7 +3,7 @@ use Rattle.std.specs.Prelude.{ℕ, ◌+◌, ◌==◌, Bool, if◌then◌else◌,
 use Rattle.volt_wire.specs.declared.actor.Actor.{Actor}
 use Rattle.volt_wire.specs.declared.actor.Actor.TheVariants.{Site, Scanner}
 use Rattle.volt_wire.specs.declared.message.Msg.TheVariants as msg
-use Rattle.cluster_model.specs.Outside.{Outside, NoMemory}
+use Rattle.cluster_model.specs.Environment.{Environment, NoMemory}
 use Rattle.cluster_model.specs.Words.{Deployment, host_of_slot}
 use Rattle.cluster_model.specs.AgentState.{stops_others}
 use Rattle.cluster_model.specs.Letters.{same, Blocks, Letter, Turn, becomes, sending, letter_to, only, arrival, Taken, Refused, Waits}
@@ -83,7 +83,7 @@ abbrev pub scans : ℕ → ScannerState → Option Scan → Turn ScannerState
 scans i x None = becomes x
 scans i x (Some scan) = scan_block i x scan scan.left
 
--- ---- the outside's share
+-- ---- the environment's share
 
 -- a scanner of this start that finds no memory stops with its host
 abbrev pub stops_so : Deployment → ℕ → ScannerState → ℕ → Turn ScannerState
@@ -98,10 +98,10 @@ start_after x l = elim l.body as (λ _. ℕ) [
 ]
 
 -- what a message makes of it, and what a Scan does
-abbrev pub scanner_turn : Deployment → ℕ → ScannerState → Actor → Letter → Outside → Turn ScannerState
+abbrev pub scanner_turn : Deployment → ℕ → ScannerState → Actor → Letter → Environment → Turn ScannerState
 scanner_turn D i x from l (NoMemory answered) = stops_so D i x (start_after x l)
 scanner_turn D i x from l o = becomes (scanner_takes x from l)
 
-abbrev pub scan_turn : Deployment → ℕ → ScannerState → Outside → Turn ScannerState
+abbrev pub scan_turn : Deployment → ℕ → ScannerState → Environment → Turn ScannerState
 scan_turn D i x (NoMemory answered) = stops_so D i x x.start
 scan_turn D i x o = scans i x x.scan

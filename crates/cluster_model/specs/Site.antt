@@ -149,10 +149,10 @@ abbrev pub at_least : ℕ → Option ℕ → ℕ
 at_least n None = n
 at_least n (Some x) = max n x
 
--- Entries that all copies have on disk, and above its nj each joiner that the leader counts too, are firm.
+-- Entries that all copies have on disk, and above its stream_start each joiner that the leader counts too, are firm.
 abbrev pub firm_now : Deployment → ℕ → SiteState → ℕ
 firm_now D i s =
-    at_least s.firm (least_of (copy_acks D i s ++ map (λ j. Some (max j.nj j.position)) s.joiners))
+    at_least s.firm (least_of (copy_acks D i s ++ map (λ j. Some (max j.stream_start j.position)) s.joiners))
 
 -- The floor is the least acknowledged position over copies and joiners.
 abbrev pub floor_now : Deployment → ℕ → SiteState → ℕ
@@ -306,18 +306,18 @@ can_take D i s a =
 abbrev pub stream_head : Database → Deployment → ℕ → SiteState → StreamHead
 stream_head E D i s =
     record {
-      nj = length s.log;
+      stream_start = length s.log;
       mark = site_term s;
       applied = applied_in s.log;
       last = last_done E (part_of_slot D i) s.log;
     }
 
--- It fixes the position nj, and sends StreamStart. A scan begins for the joiner, which gets Task from nj on.
+-- It fixes the position stream_start, and sends StreamStart. A scan begins for the joiner, which gets Task from stream_start on.
 abbrev pub takes_joiner : Database → Deployment → ℕ → Ask → SiteState → Turn SiteState
 takes_joiner E D i a s =
     sending
     (record s {
-      joiners = s.joiners ++ record { slot = a.slot; start = a.start; nj = length s.log; position = length s.log; count = None } ∷ [];
+      joiners = s.joiners ++ record { slot = a.slot; start = a.start; stream_start = length s.log; position = length s.log; count = None } ∷ [];
       scans = s.scans + 1;
       scanning = Some (ForJoiner (s.scans + 1) a.slot);
     })
@@ -341,9 +341,9 @@ takes_asks E D i s = takes_first_ask E D i s (find (can_take D i s) s.asks)
 abbrev pub on_join_ask : SiteState → ℕ → ℕ → SiteState
 on_join_ask s start slot = record s { asks = s.asks ++ record { slot = slot; start = start } ∷ [] }
 
--- the joiner is told how many blocks it was sent, once its nj is firm
+-- the joiner is told how many blocks it was sent, once its stream_start is firm
 abbrev pub is_sent : SiteState → Joiner → Bool
-is_sent s j = is_some j.count && nat_le j.nj s.firm
+is_sent s j = is_some j.count && nat_le j.stream_start s.firm
 
 abbrev pub stream_ends_to : SiteState → ℕ → List Letter
 stream_ends_to s slot =
@@ -364,7 +364,7 @@ ends_streams s =
 abbrev pub with_count : ℕ → ℕ → Joiner → Joiner
 with_count slot count j = if j.slot == slot then record j { count = Some count } else j
 
--- ScanEnd: for a join the joiner is told, once nj is firm; for a snapshot the base may be finished.
+-- ScanEnd: for a join the joiner is told, once stream_start is firm; for a snapshot the base may be finished.
 abbrev pub on_scan_end : SiteState → Option Scanning → ℕ → ℕ → SiteState
 on_scan_end s None id count = s
 on_scan_end s (Some (ForJoiner own slot)) id count =
@@ -398,9 +398,9 @@ abbrev pub takes_stream : SiteState → Joining → Letter → StreamHead → Si
 takes_stream s j l head =
     if may_stream s j l
     then record s {
-      joining = Some (record j { stream = Some (record { nj = head.nj; mark = head.mark }) });
+      joining = Some (record j { stream = Some (record { stream_start = head.stream_start; mark = head.mark }) });
       log = l.past;
-      floor = head.nj;
+      floor = head.stream_start;
       contents = None ∷ [];
     }
     else s
@@ -429,7 +429,7 @@ on_task s (Some j) e =
     then (if j.is_loaded then record s { log = s.log ++ e ∷ [] } else with_joining s (record j { tasks = j.tasks ++ e ∷ [] }))
     else s
 
--- ---- what follows the row of a message
+-- ---- what follows the handler of a message
 
 -- how its partition stands: the transaction that is open, or the last one that was done
 abbrev pub standing : Option ℕ → Option (ℕ × Outcome) → Msg Blocks
@@ -539,18 +539,18 @@ from_director s l = elim l.body as (λ _. SiteState) [
   | _ ↦ s
 ]
 
-abbrev pub site_row : Database → Deployment → ℕ → ℕ → SiteState → Actor → Letter → Turn SiteState
-site_row E D stamp i s (Agent h) l = from_agent E D stamp i s h l
-site_row E D stamp i s (Site slot) l = from_site E D stamp i s slot l
-site_row E D stamp i s (Scanner x) l = becomes (from_scanner s l)
-site_row E D stamp i s Director l = becomes (from_director s l)
-site_row E D stamp i s (Client n) l = becomes s
+abbrev pub site_handler : Database → Deployment → ℕ → ℕ → SiteState → Actor → Letter → Turn SiteState
+site_handler E D stamp i s (Agent h) l = from_agent E D stamp i s h l
+site_handler E D stamp i s (Site slot) l = from_site E D stamp i s slot l
+site_handler E D stamp i s (Scanner x) l = becomes (from_scanner s l)
+site_handler E D stamp i s Director l = becomes (from_director s l)
+site_handler E D stamp i s (Client n) l = becomes s
 
 -- The messages that waited for its term are taken after all else but a kept JoinAsk, in order of coming. A View is none of
 -- them.
 abbrev pub takes_each : Database → Deployment → ℕ → ℕ → List Waiting → SiteState → Turn SiteState
 takes_each E D stamp i [] s = becomes s
-takes_each E D stamp i (w ∷ ws) s = site_row E D stamp i s w.from w.letter ▸ takes_each E D stamp i ws
+takes_each E D stamp i (w ∷ ws) s = site_handler E D stamp i s w.from w.letter ▸ takes_each E D stamp i ws
 
 abbrev pub takes_waiting : Database → Deployment → ℕ → ℕ → SiteState → Turn SiteState
 takes_waiting E D stamp i s =
@@ -576,7 +576,7 @@ on_power s call choice = record s { plans = s.plans ++ (call, choice) ∷ [] }
 
 abbrev pub site_runs : Database → Deployment → ℕ → ℕ → SiteState → Actor → Letter → Turn SiteState
 site_runs E D stamp i s from l = elim (arrival s.start (site_term s) l) as (λ _. Turn SiteState) [
-  | Taken ↦ ordered (site_row E D stamp i s from l ▸ takes_waiting E D stamp i ▸ settles E D i)
+  | Taken ↦ ordered (site_handler E D stamp i s from l ▸ takes_waiting E D stamp i ▸ settles E D i)
   | Waits ↦ becomes (record s { waiting = s.waiting ++ record { from = from; letter = l } ∷ [] })
   | Refused ↦ becomes s
 ]

@@ -9,7 +9,7 @@ use Rattle.cluster_model.specs.Disk.{Shown}
 
 -- the stream that a joiner took: the position at which its tables were read out, and the mark of its base
 pub record Streamed : Type 0 where
-  pub nj : ℕ
+  pub stream_start : ℕ
   pub mark : ℕ
 
 pub record Joining : Type 0 where
@@ -43,7 +43,7 @@ pub record Joiner : Type 0 where
   pub slot : ℕ
   pub start : ℕ
   -- the position at which its stream began, and the one that it acknowledged
-  pub nj : ℕ
+  pub stream_start : ℕ
   pub position : ℕ
   -- how many blocks it was sent, once all were and it wasn't told yet
   pub count : Option ℕ

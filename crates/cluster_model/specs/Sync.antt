@@ -9,7 +9,7 @@ use Rattle.cluster_model.specs.Letters.{same, Letter, Turn, becomes, sending, �
 use Rattle.cluster_model.specs.Disk.{Shown, after_parts, after_failure}
 use Rattle.cluster_model.specs.SiteState.{SiteState, Streamed, Joining, Scanning, ForBase, stopped_site, site_term, leader_in, start_in_view, is_leader}
 use Rattle.cluster_model.specs.Site.{counts, settles, ordered, may_stream, site_takes}
-use Rattle.cluster_model.specs.Outside.{Outside, DiskFails, NoMemory}
+use Rattle.cluster_model.specs.Environment.{Environment, DiskFails, NoMemory}
 use Rattle.cluster_model.specs.AgentState.{stops_others}
 
 -- ---- when a site may sync
@@ -74,8 +74,8 @@ base_of s scanning = []
 -- A joiner whose base isn't finished writes its blocks, then its base with its manifest, and then its tasks.
 abbrev pub joiner_base : SiteState → Streamed → List Shown
 joiner_base s st =
-    content st.mark st.nj s st.nj
-    ∷ (if nat_lt st.nj (length s.log) then content st.mark st.nj s (length s.log) ∷ [] else [])
+    content st.mark st.stream_start s st.stream_start
+    ∷ (if nat_lt st.stream_start (length s.log) then content st.mark st.stream_start s (length s.log) ∷ [] else [])
 
 abbrev pub joiner_parts : SiteState → Joining → Option Streamed → List Shown
 joiner_parts s j None = []
@@ -119,7 +119,7 @@ joiner_written s j (Some st) =
       joining = Some (record j { written = j.blocks; is_based = true });
       on_disk = length s.log;
       mark = st.mark;
-      base = st.nj;
+      base = st.stream_start;
     }
     else record s { joining = Some (record j { written = j.blocks }) }
 
@@ -177,7 +177,7 @@ parts_of_message s l = elim l.body as (λ _. List Shown) [
   | _ ↦ []
 ]
 
--- ---- the outside's share
+-- ---- the environment's share
 
 -- A site of this start stops of itself: its disk failed, or it found no memory. Its disk may show these contents from then
 -- on. It stops the other actors of its host.
@@ -195,7 +195,7 @@ start_after s l = elim l.body as (λ _. ℕ) [
 
 -- What a message makes of it. After so many of the event's disk parts that answered the next one failed, or there was no
 -- memory.
-abbrev pub site_turn : Database → Deployment → ℕ → ℕ → SiteState → Actor → Letter → Outside → Turn SiteState
+abbrev pub site_turn : Database → Deployment → ℕ → ℕ → SiteState → Actor → Letter → Environment → Turn SiteState
 site_turn E D stamp i s from l (DiskFails answered) =
     stops_so D i s s.start (after_failure s.contents (parts_of_message s l) answered)
 site_turn E D stamp i s from l (NoMemory answered) =
@@ -203,7 +203,7 @@ site_turn E D stamp i s from l (NoMemory answered) =
 site_turn E D stamp i s from l o = site_takes E D stamp i s from l
 
 -- what a Sync makes of it
-abbrev pub sync_turn : Database → Deployment → ℕ → SiteState → Outside → Turn SiteState
+abbrev pub sync_turn : Database → Deployment → ℕ → SiteState → Environment → Turn SiteState
 sync_turn E D i s (DiskFails answered) =
     stops_so D i s s.start (after_failure s.contents (parts_of_sync s s.joining) answered)
 sync_turn E D i s (NoMemory answered) =

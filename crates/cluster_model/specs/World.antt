@@ -15,14 +15,14 @@ use Rattle.cluster_model.specs.Client.{ClientState, Due}
 use Rattle.cluster_model.specs.AgentState.{AgentState, Initiating, Idle, new_agent, no_initiator}
 use Rattle.cluster_model.specs.SiteState.{SiteState, site_term, leads, no_site, member_site}
 use Rattle.cluster_model.specs.Scanner.{ScannerState}
-use Rattle.cluster_model.specs.Outside.{Outside, DiskFails, NoMemory}
+use Rattle.cluster_model.specs.Environment.{Environment, DiskFails, NoMemory}
 
 -- ---- history, by which the laws speak of a run
 
 -- Of the copies of a partition that became a repaired leader since the last recovery that worked, the one of the greatest
 -- term: its log, as it stands or stood when it stopped. And the greatest position that a leader counted firm; at a recovery
 -- that is the whole log.
-pub record Lead : Type 0 where
+pub record AuthoritativeLog : Type 0 where
   pub term : ℕ
   pub log : List Entry
   pub firm : ℕ
@@ -54,7 +54,7 @@ pub record World : Type 0 where
   -- the events so far; the k-th has stamp k
   pub trace : List Event
   -- history
-  pub lead_of : ℕ → Lead
+  pub authoritative : ℕ → AuthoritativeLog
   pub stops : List Stopped
   pub recoveries : List Recovery
 
@@ -91,8 +91,8 @@ abbrev pub with_agent : World → ℕ → Turn AgentState → World
 with_agent w h t = record w { agents = set_at w.agents h t.state; channel = sent w.channel (Agent h) t.sends }
 
 -- the history of a partition after a turn of one of its sites
-abbrev pub lead_after : Deployment → ℕ → SiteState → Lead → Lead
-lead_after D i s l =
+abbrev pub authoritative_after : Deployment → ℕ → SiteState → AuthoritativeLog → AuthoritativeLog
+authoritative_after D i s l =
     if leads D i s
     then record {
       term = max l.term (site_term s);
@@ -107,19 +107,19 @@ with_site w i t =
     record w {
       sites = set_at w.sites i t.state;
       channel = sent w.channel (Site i) t.sends;
-      lead_of = set_at w.lead_of p (lead_after w.deployment i t.state (w.lead_of p));
+      authoritative = set_at w.authoritative p (authoritative_after w.deployment i t.state (w.authoritative p));
     }
 
 abbrev pub with_scanner : World → ℕ → Turn ScannerState → World
 with_scanner w i t = record w { scanners = set_at w.scanners i t.state; channel = sent w.channel (Scanner i) t.sends }
 
 -- an actor that stops of itself is noted
-abbrev pub stops_with : ℕ → List Stopped → Actor → Outside → List Stopped
+abbrev pub stops_with : ℕ → List Stopped → Actor → Environment → List Stopped
 stops_with stamp stops a (DiskFails answered) = stops ++ record { at = stamp; actor = a; for_disk = true } ∷ []
 stops_with stamp stops a (NoMemory answered) = stops ++ record { at = stamp; actor = a; for_disk = false } ∷ []
 stops_with stamp stops a o = stops
 
-abbrev pub stop_noted : World → Actor → Outside → World
+abbrev pub stop_noted : World → Actor → Environment → World
 stop_noted w a o = record w { stops = stops_with (stamp_of w) w.stops a o }
 
 -- ---- members of a new word
@@ -216,7 +216,7 @@ first_world E I =
       scanners = λ i. record { start = if nat_lt i (slots D) then start_from D 1 i else 0; stop = 0; scan = None };
       channel = λ a b. [];
       trace = [];
-      lead_of = λ p. record { term = I.base; log = []; firm = 0 };
+      authoritative = λ p. record { term = I.base; log = []; firm = 0 };
       stops = [];
       recoveries = [];
     }

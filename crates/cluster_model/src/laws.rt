@@ -12,7 +12,7 @@ ghost use Rattle.cluster_model.specs.Engine.{Database};
 ghost use Rattle.cluster_model.specs.Words.{is_host};
 ghost use Rattle.cluster_model.specs.Letters.{open_letter};
 ghost use Rattle.cluster_model.specs.World.{World, stamp_of};
-ghost use Rattle.cluster_model.specs.Outside.{Outside};
+ghost use Rattle.cluster_model.specs.Environment.{Environment};
 ghost use Rattle.cluster_model.specs.Events.{allows, can, is_quiet_item, may_do, step};
 ghost use Rattle.cluster_model.specs.Runs.{Happening, run};
 ghost use Rattle.cluster_model.specs.Laws.{ChangesOne, EndsWith, RiseFrom, is_one_actors, actor_of, drawn_in, left_by, starts_in};
@@ -26,7 +26,7 @@ pub trait AnyDatabase {
 /// An event that may happen, but for a recovery, changes one actor, takes at most the first message of one channel, and
 /// appends to channels from that actor alone.
 pub fn an_event_changes_one_actor<B: AnyDatabase>()
-    ensures { (w : World) (e : Event) (o : Outside) → is_one_actors e ≡ true → can w e ≡ true
+    ensures { (w : World) (e : Event) (o : Environment) → is_one_actors e ≡ true → can w e ≡ true
         → ChangesOne w (step B.database w (e, o)) e (actor_of e) }
 {}
 
@@ -67,13 +67,13 @@ pub fn starts_are_drawn_once<B: AnyDatabase>()
 /// behind it. While it is stopped it says nothing, until it takes a Start. (That an agent changes in
 /// the messages that it takes alone, and in a recovery, is the first law.)
 pub fn a_stopped_agent_has_said_closed_last<B: AnyDatabase>()
-    ensures closed { (w : World) (h g : ℕ) (from : Actor) (o : Outside)
+    ensures closed { (w : World) (h g : ℕ) (from : Actor) (o : Environment)
         → nat_lt 0 (w.agents h).start ≡ true
         → ((step B.database w (event.Deliver (Agent h) from, o)).agents h).start ≡ 0
         → is_host w.deployment g ≡ true → (g == h) ≡ false
         → EndsWith (open_letter (msg.Closed (w.agents h).start))
         ((step B.database w (event.Deliver (Agent h) from, o)).channel (Agent h) (Agent g)) }
-    ensures silent { (w : World) (h : ℕ) (from b : Actor) (o : Outside)
+    ensures silent { (w : World) (h : ℕ) (from b : Actor) (o : Environment)
         → can w (event.Deliver (Agent h) from) ≡ true → allows w (event.Deliver (Agent h) from) o ≡ true
         → (w.agents h).start ≡ 0 → starts_in (take 1 (w.channel from (Agent h))) ≡ []
         → (step B.database w (event.Deliver (Agent h) from, o)).channel (Agent h) b

@@ -13,10 +13,10 @@ use Rattle.cluster_model.specs.World.{World, Input, first_world, new_word, start
 use Rattle.cluster_model.specs.Recover.{shown_of, new_base, new_log, starts_anew}
 use Rattle.word_laws.specs.Histories as word
 use Rattle.word_laws.proofs.Lists.{eqb-same, if-true, if-false, none-and-some, not-both}
-use Rattle.log_laws.specs.Histories.{Front, LogState, IsSlot, part, between}
+use Rattle.log_laws.specs.Histories.{Prefix, LogState, IsSlot, part, between}
 use Rattle.log_laws.specs.Copies.{log_state, HasLogs}
-use Rattle.log_laws.proofs.Plain.Fronts.{front-refl, front-same}
-use Rattle.log_laws.proofs.Runs.Boots.{first_reign, new_logs, first-logs, anew-logs, first-logs-are, anew-logs-are}
+use Rattle.log_laws.proofs.Plain.Prefixes.{prefix-refl, prefix-same}
+use Rattle.log_laws.proofs.Runs.Boots.{first_leadership, new_logs, first-logs, anew-logs, first-logs-are, anew-logs-are}
 use Rattle.disk_laws.specs.Disks.{Top, Written, Firm, MemberDisk, DiskOk, DisksHold, own_content, shown_at}
 use Rattle.disk_laws.proofs.Order.{best-in, shown-from}
 use Rattle.disk_laws.proofs.Choices.{get-none}
@@ -28,10 +28,10 @@ use Rattle.disk_laws.proofs.Choices.{get-none}
 pub record DisksBegin (S : LogState) (base start : ℕ) (log : ℕ → List Entry) : Type 0 where
   pub members : (c : ℕ) → IsSlot S c
       → (x : SiteState) × (S.sites c ≡ member_site S.words.deployment c x (new_word S.words.deployment base start) (start_from S.words.deployment start c) (log (part S c)))
-  pub outside : (c : ℕ) → (IsSlot S c → ⊥) → AllByRecursion (λ x. x ≡ None) (shown_at S c)
-  pub reign : (p : ℕ) → S.logs.reign p base ≡ Some (first_reign log p)
+  pub environment : (c : ℕ) → (IsSlot S c → ⊥) → AllByRecursion (λ x. x ≡ None) (shown_at S c)
+  pub leadership : (p : ℕ) → S.logs.leadership p base ≡ Some (first_leadership log p)
   pub reach : (p : ℕ) → S.logs.reach p base ≡ length (log p)
-  pub quiet : (i c : ℕ) → between S i c ≡ []
+  pub inert : (i c : ℕ) → between S i c ≡ []
   pub slots : (p : ℕ) → 0 < length (log p) → (c : ℕ) × IsSlot S c × (part S c ≡ p)
 
 module _ (S : LogState) (base start : ℕ) (log : ℕ → List Entry) (k : DisksBegin S base start log) where
@@ -58,22 +58,22 @@ module _ (S : LogState) (base start : ℕ) (log : ℕ → List Entry) (k : Disks
 
   content-written : (p : ℕ) → Written S p (content p)
   content-written p = record {
-    reign = first_reign log p;
-    led = k.reign p;
-    begun = front-refl (log p);
+    leadership = first_leadership log p;
+    led = k.leadership p;
+    begun = prefix-refl (log p);
     term = base;
     above = omega arith;
-    later = first_reign log p;
-    later_led = k.reign p;
-    front = front-refl (log p);
+    later = first_leadership log p;
+    later_led = k.leadership p;
+    prefix = prefix-refl (log p);
   }
 
   -- it is the log that the site has
   whole : (xs : List Entry) → take (length xs) xs ≡ xs
   whole xs = take_all (length xs) xs (omega arith)
 
-  whole-front : (xs : List Entry) → Front xs (take (length xs) xs)
-  whole-front xs = front-same xs (take (length xs) xs) (sym (whole xs))
+  whole-prefix : (xs : List Entry) → Prefix xs (take (length xs) xs)
+  whole-prefix xs = prefix-same xs (take (length xs) xs) (sym (whole xs))
 
   own-is : (c : ℕ) (q : IsSlot S c) → own_content (site c q) ≡ Some (content (part S c))
   own-is c q = ap (λ l. Some (record { mark = base; base = length (log (part S c)); log = l })) (whole (log (part S c)))
@@ -84,9 +84,9 @@ module _ (S : LogState) (base start : ℕ) (log : ℕ → List Entry) (k : Disks
       record {
         shows = shown-is c q ∙ ap (λ x. x ∷ []) (sym (ap own_content e ∙ own-is c q));
         mark = rw e (omega arith);
-        reign = first_reign log (part S c);
-        led = rw e (k.reign (part S c));
-        begun = subst (λ s. Front (log (part S c)) (take s.on_disk s.log)) (sym e) (whole-front (log (part S c)));
+        leadership = first_leadership log (part S c);
+        led = rw e (k.leadership (part S c));
+        begun = subst (λ s. Prefix (log (part S c)) (take s.on_disk s.log)) (sym e) (whole-prefix (log (part S c)));
         marked = λ _. ap (λ s. s.repaired) e;
         firm = rw e (omega arith);
         owes = inl (ap (λ s. s.owes) e);
@@ -117,12 +117,12 @@ module _ (S : LogState) (base start : ℕ) (log : ℕ → List Entry) (k : Disks
   pub disks-begin : DisksHold S all_firm false
   disks-begin = record {
     disks = disk-begins;
-    outside = k.outside;
-    streams = λ i c q. rw (k.quiet i c) tt;
+    environment = k.environment;
+    streams = λ i c q. rw (k.inert i c) tt;
     firm = λ p. record {
       term = base;
-      reign = first_reign log p;
-      led = k.reign p;
+      leadership = first_leadership log p;
+      led = k.leadership p;
       reach = omega (arith, k.reach p);
       top = top-begins p;
     };
@@ -133,7 +133,7 @@ module _ (S : LogState) (base start : ℕ) (log : ℕ → List Entry) (k : Disks
 
 -- what was counted firm in the epoch that a world is in
 abbrev pub firm_in : World → Firm
-firm_in w p = (w.lead_of p).firm
+firm_in w p = (w.authoritative p).firm
 
 first-hold : (E : Database) (I : Input) (owner : ℕ → ℕ) (history : word.History)
     → DisksHold (log_state (first_world E I) owner history (new_logs I.deployment I.base 1 (λ p. []))) (firm_in (first_world E I)) false
@@ -142,11 +142,11 @@ first-hold E I owner history =
     let site : ℕ → SiteState = λ c. member_site D c no_site (new_word D I.base 1) (start_from D 1 c) [] in
     disks-begin (log_state (first_world E I) owner history (new_logs D I.base 1 (λ p. []))) I.base 1 (λ p. []) (record {
       members = λ c q. (no_site, if-true (nat_lt c (slots D)) (site c) no_site q);
-      outside = λ c out. subst {A = SiteState} (λ s. AllByRecursion (λ x. x ≡ None) s.contents)
+      environment = λ c out. subst {A = SiteState} (λ s. AllByRecursion (λ x. x ≡ None) s.contents)
           (sym (if-false (nat_lt c (slots D)) (site c) no_site (false_from_ne_true (nat_lt c (slots D)) out))) tt;
-      reign = λ p. if-true (I.base == I.base) (Some (first_reign (λ p. []) p)) None (eqb-same I.base);
+      leadership = λ p. if-true (I.base == I.base) (Some (first_leadership (λ p. []) p)) None (eqb-same I.base);
       reach = λ p. if-true (I.base == I.base) 0 0 (eqb-same I.base);
-      quiet = λ i c. refl;
+      inert = λ i c. refl;
       slots = λ p some. absurd (omega (arith, some));
     })
 
@@ -179,7 +179,7 @@ anew-hold : (E : Database) (w : World) (shown : List ℕ) (owner : ℕ → ℕ) 
     → ((c : ℕ) → (nat_lt c (slots w.deployment) ≡ true → ⊥) → AllByRecursion (λ x. x ≡ None) (w.sites c).contents)
     → DisksHold (log_state (starts_anew E w shown) owner history (new_logs w.deployment (new_base w shown) w.director.next_start (new_log E w shown)))
     (firm_in (starts_anew E w shown)) false
-anew-hold E w shown owner history outside =
+anew-hold E w shown owner history environment =
     let D = w.deployment in
     let base = new_base w shown in
     let start = w.director.next_start in
@@ -187,11 +187,11 @@ anew-hold E w shown owner history outside =
     let site : ℕ → SiteState = λ c. member_site D c (stopped_site (w.sites c)) (new_word D base start) (start_from D start c) (log (part_of_slot D c)) in
     disks-begin (log_state (starts_anew E w shown) owner history (new_logs D base start log)) base start log (record {
       members = λ c q. (stopped_site (w.sites c), if-true (nat_lt c (slots D)) (site c) (w.sites c) q);
-      outside = λ c out. subst {A = SiteState} (λ s. AllByRecursion (λ x. x ≡ None) s.contents)
-          (sym (if-false (nat_lt c (slots D)) (site c) (w.sites c) (false_from_ne_true (nat_lt c (slots D)) out))) (outside c out);
-      reign = λ p. if-true (base == base) (Some (first_reign log p)) None (eqb-same base);
+      environment = λ c out. subst {A = SiteState} (λ s. AllByRecursion (λ x. x ≡ None) s.contents)
+          (sym (if-false (nat_lt c (slots D)) (site c) (w.sites c) (false_from_ne_true (nat_lt c (slots D)) out))) (environment c out);
+      leadership = λ p. if-true (base == base) (Some (first_leadership log p)) None (eqb-same base);
       reach = λ p. if-true (base == base) (length (log p)) 0 (eqb-same base);
-      quiet = λ i c. refl;
+      inert = λ i c. refl;
       slots = λ p some. let r = some-recovered E D (shown_of w shown) p some in (r.0, is-slot r.0 r.1 r.3, r.2);
     })
   where
@@ -199,7 +199,7 @@ anew-hold E w shown owner history outside =
     is-slot : (c : ℕ) (x : Content) → shown_of w shown c ≡ Some x → nat_lt c (slots w.deployment) ≡ true
     is-slot c x e = elim (cases_Bool (nat_lt c (slots w.deployment))) [
       | inl q ↦ q
-      | inr q ↦ absurd (none-and-some (get-none (w.sites c).contents (slice_index shown c) (outside c (λ y. not-both (nat_lt c (slots w.deployment)) y q))) e)
+      | inr q ↦ absurd (none-and-some (get-none (w.sites c).contents (slice_index shown c) (environment c (λ y. not-both (nat_lt c (slots w.deployment)) y q))) e)
     ]
 
 pub anew-disks : (E : Database) (w : World) (shown : List ℕ) (k : HasLogs w) (F : Firm) (halted : Bool) → DisksHold (log_state w k.owner k.history k.logs) F halted
@@ -207,4 +207,4 @@ pub anew-disks : (E : Database) (w : World) (shown : List ℕ) (k : HasLogs w) (
 anew-disks E w shown k F halted K =
     let a = anew-logs E w shown k in
     subst (λ G. DisksHold (log_state (starts_anew E w shown) a.owner a.history G) (firm_in (starts_anew E w shown)) false) (sym (anew-logs-are E w shown k))
-    (anew-hold E w shown a.owner a.history K.outside)
+    (anew-hold E w shown a.owner a.history K.environment)

@@ -8,19 +8,19 @@ use Rattle.volt_base.specs.declared.entry.Entry.{Entry}
 use Rattle.cluster_model.specs.Engine.{Database}
 use Rattle.cluster_model.specs.Words.{slots}
 use Rattle.cluster_model.specs.Disk.{Content, Shown, chosen, recovered}
-use Rattle.cluster_model.specs.World.{World, Lead}
+use Rattle.cluster_model.specs.World.{World, AuthoritativeLog}
 use Rattle.cluster_model.specs.Recover.{shown_of, count_shown, new_log}
 use Rattle.cluster_model.specs.Events.{is_shown}
 use Rattle.word_laws.specs.Histories as word
 use Rattle.word_laws.specs.Histories.{In}
 use Rattle.word_laws.proofs.Lists.{none-and-some, not-both, all-at, list_all-at}
-use Rattle.log_laws.specs.Histories.{Logs, LogState, Holds, Front, Reign, IsSlot, part}
-use Rattle.log_laws.specs.Copies.{log_state, HasLogs, LeadOk}
+use Rattle.log_laws.specs.Histories.{Logs, LogState, Holds, Prefix, Leadership, IsSlot, part}
+use Rattle.log_laws.specs.Copies.{log_state, HasLogs, AuthoritativeOk}
 use Rattle.log_laws.proofs.Plain.Copies.{range-in}
-use Rattle.log_laws.proofs.Plain.Fronts.{front-none, front-trans, fronts-order, take-of-front, take-short}
+use Rattle.log_laws.proofs.Plain.Prefixes.{prefix-none, prefix-trans, prefixes-order, take-of-prefix, take-short}
 use Rattle.disk_laws.specs.Disks.{AtLeast, Written, Firm, ContentOk, DisksHold, Shows, shown_at}
 use Rattle.disk_laws.proofs.Order.{top-chosen, chosen-recovered}
-use Rattle.disk_laws.proofs.Contents.{firm-within, firm-begun, firm-front, firm-same}
+use Rattle.disk_laws.proofs.Contents.{firm-within, firm-begun, firm-prefix, firm-same}
 
 -- ---- what the disks show
 
@@ -58,22 +58,22 @@ pub world-shows : (w : World) (owner : ℕ → ℕ) (history : word.History) (lo
     → Shows (log_state w owner history logs) (shown_of w shown)
 world-shows w owner history logs F halted K shown failed e n = record {
   one = λ c q. disk-shows w shown failed e c (grind (arith, nat_tests, q, n));
-  none = λ c out. get-none (w.sites c).contents (slice_index shown c) (K.outside c out);
+  none = λ c out. get-none (w.sites c).contents (slice_index shown c) (K.environment c out);
 }
 
 -- ---- what was counted firm
 
 -- of a content that is good enough
-module _ (S : LogState) (H : Holds S) (F : Firm) (p v : ℕ) (g : Reign) (led : S.logs.reign p v ≡ Some g) (low : F p ≤ S.logs.reach p v) where
-  written-firm : (x : Content) → Written S p x → AtLeast v (F p) (Some x) → Front (take (F p) g.log) x.log
+module _ (S : LogState) (H : Holds S) (F : Firm) (p v : ℕ) (g : Leadership) (led : S.logs.leadership p v ≡ Some g) (low : F p ≤ S.logs.reach p v) where
+  written-firm : (x : Content) → Written S p x → AtLeast v (F p) (Some x) → Prefix (take (F p) g.log) x.log
   written-firm x w (inl above) =
-      front-trans (take (F p) g.log) w.reign.begun x.log (firm-begun S H p v x.mark (F p) g w.reign led w.led low above).1 w.begun
+      prefix-trans (take (F p) g.log) w.leadership.begun x.log (firm-begun S H p v x.mark (F p) g w.leadership led w.led low above).1 w.begun
   written-firm x w (inr same) =
       let short = take-short (F p) g.log in
-      fronts-order (take (F p) g.log) x.log w.later.log
-      (firm-front S H p v w.term (F p) g w.later led w.later_led low (omega (arith, same.0, w.above))) w.front (omega (arith, same.1, short))
+      prefixes-order (take (F p) g.log) x.log w.later.log
+      (firm-prefix S H p v w.term (F p) g w.later led w.later_led low (omega (arith, same.0, w.above))) w.prefix (omega (arith, same.1, short))
 
-  content-firm : (halted : Bool) (x : Content) → ContentOk S F halted p (Some x) → AtLeast v (F p) (Some x) → Front (take (F p) g.log) x.log
+  content-firm : (halted : Bool) (x : Content) → ContentOk S F halted p (Some x) → AtLeast v (F p) (Some x) → Prefix (take (F p) g.log) x.log
   content-firm false x w a = written-firm x w a
   content-firm true x (inl w) a = written-firm x w a
   content-firm true x (inr r) a = r v g led low
@@ -83,54 +83,54 @@ module _ (S : LogState) (H : Holds S) (F : Firm) (p v : ℕ) (g : Reign) (led : 
 module _ (S : LogState) (H : Holds S) (F : Firm) (halted : Bool) (K : DisksHold S F halted) (shown : ℕ → Shown) (k : Shows S shown) (p : ℕ) where
   -- all that was counted firm, in the term of its witness
   abbrev counted : List Entry
-  counted = take (F p) (K.firm p).reign.log
+  counted = take (F p) (K.firm p).leadership.log
 
-  some-chosen : 0 < F p → Front counted (chosen S.words.deployment shown p)
+  some-chosen : 0 < F p → Prefix counted (chosen S.words.deployment shown p)
   some-chosen some =
       let firm = K.firm p in
       let r = top-chosen S shown k.one p firm.term (F p) (firm.top some) in
       let q = shows-slot S shown k r.slot r.content r.shows in
       let ok : ContentOk S F halted (part S r.slot) (Some r.content) = subst (ContentOk S F halted (part S r.slot)) r.shows
       (all-at (ContentOk S F halted (part S r.slot)) (shown_at S r.slot) (K.disks r.slot q).contents (shown r.slot) (k.one r.slot q)) in
-      subst (Front counted) (sym r.log_is)
-      (content-firm S H F p firm.term firm.reign firm.led firm.reach halted r.content (subst (λ x. ContentOk S F halted x (Some r.content)) r.part_is ok) r.good)
+      subst (Prefix counted) (sym r.log_is)
+      (content-firm S H F p firm.term firm.leadership firm.led firm.reach halted r.content (subst (λ x. ContentOk S F halted x (Some r.content)) r.part_is ok) r.good)
 
-  any-chosen : Front counted (chosen S.words.deployment shown p)
+  any-chosen : Prefix counted (chosen S.words.deployment shown p)
   any-chosen = elim (cases_eq (F p) 0) [
-    | inl e ↦ subst (λ n. Front (take n (K.firm p).reign.log) (chosen S.words.deployment shown p)) (sym e) (front-none (chosen S.words.deployment shown p))
+    | inl e ↦ subst (λ n. Prefix (take n (K.firm p).leadership.log) (chosen S.words.deployment shown p)) (sym e) (prefix-none (chosen S.words.deployment shown p))
     | inr d ↦ some-chosen (omega (arith, d))
   ]
 
   -- It has what was taken to be everywhere in any term, where that is all that was counted firm.
-  pub chosen-firm : (v : ℕ) (g : Reign) → S.logs.reign p v ≡ Some g → F p ≤ S.logs.reach p v → Front (take (F p) g.log) (chosen S.words.deployment shown p)
+  pub chosen-firm : (v : ℕ) (g : Leadership) → S.logs.leadership p v ≡ Some g → F p ≤ S.logs.reach p v → Prefix (take (F p) g.log) (chosen S.words.deployment shown p)
   chosen-firm v g led low =
       let firm = K.firm p in
-      subst (λ l. Front l (chosen S.words.deployment shown p)) (firm-same S H p firm.term v (F p) firm.reign g firm.led led firm.reach low) any-chosen
+      subst (λ l. Prefix l (chosen S.words.deployment shown p)) (firm-same S H p firm.term v (F p) firm.leadership g firm.led led firm.reach low) any-chosen
 
   -- So has the log with which a recovery goes on.
-  pub recovered-firm : (E : Database) (v : ℕ) (g : Reign) → S.logs.reign p v ≡ Some g → F p ≤ S.logs.reach p v
-      → Front (take (F p) g.log) (recovered E S.words.deployment shown p)
+  pub recovered-firm : (E : Database) (v : ℕ) (g : Leadership) → S.logs.leadership p v ≡ Some g → F p ≤ S.logs.reach p v
+      → Prefix (take (F p) g.log) (recovered E S.words.deployment shown p)
   recovered-firm E v g led low =
-      front-trans (take (F p) g.log) (chosen S.words.deployment shown p) (recovered E S.words.deployment shown p) (chosen-firm v g led low)
+      prefix-trans (take (F p) g.log) (chosen S.words.deployment shown p) (recovered E S.words.deployment shown p) (chosen-firm v g led low)
       (chosen-recovered E S.words.deployment shown p)
 
-  -- What is firm in the lead is at the front of what is chosen, and of the log with which a recovery goes on.
-  pub lead-chosen : (l : Lead) → LeadOk S.logs p l → Front (take (F p) l.log) (chosen S.words.deployment shown p)
-  lead-chosen l o =
+  -- What is firm in the authoritative log is a prefix of what is chosen, and of the log with which a recovery goes on.
+  pub authoritative-chosen : (l : AuthoritativeLog) → AuthoritativeOk S.logs p l → Prefix (take (F p) l.log) (chosen S.words.deployment shown p)
+  authoritative-chosen l o =
       let firm = K.firm p in
-      let later : Front counted o.reign.log = firm-front S H p firm.term l.term (F p) firm.reign o.reign firm.led o.led firm.reach (o.greatest firm.term firm.reign firm.led) in
+      let later : Prefix counted o.leadership.log = firm-prefix S H p firm.term l.term (F p) firm.leadership o.leadership firm.led o.led firm.reach (o.greatest firm.term firm.leadership firm.led) in
       let same : take (F p) l.log ≡ counted =
-      ap (take (F p)) o.log ∙ take-of-front (F p) firm.reign.log o.reign.log later (firm-within S H p firm.term (F p) firm.reign firm.led firm.reach) in
-      subst (λ x. Front x (chosen S.words.deployment shown p)) (sym same) any-chosen
+      ap (take (F p)) o.log ∙ take-of-prefix (F p) firm.leadership.log o.leadership.log later (firm-within S H p firm.term (F p) firm.leadership firm.led firm.reach) in
+      subst (λ x. Prefix x (chosen S.words.deployment shown p)) (sym same) any-chosen
 
-  pub lead-recovered : (E : Database) (l : Lead) → LeadOk S.logs p l → Front (take (F p) l.log) (recovered E S.words.deployment shown p)
-  lead-recovered E l o =
-      front-trans (take (F p) l.log) (chosen S.words.deployment shown p) (recovered E S.words.deployment shown p) (lead-chosen l o)
+  pub authoritative-recovered : (E : Database) (l : AuthoritativeLog) → AuthoritativeOk S.logs p l → Prefix (take (F p) l.log) (recovered E S.words.deployment shown p)
+  authoritative-recovered E l o =
+      prefix-trans (take (F p) l.log) (chosen S.words.deployment shown p) (recovered E S.words.deployment shown p) (authoritative-chosen l o)
       (chosen-recovered E S.words.deployment shown p)
 
 -- Whatever contents the disks of a world show, a recovery goes on with all that is firm.
 pub no-choice-lacks : (E : Database) (w : World) (k : HasLogs w) (F : Firm) (halted : Bool) → DisksHold (log_state w k.owner k.history k.logs) F halted
-    → (shown : List ℕ) → is_shown w shown None ≡ true → (p : ℕ) → LeadOk k.logs p (w.lead_of p) → Front (take (F p) (w.lead_of p).log) (new_log E w shown p)
+    → (shown : List ℕ) → is_shown w shown None ≡ true → (p : ℕ) → AuthoritativeOk k.logs p (w.authoritative p) → Prefix (take (F p) (w.authoritative p).log) (new_log E w shown p)
 no-choice-lacks E w k F halted K shown e p o =
-    lead-recovered (log_state w k.owner k.history k.logs) k.holds F halted K (shown_of w shown)
-    (world-shows w k.owner k.history k.logs F halted K shown None e refl) p E (w.lead_of p) o
+    authoritative-recovered (log_state w k.owner k.history k.logs) k.holds F halted K (shown_of w shown)
+    (world-shows w k.owner k.history k.logs F halted K shown None e refl) p E (w.authoritative p) o

@@ -23,4 +23,4 @@ pub choice-firm : (E : Database) (input : Input) (es : List Happening) (shown : 
 choice-firm E input es shown p some r may =
     let w = run E es (first_world E input) in
     let d = disks-agree E input es some r in
-    no-choice-lacks E w d.logs (firm_in w) d.halted d.disks shown may p (d.logs.lead p)
+    no-choice-lacks E w d.logs (firm_in w) d.halted d.disks shown may p (d.logs.authoritative p)

@@ -7,9 +7,9 @@ pub mod Order
 pub mod Others
 pub mod Own
 pub mod Recoveries
-pub mod Rows
+pub mod Handlers
 pub mod SiteDisks
-pub mod SiteRows
+pub mod SiteHandlers
 pub mod SiteTurns
 pub mod SyncContents
 pub mod SyncParts

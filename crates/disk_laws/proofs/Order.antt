@@ -14,9 +14,9 @@ use Rattle.cluster_model.specs.Log.{open_in}
 use Rattle.cluster_model.specs.Disk.{Content, Shown, after_parts, after_failure, is_better, better, best_of, shown_of_part, chosen, mark_of, greatest_mark, greatest_open, resolved, closed, recovered}
 use Rattle.word_laws.specs.Histories.{In}
 use Rattle.word_laws.proofs.Lists.{in-left, in-right, in-cases, in-map, in-map-from, all-at, all-from, all-mono}
-use Rattle.log_laws.specs.Histories.{LogState, Front, IsSlot, part}
+use Rattle.log_laws.specs.Histories.{LogState, Prefix, IsSlot, part}
 use Rattle.log_laws.proofs.Plain.Copies.{part-slots, slots-part}
-use Rattle.log_laws.proofs.Plain.Fronts.{front-refl}
+use Rattle.log_laws.proofs.Plain.Prefixes.{prefix-refl}
 use Rattle.disk_laws.specs.Disks.{AtLeast, Top, shown_at}
 
 -- ---- one content and another
@@ -322,11 +322,11 @@ top-chosen S shown f p m n t =
     best-chosen S.words.deployment shown t.slot p m n t.part_is (all-at (AtLeast m n) (shown_at S t.slot) t.all (shown t.slot) (f t.slot t.is_slot))
 
 -- A recovery goes on with the log that was chosen, and at most an entry more.
-pub chosen-recovered : (E : Database) (D : Deployment) (shown : ℕ → Shown) (p : ℕ) → Front (chosen D shown p) (recovered E D shown p)
+pub chosen-recovered : (E : Database) (D : Deployment) (shown : ℕ → Shown) (p : ℕ) → Prefix (chosen D shown p) (recovered E D shown p)
 chosen-recovered E D shown p =
-    front-closed (open_in (chosen D shown p)) (greatest_open (map (chosen D shown) (all_parts D)))
+    prefix-closed (open_in (chosen D shown p)) (greatest_open (map (chosen D shown) (all_parts D)))
     (resolved E D (chosen D shown) (unwrap_or (greatest_open (map (chosen D shown) (all_parts D))) 0))
   where
-    front-closed : (o greatest : Option ℕ) (a : Outcome) → Front (chosen D shown p) (closed (chosen D shown p) o greatest a)
-    front-closed None greatest a = front-refl (chosen D shown p)
-    front-closed (Some m) greatest a = (Done m (if m == unwrap_or greatest 0 then a else Dropped) ∷ [], refl)
+    prefix-closed : (o greatest : Option ℕ) (a : Outcome) → Prefix (chosen D shown p) (closed (chosen D shown p) o greatest a)
+    prefix-closed None greatest a = prefix-refl (chosen D shown p)
+    prefix-closed (Some m) greatest a = (Done m (if m == unwrap_or greatest 0 then a else Dropped) ∷ [], refl)

@@ -11,7 +11,7 @@ use Rattle.word_laws.specs.Histories.{History}
 use Rattle.word_laws.proofs.Lists.{all-mono}
 use Rattle.word_laws.proofs.Moves as word_moves
 use Rattle.log_laws.specs.Histories.{LogState, part, start_at, between}
-use Rattle.log_laws.proofs.Plain.Fronts.{front-refl}
+use Rattle.log_laws.proofs.Plain.Prefixes.{prefix-refl}
 use Rattle.log_laws.proofs.Agents.AgentEvents.{AgentGoes}
 use Rattle.disk_laws.specs.Disks.{Top, Firm, ContentOk, DiskOk, StreamLetter, Halted, FirmOk, DisksHold}
 use Rattle.disk_laws.proofs.Contents.{rises-same, content-later}
@@ -30,11 +30,11 @@ module _ (S : LogState) (F : Firm) (halted : Bool) (K : DisksHold S F halted) (n
 
   disk-worded : (c : ℕ) → DiskOk S F halted c → DiskOk worded F halted c
   disk-worded c k = own-disk worded F halted c (S.sites c) refl
-      (own-on halted (ContentOk S F halted (part S c)) (ContentOk worded F halted (part S c)) (S.logs.reign (part S c)) (S.logs.reign (part S c))
+      (own-on halted (ContentOk S F halted (part S c)) (ContentOk worded F halted (part S c)) (S.logs.leadership (part S c)) (S.logs.leadership (part S c))
       (F (part S c)) (F (part S c)) (S.sites c)
       (all-mono (ContentOk S F halted (part S c)) (ContentOk worded F halted (part S c))
       (content-later S worded (rises-same S worded refl refl) F F (part S c) halted (λ _ _ r. r)) (S.sites c).contents)
-      (λ t g is. (g, is, refl, front-refl g.log)) (omega arith) (disk-own S F halted c k))
+      (λ t g is. (g, is, refl, prefix-refl g.log)) (omega arith) (disk-own S F halted c k))
 
   stream-worded : (c : ℕ) (l : Letter) → StreamLetter S c l → StreamLetter worded c l
   stream-worded c l k = elim l.body as (λ m. StreamLetter S c (record l { body = m }) → StreamLetter worded c (record l { body = m })) [
@@ -43,14 +43,14 @@ module _ (S : LogState) (F : Firm) (halted : Bool) (K : DisksHold S F halted) (n
   ] k
 
   firm-worded : (p : ℕ) → FirmOk S F p → FirmOk worded F p
-  firm-worded p k = record { term = k.term; reign = k.reign; led = k.led; reach = k.reach; top = λ some. top-worded p k.term (F p) (k.top some) }
+  firm-worded p k = record { term = k.term; leadership = k.leadership; led = k.led; reach = k.reach; top = λ some. top-worded p k.term (F p) (k.top some) }
 
   module _ (same : (i c : ℕ) → ch (Site i) (Site c) ≡ between S i c) where
     -- What disks show is kept.
     pub disks-worded : (halted ≡ true → Halted worded) → DisksHold worded F halted
     disks-worded halts = record {
       disks = λ c slot. disk-worded c (K.disks c slot);
-      outside = K.outside;
+      environment = K.environment;
       streams = λ i c slot. subst (AllByRecursion (StreamLetter worded c)) (sym (same i c))
           (all-mono (StreamLetter S c) (StreamLetter worded c) (stream-worded c) (between S i c) (K.streams i c slot));
       firm = λ p. firm-worded p (K.firm p);

@@ -5,18 +5,18 @@ use Rattle.std.specs.List.{AllByRecursion}
 use Rattle.cluster_model.specs.Disk.{Shown, mark_of}
 use Rattle.cluster_model.specs.Words.{Deployment}
 use Rattle.cluster_model.specs.SiteState.{SiteState, Joining, Streamed, site_term}
-use Rattle.log_laws.specs.Histories.{LogState, Front, Reign, part}
+use Rattle.log_laws.specs.Histories.{LogState, Prefix, Leadership, part}
 use Rattle.disk_laws.specs.Disks.{Firm, ContentOk, StreamDisk, DiskOk, own_content}
-use Rattle.disk_laws.proofs.Rows.{DiskAt, FirmRises, at-term, at-was-member, at-was-joiner}
-use Rattle.log_laws.proofs.Plain.Fronts.{take-grown}
+use Rattle.disk_laws.proofs.Handlers.{DiskAt, FirmRises, at-term, at-was-member, at-was-joiner}
+use Rattle.log_laws.proofs.Plain.Prefixes.{take-grown}
 
 -- Of a member, in whose partition these terms were led, and this was counted firm.
-pub record OwnMember (led : ℕ → Option Reign) (top : ℕ) (s : SiteState) : Type 0 where
+pub record OwnMember (led : ℕ → Option Leadership) (top : ℕ) (s : SiteState) : Type 0 where
   pub shows : s.contents ≡ own_content s ∷ []
   pub mark : s.mark ≤ site_term s
-  pub reign : Reign
-  pub is_led : led s.mark ≡ Some reign
-  pub begun : Front reign.begun (take s.on_disk s.log)
+  pub leadership : Leadership
+  pub is_led : led s.mark ≡ Some leadership
+  pub begun : Prefix leadership.begun (take s.on_disk s.log)
   pub marked : s.mark ≡ site_term s → s.repaired ≡ true
   pub firm : s.firm ≤ top
   pub owes : (s.owes ≡ None) ⊎ ((s.owes ≡ Some (site_term s)) × (s.repaired ≡ true))
@@ -27,9 +27,9 @@ OwnStream s j None = AllByRecursion (λ x. mark_of x ≤ s.earlier) s.contents
 OwnStream s j (Some st) =
     (st.mark ≡ site_term s)
     × (j.is_based ≡ false → s.contents ≡ None ∷ [])
-    × (j.is_based ≡ true → (s.contents ≡ own_content s ∷ []) × (s.mark ≡ st.mark) × (s.base ≡ st.nj) × (st.nj ≤ s.on_disk))
+    × (j.is_based ≡ true → (s.contents ≡ own_content s ∷ []) × (s.mark ≡ st.mark) × (s.base ≡ st.stream_start) × (st.stream_start ≤ s.on_disk))
 
-pub record Own (halted : Bool) (C : Shown → Type 0) (led : ℕ → Option Reign) (top : ℕ) (s : SiteState) : Type 0 where
+pub record Own (halted : Bool) (C : Shown → Type 0) (led : ℕ → Option Leadership) (top : ℕ) (s : SiteState) : Type 0 where
   pub some : (s.contents ≡ []) → ⊥
   pub contents : AllByRecursion C s.contents
   pub marks : halted ≡ false → AllByRecursion (λ x. mark_of x ≤ s.greatest) s.contents
@@ -40,7 +40,7 @@ pub record Own (halted : Bool) (C : Shown → Type 0) (led : ℕ → Option Reig
 
 module _ (S : LogState) (F : Firm) (halted : Bool) (c : ℕ) where
   abbrev pub OwnAt : SiteState → Type 0
-  OwnAt s = Own halted (ContentOk S F halted (part S c)) (S.logs.reign (part S c)) (F (part S c)) s
+  OwnAt s = Own halted (ContentOk S F halted (part S c)) (S.logs.leadership (part S c)) (F (part S c)) s
 
   stream-own : (j : Joining) (o : Option Streamed) → StreamDisk S c j o → OwnStream (S.sites c) j o
   stream-own j None k = k
@@ -59,7 +59,7 @@ module _ (S : LogState) (F : Firm) (halted : Bool) (c : ℕ) where
     member = λ up none. let m = k.member up none in record {
       shows = m.shows;
       mark = m.mark;
-      reign = m.reign;
+      leadership = m.leadership;
       is_led = m.led;
       begun = m.begun;
       marked = m.marked;
@@ -77,7 +77,7 @@ module _ (S : LogState) (F : Firm) (halted : Bool) (c : ℕ) where
     member = λ up none. let m = k.member up none in record {
       shows = m.shows;
       mark = m.mark;
-      reign = m.reign;
+      leadership = m.leadership;
       led = m.is_led;
       begun = m.begun;
       marked = m.marked;
@@ -91,18 +91,18 @@ module _ (S : LogState) (F : Firm) (halted : Bool) (c : ℕ) where
       k = subst OwnAt (sym e) o
 
 -- It stays so with a history that has grown, and with more that was counted firm.
-pub own-on : (halted : Bool) (C B : Shown → Type 0) (led later : ℕ → Option Reign) (top more : ℕ) (s : SiteState)
+pub own-on : (halted : Bool) (C B : Shown → Type 0) (led later : ℕ → Option Leadership) (top more : ℕ) (s : SiteState)
     → (AllByRecursion C s.contents → AllByRecursion B s.contents)
-    → ((t : ℕ) (g : Reign) → led t ≡ Some g → (h : Reign) × (later t ≡ Some h) × (h.begun ≡ g.begun) × Front g.log h.log)
+    → ((t : ℕ) (g : Leadership) → led t ≡ Some g → (h : Leadership) × (later t ≡ Some h) × (h.begun ≡ g.begun) × Prefix g.log h.log)
     → top ≤ more → Own halted C led top s → Own halted B later more s
 own-on halted C B led later top more s contents kept up k = record {
   some = k.some;
   contents = contents k.contents;
   marks = k.marks;
-  member = λ run none. let m = k.member run none in let r = kept s.mark m.reign m.is_led in record {
+  member = λ run none. let m = k.member run none in let r = kept s.mark m.leadership m.is_led in record {
     shows = m.shows;
     mark = m.mark;
-    reign = r.0;
+    leadership = r.0;
     is_led = r.1;
     begun = rw (r.2) m.begun;
     marked = m.marked;
@@ -122,13 +122,13 @@ module _ (D : Deployment) (i : ℕ) (s u : SiteState) (h : DiskAt D i s u) (whol
   pub own-same : own_content u ≡ own_content s
   own-same = rw (h.mark, h.base, taken-same) refl
 
-  member-row : (led : ℕ → Option Reign) (top : ℕ) → (FirmRises D i s u → u.firm ≤ top) → OwnMember led top s → OwnMember led top u
-  member-row led top rises k = record {
+  member-handler : (led : ℕ → Option Leadership) (top : ℕ) → (FirmRises D i s u → u.firm ≤ top) → OwnMember led top s → OwnMember led top u
+  member-handler led top rises k = record {
     shows = h.contents ∙ k.shows ∙ ap (λ x. x ∷ []) (sym own-same);
     mark = let a = at-term D i s u h in omega (arith, k.mark, h.mark, a);
-    reign = k.reign;
+    leadership = k.leadership;
     is_led = ap led h.mark ∙ k.is_led;
-    begun = subst (Front k.reign.begun) (sym taken-same) k.begun;
+    begun = subst (Prefix k.leadership.begun) (sym taken-same) k.begun;
     marked = λ e. h.repaired (k.marked (sym h.mark ∙ e ∙ at-term D i s u h));
     firm = elim h.firm [
       | inl e ↦ omega (arith, e, k.firm)
@@ -143,9 +143,9 @@ module _ (D : Deployment) (i : ℕ) (s u : SiteState) (h : DiskAt D i s u) (whol
     ];
   }
 
-  stream-row : (j k : Joining) → k.is_based ≡ j.is_based → (o : Option Streamed) → OwnStream s j o → OwnStream u k o
-  stream-row j k based None q = subst (AllByRecursion (λ x. mark_of x ≤ u.earlier)) (sym h.contents) (subst (λ n. AllByRecursion (λ x. mark_of x ≤ n) s.contents) (sym h.earlier) q)
-  stream-row j k based (Some st) q = (
+  stream-handler : (j k : Joining) → k.is_based ≡ j.is_based → (o : Option Streamed) → OwnStream s j o → OwnStream u k o
+  stream-handler j k based None q = subst (AllByRecursion (λ x. mark_of x ≤ u.earlier)) (sym h.contents) (subst (λ n. AllByRecursion (λ x. mark_of x ≤ n) s.contents) (sym h.earlier) q)
+  stream-handler j k based (Some st) q = (
     q.0 ∙ sym (at-term D i s u h),
     λ e. h.contents ∙ q.1 (sym based ∙ e),
     λ e. let r = q.2 (sym based ∙ e) in
@@ -153,13 +153,13 @@ module _ (D : Deployment) (i : ℕ) (s u : SiteState) (h : DiskAt D i s u) (whol
   )
 
 -- What is said of the site stays so, whose log is as long as it is on disk.
-pub own-row : (D : Deployment) (i : ℕ) (s u : SiteState) → DiskAt D i s u → (halted : Bool) (C : Shown → Type 0) (led : ℕ → Option Reign) (top : ℕ)
+pub own-handler : (D : Deployment) (i : ℕ) (s u : SiteState) → DiskAt D i s u → (halted : Bool) (C : Shown → Type 0) (led : ℕ → Option Leadership) (top : ℕ)
     → s.on_disk ≤ length s.log → (FirmRises D i s u → u.firm ≤ top) → Own halted C led top s → Own halted C led top u
-own-row D i s u h halted C led top whole rises k = record {
+own-handler D i s u h halted C led top whole rises k = record {
   some = λ e. k.some (sym h.contents ∙ e);
   contents = subst (AllByRecursion C) (sym h.contents) k.contents;
   marks = λ e. subst (AllByRecursion (λ x. mark_of x ≤ u.greatest)) (sym h.contents) (subst (λ n. AllByRecursion (λ x. mark_of x ≤ n) s.contents) (sym h.greatest) (k.marks e));
-  member = λ up e. member-row D i s u h whole led top rises (k.member (subst (λ n. 0 < n) h.start up) (at-was-member D i s u h e));
+  member = λ up e. member-handler D i s u h whole led top rises (k.member (subst (λ n. 0 < n) h.start up) (at-was-member D i s u h e));
   joiner = λ e j is. let r = at-was-joiner D i s u h j is in
-      stream-row D i s u h whole r.0 j r.3 j.stream (subst (OwnStream s r.0) (sym r.2) (k.joiner e r.0 r.1));
+      stream-handler D i s u h whole r.0 j r.3 j.stream (subst (OwnStream s r.0) (sym r.2) (k.joiner e r.0 r.1));
 }

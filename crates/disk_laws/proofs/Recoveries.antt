@@ -12,7 +12,7 @@ use Rattle.cluster_model.specs.Engine.{Database}
 use Rattle.cluster_model.specs.Words.{slots, is_host}
 use Rattle.cluster_model.specs.Letters.{Blocks, Letter}
 use Rattle.cluster_model.specs.Disk.{Shown, mark_of}
-use Rattle.cluster_model.specs.Outside.{DisksShow}
+use Rattle.cluster_model.specs.Environment.{DisksShow}
 use Rattle.cluster_model.specs.World.{World}
 use Rattle.cluster_model.specs.Recover.{shown_of, all_shown, new_base, new_content, left_contents, stays_stopped}
 use Rattle.cluster_model.specs.Events.{is_stopped, may_recover, is_shown, is_slot_or_none, allows}
@@ -87,8 +87,8 @@ module _ (E : Database) (w : World) (k : HasLogs w) (F : Firm) (halted : Bool) (
       other = grind (arith, nat_tests, slot, out)
 
       choice : (b : Bool) → AllByRecursion (λ x. x ≡ None) (left_contents E w shown (f, b) c)
-      choice true = rw (before, other) (get-none (w.sites c).contents (slice_index shown c) (K.outside c out), tt)
-      choice false = rw before (K.outside c out)
+      choice true = rw (before, other) (get-none (w.sites c).contents (slice_index shown c) (K.environment c out), tt)
+      choice false = rw before (K.environment c out)
 
   -- ---- nothing is lost
 
@@ -155,7 +155,7 @@ module _ (E : Database) (w : World) (k : HasLogs w) (F : Firm) (halted : Bool) (
         (list_all (λ i. (w.sites i).start == 0 && (w.scanners i).start == 0) (range_with_len 0 (slots w.deployment))) s).0
         (range-in h 0 w.deployment.layout.hosts (omega arith) (grind (arith, nat_tests, q))) in
         eqb-true (w.agents h).start 0 t
-    | inr q ↦ (k.holds.words.hosts h).outside q
+    | inr q ↦ (k.holds.words.hosts h).environment q
   ]
 
   pub site-stopped : is_stopped w ≡ true → (c : ℕ) → (w.sites c).start ≡ 0
@@ -166,7 +166,7 @@ module _ (E : Database) (w : World) (k : HasLogs w) (F : Firm) (halted : Bool) (
         (list_all (λ i. (w.sites i).start == 0 && (w.scanners i).start == 0) (range_with_len 0 (slots w.deployment))) s).1
         (range-in c 0 (slots w.deployment) (omega arith) (omega (arith, slot-below c q))) in
         eqb-true (w.sites c).start 0 (and_parts ((w.sites c).start == 0) ((w.scanners c).start == 0) t).0
-    | inr q ↦ (k.holds.sites c).outside q
+    | inr q ↦ (k.holds.sites c).environment q
   ]
 
   -- an agent that has stopped has decided no word, since a word names starts alone
@@ -202,7 +202,7 @@ module _ (E : Database) (w : World) (k : HasLogs w) (F : Firm) (halted : Bool) (
       member = λ up. absurd (omega (arith, up, site-stopped s c));
       joiner = λ x. absurd (true≢false x);
     };
-    outside = λ c out. left-none c out b slot;
+    environment = λ c out. left-none c out b slot;
     streams = λ i c q. all-mono (StreamLetter S c) (StreamLetter (after b) c) (left-stream b e c) (between S i c) (K.streams i c q);
     firm = λ p. firm-later S (after b) (rises-same S (after b) refl refl) F F p refl (left-top b e p) (K.firm p);
     halts = λ x. stopped-halts b s;

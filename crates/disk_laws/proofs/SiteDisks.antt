@@ -10,7 +10,7 @@ use Rattle.cluster_model.specs.Disk.{Shown}
 use Rattle.cluster_model.specs.Words.{Deployment, part_of_slot, term_of, term_in}
 use Rattle.cluster_model.specs.Letters.{Letter, Sends}
 use Rattle.cluster_model.specs.SiteState.{SiteState, site_term, leads}
-use Rattle.cluster_model.specs.World.{Lead, set_at, lead_after}
+use Rattle.cluster_model.specs.World.{AuthoritativeLog, set_at, authoritative_after}
 use Rattle.word_laws.specs.Histories.{In}
 use Rattle.word_laws.proofs.Lists.{all-at, all-from, all-append, none-and-some, if-false, set-here, set-there}
 use Rattle.log_laws.specs.Histories.{LogState, Logs, Holds, IsSlot, part, start_at, log_at, between}
@@ -31,15 +31,15 @@ pub record Raised (D : Deployment) (i : ℕ) (s : SiteState) (F G : Firm) : Type
   pub others : (p : ℕ) → (p ≡ part_of_slot D i → ⊥) → G p ≡ F p
 
 -- so it is with what the world keeps of a partition's lead
-pub lead-raised : (D : Deployment) (i : ℕ) (s : SiteState) (lead : ℕ → Lead)
-    → Raised D i s (λ p. (lead p).firm) (λ p. (set_at lead (part_of_slot D i) (lead_after D i s (lead (part_of_slot D i))) p).firm)
-lead-raised D i s lead = record {
-  own = ap (λ x. x.firm) (set-here lead (part_of_slot D i) (lead_after D i s l)) ∙ choice (leads D i s);
-  others = λ p n. ap (λ x. x.firm) (set-there lead (part_of_slot D i) (lead_after D i s l) p n);
+pub authoritative-raised : (D : Deployment) (i : ℕ) (s : SiteState) (authoritative : ℕ → AuthoritativeLog)
+    → Raised D i s (λ p. (authoritative p).firm) (λ p. (set_at authoritative (part_of_slot D i) (authoritative_after D i s (authoritative (part_of_slot D i))) p).firm)
+authoritative-raised D i s authoritative = record {
+  own = ap (λ x. x.firm) (set-here authoritative (part_of_slot D i) (authoritative_after D i s l)) ∙ choice (leads D i s);
+  others = λ p n. ap (λ x. x.firm) (set-there authoritative (part_of_slot D i) (authoritative_after D i s l) p n);
 }
   where
-    l : Lead
-    l = lead (part_of_slot D i)
+    l : AuthoritativeLog
+    l = authoritative (part_of_slot D i)
 
     choice : (b : Bool) → (if b then record {
       term = max l.term (site_term s);
@@ -113,7 +113,7 @@ module _ (S : LogState) (H : Holds S) (F M : Firm) (halted : Bool) (K : DisksHol
     -- ---- the other slots
 
     pub disk-on : (c : ℕ) (x : SiteState) → OwnAt S F halted c x → OwnAt later M halted c x
-    disk-on c x = own-on halted (ContentOk S F halted (part S c)) (ContentOk later M halted (part S c)) (S.logs.reign (part S c)) (G.reign (part S c))
+    disk-on c x = own-on halted (ContentOk S F halted (part S c)) (ContentOk later M halted (part S c)) (S.logs.leadership (part S c)) (G.leadership (part S c))
         (F (part S c)) (M (part S c)) x (contents-on (part S c) x.contents) (grown.onward.kept (part S c)) (firm-up (part S c))
 
     pub disk-other : (c : ℕ) → later.sites c ≡ S.sites c → DiskOk S F halted c → DiskOk later M halted c
@@ -130,7 +130,7 @@ module _ (S : LogState) (H : Holds S) (F M : Firm) (halted : Bool) (K : DisksHol
       firm-raised : leads D i s ≡ true → M (part S i) ≡ s.firm → s.mark ≡ site_term s → s.firm ≤ s.on_disk → FirmOk later M (part S i)
       firm-raised l e mark disk = record {
         term = term_of x.word;
-        reign = x.reign;
+        leadership = x.leadership;
         led = x.led;
         reach = let a = x.member.firm in let b = ap (λ z. z.firm) site in omega (arith, a, b, e);
         top = λ some. record {
@@ -191,9 +191,9 @@ module _ (S : LogState) (H : Holds S) (F M : Firm) (halted : Bool) (K : DisksHol
           | inl e ↦ subst (DiskOk later M halted) (sym e) own
           | inr n ↦ disk-other c (there less i s out G c n) (K.disks c is)
         ];
-        outside = λ c not. elim (cases_eq c i) [
+        environment = λ c not. elim (cases_eq c i) [
           | inl e ↦ absurd (not (subst (IsSlot S) (sym e) slot))
-          | inr n ↦ subst (λ x. AllByRecursion (λ y. y ≡ None) x.contents) (sym (there less i s out G c n)) (K.outside c not)
+          | inr n ↦ subst (λ x. AllByRecursion (λ y. y ≡ None) x.contents) (sym (there less i s out G c n)) (K.environment c not)
         ];
         streams = λ j c is. sent-either less i s out G (λ j ls. AllByRecursion (StreamLetter later c) ls) (Site c)
             (all-append (StreamLetter later c) (ch (Site i) (Site c)) (out (Site c)) (old i c is) (new c is))

@@ -1,4 +1,4 @@
--- Disks hold after a site has taken a message, whatever the outside's share is.
+-- Disks hold after a site has taken a message, whatever the environment's share is.
 use Rattle.std.proofs.Common.{◌≡◌, ◌<◌, ◌≤◌, Bool, true, false, List, [], ◌∷◌, ◌++◌, length, take, length-take, append_assoc, refl, sym, subst, ap, ◌∙◌, ◌⊎◌, inl, inr, ◌==◌, arith}
 use Rattle.std.proofs.lemmas.Bool.{cases_Bool, and_parts, and_from, eq-eqb}
 use Rattle.std.proofs.lemmas.Bool.Decides.{nat_tests}
@@ -18,15 +18,15 @@ use Rattle.cluster_model.specs.SiteState.{SiteState, Joining, Streamed, new_join
 use Rattle.cluster_model.specs.Site.{in_new_term, may_stream, on_stream_start, on_start, on_stop, site_runs, site_takes}
 use Rattle.cluster_model.specs.Sync.{may_stream_in, parts_of_stream, parts_of_message, stops_so, start_after, site_turn}
 use Rattle.cluster_model.specs.Laws.{starts_in}
-use Rattle.cluster_model.specs.Outside.{Outside, Fair, DiskFails, NoMemory, DisksShow}
+use Rattle.cluster_model.specs.Environment.{Environment, NoFault, DiskFails, NoMemory, DisksShow}
 use Rattle.word_laws.specs.Histories.{In}
 use Rattle.word_laws.proofs.Lists.{all-mono, none-and-some, same-some, not-both}
 use Rattle.word_laws.proofs.Agreement.{member-is}
 use Rattle.word_laws.proofs.Members.{is_member-start, start-is_member}
-use Rattle.log_laws.specs.Histories.{LogState, Logs, Reign, Front, Holds, IsSlot, SiteLetterOk, WaitingOk, JoinerOk, ViewIn, StreamIn, InWord, Took, HeldOk, StreamedOk, from_agent, part, start_at, log_at, term_at}
+use Rattle.log_laws.specs.Histories.{LogState, Logs, Leadership, Prefix, Holds, IsSlot, SiteLetterOk, WaitingOk, JoinerOk, ViewIn, StreamIn, InWord, Took, HeldOk, StreamedOk, from_agent, part, start_at, log_at, term_at}
 use Rattle.log_laws.proofs.Plain.Copies.{a-joiner}
 use Rattle.log_laws.proofs.NewTerms.Entering.{took-admitted, ran-owner, running-ran}
-use Rattle.log_laws.proofs.Plain.Fronts.{fronts-order, front-trans, front-take}
+use Rattle.log_laws.proofs.Plain.Prefixes.{prefixes-order, prefix-trans, prefix-take}
 use Rattle.log_laws.proofs.Kept.Moves.{Grown, after, popped}
 use Rattle.log_laws.proofs.Kept.Plumbing.{here}
 use Rattle.log_laws.proofs.Messages.Pops.{taken-for, waits-for}
@@ -34,11 +34,11 @@ use Rattle.log_laws.proofs.NewTerms.Taking.{first-word, later-word}
 use Rattle.log_laws.proofs.Kept.Terms.{took-unnamed}
 use Rattle.disk_laws.specs.Disks.{Firm, ContentOk, StreamDisk, StreamOk, StreamLetter, Halted, DisksHold, shown_at}
 use Rattle.disk_laws.proofs.Order.{Raise, in-take, in-after_parts, in-after_failure, some-after_parts, some-after_failure, raise-take, raise-after_parts, raise-after_failure}
-use Rattle.disk_laws.proofs.Rows.{DiskRow, Plain, PlainWaiting, waiting-plain}
-use Rattle.disk_laws.proofs.SiteRows.{stays_joiner, as_joiner, as_entered, site_runs-row, site_runs-refused, site_runs-stream, site_runs-joins, site_runs-enters, entered-held}
+use Rattle.disk_laws.proofs.Handlers.{DiskHandler, Plain, PlainWaiting, waiting-plain}
+use Rattle.disk_laws.proofs.SiteHandlers.{stays_joiner, as_joiner, as_entered, site_runs-handler, site_runs-refused, site_runs-stream, site_runs-joins, site_runs-enters, entered-held}
 use Rattle.disk_laws.proofs.Own.{Own, OwnMember, OwnStream}
 use Rattle.disk_laws.proofs.SiteDisks.{Raised, firm-up}
-use Rattle.disk_laws.proofs.Turning.{DisksGo, Kept, Wiped, Leaves, firm-before, own-before, same-tops, wiped-tops, same-still, row-disks, row-kept, row-goes, row-begins, halts-after, still-kept, begins-kept, stops-kept, leaves-same, noted-kept, none-ok, stops-none, taken-from, fewer}
+use Rattle.disk_laws.proofs.Turning.{DisksGo, Kept, Wiped, Leaves, firm-before, own-before, same-tops, wiped-tops, same-still, handler-disks, handler-kept, handler-goes, handler-begins, halts-after, still-kept, begins-kept, stops-kept, leaves-same, noted-kept, none-ok, stops-none, taken-from, fewer}
 
 -- ---- messages
 
@@ -155,9 +155,9 @@ module _ (S : LogState) (H : Holds S) (F : Firm) (halted : Bool) (K : DisksHold 
       -- the joiner with its stream
       abbrev u : SiteState
       u = record s {
-        joining = Some (record j { stream = Some (record { nj = head.nj; mark = head.mark }) });
+        joining = Some (record j { stream = Some (record { stream_start = head.stream_start; mark = head.mark }) });
         log = l.past;
-        floor = head.nj;
+        floor = head.stream_start;
         contents = None ∷ [];
       }
 
@@ -173,7 +173,7 @@ module _ (S : LogState) (H : Holds S) (F : Firm) (halted : Bool) (K : DisksHold 
         | inl e ↦ absurd (not-both j.is_loaded (((H.sites i).joiner j joins).based e) (unbased j joins fresh).0)
       ]
 
-      stream-own : (C : Shown → Type 0) (led : ℕ → Option Reign) (top : ℕ) → C None → Own halted C led top u
+      stream-own : (C : Shown → Type 0) (led : ℕ → Option Leadership) (top : ℕ) → C None → Own halted C led top u
       stream-own C led top c = record {
         some = λ e. absurd (cc);
         contents = (c, tt);
@@ -183,13 +183,13 @@ module _ (S : LogState) (H : Holds S) (F : Firm) (halted : Bool) (K : DisksHold 
             (letter.mark_is ∙ term-is, λ b. refl, λ b. absurd (not-both j.is_based b blank-based));
       }
 
-      pub stream-kept : (t : Turn SiteState) → DiskRow D i u t → Kept S F halted (Site k) i t
-      stream-kept t row M G L grown raised =
+      pub stream-kept : (t : Turn SiteState) → DiskHandler D i u t → Kept S F halted (Site k) i t
+      stream-kept t handler M G L grown raised =
           let halts : halted ≡ true → Halted (after (popped S (Site k) i) i t.state t.sends G) = λ e. absurd (not-both halted e goes-on) in
           let C : Shown → Type 0 = ContentOk (after (popped S (Site k) i) i t.state t.sends G) M halted (part S i) in
-          row-disks S H F halted K (taken-from S (Site k) i) (fewer S (Site k) i) i slot t M G L grown raised halts u
-          (stream-own C (G.reign (part S i)) (M (part S i)) (none-ok (after (popped S (Site k) i) i t.state t.sends G) M halted (part S i)))
-          unwritten row (subst (λ n. 0 < n) (sym row.at.start) up) ((H.sites i).keeps up).held (firm-before S H F halted K i slot up)
+          handler-disks S H F halted K (taken-from S (Site k) i) (fewer S (Site k) i) i slot t M G L grown raised halts u
+          (stream-own C (G.leadership (part S i)) (M (part S i)) (none-ok (after (popped S (Site k) i) i t.state t.sends G) M halted (part S i)))
+          unwritten handler (subst (λ n. 0 < n) (sym handler.at.start) up) ((H.sites i).keeps up).held (firm-before S H F halted K i slot up)
           (wiped-tops S H F halted K (taken-from S (Site k) i) (fewer S (Site k) i) i slot t M G L grown raised halts wiped)
           (λ e. absurd (not-both halted e goes-on))
 
@@ -201,18 +201,18 @@ module _ (S : LogState) (H : Holds S) (F : Firm) (halted : Bool) (K : DisksHold 
         t : Turn SiteState
         t = site_runs E D stamp i s (Site k) (record l { body = msg.StreamStart head })
 
-        may : (j : Joining) → s.joining ≡ Some j → (b : Bool) → may_stream s j l ≡ b → DiskRow D i (if b then record s {
-          joining = Some (record j { stream = Some (record { nj = head.nj; mark = head.mark }) });
+        may : (j : Joining) → s.joining ≡ Some j → (b : Bool) → may_stream s j l ≡ b → DiskHandler D i (if b then record s {
+          joining = Some (record j { stream = Some (record { stream_start = head.stream_start; mark = head.mark }) });
           log = l.past;
-          floor = head.nj;
+          floor = head.stream_start;
           contents = None ∷ [];
         } else s) t → Kept S F halted (Site k) i t
-        may j e true m row = stream-kept j e m t row
-        may j e false m row = row-kept S H F halted K (Site k) i slot t up row
+        may j e true m handler = stream-kept j e m t handler
+        may j e false m handler = handler-kept S H F halted K (Site k) i slot t up handler
 
-        choice : (o : Option Joining) → s.joining ≡ o → DiskRow D i (on_stream_start s o (record l { body = msg.StreamStart head }) head) t → Kept S F halted (Site k) i t
-        choice None e row = row-kept S H F halted K (Site k) i slot t up row
-        choice (Some j) e row = may j e (may_stream s j l) refl row
+        choice : (o : Option Joining) → s.joining ≡ o → DiskHandler D i (on_stream_start s o (record l { body = msg.StreamStart head }) head) t → Kept S F halted (Site k) i t
+        choice None e handler = handler-kept S H F halted K (Site k) i slot t up handler
+        choice (Some j) e handler = may j e (may_stream s j l) refl handler
 
   -- ---- a word
 
@@ -249,7 +249,7 @@ module _ (S : LogState) (H : Holds S) (F : Firm) (halted : Bool) (K : DisksHold 
             choice (Some v) e = absurd (both-not (is_member w (host_of_slot D i) (start_at S i)) (later-named v e)
                 (and_parts (is_joiner s) (not (is_member w (host_of_slot D i) (start_at S i))) stays).1)
 
-        joins-own : (C : Shown → Type 0) (led : ℕ → Option Reign) (top : ℕ) → Own halted C led top s → Own halted C led top (as_joiner s w)
+        joins-own : (C : Shown → Type 0) (led : ℕ → Option Leadership) (top : ℕ) → Own halted C led top s → Own halted C led top (as_joiner s w)
         joins-own C led top o = record {
           some = o.some;
           contents = o.contents;
@@ -263,16 +263,16 @@ module _ (S : LogState) (H : Holds S) (F : Firm) (halted : Bool) (K : DisksHold 
             old : (j : Joining) → j.stream ≡ None → OwnStream s j j.stream → AllByRecursion (λ x. mark_of x ≤ s.earlier) (shown_at S i)
             old j none k = subst (OwnStream s j) none k
 
-        pub joins-kept : (t : Turn SiteState) → DiskRow D i (as_joiner s w) t → Kept S F halted (Agent h) i t
-        joins-kept t row M G L grown raised =
-            let halts = halts-after S H F halted K (taken-from S (Agent h) i) (fewer S (Agent h) i) i slot t G L (row-goes S i t (as_joiner s w) row refl (λ j e. (j, e, refl)))
-            (row-begins S i t (as_joiner s w) row held) in
-            row-disks S H F halted K (taken-from S (Agent h) i) (fewer S (Agent h) i) i slot t M G L grown raised halts (as_joiner s w)
-            (joins-own (ContentOk (after (popped S (Agent h) i) i t.state t.sends G) M halted (part S i)) (G.reign (part S i)) (M (part S i))
+        pub joins-kept : (t : Turn SiteState) → DiskHandler D i (as_joiner s w) t → Kept S F halted (Agent h) i t
+        joins-kept t handler M G L grown raised =
+            let halts = halts-after S H F halted K (taken-from S (Agent h) i) (fewer S (Agent h) i) i slot t G L (handler-goes S i t (as_joiner s w) handler refl (λ j e. (j, e, refl)))
+            (handler-begins S i t (as_joiner s w) handler held) in
+            handler-disks S H F halted K (taken-from S (Agent h) i) (fewer S (Agent h) i) i slot t M G L grown raised halts (as_joiner s w)
+            (joins-own (ContentOk (after (popped S (Agent h) i) i t.state t.sends G) M halted (part S i)) (G.leadership (part S i)) (M (part S i))
             (own-before S H F halted K (taken-from S (Agent h) i) (fewer S (Agent h) i) i slot t M G L grown raised halts))
-            ((H.sites i).keeps up).on_disk row (subst (λ n. 0 < n) (sym row.at.start) up) held (firm-before S H F halted K i slot up)
-            (same-tops S H F halted K (taken-from S (Agent h) i) (fewer S (Agent h) i) i slot t M G L grown raised halts row.at.contents)
-            (same-still S H F halted K (taken-from S (Agent h) i) (fewer S (Agent h) i) i slot t M G L grown raised halts row.at.contents)
+            ((H.sites i).keeps up).on_disk handler (subst (λ n. 0 < n) (sym handler.at.start) up) held (firm-before S H F halted K i slot up)
+            (same-tops S H F halted K (taken-from S (Agent h) i) (fewer S (Agent h) i) i slot t M G L grown raised halts handler.at.contents)
+            (same-still S H F halted K (taken-from S (Agent h) i) (fewer S (Agent h) i) i slot t M G L grown raised halts handler.at.contents)
 
       -- ---- a joiner that the word admits
 
@@ -296,36 +296,36 @@ module _ (S : LogState) (H : Holds S) (F : Firm) (halted : Bool) (K : DisksHold 
             (H.loads.admitted x.0 x.1 i here).1 up (sym x.2) j joins
 
         module _ (st : Streamed) (stream : j.stream ≡ Some st) where
-          taken : Took S i v j st.nj
+          taken : Took S i v j st.stream_start
           taken = subst (StreamIn S i v j) stream in_word.stream
 
-          streamed : StreamedOk S i (term_of v) (record { start = start_at S i; nj = st.nj })
-          streamed = H.streamed i (term_of v) (record { start = start_at S i; nj = st.nj }) taken.streamed
+          streamed : StreamedOk S i (term_of v) (record { start = start_at S i; stream_start = st.stream_start })
+          streamed = H.streamed i (term_of v) (record { start = start_at S i; stream_start = st.stream_start }) taken.streamed
 
-          log-front : Front (log_at S i) streamed.reign.log
-          log-front = subst (λ g. Front (log_at S i) g.log) (same-some (sym taken.led ∙ streamed.led))
+          log-prefix : Prefix (log_at S i) streamed.leadership.log
+          log-prefix = subst (λ g. Prefix (log_at S i) g.log) (same-some (sym taken.led ∙ streamed.led))
               (j.tasks ++ taken.more, sym taken.whole ∙ append_assoc (log_at S i) j.tasks taken.more)
 
           -- with all that its mark's term began with
-          base-begun : st.nj ≤ s.on_disk → Front streamed.reign.begun (take s.on_disk s.log)
-          base-begun low = fronts-order streamed.reign.begun (take s.on_disk s.log) streamed.reign.log
-              (H.reigns (part S i) (term_of v) streamed.reign streamed.led).grown
-              (front-trans (take s.on_disk s.log) s.log streamed.reign.log (front-take s.on_disk s.log) log-front)
+          base-begun : st.stream_start ≤ s.on_disk → Prefix streamed.leadership.begun (take s.on_disk s.log)
+          base-begun low = prefixes-order streamed.leadership.begun (take s.on_disk s.log) streamed.leadership.log
+              (H.leaderships (part S i) (term_of v) streamed.leadership streamed.led).grown
+              (prefix-trans (take s.on_disk s.log) s.log streamed.leadership.log (prefix-take s.on_disk s.log) log-prefix)
               (let a = streamed.behind in let b = ((H.sites i).keeps up).on_disk in let c = length-take s.on_disk s.log in omega (arith, a, b, c, low))
 
-          admitted-own : (G : Logs) → ((p t : ℕ) (g : Reign) → S.logs.reign p t ≡ Some g → (x : Reign) × (G.reign p t ≡ Some x) × (x.begun ≡ g.begun) × Front g.log x.log)
-              → (top : ℕ) → s.firm ≤ top → OwnStream s j (Some st) → OwnMember (G.reign (part S i)) top (as_entered s w)
+          admitted-own : (G : Logs) → ((p t : ℕ) (g : Leadership) → S.logs.leadership p t ≡ Some g → (x : Leadership) × (G.leadership p t ≡ Some x) × (x.begun ≡ g.begun) × Prefix g.log x.log)
+              → (top : ℕ) → s.firm ≤ top → OwnStream s j (Some st) → OwnMember (G.leadership (part S i)) top (as_entered s w)
           admitted-own G kept top firm os =
               let f = os.2 based in
               let e : s.mark ≡ term_of v = f.1 ∙ os.0 ∙ ap term_in view in
-              let r = kept (part S i) (term_of v) streamed.reign streamed.led in
+              let r = kept (part S i) (term_of v) streamed.leadership streamed.led in
               let above = (later-word S H h i l w ls is word-start up v view).2 in
               record {
                 shows = f.0;
                 mark = omega (arith, e, above);
-                reign = r.0;
-                is_led = ap (G.reign (part S i)) e ∙ r.1;
-                begun = subst (λ b. Front b (take s.on_disk s.log)) (sym r.2) (base-begun f.3);
+                leadership = r.0;
+                is_led = ap (G.leadership (part S i)) e ∙ r.1;
+                begun = subst (λ b. Prefix b (take s.on_disk s.log)) (sym r.2) (base-begun f.3);
                 marked = λ q. absurd (omega (arith, e, above, q));
                 firm = firm;
                 owes = inl refl;
@@ -333,14 +333,14 @@ module _ (S : LogState) (H : Holds S) (F : Firm) (halted : Bool) (K : DisksHold 
 
       -- ---- one that is a member from then on
 
-      module _ (stays : stays_joiner D i s w ≡ false) (t : Turn SiteState) (row : DiskRow D i (as_entered s w) t) (M : Firm) (G : Logs)
+      module _ (stays : stays_joiner D i s w ≡ false) (t : Turn SiteState) (handler : DiskHandler D i (as_entered s w) t) (M : Firm) (G : Logs)
           (L : Holds (after (popped S (Agent h) i) i t.state t.sends G)) (grown : Grown D i t.state S.logs G) (raised : Raised D i t.state F M) where
         abbrev U : LogState
         U = after (popped S (Agent h) i) i t.state t.sends G
 
         halts : halted ≡ true → Halted U
-        halts = halts-after S H F halted K (taken-from S (Agent h) i) (fewer S (Agent h) i) i slot t G L (row-goes S i t (as_entered s w) row refl (λ j e. absurd (cc)))
-            (row-begins S i t (as_entered s w) row held)
+        halts = halts-after S H F halted K (taken-from S (Agent h) i) (fewer S (Agent h) i) i slot t G L (handler-goes S i t (as_entered s w) handler refl (λ j e. absurd (cc)))
+            (handler-begins S i t (as_entered s w) handler held)
 
         -- so it isn't that all stays stopped
         entered-on : halted ≡ false
@@ -348,11 +348,11 @@ module _ (S : LogState) (H : Holds S) (F : Firm) (halted : Bool) (K : DisksHold 
           | inr e ↦ e
           | inl e ↦
               let site = here (popped S (Agent h) i) i t.state t.sends G in
-              let j = (halts e).joiners i (subst (λ x. 0 < x.start) (sym site) (subst (λ n. 0 < n) (sym row.at.start) up)) in
-              absurd (none-and-some (row.at.member refl) (ap (λ x. x.joining) (sym site) ∙ j.1))
+              let j = (halts e).joiners i (subst (λ x. 0 < x.start) (sym site) (subst (λ n. 0 < n) (sym handler.at.start) up)) in
+              absurd (none-and-some (handler.at.member refl) (ap (λ x. x.joining) (sym site) ∙ j.1))
         ]
 
-        old-own : Own halted (ContentOk U M halted (part S i)) (G.reign (part S i)) (M (part S i)) s
+        old-own : Own halted (ContentOk U M halted (part S i)) (G.leadership (part S i)) (M (part S i)) s
         old-own = own-before S H F halted K (taken-from S (Agent h) i) (fewer S (Agent h) i) i slot t M G L grown raised halts
 
         firm-top : s.firm ≤ M (part S i)
@@ -362,7 +362,7 @@ module _ (S : LogState) (H : Holds S) (F : Firm) (halted : Bool) (K : DisksHold 
             t.state t.sends G L grown raised halts (part S i) in
             omega (arith, a, b)
 
-        member-own : (s.joining ≡ None) → OwnMember (G.reign (part S i)) (M (part S i)) (as_entered s w)
+        member-own : (s.joining ≡ None) → OwnMember (G.leadership (part S i)) (M (part S i)) (as_entered s w)
         member-own none =
             let m = old-own.member up none in
             let v = (H.sites i).member up none in
@@ -370,7 +370,7 @@ module _ (S : LogState) (H : Holds S) (F : Firm) (halted : Bool) (K : DisksHold 
             record {
               shows = m.shows;
               mark = let a = m.mark in omega (arith, a, above);
-              reign = m.reign;
+              leadership = m.leadership;
               is_led = m.is_led;
               begun = m.begun;
               marked = λ q. let a = m.mark in absurd (omega (arith, a, above, q));
@@ -378,22 +378,22 @@ module _ (S : LogState) (H : Holds S) (F : Firm) (halted : Bool) (K : DisksHold 
               owes = inl refl;
             }
 
-        joiner-own : (j : Joining) → s.joining ≡ Some j → OwnMember (G.reign (part S i)) (M (part S i)) (as_entered s w)
+        joiner-own : (j : Joining) → s.joining ≡ Some j → OwnMember (G.leadership (part S i)) (M (part S i)) (as_entered s w)
         joiner-own j joins = worded s.view refl
           where
             streamed-own : (v : Membership) → s.view ≡ Some v → (o : Option Streamed) → j.stream ≡ o → OwnStream s j o
-                → OwnMember (G.reign (part S i)) (M (part S i)) (as_entered s w)
+                → OwnMember (G.leadership (part S i)) (M (part S i)) (as_entered s w)
             streamed-own v e (Some st) q k = admitted-own j joins v e st q G grown.onward.kept (M (part S i)) firm-top k
             streamed-own v e None q k =
                 absurd (not-both j.is_loaded (((H.sites i).joiner j joins).based (based j joins v e)) (unbased j joins q).0)
 
-            worded : (o : Option Membership) → s.view ≡ o → OwnMember (G.reign (part S i)) (M (part S i)) (as_entered s w)
+            worded : (o : Option Membership) → s.view ≡ o → OwnMember (G.leadership (part S i)) (M (part S i)) (as_entered s w)
             worded (Some v) e = streamed-own v e j.stream refl (old-own.joiner entered-on j joins)
             worded None e =
                 let counted = second-not (is_joiner s) (is_member w (host_of_slot D i) (start_at S i)) (a-joiner s j joins) stays in
                 absurd (took-unnamed S H (start_at S i) w i (first-word S H h i l w ls is word-start up e) (is_member-start w (host_of_slot D i) (start_at S i) counted))
 
-        entered-own : Own halted (ContentOk U M halted (part S i)) (G.reign (part S i)) (M (part S i)) (as_entered s w)
+        entered-own : Own halted (ContentOk U M halted (part S i)) (G.leadership (part S i)) (M (part S i)) (as_entered s w)
         entered-own = record {
           some = old-own.some;
           contents = old-own.contents;
@@ -402,15 +402,15 @@ module _ (S : LogState) (H : Holds S) (F : Firm) (halted : Bool) (K : DisksHold 
           joiner = λ e j q. absurd (cc);
         }
           where
-            choice : (o : Option Joining) → s.joining ≡ o → OwnMember (G.reign (part S i)) (M (part S i)) (as_entered s w)
+            choice : (o : Option Joining) → s.joining ≡ o → OwnMember (G.leadership (part S i)) (M (part S i)) (as_entered s w)
             choice None e = member-own e
             choice (Some j) e = joiner-own j e
 
         pub enters-disks : DisksGo S U M halted
-        enters-disks = row-disks S H F halted K (taken-from S (Agent h) i) (fewer S (Agent h) i) i slot t M G L grown raised halts (as_entered s w) entered-own
-            ((H.sites i).keeps up).on_disk row (subst (λ n. 0 < n) (sym row.at.start) up) held (firm-before S H F halted K i slot up)
-            (same-tops S H F halted K (taken-from S (Agent h) i) (fewer S (Agent h) i) i slot t M G L grown raised halts row.at.contents)
-            (same-still S H F halted K (taken-from S (Agent h) i) (fewer S (Agent h) i) i slot t M G L grown raised halts row.at.contents)
+        enters-disks = handler-disks S H F halted K (taken-from S (Agent h) i) (fewer S (Agent h) i) i slot t M G L grown raised halts (as_entered s w) entered-own
+            ((H.sites i).keeps up).on_disk handler (subst (λ n. 0 < n) (sym handler.at.start) up) held (firm-before S H F halted K i slot up)
+            (same-tops S H F halted K (taken-from S (Agent h) i) (fewer S (Agent h) i) i slot t M G L grown raised halts handler.at.contents)
+            (same-still S H F halted K (taken-from S (Agent h) i) (fewer S (Agent h) i) i slot t M G L grown raised halts handler.at.contents)
 
     -- Its turn: it is taken, or dropped; it doesn't wait.
     pub view-kept : (E : Database) (stamp : ℕ) → Kept S F halted (Agent h) i (site_runs E D stamp i s (Agent h) (record l { body = msg.View w }))
@@ -426,7 +426,7 @@ module _ (S : LogState) (H : Holds S) (F : Firm) (halted : Bool) (K : DisksHold 
 
         choice : (a : Arrival) → arrival (start_at S i) (term_at S i) (record l { body = msg.View w }) ≡ a → Kept S F halted (Agent h) i t
         choice Taken e = taken e (stays_joiner D i s w) refl
-        choice Refused e = row-kept S H F halted K (Agent h) i slot t up (site_runs-refused E D stamp i s (Agent h) (record l { body = msg.View w }) e)
+        choice Refused e = handler-kept S H F halted K (Agent h) i slot t up (site_runs-refused E D stamp i s (Agent h) (record l { body = msg.View w }) e)
         choice Waits e =
             let a = (waits-for (start_at S i) (term_at S i) (record l { body = msg.View w }) e).1 in
             let b = meant.0 in
@@ -444,7 +444,7 @@ module _ (S : LogState) (H : Holds S) (F : Firm) (halted : Bool) (K : DisksHold 
       choice : (a : Arrival) → arrival (start_at S i) (term_at S i) (record l { body = msg.StreamStart head }) ≡ a
           → Kept S F halted (Site k) i (site_runs E D stamp i s (Site k) (record l { body = msg.StreamStart head }))
       choice Taken e = start-kept k l head ls is up e E stamp
-      choice Refused e = row-kept S H F halted K (Site k) i slot (site_runs E D stamp i s (Site k) (record l { body = msg.StreamStart head })) up
+      choice Refused e = handler-kept S H F halted K (Site k) i slot (site_runs E D stamp i s (Site k) (record l { body = msg.StreamStart head })) up
           (site_runs-refused E D stamp i s (Site k) (record l { body = msg.StreamStart head }) e)
       choice Waits e =
           let w = waits-for (start_at S i) (term_at S i) (record l { body = msg.StreamStart head }) e in
@@ -458,7 +458,7 @@ module _ (S : LogState) (H : Holds S) (F : Firm) (halted : Bool) (K : DisksHold 
   stream-turn (Scanner x) l head ls is up E stamp = absurd ((rw is at (H.foreign (Scanner x) i)).0)
 
   plain-turn : (from : Actor) (l : Letter) → Plain from l → 0 < start_at S i → (E : Database) (stamp : ℕ) → Kept S F halted from i (site_runs E D stamp i s from l)
-  plain-turn from l p up E stamp = row-kept S H F halted K from i slot (site_runs E D stamp i s from l) up (site_runs-row E D stamp i s from l p (waits-plain up))
+  plain-turn from l p up E stamp = handler-kept S H F halted K from i slot (site_runs E D stamp i s from l) up (site_runs-handler E D stamp i s from l p (waits-plain up))
 
   view-turn : (from : Actor) (l : Letter) (w : Membership) (ls : List Letter) → S.words.channel from (Site i) ≡ record l { body = msg.View w } ∷ ls → 0 < start_at S i
       → (E : Database) (stamp : ℕ) → Kept S F halted from i (site_runs E D stamp i s from (record l { body = msg.View w }))
@@ -620,11 +620,11 @@ module _ (S : LogState) (H : Holds S) (F : Firm) (halted : Bool) (K : DisksHold 
       ];
     }
 
-  -- ---- whatever the outside does
+  -- ---- whatever the environment does
 
-  pub site_turn-kept : (E : Database) (stamp : ℕ) (from : Actor) (l : Letter) (ls : List Letter) (o : Outside) → S.words.channel from (Site i) ≡ l ∷ ls
+  pub site_turn-kept : (E : Database) (stamp : ℕ) (from : Actor) (l : Letter) (ls : List Letter) (o : Environment) → S.words.channel from (Site i) ≡ l ∷ ls
       → Kept S F halted from i (site_turn E D stamp i s from l o)
-  site_turn-kept E stamp from l ls Fair is = takes-kept from E stamp l ls l.body is
+  site_turn-kept E stamp from l ls NoFault is = takes-kept from E stamp l ls l.body is
   site_turn-kept E stamp from l ls (DisksShow shown failed) is = takes-kept from E stamp l ls l.body is
   site_turn-kept E stamp from l ls (DiskFails n) is =
       fails-kept from s.start (after_failure (shown_at S i) (parts_of_message s l) n) (leaves-failure (parts_of_message s l) (parts-ok from l ls l.body is) n)

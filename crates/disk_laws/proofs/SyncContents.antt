@@ -10,9 +10,9 @@ use Rattle.cluster_model.specs.Words.{term_of, term_in}
 use Rattle.cluster_model.specs.SiteState.{SiteState, Streamed, Joining}
 use Rattle.cluster_model.specs.Sync.{joiner_parts, parts_of_sync}
 use Rattle.word_laws.proofs.Lists.{all-mono, none-and-some, same-some, not-both}
-use Rattle.log_laws.specs.Histories.{LogState, Reign, Front, Line, Holds, FollowsIn, LeadsIn, MemberOk, Took, StreamIn, ViewIn, StreamedOk, line, between, part, start_at, log_at, term_at}
+use Rattle.log_laws.specs.Histories.{LogState, Leadership, Prefix, Line, Holds, FollowsIn, LeadsIn, MemberOk, Took, StreamIn, ViewIn, StreamedOk, line, between, part, start_at, log_at, term_at}
 use Rattle.log_laws.proofs.Plain.Copies.{leads-or-follows}
-use Rattle.log_laws.proofs.Plain.Fronts.{front-trans, front-length, fronts-order, front-take, take-front}
+use Rattle.log_laws.proofs.Plain.Prefixes.{prefix-trans, prefix-length, prefixes-order, prefix-take, take-prefix}
 use Rattle.disk_laws.specs.Disks.{AtLeast, Firm, ContentOk, MemberDisk, StreamDisk, DiskOk, Written}
 use Rattle.disk_laws.proofs.Order.{Raise, raise-one, raise-blank}
 use Rattle.disk_laws.proofs.Contents.{member-written}
@@ -30,9 +30,9 @@ no-parts S F i = record { contents = tt; marks = tt; raise = λ y k. absurd k }
 
 -- What a term began with that was led is in a site's log, up to a position.
 pub record Begun (S : LogState) (i mark end : ℕ) : Type 0 where
-  pub reign : Reign
-  pub led : S.logs.reign (part S i) mark ≡ Some reign
-  pub begun : Front reign.begun (take end (log_at S i))
+  pub leadership : Leadership
+  pub led : S.logs.leadership (part S i) mark ≡ Some leadership
+  pub begun : Prefix leadership.begun (take end (log_at S i))
 
 module _ (S : LogState) (H : Holds S) (i : ℕ) (up : 0 < start_at S i) (F : Firm) (K : DiskOk S F false i) where
   abbrev s : SiteState
@@ -51,24 +51,24 @@ module _ (S : LogState) (H : Holds S) (i : ℕ) (up : 0 < start_at S i) (F : Fir
     m = (H.sites i).member up none
 
     -- one that is repaired has what its term began with
-    pub term-begun : s.repaired ≡ true → (g : Reign) × (S.logs.reign (part S i) (term_at S i) ≡ Some g) × Front g.begun s.log
-    term-begun repaired = subst (λ t. (g : Reign) × (S.logs.reign (part S i) t ≡ Some g) × Front g.begun s.log) (sym (ap term_in m.1)) there
+    pub term-begun : s.repaired ≡ true → (g : Leadership) × (S.logs.leadership (part S i) (term_at S i) ≡ Some g) × Prefix g.begun s.log
+    term-begun repaired = subst (λ t. (g : Leadership) × (S.logs.leadership (part S i) t ≡ Some g) × Prefix g.begun s.log) (sym (ap term_in m.1)) there
       where
-        lead : (o : Option Reign) → S.logs.reign (part S i) (term_of m.0) ≡ o → LeadsIn s o
-            → (g : Reign) × (S.logs.reign (part S i) (term_of m.0) ≡ Some g) × Front g.begun s.log
-        lead None e k = absurd (not-both s.repaired repaired k)
-        lead (Some g) e k = (g, e, subst (Front g.begun) (sym k.1) (H.reigns (part S i) (term_of m.0) g e).grown)
+        authoritative : (o : Option Leadership) → S.logs.leadership (part S i) (term_of m.0) ≡ o → LeadsIn s o
+            → (g : Leadership) × (S.logs.leadership (part S i) (term_of m.0) ≡ Some g) × Prefix g.begun s.log
+        authoritative None e k = absurd (not-both s.repaired repaired k)
+        authoritative (Some g) e k = (g, e, subst (Prefix g.begun) (sym k.1) (H.leaderships (part S i) (term_of m.0) g e).grown)
 
-        follow : (ln : List Line) (o : Option Reign) → S.logs.reign (part S i) (term_of m.0) ≡ o → FollowsIn s ln o
-            → (g : Reign) × (S.logs.reign (part S i) (term_of m.0) ≡ Some g) × Front g.begun s.log
+        follow : (ln : List Line) (o : Option Leadership) → S.logs.leadership (part S i) (term_of m.0) ≡ o → FollowsIn s ln o
+            → (g : Leadership) × (S.logs.leadership (part S i) (term_of m.0) ≡ Some g) × Prefix g.begun s.log
         follow ln None e k = absurd (not-both s.repaired repaired k.0)
         follow ln (Some g) e (inl k) = (g, e, k.4)
         follow ln (Some g) e (inr k) = absurd (not-both s.repaired repaired k.1)
 
-        there : (g : Reign) × (S.logs.reign (part S i) (term_of m.0) ≡ Some g) × Front g.begun s.log
+        there : (g : Leadership) × (S.logs.leadership (part S i) (term_of m.0) ≡ Some g) × Prefix g.begun s.log
         there = elim (leads-or-follows S.words.deployment m.0 i (start_at S i) m.2.start_is) [
-          | inl k ↦ lead (S.logs.reign (part S i) (term_of m.0)) refl (m.2.leading k)
-          | inr (l, f) ↦ follow (line (start_at S i) (term_of m.0) (between S l i)) (S.logs.reign (part S i) (term_of m.0)) refl (m.2.following l f)
+          | inl k ↦ authoritative (S.logs.leadership (part S i) (term_of m.0)) refl (m.2.leading k)
+          | inr (l, f) ↦ follow (line (start_at S i) (term_of m.0) (between S l i)) (S.logs.leadership (part S i) (term_of m.0)) refl (m.2.following l f)
         ]
 
     -- the mark that it owes is its term's
@@ -81,17 +81,17 @@ module _ (S : LogState) (H : Holds S) (i : ℕ) (up : 0 < start_at S i) (F : Fir
     -- a mark of a part was led, and isn't below that which it has
     pub mark-begun : (n end : ℕ) → s.on_disk ≤ end → (n ≡ s.mark) ⊎ ((s.owes ≡ Some n) × (length s.log ≤ end)) → Begun S i n end
     mark-begun n end from (inl e) = record {
-      reign = disk.reign;
-      led = ap (S.logs.reign (part S i)) e ∙ disk.led;
-      begun = front-trans disk.reign.begun (take s.on_disk s.log) (take end s.log) disk.begun (take-front s.on_disk end s.log from);
+      leadership = disk.leadership;
+      led = ap (S.logs.leadership (part S i)) e ∙ disk.led;
+      begun = prefix-trans disk.leadership.begun (take s.on_disk s.log) (take end s.log) disk.begun (take-prefix s.on_disk end s.log from);
     }
     mark-begun n end from (inr (e, whole)) =
         let k = owed-mark n e in
         let g = term-begun k.1 in
         record {
-          reign = g.0;
-          led = ap (S.logs.reign (part S i)) k.0 ∙ g.1;
-          begun = subst (Front g.0.begun) (sym (take_all end s.log whole)) g.2;
+          leadership = g.0;
+          led = ap (S.logs.leadership (part S i)) k.0 ∙ g.1;
+          begun = subst (Prefix g.0.begun) (sym (take_all end s.log whole)) g.2;
         }
 
     pub mark-rises : (n end : ℕ) → (n ≡ s.mark) ⊎ ((s.owes ≡ Some n) × (length s.log ≤ end)) → (s.mark ≤ n) × (n ≤ term_at S i)
@@ -102,8 +102,8 @@ module _ (S : LogState) (H : Holds S) (i : ℕ) (up : 0 < start_at S i) (F : Fir
     part-content y k =
         let b = mark-begun k.mark k.end k.from k.marked in
         subst (ContentOk S F false (part S i)) (sym k.shows)
-        (member-written S H i k.mark b.reign b.led up none (mark-rises k.mark k.end k.marked).1 (record { mark = k.mark; base = k.base; log = take k.end s.log }) refl
-        (front-take k.end s.log) b.begun)
+        (member-written S H i k.mark b.leadership b.led up none (mark-rises k.mark k.end k.marked).1 (record { mark = k.mark; base = k.base; log = take k.end s.log }) refl
+        (prefix-take k.end s.log) b.begun)
 
     part-mark : (y : Shown) → PartOf s y → mark_of y ≤ s.greatest
     part-mark y k =
@@ -116,7 +116,7 @@ module _ (S : LogState) (H : Holds S) (i : ℕ) (up : 0 < start_at S i) (F : Fir
     part-good y k = subst (AtLeast s.mark (length (take s.on_disk s.log))) (sym k.shows) (elim (cases_lt s.mark k.mark) [
       | inl l ↦ inl l
       | inr l ↦ let r = (mark-rises k.mark k.end k.marked).0 in
-          inr (omega (arith, l, r), front-length (take s.on_disk s.log) (take k.end s.log) (take-front s.on_disk k.end s.log k.from))
+          inr (omega (arith, l, r), prefix-length (take s.on_disk s.log) (take k.end s.log) (take-prefix s.on_disk k.end s.log k.from))
     ])
 
     member-ok : PartsOk S F i (parts_of_sync s None)
@@ -140,46 +140,46 @@ module _ (S : LogState) (H : Holds S) (i : ℕ) (up : 0 < start_at S i) (F : Fir
     base-shown e = let k = stream-disk.2 e in record { mark = k.1; base = k.2; from = k.3 }
 
     -- in the term of its word
-    took : (w : Membership) × (s.view ≡ Some w) × Took S i w j st.nj
+    took : (w : Membership) × (s.view ≡ Some w) × Took S i w j st.stream_start
     took = viewed s.view refl ((H.sites i).joiner j joins).view
       where
-        viewed : (o : Option Membership) → s.view ≡ o → ViewIn S i j o → (w : Membership) × (s.view ≡ Some w) × Took S i w j st.nj
+        viewed : (o : Option Membership) → s.view ≡ o → ViewIn S i j o → (w : Membership) × (s.view ≡ Some w) × Took S i w j st.stream_start
         viewed None e k = absurd (none-and-some k.stream stream)
         viewed (Some w) e k = (w, e, subst (StreamIn S i w j) stream k.stream)
 
-    ok : StreamedOk S i (term_of took.0) (record { start = start_at S i; nj = st.nj })
-    ok = H.streamed i (term_of took.0) (record { start = start_at S i; nj = st.nj }) took.2.streamed
+    ok : StreamedOk S i (term_of took.0) (record { start = start_at S i; stream_start = st.stream_start })
+    ok = H.streamed i (term_of took.0) (record { start = start_at S i; stream_start = st.stream_start }) took.2.streamed
 
-    pub stream-within : st.nj ≤ length s.log
+    pub stream-within : st.stream_start ≤ length s.log
     stream-within = (ok.running refl).3
 
-    -- its log is at the front of its leader's
-    stream-front : Front s.log took.2.reign.log
-    stream-front = (j.tasks ++ took.2.more, sym took.2.whole ∙ append_assoc s.log j.tasks took.2.more)
+    -- its log is a prefix of its leader's
+    stream-prefix : Prefix s.log took.2.leadership.log
+    stream-prefix = (j.tasks ++ took.2.more, sym took.2.whole ∙ append_assoc s.log j.tasks took.2.more)
 
     marked : st.mark ≡ term_of took.0
     marked = stream-disk.0 ∙ ap term_in took.1
 
     -- its log up to there or further has what its term began with
-    part-begun : (end : ℕ) → st.nj ≤ end → Front ok.reign.begun (take end s.log)
+    part-begun : (end : ℕ) → st.stream_start ≤ end → Prefix ok.leadership.begun (take end s.log)
     part-begun end from =
-        let g = took.2.reign in
-        let same : ok.reign ≡ g = same-some (sym ok.led ∙ took.2.led) in
-        fronts-order ok.reign.begun (take end s.log) ok.reign.log (H.reigns (part S i) (term_of took.0) ok.reign ok.led).grown
-        (subst (λ r. Front (take end s.log) r.log) (sym same)
-        (front-trans (take end s.log) s.log g.log (front-take end s.log) stream-front))
+        let g = took.2.leadership in
+        let same : ok.leadership ≡ g = same-some (sym ok.led ∙ took.2.led) in
+        prefixes-order ok.leadership.begun (take end s.log) ok.leadership.log (H.leaderships (part S i) (term_of took.0) ok.leadership ok.led).grown
+        (subst (λ r. Prefix (take end s.log) r.log) (sym same)
+        (prefix-trans (take end s.log) s.log g.log (prefix-take end s.log) stream-prefix))
         (let b = ok.behind in omega (arith, b, from, stream-within, length-take end s.log))
 
-    stream-written : (base end : ℕ) → st.nj ≤ end → Written S (part S i) (record { mark = st.mark; base = base; log = take end s.log })
+    stream-written : (base end : ℕ) → st.stream_start ≤ end → Written S (part S i) (record { mark = st.mark; base = base; log = take end s.log })
     stream-written base end from = record {
-      reign = ok.reign;
-      led = ap (S.logs.reign (part S i)) marked ∙ ok.led;
+      leadership = ok.leadership;
+      led = ap (S.logs.leadership (part S i)) marked ∙ ok.led;
       begun = part-begun end from;
       term = term_of took.0;
       above = omega (arith, marked);
-      later = took.2.reign;
+      later = took.2.leadership;
       later_led = took.2.led;
-      front = front-trans (take end s.log) s.log took.2.reign.log (front-take end s.log) stream-front;
+      prefix = prefix-trans (take end s.log) s.log took.2.leadership.log (prefix-take end s.log) stream-prefix;
     }
 
     stream-content : (y : Shown) → JoinerPart s j st y → ContentOk S F false (part S i) y
@@ -194,7 +194,7 @@ module _ (S : LogState) (H : Holds S) (i : ℕ) (up : 0 < start_at S i) (F : Fir
 
     stream-good : j.is_based ≡ true → (y : Shown) → JoinerPart s j st y → AtLeast s.mark (length (take s.on_disk s.log)) y
     stream-good e y k = subst (AtLeast s.mark (length (take s.on_disk s.log))) (sym k.shows)
-        (inr (sym (base-shown e).mark, front-length (take s.on_disk s.log) (take k.end s.log) (take-front s.on_disk k.end s.log (k.disk e))))
+        (inr (sym (base-shown e).mark, prefix-length (take s.on_disk s.log) (take k.end s.log) (take-prefix s.on_disk k.end s.log (k.disk e))))
 
     stream-raise : (b : Bool) → j.is_based ≡ b → (parts : List Shown) → AllByRecursion (JoinerPart s j st) parts → Raise s.contents parts
     stream-raise false e parts h = subst (λ xs. Raise xs parts) (sym (stream-disk.1 e)) (raise-blank parts)

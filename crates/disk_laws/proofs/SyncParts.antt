@@ -104,14 +104,14 @@ pub record JoinerPart (s : SiteState) (j : Joining) (st : Streamed) (y : Shown) 
   pub base : ℕ
   pub end : ℕ
   pub shows : y ≡ content st.mark base s end
-  pub from : st.nj ≤ end
+  pub from : st.stream_start ≤ end
   pub disk : j.is_based ≡ true → s.on_disk ≤ end
 
 -- Its base is on its disk.
 pub record BaseShown (s : SiteState) (st : Streamed) : Type 0 where
   pub mark : s.mark ≡ st.mark
-  pub base : s.base ≡ st.nj
-  pub from : st.nj ≤ s.on_disk
+  pub base : s.base ≡ st.stream_start
+  pub from : st.stream_start ≤ s.on_disk
 
 module _ (s : SiteState) (j : Joining) (st : Streamed) (based : j.is_based ≡ true → BaseShown s st) where
   -- what comes behind its base
@@ -128,12 +128,12 @@ module _ (s : SiteState) (j : Joining) (st : Streamed) (based : j.is_based ≡ t
         disk = λ _. omega (arith, low);
       })
   based-parts false e = all-if (JoinerPart s j st) j.is_loaded (joiner_base s st) [] (
-    record { base = st.nj; end = st.nj; shows = refl; from = omega arith; disk = λ t. absurd (not-both j.is_based t e) },
-    all-one (JoinerPart s j st) (nat_lt st.nj (length s.log)) (content st.mark st.nj s (length s.log)) (λ k. record {
-      base = st.nj;
+    record { base = st.stream_start; end = st.stream_start; shows = refl; from = omega arith; disk = λ t. absurd (not-both j.is_based t e) },
+    all-one (JoinerPart s j st) (nat_lt st.stream_start (length s.log)) (content st.mark st.stream_start s (length s.log)) (λ k. record {
+      base = st.stream_start;
       end = length s.log;
       shows = refl;
-      from = let low : st.nj < length s.log = grind (arith, nat_tests, k) in omega (arith, low);
+      from = let low : st.stream_start < length s.log = grind (arith, nat_tests, k) in omega (arith, low);
       disk = λ t. absurd (not-both j.is_based t e);
     }),
   ) tt
@@ -144,27 +144,27 @@ module _ (s : SiteState) (j : Joining) (st : Streamed) (based : j.is_based ≡ t
 
   -- After all parts it shows the whole log, if it has loaded all.
   pub stream-last : s.on_disk ≤ length s.log → (before : List Shown) → (j.is_based ≡ true → before ≡ own_content s ∷ []) → j.is_loaded ≡ true
-      → st.nj ≤ length s.log → after_parts before (joiner_parts s j (Some st)) ≡ content st.mark st.nj s (length s.log) ∷ []
+      → st.stream_start ≤ length s.log → after_parts before (joiner_parts s j (Some st)) ≡ content st.mark st.stream_start s (length s.log) ∷ []
   stream-last low before shows loaded from = go j.is_based refl
     where
       based-last : BaseShown s st → before ≡ own_content s ∷ [] → (b : Bool) → nat_lt s.on_disk (length s.log) ≡ b
-          → after_parts before (if b then content s.mark s.base s (length s.log) ∷ [] else []) ≡ content st.mark st.nj s (length s.log) ∷ []
+          → after_parts before (if b then content s.mark s.base s (length s.log) ∷ [] else []) ≡ content st.mark st.stream_start s (length s.log) ∷ []
       based-last h is true e = rw (h.mark, h.base) refl
       based-last h is false e =
           let end : s.on_disk ≡ length s.log = grind (arith, nat_tests, low, e) in
           is ∙ rw (h.mark, h.base, end) refl
 
-      base-last : (b : Bool) → nat_lt st.nj (length s.log) ≡ b
-          → after_parts before (content st.mark st.nj s st.nj ∷ (if b then content st.mark st.nj s (length s.log) ∷ [] else []))
-          ≡ content st.mark st.nj s (length s.log) ∷ []
+      base-last : (b : Bool) → nat_lt st.stream_start (length s.log) ≡ b
+          → after_parts before (content st.mark st.stream_start s st.stream_start ∷ (if b then content st.mark st.stream_start s (length s.log) ∷ [] else []))
+          ≡ content st.mark st.stream_start s (length s.log) ∷ []
       base-last true e = refl
-      base-last false e = let end : st.nj ≡ length s.log = grind (arith, nat_tests, from, e) in ap (λ n. content st.mark st.nj s n ∷ []) end
+      base-last false e = let end : st.stream_start ≡ length s.log = grind (arith, nat_tests, from, e) in ap (λ n. content st.mark st.stream_start s n ∷ []) end
 
       go : (b : Bool) → j.is_based ≡ b → after_parts before
           (if b then (if nat_lt s.on_disk (length s.log) then content s.mark s.base s (length s.log) ∷ [] else []) else if j.is_loaded then joiner_base s st else [])
-          ≡ content st.mark st.nj s (length s.log) ∷ []
+          ≡ content st.mark st.stream_start s (length s.log) ∷ []
       go true e = based-last (based e) (shows e) (nat_lt s.on_disk (length s.log)) refl
-      go false e = ap (λ b. after_parts before (if b then joiner_base s st else [])) loaded ∙ base-last (nat_lt st.nj (length s.log)) refl
+      go false e = ap (λ b. after_parts before (if b then joiner_base s st else [])) loaded ∙ base-last (nat_lt st.stream_start (length s.log)) refl
 
   -- Until then nothing is written.
   pub stream-waits : j.is_loaded ≡ false → j.is_based ≡ false → joiner_parts s j (Some st) ≡ []

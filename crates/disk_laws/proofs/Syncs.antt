@@ -8,7 +8,7 @@ use Rattle.volt_wire.specs.declared.actor.Actor.{Actor}
 use Rattle.cluster_model.specs.Disk.{Shown, after_parts, after_failure, mark_of}
 use Rattle.cluster_model.specs.Engine.{Database}
 use Rattle.cluster_model.specs.Letters.{Letter, Turn, ◌▸◌}
-use Rattle.cluster_model.specs.Outside.{Outside, Fair, DiskFails, NoMemory, DisksShow}
+use Rattle.cluster_model.specs.Environment.{Environment, NoFault, DiskFails, NoMemory, DisksShow}
 use Rattle.cluster_model.specs.SiteState.{SiteState, Joining}
 use Rattle.cluster_model.specs.Site.{settles}
 use Rattle.cluster_model.specs.Sync.{joiner_owes, may_sync, owes_in, parts_of_sync, after_sync, syncs, stops_so, sync_turn}
@@ -18,10 +18,10 @@ use Rattle.log_laws.specs.Histories.{LogState, Logs, Holds, IsSlot, part, start_
 use Rattle.log_laws.proofs.Kept.Moves.{Grown, after}
 use Rattle.disk_laws.specs.Disks.{Firm, Top, ContentOk, DisksHold}
 use Rattle.disk_laws.proofs.Order.{all-take, some-after_parts, some-after_failure, all-after_parts, all-after_failure, Raise, raise-after_parts, raise-after_failure, raise-take}
-use Rattle.disk_laws.proofs.Rows.{DiskRow, row-then}
-use Rattle.disk_laws.proofs.SiteRows.{after_sync-row, settles-row, ordered-row}
+use Rattle.disk_laws.proofs.Handlers.{DiskHandler, handler-then}
+use Rattle.disk_laws.proofs.SiteHandlers.{after_sync-handler, settles-handler, ordered-handler}
 use Rattle.disk_laws.proofs.SiteDisks.{Raised, contents-on, disk-on}
-use Rattle.disk_laws.proofs.Turning.{DisksGo, stops-none, firm-before, raised-tops, row-disks, stopped-disks}
+use Rattle.disk_laws.proofs.Turning.{DisksGo, stops-none, firm-before, raised-tops, handler-disks, stopped-disks}
 use Rattle.disk_laws.proofs.SyncContents.{PartsOk, parts-ok}
 use Rattle.disk_laws.proofs.Writing.{wrote, wrote-start, wrote-firm, wrote-held, wrote-low, wrote-own}
 
@@ -66,27 +66,27 @@ module _ (E : Database) (S : LogState) (H : Holds S) (F : Firm) (K : DisksHold S
     abbrev T : LogState
     T = after S i t.state t.sends G
 
-    row : DiskRow S.words.deployment i b t
-    row =
+    handler : DiskHandler S.words.deployment i b t
+    handler =
         let says = after_sync S.words.deployment i b b.joining in
-        ordered-row S.words.deployment i b (says ▸ settles E S.words.deployment i)
-        (row-then S.words.deployment i b says (settles E S.words.deployment i) (after_sync-row S.words.deployment i b) (settles-row E S.words.deployment i says.state))
+        ordered-handler S.words.deployment i b (says ▸ settles E S.words.deployment i)
+        (handler-then S.words.deployment i b says (settles E S.words.deployment i) (after_sync-handler S.words.deployment i b) (settles-handler E S.words.deployment i says.state))
 
     module _ (L : Holds T) (grown : Grown S.words.deployment i t.state S.logs G) (raised : Raised S.words.deployment i t.state F M) where
       pub syncs-disks : DisksGo S T M false
-      syncs-disks = row-disks S H F false K S.words.channel all-same i slot t M G L grown raised never b
+      syncs-disks = handler-disks S H F false K S.words.channel all-same i slot t M G L grown raised never b
           (disk-on S H F M false K S.words.channel all-same i slot t.state t.sends G L grown raised never i b (wrote-own S H i up F (K.disks i slot)))
-          (wrote-low S H i up F (K.disks i slot)) row start (wrote-held S H i up F (K.disks i slot)) firm tops never
+          (wrote-low S H i up F (K.disks i slot)) handler start (wrote-held S H i up F (K.disks i slot)) firm tops never
         where
           start : 0 < t.state.start
-          start = let e = wrote-start S H i up F (K.disks i slot) in omega (arith, up, row.at.start, e)
+          start = let e = wrote-start S H i up F (K.disks i slot) in omega (arith, up, handler.at.start, e)
 
           firm : b.firm ≤ F (part S i)
           firm = let e = wrote-firm S H i up F (K.disks i slot) in let l = firm-before S H F false K i slot up in omega (arith, e, l)
 
           tops : (p m n : ℕ) → Top S p m n → Top T p m n
           tops = raised-tops S H F false K S.words.channel all-same i slot t M G L grown raised never
-              (subst (Raise s.contents) (sym row.at.contents) (raise-after_parts s.contents parts p.raise))
+              (subst (Raise s.contents) (sym handler.at.contents) (raise-after_parts s.contents parts p.raise))
 
   -- ---- it stops, after parts of which some were written
 
@@ -103,10 +103,10 @@ module _ (E : Database) (S : LogState) (H : Holds S) (F : Firm) (K : DisksHold S
 
   -- ---- either
 
-  pub turn-disks : (o : Outside) (M : Firm) (G : Logs) → let t = sync_turn E S.words.deployment i s o in
+  pub turn-disks : (o : Environment) (M : Firm) (G : Logs) → let t = sync_turn E S.words.deployment i s o in
       Holds (after S i t.state t.sends G) → Grown S.words.deployment i t.state S.logs G → Raised S.words.deployment i t.state F M
       → DisksGo S (after S i t.state t.sends G) M false
-  turn-disks Fair M G L grown raised = syncs-disks M G L grown raised
+  turn-disks NoFault M G L grown raised = syncs-disks M G L grown raised
   turn-disks (DisksShow shown failed) M G L grown raised = syncs-disks M G L grown raised
   turn-disks (DiskFails answered) M G L grown raised = stop-disks (start_at S i) (after_failure s.contents parts answered)
       (some-after_failure s.contents parts answered (K.disks i slot).some)
@@ -123,7 +123,7 @@ module _ (E : Database) (S : LogState) (H : Holds S) (F : Firm) (K : DisksHold S
 
 -- All that disks show is well after a site's Sync. After a recovery that was stopped there is none, since nobody has taken a stream.
 pub sync-disks : (E : Database) (S : LogState) → Holds S → (F : Firm) (halted : Bool) → DisksHold S F halted → (i : ℕ) → IsSlot S i → may_sync (S.sites i) ≡ true
-    → (o : Outside) (M : Firm) (G : Logs) → let t = sync_turn E S.words.deployment i (S.sites i) o in
+    → (o : Environment) (M : Firm) (G : Logs) → let t = sync_turn E S.words.deployment i (S.sites i) o in
     Holds (after S i t.state t.sends G) → Grown S.words.deployment i t.state S.logs G → Raised S.words.deployment i t.state F M
     → DisksGo S (after S i t.state t.sends G) M halted
 sync-disks E S H F false K i slot may o M G L grown raised = turn-disks E S H F K i slot (sync-runs (S.sites i) may) o M G L grown raised

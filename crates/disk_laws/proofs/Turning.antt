@@ -18,14 +18,14 @@ use Rattle.word_laws.proofs.Channels.{took-all}
 use Rattle.word_laws.proofs.Lists.{all-if, all-at, all-from, all-mono, if-true, same-some}
 use Rattle.log_laws.specs.Histories.{LogState, Logs, Holds, IsSlot, HeldOk, CountedOk, part, start_at, term_at}
 use Rattle.log_laws.proofs.Plain.Copies.{leader-view, leads-parts}
-use Rattle.log_laws.proofs.Plain.Fronts.{front-refl}
+use Rattle.log_laws.proofs.Plain.Prefixes.{prefix-refl}
 use Rattle.log_laws.proofs.Kept.Moves.{Grown, NoStreamStart, after, popped}
 use Rattle.log_laws.proofs.Kept.Plumbing.{here, there}
 use Rattle.log_laws.proofs.Runs.Leading.{leads-runs}
 use Rattle.disk_laws.specs.Disks.{AtLeast, Top, Firm, ContentOk, DiskOk, StreamLetter, Halted, DisksHold, shown_at}
 use Rattle.disk_laws.proofs.Order.{Raise, raise-refl, raise-same, top-raise, top-wipe}
-use Rattle.disk_laws.proofs.Rows.{DiskAt, DiskRow, Counts, counts-joiner, Begins, at-term, at-was-joiner, row-becomes}
-use Rattle.disk_laws.proofs.Own.{OwnAt, OwnStream, disk-own, own-disk, own-row}
+use Rattle.disk_laws.proofs.Handlers.{DiskAt, DiskHandler, Counts, counts-joiner, Begins, at-term, at-was-joiner, handler-becomes}
+use Rattle.disk_laws.proofs.Own.{OwnAt, OwnStream, disk-own, own-disk, own-handler}
 use Rattle.disk_laws.proofs.Halts.{SiteGoes, LeadersBegin, halted-site}
 use Rattle.disk_laws.proofs.SiteDisks.{Raised, contents-on, disk-on, disk-other, disks-after}
 
@@ -160,10 +160,10 @@ module _ (S : LogState) (H : Holds S) (F : Firm) (halted : Bool) (K : DisksHold 
 
     -- ---- a turn that leaves the disk, from a state on
 
-    module _ (m : SiteState) (o : OwnAt T M halted i m) (whole : m.on_disk ≤ length m.log) (row : DiskRow S.words.deployment i m t)
+    module _ (m : SiteState) (o : OwnAt T M halted i m) (whole : m.on_disk ≤ length m.log) (handler : DiskHandler S.words.deployment i m t)
         (up : 0 < t.state.start) where
       own : DiskOk T M halted i
-      own = own-disk T M halted i t.state site (own-row S.words.deployment i m t.state row.at halted C (G.reign (part S i)) (M (part S i)) whole
+      own = own-disk T M halted i t.state site (own-handler S.words.deployment i m t.state handler.at halted C (G.leadership (part S i)) (M (part S i)) whole
           (λ r. let e = raised.own ∙ if-true (leads S.words.deployment i t.state) (max (F (part S i)) t.state.firm) (F (part S i)) r.leads in omega (arith, e)) o)
 
       letter : (c : ℕ) (l : Letter) → Begins S.words.deployment i c m t.state l → StreamLetter T c l
@@ -174,7 +174,7 @@ module _ (S : LogState) (H : Holds S) (F : Firm) (halted : Bool) (K : DisksHold 
             slot = i;
             is_slot = slot;
             part_is = receiver k.counted;
-            all = shows (row.at.mark ∙ k.own ∙ sym k.term_is) (leader-view S.words.deployment i t.state (leads-parts S.words.deployment i t.state k.leads).0).0;
+            all = shows (handler.at.mark ∙ k.own ∙ sym k.term_is) (leader-view S.words.deployment i t.state (leads-parts S.words.deployment i t.state k.leads).0).0;
           };
         }
         | b ↦ λ k. tt
@@ -195,20 +195,20 @@ module _ (S : LogState) (H : Holds S) (F : Firm) (halted : Bool) (K : DisksHold 
               let k = own.member there-up (ap (λ x. x.joining) site ∙ none) in
               subst (AllByRecursion (AtLeast l.term 0)) (sym k.shows) (inr (ap (λ x. x.mark) site ∙ e, omega arith), tt)
 
-      pub row-disks : AllByRecursion HeldOk m.held → m.firm ≤ F (part S i) → ((p n k : ℕ) → Top S p n k → Top T p n k)
+      pub handler-disks : AllByRecursion HeldOk m.held → m.firm ≤ F (part S i) → ((p n k : ℕ) → Top S p n k → Top T p n k)
           → (halted ≡ true → (y : Shown) → In y t.state.contents → In y (shown_at S i)) → DisksGo S T M halted
-      row-disks held firm tops still = assembled own tops still counted
-          (λ c _. all-mono (Begins S.words.deployment i c m t.state) (StreamLetter T c) (letter c) (t.sends (Site c)) (row.sends held c))
+      handler-disks held firm tops still = assembled own tops still counted
+          (λ c _. all-mono (Begins S.words.deployment i c m t.state) (StreamLetter T c) (letter c) (t.sends (Site c)) (handler.sends held c))
         where
           counted : leads S.words.deployment i t.state ≡ true → (t.state.firm ≤ F (part S i)) ⊎ ((t.state.mark ≡ site_term t.state) × (t.state.firm ≤ t.state.on_disk))
-          counted l = elim row.at.firm [
+          counted l = elim handler.at.firm [
             | inl e ↦ inl (omega (arith, e, firm))
-            | inr r ↦ inr (row.at.mark ∙ r.mark ∙ sym (at-term S.words.deployment i m t.state row.at), (let a = r.disk in let b = row.at.on_disk in omega (arith, a, b)))
+            | inr r ↦ inr (handler.at.mark ∙ r.mark ∙ sym (at-term S.words.deployment i m t.state handler.at), (let a = r.disk in let b = handler.at.on_disk in omega (arith, a, b)))
           ]
 
-    pub row-same : 0 < start_at S i → DiskRow S.words.deployment i (S.sites i) t → DisksGo S T M halted
-    row-same up row = row-disks (S.sites i) own-before ((H.sites i).keeps up).on_disk row (subst (λ n. 0 < n) (sym row.at.start) up) ((H.sites i).keeps up).held
-        (firm-before S H F halted K i slot up) (same-tops row.at.contents) (same-still row.at.contents)
+    pub handler-same : 0 < start_at S i → DiskHandler S.words.deployment i (S.sites i) t → DisksGo S T M halted
+    handler-same up handler = handler-disks (S.sites i) own-before ((H.sites i).keeps up).on_disk handler (subst (λ n. 0 < n) (sym handler.at.start) up) ((H.sites i).keeps up).held
+        (firm-before S H F halted K i slot up) (same-tops handler.at.contents) (same-still handler.at.contents)
 
     -- ---- a site that stops
 
@@ -290,20 +290,20 @@ module _ (S : LogState) (H : Holds S) (F : Firm) (halted : Bool) (K : DisksHold 
 -- ---- behind a turn that leaves the disk, from a state on
 
 module _ (S : LogState) (i : ℕ) where
-  pub row-goes : (t : Turn SiteState) (m : SiteState) → DiskRow S.words.deployment i m t → m.start ≡ start_at S i
+  pub handler-goes : (t : Turn SiteState) (m : SiteState) → DiskHandler S.words.deployment i m t → m.start ≡ start_at S i
       → ((j : Joining) → m.joining ≡ Some j → (k : Joining) × ((S.sites i).joining ≡ Some k) × (j.stream ≡ k.stream)) → SiteGoes S i t.state
-  row-goes t m row start joins = inr (inl (
-    row.at.start ∙ start,
+  handler-goes t m handler start joins = inr (inl (
+    handler.at.start ∙ start,
     λ k e.
-        let a = at-was-joiner S.words.deployment i m t.state row.at k e in
+        let a = at-was-joiner S.words.deployment i m t.state handler.at k e in
         let b = joins a.0 a.1 in
         (b.0, b.1, a.2 ∙ b.2),
   ))
 
-  pub row-begins : (t : Turn SiteState) (m : SiteState) → DiskRow S.words.deployment i m t → AllByRecursion HeldOk m.held
+  pub handler-begins : (t : Turn SiteState) (m : SiteState) → DiskHandler S.words.deployment i m t → AllByRecursion HeldOk m.held
       → (c : ℕ) → AllByRecursion (LeadersBegin S.words.deployment i t.state) (t.sends (Site c))
-  row-begins t m row held c = all-mono (Begins S.words.deployment i c m t.state) (LeadersBegin S.words.deployment i t.state)
-      (begins-leader S.words.deployment i c m t.state) (t.sends (Site c)) (row.sends held c)
+  handler-begins t m handler held c = all-mono (Begins S.words.deployment i c m t.state) (LeadersBegin S.words.deployment i t.state)
+      (begins-leader S.words.deployment i c m t.state) (t.sends (Site c)) (handler.sends held c)
 
 -- ---- the turns
 
@@ -322,10 +322,10 @@ module _ (S : LogState) (H : Holds S) (F : Firm) (halted : Bool) (K : DisksHold 
   abbrev on : (a b : Actor) (l : Letter) → In l (ch a b) → In l (S.words.channel a b)
   on = fewer S from i
 
-  pub row-kept : (t : Turn SiteState) → 0 < start_at S i → DiskRow S.words.deployment i (S.sites i) t → Kept S F halted from i t
-  row-kept t up row M G L grown raised = row-same S H F halted K ch on i slot t M G L grown raised
-      (halts-after S H F halted K ch on i slot t G L (row-goes S i t (S.sites i) row refl (λ j e. (j, e, refl)))
-      (row-begins S i t (S.sites i) row ((H.sites i).keeps up).held)) up row
+  pub handler-kept : (t : Turn SiteState) → 0 < start_at S i → DiskHandler S.words.deployment i (S.sites i) t → Kept S F halted from i t
+  handler-kept t up handler M G L grown raised = handler-same S H F halted K ch on i slot t M G L grown raised
+      (halts-after S H F halted K ch on i slot t G L (handler-goes S i t (S.sites i) handler refl (λ j e. (j, e, refl)))
+      (handler-begins S i t (S.sites i) handler ((H.sites i).keeps up).held)) up handler
 
   pub still-kept : Kept S F halted from i (becomes (S.sites i))
   still-kept M G L grown raised = still-disks S H F halted K ch on i slot (becomes (S.sites i)) M G L grown raised
@@ -360,7 +360,7 @@ module _ (S : LogState) (H : Holds S) (F : Firm) (halted : Bool) (K : DisksHold 
     mark = refl;
     base = refl;
     on_disk = refl;
-    log = front-refl (S.sites i).log;
+    log = prefix-refl (S.sites i).log;
     member = λ e. e;
     joiner = λ j e. (j, e, refl, refl);
     repaired = λ e. e;
@@ -374,6 +374,6 @@ module _ (S : LogState) (H : Holds S) (F : Firm) (halted : Bool) (K : DisksHold 
   pub noted-kept : (stop : ℕ) (plans : List (ℕ × ℕ)) → Kept S F halted from i (becomes (record (S.sites i) { stop = stop; plans = plans }))
   noted-kept stop plans = elim (cases_eq (start_at S i) 0) [
     | inl z ↦ stops-kept (becomes (record (S.sites i) { stop = stop; plans = plans })) z refl leaves-same (λ c. tt)
-    | inr n ↦ row-kept (becomes (record (S.sites i) { stop = stop; plans = plans })) (omega (arith, n))
-        (row-becomes S.words.deployment i (S.sites i) (record (S.sites i) { stop = stop; plans = plans }) (noted stop plans))
+    | inr n ↦ handler-kept (becomes (record (S.sites i) { stop = stop; plans = plans })) (omega (arith, n))
+        (handler-becomes S.words.deployment i (S.sites i) (record (S.sites i) { stop = stop; plans = plans }) (noted stop plans))
   ]

@@ -13,7 +13,7 @@ use Rattle.cluster_model.specs.Letters.{Letter, Turn}
 use Rattle.cluster_model.specs.SiteState.{SiteState}
 use Rattle.cluster_model.specs.Agent.{agent_turn}
 use Rattle.cluster_model.specs.Sync.{may_sync, site_turn, sync_turn}
-use Rattle.cluster_model.specs.Outside.{Outside, Fair, DiskFails, NoMemory, DisksShow}
+use Rattle.cluster_model.specs.Environment.{Environment, NoFault, DiskFails, NoMemory, DisksShow}
 use Rattle.cluster_model.specs.World.{World, Stopped, Input, first_world, stamp_of, took, with_site, stops_with}
 use Rattle.cluster_model.specs.Recover.{starts_anew, stays_stopped}
 use Rattle.cluster_model.specs.Events.{is_actor, is_some_letter, is_shown, is_slot_or_none, may_recover, can, allows, delivered, recovered_with, may_do, happens, step}
@@ -22,7 +22,7 @@ use Rattle.word_laws.proofs.Lists.{if-false}
 use Rattle.word_laws.proofs.Worlds.{actor-host, host-apart, memory-runs}
 use Rattle.log_laws.specs.Histories.{Logs, LogState, Holds}
 use Rattle.log_laws.specs.Copies.{log_state, HasLogs}
-use Rattle.log_laws.proofs.Plain.Fronts.{front-trans, front-length, fronts-order, front-take}
+use Rattle.log_laws.proofs.Plain.Prefixes.{prefix-trans, prefix-length, prefixes-order, prefix-take}
 use Rattle.log_laws.proofs.Kept.Moves.{Grown, Onward}
 use Rattle.log_laws.proofs.Kept.Grown.{onward-same}
 use Rattle.log_laws.proofs.Runs.Leading.{Rises, rises-same}
@@ -34,7 +34,7 @@ use Rattle.log_laws.proofs.Runs.Worlds.{actor-slot, site-reaches, site-next}
 use Rattle.log_laws.proofs.Runs.Lasting.{keeps-firm}
 use Rattle.disk_laws.specs.Disks.{DisksHold}
 use Rattle.disk_laws.specs.Survival.{Survives, firm_entries}
-use Rattle.disk_laws.proofs.SiteDisks.{lead-raised}
+use Rattle.disk_laws.proofs.SiteDisks.{authoritative-raised}
 use Rattle.disk_laws.proofs.Syncs.{sync-disks, sync-runs}
 use Rattle.disk_laws.proofs.Choices.{no-choice-lacks}
 use Rattle.disk_laws.proofs.Recoveries.{stopped-hold}
@@ -59,23 +59,23 @@ pub record Goes (w v : World) : Type 0 where
 -- ---- what survives
 
 -- in one epoch
-survives-onward : (w v : World) (k : HasLogs w) (n : HasLogs v) → Onward k.logs n.logs → ((p : ℕ) → Rises (w.lead_of p) (v.lead_of p)) → (p : ℕ) → Survives w v p
+survives-onward : (w v : World) (k : HasLogs w) (n : HasLogs v) → Onward k.logs n.logs → ((p : ℕ) → Rises (w.authoritative p) (v.authoritative p)) → (p : ℕ) → Survives w v p
 survives-onward w v k n onward rises p = let f = keeps-firm w v k n onward rises p in record { within = f.within; more = f.more; kept = f.kept }
 
 pub survives-same : (w : World) (k : HasLogs w) (p : ℕ) → Survives w w p
-survives-same w k = survives-onward w w k k (onward-same k.logs) (λ p. rises-same (w.lead_of p))
+survives-same w k = survives-onward w w k k (onward-same k.logs) (λ p. rises-same (w.authoritative p))
 
 -- as many entries are there as were counted
-firm-length : (w : World) (p : ℕ) → (w.lead_of p).firm ≤ length (w.lead_of p).log → length (firm_entries w p) ≡ (w.lead_of p).firm
-firm-length w p within = length-take-le (w.lead_of p).firm (w.lead_of p).log within
+firm-length : (w : World) (p : ℕ) → (w.authoritative p).firm ≤ length (w.authoritative p).log → length (firm_entries w p) ≡ (w.authoritative p).firm
+firm-length w p within = length-take-le (w.authoritative p).firm (w.authoritative p).log within
 
 -- one event behind another
 pub survives-then : (u v w : World) (p : ℕ) → Survives u v p → Survives v w p → Survives u w p
 survives-then u v w p f g = record {
   within = f.within;
   more = let a = f.more in let b = g.more in omega (arith, a, b);
-  kept = front-trans (firm_entries u p) (firm_entries v p) (w.lead_of p).log
-      (fronts-order (firm_entries u p) (firm_entries v p) (v.lead_of p).log f.kept (front-take (v.lead_of p).firm (v.lead_of p).log)
+  kept = prefix-trans (firm_entries u p) (firm_entries v p) (w.authoritative p).log
+      (prefixes-order (firm_entries u p) (firm_entries v p) (v.authoritative p).log f.kept (prefix-take (v.authoritative p).firm (v.authoritative p).log)
       (let a = firm-length u p f.within in let b = firm-length v p g.within in let c = f.more in omega (arith, a, b, c)))
       g.kept;
 }
@@ -84,11 +84,11 @@ survives-then u v w p f g = record {
 survives-anew : (E : Database) (w : World) (shown : List ℕ) (d : HasDisks w) → is_shown w shown None ≡ true → (p : ℕ) → Survives w (starts_anew E w shown) p
 survives-anew E w shown d e p =
     let within = (survives-same w d.logs p).within in
-    let front = no-choice-lacks E w d.logs (firm_in w) d.halted d.disks shown e p (d.logs.lead p) in
+    let prefix = no-choice-lacks E w d.logs (firm_in w) d.halted d.disks shown e p (d.logs.authoritative p) in
     record {
       within = within;
-      more = let a = firm-length w p within in let b = front-length (firm_entries w p) ((starts_anew E w shown).lead_of p).log front in omega (arith, a, b);
-      kept = front;
+      more = let a = firm-length w p within in let b = prefix-length (firm_entries w p) ((starts_anew E w shown).authoritative p).log prefix in omega (arith, a, b);
+      kept = prefix;
     }
 
 -- ---- later worlds
@@ -110,13 +110,13 @@ keeps-goes w v d n disks = record {
   where
     keeps-survives : (w v : World) (d : HasDisks w) (n : Keeps w d.logs v) → (p : ℕ) → Survives w v p
     keeps-survives w v d n = survives-onward w v d.logs n.next (subst (Onward d.logs.logs) (sym n.logs) (onward-same d.logs.logs))
-        (λ p. subst (Rises (w.lead_of p)) (ap (λ f. f p) (sym n.lead)) (rises-same (w.lead_of p)))
+        (λ p. subst (Rises (w.authoritative p)) (ap (λ f. f p) (sym n.authoritative)) (rises-same (w.authoritative p)))
 
 -- the event is noted in the trace
 noted : (w v : World) (trace : List Event) → Goes w v → Goes w (record v { trace = trace })
 noted w v trace g = let n = g.next.logs in record {
   next = record {
-    logs = record { owner = n.owner; history = n.history; logs = n.logs; holds = n.holds; outsiders = n.outsiders; lead = n.lead; counted = n.counted };
+    logs = record { owner = n.owner; history = n.history; logs = n.logs; holds = n.holds; strangers = n.strangers; authoritative = n.authoritative; counted = n.counted };
     halted = g.next.halted;
     disks = g.next.disks;
   };
@@ -134,21 +134,21 @@ module _ (w : World) (d : HasDisks w) where
       → DisksHold (record S { words = record S.words { next = next; channel = ch; owner = owner } }) (firm_in w) d.halted
   plain = disks-plain S (firm_in w) d.halted d.disks
 
-to_client-goes : (E : Database) (w : World) (n : ℕ) (from : Actor) (ls : List Letter) (o : Outside) → HasDisks w → Goes w (delivered E w (Client n) from ls o)
+to_client-goes : (E : Database) (w : World) (n : ℕ) (from : Actor) (ls : List Letter) (o : Environment) → HasDisks w → Goes w (delivered E w (Client n) from ls o)
 to_client-goes E w n from [] o d = same-goes w d
 to_client-goes E w n from (l ∷ ls) o d =
     let v = delivered E w (Client n) from (l ∷ ls) o in
     let k = to_client-logs E w n from (l ∷ ls) o d.logs in
     keeps-goes w v d k (plain w d v.director.next_start v.channel k.next.owner (λ i c. refl))
 
-to_director-goes : (E : Database) (w : World) (from : Actor) (ls : List Letter) (o : Outside) → HasDisks w → Goes w (delivered E w Director from ls o)
+to_director-goes : (E : Database) (w : World) (from : Actor) (ls : List Letter) (o : Environment) → HasDisks w → Goes w (delivered E w Director from ls o)
 to_director-goes E w from [] o d = same-goes w d
 to_director-goes E w from (l ∷ ls) o d =
     let v = delivered E w Director from (l ∷ ls) o in
     let k = to_director-logs E w from (l ∷ ls) o d.logs in
     keeps-goes w v d k (plain w d v.director.next_start v.channel k.next.owner (λ i c. refl))
 
-to_scanner-goes : (E : Database) (w : World) (i : ℕ) (from : Actor) (ls : List Letter) (o : Outside) → HasDisks w → Goes w (delivered E w (Scanner i) from ls o)
+to_scanner-goes : (E : Database) (w : World) (i : ℕ) (from : Actor) (ls : List Letter) (o : Environment) → HasDisks w → Goes w (delivered E w (Scanner i) from ls o)
 to_scanner-goes E w i from [] o d = same-goes w d
 to_scanner-goes E w i from (l ∷ ls) o d =
     let v = delivered E w (Scanner i) from (l ∷ ls) o in
@@ -156,19 +156,19 @@ to_scanner-goes E w i from (l ∷ ls) o d =
     keeps-goes w v d k (plain w d v.director.next_start v.channel k.next.owner (λ i c. refl))
 
 -- what they do of themselves
-scan-goes : (E : Database) (w : World) (i : ℕ) (o : Outside) → HasDisks w → Goes w (happens E w (event.Scan i) o)
+scan-goes : (E : Database) (w : World) (i : ℕ) (o : Environment) → HasDisks w → Goes w (happens E w (event.Scan i) o)
 scan-goes E w i o d =
     let v = happens E w (event.Scan i) o in
     let k = scan-logs w i o d.logs in
     keeps-goes w v d k (plain w d v.director.next_start v.channel k.next.owner (λ i c. refl))
 
-submit-goes : (E : Database) (w : World) (n : ℕ) (o : Outside) → HasDisks w → Goes w (happens E w (event.Submit n) o)
+submit-goes : (E : Database) (w : World) (n : ℕ) (o : Environment) → HasDisks w → Goes w (happens E w (event.Submit n) o)
 submit-goes E w n o d =
     let v = happens E w (event.Submit n) o in
     let k = submit-logs w n d.logs in
     keeps-goes w v d k (plain w d v.director.next_start v.channel k.next.owner (λ i c. refl))
 
-item-goes : (E : Database) (w : World) (o : Outside) → HasDisks w → Goes w (happens E w event.Item o)
+item-goes : (E : Database) (w : World) (o : Environment) → HasDisks w → Goes w (happens E w event.Item o)
 item-goes E w o d =
     let v = happens E w event.Item o in
     let k = next-logs w (may_do w w.director.items) w.director.items d.logs in
@@ -176,7 +176,7 @@ item-goes E w o d =
 
 -- ---- events of agents
 
-to_agent-goes : (E : Database) (w : World) (n : ℕ) (from : Actor) (ls : List Letter) (o : Outside) → HasDisks w → w.channel from (Agent n) ≡ ls
+to_agent-goes : (E : Database) (w : World) (n : ℕ) (from : Actor) (ls : List Letter) (o : Environment) → HasDisks w → w.channel from (Agent n) ≡ ls
     → is_host w.deployment n ≡ true → allows w (event.Deliver (Agent n) from) o ≡ true → Goes w (delivered E w (Agent n) from ls o)
 to_agent-goes E w n from [] o d is host may = same-goes w d
 to_agent-goes E w n from (l ∷ ls) o d is host may =
@@ -190,13 +190,13 @@ to_agent-goes E w n from (l ∷ ls) o d is host may =
       history = r.history;
       logs = k.logs;
       holds = r.holds;
-      outsiders = λ h e. if-false (h == n) t.state (w.agents h) (host-apart w.deployment n h host e) ∙ k.outsiders h e;
-      lead = k.lead;
+      strangers = λ h e. if-false (h == n) t.state (w.agents h) (host-apart w.deployment n h host e) ∙ k.strangers h e;
+      authoritative = k.authoritative;
       counted = k.counted;
     } in
     record {
       next = record { logs = next; halted = d.halted; disks = disks-agent S (firm_in w) d.halted d.disks n from t r };
-      survives = survives-onward w v k next (onward-same k.logs) (λ p. rises-same (w.lead_of p));
+      survives = survives-onward w v k next (onward-same k.logs) (λ p. rises-same (w.authoritative p));
     }
 
 -- ---- events of sites
@@ -223,7 +223,7 @@ module _ (w : World) (d : HasDisks w) (channel : Actor → Actor → List Letter
         survives = survives-onward w after-turn k r.next (r.onward refl) (r.rises refl);
       }
 
-to_site-goes : (E : Database) (w : World) (i : ℕ) (from : Actor) (ls : List Letter) (o : Outside) → HasDisks w → w.channel from (Site i) ≡ ls
+to_site-goes : (E : Database) (w : World) (i : ℕ) (from : Actor) (ls : List Letter) (o : Environment) → HasDisks w → w.channel from (Site i) ≡ ls
     → nat_lt i (slots w.deployment) ≡ true → Goes w (delivered E w (Site i) from ls o)
 to_site-goes E w i from [] o d is slot = same-goes w d
 to_site-goes E w i from (l ∷ ls) o d is slot =
@@ -235,9 +235,9 @@ to_site-goes E w i from (l ∷ ls) o d is slot =
     let stops = stops_with (stamp_of w) w.stops (Site i) o in
     site-goes w d channel stops i t r.0 r.1 r.2
     (site_turn-kept S k.holds (firm_in w) d.halted d.disks i slot E (stamp_of w) from l ls o is (firm_in (after-turn w d channel stops i t)) r.0 r.1 r.2
-    (lead-raised w.deployment i t.state w.lead_of))
+    (authoritative-raised w.deployment i t.state w.authoritative))
 
-sync-goes : (E : Database) (w : World) (i : ℕ) (o : Outside) → HasDisks w → nat_lt i (slots w.deployment) ≡ true → may_sync (w.sites i) ≡ true
+sync-goes : (E : Database) (w : World) (i : ℕ) (o : Environment) → HasDisks w → nat_lt i (slots w.deployment) ≡ true → may_sync (w.sites i) ≡ true
     → Goes w (happens E w (event.Sync i) o)
 sync-goes E w i o d slot may =
     let k = d.logs in
@@ -246,7 +246,7 @@ sync-goes E w i o d slot may =
     let t = sync_turn E w.deployment i (w.sites i) o in
     let stops = stops_with (stamp_of w) w.stops (Site i) o in
     site-goes w d w.channel stops i t r.0 r.1 r.2
-    (sync-disks E S k.holds (firm_in w) d.halted d.disks i slot may o (firm_in (after-turn w d w.channel stops i t)) r.0 r.1 r.2 (lead-raised w.deployment i t.state w.lead_of))
+    (sync-disks E S k.holds (firm_in w) d.halted d.disks i slot may o (firm_in (after-turn w d w.channel stops i t)) r.0 r.1 r.2 (authoritative-raised w.deployment i t.state w.authoritative))
 
 -- ---- recoveries
 
@@ -258,24 +258,24 @@ anew-goes E w shown d e = record {
 
 stopped-goes : (E : Database) (w : World) (shown : List ℕ) (failed : ℕ × Bool) → HasDisks w → may_recover w ≡ true → allows w event.Recover (DisksShow shown (Some failed)) ≡ true
     → Goes w (stays_stopped E w shown failed)
-stopped-goes E w shown failed d may outside =
+stopped-goes E w shown failed d may environment =
     let n = stopped-logs E w shown failed d.logs in
     record {
-      next = record { logs = n.next; halted = true; disks = stopped-hold E w d.logs (firm_in w) d.halted d.disks shown failed may outside n.next n.logs };
+      next = record { logs = n.next; halted = true; disks = stopped-hold E w d.logs (firm_in w) d.halted d.disks shown failed may environment n.next n.logs };
       survives = survives-onward w (stays_stopped E w shown failed) d.logs n.next
-          (subst (Onward d.logs.logs) (sym n.logs) (onward-same d.logs.logs)) (λ p. rises-same (w.lead_of p));
+          (subst (Onward d.logs.logs) (sym n.logs) (onward-same d.logs.logs)) (λ p. rises-same (w.authoritative p));
     }
 
-recovery-goes : (E : Database) (w : World) (o : Outside) → HasDisks w → may_recover w ≡ true → allows w event.Recover o ≡ true → Goes w (recovered_with E w o)
-recovery-goes E w Fair d may outside = same-goes w d
-recovery-goes E w (DiskFails answered) d may outside = same-goes w d
-recovery-goes E w (NoMemory answered) d may outside = same-goes w d
-recovery-goes E w (DisksShow shown None) d may outside = anew-goes E w shown d (and_parts (is_shown w shown None) (is_slot_or_none w.deployment None) outside).0
-recovery-goes E w (DisksShow shown (Some failed)) d may outside = stopped-goes E w shown failed d may outside
+recovery-goes : (E : Database) (w : World) (o : Environment) → HasDisks w → may_recover w ≡ true → allows w event.Recover o ≡ true → Goes w (recovered_with E w o)
+recovery-goes E w NoFault d may environment = same-goes w d
+recovery-goes E w (DiskFails answered) d may environment = same-goes w d
+recovery-goes E w (NoMemory answered) d may environment = same-goes w d
+recovery-goes E w (DisksShow shown None) d may environment = anew-goes E w shown d (and_parts (is_shown w shown None) (is_slot_or_none w.deployment None) environment).0
+recovery-goes E w (DisksShow shown (Some failed)) d may environment = stopped-goes E w shown failed d may environment
 
 -- ---- events
 
-delivered-goes : (E : Database) (w : World) (to from : Actor) (o : Outside) → HasDisks w → is_actor w.deployment to ≡ true → allows w (event.Deliver to from) o ≡ true
+delivered-goes : (E : Database) (w : World) (to from : Actor) (o : Environment) → HasDisks w → is_actor w.deployment to ≡ true → allows w (event.Deliver to from) o ≡ true
     → Goes w (delivered E w to from (w.channel from to) o)
 delivered-goes E w Director from o d there may = to_director-goes E w from (w.channel from Director) o d
 delivered-goes E w (Client n) from o d there may = to_client-goes E w n from (w.channel from (Client n)) o d
@@ -283,14 +283,14 @@ delivered-goes E w (Agent n) from o d there may = to_agent-goes E w n from (w.ch
 delivered-goes E w (Site i) from o d there may = to_site-goes E w i from (w.channel from (Site i)) o d refl (actor-slot w.deployment i there)
 delivered-goes E w (Scanner i) from o d there may = to_scanner-goes E w i from (w.channel from (Scanner i)) o d
 
-happens-goes : (E : Database) (w : World) (e : Event) (o : Outside) → HasDisks w → can w e ≡ true → allows w e o ≡ true → Goes w (happens E w e o)
-happens-goes E w (event.Deliver to from) o d may outside = delivered-goes E w to from o d (and_parts (is_some_letter (w.channel from to)) (is_actor w.deployment to) may).1 outside
-happens-goes E w (event.Sync i) o d may outside = let p = and_parts (nat_lt i (slots w.deployment)) (may_sync (w.sites i)) may in sync-goes E w i o d p.0 p.1
-happens-goes E w (event.Scan i) o d may outside = scan-goes E w i o d
-happens-goes E w event.Recover o d may outside = recovery-goes E w o d may outside
-happens-goes E w event.Item o d may outside = item-goes E w o d
-happens-goes E w (event.Submit n) o d may outside = submit-goes E w n o d
-happens-goes E w (event.Idle a) o d may outside = same-goes w d
+happens-goes : (E : Database) (w : World) (e : Event) (o : Environment) → HasDisks w → can w e ≡ true → allows w e o ≡ true → Goes w (happens E w e o)
+happens-goes E w (event.Deliver to from) o d may environment = delivered-goes E w to from o d (and_parts (is_some_letter (w.channel from to)) (is_actor w.deployment to) may).1 environment
+happens-goes E w (event.Sync i) o d may environment = let p = and_parts (nat_lt i (slots w.deployment)) (may_sync (w.sites i)) may in sync-goes E w i o d p.0 p.1
+happens-goes E w (event.Scan i) o d may environment = scan-goes E w i o d
+happens-goes E w event.Recover o d may environment = recovery-goes E w o d may environment
+happens-goes E w event.Item o d may environment = item-goes E w o d
+happens-goes E w (event.Submit n) o d may environment = submit-goes E w n o d
+happens-goes E w (event.Idle a) o d may environment = same-goes w d
 
 step-goes : (E : Database) (w : World) (e : Happening) → may_happen w e ≡ true → HasDisks w → Goes w (step E w e)
 step-goes E w e may d =

@@ -50,11 +50,11 @@ module _ (S : LogState) (H : Holds S) (i : ℕ) (up : 0 < start_at S i) (F : Fir
         choice None q k = d.marked k
         choice (Some m) q k = (owed-mark S H i up F K none m q).1
 
-    member-wrote : OwnMember (S.logs.reign (part S i)) (F (part S i)) (record (member_written s) { contents = after_parts s.contents (parts_of_sync s None) })
+    member-wrote : OwnMember (S.logs.leadership (part S i)) (F (part S i)) (record (member_written s) { contents = after_parts s.contents (parts_of_sync s None) })
     member-wrote = record {
       shows = ap (λ xs. after_parts xs (parts_of_sync s None)) d.shows ∙ member-last s low;
       mark = (mark-rises S H i up F K none (mark_owed s) (length s.log) (owed s.owes refl)).1;
-      reign = b.reign;
+      leadership = b.leadership;
       is_led = b.led;
       begun = b.begun;
       marked = marked;
@@ -69,7 +69,7 @@ module _ (S : LogState) (H : Holds S) (i : ℕ) (up : 0 < start_at S i) (F : Fir
     k = stream-disk S H i up F K j joins st stream
 
     -- once it has loaded all, its base is on disk
-    loaded-wrote : j.is_loaded ≡ true → after_parts s.contents (joiner_parts s j (Some st)) ≡ content st.mark st.nj s (length s.log) ∷ []
+    loaded-wrote : j.is_loaded ≡ true → after_parts s.contents (joiner_parts s j (Some st)) ≡ content st.mark st.stream_start s (length s.log) ∷ []
     loaded-wrote loaded =
         stream-last s j st (base-shown S H i up F K j joins st stream) low s.contents (λ e. (k.2 e).0) loaded (stream-within S H i up F K j joins st stream)
 
@@ -84,7 +84,7 @@ module _ (S : LogState) (H : Holds S) (i : ℕ) (up : 0 < start_at S i) (F : Fir
 
     -- what a joiner's stream says of its disk then
     stream-wrote : (u : SiteState) (c : Bool) → j.is_loaded ≡ c → u ≡ record (if c
-        then record s { joining = Some (record j { written = j.blocks; is_based = true }); on_disk = length s.log; mark = st.mark; base = st.nj }
+        then record s { joining = Some (record j { written = j.blocks; is_based = true }); on_disk = length s.log; mark = st.mark; base = st.stream_start }
         else record s { joining = Some (record j { written = j.blocks }) }) { contents = after_parts s.contents (joiner_parts s j (Some st)) }
         → (n : Joining) → u.joining ≡ Some n → OwnStream u n n.stream
     stream-wrote u true loaded is n some =
@@ -96,7 +96,7 @@ module _ (S : LogState) (H : Holds S) (i : ℕ) (up : 0 < start_at S i) (F : Fir
             ap (λ x. x.contents) is ∙ loaded-wrote loaded ∙ ap (λ x. own_content x ∷ []) (sym is),
             ap (λ x. x.mark) is,
             ap (λ x. x.base) is,
-            subst (λ x. st.nj ≤ x.on_disk) (sym is) (stream-within S H i up F K j joins st stream),
+            subst (λ x. st.stream_start ≤ x.on_disk) (sym is) (stream-within S H i up F K j joins st stream),
           ),
         ))
     stream-wrote u false loaded is n some =
@@ -164,8 +164,8 @@ module _ (S : LogState) (H : Holds S) (i : ℕ) (up : 0 < start_at S i) (F : Fir
       stream-joins j None e n = none-and-some n e
       stream-joins j (Some st) e n = cond_both {A = SiteState} j.is_loaded _ _ (λ x. x.joining ≡ None → ⊥) (λ _ q. absurd (cc)) (λ _ q. absurd (cc)) n
 
-      member : (o : Option Joining) → s.joining ≡ o → wrote.joining ≡ None → OwnMember (S.logs.reign (part S i)) (F (part S i)) wrote
-      member None e n = subst (λ x. OwnMember (S.logs.reign (part S i)) (F (part S i)) (record (written s x) { contents = after_parts s.contents (parts_of_sync s x) }))
+      member : (o : Option Joining) → s.joining ≡ o → wrote.joining ≡ None → OwnMember (S.logs.leadership (part S i)) (F (part S i)) wrote
+      member None e n = subst (λ x. OwnMember (S.logs.leadership (part S i)) (F (part S i)) (record (written s x) { contents = after_parts s.contents (parts_of_sync s x) }))
           (sym e) (member-wrote e)
       member (Some j) e n = absurd (stream-joins j j.stream e (sym (ap (λ x. (written s x).joining) e) ∙ n))
 

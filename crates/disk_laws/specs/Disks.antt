@@ -7,7 +7,7 @@ use Rattle.cluster_model.specs.Disk.{Content, Shown, mark_of}
 use Rattle.cluster_model.specs.Letters.{Letter}
 use Rattle.cluster_model.specs.SiteState.{SiteState, Streamed, Joining}
 use Rattle.word_laws.specs.Histories.{In, Admitted}
-use Rattle.log_laws.specs.Histories.{LogState, Front, Reign, IsSlot, part, start_at, log_at, term_at, between}
+use Rattle.log_laws.specs.Histories.{LogState, Prefix, Leadership, IsSlot, part, start_at, log_at, term_at, between}
 
 -- ---- how good a content is
 
@@ -34,17 +34,17 @@ pub record Top (S : LogState) (p mark position : ℕ) : Type 0 where
 
 -- ---- what a content is
 
--- It was written in the epoch: its log has all that its mark's term began with, and is at the front of the log of that term or a
+-- It was written in the epoch: its log has all that its mark's term began with, and is a prefix of the log of that term or a
 -- later one.
 pub record Written (S : LogState) (p : ℕ) (x : Content) : Type 0 where
-  pub reign : Reign
-  pub led : S.logs.reign p x.mark ≡ Some reign
-  pub begun : Front reign.begun x.log
+  pub leadership : Leadership
+  pub led : S.logs.leadership p x.mark ≡ Some leadership
+  pub begun : Prefix leadership.begun x.log
   pub term : ℕ
   pub above : x.mark ≤ term
-  pub later : Reign
-  pub later_led : S.logs.reign p term ≡ Some later
-  pub front : Front x.log later.log
+  pub later : Leadership
+  pub later_led : S.logs.leadership p term ≡ Some later
+  pub prefix : Prefix x.log later.log
 
 -- the greatest position that a leader of a partition counted firm in this epoch
 abbrev pub Firm : Type 0
@@ -52,7 +52,7 @@ Firm = ℕ → ℕ
 
 -- It is the base of a recovery that was stopped: all that was counted firm is in it.
 abbrev pub Rebuilt : LogState → Firm → ℕ → Content → Type 0
-Rebuilt S F p x = (v : ℕ) (g : Reign) → S.logs.reign p v ≡ Some g → F p ≤ S.logs.reach p v → Front (take (F p) g.log) x.log
+Rebuilt S F p x = (v : ℕ) (g : Leadership) → S.logs.leadership p v ≡ Some g → F p ≤ S.logs.reach p v → Prefix (take (F p) g.log) x.log
 
 abbrev pub ContentOk : LogState → Firm → Bool → ℕ → Shown → Type 0
 ContentOk S F halted p None = Unit {0}
@@ -69,9 +69,9 @@ own_content s = Some (record { mark = s.mark; base = s.base; log = take s.on_dis
 pub record MemberDisk (S : LogState) (F : Firm) (c : ℕ) : Type 0 where
   pub shows : shown_at S c ≡ own_content (S.sites c) ∷ []
   pub mark : (S.sites c).mark ≤ term_at S c
-  pub reign : Reign
-  pub led : S.logs.reign (part S c) (S.sites c).mark ≡ Some reign
-  pub begun : Front reign.begun (take (S.sites c).on_disk (log_at S c))
+  pub leadership : Leadership
+  pub led : S.logs.leadership (part S c) (S.sites c).mark ≡ Some leadership
+  pub begun : Prefix leadership.begun (take (S.sites c).on_disk (log_at S c))
   -- it has the mark of its term, or owes it, only where it is repaired
   pub marked : (S.sites c).mark ≡ term_at S c → (S.sites c).repaired ≡ true
   pub firm : (S.sites c).firm ≤ F (part S c)
@@ -85,7 +85,7 @@ StreamDisk S c j (Some st) =
     (st.mark ≡ term_at S c)
     × (j.is_based ≡ false → shown_at S c ≡ None ∷ [])
     × (j.is_based ≡ true
-    → (shown_at S c ≡ own_content (S.sites c) ∷ []) × ((S.sites c).mark ≡ st.mark) × ((S.sites c).base ≡ st.nj) × (st.nj ≤ (S.sites c).on_disk))
+    → (shown_at S c ≡ own_content (S.sites c) ∷ []) × ((S.sites c).mark ≡ st.mark) × ((S.sites c).base ≡ st.stream_start) × (st.stream_start ≤ (S.sites c).on_disk))
 
 pub record DiskOk (S : LogState) (F : Firm) (halted : Bool) (c : ℕ) : Type 0 where
   pub some : (shown_at S c ≡ []) → ⊥
@@ -126,14 +126,14 @@ pub record Halted (S : LogState) : Type 0 where
 -- term or of a later one.
 pub record FirmOk (S : LogState) (F : Firm) (p : ℕ) : Type 0 where
   pub term : ℕ
-  pub reign : Reign
-  pub led : S.logs.reign p term ≡ Some reign
+  pub leadership : Leadership
+  pub led : S.logs.leadership p term ≡ Some leadership
   pub reach : F p ≤ S.logs.reach p term
   pub top : 0 < F p → Top S p term (F p)
 
 pub record DisksHold (S : LogState) (F : Firm) (halted : Bool) : Type 0 where
   pub disks : (c : ℕ) → IsSlot S c → DiskOk S F halted c
-  pub outside : (c : ℕ) → (IsSlot S c → ⊥) → AllByRecursion (λ x. x ≡ None) (shown_at S c)
+  pub environment : (c : ℕ) → (IsSlot S c → ⊥) → AllByRecursion (λ x. x ≡ None) (shown_at S c)
   pub streams : (i c : ℕ) → IsSlot S c → AllByRecursion (StreamLetter S c) (between S i c)
   pub firm : (p : ℕ) → FirmOk S F p
   pub halts : halted ≡ true → Halted S

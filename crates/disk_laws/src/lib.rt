@@ -1,5 +1,5 @@
 //! Laws of what the disks of a cluster show: what was counted firm is never lost. They hold of every
-//! run of the whole world, with any outside, any database and any input whose base term isn't 0, which
+//! run of the whole world, with any environment, any database and any input whose base term isn't 0, which
 //! would mean no term. Each is a function without a body; the clause is the law.
 #![tactic(auto)]
 

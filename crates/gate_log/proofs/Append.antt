@@ -9,7 +9,7 @@ use Rattle.volt_disk.specs.File.{File, IsImage, settled, seen, bytes_if_listed}
 use Rattle.volt_disk.specs.Effects.{lengthened, overwritten}
 use Rattle.volt_disk.proofs.Images.{length-overwritten}
 use Rattle.gate_log.specs.Batches.{open_gate, batches, spelled}
-use Rattle.gate_log.specs.Log.{IsRest, IsReady, EachImage, HoldsAlways, HoldsWithOrWithout, KeepsFront}
+use Rattle.gate_log.specs.Log.{IsRest, IsReady, EachImage, HoldsAlways, HoldsWithOrWithout, KeepsPrefix}
 use Rattle.gate_log.specs.declared.log.GateLog.{GateLog}
 use Rattle.gate_log.proofs.Files.{same_places, length-lengthened}
 use Rattle.gate_log.proofs.Batches.{batches-kept, batches-opened, batches-gate, spelled-append, AllFit-push, IsRest-zeros, IsRest-closed}
@@ -38,13 +38,13 @@ gate-shape P R bb size x room fits =
     let L = lengthened size (P ++ R) in
     let E = length P in
     let long : length L ≡ size = length-lengthened size (P ++ R) fits in
-    let front : length (take (E + 1) L) ≡ E + 1 = length-take-le (E + 1) L (omega arith) in
+    let prefix : length (take (E + 1) L) ≡ E + 1 = length-take-le (E + 1) L (omega arith) in
     let before : take E (overwritten (E + 1) bb L) ≡ P =
     take-append-le E (take (E + 1) L) (bb ++ drop (E + 1 + length bb) L) (omega arith)
     ∙ (take-within E (E + 1) L (omega arith)
     ∙ (ap (take E) (append_assoc P R (replicate (size - length (P ++ R)) 0)) ∙ take_at P (R ++ replicate (size - length (P ++ R)) 0) E refl)) in
     let behind : drop (E + 1) (overwritten (E + 1) bb L) ≡ bb ++ drop (E + 1 + length bb) L =
-    drop_at (take (E + 1) L) (bb ++ drop (E + 1 + length bb) L) (E + 1) front in
+    drop_at (take (E + 1) L) (bb ++ drop (E + 1 + length bb) L) (E + 1) prefix in
     rw (before, behind) refl
 
 zeros-drop : (m : ℕ) (R zeros : List ℕ) → IsRest R → All (λ b. b ≡ 0) zeros → All (λ b. b ≡ 0) (drop (1 + m) (R ++ zeros))
@@ -91,7 +91,7 @@ append-written log f0 f1 f2 size body ready short room grows first second image 
     ∙ batches-opened (batches f0.bytes) body s.zeros ready.fits short s.are_zeros)
 
 -- the first half failed
-pub append-behind : (log : GateLog) (f0 f1 : File) (body : List ℕ) → IsReady log f0 → EachImage f1 (KeepsFront (log.end + 1) f0.bytes) → HoldsWithOrWithout (batches (seen f0)) body f1
+pub append-behind : (log : GateLog) (f0 f1 : File) (body : List ℕ) → IsReady log f0 → EachImage f1 (KeepsPrefix (log.end + 1) f0.bytes) → HoldsWithOrWithout (batches (seen f0)) body f1
 append-behind log f0 f1 body ready each image is =
     let before : seen f0 ≡ f0.bytes = seen-settled f0 ready.durable in
     let keeps = rw ready.ends at each image is in

@@ -1,4 +1,4 @@
--- Batches of a file: whole ones at its front, and none behind a closed gate.
+-- Batches of a file: whole ones at its beginning, and none behind a closed gate.
 use Rattle.std.proofs.Common.{◌≡◌, ◌≢◌, ◌⊎◌, ℕ, zero, suc, ◌+◌, ◌^◌, ◌<◌, ◌≤◌, Bool, true, false, cond, eqb, ltb, List, [], ◌∷◌, ◌++◌, length, take, drop, get_or, Option, Some, None, refl, sym, ap, ◌∙◌, inl, inr, append_assoc, append-nil, length-append, length-drop, arith, All}
 use Rattle.std.specs.Int.{w32, to_be_bytes}
 use Rattle.std.proofs.lemmas.Bool.{cases_eq, ne_eqb}
@@ -8,7 +8,7 @@ use Rattle.volt_base.specs.Reading.{number_at, body_at}
 use Rattle.volt_base.proofs.Fields.{body_again, bind_some}
 use Rattle.gate_log.specs.Batches.{open_gate, batch_bytes, first_batch, first_and, first_batches, batches, spelled, AllFit}
 use Rattle.gate_log.proofs.Files.{same_places}
-use Rattle.gate_log.specs.Log.{IsRest, KeepsFront}
+use Rattle.gate_log.specs.Log.{IsRest, KeepsPrefix}
 
 pub first_batch-open : (body rest : List ℕ) → length body < 2 ^ 32 → first_batch (batch_bytes body ++ rest) ≡ Some (body, rest)
 first_batch-open body rest short = body_again body rest short
@@ -74,14 +74,14 @@ batches-first bytes batch e =
     ∙ (first_step (length bytes) bytes (Some batch) e
     ∙ ap (λ l. batch.0 ∷ l) (first_batches-enough (length bytes) (length batch.1) batch.1 (omega arith) (omega arith)))
 
--- whole batches at the front are the first ones
+-- whole batches at the beginning are the first ones
 pub batches-spelled : (bodies : List (List ℕ)) (rest : List ℕ) → AllFit bodies → batches (spelled bodies ++ rest) ≡ bodies ++ batches rest
 batches-spelled [] rest fits = refl
 batches-spelled (body ∷ bodies) rest fits =
     rw append_assoc (batches-first (batch_bytes body ++ (spelled bodies ++ rest)) (body, spelled bodies ++ rest) (first_batch-open body (spelled bodies ++ rest) fits.0)
     ∙ ap (λ l. body ∷ l) (batches-spelled bodies rest fits.1))
 
--- where no open gate stands at the front there is none
+-- where no open gate stands at the beginning there is none
 pub batches-closed : (rest : List ℕ) → get_or rest 0 0 ≢ open_gate → batches rest ≡ []
 batches-closed [] closed = batches-none [] refl
 batches-closed (gate ∷ rest) closed = batches-none (gate ∷ rest) (first_batch-closed gate rest closed)
@@ -117,18 +117,18 @@ batches-rest bodies rest fits closed =
     batches-spelled bodies rest fits ∙ (ap (λ l. bodies ++ l) (batches-closed rest closed) ∙ append-nil bodies)
 
 -- an image that keeps the batches and the closed gate behind them holds these batches
-pub batches-kept : (bodies : List (List ℕ)) (rest bytes image : List ℕ) → bytes ≡ spelled bodies ++ rest → get_or rest 0 0 ≢ open_gate → AllFit bodies → KeepsFront (length (spelled bodies) + 1) bytes image → batches image ≡ bodies
+pub batches-kept : (bodies : List (List ℕ)) (rest bytes image : List ℕ) → bytes ≡ spelled bodies ++ rest → get_or rest 0 0 ≢ open_gate → AllFit bodies → KeepsPrefix (length (spelled bodies) + 1) bytes image → batches image ≡ bodies
 batches-kept bodies rest bytes image parts closed fits keeps =
     let e : length bytes ≡ length (spelled bodies) + length rest = ap length parts ∙ length-append (spelled bodies) rest in
     let long : length (spelled bodies) ≤ length image = let n = keeps.no_shorter in omega arith in
     let len : length (take (length (spelled bodies)) image) ≡ length (spelled bodies) = length-take-le (length (spelled bodies)) image long in
-    let front : take (length (spelled bodies)) image ≡ spelled bodies =
+    let prefix : take (length (spelled bodies)) image ≡ spelled bodies =
     same_places (take (length (spelled bodies)) image) (spelled bodies) len (λ i less.
     get_or-take (length (spelled bodies)) image i 0 (omega (arith, less, len))
     ∙ (keeps.same i (omega (arith, less, len))
     ∙ (ap (λ b. get_or b i 0) parts ∙ get_or_append_left (spelled bodies) rest 0 i (omega (arith, less, len))))) in
     let whole : image ≡ spelled bodies ++ drop (length (spelled bodies)) image =
-    sym (take-append-drop (length (spelled bodies)) image) ∙ ap (λ p. p ++ drop (length (spelled bodies)) image) front in
+    sym (take-append-drop (length (spelled bodies)) image) ∙ ap (λ p. p ++ drop (length (spelled bodies)) image) prefix in
     let gate : get_or (drop (length (spelled bodies)) image) 0 0 ≡ get_or rest 0 0 =
     get_or-drop (length (spelled bodies)) image 0 0
     ∙ (keeps.same (length (spelled bodies) + 0) (omega arith)

@@ -1,4 +1,4 @@
--- What a crash leaves of a file whose front is kept, or of which one byte is under way.
+-- What a crash leaves of a file whose prefix is kept, or of which one byte is under way.
 use Rattle.std.proofs.Common.{◌≡◌, ◌≢◌, ◌⊎◌, ℕ, zero, suc, ◌+◌, ◌-◌, ◌<◌, ◌≤◌, List, [], ◌∷◌, ◌++◌, length, take, drop, replicate, get_or, refl, sym, ◌∙◌, inl, inr, arith, length-append}
 use Rattle.std.proofs.lemmas.List.{get_or_past, get_or_append_left, get_or-append_right, length-replicate, length-take-le}
 use Rattle.std.proofs.lemmas.Bool.{cases_lt, cases_eq}
@@ -6,7 +6,7 @@ use Rattle.volt_disk.specs.declared.listing.Listing.TheVariants.{Kept}
 use Rattle.volt_disk.specs.File.{File, IsInRange, IsInSome, settled}
 use Rattle.volt_disk.specs.Effects.{lengthened, overwritten, growth_asked, grown, write_asked, after_write, FailsAs}
 use Rattle.volt_disk.proofs.Images.{length-overwritten, get-overwritten}
-use Rattle.gate_log.specs.Log.{EachImage, KeepsFront}
+use Rattle.gate_log.specs.Log.{EachImage, KeepsPrefix}
 
 -- two lists with the same places are one
 pub same_places : (xs ys : List ℕ) → length xs ≡ length ys → ((i : ℕ) → i < length xs → get_or xs i 0 ≡ get_or ys i 0) → xs ≡ ys
@@ -48,7 +48,7 @@ pub record Holding (n : ℕ) (bytes : List ℕ) (f : File) : Type 0 where
   pub clear : (i : ℕ) → i < n → ¬ IsInSome i f.written
   pub same : (i : ℕ) → i < n → get_or f.bytes i 0 ≡ get_or bytes i 0
 
-pub Holding-image : (n : ℕ) (bytes : List ℕ) (f : File) → Holding n bytes f → EachImage f (KeepsFront n bytes)
+pub Holding-image : (n : ℕ) (bytes : List ℕ) (f : File) → Holding n bytes f → EachImage f (KeepsPrefix n bytes)
 Holding-image n bytes f h image (inl torn) = record {
   no_shorter = let l = h.least in let t = torn.no_shorter in omega arith;
   same = λ i less.
@@ -107,9 +107,9 @@ Holding-written n at xs bytes f behind within h = record {
 
 pub get-overwritten_at : (place x : ℕ) (bytes : List ℕ) → place < length bytes → get_or (overwritten place (x ∷ []) bytes) place 0 ≡ x
 get-overwritten_at place x bytes within =
-    let front : length (take place bytes) ≡ place = length-take-le place bytes (omega arith) in
+    let prefix : length (take place bytes) ≡ place = length-take-le place bytes (omega arith) in
     let none : place - place ≡ 0 = omega arith in
-    get_or-append_right (take place bytes) (x ∷ drop (place + 1) bytes) place place 0 front (omega arith) ∙ rw none refl
+    get_or-append_right (take place bytes) (x ∷ drop (place + 1) bytes) place place 0 prefix (omega arith) ∙ rw none refl
 
 -- all bytes are settled, except for one, which a crash may leave as any
 pub record Settling (place : ℕ) (bytes : List ℕ) (f : File) : Type 0 where
@@ -164,8 +164,8 @@ gate-write_failed place x old new durable within failed =
     (rw durable (Settling-asked place old.bytes))
     (rw durable (Settling-written place x old.bytes within)))
 
--- a write behind the front failed after a growth, in whatever way
-pub behind-write_failed : (n size at : ℕ) (xs : List ℕ) (old mid new : File) → old ≡ settled old.bytes → mid ≡ grown size old → length old.bytes ≤ size → n ≤ at → at + length xs ≤ size → FailsAs mid (write_asked at (length xs) mid) (after_write at xs mid) new → EachImage new (KeepsFront n old.bytes)
+-- a write behind the prefix failed after a growth, in whatever way
+pub behind-write_failed : (n size at : ℕ) (xs : List ℕ) (old mid new : File) → old ≡ settled old.bytes → mid ≡ grown size old → length old.bytes ≤ size → n ≤ at → at + length xs ≤ size → FailsAs mid (write_asked at (length xs) mid) (after_write at xs mid) new → EachImage new (KeepsPrefix n old.bytes)
 behind-write_failed n size at xs old mid new durable grew le behind within failed =
     let holds : Holding n old.bytes mid = rw grew (Holding-grown n size old.bytes old (rw durable (Holding-settled n old.bytes))) in
     let room : at + length xs ≤ length mid.bytes = rw grew (rw (length-lengthened size old.bytes le) within) in

@@ -8,7 +8,7 @@ use Rattle.volt_disk.specs.File.{File, settled, seen, bytes_if_listed}
 use Rattle.volt_disk.specs.Effects.{overwritten, write_asked, after_write, synced, synced_if, FailsAs}
 use Rattle.volt_disk.proofs.Images.{length-overwritten, get-overwritten}
 use Rattle.gate_log.specs.Batches.{open_gate, batches, spelled}
-use Rattle.gate_log.specs.Log.{IsFound, IsCleared, IsReady, EachImage, HoldsAlways, KeepsFront}
+use Rattle.gate_log.specs.Log.{IsFound, IsCleared, IsReady, EachImage, HoldsAlways, KeepsPrefix}
 use Rattle.gate_log.specs.declared.log.GateLog.{GateLog}
 use Rattle.gate_log.proofs.Files.{same_places, FailsAs-any, Holding, Holding-image, Holding-settled, Holding-write_asked, Holding-written, get-overwritten_at}
 use Rattle.gate_log.proofs.Batches.{batches-rest, batches-kept, IsRest-closed}
@@ -26,7 +26,7 @@ overwritten-same place bytes within =
 pub synced-settled : (f : File) → f.listing ≡ Kept → synced f ≡ settled f.bytes
 synced-settled f kept = ap (λ l. synced_if l f) kept ∙ ap (λ l. record (settled f.bytes) { listing = l }) kept
 
--- a gate at the end of the front
+-- a gate at the end of the prefix
 gate-behind : (P : List ℕ) (g x : ℕ) (T : List ℕ) → overwritten (length P) (x ∷ []) (P ++ g ∷ T) ≡ P ++ x ∷ T
 gate-behind P g x T =
     let next : length (P ++ g ∷ []) ≡ length P + 1 = length-append P (g ∷ []) in
@@ -43,9 +43,9 @@ tail-behind P g T new same =
     let next : length Q ≡ length P + 1 = length-append P (g ∷ []) in
     let at : P ++ g ∷ T ≡ Q ++ T = sym (append_assoc P (g ∷ []) T) in
     let len : length (P ++ g ∷ T) ≡ length P + suc (length T) = length-append P (g ∷ T) in
-    let front : take (length P + 1) (P ++ g ∷ T) ≡ Q = ap (take (length P + 1)) at ∙ take_at Q T (length P + 1) next in
+    let prefix : take (length P + 1) (P ++ g ∷ T) ≡ Q = ap (take (length P + 1)) at ∙ take_at Q T (length P + 1) next in
     let none : drop (length P + 1 + length new) (P ++ g ∷ T) ≡ [] = drop_all (length P + 1 + length new) (P ++ g ∷ T) (omega arith) in
-    rw (front, none, append-nil new) (append_assoc P (g ∷ []) new)
+    rw (prefix, none, append-nil new) (append_assoc P (g ∷ []) new)
 
 -- the bytes behind the batches, from their gate on
 record Found (place : ℕ) (bytes : List ℕ) : Type 0 where
@@ -97,7 +97,7 @@ clear-failed place byte bytes zeros old new found less closed durable room faile
     start (Holding-write_asked (place + 1) (place + 1) (length zeros) F old (omega arith) start)
     (Holding-written (place + 1) (place + 1) zeros F old (omega arith) (omega arith) start) in
     let keeps = Holding-image (place + 1) F new holds image is in
-    batches-kept (batches bytes) (byte ∷ behind.tail) F image whole closed found.fits (subst (λ p. KeepsFront (p + 1) F image) at keeps)
+    batches-kept (batches bytes) (byte ∷ behind.tail) F image whole closed found.fits (subst (λ p. KeepsPrefix (p + 1) F image) at keeps)
 
 -- all was cleared
 pub cleared : (place byte n : ℕ) (bytes : List ℕ) (old new : File) → IsFound place bytes → place < length bytes → byte ≢ open_gate → old ≡ settled (overwritten place (byte ∷ []) bytes) → n ≡ length bytes - place - 1 → new ≡ synced (after_write (place + 1) (replicate n 0) old) → IsCleared place bytes new

@@ -1,4 +1,4 @@
--- Batches that are read from the front of bytes.
+-- Batches that are read from the beginning of bytes.
 use Rattle.std.proofs.Common.{◌≡◌, ℕ, ◌+◌, ◌-◌, ◌^◌, ◌<◌, eqb, List, [], ◌∷◌, ◌++◌, length, drop, Some, None, refl, sym, ap, ◌∙◌, append_assoc, append-nil, length-append, arith, eqb-true}
 use Rattle.std.proofs.lemmas.List.{get_or-append-add, drop_at}
 use Rattle.volt_base.specs.Reading.{body_at}
@@ -6,9 +6,9 @@ use Rattle.volt_base.proofs.Fields.{IsBytes, IsBytes-rest, body_takes}
 use Rattle.gate_log.specs.Batches.{open_gate, batch_bytes, first_batch, batches, spelled, AllFit}
 use Rattle.gate_log.proofs.Batches.{opened, batches-spelled, batches-none, spelled-append, AllFit-push}
 
-pub IsBytes-behind : (front rest bytes : List ℕ) → bytes ≡ front ++ rest → IsBytes bytes → IsBytes rest
-IsBytes-behind front rest bytes parts fits i =
-    rw (← get_or-append-add front rest i 0) (rw parts at fits (length front + i))
+pub IsBytes-behind : (prefix rest bytes : List ℕ) → bytes ≡ prefix ++ rest → IsBytes bytes → IsBytes rest
+IsBytes-behind prefix rest bytes parts fits i =
+    rw (← get_or-append-add prefix rest i 0) (rw parts at fits (length prefix + i))
 
 pub first_batch-takes : (bytes body rest : List ℕ) → IsBytes bytes → first_batch bytes ≡ Some (body, rest) → (bytes ≡ batch_bytes body ++ rest) × (length body < 2 ^ 32)
 first_batch-takes [] body rest fits e = absurd cc

@@ -11,7 +11,7 @@ open_gate = 165
 abbrev pub batch_bytes : List ℕ → List ℕ
 batch_bytes body = open_gate ∷ body_bytes body
 
--- the body of the batch at the front of the bytes, and what stands behind it, where the batch is open and fits
+-- the body of the batch at the beginning of the bytes, and what stands behind it, where the batch is open and fits
 abbrev pub first_batch : List ℕ → Option (List ℕ × List ℕ)
 first_batch [] = None
 first_batch (gate ∷ bytes) = if gate == open_gate then body_at bytes else None

@@ -34,7 +34,7 @@ HoldsWithOrWithout bodies body f =
     EachImage f (λ image. (batches image ≡ bodies) ⊎ (batches image ≡ bodies ++ body ∷ []))
 
 -- an image is no shorter, and has the same bytes at the first places; behind its end there are zeros
-pub record KeepsFront (n : ℕ) (bytes image : List ℕ) : Type 0 where
+pub record KeepsPrefix (n : ℕ) (bytes image : List ℕ) : Type 0 where
   pub no_shorter : length bytes ≤ length image
   pub same : (i : ℕ) → i < n → slice_index image i ≡ slice_index bytes i
 

@@ -1,11 +1,11 @@
 //! The log: batches behind gates.
 ghost use Rattle.std.specs.Prelude.{◌≡◌, ◌≢◌, ◌+◌, ◌<◌, ◌≤◌, ◌^◌, ℕ, [], ◌∷◌, ◌++◌, IsTrue, length, drop, IfOk, OnOk, OnErr};
-ghost use Rattle.volt_disk.specs.Faults.{Rose};
+ghost use Rattle.volt_base.specs.Faults.{Increased};
 ghost use Rattle.volt_disk.specs.File.{seen, settled};
 ghost use Rattle.volt_disk.specs.Effects.{lengthened, overwritten, write_asked, after_write, synced, FailsAs};
 ghost use Rattle.volt_base.specs.Spelling.{body_bytes};
 ghost use Rattle.gate_log.specs.Batches.{batches, open_gate};
-ghost use Rattle.gate_log.specs.Log.{IsReady, EachImage, HoldsAlways, HoldsWithOrWithout, KeepsFront, after_calls, SamePlans};
+ghost use Rattle.gate_log.specs.Log.{IsReady, EachImage, HoldsAlways, HoldsWithOrWithout, KeepsPrefix, after_calls, SamePlans};
 
 use volt_disk::disk::{Disk, DiskFailed};
 
@@ -61,7 +61,7 @@ impl GateLog {
         ensures others { IsTrue D.tells → (n : ℕ) → n ≢ self.old.file → D.told disk.new n ≡ D.told disk.old n }
         ensures calls { OnOk result (D.power disk.new ≡ after_calls 5 (D.power disk.old)) }
         ensures plans { SamePlans (D.power disk.old) (D.power disk.new) }
-        ensures rises { OnErr result (Rose (D.count disk.old) (D.count disk.new)) }
+        ensures rises { OnErr result (Increased (D.count disk.old) (D.count disk.new)) }
         ensures never_falls { D.count disk.old ≤ D.count disk.new }
     {
         put_length(batch);
@@ -103,12 +103,12 @@ fn write_behind_gate<D: Disk>(
     ensures written { OnOk result (IsTrue D.tells → D.told disk.new file
         ≡ settled (overwritten (gate + 1) bytes.now (lengthened size (D.told disk.old file).bytes))) }
     ensures partly { OnErr result (IsTrue D.tells
-        → EachImage (D.told disk.new file) (KeepsFront (gate + 1) (D.told disk.old file).bytes)) }
+        → EachImage (D.told disk.new file) (KeepsPrefix (gate + 1) (D.told disk.old file).bytes)) }
 
     ensures others { IsTrue D.tells → (n : ℕ) → n ≢ file → D.told disk.new n ≡ D.told disk.old n }
     ensures calls { OnOk result (D.power disk.new ≡ after_calls 3 (D.power disk.old)) }
     ensures plans { SamePlans (D.power disk.old) (D.power disk.new) }
-    ensures rises { OnErr result (Rose (D.count disk.old) (D.count disk.new)) }
+    ensures rises { OnErr result (Increased (D.count disk.old) (D.count disk.new)) }
     ensures never_falls { D.count disk.old ≤ D.count disk.new }
 {
     disk.grow(file, size)?;
@@ -133,7 +133,7 @@ pub(crate) fn write_gate<D: Disk>(
     ensures others { IsTrue D.tells → (n : ℕ) → n ≢ file → D.told disk.new n ≡ D.told disk.old n }
     ensures calls { OnOk result (D.power disk.new ≡ after_calls 2 (D.power disk.old)) }
     ensures plans { SamePlans (D.power disk.old) (D.power disk.new) }
-    ensures rises { OnErr result (Rose (D.count disk.old) (D.count disk.new)) }
+    ensures rises { OnErr result (Increased (D.count disk.old) (D.count disk.new)) }
     ensures never_falls { D.count disk.old ≤ D.count disk.new }
 {
     write_and_sync(disk, file, gate, &[byte])
@@ -157,7 +157,7 @@ pub(crate) fn write_and_sync<D: Disk>(
     ensures others { IsTrue D.tells → (n : ℕ) → n ≢ file → D.told disk.new n ≡ D.told disk.old n }
     ensures calls { OnOk result (D.power disk.new ≡ after_calls 2 (D.power disk.old)) }
     ensures plans { SamePlans (D.power disk.old) (D.power disk.new) }
-    ensures rises { OnErr result (Rose (D.count disk.old) (D.count disk.new)) }
+    ensures rises { OnErr result (Increased (D.count disk.old) (D.count disk.new)) }
     ensures never_falls { D.count disk.old ≤ D.count disk.new }
 {
     disk.write_at(file, at, bytes)?;

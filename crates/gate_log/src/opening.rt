@@ -1,12 +1,12 @@
 //! Opening a log and reading its batches.
 ghost use Rattle.std.specs.Prelude.{◌≡◌, ◌≢◌, ◌⊎◌, ◌+◌, ◌-◌, ◌<◌, ◌≤◌, ℕ, [], ◌∷◌, IsTrue, length, replicate, slice_index, vec_len, IfOk, OnOk, OnErr};
-ghost use Rattle.volt_disk.specs.Faults.{Rose};
+ghost use Rattle.volt_base.specs.Faults.{Increased};
 ghost use Rattle.volt_disk.specs.File.{seen, settled, IsImage};
 ghost use Rattle.volt_disk.specs.Effects.{overwritten, write_asked, after_write, synced, FailsAs};
 ghost use Rattle.volt_disk.specs.declared.disk.LogFault.{LogFault};
 ghost use Rattle.volt_disk.specs.declared.listing.Listing.TheVariants.{Kept};
 ghost use Rattle.gate_log.specs.Batches.{batches, open_gate};
-ghost use Rattle.gate_log.specs.Log.{IsFound, IsCleared, IsReady, EachImage, KeepsFront, HoldsAlways, after_calls, SamePlans};
+ghost use Rattle.gate_log.specs.Log.{IsFound, IsCleared, IsReady, EachImage, KeepsPrefix, HoldsAlways, after_calls, SamePlans};
 
 use crate::log::{GateLog, OPEN, write_and_sync, write_gate};
 use crate::reading::{bodies_of, len_of_batches};
@@ -37,7 +37,7 @@ impl GateLog {
 
         ensures others { IsTrue D.tells → (n : ℕ) → n ≢ file → D.told disk.new n ≡ D.told disk.old n }
         ensures plans { SamePlans (D.power disk.old) (D.power disk.new) }
-        ensures rises { result ≡ Err LogFault.DiskFailed → Rose (D.count disk.old) (D.count disk.new) }
+        ensures rises { result ≡ Err LogFault.DiskFailed → Increased (D.count disk.old) (D.count disk.new) }
         ensures never_falls { D.count disk.old ≤ D.count disk.new }
     {
         disk.sync(file)?;
@@ -58,7 +58,7 @@ impl GateLog {
         ensures same { IsTrue D.tells → (n : ℕ) → D.told disk.new n ≡ D.told disk.old n }
 
         ensures plans { SamePlans (D.power disk.old) (D.power disk.new) }
-        ensures rises { result ≡ Err LogFault.DiskFailed → Rose (D.count disk.old) (D.count disk.new) }
+        ensures rises { result ≡ Err LogFault.DiskFailed → Increased (D.count disk.old) (D.count disk.new) }
         ensures never_falls { D.count disk.old ≤ D.count disk.new }
     {
         let bytes = read_file(alloc, disk, file)?;
@@ -72,7 +72,7 @@ fn read_file<D: Disk>(alloc: Global, disk: &mut D, file: u64) -> Result<Vec<u8>,
     ensures same { IsTrue D.tells → (n : ℕ) → D.told disk.new n ≡ D.told disk.old n }
 
     ensures plans { SamePlans (D.power disk.old) (D.power disk.new) }
-    ensures rises { result ≡ Err LogFault.DiskFailed → Rose (D.count disk.old) (D.count disk.new) }
+    ensures rises { result ≡ Err LogFault.DiskFailed → Increased (D.count disk.old) (D.count disk.new) }
     ensures never_falls { D.count disk.old ≤ D.count disk.new }
 {
     let size = disk.size(file)?;
@@ -98,7 +98,7 @@ fn clear_rest<D: Disk>(
 
     ensures others { IsTrue D.tells → (n : ℕ) → n ≢ file → D.told disk.new n ≡ D.told disk.old n }
     ensures plans { SamePlans (D.power disk.old) (D.power disk.new) }
-    ensures rises { result ≡ Err LogFault.DiskFailed → Rose (D.count disk.old) (D.count disk.new) }
+    ensures rises { result ≡ Err LogFault.DiskFailed → Increased (D.count disk.old) (D.count disk.new) }
     ensures never_falls { D.count disk.old ≤ D.count disk.new }
 {
     if end == bytes.len() {
@@ -123,7 +123,7 @@ fn close_gate<D: Disk>(disk: &mut D, file: u64, gate: usize, bytes: &[u8]) -> Re
 
     ensures others { IsTrue D.tells → (n : ℕ) → n ≢ file → D.told disk.new n ≡ D.told disk.old n }
     ensures plans { SamePlans (D.power disk.old) (D.power disk.new) }
-    ensures rises { OnErr result (Rose (D.count disk.old) (D.count disk.new)) }
+    ensures rises { OnErr result (Increased (D.count disk.old) (D.count disk.new)) }
     ensures never_falls { D.count disk.old ≤ D.count disk.new }
 {
     if bytes[gate] == OPEN {

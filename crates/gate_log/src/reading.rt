@@ -1,4 +1,4 @@
-//! Batches from the front of bytes.
+//! Batches from the beginning of bytes.
 ghost use Rattle.std.specs.Prelude.{◌≡◌, option_map, IfOk};
 ghost use Rattle.volt_base.specs.Reading.{body_at};
 ghost use Rattle.gate_log.specs.Batches.{first_batch, batches};
@@ -16,15 +16,15 @@ fn body_of(bytes: &[u8]) -> Option<(&[u8], &[u8])>
     if bytes.len() < 4 {
         return None;
     }
-    let (front, rest) = bytes.split_at(4);
-    let len = u32::from_be_bytes([front[0], front[1], front[2], front[3]]) as usize;
+    let (prefix, rest) = bytes.split_at(4);
+    let len = u32::from_be_bytes([prefix[0], prefix[1], prefix[2], prefix[3]]) as usize;
     if rest.len() < len {
         return None;
     }
     Some(rest.split_at(len))
 }
 
-// The body of the batch at the front of the bytes, and the bytes after it.
+// The body of the batch at the beginning of the bytes, and the bytes after it.
 fn next_batch(bytes: &[u8]) -> Option<(&[u8], &[u8])>
     ensures { option_map (λ x. (x.0.now, x.1.now)) result ≡ first_batch bytes.now }
 {
@@ -34,7 +34,7 @@ fn next_batch(bytes: &[u8]) -> Option<(&[u8], &[u8])>
     }
 }
 
-/// How many bytes the batches take at the front of the bytes.
+/// How many bytes the batches take at the beginning of the bytes.
 pub fn len_of_batches(bytes: &[u8]) -> usize
     ensures { IsFound result bytes.now }
 {
@@ -45,7 +45,7 @@ pub fn len_of_batches(bytes: &[u8]) -> usize
     bytes.len() - rest.len()
 }
 
-/// The bodies of the batches at the front of the bytes.
+/// The bodies of the batches at the beginning of the bytes.
 pub fn bodies_of(alloc: Global, bytes: &[u8]) -> Result<Vec<Bytes>, AllocError>
     ensures { IfOk result (λ bodies. bodies.items ≡ batches bytes.now) }
 {

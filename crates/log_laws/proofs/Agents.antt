@@ -6,5 +6,5 @@ pub mod Views
 pub mod Admits
 pub mod AgentTurns
 pub mod AgentWords
-pub mod AgentRows
+pub mod AgentHandlers
 pub mod AgentEvents

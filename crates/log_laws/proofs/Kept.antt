@@ -6,8 +6,8 @@ pub mod Keeps
 pub mod KeepsViews
 pub mod Plumbing
 pub mod Grown
-pub mod Quiet
-pub mod QuietTurns
+pub mod Inert
+pub mod InertTurns
 pub mod Asked
 pub mod Steady
 pub mod OneSite

@@ -1,5 +1,5 @@
 -- Lists, logs and copies, apart from the world.
-pub mod Fronts
+pub mod Prefixes
 pub mod Lines
 pub mod Copies
 pub mod Least

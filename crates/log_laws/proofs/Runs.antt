@@ -2,7 +2,7 @@
 pub mod Boots
 pub mod Frames
 pub mod Others
-pub mod SiteRows
+pub mod SiteHandlers
 pub mod SiteTurns
 pub mod SiteEvents
 pub mod Agreeing

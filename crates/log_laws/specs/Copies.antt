@@ -4,10 +4,10 @@ use Rattle.volt_base.specs.declared.entry.Entry.{Entry}
 use Rattle.cluster_model.specs.Words.{is_host, part_of_slot}
 use Rattle.cluster_model.specs.AgentState.{new_agent}
 use Rattle.cluster_model.specs.SiteState.{Joining, site_term, is_member_site, leads}
-use Rattle.cluster_model.specs.World.{World, Lead}
+use Rattle.cluster_model.specs.World.{World, AuthoritativeLog}
 use Rattle.word_laws.specs.Histories as word
 use Rattle.word_laws.specs.Chain.{state_of}
-use Rattle.log_laws.specs.Histories.{Front, Reign, Logs, LogState, Holds}
+use Rattle.log_laws.specs.Histories.{Prefix, Leadership, Logs, LogState, Holds}
 
 -- ---- copies of a partition
 
@@ -35,9 +35,9 @@ pub record Leads (w : World) (l : ℕ) : Type 0 where
 abbrev pub HasLoaded : World → ℕ → Type 0
 HasLoaded w c = (j : Joining) × ((w.sites c).joining ≡ Some j) × (j.is_loaded ≡ true)
 
--- The log of slot c is at the front of that of slot l, and holds all entries that l counts firm.
+-- The log of slot c is a prefix of that of slot l, and holds all entries that l counts firm.
 pub record Follows (w : World) (c l : ℕ) : Type 0 where
-  pub front : Front (log_of w c) (log_of w l)
+  pub prefix : Prefix (log_of w c) (log_of w l)
   pub firm : (w.sites l).firm ≤ length (log_of w c)
 
 -- Two sites of one partition, one in a world and one in another, lead there, and the term of the second isn't lower.
@@ -47,27 +47,27 @@ pub record LeadsNext (v w : World) (l m : ℕ) : Type 0 where
   pub part : part_of_slot v.deployment l ≡ part_of_slot w.deployment m
   pub term : site_term (v.sites l) ≤ site_term (w.sites m)
 
--- ---- the lead of a partition, which the world keeps: the log of its leader of the greatest term, and the most that leaders counted firm
+-- ---- the authoritative log of a partition, which the world keeps: the log of its leader of the greatest term, and the most that leaders counted firm
 
 -- that of a slot's partition
-abbrev pub lead_for : World → ℕ → Lead
-lead_for w c = w.lead_of (part_of_slot w.deployment c)
+abbrev pub authoritative_for : World → ℕ → AuthoritativeLog
+authoritative_for w c = w.authoritative (part_of_slot w.deployment c)
 
--- The entries that are firm in the lead of a partition are in its log. In another world, which comes later, they are firm still, and at
--- the front of the lead's log. The lead's term is no lower there.
+-- The entries that are firm in the authoritative log of a partition are in its log. In another world, which comes later, they are firm still, and at
+-- a prefix of the authoritative log. The authoritative log's term is no lower there.
 pub record KeepsFirm (v w : World) (p : ℕ) : Type 0 where
-  pub within : (v.lead_of p).firm ≤ length (v.lead_of p).log
-  pub kept : Front (take (v.lead_of p).firm (v.lead_of p).log) (w.lead_of p).log
-  pub more : (v.lead_of p).firm ≤ (w.lead_of p).firm
-  pub term : (v.lead_of p).term ≤ (w.lead_of p).term
+  pub within : (v.authoritative p).firm ≤ length (v.authoritative p).log
+  pub kept : Prefix (take (v.authoritative p).firm (v.authoritative p).log) (w.authoritative p).log
+  pub more : (v.authoritative p).firm ≤ (w.authoritative p).firm
+  pub term : (v.authoritative p).term ≤ (w.authoritative p).term
 
 -- Of the site of a slot that leads, in whatever term: that of its partition's lead is no lower, and if it is the same, so are the logs.
--- The entries that the site counts firm are firm in the lead, and at the front of its log.
-pub record IsInLead (w : World) (l : ℕ) : Type 0 where
-  pub term : site_term (w.sites l) ≤ (lead_for w l).term
-  pub same : site_term (w.sites l) ≡ (lead_for w l).term → log_of w l ≡ (lead_for w l).log
-  pub counted : (w.sites l).firm ≤ (lead_for w l).firm
-  pub front : Front (take (w.sites l).firm (log_of w l)) (lead_for w l).log
+-- The entries that the site counts firm are firm in the authoritative log, and a prefix of its log.
+pub record IsInAuthoritative (w : World) (l : ℕ) : Type 0 where
+  pub term : site_term (w.sites l) ≤ (authoritative_for w l).term
+  pub same : site_term (w.sites l) ≡ (authoritative_for w l).term → log_of w l ≡ (authoritative_for w l).log
+  pub counted : (w.sites l).firm ≤ (authoritative_for w l).firm
+  pub prefix : Prefix (take (w.sites l).firm (log_of w l)) (authoritative_for w l).log
 
 -- ---- histories
 
@@ -80,18 +80,18 @@ log_state w owner history logs = record {
   logs = logs;
 }
 
--- What the history says of the lead of a partition: it is of the greatest term that was led, with the log of that as it stands. What
+-- What the history says of the authoritative log of a partition: it is of the greatest term that was led, with the log of that as it stands. What
 -- is firm in it was taken to be everywhere in a term that was led.
-pub record LeadOk (G : Logs) (p : ℕ) (l : Lead) : Type 0 where
-  pub reign : Reign
-  pub led : G.reign p l.term ≡ Some reign
-  pub log : l.log ≡ reign.log
-  pub greatest : (t : ℕ) (g : Reign) → G.reign p t ≡ Some g → t ≤ l.term
-  pub firm : (t : ℕ) × (g : Reign) × (G.reign p t ≡ Some g) × (l.firm ≤ G.reach p t)
+pub record AuthoritativeOk (G : Logs) (p : ℕ) (l : AuthoritativeLog) : Type 0 where
+  pub leadership : Leadership
+  pub led : G.leadership p l.term ≡ Some leadership
+  pub log : l.log ≡ leadership.log
+  pub greatest : (t : ℕ) (g : Leadership) → G.leadership p t ≡ Some g → t ≤ l.term
+  pub firm : (t : ℕ) × (g : Leadership) × (G.leadership p t ≡ Some g) × (l.firm ≤ G.reach p t)
 
 -- what a leader counts firm is firm in its partition's lead
 abbrev pub CountedIn : World → Type 0
-CountedIn w = (i : ℕ) → is_member_site (w.sites i) ≡ true → leads w.deployment i (w.sites i) ≡ true → (w.sites i).firm ≤ (lead_for w i).firm
+CountedIn w = (i : ℕ) → is_member_site (w.sites i) ≡ true → leads w.deployment i (w.sites i) ≡ true → (w.sites i).firm ≤ (authoritative_for w i).firm
 
 -- A history of the epoch that the world is in, of which all holds. The agents of hosts that aren't there never run.
 pub record HasLogs (w : World) : Type 0 where
@@ -99,6 +99,6 @@ pub record HasLogs (w : World) : Type 0 where
   pub history : word.History
   pub logs : Logs
   pub holds : Holds (log_state w owner history logs)
-  pub outsiders : (h : ℕ) → is_host w.deployment h ≡ false → w.agents h ≡ new_agent 0
-  pub lead : (p : ℕ) → LeadOk logs p (w.lead_of p)
+  pub strangers : (h : ℕ) → is_host w.deployment h ≡ false → w.agents h ≡ new_agent 0
+  pub authoritative : (p : ℕ) → AuthoritativeOk logs p (w.authoritative p)
   pub counted : CountedIn w

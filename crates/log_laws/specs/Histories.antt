@@ -18,9 +18,9 @@ use Rattle.word_laws.specs.Histories.{In, State, Admitted, Distinct}
 
 -- ---- logs
 
--- a log stands at the front of another one
-abbrev pub Front : List Entry → List Entry → Type 0
-Front xs ys = (more : List Entry) × (ys ≡ xs ++ more)
+-- a log is a prefix of another one
+abbrev pub Prefix : List Entry → List Entry → Type 0
+Prefix xs ys = (more : List Entry) × (ys ≡ xs ++ more)
 
 -- ---- the history of an epoch, from the boot, or a recovery that worked, to the next one
 
@@ -34,11 +34,11 @@ pub record Entered : Type 0 where
 -- the start of a slot that took the stream of a term, and the position at which that began
 pub record Streaming : Type 0 where
   pub start : ℕ
-  pub nj : ℕ
+  pub stream_start : ℕ
 
 -- The log with which a partition's leader began a term, once it had all reports, and its log as it stands, or stood when the
 -- leader stopped or took a later term.
-pub record Reign : Type 0 where
+pub record Leadership : Type 0 where
   pub begun : List Entry
   pub log : List Entry
 
@@ -49,7 +49,7 @@ pub record Logs : Type 0 where
   pub entered : ℕ → ℕ → Option Entered
   pub streamed : ℕ → ℕ → Option Streaming
   -- by partition and term
-  pub reign : ℕ → ℕ → Option Reign
+  pub leadership : ℕ → ℕ → Option Leadership
   -- the greatest position that a copy of a partition took to be everywhere in a term: as its floor, or as firm
   pub reach : ℕ → ℕ → ℕ
 
@@ -100,14 +100,14 @@ pub record WordOf (S : LogState) (t : ℕ) (w : Membership) : Type 0 where
 
 -- the last term below t in which the partition had a leader with what its term began with
 pub record Last (G : Logs) (p v t : ℕ) : Type 0 where
-  pub reign : Reign
-  pub led : G.reign p v ≡ Some reign
+  pub leadership : Leadership
+  pub led : G.leadership p v ≡ Some leadership
   pub below : v < t
-  pub greatest : (x : ℕ) (g : Reign) → G.reign p x ≡ Some g → x < t → x ≤ v
+  pub greatest : (x : ℕ) (g : Leadership) → G.leadership p x ≡ Some g → x < t → x ≤ v
 
 -- in no term from v on, below t, did it have one
 abbrev pub Unled : Logs → ℕ → ℕ → ℕ → Type 0
-Unled G p v t = (x : ℕ) (g : Reign) → G.reign p x ≡ Some g → v ≤ x → x < t → ⊥
+Unled G p v t = (x : ℕ) (g : Leadership) → G.leadership p x ≡ Some g → v ≤ x → x < t → ⊥
 
 -- the start of a slot was in a term: as a member of its word, or with its stream
 abbrev pub WasIn : LogState → ℕ → ℕ → ℕ → Type 0
@@ -141,12 +141,12 @@ line start term ls = flat_map (line_of start term) ls
 
 -- to a joiner: the log whose tables are streamed, and its length as told, or one entry more
 pub data Flow : Type 0 where
-  Begins : (past : List Entry) (nj : ℕ) → Flow
+  Begins : (past : List Entry) (stream_start : ℕ) → Flow
   Follows : (entry : Entry) → Flow
 
 abbrev pub flow_in : List Entry → Msg Blocks → List Flow
 flow_in past m = elim m as (λ _. List Flow) [
-  | msg.StreamStart head ↦ Begins past head.nj ∷ []
+  | msg.StreamStart head ↦ Begins past head.stream_start ∷ []
   | msg.Task position e ↦ Follows e ∷ []
   | _ ↦ []
 ]
@@ -250,27 +250,27 @@ pub record CountedOk (S : LogState) (p t : ℕ) (j : Joiner) : Type 0 where
   pub reached : start_at S j.slot ≡ j.start → t ≤ term_at S j.slot
   -- once it is a copy, what it acknowledged was in the log with which it entered a term
   pub later : (x : Streaming) → S.logs.streamed j.slot t ≡ Some x → x.start ≡ j.start
-      → (u : ℕ) (e : Entered) → t < u → S.logs.entered j.slot u ≡ Some e → e.start ≡ j.start → j.position ≤ max j.nj (length e.log)
-  pub position : start_at S j.slot ≡ j.start → (S.sites j.slot).earlier < t → j.position ≤ max j.nj (length (log_at S j.slot))
+      → (u : ℕ) (e : Entered) → t < u → S.logs.entered j.slot u ≡ Some e → e.start ≡ j.start → j.position ≤ max j.stream_start (length e.log)
+  pub position : start_at S j.slot ≡ j.start → (S.sites j.slot).earlier < t → j.position ≤ max j.stream_start (length (log_at S j.slot))
 
 -- The leader of this word, while it is in its term, counts this start of a slot, from this position on.
 abbrev pub IsCounted : LogState → ℕ → ℕ → ℕ → Membership → Type 0
-IsCounted S c a nj w =
+IsCounted S c a stream_start w =
     (l : ℕ) → leader S.words.deployment w (part S c) ≡ Some l → 0 < start_at S l → (S.sites l).joining ≡ None → (S.sites l).view ≡ Some w
-    → (j : Joiner) × In j (S.sites l).joiners × (j.slot ≡ c) × (j.start ≡ a) × (j.nj ≡ nj)
+    → (j : Joiner) × In j (S.sites l).joiners × (j.slot ≡ c) × (j.start ≡ a) × (j.stream_start ≡ stream_start)
 
 -- The position at which a stream begins: it isn't told yet that this is everywhere.
 abbrev pub BeginsAt : ℕ → Flow → Type 0
-BeginsAt n (Begins past nj) = nj ≡ n
+BeginsAt n (Begins past stream_start) = stream_start ≡ n
 BeginsAt n (Follows e) = Unit {0}
 
 -- To slot c from slot i: the stream of this start is whole, and it began at a position that is everywhere.
 pub record EndOk (S : LogState) (i c : ℕ) (l : Letter) : Type 0 where
-  pub nj : ℕ
-  pub everywhere : nj ≤ S.logs.reach (part S c) l.term
+  pub stream_start : ℕ
+  pub everywhere : stream_start ≤ S.logs.reach (part S c) l.term
   pub begun : (j : Joining) → (S.sites c).joining ≡ Some j → start_at S c ≡ l.start → term_at S c ≡ l.term → (S.sites c).earlier < l.term
-      → AllByRecursion (BeginsAt nj) (flow l.start l.term (between S i c))
-  pub taken : start_at S c ≡ l.start → term_at S c ≡ l.term → (x : Streaming) → S.logs.streamed c l.term ≡ Some x → x.start ≡ l.start → x.nj ≡ nj
+      → AllByRecursion (BeginsAt stream_start) (flow l.start l.term (between S i c))
+  pub taken : start_at S c ≡ l.start → term_at S c ≡ l.term → (x : Streaming) → S.logs.streamed c l.term ≡ Some x → x.start ≡ l.start → x.stream_start ≡ stream_start
 
 -- for a start and of a term
 abbrev pub Addressed : Letter → Type 0
@@ -303,14 +303,14 @@ follows D w c l = is_some_of (leader D w (part_of_slot D c)) l && not (l == c)
 
 -- Of a copy, with what is under way to it from its leader: before the leader began its term nothing is. Then the copy is
 -- repaired, and lacks what is under way; or its repair is under way, and then the rest.
-abbrev pub FollowsIn : SiteState → List Line → Option Reign → Type 0
+abbrev pub FollowsIn : SiteState → List Line → Option Leadership → Type 0
 FollowsIn s ln None = (s.repaired ≡ false) × (ln ≡ [])
 FollowsIn s ln (Some g) =
-    ((es : List Entry) × (s.repaired ≡ true) × (ln ≡ map Puts es) × (s.log ++ es ≡ g.log) × Front g.begun s.log)
+    ((es : List Entry) × (s.repaired ≡ true) × (ln ≡ map Puts es) × (s.log ++ es ≡ g.log) × Prefix g.begun s.log)
     ⊎ ((es : List Entry) × (s.repaired ≡ false) × (ln ≡ Repairs (length s.log) (drop (length s.log) g.begun) ∷ map Puts es) × (g.begun ++ es ≡ g.log))
 
 -- of the leader itself
-abbrev pub LeadsIn : SiteState → Option Reign → Type 0
+abbrev pub LeadsIn : SiteState → Option Leadership → Type 0
 LeadsIn s None = s.repaired ≡ false
 LeadsIn s (Some g) = (s.repaired ≡ true) × (s.log ≡ g.log)
 
@@ -323,45 +323,45 @@ pub record MemberOk (S : LogState) (c : ℕ) (w : Membership) : Type 0 where
   pub is_entered : S.logs.entered c (term_of w) ≡ Some entered
   pub since : entered.start ≡ start_at S c
   pub earlier : (S.sites c).earlier ≤ term_of w
-  pub grown : Front entered.log (log_at S c)
+  pub grown : Prefix entered.log (log_at S c)
   pub still : (S.sites c).repaired ≡ false → (log_at S c ≡ entered.log) × ((S.sites c).floor ≡ entered.floor) × ((S.sites c).firm ≡ entered.firm)
   pub floor : (S.sites c).floor ≤ S.logs.reach (part S c) (term_of w)
   pub firm : (S.sites c).firm ≤ S.logs.reach (part S c) (term_of w)
-  pub leading : leader S.words.deployment w (part S c) ≡ Some c → LeadsIn (S.sites c) (S.logs.reign (part S c) (term_of w))
+  pub leading : leader S.words.deployment w (part S c) ≡ Some c → LeadsIn (S.sites c) (S.logs.leadership (part S c) (term_of w))
   pub following : (l : ℕ) → follows S.words.deployment w c l ≡ true
-      → FollowsIn (S.sites c) (line (start_at S c) (term_of w) (between S l c)) (S.logs.reign (part S c) (term_of w))
+      → FollowsIn (S.sites c) (line (start_at S c) (term_of w) (between S l c)) (S.logs.leadership (part S c) (term_of w))
   pub others : (l : ℕ) → follows S.words.deployment w c l ≡ false → line (start_at S c) (term_of w) (between S l c) ≡ []
 
 -- A stream is under way to a joiner: the log that it begins with, and the entries behind that.
 pub record Coming (S : LogState) (c : ℕ) (w : Membership) (fl : List Flow) : Type 0 where
   pub past : List Entry
   pub more : List Entry
-  pub reign : Reign
+  pub leadership : Leadership
   pub flow_is : fl ≡ Begins past (length past) ∷ map Follows more
-  pub led : S.logs.reign (part S c) (term_of w) ≡ Some reign
-  pub whole : past ++ more ≡ reign.log
-  pub behind : length reign.begun ≤ length past
+  pub led : S.logs.leadership (part S c) (term_of w) ≡ Some leadership
+  pub whole : past ++ more ≡ leadership.log
+  pub behind : length leadership.begun ≤ length past
   pub reach : S.logs.reach (part S c) (term_of w) ≤ length past
   pub counted : IsCounted S c (start_at S c) (length past) w
 
 -- A joiner has taken its stream.
-pub record Took (S : LogState) (c : ℕ) (w : Membership) (j : Joining) (nj : ℕ) : Type 0 where
+pub record Took (S : LogState) (c : ℕ) (w : Membership) (j : Joining) (stream_start : ℕ) : Type 0 where
   pub from : ℕ
   pub following : follows S.words.deployment w c from ≡ true
   pub more : List Entry
-  pub reign : Reign
-  pub led : S.logs.reign (part S c) (term_of w) ≡ Some reign
+  pub leadership : Leadership
+  pub led : S.logs.leadership (part S c) (term_of w) ≡ Some leadership
   pub flow_is : flow (start_at S c) (term_of w) (between S from c) ≡ map Follows more
-  pub whole : log_at S c ++ j.tasks ++ more ≡ reign.log
-  pub streamed : S.logs.streamed c (term_of w) ≡ Some (record { start = start_at S c; nj = nj })
-  pub loading : j.is_loaded ≡ false → length (log_at S c) ≡ nj
+  pub whole : log_at S c ++ j.tasks ++ more ≡ leadership.log
+  pub streamed : S.logs.streamed c (term_of w) ≡ Some (record { start = start_at S c; stream_start = stream_start })
+  pub loading : j.is_loaded ≡ false → length (log_at S c) ≡ stream_start
   pub loaded : j.is_loaded ≡ true → j.tasks ≡ []
-  pub ends : j.is_loaded ≡ true ⊎ is_some j.count ≡ true → nj ≤ S.logs.reach (part S c) (term_of w)
-  pub floor : (S.sites c).floor ≡ nj
+  pub ends : j.is_loaded ≡ true ⊎ is_some j.count ≡ true → stream_start ≤ S.logs.reach (part S c) (term_of w)
+  pub floor : (S.sites c).floor ≡ stream_start
   pub asks : (l : ℕ) → IsSlot S l → asked S c l (term_of w) ≡ []
 
 -- Nothing is under way to a joiner from its leader, which doesn't count it. It may have asked.
-pub record Quiet (S : LogState) (c : ℕ) (w : Membership) (l : ℕ) : Type 0 where
+pub record Inert (S : LogState) (c : ℕ) (w : Membership) (l : ℕ) : Type 0 where
   pub flow_is : flow (start_at S c) (term_of w) (between S l c) ≡ []
   pub ends_are : ends (start_at S c) (term_of w) (between S l c) ≡ []
   pub uncounted : (j : Joiner) → In j (S.sites l).joiners → j.slot ≡ c → j.start ≡ start_at S c → ⊥
@@ -380,11 +380,11 @@ pub record Untaken (S : LogState) (c : ℕ) (w : Membership) (j : Joining) : Typ
   pub floor : (S.sites c).floor ≡ 0
   pub never : NoStream S c
   pub comes : (l : ℕ) → follows S.words.deployment w c l ≡ true → (S.sites c).earlier < term_of w
-      → Quiet S c w l ⊎ (Coming S c w (flow (start_at S c) (term_of w) (between S l c)) × (asked S c l (term_of w) ≡ []))
+      → Inert S c w l ⊎ (Coming S c w (flow (start_at S c) (term_of w) (between S l c)) × (asked S c l (term_of w) ≡ []))
 
 abbrev pub StreamIn : LogState → ℕ → Membership → Joining → Option Streamed → Type 0
 StreamIn S c w j None = Untaken S c w j
-StreamIn S c w j (Some st) = Took S c w j st.nj
+StreamIn S c w j (Some st) = Took S c w j st.stream_start
 
 -- Of a joiner with the word that it took.
 pub record InWord (S : LogState) (c : ℕ) (w : Membership) (j : Joining) : Type 0 where
@@ -463,7 +463,7 @@ pub record KeepsOk (S : LogState) (c : ℕ) : Type 0 where
   pub held : AllByRecursion HeldOk (S.sites c).held
 
 pub record SiteOk (S : LogState) (c : ℕ) : Type 0 where
-  pub outside : nat_lt c (slots S.words.deployment) ≡ false → start_at S c ≡ 0
+  pub environment : nat_lt c (slots S.words.deployment) ≡ false → start_at S c ≡ 0
   pub ran : 0 < start_at S c → (before : List ℕ) × (S.logs.ran c ≡ start_at S c ∷ before)
   pub term : term_at S c ≤ (S.sites c).greatest
   pub earlier : (S.sites c).earlier ≤ (S.sites c).greatest
@@ -609,7 +609,7 @@ Came S c t a =
 abbrev pub known : Entered → ℕ
 known e = max e.floor e.firm
 
--- Of a slot that entered a term. Its log stood at the front of that of the last leader before, and what it took to be everywhere
+-- Of a slot that entered a term. Its log was a prefix of that of the last leader before, and what it took to be everywhere
 -- was so in that leader's term. It was the same in the terms since, in which nobody led.
 pub record EnteredOk (S : LogState) (c t : ℕ) (e : Entered) : Type 0 where
   pub slot : IsSlot S c
@@ -619,11 +619,11 @@ pub record EnteredOk (S : LogState) (c t : ℕ) (e : Entered) : Type 0 where
   pub been : HasBeen S c t e.start
   pub came : Came S c t e.start
   pub reach : known e ≤ S.logs.reach (part S c) t
-  pub behind : (v : ℕ) (l : Last S.logs (part S c) v t) → Front e.log l.reign.log × (known e ≤ S.logs.reach (part S c) v)
+  pub behind : (v : ℕ) (l : Last S.logs (part S c) v t) → Prefix e.log l.leadership.log × (known e ≤ S.logs.reach (part S c) v)
   pub still : (v : ℕ) (f : Entered) → v < t → S.logs.entered c v ≡ Some f → f.start ≡ e.start → Unled S.logs (part S c) v t
       → (e.log ≡ f.log) × (known e ≡ known f)
   -- All that was taken to be everywhere in an earlier term that was led was in its log.
-  pub since : (v : ℕ) (g : Reign) → S.logs.reign (part S c) v ≡ Some g → v < t → S.logs.reach (part S c) v ≤ length e.log
+  pub since : (v : ℕ) (g : Leadership) → S.logs.leadership (part S c) v ≡ Some g → v < t → S.logs.reach (part S c) v ≤ length e.log
   pub running : start_at S c ≡ e.start
       → ((S.sites c).joining ≡ None) × (t ≤ term_at S c) × (S.logs.reach (part S c) t ≤ length (log_at S c))
 
@@ -633,25 +633,25 @@ pub record StreamedOk (S : LogState) (c t : ℕ) (x : Streaming) : Type 0 where
   pub took : S.words.history.took x.start ≡ Some word
   pub term_is : term_of word ≡ t
   pub apart : S.logs.entered c t ≡ None
-  pub later : (u : ℕ) (e : Entered) → S.logs.entered c u ≡ Some e → e.start ≡ x.start → (t < u) × (x.nj ≤ length e.log)
-  pub reign : Reign
-  pub led : S.logs.reign (part S c) t ≡ Some reign
-  pub behind : length reign.begun ≤ x.nj
+  pub later : (u : ℕ) (e : Entered) → S.logs.entered c u ≡ Some e → e.start ≡ x.start → (t < u) × (x.stream_start ≤ length e.log)
+  pub leadership : Leadership
+  pub led : S.logs.leadership (part S c) t ≡ Some leadership
+  pub behind : length leadership.begun ≤ x.stream_start
   pub been : HasBeen S c t x.start
   pub running : start_at S c ≡ x.start
-      → ((S.sites c).earlier < t) × (t ≤ term_at S c) × (S.logs.reach (part S c) t ≤ length (log_at S c)) × (x.nj ≤ length (log_at S c))
+      → ((S.sites c).earlier < t) × (t ≤ term_at S c) × (S.logs.reach (part S c) t ≤ length (log_at S c)) × (x.stream_start ≤ length (log_at S c))
   -- The leader counts it for the whole of its term, whether it still runs or not.
-  pub counted : IsCounted S c x.start x.nj word
+  pub counted : IsCounted S c x.start x.stream_start word
 
--- Of a term that a leader began: all copies had entered it, each with a log at the front of the one that it began with.
-pub record ReignOk (S : LogState) (p t : ℕ) (g : Reign) : Type 0 where
+-- Of a term that a leader began: all copies had entered it, each with a log at the beginning of the one that it began with.
+pub record LeadershipOk (S : LogState) (p t : ℕ) (g : Leadership) : Type 0 where
   pub word : Membership
   pub is_word : WordOf S t word
-  pub grown : Front g.begun g.log
+  pub grown : Prefix g.begun g.log
   -- what was taken to be everywhere in it is in its log
   pub within : S.logs.reach p t ≤ length g.log
   pub entered : (c a : ℕ) → IsSlot S c → part S c ≡ p → start_of_slot S.words.deployment word c ≡ Some a
-      → (e : Entered) × (S.logs.entered c t ≡ Some e) × (e.start ≡ a) × Front e.log g.begun
+      → (e : Entered) × (S.logs.entered c t ≡ Some e) × (e.start ≡ a) × Prefix e.log g.begun
   -- but for the first term, it is the log of a copy that entered it
   pub begun_by : base_of S < t → (c : ℕ) × (e : Entered) × IsSlot S c × (part S c ≡ p) × (S.logs.entered c t ≡ Some e) × (e.log ≡ g.begun)
 
@@ -671,7 +671,7 @@ pub record Holds (S : LogState) : Type 0 where
   pub loads : LoadsOk S
   pub entered : (c t : ℕ) (e : Entered) → S.logs.entered c t ≡ Some e → EnteredOk S c t e
   pub streamed : (c t : ℕ) (x : Streaming) → S.logs.streamed c t ≡ Some x → StreamedOk S c t x
-  pub reigns : (p t : ℕ) (g : Reign) → S.logs.reign p t ≡ Some g → ReignOk S p t g
-  pub unled : (p t : ℕ) → S.logs.reign p t ≡ None → UnledOk S p t
+  pub leaderships : (p t : ℕ) (g : Leadership) → S.logs.leadership p t ≡ Some g → LeadershipOk S p t g
+  pub unled : (p t : ℕ) → S.logs.leadership p t ≡ None → UnledOk S p t
   pub some : 0 < base_of S
-  pub first : (p : ℕ) → (g : Reign) × (S.logs.reign p (base_of S) ≡ Some g)
+  pub first : (p : ℕ) → (g : Leadership) × (S.logs.leadership p (base_of S) ≡ Some g)

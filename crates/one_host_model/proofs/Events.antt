@@ -7,7 +7,7 @@ use Rattle.volt_wire.specs.declared.actor.Actor.TheVariants.{Director, Client, A
 use Rattle.volt_wire.specs.declared.event.Event.{Event}
 use Rattle.volt_wire.specs.declared.event.Event.TheVariants.{Deliver, Sync, Submit}
 use Rattle.one_host_model.specs.World.{World, can}
-use Rattle.one_host_model.specs.Runs.{actors, is_one_of_them, is_event_of_them, events, enabled, IsQuiet}
+use Rattle.one_host_model.specs.Runs.{actors, is_one_of_them, is_event_of_them, events, enabled, IsQuiescent}
 
 -- ---- what holds of each element of a list that is put together
 
@@ -64,8 +64,8 @@ filter_keeps_nothing test (x ∷ xs) e =
     ]
 
 -- where only these events may happen, and none of them may, none may at all
-pub IsQuiet-enabled : (w : World) → ((e : Event) → can w e ≡ true → is_event_of_them e ≡ true) → enabled w ≡ [] → IsQuiet w
-IsQuiet-enabled w only none e =
+pub IsQuiescent-enabled : (w : World) → ((e : Event) → can w e ≡ true → is_event_of_them e ≡ true) → enabled w ≡ [] → IsQuiescent w
+IsQuiescent-enabled w only none e =
     elim (cases_Bool (can w e)) [
       | inl t ↦ each_event (λ x. can w x ≡ false) (filter_keeps_nothing (can w) events none) e (only e t)
       | inr f ↦ f

@@ -58,8 +58,8 @@ TakesFirst S [] w = Unit {0}
 TakesFirst S (e ∷ es) w = (head (enabled w) ≡ Some e) × TakesFirst S es (step S w e)
 
 -- no event may happen
-abbrev pub IsQuiet : World → Type 0
-IsQuiet w = (e : Event) → can w e ≡ false
+abbrev pub IsQuiescent : World → Type 0
+IsQuiescent w = (e : Event) → can w e ≡ false
 
 -- some agent runs as a member, and each partition has a copy. On one host that is its agent, and no start of it is lost.
 abbrev pub serves : World → Bool

@@ -1,4 +1,4 @@
 pub mod Laws
-pub mod Rows
-pub mod SiteRows
+pub mod Handlers
+pub mod SiteHandlers
 pub mod Worlds

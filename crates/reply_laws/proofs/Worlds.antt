@@ -16,26 +16,26 @@ use Rattle.cluster_model.specs.Words.{Deployment, slots, part_of_slot, is_some_o
 use Rattle.cluster_model.specs.Letters.{same, Letter, Turn}
 use Rattle.cluster_model.specs.SiteState.{SiteState, Streamed, is_joiner, leader_in, leads, no_site, member_site}
 use Rattle.cluster_model.specs.Sync.{may_sync, site_turn, sync_turn}
-use Rattle.cluster_model.specs.Outside.{Outside, Fair, DiskFails, NoMemory, DisksShow}
+use Rattle.cluster_model.specs.Environment.{Environment, NoFault, DiskFails, NoMemory, DisksShow}
 use Rattle.cluster_model.specs.World.{World, Input, first_world, stamp_of, set_at, took, sent, rest, new_word, start_from}
 use Rattle.cluster_model.specs.Recover.{new_base, new_log, new_site, starts_anew}
 use Rattle.cluster_model.specs.Events.{can, allows, delivered, recovered_with, happens, step}
 use Rattle.cluster_model.specs.Runs.{Happening, IsRun, has_failed, may_happen, run}
 use Rattle.word_laws.proofs.Lists.{all-append, all-mono, all-if, all-rest, none-and-some, set-here, set-both}
-use Rattle.log_laws.specs.Histories.{LogState, Front, StreamIn, ViewIn, WaitingOk, log_at}
+use Rattle.log_laws.specs.Histories.{LogState, Prefix, StreamIn, ViewIn, WaitingOk, log_at}
 use Rattle.log_laws.specs.Copies.{HasLogs, log_state}
-use Rattle.log_laws.proofs.Plain.Fronts.{front-trans, front-length, fronts-order, front-take, take-short}
+use Rattle.log_laws.proofs.Plain.Prefixes.{prefix-trans, prefix-length, prefixes-order, prefix-take, take-short}
 use Rattle.log_laws.proofs.Plain.Copies.{leads-parts}
 use Rattle.log_laws.proofs.Runs.Boots.{first-logs}
-use Rattle.log_laws.proofs.Runs.Lasting.{in-lead}
+use Rattle.log_laws.proofs.Runs.Lasting.{in-authoritative}
 use Rattle.disk_laws.specs.Survival.{Survives, firm_entries}
 use Rattle.disk_laws.proofs.Boots.{first-disks}
-use Rattle.disk_laws.proofs.Rows.{PlainWaiting, waiting-plain}
+use Rattle.disk_laws.proofs.Handlers.{PlainWaiting, waiting-plain}
 use Rattle.disk_laws.proofs.Syncs.{sync-runs}
 use Rattle.disk_laws.proofs.Worlds.{HasDisks, survives-same, run-goes}
 use Rattle.reply_laws.specs.Answers.{Claim, Stands, Tells, is_answer, HoldsAnswers, Answered, SentAnswer, TurnAnswers}
-use Rattle.reply_laws.proofs.Rows.{stands-on}
-use Rattle.reply_laws.proofs.SiteRows.{NoLog, site_turn-answers, sync_turn-answers}
+use Rattle.reply_laws.proofs.Handlers.{stands-on}
+use Rattle.reply_laws.proofs.SiteHandlers.{NoLog, site_turn-answers, sync_turn-answers}
 
 -- ---- what holds of the answers of a world
 
@@ -54,7 +54,7 @@ HasAnswers E w = AnswersOk E w.deployment w.sites w.channel (firm_entries w)
 -- ---- a log that grows
 
 -- What stands in it still does.
-answer-in : (E : Database) (p : ℕ) (xs ys : List Entry) → Front xs ys → (l : Letter) → AnswerIn E p xs l → AnswerIn E p ys l
+answer-in : (E : Database) (p : ℕ) (xs ys : List Entry) → Prefix xs ys → (l : Letter) → AnswerIn E p xs l → AnswerIn E p ys l
 answer-in E p xs ys f l k = λ a. stands-on (Tells E p l.body) xs ys f (k a)
 
 -- ---- an event
@@ -62,7 +62,7 @@ answer-in E p xs ys f l k = λ a. stands-on (Tells E p l.body) xs ys f (k a)
 -- The firm entries of each partition only grow, and of what was under way to agents some may be taken.
 moves : (E : Database) (D : Deployment) (sites : ℕ → SiteState) (ch next : Actor → Actor → List Letter) (F G : ℕ → List Entry)
     → ((P : Letter → Type 0) (i h : ℕ) → AllByRecursion P (ch (Site i) (Agent h)) → AllByRecursion P (next (Site i) (Agent h)))
-    → ((p : ℕ) → Front (F p) (G p)) → AnswersOk E D sites ch F → AnswersOk E D sites next G
+    → ((p : ℕ) → Prefix (F p) (G p)) → AnswersOk E D sites ch F → AnswersOk E D sites next G
 moves E D sites ch next F G less grown k = record {
   held = k.held;
   sent = λ i h. less (AnswerIn E (part_of_slot D i) (G (part_of_slot D i))) i h
@@ -72,22 +72,22 @@ moves E D sites ch next F G less grown k = record {
 
 -- A site sends what is in the firm entries.
 module _ (E : Database) (D : Deployment) (i : ℕ) (t : Turn SiteState) (G : ℕ → List Entry) (r : TurnAnswers E D i t)
-    (firm : leads D i t.state ≡ true → 0 < t.state.start → Front (take t.state.firm t.state.log) (G (part_of_slot D i))) where
+    (firm : leads D i t.state ≡ true → 0 < t.state.start → Prefix (take t.state.firm t.state.log) (G (part_of_slot D i))) where
   answered : (P : Claim) → Answered D i t.state P → Stands P (G (part_of_slot D i))
   answered P k =
       let here = k.stands.here in
-      let xs = here.front ++ here.entry ∷ [] in
+      let xs = here.prefix ++ here.entry ∷ [] in
       let u = t.state in
-      let n = front-length xs u.log here.stands in
+      let n = prefix-length xs u.log here.stands in
       let m = length-take u.firm u.log in
-      let len = length-append here.front (here.entry ∷ []) in
+      let len = length-append here.prefix (here.entry ∷ []) in
       let at = k.stands.at in
       let low = k.firm in
-      let within : Front xs (take u.firm u.log) = fronts-order xs (take u.firm u.log) u.log here.stands (front-take u.firm u.log) (omega (arith, n, m, len, at, low)) in
+      let within : Prefix xs (take u.firm u.log) = prefixes-order xs (take u.firm u.log) u.log here.stands (prefix-take u.firm u.log) (omega (arith, n, m, len, at, low)) in
       record {
-        front = here.front;
+        prefix = here.prefix;
         entry = here.entry;
-        stands = front-trans xs (take u.firm u.log) (G (part_of_slot D i)) within (firm k.leads k.runs);
+        stands = prefix-trans xs (take u.firm u.log) (G (part_of_slot D i)) within (firm k.leads k.runs);
         claim = here.claim;
       }
 
@@ -99,7 +99,7 @@ module _ (E : Database) (D : Deployment) (i : ℕ) (t : Turn SiteState) (G : ℕ
   InFirm j = AnswerIn E (part_of_slot D j) (G (part_of_slot D j))
 
   turned : (sites : ℕ → SiteState) (ch : Actor → Actor → List Letter) (F : ℕ → List Entry)
-      → ((p : ℕ) → Front (F p) (G p)) → AnswersOk E D sites ch F → AnswersOk E D (set_at sites i t.state) (sent ch (Site i) t.sends) G
+      → ((p : ℕ) → Prefix (F p) (G p)) → AnswersOk E D sites ch F → AnswersOk E D (set_at sites i t.state) (sent ch (Site i) t.sends) G
   turned sites ch F grown k = record {
     held = set-both (λ j s. HoldsAnswers E (part_of_slot D j) s) sites i t.state r.held (λ j n. k.held j);
     sent = λ j h. choice j h (i == j) refl;
@@ -118,33 +118,33 @@ module _ (E : Database) (D : Deployment) (i : ℕ) (t : Turn SiteState) (G : ℕ
 
 -- ---- what is firm
 
--- What is firm before an event is at the front of what is so after it.
-firm-grows : (v w : World) → HasDisks v → HasDisks w → (p : ℕ) → Survives v w p → Front (firm_entries v p) (firm_entries w p)
+-- What is firm before an event is a prefix of what is so after it.
+firm-grows : (v w : World) → HasDisks v → HasDisks w → (p : ℕ) → Survives v w p → Prefix (firm_entries v p) (firm_entries w p)
 firm-grows v w d e p f =
-    let a = length-take-le (v.lead_of p).firm (v.lead_of p).log f.within in
-    let b = length-take-le (w.lead_of p).firm (w.lead_of p).log (survives-same w e.logs p).within in
+    let a = length-take-le (v.authoritative p).firm (v.authoritative p).log f.within in
+    let b = length-take-le (w.authoritative p).firm (w.authoritative p).log (survives-same w e.logs p).within in
     let c = f.more in
-    fronts-order (firm_entries v p) (firm_entries w p) (w.lead_of p).log f.kept (front-take (w.lead_of p).firm (w.lead_of p).log) (omega (arith, a, b, c))
+    prefixes-order (firm_entries v p) (firm_entries w p) (w.authoritative p).log f.kept (prefix-take (w.authoritative p).firm (w.authoritative p).log) (omega (arith, a, b, c))
 
 -- What a leader counts firm is so in its partition.
 leader-firm : (w : World) → HasDisks w → (i : ℕ) → leads w.deployment i (w.sites i) ≡ true → 0 < (w.sites i).start
-    → Front (take (w.sites i).firm (w.sites i).log) (firm_entries w (part_of_slot w.deployment i))
-leader-firm w d i lead up =
+    → Prefix (take (w.sites i).firm (w.sites i).log) (firm_entries w (part_of_slot w.deployment i))
+leader-firm w d i authoritative up =
     let s = w.sites i in
     let p = part_of_slot w.deployment i in
-    let member = (and_parts (not (is_joiner s)) (is_some_of (leader_in w.deployment s.view p) i) (leads-parts w.deployment i s lead).0).0 in
-    let r = in-lead w d.logs i (record { runs = and_from (nat_lt 0 s.start) (not (is_joiner s)) (grind (arith, nat_tests, up)) member; leads = lead }) in
+    let member = (and_parts (not (is_joiner s)) (is_some_of (leader_in w.deployment s.view p) i) (leads-parts w.deployment i s authoritative).0).0 in
+    let r = in-authoritative w d.logs i (record { runs = and_from (nat_lt 0 s.start) (not (is_joiner s)) (grind (arith, nat_tests, up)) member; leads = authoritative }) in
     let a = take-short s.firm s.log in
-    let b = length-take-le (w.lead_of p).firm (w.lead_of p).log (survives-same w d.logs p).within in
+    let b = length-take-le (w.authoritative p).firm (w.authoritative p).log (survives-same w d.logs p).within in
     let c = r.counted in
-    fronts-order (take s.firm s.log) (firm_entries w p) (w.lead_of p).log r.front (front-take (w.lead_of p).firm (w.lead_of p).log) (omega (arith, a, b, c))
+    prefixes-order (take s.firm s.log) (firm_entries w p) (w.authoritative p).log r.prefix (prefix-take (w.authoritative p).firm (w.authoritative p).log) (omega (arith, a, b, c))
 
 -- after the turn of a site
 turn-firm : (v w : World) (i : ℕ) (t : Turn SiteState) → HasDisks w → w.sites ≡ set_at v.sites i t.state → leads w.deployment i t.state ≡ true → 0 < t.state.start
-    → Front (take t.state.firm t.state.log) (firm_entries w (part_of_slot w.deployment i))
+    → Prefix (take t.state.firm t.state.log) (firm_entries w (part_of_slot w.deployment i))
 turn-firm v w i t d sites =
     let e : w.sites i ≡ t.state = ap (λ f. f i) sites ∙ set-here v.sites i t.state in
-    subst (λ s. leads w.deployment i s ≡ true → 0 < s.start → Front (take s.firm s.log) (firm_entries w (part_of_slot w.deployment i))) e (leader-firm w d i)
+    subst (λ s. leads w.deployment i s ≡ true → 0 < s.start → Prefix (take s.firm s.log) (firm_entries w (part_of_slot w.deployment i))) e (leader-firm w d i)
 
 -- ---- what a site has that runs
 
@@ -173,9 +173,9 @@ module _ (w : World) (k : HasLogs w) (i : ℕ) where
 module _ (E : Database) (w : World) (k : HasAnswers E w) (d : HasDisks w) where
   -- with the firm entries of a later world
   abbrev Later : World → Type 0
-  Later v = (p : ℕ) → Front (firm_entries w p) (firm_entries v p)
+  Later v = (p : ℕ) → Prefix (firm_entries w p) (firm_entries v p)
 
-  to_site : (i : ℕ) (from : Actor) (ls : List Letter) (o : Outside) → let v = delivered E w (Site i) from ls o in HasDisks v → Later v → HasAnswers E v
+  to_site : (i : ℕ) (from : Actor) (ls : List Letter) (o : Environment) → let v = delivered E w (Site i) from ls o in HasDisks v → Later v → HasAnswers E v
   to_site i from [] o next grown = k
   to_site i from (l ∷ ls) o next grown =
       let v = delivered E w (Site i) from (l ∷ ls) o in
@@ -184,7 +184,7 @@ module _ (E : Database) (w : World) (k : HasAnswers E w) (d : HasDisks w) where
       (site_turn-answers E w.deployment (stamp_of w) i (w.sites i) from l o (waits-plain w d.logs i) (no-log w d.logs i) (k.held i))
       (turn-firm w v i t next refl) w.sites (took w.channel from (Site i)) (firm_entries w) grown (record { held = k.held; sent = k.sent })
 
-  to_agent : (n : ℕ) (from : Actor) (ls : List Letter) (o : Outside) → let v = delivered E w (Agent n) from ls o in Later v → HasAnswers E v
+  to_agent : (n : ℕ) (from : Actor) (ls : List Letter) (o : Environment) → let v = delivered E w (Agent n) from ls o in Later v → HasAnswers E v
   to_agent n from [] o grown = k
   to_agent n from (l ∷ ls) o grown =
       let v = delivered E w (Agent n) from (l ∷ ls) o in
@@ -193,10 +193,10 @@ module _ (E : Database) (w : World) (k : HasAnswers E w) (d : HasDisks w) where
 
   -- all that others do leaves what sites have, and what is under way from them to agents
   others : (channel : Actor → Actor → List Letter) (firm : ℕ → List Entry) → ((i h : ℕ) → channel (Site i) (Agent h) ≡ w.channel (Site i) (Agent h))
-      → ((p : ℕ) → Front (firm_entries w p) (firm p)) → AnswersOk E w.deployment w.sites channel firm
+      → ((p : ℕ) → Prefix (firm_entries w p) (firm p)) → AnswersOk E w.deployment w.sites channel firm
   others channel firm e grown = moves E w.deployment w.sites w.channel channel (firm_entries w) firm (λ P i h m. subst (AllByRecursion P) (sym (e i h)) m) grown k
 
-  delivers : (to from : Actor) (ls : List Letter) (o : Outside) → let v = delivered E w to from ls o in HasDisks v → Later v → HasAnswers E v
+  delivers : (to from : Actor) (ls : List Letter) (o : Environment) → let v = delivered E w to from ls o in HasDisks v → Later v → HasAnswers E v
   delivers (Site i) from ls o next grown = to_site i from ls o next grown
   delivers (Agent n) from ls o next grown = to_agent n from ls o grown
   delivers to from [] o next grown = k
@@ -204,7 +204,7 @@ module _ (E : Database) (w : World) (k : HasAnswers E w) (d : HasDisks w) where
   delivers (Client n) from (l ∷ ls) o next grown = others (delivered E w (Client n) from (l ∷ ls) o).channel (firm_entries w) (λ i h. refl) grown
   delivers (Scanner i) from (l ∷ ls) o next grown = others (delivered E w (Scanner i) from (l ∷ ls) o).channel (firm_entries w) (λ i h. refl) grown
 
-  syncs : (i : ℕ) (o : Outside) → 0 < (w.sites i).start → let v = happens E w (event.Sync i) o in HasDisks v → Later v → HasAnswers E v
+  syncs : (i : ℕ) (o : Environment) → 0 < (w.sites i).start → let v = happens E w (event.Sync i) o in HasDisks v → Later v → HasAnswers E v
   syncs i o up next grown =
       let v = happens E w (event.Sync i) o in
       let t = sync_turn E w.deployment i (w.sites i) o in
@@ -227,8 +227,8 @@ module _ (E : Database) (w : World) (k : HasAnswers E w) (d : HasDisks w) where
       held i true = tt
       held i false = k.held i
 
-  recovery : (o : Outside) → let v = recovered_with E w o in Later v → HasAnswers E v
-  recovery Fair grown = k
+  recovery : (o : Environment) → let v = recovered_with E w o in Later v → HasAnswers E v
+  recovery NoFault grown = k
   recovery (DiskFails answered) grown = k
   recovery (NoMemory answered) grown = k
   recovery (DisksShow shown None) grown = anew shown
@@ -236,7 +236,7 @@ module _ (E : Database) (w : World) (k : HasAnswers E w) (d : HasDisks w) where
 
   -- ---- each event
 
-  event-answers : (e : Event) (o : Outside) → can w e ≡ true → let v = happens E w e o in HasDisks v → Later v → HasAnswers E v
+  event-answers : (e : Event) (o : Environment) → can w e ≡ true → let v = happens E w e o in HasDisks v → Later v → HasAnswers E v
   event-answers (event.Deliver to from) o may next grown = delivers to from (w.channel from to) o next grown
   event-answers (event.Sync i) o may next grown =
       syncs i o (sync-runs (w.sites i) (and_parts (nat_lt i (slots w.deployment)) (may_sync (w.sites i)) may).1) next grown
@@ -251,7 +251,7 @@ module _ (E : Database) (w : World) (k : HasAnswers E w) (d : HasDisks w) where
 -- the event is noted in the trace
 unnoted : (w : World) (trace : List Event) → HasDisks (record w { trace = trace }) → HasDisks w
 unnoted w trace d = let n = d.logs in record {
-  logs = record { owner = n.owner; history = n.history; logs = n.logs; holds = n.holds; outsiders = n.outsiders; lead = n.lead; counted = n.counted };
+  logs = record { owner = n.owner; history = n.history; logs = n.logs; holds = n.holds; strangers = n.strangers; authoritative = n.authoritative; counted = n.counted };
   halted = d.halted;
   disks = d.disks;
 }

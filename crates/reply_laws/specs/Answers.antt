@@ -15,7 +15,7 @@ use Rattle.cluster_model.specs.Words.{Deployment, part_of_slot}
 use Rattle.cluster_model.specs.Letters.{Blocks, Letter, Turn}
 use Rattle.cluster_model.specs.SiteState.{SiteState, Held, leads}
 use Rattle.cluster_model.specs.Initiator.{end_of_reply}
-use Rattle.log_laws.specs.Histories.{Front}
+use Rattle.log_laws.specs.Histories.{Prefix}
 
 -- ---- what is said of an entry
 
@@ -24,34 +24,34 @@ abbrev pub Claim : Type 1
 Claim = List Entry → Entry → Type 0
 
 -- The entry is this call, and this end is what the replay of partition p answers to it.
-pub record IsCall (E : Database) (p call : ℕ) (end : End) (front : List Entry) (e : Entry) : Type 0 where
+pub record IsCall (E : Database) (p call : ℕ) (end : End) (prefix : List Entry) (e : Entry) : Type 0 where
   pub point : ℕ
   pub body : List ℕ
   pub is : e ≡ Sp call point body
-  pub answers : end ≡ end_of_reply (answer_behind E p front e)
+  pub answers : end ≡ end_of_reply (answer_behind E p prefix e)
 
 -- It is this round, and this part is what the replay answers to it.
-pub record IsRound (E : Database) (p m round : ℕ) (partial : List ℕ) (front : List Entry) (e : Entry) : Type 0 where
+pub record IsRound (E : Database) (p m round : ℕ) (partial : List ℕ) (prefix : List Entry) (e : Entry) : Type 0 where
   pub body : List ℕ
   pub is : e ≡ Frag m round body
-  pub answers : partial ≡ answer_behind E p front e
+  pub answers : partial ≡ answer_behind E p prefix e
 
 -- It is an end of this transaction.
-pub record IsEnd (m : ℕ) (front : List Entry) (e : Entry) : Type 0 where
+pub record IsEnd (m : ℕ) (prefix : List Entry) (e : Entry) : Type 0 where
   pub outcome : Outcome
   pub is : e ≡ Done m outcome
 
 -- An entry of which this is so stands in this log.
 pub record Stands (P : Claim) (log : List Entry) : Type 0 where
-  pub front : List Entry
+  pub prefix : List Entry
   pub entry : Entry
-  pub stands : Front (front ++ entry ∷ []) log
-  pub claim : P front entry
+  pub stands : Prefix (prefix ++ entry ∷ []) log
+  pub claim : P prefix entry
 
 -- It stands there as the entry at this position.
 pub record StandsAt (P : Claim) (log : List Entry) (position : ℕ) : Type 0 where
   pub here : Stands P log
-  pub at : length here.front + 1 ≡ position
+  pub at : length here.prefix + 1 ≡ position
 
 -- ---- answers
 
@@ -70,7 +70,7 @@ Tells E p body = elim body as (λ _. Claim) [
   | msg.Reply call start end ↦ IsCall E p call end
   | msg.FragDone m round partial ↦ IsRound E p m round partial
   | msg.Finished m ↦ IsEnd m
-  | _ ↦ λ front e. Unit {0}
+  | _ ↦ λ prefix e. Unit {0}
 ]
 
 -- An answer that is held waits for the position at which its entry stands.

@@ -1,6 +1,6 @@
 //! Laws of what a cluster answers to calls: the replies to those on one partition, and what a partition
 //! answers to the rounds and the ends of those on all partitions. They hold of every run of the whole
-//! world, with any outside, any database and any input whose base term isn't 0, which would mean no term.
+//! world, with any environment, any database and any input whose base term isn't 0, which would mean no term.
 //! Each is a function without a body; the clause is the law.
 #![tactic(auto)]
 

@@ -5,8 +5,8 @@ use Rattle.volt_base.specs.Semantics.{Semantics}
 use Rattle.volt_wire.specs.declared.event.Event.{Event}
 use Rattle.volt_wire.specs.declared.event.Event.TheVariants.{Deliver, Sync, Submit}
 use Rattle.one_host_model.specs.World.{World, can, is_some_message}
-use Rattle.one_host_model.specs.Runs.{run, IsRun, IsQuiet, is_event_of_them, enabled, serves}
-use Rattle.one_host_model.proofs.Events.{IsQuiet-enabled}
+use Rattle.one_host_model.specs.Runs.{run, IsRun, IsQuiescent, is_event_of_them, enabled, serves}
+use Rattle.one_host_model.proofs.Events.{IsQuiescent-enabled}
 use Rattle.soundness.specs.Meaning.{Meaning}
 use Rattle.soundness.specs.Carries.{Carries}
 use Rattle.soundness.specs.Law.{start_of}
@@ -36,9 +36,9 @@ event_is_of_them S M h calls es e is_run m =
     of_them S M h calls (run S es (start_of S M h calls)) g.0 g.1 g.2 g.3 g.4 g.5 e m
 
 -- the law of the end of a run
-pub nothing_enabled_is_quiet : (S : Semantics) (M : Meaning) (h : Carries S M) (calls : List M.Call) (es : List Event) → IsRun S es (start_of S M h calls) → enabled (run S es (start_of S M h calls)) ≡ [] → IsQuiet (run S es (start_of S M h calls))
-nothing_enabled_is_quiet S M h calls es is_run none =
-    IsQuiet-enabled (run S es (start_of S M h calls)) (λ e m. event_is_of_them S M h calls es e is_run m) none
+pub nothing_enabled_is_quiescent : (S : Semantics) (M : Meaning) (h : Carries S M) (calls : List M.Call) (es : List Event) → IsRun S es (start_of S M h calls) → enabled (run S es (start_of S M h calls)) ≡ [] → IsQuiescent (run S es (start_of S M h calls))
+nothing_enabled_is_quiescent S M h calls es is_run none =
+    IsQuiescent-enabled (run S es (start_of S M h calls)) (λ e m. event_is_of_them S M h calls es e is_run m) none
 
 -- the law of service
 pub run_serves : (S : Semantics) (M : Meaning) (h : Carries S M) (calls : List M.Call) (es : List Event) → IsRun S es (start_of S M h calls) → serves (run S es (start_of S M h calls)) ≡ true

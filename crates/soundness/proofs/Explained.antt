@@ -10,7 +10,7 @@ use Rattle.volt_base.specs.declared.entry.Applied.{Applied}
 use Rattle.volt_wire.specs.declared.event.Event.{Event}
 use Rattle.volt_report.specs.Report.{ReportEnd, CallLine}
 use Rattle.soundness.specs.Meaning.{Meaning, Script}
-use Rattle.soundness.specs.Sound.{Sound, is_answer, call_at, next, database_after, reply_in, is_call_of, front_with, times, has_no_double, is_between, is_in_time, IsReply, rises_from}
+use Rattle.soundness.specs.Sound.{Sound, is_answer, call_at, next, database_after, reply_in, is_call_of, prefix_with, times, has_no_double, is_between, is_in_time, IsReply, rises_from}
 use Rattle.soundness.specs.Carries.{script}
 use Rattle.soundness.proofs.Past.{Past, calls_of, applied_from, lines_from, database_of, Timed, Named, report_of, length-applied_from}
 
@@ -168,13 +168,13 @@ module _ (M : Meaning) (s : Script M) where
 
 -- ---- the copy
 
--- where each call is the partition's, a front with all of them is the list
-front_with_all : (test : Applied → Bool) (list : List Applied) → list_all test list ≡ true → front_with test (length list) list ≡ list
-front_with_all test [] h = refl
-front_with_all test (a ∷ list) h =
+-- where each call is the partition's, a prefix with all of them is the list
+prefix_with_all : (test : Applied → Bool) (list : List Applied) → list_all test list ≡ true → prefix_with test (length list) list ≡ list
+prefix_with_all test [] h = refl
+prefix_with_all test (a ∷ list) h =
     let parts = and_parts (test a) (list_all test list) h in
-    ap (λ t. a ∷ front_with test (if t then length list else suc (length list)) list) parts.0
-    ∙ ap (λ x. a ∷ x) (front_with_all test list parts.1)
+    ap (λ t. a ∷ prefix_with test (if t then length list else suc (length list)) list) parts.0
+    ∙ ap (λ x. a ∷ x) (prefix_with_all test list parts.1)
 
 -- the number of them is the list's length
 count_by_all : (test : Applied → Bool) (list : List Applied) → list_all test list ≡ true → count_by test list ≡ length list
@@ -215,9 +215,9 @@ report_is_sound M past high trace one all timed =
     let named : Named M s.calls 1 past = names M [] past 1 refl in
     let test = is_call_of M s 0 in
     let mine : list_all test list ≡ true = calls_mine M s all 1 past named in
-    let front : front_with test (length past) list ≡ list =
-    ap (λ x. front_with test x list) (sym (length-applied_from 1 past)) ∙ front_with_all test list mine in
-    let whole : filter test (front_with test (length past) list) ≡ list = ap (filter test) front ∙ filter_all test list mine in
+    let prefix : prefix_with test (length past) list ≡ list =
+    ap (λ x. prefix_with test x list) (sym (length-applied_from 1 past)) ∙ prefix_with_all test list mine in
+    let whole : filter test (prefix_with test (length past) list) ≡ list = ap (filter test) prefix ∙ filter_all test list mine in
     record {
       once = list_all-lines M 1 d past (λ line. not (is_answer line.end) || times line.call list == 1)
           (λ line l u. or_right (not (is_answer line.end)) (times line.call list == 1) (eq-eqb _ 1 (times_once 1 past line.call l u)));
@@ -227,7 +227,7 @@ report_is_sound M past high trace one all timed =
       copies = (
         record {
           enough = omega (arith, count_by_all test list mine, length-applied_from 1 past);
-          rows = ap (M.part 0) (sym (ap (database_after M s d) front ∙ database_is M s 1 d past named));
+          rows = ap (M.part 0) (sym (ap (database_after M s d) prefix ∙ database_is M s 1 d past named));
         },
         tt,
       );

@@ -1,4 +1,4 @@
--- Runs that end quiet have sound reports, and runs are short.
+-- Runs that end quiescent have sound reports, and runs are short.
 use Rattle.std.proofs.Common.{◌≡◌, ℕ, ◌+◌, ◌*◌, ◌==◌, ◌≤◌, nat_lt, true, false, List, [], ◌∷◌, ◌++◌, length, None, refl, sym, ap, ap₂, subst, ◌∙◌, append-nil, append_assoc, arith}
 use Rattle.std.proofs.lemmas.List.{length-append, length_push, length-map}
 use Rattle.std.proofs.lemmas.Bool.{false≢true, lt-ltb}
@@ -16,7 +16,7 @@ use Rattle.volt_report.specs.Spelling.{table_line}
 use Rattle.one_host_model.specs.Client.{may_submit}
 use Rattle.one_host_model.specs.Site.{owes, replay, tables}
 use Rattle.one_host_model.specs.World.{World, step, due, is_some_message, received, delivered, happens}
-use Rattle.one_host_model.specs.Runs.{run, IsRun, IsQuiet}
+use Rattle.one_host_model.specs.Runs.{run, IsRun, IsQuiescent}
 use Rattle.soundness.specs.Meaning.{Meaning}
 use Rattle.soundness.specs.Sound.{Sound, is_answer}
 use Rattle.soundness.specs.Tied.{Shows}
@@ -116,15 +116,15 @@ shows_past S M h calls w past n told st =
 longer : (log : List Entry) (e : Entry) → nat_lt (length (log ++ [])) (length (log ++ e ∷ [])) ≡ true
 longer log e = lt-ltb _ _ (omega (arith, length-append log [], length_push log e))
 
--- in a quiet world no call is under way and none is left
-quiet_is_idle : (S : Semantics) (M : Meaning) (h : Carries S M) (calls : List M.Call) (w : World) (past : List (Past M.Call)) (n : ℕ) (phase : Phase M.Call) (left : List M.Call) (told : ℕ) → IsQuiet w → Stands S M h calls w past n phase left told → Stands S M h calls w past n Idle [] told
-quiet_is_idle S M h calls w past n Idle [] told quiet st = st
-quiet_is_idle S M h calls w past n Idle (c ∷ left) told quiet st = absurd (false≢true (sym (quiet (Submit 1)) ∙ ap (λ x. may_submit x.left x.pending) st.client))
-quiet_is_idle S M h calls w past n (Called c s) left told quiet st = absurd (false≢true (sym (quiet (Deliver (Agent 0) (Client 1))) ∙ ap is_some_message st.channels.call))
-quiet_is_idle S M h calls w past n (Sent c s) left told quiet st = absurd (false≢true (sym (quiet (Deliver (Site 0) (Agent 0))) ∙ ap is_some_message st.channels.sp))
-quiet_is_idle S M h calls w past n (Logged c s p) left told quiet st = absurd (false≢true (sym (quiet (Sync 0)) ∙ (ap owes st.site ∙ longer (entries_from h.body 1 past) _)))
-quiet_is_idle S M h calls w past n (Replied c s p) left told quiet st = absurd (false≢true (sym (quiet (Deliver (Agent 0) (Site 0))) ∙ ap is_some_message st.channels.reply))
-quiet_is_idle S M h calls w past n (Answered c s p) left told quiet st = absurd (false≢true (sym (quiet (Deliver (Client 1) (Agent 0))) ∙ ap is_some_message st.channels.answer))
+-- in a quiescent world no call is under way and none is left
+quiescent_is_idle : (S : Semantics) (M : Meaning) (h : Carries S M) (calls : List M.Call) (w : World) (past : List (Past M.Call)) (n : ℕ) (phase : Phase M.Call) (left : List M.Call) (told : ℕ) → IsQuiescent w → Stands S M h calls w past n phase left told → Stands S M h calls w past n Idle [] told
+quiescent_is_idle S M h calls w past n Idle [] told quiescent st = st
+quiescent_is_idle S M h calls w past n Idle (c ∷ left) told quiescent st = absurd (false≢true (sym (quiescent (Submit 1)) ∙ ap (λ x. may_submit x.left x.pending) st.client))
+quiescent_is_idle S M h calls w past n (Called c s) left told quiescent st = absurd (false≢true (sym (quiescent (Deliver (Agent 0) (Client 1))) ∙ ap is_some_message st.channels.call))
+quiescent_is_idle S M h calls w past n (Sent c s) left told quiescent st = absurd (false≢true (sym (quiescent (Deliver (Site 0) (Agent 0))) ∙ ap is_some_message st.channels.sp))
+quiescent_is_idle S M h calls w past n (Logged c s p) left told quiescent st = absurd (false≢true (sym (quiescent (Sync 0)) ∙ (ap owes st.site ∙ longer (entries_from h.body 1 past) _)))
+quiescent_is_idle S M h calls w past n (Replied c s p) left told quiescent st = absurd (false≢true (sym (quiescent (Deliver (Agent 0) (Site 0))) ∙ ap is_some_message st.channels.reply))
+quiescent_is_idle S M h calls w past n (Answered c s p) left told quiescent st = absurd (false≢true (sym (quiescent (Deliver (Client 1) (Agent 0))) ∙ ap is_some_message st.channels.answer))
 
 -- so the world that a run from the first one leads to is a world of some run
 pub run_is_good : (S : Semantics) (M : Meaning) (h : Carries S M) (calls : List M.Call) (es : List Event) → IsRun S es (start_of S M h calls) → Good S M h calls (run S es (start_of S M h calls))
@@ -135,13 +135,13 @@ lines_answered : (S : Semantics) (M : Meaning) (h : Carries S M) (n : ℕ) (d : 
 lines_answered S M h n d [] = tt
 lines_answered S M h n d (p ∷ past) = (h.is_answer d p.call, lines_answered S M h (n + 1) (M.after d p.call) past)
 
--- the law of quiet runs
-pub quiet_is_sound : (S : Semantics) (M : Meaning) (h : Carries S M) (calls : List M.Call) (es : List Event) → IsRun S es (start_of S M h calls) → IsQuiet (run S es (start_of S M h calls)) → Reported S M h calls (run S es (start_of S M h calls))
-quiet_is_sound S M h calls es is_run quiet =
+-- the law of quiescent runs
+pub quiescent_is_sound : (S : Semantics) (M : Meaning) (h : Carries S M) (calls : List M.Call) (es : List Event) → IsRun S es (start_of S M h calls) → IsQuiescent (run S es (start_of S M h calls)) → Reported S M h calls (run S es (start_of S M h calls))
+quiescent_is_sound S M h calls es is_run quiescent =
     let w = run S es (start_of S M h calls) in
     let g = run_is_good S M h calls es is_run in
     let past = g.0 in
-    let st = quiet_is_idle S M h calls w past g.1 g.2 g.3 g.4 quiet g.5 in
+    let st = quiescent_is_idle S M h calls w past g.1 g.2 g.3 g.4 quiescent g.5 in
     let e : calls_of past ≡ calls = sym (append-nil (calls_of past)) ∙ st.all in
     record {
       report = report_of M past w.trace;

@@ -1,4 +1,4 @@
--- What the law of quiet runs speaks of.
+-- What the law of quiescent runs speaks of.
 use Rattle.std.specs.Prelude.{◌≡◌, true, List, length, map}
 use Rattle.std.specs.List.{range_with_len, AllByRecursion}
 use Rattle.volt_base.specs.Semantics.{Semantics}

@@ -34,11 +34,11 @@ reply_in M s d (a ∷ later) call =
 abbrev pub is_call_of : (M : Meaning) → Script M → ℕ → Applied → Bool
 is_call_of M s p a = option_map_or (M.is_call_of p) (call_at M s.calls a.call) false
 
--- the shortest front of the list that holds n calls of a partition
-abbrev pub front_with : (Applied → Bool) → ℕ → List Applied → List Applied
-front_with is_of zero later = []
-front_with is_of (suc n) [] = []
-front_with is_of (suc n) (a ∷ later) = a ∷ front_with is_of (if is_of a then n else suc n) later
+-- the shortest prefix of the list that holds n calls of a partition
+abbrev pub prefix_with : (Applied → Bool) → ℕ → List Applied → List Applied
+prefix_with is_of zero later = []
+prefix_with is_of (suc n) [] = []
+prefix_with is_of (suc n) (a ∷ later) = a ∷ prefix_with is_of (if is_of a then n else suc n) later
 
 -- ---- what a report must say of it
 
@@ -85,7 +85,7 @@ partition_of_slot M s slot = slot / s.copies
 
 -- A copy at position n has the rows of its partition after the first n calls of that partition.
 abbrev pub calls_of_copy : (M : Meaning) → Script M → List Applied → CopyLine → List Applied
-calls_of_copy M s serial c = front_with (is_call_of M s (partition_of_slot M s c.slot)) c.position serial
+calls_of_copy M s serial c = prefix_with (is_call_of M s (partition_of_slot M s c.slot)) c.position serial
 
 pub record ShowsPart (M : Meaning) (s : Script M) (opening : M.Database) (serial : List Applied) (c : CopyLine) : Type 0 where
   pub enough : c.position ≤ count_by (is_call_of M s (partition_of_slot M s c.slot)) serial

@@ -7,7 +7,7 @@ use Rattle.volt_report.specs.Report.{ReportEnd, CallLine, CopyLine, Report}
 use Rattle.volt_report.specs.Spelling.{table_line}
 use Rattle.one_host_model.specs.declared.state.CopyRows.{CopyRows}
 use Rattle.one_host_model.specs.World.{World}
-use Rattle.one_host_model.specs.Runs.{run, IsRun, TakesFirst, IsQuiet, serves, copies, serial, ended}
+use Rattle.one_host_model.specs.Runs.{run, IsRun, TakesFirst, IsQuiescent, serves, copies, serial, ended}
 
 -- a call's line as the world has it: the reply is spelled as the engine spells it
 abbrev pub ended_line : (ReportEnd → List ℕ) → CallLine → Ended
@@ -32,6 +32,6 @@ pub record Shows (S : Semantics) (reply_bytes : ReportEnd → List ℕ) (w : Wor
 pub record Tied (S : Semantics) (reply_bytes : ReportEnd → List ℕ) (first : World) (r : Report) : Type 0 where
   pub is_run : IsRun S r.trace first
   pub schedule : TakesFirst S r.trace first
-  pub quiet : IsQuiet (run S r.trace first)
+  pub quiescent : IsQuiescent (run S r.trace first)
   pub serving : serves (run S r.trace first) ≡ true
   pub shows : Shows S reply_bytes (run S r.trace first) r

@@ -1,4 +1,4 @@
-//! When a report is sound, and when it is tied to a run; and the law that a run which ends quiet has
+//! When a report is sound, and when it is tied to a run; and the law that a run which ends quiescent has
 //! a report that is both.
 #![tactic(auto)]
 
@@ -8,7 +8,7 @@ ghost use Rattle.volt_base.specs.Semantics.{Semantics};
 ghost use Rattle.volt_wire.specs.declared.event.Event.{Event};
 ghost use Rattle.volt_report.specs.Report.{Report};
 ghost use Rattle.one_host_model.specs.World.{can};
-ghost use Rattle.one_host_model.specs.Runs.{run, IsRun, IsQuiet, is_event_of_them, enabled, serves};
+ghost use Rattle.one_host_model.specs.Runs.{run, IsRun, IsQuiescent, is_event_of_them, enabled, serves};
 ghost use Rattle.soundness.specs.Meaning.{Meaning};
 ghost use Rattle.soundness.specs.Sound.{Sound};
 ghost use Rattle.soundness.specs.Tied.{Shows};
@@ -27,12 +27,12 @@ pub trait Carried {
     ghost carries: { Carries semantics meaning };
 }
 
-/// Every run that ends quiet has a report that shows its last world and is sound, and in which every
+/// Every run that ends quiescent has a report that shows its last world and is sound, and in which every
 /// call has ended.
-pub fn quiet_runs_are_sound<C: Carried>()
+pub fn quiescent_runs_are_sound<C: Carried>()
     ensures { (calls : List C.meaning.Call) (es : List Event)
         → IsRun C.semantics es (start_of C.semantics C.meaning C.carries calls)
-        → IsQuiet (run C.semantics es (start_of C.semantics C.meaning C.carries calls))
+        → IsQuiescent (run C.semantics es (start_of C.semantics C.meaning C.carries calls))
         → Reported C.semantics C.meaning C.carries calls
         (run C.semantics es (start_of C.semantics C.meaning C.carries calls)) }
 {}
@@ -58,12 +58,12 @@ pub fn events_are_of_them<C: Carried>()
         → is_event_of_them e ≡ true }
 {}
 
-/// Where no event of their list may happen, a run has ended quiet: no event at all may happen.
-pub fn quiet_where_nothing_is_enabled<C: Carried>()
+/// Where no event of their list may happen, a run has ended quiescent: no event at all may happen.
+pub fn quiescent_where_nothing_is_enabled<C: Carried>()
     ensures { (calls : List C.meaning.Call) (es : List Event)
         → IsRun C.semantics es (start_of C.semantics C.meaning C.carries calls)
         → enabled (run C.semantics es (start_of C.semantics C.meaning C.carries calls)) ≡ []
-        → IsQuiet (run C.semantics es (start_of C.semantics C.meaning C.carries calls)) }
+        → IsQuiescent (run C.semantics es (start_of C.semantics C.meaning C.carries calls)) }
 {}
 
 /// The cluster serves in every world of a run: its agent keeps the start that it began with.
@@ -76,7 +76,7 @@ pub fn runs_serve<C: Carried>()
 #[cfg(test)]
 mod tests {
     use crate::{
-        Carried, events_are_of_them, quiet_runs_are_sound, quiet_where_nothing_is_enabled,
+        Carried, events_are_of_them, quiescent_runs_are_sound, quiescent_where_nothing_is_enabled,
         runs_are_noted, runs_are_short, runs_serve,
     };
 
@@ -94,11 +94,11 @@ mod tests {
 
     #[test]
     fn the_laws_hold_of_an_engine_that_adds() {
-        quiet_runs_are_sound::<Adding>();
+        quiescent_runs_are_sound::<Adding>();
         runs_are_short::<Adding>();
         runs_are_noted::<Adding>();
         events_are_of_them::<Adding>();
-        quiet_where_nothing_is_enabled::<Adding>();
+        quiescent_where_nothing_is_enabled::<Adding>();
         runs_serve::<Adding>();
     }
 }

@@ -5,12 +5,12 @@ use Rattle.std.proofs.lemmas.List.{take-append-drop, length-take}
 use mathlib.Core.Logic.{inl, inr}
 use Rattle.sql_grammar.specs.declared.kind.Kind.{Kind}
 use Rattle.sql_grammar.specs.Kinds.{same_kind}
-use Rattle.sql_grammar.specs.Grammar.{Tok, G, tok, pure, seq, alt, map, skip, chain, guard, never, limit, note, Lang, RowStarts, Loop, IsTok, Derives, Starts, IsFront, null, at, first, cont, ok, next_is, Outcome, and_then, take_tok, after_tok, loop, put_back, parse}
+use Rattle.sql_grammar.specs.Grammar.{Tok, G, tok, pure, seq, alt, map, skip, chain, guard, never, limit, note, Lang, RepetitionStarts, Loop, IsTok, Derives, Starts, IsPrefix, null, at, first, cont, ok, next_is, Outcome, and_then, take_tok, after_tok, loop, put_back, parse}
 use Rattle.sql_grammar.proofs.KindPlaces.{same_eq, same_refl}
 use Rattle.sql_grammar.proofs.Lists.{Meets, meets_nil, meets_append, no_cons, append_none, opposed, either, both, apart_none}
 use Rattle.sql_grammar.proofs.Langs.{Begun, Refused, Good, joined_good}
-use Rattle.sql_grammar.proofs.Rows.{loop_fronts, row_begins, loop_good}
-use Rattle.sql_grammar.proofs.Rules.{seq_ok, alt_ok, chain_ok, guard_ok, limit_ok, note_ok, fills, tells, begins, goes, tok_goes, pair_front, some_text}
+use Rattle.sql_grammar.proofs.Repetitions.{loop_prefixes, repetition_begins, loop_good}
+use Rattle.sql_grammar.proofs.Rules.{seq_ok, alt_ok, chain_ok, guard_ok, limit_ok, note_ok, fills, tells, begins, goes, tok_goes, pair_prefix, some_text}
 
 -- One token
 
@@ -19,8 +19,8 @@ none_left ws rest e = rw e tt
 
 tok_good : (k : Kind) (ts : List Tok) → Good (IsTok k) (λ us. us ≡ []) (next_is k ts) ts (take_tok k ts)
 tok_good k [] = record {
-  front = [];
-  is_front = refl;
+  prefix = [];
+  is_prefix = refl;
   starts = refl;
   none = λ ws y m d. no_cons (sym d ∙ meets_nil ws m);
   ends = λ ws m e. e;
@@ -42,16 +42,16 @@ tok_good k (t ∷ ts) = go (same_kind t.kind k) refl
 
     go : (q : Bool) → same_kind t.kind k ≡ q → Good (IsTok k) (λ us. us ≡ []) (same_kind t.kind k) (t ∷ ts) (if same_kind t.kind k then Ok (t.text, ts) else Err (t ∷ ts))
     go true e = rw e (record {
-      front = t ∷ [];
-      is_front = refl;
+      prefix = t ∷ [];
+      is_prefix = refl;
       reads = ap (λ j. record { kind = j; text = t.text } ∷ []) (same_eq t.kind k e);
       only = λ ws y m d. only (same_eq t.kind k e) ws y d;
       ends = λ ws m s. absurd (no_cons s);
       takes = λ u f. no_cons f;
     })
     go false e = rw e (record {
-      front = [];
-      is_front = refl;
+      prefix = [];
+      is_prefix = refl;
       starts = refl;
       none = λ ws y m d. opposed e (met ws y m d);
       ends = λ ws m s. s;
@@ -71,16 +71,16 @@ after_is {A} k read (t ∷ ts) = go (same_kind t.kind k)
 mapped_good : {A B : Type 0} (f : A → B) (L : Lang A) (S : Begun) (p : Bool) (ts : List Tok) (o : Outcome A) → Good L S p ts o
     → Good (λ us y. (a : A) × L us a × (y ≡ f a)) S p ts (and_then o (λ a rest. Ok (f a, rest)))
 mapped_good f L S p ts (Ok r) g = record {
-  front = g.front;
-  is_front = g.is_front;
+  prefix = g.prefix;
+  is_prefix = g.is_prefix;
   reads = (r.0, g.reads, refl);
   only = λ ws y m d. let k = g.only ws d.0 m d.1 in (k.0, d.2 ∙ ap f k.1);
   ends = g.ends;
   takes = g.takes;
 }
 mapped_good f L S p ts (Err rest) g = record {
-  front = g.front;
-  is_front = g.is_front;
+  prefix = g.prefix;
+  is_prefix = g.is_prefix;
   starts = g.starts;
   none = λ ws y m d. g.none ws d.0 m d.1;
   ends = g.ends;
@@ -96,16 +96,16 @@ pair {A} {B} y a b e f =
 paired_good : {A B : Type 0} (a : A) (L : Lang B) (S : Begun) (p : Bool) (ts : List Tok) (o : Outcome B) → Good L S p ts o
     → Good {A = A × B} (λ us y. (y.0 ≡ a) × L us y.1) S p ts (and_then o (λ b end. Ok ((a, b), end)))
 paired_good a L S p ts (Ok r) g = record {
-  front = g.front;
-  is_front = g.is_front;
+  prefix = g.prefix;
+  is_prefix = g.is_prefix;
   reads = (refl, g.reads);
   only = λ ws y m d. let k = g.only ws y.1 m d.1 in (k.0, pair y a r.0 d.0 k.1);
   ends = g.ends;
   takes = g.takes;
 }
 paired_good a L S p ts (Err rest) g = record {
-  front = g.front;
-  is_front = g.is_front;
+  prefix = g.prefix;
+  is_prefix = g.is_prefix;
   starts = g.starts;
   none = λ ws y m d. g.none ws y.1 m d.1;
   ends = g.ends;
@@ -116,8 +116,8 @@ paired_good a L S p ts (Err rest) g = record {
 
 forbidden : {A : Type 0} (L : Lang A) (S : Begun) (ts : List Tok) → Refused {A = A} (λ us y. L us y × (false ≡ true)) (λ us. (S us × (false ≡ true)) ⊎ (us ≡ [])) false ts ts
 forbidden L S ts = record {
-  front = [];
-  is_front = refl;
+  prefix = [];
+  is_prefix = refl;
   starts = inr refl;
   none = λ ws y m d. opposed refl d.1;
   ends = λ ws m s. ends ws s;
@@ -130,29 +130,29 @@ forbidden L S ts = record {
 
 allowed : {A : Type 0} (L : Lang A) (S : Begun) (p : Bool) (ts : List Tok) (o : Outcome A) → Good L S p ts o → Good {A = A} (λ us y. L us y × (true ≡ true)) (λ us. (S us × (true ≡ true)) ⊎ (us ≡ [])) p ts o
 allowed L S p ts (Ok r) g = record {
-  front = g.front;
-  is_front = g.is_front;
+  prefix = g.prefix;
+  is_prefix = g.is_prefix;
   reads = (g.reads, refl);
   only = λ ws y m d. g.only ws y m d.0;
   ends = λ ws m s. ends ws m s;
   takes = g.takes;
 }
   where
-    ends : (ws : List Tok) → Meets ws r.1 → (S (g.front ++ ws) × (true ≡ true)) ⊎ (g.front ++ ws ≡ []) → ws ≡ []
+    ends : (ws : List Tok) → Meets ws r.1 → (S (g.prefix ++ ws) × (true ≡ true)) ⊎ (g.prefix ++ ws ≡ []) → ws ≡ []
     ends ws m (inl s) = g.ends ws m s.0
-    ends ws m (inr e) = (append_none g.front ws e).1
+    ends ws m (inr e) = (append_none g.prefix ws e).1
 allowed L S p ts (Err rest) g = record {
-  front = g.front;
-  is_front = g.is_front;
+  prefix = g.prefix;
+  is_prefix = g.is_prefix;
   starts = inl (g.starts, refl);
   none = λ ws y m d. g.none ws y m d.0;
   ends = λ ws m s. ends ws m s;
   takes = g.takes;
 }
   where
-    ends : (ws : List Tok) → Meets ws rest → (S (g.front ++ ws) × (true ≡ true)) ⊎ (g.front ++ ws ≡ []) → ws ≡ []
+    ends : (ws : List Tok) → Meets ws rest → (S (g.prefix ++ ws) × (true ≡ true)) ⊎ (g.prefix ++ ws ≡ []) → ws ≡ []
     ends ws m (inl s) = g.ends ws m s.0
-    ends ws m (inr e) = (append_none g.front ws e).1
+    ends ws m (inr e) = (append_none g.prefix ws e).1
 
 guard_good : {A : Type 0} (b : Bool) (L : Lang A) (S : Begun) (p : Bool) (ts : List Tok) (o : Outcome A) → Good L S p ts o
     → Good {A = A} (λ us y. L us y × (b ≡ true)) (λ us. (S us × (b ≡ true)) ⊎ (us ≡ [])) (b && p) ts (if b then o else Err ts)
@@ -162,15 +162,15 @@ guard_good false L S p ts o g = forbidden L S ts
 -- Of at most so many tokens
 
 -- what is within the limit sees the first token behind the tokens that are looked at only where it may still take one
-limit_meets : (n : ℕ) (front rest more ws : List Tok) → length (front ++ rest) ≡ n ⊎ (more ≡ []) → Meets ws (rest ++ more) → length (front ++ ws) ≤ n → Meets ws rest
-limit_meets n front (r ∷ rest) more ws k m h = meets_on r rest (rest ++ more) ws m
+limit_meets : (n : ℕ) (prefix rest more ws : List Tok) → length (prefix ++ rest) ≡ n ⊎ (more ≡ []) → Meets ws (rest ++ more) → length (prefix ++ ws) ≤ n → Meets ws rest
+limit_meets n prefix (r ∷ rest) more ws k m h = meets_on r rest (rest ++ more) ws m
   where
     meets_on : (r : Tok) (xs ys ws : List Tok) → Meets ws (r ∷ ys) → Meets ws (r ∷ xs)
     meets_on r xs ys [] m = tt
     meets_on r xs ys (w ∷ ws) m = m
-limit_meets n front [] more [] k m h = tt
-limit_meets n front [] more (w ∷ ws) (inl e) m h = absurd (omega (arith, e, length-append front (w ∷ ws), length-append front []))
-limit_meets n front [] more (w ∷ ws) (inr e) m h = rw e at m
+limit_meets n prefix [] more [] k m h = tt
+limit_meets n prefix [] more (w ∷ ws) (inl e) m h = absurd (omega (arith, e, length-append prefix (w ∷ ws), length-append prefix []))
+limit_meets n prefix [] more (w ∷ ws) (inr e) m h = rw e at m
 
 looked_at : (n : ℕ) (ts : List Tok) → (length (take n ts) ≡ n) ⊎ (drop n ts ≡ [])
 looked_at zero ts = inl refl
@@ -200,43 +200,43 @@ at_take g (suc n) [] h e = e
 at_take g (suc n) (t ∷ ts) h e = rw (at_next g t (take n ts) ts) e
 
 module _ {A : Type 0} (n : ℕ) (L : Lang A) (S : Begun) (p q : Bool) (ts : List Tok) (t : q ≡ true → p ≡ true) where
-  whole : (front rest : List Tok) → take n ts ≡ front ++ rest → ts ≡ front ++ (rest ++ drop n ts)
-  whole front rest e = sym (take-append-drop n ts) ∙ ap (λ us. us ++ drop n ts) e ∙ append_assoc front rest (drop n ts)
+  whole : (prefix rest : List Tok) → take n ts ≡ prefix ++ rest → ts ≡ prefix ++ (rest ++ drop n ts)
+  whole prefix rest e = sym (take-append-drop n ts) ∙ ap (λ us. us ++ drop n ts) e ∙ append_assoc prefix rest (drop n ts)
 
-  fits : (front rest : List Tok) → take n ts ≡ front ++ rest → length front ≤ n
-  fits front rest e = omega (arith, ap length e, length-append front rest, length-take n ts)
+  fits : (prefix rest : List Tok) → take n ts ≡ prefix ++ rest → length prefix ≤ n
+  fits prefix rest e = omega (arith, ap length e, length-append prefix rest, length-take n ts)
 
-  meets : (front rest ws : List Tok) → take n ts ≡ front ++ rest → Meets ws (rest ++ drop n ts) → length (front ++ ws) ≤ n → Meets ws rest
-  meets front rest ws e m h = limit_meets n front rest (drop n ts) ws (rw e at (looked_at n ts)) m h
+  meets : (prefix rest ws : List Tok) → take n ts ≡ prefix ++ rest → Meets ws (rest ++ drop n ts) → length (prefix ++ ws) ≤ n → Meets ws rest
+  meets prefix rest ws e m h = limit_meets n prefix rest (drop n ts) ws (rw e at (looked_at n ts)) m h
 
   limit_good : (o : Outcome A) → Good L S p (take n ts) o → Good {A = A} (λ us y. L us y × (length us ≤ n)) (λ us. S us × (length us ≤ n)) q ts (put_back (drop n ts) o)
   limit_good (Ok r) g = record {
-    front = g.front;
-    is_front = whole g.front r.1 g.is_front;
-    reads = (g.reads, fits g.front r.1 g.is_front);
-    only = λ ws y m d. g.only ws y (meets g.front r.1 ws g.is_front m d.1) d.0;
-    ends = λ ws m s. g.ends ws (meets g.front r.1 ws g.is_front m s.1) s.0;
+    prefix = g.prefix;
+    is_prefix = whole g.prefix r.1 g.is_prefix;
+    reads = (g.reads, fits g.prefix r.1 g.is_prefix);
+    only = λ ws y m d. g.only ws y (meets g.prefix r.1 ws g.is_prefix m d.1) d.0;
+    ends = λ ws m s. g.ends ws (meets g.prefix r.1 ws g.is_prefix m s.1) s.0;
     takes = λ e f. g.takes (t e) f;
   }
   limit_good (Err rest) g = record {
-    front = g.front;
-    is_front = whole g.front rest g.is_front;
-    starts = (g.starts, fits g.front rest g.is_front);
-    none = λ ws y m d. g.none ws y (meets g.front rest ws g.is_front m d.1) d.0;
-    ends = λ ws m s. g.ends ws (meets g.front rest ws g.is_front m s.1) s.0;
+    prefix = g.prefix;
+    is_prefix = whole g.prefix rest g.is_prefix;
+    starts = (g.starts, fits g.prefix rest g.is_prefix);
+    none = λ ws y m d. g.none ws y (meets g.prefix rest ws g.is_prefix m d.1) d.0;
+    ends = λ ws m s. g.ends ws (meets g.prefix rest ws g.is_prefix m s.1) s.0;
     takes = λ e f. g.takes (t e) f;
   }
 
 -- Of two
 
 module _ {A : Type 0} (g h : G A) (o : ok (alt g h) ≡ true) (ts : List Tok) where
-  -- what begins with a front of the first is none of the second
-  not_second : (front ws : List Tok) → (front ≡ [] → ⊥) → IsFront g front → IsFront h (front ++ ws) → ⊥
+  -- what begins with a prefix of the first is none of the second
+  not_second : (prefix ws : List Tok) → (prefix ≡ [] → ⊥) → IsPrefix g prefix → IsPrefix h (prefix ++ ws) → ⊥
   not_second [] ws some f e = some refl
   not_second (v ∷ vs) ws some f e = let k = alt_ok g h o in apart_none v.kind (first g) (first h) k.3 (begins g k.0 v vs f) (begins h k.1 v (vs ++ ws) e)
 
-  -- where the next token begins none of the first, only the empty text is a front of it
-  not_first : (vs us : List Tok) → at g us ≡ false → Meets vs us → IsFront g vs → vs ≡ []
+  -- where the next token begins none of the first, only the empty text is a prefix of it
+  not_first : (vs us : List Tok) → at g us ≡ false → Meets vs us → IsPrefix g vs → vs ≡ []
   not_first [] us e m f = refl
   not_first (v ∷ vs) [] e m f = absurd m
   not_first (v ∷ vs) (u ∷ us) e m f =
@@ -245,80 +245,80 @@ module _ {A : Type 0} (g h : G A) (o : ok (alt g h) ≡ true) (ts : List Tok) wh
 
   left : (r : Outcome A) → Good (Derives g) (Starts g) true ts r → Good (Derives (alt g h)) (Starts (alt g h)) true ts r
   left (Ok r) a = record {
-    front = a.front;
-    is_front = a.is_front;
+    prefix = a.prefix;
+    is_prefix = a.is_prefix;
     reads = inl a.reads;
     only = λ ws y m d. only ws y m d;
     ends = λ ws m s. ends ws m s;
     takes = a.takes;
   }
     where
-      only : (ws : List Tok) (y : A) → Meets ws r.1 → Derives g (a.front ++ ws) y ⊎ Derives h (a.front ++ ws) y → (ws ≡ []) × (y ≡ r.0)
+      only : (ws : List Tok) (y : A) → Meets ws r.1 → Derives g (a.prefix ++ ws) y ⊎ Derives h (a.prefix ++ ws) y → (ws ≡ []) × (y ≡ r.0)
       only ws y m (inl d) = a.only ws y m d
-      only ws y m (inr d) = absurd (not_second a.front ws (a.takes refl) (inr (r.0, a.reads)) (inr (y, d)))
+      only ws y m (inr d) = absurd (not_second a.prefix ws (a.takes refl) (inr (r.0, a.reads)) (inr (y, d)))
 
-      ends : (ws : List Tok) → Meets ws r.1 → Starts g (a.front ++ ws) ⊎ Starts h (a.front ++ ws) → ws ≡ []
+      ends : (ws : List Tok) → Meets ws r.1 → Starts g (a.prefix ++ ws) ⊎ Starts h (a.prefix ++ ws) → ws ≡ []
       ends ws m (inl s) = a.ends ws m s
-      ends ws m (inr s) = absurd (not_second a.front ws (a.takes refl) (inr (r.0, a.reads)) (inl s))
+      ends ws m (inr s) = absurd (not_second a.prefix ws (a.takes refl) (inr (r.0, a.reads)) (inl s))
   left (Err rest) a = record {
-    front = a.front;
-    is_front = a.is_front;
+    prefix = a.prefix;
+    is_prefix = a.is_prefix;
     starts = inl a.starts;
     none = λ ws y m d. none ws y m d;
     ends = λ ws m s. ends ws m s;
     takes = a.takes;
   }
     where
-      none : (ws : List Tok) (y : A) → Meets ws rest → Derives g (a.front ++ ws) y ⊎ Derives h (a.front ++ ws) y → ⊥
+      none : (ws : List Tok) (y : A) → Meets ws rest → Derives g (a.prefix ++ ws) y ⊎ Derives h (a.prefix ++ ws) y → ⊥
       none ws y m (inl d) = a.none ws y m d
-      none ws y m (inr d) = not_second a.front ws (a.takes refl) (inl a.starts) (inr (y, d))
+      none ws y m (inr d) = not_second a.prefix ws (a.takes refl) (inl a.starts) (inr (y, d))
 
-      ends : (ws : List Tok) → Meets ws rest → Starts g (a.front ++ ws) ⊎ Starts h (a.front ++ ws) → ws ≡ []
+      ends : (ws : List Tok) → Meets ws rest → Starts g (a.prefix ++ ws) ⊎ Starts h (a.prefix ++ ws) → ws ≡ []
       ends ws m (inl s) = a.ends ws m s
-      ends ws m (inr s) = absurd (not_second a.front ws (a.takes refl) (inl a.starts) (inl s))
+      ends ws m (inr s) = absurd (not_second a.prefix ws (a.takes refl) (inl a.starts) (inl s))
 
   right : at g ts ≡ false → (r : Outcome A) → Good (Derives h) (Starts h) (at h ts) ts r → Good (Derives (alt g h)) (Starts (alt g h)) (at h ts) ts r
   right e (Ok r) b = record {
-    front = b.front;
-    is_front = b.is_front;
+    prefix = b.prefix;
+    is_prefix = b.is_prefix;
     reads = inr b.reads;
     only = λ ws y m d. only ws y m d;
     ends = λ ws m s. ends ws m s;
     takes = b.takes;
   }
     where
-      met : (ws : List Tok) → Meets ws r.1 → Meets (b.front ++ ws) ts
-      met ws m = rw b.is_front (meets_append b.front ws r.1 m)
+      met : (ws : List Tok) → Meets ws r.1 → Meets (b.prefix ++ ws) ts
+      met ws m = rw b.is_prefix (meets_append b.prefix ws r.1 m)
 
-      only : (ws : List Tok) (y : A) → Meets ws r.1 → Derives g (b.front ++ ws) y ⊎ Derives h (b.front ++ ws) y → (ws ≡ []) × (y ≡ r.0)
+      only : (ws : List Tok) (y : A) → Meets ws r.1 → Derives g (b.prefix ++ ws) y ⊎ Derives h (b.prefix ++ ws) y → (ws ≡ []) × (y ≡ r.0)
       only ws y m (inl d) =
-          let n : b.front ++ ws ≡ [] = not_first (b.front ++ ws) ts e (met ws m) (inr (y, d)) in
+          let n : b.prefix ++ ws ≡ [] = not_first (b.prefix ++ ws) ts e (met ws m) (inr (y, d)) in
           absurd (some_text g (alt_ok g h o).2 y (rw n at d))
       only ws y m (inr d) = b.only ws y m d
 
-      ends : (ws : List Tok) → Meets ws r.1 → Starts g (b.front ++ ws) ⊎ Starts h (b.front ++ ws) → ws ≡ []
-      ends ws m (inl s) = (append_none b.front ws (not_first (b.front ++ ws) ts e (met ws m) (inl s))).1
+      ends : (ws : List Tok) → Meets ws r.1 → Starts g (b.prefix ++ ws) ⊎ Starts h (b.prefix ++ ws) → ws ≡ []
+      ends ws m (inl s) = (append_none b.prefix ws (not_first (b.prefix ++ ws) ts e (met ws m) (inl s))).1
       ends ws m (inr s) = b.ends ws m s
   right e (Err rest) b = record {
-    front = b.front;
-    is_front = b.is_front;
+    prefix = b.prefix;
+    is_prefix = b.is_prefix;
     starts = inr b.starts;
     none = λ ws y m d. none ws y m d;
     ends = λ ws m s. ends ws m s;
     takes = b.takes;
   }
     where
-      met : (ws : List Tok) → Meets ws rest → Meets (b.front ++ ws) ts
-      met ws m = rw b.is_front (meets_append b.front ws rest m)
+      met : (ws : List Tok) → Meets ws rest → Meets (b.prefix ++ ws) ts
+      met ws m = rw b.is_prefix (meets_append b.prefix ws rest m)
 
-      none : (ws : List Tok) (y : A) → Meets ws rest → Derives g (b.front ++ ws) y ⊎ Derives h (b.front ++ ws) y → ⊥
+      none : (ws : List Tok) (y : A) → Meets ws rest → Derives g (b.prefix ++ ws) y ⊎ Derives h (b.prefix ++ ws) y → ⊥
       none ws y m (inl d) =
-          let n : b.front ++ ws ≡ [] = not_first (b.front ++ ws) ts e (met ws m) (inr (y, d)) in
+          let n : b.prefix ++ ws ≡ [] = not_first (b.prefix ++ ws) ts e (met ws m) (inr (y, d)) in
           some_text g (alt_ok g h o).2 y (rw n at d)
       none ws y m (inr d) = b.none ws y m d
 
-      ends : (ws : List Tok) → Meets ws rest → Starts g (b.front ++ ws) ⊎ Starts h (b.front ++ ws) → ws ≡ []
-      ends ws m (inl s) = (append_none b.front ws (not_first (b.front ++ ws) ts e (met ws m) (inl s))).1
+      ends : (ws : List Tok) → Meets ws rest → Starts g (b.prefix ++ ws) ⊎ Starts h (b.prefix ++ ws) → ws ≡ []
+      ends ws m (inl s) = (append_none b.prefix ws (not_first (b.prefix ++ ws) ts e (met ws m) (inl s))).1
       ends ws m (inr s) = b.ends ws m s
 
   alt_good : Good (Derives g) (Starts g) (at g ts) ts (parse g ts) → Good (Derives h) (Starts h) (at h ts) ts (parse h ts)
@@ -340,8 +340,8 @@ taken g q ts p o e = elim (either {a = q} {b = null g && p ts} e) [
 pub exact : {A : Type 0} (g : G A) → ok g ≡ true → (ts : List Tok) → Good (Derives g) (Starts g) (at g ts) ts (parse g ts)
 exact (tok k) o ts = tok_good k ts
 exact (pure a) o ts = record {
-  front = [];
-  is_front = refl;
+  prefix = [];
+  is_prefix = refl;
   reads = (refl, refl);
   only = λ ws y m d. d;
   ends = λ ws m s. absurd s;
@@ -350,7 +350,7 @@ exact (pure a) o ts = record {
 exact (seq g h) o ts =
     let k = seq_ok g h o in
     joined_good (Derives g) (Starts g) (λ a us y. (y.0 ≡ a) × Derives h us y.1) (λ a. Starts h) (cont g) (first h) (goes g k.0)
-    (λ a z zs f. begins h k.1 z zs (pair_front h a (z ∷ zs) f)) k.2 (at g ts || (null g && at h ts)) (at g ts) (at h) ts (taken g (at g ts) ts (at h) k.0)
+    (λ a z zs f. begins h k.1 z zs (pair_prefix h a (z ∷ zs) f)) k.2 (at g ts || (null g && at h ts)) (at g ts) (at h) ts (taken g (at g ts) ts (at h) k.0)
     (parse g ts) (λ a rest. and_then (parse h rest) (λ b end. Ok ((a, b), end))) (exact g k.0 ts)
     (λ a rest r. paired_good a (Derives h) (Starts h) (at h rest) rest (parse h rest) (exact h k.1 rest))
 exact (alt g h) o ts = let k = alt_ok g h o in alt_good g h o ts (exact g k.0 ts) (exact h k.1 ts)
@@ -360,15 +360,15 @@ exact (skip k g) o ts =
     (take_tok k ts) (λ a rest. parse g rest) (tok_good k ts) (λ a rest r. exact g o rest))
 exact (chain f g h) o ts =
     let k = chain_ok f g h o in
-    joined_good (Derives g) (Starts g) (Loop f (Derives h)) (λ a. RowStarts (Derives h) (Starts h)) (cont g) (first h) (goes g k.0)
-    (λ a z zs t. row_begins (Derives h) (Starts h) (some_text h k.2) (first h) (begins h k.1) z zs (loop_fronts f (Derives h) (Starts h) a (z ∷ zs) t)) k.3
+    joined_good (Derives g) (Starts g) (Loop f (Derives h)) (λ a. RepetitionStarts (Derives h) (Starts h)) (cont g) (first h) (goes g k.0)
+    (λ a z zs t. repetition_begins (Derives h) (Starts h) (some_text h k.2) (first h) (begins h k.1) z zs (loop_prefixes f (Derives h) (Starts h) a (z ∷ zs) t)) k.3
     (at g ts || (null g && at h ts)) (at g ts) (at h) ts (taken g (at g ts) ts (at h) k.0)
     (parse g ts) (λ a rest. loop f (at h) (parse h) (length rest) a rest) (exact g k.0 ts)
     (λ a rest r. loop_good f (Derives h) (Starts h) (at h) (cont h) (first h) (some_text h k.2) (goes h k.1) (begins h k.1) k.4 (tells h k.1) (parse h) (λ us. exact h k.1 us) (length rest) a rest (omega arith))
 exact (guard b g) o ts = guard_good b (Derives g) (Starts g) (at g ts) ts (parse g ts) (exact g (guard_ok b g o).0 ts)
 exact never o ts = record {
-  front = [];
-  is_front = refl;
+  prefix = [];
+  is_prefix = refl;
   starts = refl;
   none = λ ws y m d. d;
   ends = λ ws m s. s;

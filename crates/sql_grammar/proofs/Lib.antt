@@ -1,10 +1,10 @@
 pub mod Digits
 pub mod Exact
-pub mod Fronts
+pub mod Prefixes
 pub mod KindPlaces
 pub mod Langs
 pub mod Lists
 pub mod OneAnswer
 pub mod Readings
-pub mod Rows
+pub mod Repetitions
 pub mod Rules

@@ -67,18 +67,18 @@ within_in a xs ys h e = all_in (λ k. is_in k ys) a xs h e
 
 -- Two ways to cut a list
 
-pub data Cut (us vs front ws : List Tok) : Type 0 where
+pub data Cut (us vs prefix ws : List Tok) : Type 0 where
   -- the first piece is longer than the other
-  long : (w : Tok) (more : List Tok) → us ≡ front ++ w ∷ more → ws ≡ w ∷ (more ++ vs) → Cut us vs front ws
-  same : us ≡ front → vs ≡ ws → Cut us vs front ws
-  short : (w : Tok) (more : List Tok) → front ≡ us ++ w ∷ more → vs ≡ w ∷ (more ++ ws) → Cut us vs front ws
+  long : (w : Tok) (more : List Tok) → us ≡ prefix ++ w ∷ more → ws ≡ w ∷ (more ++ vs) → Cut us vs prefix ws
+  same : us ≡ prefix → vs ≡ ws → Cut us vs prefix ws
+  short : (w : Tok) (more : List Tok) → prefix ≡ us ++ w ∷ more → vs ≡ w ∷ (more ++ ws) → Cut us vs prefix ws
 
-longer : {u : Tok} {us vs front ws : List Tok} → Cut us vs front ws → Cut (u ∷ us) vs (u ∷ front) ws
+longer : {u : Tok} {us vs prefix ws : List Tok} → Cut us vs prefix ws → Cut (u ∷ us) vs (u ∷ prefix) ws
 longer {u} (long w more e f) = long w more (ap (λ xs. u ∷ xs) e) f
 longer {u} (same e f) = same (ap (λ xs. u ∷ xs) e) f
 longer {u} (short w more e f) = short w more (ap (λ xs. u ∷ xs) e) f
 
-pub cut : (us vs front ws : List Tok) → us ++ vs ≡ front ++ ws → Cut us vs front ws
+pub cut : (us vs prefix ws : List Tok) → us ++ vs ≡ prefix ++ ws → Cut us vs prefix ws
 cut [] vs [] ws e = same refl e
 cut [] vs (f ∷ fs) ws e = short f fs refl e
 cut (u ∷ us) vs [] ws e = long u us refl (sym e)
@@ -114,6 +114,6 @@ pub append_none : (xs ys : List Tok) → xs ++ ys ≡ [] → (xs ≡ []) × (ys 
 append_none [] ys e = (refl, e)
 append_none (x ∷ xs) ys e = absurd (no_cons e)
 
-pub same_front : (front ys : List Tok) → front ++ ys ≡ ys → front ≡ []
-same_front [] ys e = refl
-same_front (x ∷ xs) ys e = absurd (omega (arith, ap length e, length-append (x ∷ xs) ys))
+pub same_prefix : (prefix ys : List Tok) → prefix ++ ys ≡ ys → prefix ≡ []
+same_prefix [] ys e = refl
+same_prefix (x ∷ xs) ys e = absurd (omega (arith, ap length e, length-append (x ∷ xs) ys))

@@ -2,7 +2,7 @@
 use Rattle.std.proofs.Common.{arith, ◌≡◌, ◌≤◌, ◌<◌, ℕ, ◌+◌, ◌-◌, List, ◌++◌, length, take, drop, take-append-drop, ap, sym, ◌∙◌}
 use Rattle.std.proofs.lemmas.List.{take-take}
 use mathlib.Core.Logic.{inl, inr}
-use Rattle.sql_grammar.specs.Grammar.{Tok, G, IsFront}
+use Rattle.sql_grammar.specs.Grammar.{Tok, G, IsPrefix}
 use Rattle.sql_grammar.specs.Reading.{part, Stops, IsRead, IsRefused}
 
 -- a longer part begins with a shorter one
@@ -12,12 +12,12 @@ longer ts from n m h k =
     sym (take-append-drop (n - from) (part from m ts)) ∙ ap (λ us. us ++ drop (n - from) (part from m ts)) cut
 
 module _ {A : Type 0} (g : G A) (ts : List Tok) (from : ℕ) where
-  sooner : (n m : ℕ) → Stops g ts from n → from ≤ n → m ≤ length ts → IsFront g (part from m ts) → n < m → ⊥
+  sooner : (n m : ℕ) → Stops g ts from n → from ≤ n → m ≤ length ts → IsPrefix g (part from m ts) → n < m → ⊥
   sooner n m stops h k f l =
       stops (omega arith) (drop (n + 1 - from) (part from m ts)) (rw (longer ts from (n + 1) m (omega arith) (omega arith)) at f)
 
   one : (n m : ℕ) → Stops g ts from n → Stops g ts from m → from ≤ n → from ≤ m → n ≤ length ts → m ≤ length ts
-      → IsFront g (part from n ts) → IsFront g (part from m ts) → n ≡ m
+      → IsPrefix g (part from n ts) → IsPrefix g (part from m ts) → n ≡ m
   one n m s t h k a b e f =
       let less : n < m → ⊥ = λ l. sooner n m s h b f l in
       let more : m < n → ⊥ = λ l. sooner m n t k a e l in

@@ -62,11 +62,11 @@ Lang A = List Tok → A → Type 0
 
 -- a text of the first, and behind it one of the second, which may depend on the first's value
 pub record Joined {A B : Type 0} (L : Lang A) (M : A → Lang B) (ts : List Tok) (y : B) : Type 0 where
-  pub front : List Tok
+  pub prefix : List Tok
   pub back : List Tok
   pub value : A
-  pub parts : ts ≡ front ++ back
-  pub is_first : L front value
+  pub parts : ts ≡ prefix ++ back
+  pub is_first : L prefix value
   pub is_then : M value back y
 
 -- one token of this kind, with these bytes
@@ -74,9 +74,9 @@ abbrev pub IsTok : Kind → Lang (List ℕ)
 IsTok k ts text = ts ≡ record { kind = k; text = text } ∷ []
 
 -- texts with these values, one behind another
-abbrev pub Row : {B : Type 0} → Lang B → List B → List Tok → Type 0
-Row L [] ts = ts ≡ []
-Row L (b ∷ bs) ts = (front : List Tok) × (back : List Tok) × (ts ≡ front ++ back) × L front b × Row L bs back
+abbrev pub Repetition : {B : Type 0} → Lang B → List B → List Tok → Type 0
+Repetition L [] ts = ts ≡ []
+Repetition L (b ∷ bs) ts = (prefix : List Tok) × (back : List Tok) × (ts ≡ prefix ++ back) × L prefix b × Repetition L bs back
 
 -- a value, with more values joined to it from the left
 abbrev pub folded : {A B : Type 0} → (A → B → A) → A → List B → A
@@ -85,7 +85,7 @@ folded f a (b ∷ bs) = folded f (f a b) bs
 
 -- any number of texts; their values are joined to a value from the left
 abbrev pub Loop : {A B : Type 0} → (A → B → A) → Lang B → A → Lang A
-Loop f L a ts x = (bs : List _) × Row L bs ts × (x ≡ folded f a bs)
+Loop f L a ts x = (bs : List _) × Repetition L bs ts × (x ≡ folded f a bs)
 
 -- the tokens are a text of the rule, and this is its value
 abbrev pub Derives : {A : Type 0} → G A → Lang A
@@ -101,11 +101,11 @@ Derives never ts x = ⊥
 Derives (limit n g) ts x = Derives g ts x × (length ts ≤ n)
 Derives (note ks g) ts x = Derives g ts x
 
--- Fronts of texts
+-- Prefixes of texts
 
 -- any number of texts, and then tokens with which a further one begins
-abbrev pub RowStarts : {B : Type 0} → Lang B → (List Tok → Type 0) → List Tok → Type 0
-RowStarts L S ts = (bs : List _) × Joined {B = Unit {0}} (λ us (v : Unit {0}). Row L bs us) (λ v us w. S us) ts tt
+abbrev pub RepetitionStarts : {B : Type 0} → Lang B → (List Tok → Type 0) → List Tok → Type 0
+RepetitionStarts L S ts = (bs : List _) × Joined {B = Unit {0}} (λ us (v : Unit {0}). Repetition L bs us) (λ v us w. S us) ts tt
 
 -- with these tokens a text of the rule begins, and they aren't all of it. A limit counts for the tokens that are there:
 -- what would only have to come past it still begins a text
@@ -116,15 +116,15 @@ Starts (seq g h) ts = Starts g ts ⊎ Joined {B = Unit {0}} (Derives g) (λ a us
 Starts (alt g h) ts = Starts g ts ⊎ Starts h ts
 Starts (map f g) ts = Starts g ts
 Starts (skip k g) ts = (ts ≡ []) ⊎ Joined {B = Unit {0}} (IsTok k) (λ a us u. Starts g us) ts tt
-Starts (chain f g h) ts = Starts g ts ⊎ Joined {B = Unit {0}} (Derives g) (λ a us u. RowStarts (Derives h) (Starts h) us) ts tt
+Starts (chain f g h) ts = Starts g ts ⊎ Joined {B = Unit {0}} (Derives g) (λ a us u. RepetitionStarts (Derives h) (Starts h) us) ts tt
 Starts (guard b g) ts = (Starts g ts × (b ≡ true)) ⊎ (ts ≡ [])
 Starts never ts = ts ≡ []
 Starts (limit n g) ts = Starts g ts × (length ts ≤ n)
 Starts (note ks g) ts = Starts g ts
 
 -- the tokens are a text of the rule, or a text of it begins with them
-abbrev pub IsFront : {A : Type 0} → G A → List Tok → Type 0
-IsFront g ts = Starts g ts ⊎ ((x : _) × Derives g ts x)
+abbrev pub IsPrefix : {A : Type 0} → G A → List Tok → Type 0
+IsPrefix g ts = Starts g ts ⊎ ((x : _) × Derives g ts x)
 
 -- Reading with one token ahead
 
@@ -156,7 +156,7 @@ abbrev pub loop : {A B : Type 0} → (A → B → A) → (List Tok → Bool) →
 loop f begins read zero a ts = Ok (a, ts)
 loop f begins read (suc n) a ts = if begins ts then and_then (read ts) (λ b rest. loop f begins read n (f a b) rest) else Ok (a, ts)
 
--- what was read of a front, with the tokens behind that front
+-- what was read of a prefix, with the tokens behind that prefix
 abbrev pub put_back : {A : Type 0} → List Tok → Outcome A → Outcome A
 put_back more (Ok p) = Ok (p.0, p.1 ++ more)
 put_back more (Err ts) = Err (ts ++ more)
@@ -189,7 +189,7 @@ at never ts = false
 at (limit n g) ts = at g ts
 at (note ks g) ts = at g ts
 
--- reads a text of the rule from the front of the tokens
+-- reads a text of the rule from the beginning of the tokens
 abbrev pub parse : {A : Type 0} → G A → List Tok → Outcome A
 parse (tok k) ts = take_tok k ts
 parse (pure a) ts = Ok (a, ts)

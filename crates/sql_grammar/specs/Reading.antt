@@ -1,6 +1,6 @@
--- What it means that tokens are read by a rule, or refused: the longest front decides.
+-- What it means that tokens are read by a rule, or refused: the longest prefix decides.
 use Rattle.std.specs.Prelude.{◌≡◌, ◌≤◌, ◌<◌, ℕ, ◌+◌, ◌-◌, Bool, true, false, ◌&&◌, List, ◌∷◌, ◌++◌, length, take, drop}
-use Rattle.sql_grammar.specs.Grammar.{Tok, G, tok, pure, seq, alt, map, skip, chain, guard, never, limit, note, Derives, Starts, IsFront}
+use Rattle.sql_grammar.specs.Grammar.{Tok, G, tok, pure, seq, alt, map, skip, chain, guard, never, limit, note, Derives, Starts, IsPrefix}
 
 -- the tokens from one place up to another
 abbrev pub part : ℕ → ℕ → List Tok → List Tok
@@ -8,7 +8,7 @@ part from to ts = take (to - from) (drop from ts)
 
 -- no text of the rule begins with the tokens from the first place to the second, with the token that stands there
 abbrev pub Stops : {A : Type 0} → G A → List Tok → ℕ → ℕ → Type 0
-Stops g ts from place = place < length ts → (more : List Tok) → IsFront g (part from (place + 1) ts ++ more) → ⊥
+Stops g ts from place = place < length ts → (more : List Tok) → IsPrefix g (part from (place + 1) ts ++ more) → ⊥
 
 -- the tokens from the first place up to the next are a text of the rule with this tree and no other, and the token
 -- behind them goes on with no text of it

@@ -14,8 +14,8 @@ pub trait AnyRule {
 }
 
 /// Where the check finds that one token ahead decides, reading with one token ahead is exact: it
-/// takes the longest front that is a text, with the one tree that this has, and where the longest
-/// front with which a text begins is none, it stops at the token behind that front.
+/// takes the longest prefix that is a text, with the one tree that this has, and where the longest
+/// prefix with which a text begins is none, it stops at the token behind that prefix.
 pub fn one_token_decides<R: AnyRule>()
     ensures read { ok R.rule ≡ true → (ts : List Tok) (from : ℕ) → from ≤ length ts
         → (tree : R.Value) (rest : List Tok) → parse R.rule (drop from ts) ≡ Ok (tree, rest)
@@ -40,8 +40,8 @@ pub fn one_answer<R: AnyRule>()
 
 /// What begins a text without being all of it starts the rule. Where nothing in the rule forbids a
 /// token, no other tokens do: what starts it goes on to a text.
-pub fn fronts_start<R: AnyRule>()
-    ensures fronts { (ts more : List Tok) (t : Tok) (x : R.Value)
+pub fn prefixes_start<R: AnyRule>()
+    ensures prefixes { (ts more : List Tok) (t : Tok) (x : R.Value)
         → Derives R.rule (ts ++ t ∷ more) x → Starts R.rule ts }
     ensures goes_on { ok R.rule ≡ true → free R.rule ≡ true
         → (ts : List Tok) → Starts R.rule ts → GoOn R.rule ts }

@@ -10,5 +10,5 @@ mod tests;
 mod words;
 
 pub use kind::Kind;
-pub use laws::{AnyRule, fronts_start, one_answer, one_token_decides};
+pub use laws::{AnyRule, one_answer, one_token_decides, prefixes_start};
 pub use words::{kind_of, number_value};

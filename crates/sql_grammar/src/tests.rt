@@ -182,5 +182,5 @@ fn numbers_end_at_the_greatest(rt: HostRuntime) -> Result<(), Fail> {
 fn laws_hold_of_a_rule() {
     one_token_decides::<TwoNames>();
     one_answer::<TwoNames>();
-    fronts_start::<TwoNames>();
+    prefixes_start::<TwoNames>();
 }

@@ -97,11 +97,11 @@ piece_ends t.Sign (b ∷ c ∷ d ∷ bs) h some = absurd cc
 stands_one : (text : List ℕ) (x : Token) → IsUtf8 text → x.at + x.len ≤ length text → 0 < x.len → Ends (slice_of text x) → Stands text x
 stands_one text x utf8 within some (first, last) =
     let size : length (slice_of text x) ≡ x.len = omega (arith, length-take x.len (drop x.at text), length-drop x.at text) in
-    let front : get_or (slice_of text x) 0 0 ≡ get_or text (x.at + 0) 0 = get_or-take x.len (drop x.at text) 0 0 some ∙ get_or-drop x.at text 0 0 in
+    let prefix : get_or (slice_of text x) 0 0 ≡ get_or text (x.at + 0) 0 = get_or-take x.len (drop x.at text) 0 0 some ∙ get_or-drop x.at text 0 0 in
     let back : get_or (slice_of text x) (x.len - 1) 0 ≡ get_or text (x.at + (x.len - 1)) 0 = get_or-take x.len (drop x.at text) (x.len - 1) 0 (omega arith) ∙ get_or-drop x.at text (x.len - 1) 0 in
     let place : x.at + (x.len - 1) + 1 ≡ x.at + x.len = omega arith in
     let zero_on : x.at + 0 ≡ x.at = omega arith in
-    let low : get_or text x.at 0 < 128 = rw (front, zero_on) at first in
+    let low : get_or text x.at 0 < 128 = rw (prefix, zero_on) at first in
     let high : get_or text (x.at + (x.len - 1)) 0 < 128 = rw (size, back) at last in (
       IsCharBoundary-before_ascii text x.at (omega arith) low,
       rw place at (IsCharBoundary-after_ascii text (x.at + (x.len - 1)) utf8 (omega arith) high),

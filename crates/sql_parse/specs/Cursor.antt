@@ -24,16 +24,16 @@ toks text ts = map (tok_of text) ts
 abbrev pub Stands : List ℕ → Token → Type 0
 Stands text t = IsCharBoundary text t.at × IsCharBoundary text (t.at + t.len)
 
-abbrev pub front_kind : List Tok → Option Kind
-front_kind [] = None
-front_kind (t ∷ ts) = Some t.kind
+abbrev pub prefix_kind : List Tok → Option Kind
+prefix_kind [] = None
+prefix_kind (t ∷ ts) = Some t.kind
 
 -- the tokens that are left
 abbrev pub left_of : Inside → List Tok
 left_of c = toks c.text.now c.left.now
 
 abbrev pub IsReady : Inside → Type 0
-IsReady c = All (Stands c.text.now) c.left.now × (c.next ≡ front_kind (left_of c))
+IsReady c = All (Stands c.text.now) c.left.now × (c.next ≡ prefix_kind (left_of c))
 
 -- the next token was of the kind, and is read; or it wasn't, and none is read
 abbrev pub Eats : Kind → Bool → List Tok → List Tok → Type 0

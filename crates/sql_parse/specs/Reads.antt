@@ -7,7 +7,7 @@ use Rattle.sql_parse.specs.declared.fault.Fault.{Fault}
 use Rattle.sql_parse.specs.declared.fault.Fault.TheVariants as fault
 
 -- what was read is this outcome: the value and the tokens that are left, or the tokens from the first one on that
--- doesn't fit. Of want of memory nothing is said
+-- doesn't fit. Of running out of memory nothing is said
 abbrev pub Reads : {A : Type 0} → Outcome A → Result A Fault → List Tok → Type 0
 Reads outcome (Ok a) new = outcome ≡ Ok (a, new)
 Reads outcome (Err fault.Syntax) new = outcome ≡ Err new

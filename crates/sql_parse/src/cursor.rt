@@ -47,9 +47,9 @@ fn slice_of<'a>(text: &'a str, token: &Token) -> &'a str
 }
 
 /// The kind of the first token.
-fn front_kind(text: &str, tokens: &[Token]) -> Option<Kind>
+fn prefix_kind(text: &str, tokens: &[Token]) -> Option<Kind>
     requires { All (spec.Stands text.now) tokens.now }
-    ensures { result ≡ spec.front_kind (spec.toks text.now tokens.now) }
+    ensures { result ≡ spec.prefix_kind (spec.toks text.now tokens.now) }
 {
     match tokens {
         [token, ..] => Some(kind_of(token.kind, slice_of(text, token).as_bytes())),
@@ -66,7 +66,7 @@ impl<'a> Tokens<'a> {
         Tokens {
             text,
             left: tokens,
-            next: front_kind(text, tokens),
+            next: prefix_kind(text, tokens),
         }
     }
 
@@ -97,16 +97,16 @@ impl<'a> Tokens<'a> {
         } else {
             self.left = &[];
         }
-        self.next = front_kind(self.text, self.left);
+        self.next = prefix_kind(self.text, self.left);
     }
 
     /// A cursor over so many of the tokens, or over all where there are fewer.
-    pub fn front(&self, count: usize) -> Tokens<'a>
+    pub fn prefix(&self, count: usize) -> Tokens<'a>
         ensures { result ≡ take count self.now }
     {
         if count < self.left.len() {
-            let (front, _) = self.left.split_at(count);
-            Tokens::new(self.text, front)
+            let (prefix, _) = self.left.split_at(count);
+            Tokens::new(self.text, prefix)
         } else {
             Tokens::new(self.text, self.left)
         }

@@ -10,7 +10,7 @@ pub enum ParseFault {
     /// of the tokens where the text ends too early.
     #[error("token {0} doesn't fit")]
     Syntax(u32),
-    /// Memory was wanting.
+    /// Out of memory.
     #[error("memory is wanting")]
     NoMemory,
 }

@@ -37,10 +37,10 @@ fn level(
 pub fn expr(alloc: Global, tokens: &mut Tokens<'_>, depth: usize) -> Result<Expr, Fault>
     ensures { Reads (parse (spec.expr depth) tokens.old) result tokens.new }
 {
-    let mut front = tokens.front(MAX_TOKENS);
-    let count = front.left();
-    let read = level(alloc, &mut front, depth, Level::Whole);
-    tokens.advance(count.saturating_sub(front.left()));
+    let mut prefix = tokens.prefix(MAX_TOKENS);
+    let count = prefix.left();
+    let read = level(alloc, &mut prefix, depth, Level::Whole);
+    tokens.advance(count.saturating_sub(prefix.left()));
     read
 }
 

@@ -52,10 +52,10 @@ pub fn refusal(fault: Fault, place: usize) -> ParseFault
     }
 }
 
-/// Reads the statement that stands at the front of a text's tokens from the token of this number
+/// Reads the statement that is a prefix of a text's tokens from the token of this number
 /// on, and answers it with the number of the token behind it.
 ///
-/// The tokens are those of the text, which has fewer than 2^32 bytes. The longest front decides: of
+/// The tokens are those of the text, which has fewer than 2^32 bytes. The longest prefix decides: of
 /// the tokens with which a statement begins it takes as many as there are. If they are a statement,
 /// that is the answer. Else it is `Syntax`, with the number of the token behind them, which is the
 /// number of all tokens where the text ends there.

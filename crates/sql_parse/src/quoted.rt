@@ -35,7 +35,7 @@ fn split_pair(text: &str, at: usize) -> (&str, &str)
     requires within { at + 1 < length text.now }
     requires first { slice_index text.now at ≡ 39 }
     requires second { slice_index text.now (at + 1) ≡ 39 }
-    ensures front { result.0.now ≡ take (at + 1) text.now }
+    ensures prefix { result.0.now ≡ take (at + 1) text.now }
     ensures back { result.1.now ≡ drop (at + 2) text.now }
 {
     (&text[..at + 1], &text[at + 2..])
@@ -48,8 +48,8 @@ fn halved(alloc: Global, text: &str) -> Result<Text, AllocError>
     let mut found = String::new(alloc);
     let mut rest = text;
     while let Some(at) = find_pair(rest.as_bytes()) {
-        let (front, back) = split_pair(rest, at);
-        found.push_str(front)?;
+        let (prefix, back) = split_pair(rest, at);
+        found.push_str(prefix)?;
         rest = back;
     }
     found.push_str(rest)?;

@@ -17,8 +17,8 @@ use volt_text::Token;
 /// Reads a statement that defines something, with its semicolon, from the tokens of a text from one
 /// of them on, counted from 0. The answer is the statement and the number of the token behind it.
 ///
-/// The longest front of those tokens decides with which such a statement begins. If it is one, it is
-/// the answer. If not, the answer is `Syntax` with the number of the token behind that front: the
+/// The longest prefix of those tokens decides with which such a statement begins. If it is one, it is
+/// the answer. If not, the answer is `Syntax` with the number of the token behind that prefix: the
 /// first with which no statement goes on. Keywords are no names, and neither has case. In a
 /// procedure parentheses, NOT, unary minus and steps nest at most 100 deep, and an expression has at
 /// most 4096 tokens; the first token past either doesn't fit.

@@ -7,7 +7,7 @@ use std::alloc::Global;
 use std::test::Fail;
 use volt_text::lex;
 
-/// The number of the token behind the statement at a text's front.
+/// The number of the token behind the statement at a text's beginning.
 fn end_of(alloc: Global, text: &str) -> Result<Option<usize>, Fail>
     requires { length text.now < 2 ^ 32 }
 {
@@ -192,9 +192,9 @@ fn each_part_is_refused_at_its_place(rt: HostRuntime) -> Result<(), Fail> {
 }
 
 /// A statement whose condition is 4095 tokens of a sum behind these.
-fn summed(alloc: Global, front: &str) -> Result<String, Fail> {
+fn summed(alloc: Global, prefix: &str) -> Result<String, Fail> {
     let mut text = String::from_str(alloc, "DELETE FROM t WHERE ")?;
-    text.push_str(front)?;
+    text.push_str(prefix)?;
     for _turn in 0..2047 {
         text.push_str("1+")?;
     }

@@ -1,5 +1,5 @@
--- The rows of an agent, and its whole turn.
-pub mod AgentRows
+-- The handlers of an agent, and its whole turn.
+pub mod AgentHandlers
 pub mod AgentTurns
 pub mod AgentWaits
 pub mod AgentEvents

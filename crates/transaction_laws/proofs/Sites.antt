@@ -5,9 +5,9 @@ pub mod SiteLogs
 pub mod SiteCounts
 pub mod SiteGiven
 pub mod Answers
-pub mod AnswerRows
+pub mod AnswerHandlers
 pub mod SiteAnswers
-pub mod Reigns
+pub mod Leaderships
 pub mod SiteOrders
 pub mod SiteSends
 pub mod SiteTurned

@@ -21,7 +21,7 @@ use Rattle.cluster_model.specs.SiteState.{SiteState, Held, leads}
 use Rattle.cluster_model.specs.Site.{standing, copy_acks, least_of}
 use Rattle.cluster_model.specs.Disk.{Shown, chosen}
 use Rattle.word_laws.specs.Histories.{In}
-use Rattle.log_laws.specs.Histories.{LogState, Front, Reign, WordOf, Addressed, IsSlot, is_for, part, start_at, term_at}
+use Rattle.log_laws.specs.Histories.{LogState, Prefix, Leadership, WordOf, Addressed, IsSlot, is_for, part, start_at, term_at}
 use Rattle.disk_laws.specs.Disks.{Firm, Top, Shows}
 use Rattle.transaction_laws.specs.Machine.{IsOpen, WellFormed, first_stage, stage}
 
@@ -89,7 +89,7 @@ pub record Aligned (E : Database) (D : Deployment) (now : ℕ) (K : Transactions
   pub formed : (p : ℕ) → nat_lt p (parts D) ≡ true → WellFormed (first_stage E p) (logs p)
   pub past : (p : ℕ) → nat_lt p (parts D) ≡ true → (stage E p (logs p)).point ≤ now
   -- all transactions before it are over
-  pub front : (p : ℕ) → nat_lt p (parts D) ≡ true → Front (K.closed p) (logs p)
+  pub prefix : (p : ℕ) → nat_lt p (parts D) ≡ true → Prefix (K.closed p) (logs p)
   pub over : (p : ℕ) → nat_lt p (parts D) ≡ true → (stage E p (K.closed p)).opened ≡ None
   pub below : (p : ℕ) → nat_lt p (parts D) ≡ true → (stage E p (K.closed p)).number ≤ K.number
   -- nothing else stands behind them but calls on one partition
@@ -102,7 +102,7 @@ pub record Aligned (E : Database) (D : Deployment) (now : ℕ) (K : Transactions
   pub snapshot : (p : ℕ) → nat_lt p (parts D) ≡ true → K.agreed ≡ Some Snapshot → AllByRecursion NoRound (since K logs p)
   -- Where it ends with a point, all its rounds stood everywhere by then, and no later point.
   pub decided : (p x : ℕ) → nat_lt p (parts D) ≡ true → point_in K.agreed ≡ Some x
-      → Front (K.decided p) (logs p) × IsOpen (stage E p (K.decided p)) K.number × ((stage E p (K.decided p)).point ≤ x)
+      → Prefix (K.decided p) (logs p) × IsOpen (stage E p (K.decided p)) K.number × ((stage E p (K.decided p)).point ≤ x)
   -- That point isn't later than now.
   pub agreed : (x : ℕ) → point_in K.agreed ≡ Some x → x ≤ now
   -- A call that is applied in one partition by what is over is so in all.
@@ -118,36 +118,36 @@ pub record Everywhere (S : LogState) (F : Firm) (p t n : ℕ) : Type 0 where
 
 -- this entry stands at this position of a log
 pub record StandsAt (log : List Entry) (position : ℕ) (e : Entry) : Type 0 where
-  pub front : List Entry
-  pub stands : Front (front ++ e ∷ []) log
-  pub at : length front + 1 ≡ position
+  pub prefix : List Entry
+  pub stands : Prefix (prefix ++ e ∷ []) log
+  pub at : length prefix + 1 ≡ position
 
 -- It stands in that of a term's leader, and is firm.
 pub record Stood (S : LogState) (F : Firm) (p t : ℕ) (e : Entry) : Type 0 where
-  pub reign : Reign
-  pub led : S.logs.reign p t ≡ Some reign
+  pub leadership : Leadership
+  pub led : S.logs.leadership p t ≡ Some leadership
   pub position : ℕ
-  pub stands : StandsAt reign.log position e
+  pub stands : StandsAt leadership.log position e
   pub everywhere : Everywhere S F p t position
 
 -- ---- the logs of leaders
 
 -- the log of the leader of a term, if there is one, with what is due to it
-abbrev pub led_log : Option Reign → List Entry
+abbrev pub led_log : Option Leadership → List Entry
 led_log None = []
 led_log (Some g) = g.log
 
 abbrev pub whole : LogState → Transactions → ℕ → ℕ → List Entry
-whole S K t p = led_log (S.logs.reign p t) ++ K.due p t
+whole S K t p = led_log (S.logs.leadership p t) ++ K.due p t
 
 -- At most one entry is due, and only in a term that was led and whose initiator has heard of all.
 abbrev pub DueOk : LogState → Transactions → ℕ → ℕ → Type 0
 DueOk S K p t =
     (K.due p t ≡ [])
-    ⊎ ((e : Entry) × (g : Reign) × (K.due p t ≡ e ∷ []) × IsOrder e × (S.logs.reign p t ≡ Some g) × (t ≤ K.heard))
+    ⊎ ((e : Entry) × (g : Leadership) × (K.due p t ≡ e ∷ []) × IsOrder e × (S.logs.leadership p t ≡ Some g) × (t ≤ K.heard))
 
 -- In a term whose initiator hasn't heard of all only calls on one partition stand behind what the term began with.
-pub record ReignFits (E : Database) (S : LogState) (K : Transactions) (now p t : ℕ) (g : Reign) : Type 0 where
+pub record LeadershipFits (E : Database) (S : LogState) (K : Transactions) (now p t : ℕ) (g : Leadership) : Type 0 where
   pub formed : WellFormed (first_stage E p) (g.log ++ K.due p t)
   pub past : (stage E p (g.log ++ K.due p t)).point ≤ now
   pub unheard : K.heard < t → OnlyCalls (drop (length g.begun) g.log)
@@ -155,11 +155,11 @@ pub record ReignFits (E : Database) (S : LogState) (K : Transactions) (now p t :
 -- Of a partition in the term that was heard: it is led, what stood in its log before the last transaction is firm, and so is what stood
 -- there when that was decided. The term's mark is on a disk.
 pub record HeardPart (S : LogState) (F : Firm) (K : Transactions) (p : ℕ) : Type 0 where
-  pub reign : Reign
-  pub led : S.logs.reign p K.heard ≡ Some reign
-  pub inside : Front (K.closed p) reign.log
+  pub leadership : Leadership
+  pub led : S.logs.leadership p K.heard ≡ Some leadership
+  pub inside : Prefix (K.closed p) leadership.log
   pub closed : Everywhere S F p K.heard (length (K.closed p))
-  pub decided : (x : ℕ) → point_in K.agreed ≡ Some x → Front (K.decided p) reign.log × Everywhere S F p K.heard (length (K.decided p))
+  pub decided : (x : ℕ) → point_in K.agreed ≡ Some x → Prefix (K.decided p) leadership.log × Everywhere S F p K.heard (length (K.decided p))
   pub top : Top S p K.heard 0
 
 pub record HeardOk (E : Database) (S : LogState) (F : Firm) (K : Transactions) (now : ℕ) : Type 0 where
@@ -173,7 +173,7 @@ pub record HeardOk (E : Database) (S : LogState) (F : Firm) (K : Transactions) (
 -- What the history says of the logs of leaders, after so many events.
 pub record Books (E : Database) (S : LogState) (F : Firm) (K : Transactions) (now : ℕ) : Type 0 where
   pub due : (p t : ℕ) → DueOk S K p t
-  pub reigns : (p t : ℕ) (g : Reign) → IsPart S p → S.logs.reign p t ≡ Some g → ReignFits E S K now p t g
+  pub leaderships : (p t : ℕ) (g : Leadership) → IsPart S p → S.logs.leadership p t ≡ Some g → LeadershipFits E S K now p t g
   pub heard : HeardOk E S F K now
 
 -- ---- what is under way
@@ -201,8 +201,8 @@ pub record OrderOk (S : LogState) (h c : ℕ) (l : Letter) : Type 0 where
   pub initiates : initiator word ≡ Some (h, by)
   pub leads : leader S.words.deployment word (part S c) ≡ Some c
   pub start_is : start_of_slot S.words.deployment word c ≡ Some l.start
-  pub reign : Reign
-  pub led : S.logs.reign (part S c) l.term ≡ Some reign
+  pub leadership : Leadership
+  pub led : S.logs.leadership (part S c) l.term ≡ Some leadership
 
 abbrev pub ToSiteOk : LogState → ℕ → ℕ → Letter → Type 0
 ToSiteOk S h c l = elim l.body as (λ _. Type 0) [
@@ -214,10 +214,10 @@ ToSiteOk S h c l = elim l.body as (λ _. Type 0) [
 -- How a partition stood when its leader told that, in a term whose initiator hasn't heard of all: as the term began.
 pub record StateOk (E : Database) (S : LogState) (F : Firm) (p t m : ℕ) (is_open : Bool) (outcome : Option Outcome) : Type 0 where
   pub part : IsPart S p
-  pub reign : Reign
-  pub led : S.logs.reign p t ≡ Some reign
-  pub told : standing (open_in reign.begun) (last_done E p reign.begun) ≡ msg.MpState m is_open outcome
-  pub everywhere : Everywhere S F p t (length reign.begun)
+  pub leadership : Leadership
+  pub led : S.logs.leadership p t ≡ Some leadership
+  pub told : standing (open_in leadership.begun) (last_done E p leadership.begun) ≡ msg.MpState m is_open outcome
+  pub everywhere : Everywhere S F p t (length leadership.begun)
   pub top : Top S p t 0
 
 -- From a site of partition p to an agent.
@@ -251,12 +251,12 @@ WaitsPlain from l = Unit {0}
 
 -- what the copies acknowledged, and the joiners from the position on at which their streams began
 abbrev pub acknowledged : Deployment → ℕ → SiteState → Option ℕ
-acknowledged D c s = least_of (copy_acks D c s ++ map (λ j. Some (max j.nj j.position)) s.joiners)
+acknowledged D c s = least_of (copy_acks D c s ++ map (λ j. Some (max j.stream_start j.position)) s.joiners)
 
 -- A leader has counted all that it may. No stream began before what its term began with.
 pub record CountsOk (S : LogState) (c : ℕ) : Type 0 where
   pub counted : (n : ℕ) → acknowledged S.words.deployment c (S.sites c) ≡ Some n → n ≤ (S.sites c).firm
-  pub joined : (g : Reign) → S.logs.reign (part S c) (term_at S c) ≡ Some g → AllByRecursion (λ j. length g.begun ≤ j.nj) (S.sites c).joiners
+  pub joined : (g : Leadership) → S.logs.leadership (part S c) (term_at S c) ≡ Some g → AllByRecursion (λ j. length g.begun ≤ j.stream_start) (S.sites c).joiners
 
 -- Of a site that runs. What is due to it as the leader of its term is under way from the initiator of that.
 pub record SiteCalls (S : LogState) (K : Transactions) (c : ℕ) : Type 0 where
@@ -274,13 +274,13 @@ pub record SiteCalls (S : LogState) (K : Transactions) (c : ℕ) : Type 0 where
 -- In the term that was heard, nothing is due to the partition; all rounds and ends in its log are firm, and no transaction is open.
 pub record Settled (E : Database) (S : LogState) (F : Firm) (K : Transactions) (p : ℕ) : Type 0 where
   pub none : K.due p K.heard ≡ []
-  pub reign : Reign
-  pub led : S.logs.reign p K.heard ≡ Some reign
-  pub front : List Entry
-  pub stands : Front front reign.log
-  pub calls : OnlyCalls (drop (length front) reign.log)
-  pub everywhere : Everywhere S F p K.heard (length front)
-  pub over : (stage E p front).opened ≡ None
+  pub leadership : Leadership
+  pub led : S.logs.leadership p K.heard ≡ Some leadership
+  pub prefix : List Entry
+  pub stands : Prefix prefix leadership.log
+  pub calls : OnlyCalls (drop (length prefix) leadership.log)
+  pub everywhere : Everywhere S F p K.heard (length prefix)
+  pub over : (stage E p prefix).opened ≡ None
 
 -- The last transaction ends there, once what is due is taken.
 abbrev pub Ended : Database → LogState → Transactions → ℕ → Type 0
@@ -289,12 +289,12 @@ Ended E S K p = ((stage E p (whole S K K.heard p)).opened ≡ None) × ((stage E
 -- its last round is firm there
 pub record Fed (S : LogState) (F : Firm) (K : Transactions) (p : ℕ) : Type 0 where
   pub none : K.due p K.heard ≡ []
-  pub everywhere : Everywhere S F p K.heard (length (led_log (S.logs.reign p K.heard)))
+  pub everywhere : Everywhere S F p K.heard (length (led_log (S.logs.leadership p K.heard)))
 
 -- Its job, if it has one, is the last transaction. If it decided that, so it ends.
 abbrev pub JobOk : Transactions → Option Work → Type 0
 JobOk K None = Unit {0}
-JobOk K (Some w) = (w.m ≡ K.number) × ((d : Decision) → w.decision ≡ Some d → K.agreed ≡ Some d.outcome)
+JobOk K (Some w) = (w.transaction ≡ K.number) × ((d : Decision) → w.decision ≡ Some d → K.agreed ≡ Some d.outcome)
 
 -- how far the job at hand is in each partition
 abbrev pub AtHand : Database → LogState → Firm → Transactions → Work → Option Decision → Type 0
@@ -306,7 +306,7 @@ AtHand E S F K w (Some d) = (p : ℕ) → IsPart S p → Ended E S K p × (is_in
 abbrev pub PhaseOk : Database → LogState → Firm → Transactions → ℕ → AgentState → Phase → Type 0
 PhaseOk E S F K t a Off = ⊥
 PhaseOk E S F K t a (Hears told) =
-    (K.heard < t) × AllByRecursion (λ x. StateOk E S F x.part t x.m x.is_open x.outcome) told × JobOk K a.initiating.work
+    (K.heard < t) × AllByRecursion (λ x. StateOk E S F x.part t x.transaction x.is_open x.outcome) told × JobOk K a.initiating.work
     × (((a.initiating.next ≡ 0) × (a.initiating.work ≡ None)) ⊎ (K.number < a.initiating.next))
 PhaseOk E S F K t a (Closes m parts finished) =
     (K.heard ≡ t) × (m ≡ K.number) × JobOk K a.initiating.work × (K.number < a.initiating.next)
@@ -348,7 +348,7 @@ pub record CallsHold (E : Database) (S : LogState) (F : Firm) (halted : Bool) (K
   pub books : Books E S F K now
   pub to_sites : (h c : ℕ) → IsSlot S c → AllByRecursion (ToSiteOk S h c) (S.words.channel (Agent h) (Site c))
   pub to_agents : (c h : ℕ) → IsSlot S c → AllByRecursion (AnswerOk E S F K (part S c)) (S.words.channel (Site c) (Agent h))
-  pub outside : (c h : ℕ) → (IsSlot S c → ⊥) → S.words.channel (Site c) (Agent h) ≡ []
+  pub environment : (c h : ℕ) → (IsSlot S c → ⊥) → S.words.channel (Site c) (Agent h) ≡ []
   pub sites : (c : ℕ) → IsSlot S c → 0 < start_at S c → SiteCalls S K c
   pub agents : (h : ℕ) → AgentCalls E S F K h
   pub halts : halted ≡ true → (shown : ℕ → Shown) → Shows S shown → (L : Transactions) × Aligned E S.words.deployment now L (chosen S.words.deployment shown)

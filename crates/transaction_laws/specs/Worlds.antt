@@ -58,13 +58,13 @@ GoesOnAlike E w shown p q = (m : ℕ) (o : Outcome) → IsApplied o
 -- of partition q too, or its transaction is open there.
 abbrev pub StandsOrIsOpen : World → ℕ → ℕ → Type 0
 StandsOrIsOpen w p q = (m : ℕ) (o : Outcome) → IsApplied o
-    → In (Done m o) (w.lead_of p).log
-    → In (Done m o) (w.lead_of q).log ⊎ (open_in (w.lead_of q).log ≡ Some m)
+    → In (Done m o) (w.authoritative p).log
+    → In (Done m o) (w.authoritative q).log ⊎ (open_in (w.authoritative q).log ≡ Some m)
 
 -- Where an end that applies a call on all partitions stands in the log of the leader of partition p of the greatest term, no other end of
 -- its number stands in that of partition q.
 abbrev pub EndsAlike : World → ℕ → ℕ → Type 0
 EndsAlike w p q = (m : ℕ) (o a : Outcome) → IsApplied o
-    → In (Done m o) (w.lead_of p).log
-    → In (Done m a) (w.lead_of q).log
+    → In (Done m o) (w.authoritative p).log
+    → In (Done m a) (w.authoritative q).log
     → a ≡ o

@@ -1,5 +1,5 @@
 //! Laws of the transactions of a cluster, calls on all partitions and snapshots, and of the order in
-//! which entries stand in logs. They hold of every run of the whole world, with any outside, any
+//! which entries stand in logs. They hold of every run of the whole world, with any environment, any
 //! database, and any input whose layout isn't refused and whose base term isn't 0, which would mean no
 //! term. Each is a function without a body; the clause is the law.
 #![tactic(auto)]

@@ -102,13 +102,13 @@ begins bytes entry rest fits e =
     let after : drop (length bytes - length rest) bytes ≡ rest = ap (drop (length bytes - length rest)) t.0.parts ∙ drop_at (entry_bytes entry) rest (length bytes - length rest) len in
     record { spelled = rw after t.0.parts; some = omega (arith, spelled_by_some entry); within = omega arith; fits = t.1 }
 
--- what was read is the entry that is spelled in front
+-- what was read is the entry that is spelled ahead of the rest
 pub read_again : (bytes : List ℕ) (found : Entry) (after : List ℕ) → entry_at bytes ≡ Some (found, after) → (entry : Entry) (rest : List ℕ) → Fits entry → bytes ≡ entry_bytes entry ++ rest → (found ≡ entry) × (length bytes - length after ≡ length (entry_bytes entry))
 read_again bytes found after e entry rest fits spelled =
     let same = some_pair_parts found entry after rest (sym e ∙ ap entry_at spelled ∙ entry_again entry rest fits) in
     (same.0, omega (arith, sizes bytes entry rest spelled, ap (λ (x : List ℕ). length x) same.1))
 
--- what can't be read has no spelling in front
+-- what can't be read has no spelling ahead of the rest
 pub begins_none : (bytes : List ℕ) → entry_at bytes ≡ None → BeginsWithNone bytes
 begins_none bytes e entry rest fits spelled =
     none-some (entry, rest) (sym e ∙ ap entry_at spelled ∙ entry_again entry rest fits)

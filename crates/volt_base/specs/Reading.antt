@@ -1,4 +1,4 @@
--- Reading an entry from the front of bytes.
+-- Reading an entry from the beginning of bytes.
 use Rattle.std.specs.Prelude.{◌≡◌, ℕ, zero, suc, List, [], ◌∷◌, length, take, drop, Option, Some, None, Result, Ok, Err, nat_lt, ◌==◌, ◌&&◌, if◌then◌else◌}
 use Rattle.std.specs.Int.{Width, w16, w32, w64, byte_len, from_be_bytes}
 use Rattle.volt_base.specs.declared.entry.Entry.{Entry}

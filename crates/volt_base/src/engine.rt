@@ -20,7 +20,7 @@ pub trait Engine: Drop {
     fn fits(&self, alloc: Global, entry: &Entry) -> Result<bool, AllocError>
         ensures { IfOk result (λ fits. fits ≡ meaning.fits (state self.now) entry.now) };
 
-    /// Applies an entry that fits, and answers its reply. After want of memory the engine may only be
+    /// Applies an entry that fits, and answers its reply. After running out of memory the engine may only be
     /// dropped.
     fn apply(&mut self, alloc: Global, entry: &Entry) -> Result<Bytes, AllocError>
         requires { meaning.fits (state self.old) entry.now ≡ true }

@@ -39,13 +39,13 @@ pub enum Entry {
     },
     /// One round of a multi-partition transaction on this partition.
     Frag {
-        m: u64,
+        transaction: u64,
         round: u16,
         body: Bytes,
     },
     /// The end of a multi-partition transaction.
     Done {
-        m: u64,
+        transaction: u64,
         outcome: Outcome,
     },
 }

@@ -1,4 +1,4 @@
-//! Reads an entry from the front of bytes. Numbers have their high byte first.
+//! Reads an entry from the beginning of bytes. Numbers have their high byte first.
 
 ghost use Rattle.std.specs.Prelude.{◌≡◌};
 ghost use Rattle.std.specs.Int.{w16, w32, w64};
@@ -12,7 +12,7 @@ use std::alloc::{AllocError, Global};
 /// Why nothing was read.
 #[derive(Debug, Drop)]
 pub(crate) enum Unread {
-    /// No front of the bytes is what is read.
+    /// No prefix of the bytes is what is read.
     NoEntry,
     NoMemory,
 }
@@ -33,8 +33,8 @@ fn read_u16(bytes: &[u8]) -> Result<(u16, &[u8]), Unread>
     if bytes.len() < 2 {
         return Err(Unread::NoEntry);
     }
-    let (front, rest) = bytes.split_at(2);
-    let number = u16::from_be_bytes([front[0], front[1]]);
+    let (prefix, rest) = bytes.split_at(2);
+    let number = u16::from_be_bytes([prefix[0], prefix[1]]);
     Ok((number, rest))
 }
 
@@ -44,8 +44,8 @@ fn read_u32(bytes: &[u8]) -> Result<(u32, &[u8]), Unread>
     if bytes.len() < 4 {
         return Err(Unread::NoEntry);
     }
-    let (front, rest) = bytes.split_at(4);
-    let number = u32::from_be_bytes([front[0], front[1], front[2], front[3]]);
+    let (prefix, rest) = bytes.split_at(4);
+    let number = u32::from_be_bytes([prefix[0], prefix[1], prefix[2], prefix[3]]);
     Ok((number, rest))
 }
 
@@ -55,9 +55,9 @@ fn read_u64(bytes: &[u8]) -> Result<(u64, &[u8]), Unread>
     if bytes.len() < 8 {
         return Err(Unread::NoEntry);
     }
-    let (front, rest) = bytes.split_at(8);
+    let (prefix, rest) = bytes.split_at(8);
     let number = u64::from_be_bytes([
-        front[0], front[1], front[2], front[3], front[4], front[5], front[6], front[7],
+        prefix[0], prefix[1], prefix[2], prefix[3], prefix[4], prefix[5], prefix[6], prefix[7],
     ]);
     Ok((number, rest))
 }
@@ -126,23 +126,36 @@ fn read_sp(alloc: Global, bytes: &[u8]) -> Result<(Entry, &[u8]), Unread>
 fn read_frag(alloc: Global, bytes: &[u8]) -> Result<(Entry, &[u8]), Unread>
     ensures { Gives (λ x. (x.0, x.1.now)) result (frag_at bytes.now) }
 {
-    let (m, rest) = read_u64(bytes)?;
+    let (transaction, rest) = read_u64(bytes)?;
     let (round, rest) = read_u16(rest)?;
     let (body, rest) = read_body(rest)?;
     let body = Bytes::of(alloc, body)?;
-    Ok((Entry::Frag { m, round, body }, rest))
+    Ok((
+        Entry::Frag {
+            transaction,
+            round,
+            body,
+        },
+        rest,
+    ))
 }
 
 #[tactic(auto, unfolding(crate::specs::Reading::done_at))]
 fn read_done(bytes: &[u8]) -> Result<(Entry, &[u8]), Unread>
     ensures { Gives (λ x. (x.0, x.1.now)) result (done_at bytes.now) }
 {
-    let (m, rest) = read_u64(bytes)?;
+    let (transaction, rest) = read_u64(bytes)?;
     let (outcome, rest) = read_outcome(rest)?;
-    Ok((Entry::Done { m, outcome }, rest))
+    Ok((
+        Entry::Done {
+            transaction,
+            outcome,
+        },
+        rest,
+    ))
 }
 
-/// The entry at the front of the bytes, and the bytes after it.
+/// The entry at the beginning of the bytes, and the bytes after it.
 #[tactic(auto, unfolding(crate::specs::Reading::entry_at))]
 pub(crate) fn read_entry(alloc: Global, bytes: &[u8]) -> Result<(Entry, &[u8]), Unread>
     ensures { Gives (λ x. (x.0, x.1.now)) result (entry_at bytes.now) }

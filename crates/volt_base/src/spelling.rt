@@ -53,38 +53,38 @@ fn put_sp(out: &mut Vec<u8>, call: CallNo, point: Stamp, body: &Bytes) -> Result
 }
 
 // The kind of the entry, and the number of its transaction.
-fn put_head(out: &mut Vec<u8>, kind: u8, m: u64) -> Result<(), AllocError>
-    ensures { OnOk result (out.new.items ≡ out.old.items ++ kind ∷ to_be_bytes w64 m) }
+fn put_head(out: &mut Vec<u8>, kind: u8, transaction: u64) -> Result<(), AllocError>
+    ensures { OnOk result (out.new.items ≡ out.old.items ++ kind ∷ to_be_bytes w64 transaction) }
 {
     out.push(kind)?;
-    out.extend_from_slice(&m.to_be_bytes())
+    out.extend_from_slice(&transaction.to_be_bytes())
 }
 
-fn put_round(out: &mut Vec<u8>, m: u64, round: u16) -> Result<(), AllocError>
+fn put_round(out: &mut Vec<u8>, transaction: u64, round: u16) -> Result<(), AllocError>
     ensures { OnOk result (out.new.items
-        ≡ out.old.items ++ 2 ∷ (to_be_bytes w64 m ++ to_be_bytes w16 round)) }
+        ≡ out.old.items ++ 2 ∷ (to_be_bytes w64 transaction ++ to_be_bytes w16 round)) }
 {
-    put_head(out, 2, m)?;
+    put_head(out, 2, transaction)?;
     out.extend_from_slice(&round.to_be_bytes())
 }
 
 #[tactic(auto, unfolding(crate::specs::Spelling::entry_bytes))]
-fn put_frag(out: &mut Vec<u8>, m: u64, round: u16, body: &Bytes) -> Result<(), AllocError>
+fn put_frag(out: &mut Vec<u8>, transaction: u64, round: u16, body: &Bytes) -> Result<(), AllocError>
     requires { length body.now < 2 ^ 32 }
     ensures { OnOk result (out.new.items
-        ≡ out.old.items ++ entry_bytes (Entry.Frag m round body.now)) }
+        ≡ out.old.items ++ entry_bytes (Entry.Frag transaction round body.now)) }
 {
-    put_round(out, m, round)?;
+    put_round(out, transaction, round)?;
     put_body(out, body)
 }
 
 #[tactic(auto, unfolding(crate::specs::Spelling::entry_bytes))]
-fn put_done(out: &mut Vec<u8>, m: u64, outcome: Outcome) -> Result<(), AllocError>
+fn put_done(out: &mut Vec<u8>, transaction: u64, outcome: Outcome) -> Result<(), AllocError>
     ensures spelled { OnOk result (out.new.items
-        ≡ out.old.items ++ entry_bytes (Entry.Done m outcome)) }
+        ≡ out.old.items ++ entry_bytes (Entry.Done transaction outcome)) }
     ensures fits { OnOk result (OutcomeFits outcome) }
 {
-    put_head(out, 3, m)?;
+    put_head(out, 3, transaction)?;
     put_outcome(out, outcome)
 }
 
@@ -96,8 +96,15 @@ pub(crate) fn put_entry(out: &mut Vec<u8>, entry: &Entry) -> Result<(), AllocErr
 {
     match entry {
         Entry::Sp { call, point, body } => put_sp(out, *call, *point, body),
-        Entry::Frag { m, round, body } => put_frag(out, *m, *round, body),
-        Entry::Done { m, outcome } => put_done(out, *m, *outcome),
+        Entry::Frag {
+            transaction,
+            round,
+            body,
+        } => put_frag(out, *transaction, *round, body),
+        Entry::Done {
+            transaction,
+            outcome,
+        } => put_done(out, *transaction, *outcome),
     }
 }
 

@@ -42,7 +42,10 @@ fn written(rt: HostRuntime) -> Result<(), Fail> {
     };
     assert_eq!(rt; call.encode(alloc)?.as_slice(), SP.as_slice());
     let outcome = Outcome::Kept { call: 5, point: 9 };
-    let end = Entry::Done { m: 6, outcome };
+    let end = Entry::Done {
+        transaction: 6,
+        outcome,
+    };
     assert_eq!(rt; end.encode(alloc)?.as_slice(), KEPT.as_slice());
     Ok(())
 }
@@ -59,15 +62,32 @@ fn read(rt: HostRuntime) -> Result<(), Fail> {
         _ => return Err("the bytes are a call".into()),
     }
     match Entry::decode(alloc, &FRAG)? {
-        Some((Entry::Frag { m, round, body }, 17)) => {
-            assert_eq!(rt; (m, round), (258, 2));
+        Some(
+            (
+                Entry::Frag {
+                    transaction,
+                    round,
+                    body,
+                },
+                17,
+            ),
+        ) => {
+            assert_eq!(rt; (transaction, round), (258, 2));
             assert_eq!(rt; body.as_slice(), [7, 8].as_slice());
         }
         _ => return Err("the bytes are a round".into()),
     }
     match Entry::decode(alloc, &KEPT)? {
-        Some((Entry::Done { m, outcome }, 22)) => {
-            assert_eq!(rt; m, 6);
+        Some(
+            (
+                Entry::Done {
+                    transaction,
+                    outcome,
+                },
+                22,
+            ),
+        ) => {
+            assert_eq!(rt; transaction, 6);
             assert_eq!(rt; outcome, Outcome::Kept { call: 5, point: 9 });
         }
         _ => return Err("the bytes are an end".into()),

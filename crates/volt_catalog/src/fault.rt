@@ -19,7 +19,7 @@ pub enum CatalogFault {
     /// There are 32 tables or 64 indexes already, the table has more than 32 columns or rows of more
     /// than 8,192 bytes, or a VARCHAR's length isn't from 1 to 2,048.
     TooMany,
-    /// Memory was wanting.
+    /// Out of memory.
     NoMemory,
 }
 

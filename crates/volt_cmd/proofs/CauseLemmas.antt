@@ -1,6 +1,6 @@
 -- A refusal that has its cause, where nothing may cause one.
 use Rattle.std.proofs.Common.{◌≡◌, ℕ, true, List, Option, Some, None, is_some, is_none, refl}
-use Rattle.volt_io.specs.Faults.{Rose}
+use Rattle.volt_base.specs.Faults.{Increased}
 use Rattle.volt_form.specs.Form.{calls_of_text, first_wrong_line}
 use Rattle.volt_form.proofs.FormLemmas.{wrong_text}
 use Rattle.volt_cmd.specs.declared.status.Status.{Status}
@@ -14,7 +14,7 @@ clash (Some x) w line is one form = absurd cc
 
 pub no_cause : (words : List (List ℕ)) (left : Option (List ℕ)) (before now : ℕ) (status : Status)
     → Refuses words left before now status → is_command words ≡ true → IsOfForm left
-    → (Rose before now → ⊥) → is_ok_or_no_memory status ≡ true
+    → (Increased before now → ⊥) → is_ok_or_no_memory status ≡ true
 no_cause words left before now Ok cause command form still = refl
 no_cause words left before now NoMemory cause command form still = refl
 no_cause words left before now BadUse cause command form still = absurd cc

@@ -5,12 +5,12 @@ use Rattle.volt_base.specs.declared.entry.Applied.{Applied}
 use Rattle.volt_wire.specs.declared.event.Event.{Event}
 use Rattle.volt_report.specs.Report.{Report, ReportEnd, CallLine, CopyLine}
 use Rattle.volt_report.specs.Spelling.{spelling}
-use Rattle.one_host_model.specs.Runs.{run, IsRun, TakesFirst, IsQuiet, serves}
+use Rattle.one_host_model.specs.Runs.{run, IsRun, TakesFirst, IsQuiescent, serves}
 use Rattle.soundness.specs.Sound.{is_answer, IsReply, reply_in, ShowsPart, partition_of_slot}
 use Rattle.soundness.specs.Tied.{Shows, Tied}
 use Rattle.soundness.specs.Carries.{script}
 use Rattle.soundness.specs.Law.{Reported}
-use Rattle.soundness.proofs.Law.{quiet_is_sound, run_is_noted}
+use Rattle.soundness.proofs.Law.{quiescent_is_sound, run_is_noted}
 use Rattle.soundness.proofs.Enabled.{run_serves}
 use Rattle.volt_form.specs.declared.call.ScriptCall.{ScriptCall}
 use Rattle.volt_form.specs.Form.{calls_of_text}
@@ -58,7 +58,7 @@ copies_lined calls r (c ∷ copies) h = (subst AreLines (sym h.0.rows) (part_lin
 
 module _ (calls : List ValidCall) (o : Outcomes) (ran : Ran calls o) (give : (list : List Applied) (call : ℕ) (e : ReportEnd) → reply_in accounts (script accounts calls) [] list call ≡ Some e → is_given e ≡ true) where
   reported : Reported accounts_semantics accounts carried calls (run accounts_semantics ran.events (start calls))
-  reported = quiet_is_sound accounts_semantics accounts carried calls ran.events ran.is_run ran.quiet
+  reported = quiescent_is_sound accounts_semantics accounts carried calls ran.events ran.is_run ran.quiescent
 
   -- the report that is printed
   prints : Prints o reported.report
@@ -80,7 +80,7 @@ module _ (calls : List ValidCall) (o : Outcomes) (ran : Ran calls o) (give : (li
   tied = record {
     is_run = subst (λ (es : List Event). IsRun accounts_semantics es (start calls)) events_is ran.is_run;
     schedule = subst (λ (es : List Event). TakesFirst accounts_semantics es (start calls)) events_is ran.schedule;
-    quiet = subst (λ (es : List Event). IsQuiet (run accounts_semantics es (start calls))) events_is ran.quiet;
+    quiescent = subst (λ (es : List Event). IsQuiescent (run accounts_semantics es (start calls))) events_is ran.quiescent;
     serving = subst (λ (es : List Event). serves (run accounts_semantics es (start calls)) ≡ true) events_is (run_serves accounts_semantics accounts carried calls ran.events ran.is_run);
     shows = subst (λ (es : List Event). Shows accounts_semantics reply_bytes (run accounts_semantics es (start calls)) reported.report) events_is reported.shows;
   }

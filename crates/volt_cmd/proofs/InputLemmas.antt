@@ -39,30 +39,30 @@ wrong_by : (left text : List ℕ) (line : ℕ)
     → text ≡ take (longest_input + 1) left
     → (length text ≤ longest_input → text ≡ left)
     → first_wrong_line text ≡ Some line → (b : Bool) → nat_le (length text) longest_input ≡ b → first_wrong_line left ≡ Some line
-wrong_by left text line front whole is true e = subst (λ (t : List ℕ). first_wrong_line t ≡ Some line) (whole (grind (arith, nat_tests))) is
-wrong_by left text line front whole is false e =
+wrong_by left text line prefix whole is true e = subst (λ (t : List ℕ). first_wrong_line t ≡ Some line) (whole (grind (arith, nat_tests))) is
+wrong_by left text line prefix whole is false e =
     let over : longest_input < length text = grind (arith, nat_tests) in
-    let size : length text ≡ min (longest_input + 1) (length left) = ap length front ∙ length-take (longest_input + 1) left in
+    let size : length text ≡ min (longest_input + 1) (length left) = ap length prefix ∙ length-take (longest_input + 1) left in
     long left (omega arith) ∙ sym (long text over) ∙ is
 
 wrong_of_rest : (rest : Option (List ℕ)) (text : List ℕ) (line : ℕ)
     → IfSome rest (λ left. text ≡ take (longest_input + 1) left)
     → IfSome rest (λ left. length text ≤ longest_input → text ≡ left)
     → first_wrong_line text ≡ Some line → IfSome rest (λ left. first_wrong_line left ≡ Some line)
-wrong_of_rest None text line front whole is = tt
-wrong_of_rest (Some left) text line front whole is = wrong_by left text line front whole is (nat_le (length text) longest_input) refl
+wrong_of_rest None text line prefix whole is = tt
+wrong_of_rest (Some left) text line prefix whole is = wrong_by left text line prefix whole is (nat_le (length text) longest_input) refl
 
 -- what was read of a source that tells what is left: all of it, or one byte more than there may be
 pub record IsRead (rest : Option (List ℕ)) (text : List ℕ) : Type 0 where
-  pub front : IfSome rest (λ left. text ≡ take (longest_input + 1) left)
+  pub prefix : IfSome rest (λ left. text ≡ take (longest_input + 1) left)
   pub whole : IfSome rest (λ left. length text ≤ longest_input → text ≡ left)
 
 -- and so it is where the length is known by another name
 pub is_read : (rest : Option (List ℕ)) (text read : List ℕ) (size : ℕ) → text ≡ read → length text ≡ size
     → IfSome rest (λ left. read ≡ take (longest_input + 1) left)
     → IfSome rest (λ left. size ≤ longest_input → read ≡ left) → IsRead rest text
-is_read None text read size same len front whole = record { front = tt; whole = tt }
-is_read (Some left) text read size same len front whole = record { front = same ∙ front; whole = λ h. same ∙ whole (omega arith) }
+is_read None text read size same len prefix whole = record { prefix = tt; whole = tt }
+is_read (Some left) text read size same len prefix whole = record { prefix = same ∙ prefix; whole = λ h. same ∙ whole (omega arith) }
 
 -- the calls of what was read, where there are any, are those of all
 pub calls_read : {A E : Type 0} (items : A → List ScriptCall) (rest : Option (List ℕ)) (text : List ℕ) → IsRead rest text
@@ -73,7 +73,7 @@ calls_read items rest text read (Err e) is = tt
 -- and so is the first wrong line
 pub wrong_read : (rest : Option (List ℕ)) (text : List ℕ) (line : ℕ) → IsRead rest text
     → first_wrong_line text ≡ Some line → IfSome rest (λ left. first_wrong_line left ≡ Some line)
-wrong_read rest text line read is = wrong_of_rest rest text line read.front read.whole is
+wrong_read rest text line read is = wrong_of_rest rest text line read.prefix read.whole is
 
 -- Calls within bounds
 

@@ -7,7 +7,7 @@ use Rattle.volt_wire.specs.declared.event.Event.{Event}
 use Rattle.one_host_model.specs.declared.input.WorldCall.{WorldCall}
 use Rattle.one_host_model.specs.World.{World, can, step}
 use Rattle.one_host_model.specs.Runs.{run, IsRun, TakesFirst, events, enabled, head}
-use Rattle.soundness.proofs.Enabled.{event_is_of_them, nothing_enabled_is_quiet}
+use Rattle.soundness.proofs.Enabled.{event_is_of_them, nothing_enabled_is_quiescent}
 use Rattle.soundness.proofs.Law.{run_is_short}
 use Rattle.account_engine.specs.Calls.{ValidCall}
 use Rattle.account_engine.specs.Accounts.{AccountsState, accounts, accounts_semantics}
@@ -77,7 +77,7 @@ module _ {M E : Type 0} (state : E → AccountsState) (calls : List ValidCall) w
   pub ended : (world : code.World M E) (r : Reached state calls world) → head (enabled (run accounts_semantics r.events (start calls))) ≡ None → Ended state calls world
   ended world r none = record {
     reached = r;
-    quiet = nothing_enabled_is_quiet accounts_semantics accounts carried calls r.events r.is_run (no_head (enabled (run accounts_semantics r.events (start calls))) none);
+    quiescent = nothing_enabled_is_quiescent accounts_semantics accounts carried calls r.events r.is_run (no_head (enabled (run accounts_semantics r.events (start calls))) none);
   }
 
   -- a run is short

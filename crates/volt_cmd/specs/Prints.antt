@@ -31,4 +31,4 @@ last_lines trace = flat_map event_line trace ++ codes "end" ++ newline
 
 -- the bytes of a report of which the events are still to be spelled
 abbrev pub printed_text : Printed → List ℕ
-printed_text p = p.front.items ++ last_lines p.trace.items
+printed_text p = p.prefix.items ++ last_lines p.trace.items

@@ -2,7 +2,7 @@
 use Rattle.std.specs.Prelude.{◌≡◌, ◌≤◌, List, length}
 use Rattle.volt_wire.specs.declared.event.Event.{Event}
 use Rattle.one_host_model.specs.declared.input.WorldCall.{WorldCall}
-use Rattle.one_host_model.specs.Runs.{run, IsRun, TakesFirst, IsQuiet}
+use Rattle.one_host_model.specs.Runs.{run, IsRun, TakesFirst, IsQuiescent}
 use Rattle.volt_form.specs.Form.{most_calls}
 use Rattle.account_engine.specs.Calls.{ValidCall}
 use Rattle.account_engine.specs.Accounts.{AccountsState, accounts_semantics}
@@ -20,7 +20,7 @@ pub record Reached {M E : Type 0} (state : E → AccountsState) (calls : List Va
 -- and no event may happen there
 pub record Ended {M E : Type 0} (state : E → AccountsState) (calls : List ValidCall) (world : World M E) : Type 0 where
   pub reached : Reached state calls world
-  pub quiet : IsQuiet (run accounts_semantics reached.events (start calls))
+  pub quiescent : IsQuiescent (run accounts_semantics reached.events (start calls))
 
 -- the world stands for the first one of some calls, which are not too many
 pub record IsStart {M E : Type 0} (state : E → AccountsState) (world : World M E) : Type 0 where

@@ -1,7 +1,7 @@
 //! From the bytes that are read to what the world is given.
 
 ghost use Rattle.std.specs.Prelude.{◌≡◌, ◌≢◌, ◌≤◌, ℕ, true, List, All, Option, Some, IfOk, IfSome, Result, Err};
-ghost use Rattle.volt_io.specs.Faults.{Rose};
+ghost use Rattle.volt_base.specs.Faults.{Increased};
 ghost use Rattle.volt_form.specs.Form.{calls_of_text, first_wrong_line};
 ghost use Rattle.account_engine.specs.Calls.{ValidCall, is_valid};
 ghost use Rattle.account_engine.specs.Spelling.{body_bytes};
@@ -21,7 +21,7 @@ pub enum InputFault {
     ReadFailed,
     /// The text isn't of the form; the number is that of its first line that isn't, from 1.
     NotOfForm { line: u32 },
-    /// Memory was wanting.
+    /// Out of memory.
     NoMemory,
 }
 
@@ -36,7 +36,7 @@ pub fn read_calls<S: Source>(alloc: Global, source: &mut S) -> Result<Vec<Script
     ensures wrong { (line : ℕ) → result ≡ Err (InputFault.NotOfForm line)
         → IfSome (S.rest source.old) (λ bytes. first_wrong_line bytes ≡ Some line) }
     ensures failed { result ≡ Err InputFault.ReadFailed
-        → Rose (S.count source.old) (S.count source.new) }
+        → Increased (S.count source.old) (S.count source.new) }
     ensures never_falls { S.count source.old ≤ S.count source.new }
 {
     match read_to_end(alloc, source, LONGEST_INPUT) {

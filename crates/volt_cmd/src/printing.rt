@@ -22,7 +22,7 @@ use volt_wire::Event;
 #[derive(Drop)]
 pub struct Printed {
     /// The bytes of the report, up to the line before its events, and with it.
-    pub front: Vec<u8>,
+    pub prefix: Vec<u8>,
     /// The events, in order.
     pub trace: Vec<Event>,
 }
@@ -37,13 +37,13 @@ pub fn print_report(alloc: Global, outcomes: Outcomes) -> Result<Printed, AllocE
         serial,
         trace,
     } = outcomes;
-    let mut front = Vec::new(alloc);
-    print_ends(&mut front, &ends)?;
+    let mut prefix = Vec::new(alloc);
+    print_ends(&mut prefix, &ends)?;
     drop(ends);
-    print_serial_and_copies(&mut front, &serial, &copies)?;
+    print_serial_and_copies(&mut prefix, &serial, &copies)?;
     drop((serial, copies));
-    print_before_events(&mut front, &trace)?;
-    Ok(Printed { front, trace })
+    print_before_events(&mut prefix, &trace)?;
+    Ok(Printed { prefix, trace })
 }
 
 // The first part of a report: its first line, its opening, and how the calls ended.

@@ -1,4 +1,4 @@
-//! A run of the world by the schedule `first`, until it is quiet.
+//! A run of the world by the schedule `first`, until it is quiescent.
 
 ghost use Rattle.std.specs.Prelude.{◌≡◌, List, OnOk, IfOk};
 ghost use Rattle.account_engine.specs.Calls.{ValidCall};
@@ -24,12 +24,12 @@ pub fn run_input(alloc: Global, input: WorldInput) -> Result<Outcomes, AllocErro
 {
     let mut world = World::boot(alloc, &AccountMaker, &input)?;
     drop(input);
-    run_to_quiet(&mut world)?;
+    run_to_quiescence(&mut world)?;
     world.into_parts()
 }
 
 /// Does the first event that may happen, until none may.
-fn run_to_quiet(world: &mut World<AccountMaker>) -> Result<(), AllocError>
+fn run_to_quiescence(world: &mut World<AccountMaker>) -> Result<(), AllocError>
     requires { IsStart ⟦<Accounts as Engine>⟧.state world.old }
     ensures { OnOk result ((calls : List ValidCall)
         → StandsFor accounts_semantics ⟦<Accounts as Engine>⟧.state world.old (start calls)

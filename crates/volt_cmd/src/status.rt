@@ -10,9 +10,9 @@ pub enum Status {
     BadUse,
     /// The source failed.
     ReadFault,
-    /// The sink failed while the report was written: a front of it is there.
+    /// The sink failed while the report was written: a prefix of it is there.
     WriteFault,
-    /// Memory was wanting.
+    /// Out of memory.
     NoMemory,
     /// The input isn't of the form that is built so far. The number is that of its first line that
     /// isn't, from 1.

@@ -149,12 +149,12 @@ fn answers_of_calls(rt: HostRuntime) -> Result<(), Fail> {
              looks 0\ntrace 7\nsubmit c1\n",
         ),
     ];
-    for (calls, front) in cases {
+    for (calls, prefix) in cases {
         let mut source = MemSource::new(input(alloc, calls)?, Vec::new(alloc));
         let mut sink = MemSink::new(alloc, Vec::new(alloc));
         let status = run(&rt, alloc, &mut source, &mut sink)?;
         assert_eq!(rt; status, Status::Ok);
-        assert!(rt; sink.written().starts_with(front.as_bytes()), "at {calls}");
+        assert!(rt; sink.written().starts_with(prefix.as_bytes()), "at {calls}");
     }
     Ok(())
 }
@@ -223,14 +223,14 @@ fn read_that_fails(rt: HostRuntime) -> Result<(), Fail> {
 #[test]
 fn writes_that_fail(rt: HostRuntime) -> Result<(), Fail> {
     let alloc = rt.alloc();
-    for (call, front) in [(1, b"".as_slice()), (2, b"volt 1\nope".as_slice())] {
+    for (call, prefix) in [(1, b"".as_slice()), (2, b"volt 1\nope".as_slice())] {
         let fail = [call].to_vec(alloc)?;
         let mut source = MemSource::new(input(alloc, FIRST_CALLS)?, Vec::new(alloc));
         let mut sink = MemSink::with_piece(alloc, fail, 10);
         let status = run(&rt, alloc, &mut source, &mut sink)?;
         assert_eq!(rt; status, Status::WriteFault);
         assert_eq!(rt; status.number(), 4);
-        assert_eq!(rt; sink.written(), front);
+        assert_eq!(rt; sink.written(), prefix);
     }
     Ok(())
 }
@@ -249,7 +249,7 @@ fn many_calls(alloc: Global) -> Result<String, AllocError> {
 
 // What is written of them before the first event: each call is seven events, and enters the log
 // at the fourth of them.
-fn front_of_many(alloc: Global) -> Result<String, AllocError> {
+fn prefix_of_many(alloc: Global) -> Result<String, AllocError> {
     let mut text = format!(in alloc; "volt 1\nopening 0\ncalls {MANY}\n")?;
     for call in 1..=MANY {
         let (first, last) = (7 * call - 6, 7 * call);
@@ -271,7 +271,7 @@ fn front_of_many(alloc: Global) -> Result<String, AllocError> {
 
 // The whole of it.
 fn report_of_many(alloc: Global) -> Result<String, AllocError> {
-    let mut text = front_of_many(alloc)?;
+    let mut text = prefix_of_many(alloc)?;
     for _ in 0..MANY {
         text.push_str(
             "submit c1\ndeliver d c1\ndeliver h0 c1\ndeliver s0 h0\nsync s0\ndeliver h0 s0\n\
@@ -301,10 +301,10 @@ fn events_in_several_pieces(rt: HostRuntime) -> Result<(), Fail> {
 fn writes_of_events_that_fail(rt: HostRuntime) -> Result<(), Fail> {
     let alloc = rt.alloc();
     let calls = many_calls(alloc)?;
-    let front = front_of_many(alloc)?.len();
+    let prefix = prefix_of_many(alloc)?.len();
     let report = report_of_many(alloc)?;
-    // A whole write takes the front, and each later one a piece of at most 16 KiB.
-    for (call, least, most) in [(2, front, front), (3, front + 16_000, front + 16_384)] {
+    // A whole write takes the prefix, and each later one a piece of at most 16 KiB.
+    for (call, least, most) in [(2, prefix, prefix), (3, prefix + 16_000, prefix + 16_384)] {
         let fail = [call].to_vec(alloc)?;
         let mut source = MemSource::new(input(alloc, &calls)?, Vec::new(alloc));
         let mut sink = MemSink::new(alloc, fail);

@@ -1,8 +1,8 @@
 //! The top call.
 
 ghost use Rattle.std.specs.Prelude.{◌≡◌, ◌≤◌, ℕ, decimal, true, false, List, map, Some, None, string_bytes, OnOk, OnErr, IfOk, IfErr, IfSome};
-ghost use Rattle.volt_io.specs.Faults.{Rose};
-ghost use Rattle.volt_io.specs.Told.{Appends, AppendsFrontOf};
+ghost use Rattle.volt_base.specs.Faults.{Increased};
+ghost use Rattle.volt_io.specs.Told.{Appends, AppendsPrefixOf};
 ghost use Rattle.volt_form.specs.declared.call.ScriptCall.{ScriptCall};
 ghost use Rattle.volt_form.specs.Form.{calls_of_text, first_wrong_line};
 ghost use Rattle.volt_cmd.specs.Script.{IsAsked};
@@ -33,28 +33,28 @@ pub fn volt<R: Threads + Sync, S: Source, K: Sink>(
     sink: &mut K,
 ) -> Status
     // The headline. With Ok what is written is the spelling of one report that is sound for the
-    // input and tied to a run of it; with WriteFault it is a front of that.
+    // input and tied to a run of it; with WriteFault it is a prefix of that.
     ensures sound { result ≡ Status.Ok → IfSome (S.rest source.old)
         (λ bytes. (text : List ℕ) × Explains bytes text × Appends (K.contents sink.old) (K.contents sink.new) text) }
     ensures partly { result ≡ Status.WriteFault → IfSome (S.rest source.old)
-        (λ bytes. (text : List ℕ) × Explains bytes text × AppendsFrontOf (K.contents sink.old) (K.contents sink.new) text) }
+        (λ bytes. (text : List ℕ) × Explains bytes text × AppendsPrefixOf (K.contents sink.old) (K.contents sink.new) text) }
     ensures command { result ≡ Status.Ok → is_command (map string_bytes words.now) ≡ true }
 
     // The causes.
-    ensures write_fault { result ≡ Status.WriteFault → Rose (K.count sink.old) (K.count sink.new) }
+    ensures write_fault { result ≡ Status.WriteFault → Increased (K.count sink.old) (K.count sink.new) }
     ensures cause { is_refusal result ≡ true
         → Refuses (map string_bytes words.now) (S.rest source.old) (S.count source.old) (S.count source.new) result }
     ensures bad_use { is_command (map string_bytes words.now) ≡ false → result ≡ Status.BadUse }
 
-    // Completeness: a command whose input is of the form ends so where no count of faults rose.
+    // Completeness: a command whose input is of the form ends so where no count of faults increased.
     ensures complete { is_command (map string_bytes words.now) ≡ true → IsOfForm (S.rest source.old)
-        → (Rose (S.count source.old) (S.count source.new) → ⊥) → (Rose (K.count sink.old) (K.count sink.new) → ⊥)
+        → (Increased (S.count source.old) (S.count source.new) → ⊥) → (Increased (K.count sink.old) (K.count sink.new) → ⊥)
         → is_ok_or_no_memory result ≡ true }
 
     // The line of a fault. A failure to write it leaves the status as it is.
     ensures line { is_refusal result ≡ true
-        → AppendsFrontOf (K.contents sink.old) (K.contents sink.new) (fault_line result) }
-    ensures whole_line { is_refusal result ≡ true → (Rose (K.count sink.old) (K.count sink.new) → ⊥)
+        → AppendsPrefixOf (K.contents sink.old) (K.contents sink.new) (fault_line result) }
+    ensures whole_line { is_refusal result ≡ true → (Increased (K.count sink.old) (K.count sink.new) → ⊥)
         → Appends (K.contents sink.old) (K.contents sink.new) (fault_line result) }
 {
     match read_and_run(alloc, words, source) {
@@ -123,8 +123,8 @@ fn report_of(alloc: Global, calls: Vec<ScriptCall>) -> Result<Printed, AllocErro
 /// Writes the line of a refusal.
 fn write_fault<K: Sink>(sink: &mut K, status: Status) -> Result<(), WriteFailed>
     ensures whole { OnOk result (Appends (K.contents sink.old) (K.contents sink.new) (fault_line status)) }
-    ensures front { AppendsFrontOf (K.contents sink.old) (K.contents sink.new) (fault_line status) }
-    ensures rises { OnErr result (Rose (K.count sink.old) (K.count sink.new)) }
+    ensures prefix { AppendsPrefixOf (K.contents sink.old) (K.contents sink.new) (fault_line status) }
+    ensures rises { OnErr result (Increased (K.count sink.old) (K.count sink.new)) }
 {
     match status {
         Status::BadUse => write_all(sink, b"fault BadUse\n"),
@@ -136,8 +136,8 @@ fn write_fault<K: Sink>(sink: &mut K, status: Status) -> Result<(), WriteFailed>
 
 fn write_not_built<K: Sink>(sink: &mut K, line: u32) -> Result<(), WriteFailed>
     ensures whole { OnOk result (Appends (K.contents sink.old) (K.contents sink.new) (fault_line (Status.NotBuilt line))) }
-    ensures front { AppendsFrontOf (K.contents sink.old) (K.contents sink.new) (fault_line (Status.NotBuilt line)) }
-    ensures rises { OnErr result (Rose (K.count sink.old) (K.count sink.new)) }
+    ensures prefix { AppendsPrefixOf (K.contents sink.old) (K.contents sink.new) (fault_line (Status.NotBuilt line)) }
+    ensures rises { OnErr result (Increased (K.count sink.old) (K.count sink.new)) }
 {
     write_all(sink, b"fault NotBuilt ")?;
     write_number(sink, line)?;
@@ -147,8 +147,8 @@ fn write_not_built<K: Sink>(sink: &mut K, line: u32) -> Result<(), WriteFailed>
 
 fn write_number<K: Sink>(sink: &mut K, number: u32) -> Result<(), WriteFailed>
     ensures written { OnOk result (Appends (K.contents sink.old) (K.contents sink.new) (decimal number)) }
-    ensures partly { OnErr result (AppendsFrontOf (K.contents sink.old) (K.contents sink.new) (decimal number)) }
-    ensures rises { OnErr result (Rose (K.count sink.old) (K.count sink.new)) }
+    ensures partly { OnErr result (AppendsPrefixOf (K.contents sink.old) (K.contents sink.new) (decimal number)) }
+    ensures rises { OnErr result (Increased (K.count sink.old) (K.count sink.new)) }
     ensures never_falls { K.count sink.old ≤ K.count sink.new }
 {
     let mut buffer = Buffer::new();

@@ -1,8 +1,8 @@
 //! From a printed report to the bytes in a sink. Nothing here takes memory.
 
 ghost use Rattle.std.specs.Prelude.{◌≤◌, OnOk, OnErr};
-ghost use Rattle.volt_io.specs.Faults.{Rose};
-ghost use Rattle.volt_io.specs.Told.{Appends, AppendsFrontOf};
+ghost use Rattle.volt_base.specs.Faults.{Increased};
+ghost use Rattle.volt_io.specs.Told.{Appends, AppendsPrefixOf};
 ghost use Rattle.volt_cmd.specs.Prints.{last_lines, printed_text};
 
 use crate::printing::Printed;
@@ -15,21 +15,21 @@ use volt_wire::Event;
 /// Writes a report, and lets its bytes go before the first event.
 pub fn write_report<K: Sink>(sink: &mut K, report: Printed) -> Result<(), WriteFailed>
     ensures written { OnOk result (Appends (K.contents sink.old) (K.contents sink.new) (printed_text report)) }
-    ensures partly { OnErr result (AppendsFrontOf (K.contents sink.old) (K.contents sink.new) (printed_text report)) }
-    ensures rises { OnErr result (Rose (K.count sink.old) (K.count sink.new)) }
+    ensures partly { OnErr result (AppendsPrefixOf (K.contents sink.old) (K.contents sink.new) (printed_text report)) }
+    ensures rises { OnErr result (Increased (K.count sink.old) (K.count sink.new)) }
     ensures never_falls { K.count sink.old ≤ K.count sink.new }
 {
-    let Printed { front, trace } = report;
-    write_all(sink, &front)?;
-    drop(front);
+    let Printed { prefix, trace } = report;
+    write_all(sink, &prefix)?;
+    drop(prefix);
     write_last_lines(sink, &trace)
 }
 
 // The lines of the events, each made as it is written, and the last line.
 fn write_last_lines<K: Sink>(sink: &mut K, trace: &[Event]) -> Result<(), WriteFailed>
     ensures written { OnOk result (Appends (K.contents sink.old) (K.contents sink.new) (last_lines trace.now)) }
-    ensures partly { OnErr result (AppendsFrontOf (K.contents sink.old) (K.contents sink.new) (last_lines trace.now)) }
-    ensures rises { OnErr result (Rose (K.count sink.old) (K.count sink.new)) }
+    ensures partly { OnErr result (AppendsPrefixOf (K.contents sink.old) (K.contents sink.new) (last_lines trace.now)) }
+    ensures rises { OnErr result (Increased (K.count sink.old) (K.count sink.new)) }
     ensures never_falls { K.count sink.old ≤ K.count sink.new }
 {
     let mut buffer = WriteBuffer::new();

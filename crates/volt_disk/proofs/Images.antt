@@ -16,15 +16,15 @@ length-overwritten at xs old within = simp (length-append, length-take, length-d
 
 -- outside of the place of the new bytes the old ones stand
 pub get-overwritten : (at : ℕ) (xs old : List ℕ) (i : ℕ) → at + length xs ≤ length old → ¬ IsInRange i (at, length xs) → get_or (overwritten at xs old) i 0 ≡ get_or old i 0
-get-overwritten at xs old i within outside =
-    let front : length (take at old) ≡ at = length-take-le at old (omega arith) in
+get-overwritten at xs old i within beyond =
+    let prefix : length (take at old) ≡ at = length-take-le at old (omega arith) in
     elim (cases_lt i at) [
       | inl below ↦ get_or_append_left (take at old) (xs ++ drop (at + length xs) old) 0 i (omega arith) ∙ get_or-take at old i 0 below
       | inr above ↦
           elim (cases_lt i (at + length xs)) [
-            | inl inside ↦ absurd (outside (above, inside))
+            | inl inside ↦ absurd (beyond (above, inside))
             | inr behind ↦
-                get_or-append_right (take at old) (xs ++ drop (at + length xs) old) at i 0 front above
+                get_or-append_right (take at old) (xs ++ drop (at + length xs) old) at i 0 prefix above
                 ∙ (get_or-append_right xs (drop (at + length xs) old) (length xs) (i - at) 0 refl (omega arith)
                 ∙ (get_or-drop (at + length xs) old (i - at - length xs) 0 ∙ ap (λ k. get_or old k 0) (omega arith)))
           ]
@@ -38,12 +38,12 @@ length-undone (r ∷ rs) bytes within =
     length-overwritten r.0 r.1 (undone rs bytes) (omega arith) ∙ same
 
 pub get-undone : (rs : List (ℕ × List ℕ)) (bytes : List ℕ) (i : ℕ) → AreWithin (length bytes) rs → ¬ IsInSome i (ranges rs) → get_or (undone rs bytes) i 0 ≡ get_or bytes i 0
-get-undone [] bytes i within outside = refl
-get-undone (r ∷ rs) bytes i within outside =
+get-undone [] bytes i within beyond = refl
+get-undone (r ∷ rs) bytes i within beyond =
     let same = length-undone rs bytes within.1 in
     let first = within.0 in
-    get-overwritten r.0 r.1 (undone rs bytes) i (omega arith) (λ h. outside (inl h))
-    ∙ get-undone rs bytes i within.1 (λ h. outside (inr h))
+    get-overwritten r.0 r.1 (undone rs bytes) i (omega arith) (λ h. beyond (inl h))
+    ∙ get-undone rs bytes i within.1 (λ h. beyond (inr h))
 
 pub before-is_torn : (s : Stored) → s.least ≤ length s.bytes → length s.bytes ≤ s.most → AreWithin (length s.bytes) s.replaced → IsTorn (file_of s) (bytes_before s)
 before-is_torn s low high within =
@@ -52,7 +52,7 @@ before-is_torn s low high within =
     record {
       no_shorter = omega arith;
       no_longer = omega arith;
-      others = λ i less outside. get_or-take s.least (undone s.replaced s.bytes) i 0 (omega (arith, less, len)) ∙ get-undone s.replaced s.bytes i within outside;
+      others = λ i less beyond. get_or-take s.least (undone s.replaced s.bytes) i 0 (omega (arith, less, len)) ∙ get-undone s.replaced s.bytes i within beyond;
     }
 
 pub length-scattered : (n at : ℕ) (b : List ℕ × ℕ) → length (scattered n at b).0 ≡ length b.0
@@ -63,19 +63,19 @@ length-scattered (suc n) at b =
 
 pub get-scattered : (n at : ℕ) (b : List ℕ × ℕ) (i : ℕ) → ¬ IsInRange i (at, n) → get_or (scattered n at b).0 i 0 ≡ get_or b.0 i 0
 unfolding scattered
-get-scattered zero at b i outside = refl
-get-scattered (suc n) at b i outside =
-    get-scattered n (at + 1) (set b.0 at (draw_of (next_state b.1) % 2 ^ 8), next_state b.1) i (λ h. outside (let low = h.0 in omega arith, let high = h.1 in omega arith))
-    ∙ get_or-set_other b.0 at i (draw_of (next_state b.1) % 2 ^ 8) 0 (λ same. outside (omega arith, omega arith))
+get-scattered zero at b i beyond = refl
+get-scattered (suc n) at b i beyond =
+    get-scattered n (at + 1) (set b.0 at (draw_of (next_state b.1) % 2 ^ 8), next_state b.1) i (λ h. beyond (let low = h.0 in omega arith, let high = h.1 in omega arith))
+    ∙ get_or-set_other b.0 at i (draw_of (next_state b.1) % 2 ^ 8) 0 (λ same. beyond (omega arith, omega arith))
 
 pub length-scattered_all : (rs : List (ℕ × List ℕ)) (b : List ℕ × ℕ) → length (scattered_all rs b).0 ≡ length b.0
 length-scattered_all [] b = refl
 length-scattered_all (r ∷ rs) b = length-scattered_all rs (scattered (length r.1) r.0 b) ∙ length-scattered (length r.1) r.0 b
 
 pub get-scattered_all : (rs : List (ℕ × List ℕ)) (b : List ℕ × ℕ) (i : ℕ) → ¬ IsInSome i (ranges rs) → get_or (scattered_all rs b).0 i 0 ≡ get_or b.0 i 0
-get-scattered_all [] b i outside = refl
-get-scattered_all (r ∷ rs) b i outside =
-    get-scattered_all rs (scattered (length r.1) r.0 b) i (λ h. outside (inr h)) ∙ get-scattered (length r.1) r.0 b i (λ h. outside (inl h))
+get-scattered_all [] b i beyond = refl
+get-scattered_all (r ∷ rs) b i beyond =
+    get-scattered_all rs (scattered (length r.1) r.0 b) i (λ h. beyond (inr h)) ∙ get-scattered (length r.1) r.0 b i (λ h. beyond (inl h))
 
 -- the length that a draw gives
 pub record IsCut (least : ℕ) (bytes cut : List ℕ) : Type 0 where
@@ -104,12 +104,12 @@ drawn-is_torn x s low high =
     record {
       no_shorter = let l = cut.low in omega arith;
       no_longer = let h = cut.high in omega arith;
-      others = λ i less outside. get-scattered_all s.replaced (cut_to s.least x s.bytes) i outside ∙ cut.same i (omega (arith, less, len));
+      others = λ i less beyond. get-scattered_all s.replaced (cut_to s.least x s.bytes) i beyond ∙ cut.same i (omega (arith, less, len));
     }
 
 seen-is_image_if : (l : Listing) (s : Stored) → s.least ≤ length s.bytes → length s.bytes ≤ s.most → IsImage (record (file_of s) { listing = l }) (bytes_if_listed l s.bytes)
-seen-is_image_if Kept s low high = inl (record { no_shorter = low; no_longer = high; others = λ i less outside. refl })
-seen-is_image_if Leaving s low high = inl (record { no_shorter = low; no_longer = high; others = λ i less outside. refl })
+seen-is_image_if Kept s low high = inl (record { no_shorter = low; no_longer = high; others = λ i less beyond. refl })
+seen-is_image_if Leaving s low high = inl (record { no_shorter = low; no_longer = high; others = λ i less beyond. refl })
 seen-is_image_if Removed s low high = inr (tt, refl)
 
 pub seen-is_image : (s : Stored) → s.least ≤ length s.bytes → length s.bytes ≤ s.most → IsImage (file_of s) (bytes_if_listed s.listing s.bytes)
@@ -148,7 +148,7 @@ Progress-files choice (suc i) x0 (o ∷ olds) (n ∷ news) x len p =
     let head = p.0 in cc
 
 no_file-cycles : (n : ℕ) → CyclesTo (file_of (blank n)) (file_of (blank n))
-no_file-cycles n = (inl (record { no_shorter = omega arith; no_longer = omega arith; others = λ i less outside. refl }), refl)
+no_file-cycles n = (inl (record { no_shorter = omega arith; no_longer = omega arith; others = λ i less beyond. refl }), refl)
 
 pub Progress-each : (choice i x0 : ℕ) (olds news : List Stored) (x : ℕ) → i ≡ length olds → Progress choice i x0 olds news x → (n : ℕ) → CyclesTo (file_of (stored_at n olds)) (file_of (stored_at n news))
 Progress-each choice zero x0 [] news x len p n = rw p.0 (no_file-cycles n)

@@ -13,9 +13,9 @@ pub AreWithin-push : (len : ℕ) (rs : List (ℕ × List ℕ)) (r : ℕ × List 
 AreWithin-push len [] r h le = (le, tt)
 AreWithin-push len (s ∷ rs) r h le = (h.0, AreWithin-push len rs r h.1 le)
 
-pub AreWithin-front : (len : ℕ) (rs : List (ℕ × List ℕ)) (r : ℕ × List ℕ) → AreWithin len (rs ++ r ∷ []) → AreWithin len rs
-AreWithin-front len [] r h = tt
-AreWithin-front len (s ∷ rs) r h = (h.0, AreWithin-front len rs r h.1)
+pub AreWithin-prefix : (len : ℕ) (rs : List (ℕ × List ℕ)) (r : ℕ × List ℕ) → AreWithin len (rs ++ r ∷ []) → AreWithin len rs
+AreWithin-prefix len [] r h = tt
+AreWithin-prefix len (s ∷ rs) r h = (h.0, AreWithin-prefix len rs r h.1)
 
 pub AreWithin-last : (len : ℕ) (rs : List (ℕ × List ℕ)) (r : ℕ × List ℕ) → AreWithin len (rs ++ r ∷ []) → r.0 + length r.1 ≤ len
 AreWithin-last len [] r h = h.0
@@ -93,23 +93,23 @@ bytes_before-grown to s low within =
 
 -- what stood in a range is put over it again, whatever is there now
 overwritten-back : (at n : ℕ) (b now : List ℕ) → at + n ≤ length b → take at now ≡ take at b → drop (at + n) now ≡ drop (at + n) b → overwritten at (slice_range b at (at + n)) now ≡ b
-overwritten-back at n b now within front behind =
+overwritten-back at n b now within prefix behind =
     let len : length (slice_range b at (at + n)) ≡ n = length-part at n b within in
     let count : at + n - at ≡ n = omega arith in
     let part : slice_range b at (at + n) ++ drop (at + n) b ≡ drop at b =
     ap (λ k. take k (drop at b) ++ drop (at + n) b) count ∙ (ap (λ l. take n (drop at b) ++ l) (sym (drop-drop n at b)) ∙ take-append-drop n (drop at b)) in
-    rw (len, front, behind) (ap (λ l. take at b ++ l) part ∙ take-append-drop at b)
+    rw (len, prefix, behind) (ap (λ l. take at b ++ l) part ∙ take-append-drop at b)
 
-drop-front : (at : ℕ) (xs b rest : List ℕ) → at ≤ length b → drop (at + length xs) (take at b ++ (xs ++ rest)) ≡ rest
-drop-front at xs b rest within =
-    let front : length (take at b ++ xs) ≡ at + length xs = length-append (take at b) xs ∙ omega (arith, length-take-le at b within) in
-    ap (drop (at + length xs)) (sym (append_assoc (take at b) xs rest)) ∙ drop_at (take at b ++ xs) rest (at + length xs) front
+drop-prefix : (at : ℕ) (xs b rest : List ℕ) → at ≤ length b → drop (at + length xs) (take at b ++ (xs ++ rest)) ≡ rest
+drop-prefix at xs b rest within =
+    let prefix : length (take at b ++ xs) ≡ at + length xs = length-append (take at b) xs ∙ omega (arith, length-take-le at b within) in
+    ap (drop (at + length xs)) (sym (append_assoc (take at b) xs rest)) ∙ drop_at (take at b ++ xs) rest (at + length xs) prefix
 
 pub bytes_before-written : (at : ℕ) (xs : List ℕ) (s : Stored) → at + length xs ≤ length s.bytes → bytes_before (stored_written at xs s) ≡ bytes_before s
 bytes_before-written at xs s within =
     let back = overwritten-back at (length xs) s.bytes (overwritten at xs s.bytes) within
     (take_at (take at s.bytes) (xs ++ drop (at + length xs) s.bytes) at (length-take-le at s.bytes (omega arith)))
-    (drop-front at xs s.bytes (drop (at + length xs) s.bytes) (omega arith)) in
+    (drop-prefix at xs s.bytes (drop (at + length xs) s.bytes) (omega arith)) in
     ap (take s.least) (undone-push s.replaced (at, slice_range s.bytes at (at + length xs)) (overwritten at xs s.bytes) ∙ ap (undone s.replaced) back)
 
 pub bytes_before-asked : (at len : ℕ) (s : Stored) → at + len ≤ length s.bytes → bytes_before (stored_write_asked at len s) ≡ bytes_before s

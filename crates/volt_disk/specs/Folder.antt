@@ -1,7 +1,7 @@
 -- What a clause sees of a disk over real files.
 use Rattle.std.specs.Prelude.{Bool, true, false}
 use Rattle.volt_disk.specs.declared.folder.Tally.{Tally}
-use Rattle.volt_disk.specs.Faults.{one_more}
+use Rattle.volt_base.specs.Faults.{one_more}
 use Rattle.volt_disk.specs.Power.{full_power, after_call}
 
 -- before its first call

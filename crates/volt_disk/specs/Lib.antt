@@ -1,4 +1,3 @@
-pub mod Faults
 pub mod File
 pub mod Effects
 pub mod Power

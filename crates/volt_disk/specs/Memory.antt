@@ -6,7 +6,7 @@ use Rattle.volt_disk.specs.declared.power.Fate.{Fate}
 use Rattle.volt_disk.specs.declared.power.Fate.TheVariants.{Works, Cut, Dark}
 use Rattle.volt_disk.specs.declared.memory.Turn.{Turn}
 use Rattle.volt_disk.specs.declared.memory.Turn.TheVariants.{Done, Numbered, Lost, Off}
-use Rattle.volt_disk.specs.Faults.{Rose, one_more}
+use Rattle.volt_base.specs.Faults.{Increased, one_more}
 use Rattle.volt_disk.specs.File.{File}
 use Rattle.volt_disk.specs.Power.{full_power, fate, after_call}
 use Rattle.volt_disk.specs.Stored.{Stored, stored_at, file_of, bytes_before}
@@ -59,9 +59,9 @@ starving m = record m { faults = one_more m.faults; starved = one_more m.starved
 -- a call fails where it meets something, or finds no memory; and else it works
 abbrev pub FailsBy : {T E : Type 0} → Turn → Result T E → ℕ → ℕ → Type 0
 FailsBy Done (Ok x) before now = now ≡ before
-FailsBy Done (Err e) before now = Rose before now
+FailsBy Done (Err e) before now = Increased before now
 FailsBy _ (Ok x) before now = ⊥
-FailsBy _ (Err e) before now = (now ≡ before) ⊎ Rose before now
+FailsBy _ (Err e) before now = (now ≡ before) ⊎ Increased before now
 
 -- what a call makes of a file: without power nothing, failed by its number what was asked for, and else its effect
 abbrev pub by_turn : Turn → File → File → File → File
@@ -72,7 +72,7 @@ by_turn Off old asked taken = old
 
 -- the call changes the file so, unless it found no memory, and then not at all
 abbrev pub ChangesTo : {T E : Type 0} → Result T E → ℕ → ℕ → File → File → File → Type 0
-ChangesTo result before now old new to = (new ≡ to) ⊎ (IsErr result × Rose before now × (new ≡ old))
+ChangesTo result before now old new to = (new ≡ to) ⊎ (IsErr result × Increased before now × (new ≡ old))
 
 -- the choice of a loss of power; where none came true it is 1
 abbrev pub choice_of : Option ℕ → ℕ

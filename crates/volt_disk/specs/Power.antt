@@ -3,7 +3,7 @@ use Rattle.std.specs.Prelude.{ℕ, ◌-◌, Bool, true, false, Option, Some, Non
 use Rattle.volt_disk.specs.declared.power.Power.{Power}
 use Rattle.volt_disk.specs.declared.power.Fate.{Fate}
 use Rattle.volt_disk.specs.declared.power.Fate.TheVariants.{Works, Cut, Dark}
-use Rattle.volt_disk.specs.Faults.{one_more}
+use Rattle.volt_base.specs.Faults.{one_more}
 
 -- before the first plan
 abbrev pub full_power : Power

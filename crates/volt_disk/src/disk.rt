@@ -1,6 +1,6 @@
 //! What a disk is: numbered files, what a read gives of them, and what a crash may leave.
 ghost use Rattle.std.specs.Prelude.{◌≡◌, ◌≢◌, ◌+◌, ◌≤◌, ℕ, Bool, true, false, IsTrue, length, slice_range, Some, codes, IfOk, OnOk, OnErr};
-ghost use Rattle.volt_disk.specs.Faults.{Rose};
+ghost use Rattle.volt_base.specs.Faults.{Increased};
 ghost use Rattle.volt_disk.specs.File.{File, seen};
 ghost use Rattle.volt_disk.specs.Effects.{growth_asked, grown, write_asked, after_write, synced, removed, removal_asked, names_synced, FailsAs, CyclesTo};
 ghost use Rattle.volt_disk.specs.Power.{has_power, after_call, planned, cycled};
@@ -67,7 +67,7 @@ impl From<AllocError> for LogFault {
 /// A crash is a loss of power at any moment, or a power cycle. It leaves an image of each file
 /// (`IsImage` of the file as it is told).
 ///
-/// Each disk counts its faults, and a call fails only where that count rose. A count that stands at
+/// Each disk counts its faults, and a call fails only where that count increased. A count that stands at
 /// the greatest `u64` is taken as risen, since it can't rise further.
 pub trait Disk {
     /// Such a disk tells its bytes.
@@ -87,7 +87,7 @@ pub trait Disk {
         ensures len { IfOk result (λ n. IsTrue tells → n ≡ length (seen (told self.old file))) }
         ensures same { IsTrue tells → (n : ℕ) → told self.new n ≡ told self.old n }
 
-        ensures rises { OnErr result (Rose (count self.old) (count self.new)) }
+        ensures rises { OnErr result (Increased (count self.old) (count self.new)) }
         ensures never_falls { count self.old ≤ count self.new }
         ensures counted { power self.new ≡ after_call (power self.old) }
         ensures powered { OnOk result (IsTrue (has_power (power self.new))) };
@@ -101,7 +101,7 @@ pub trait Disk {
             → into.new ≡ slice_range (seen (told self.old file)) at (at + length into.old)) }
         ensures same { IsTrue tells → (n : ℕ) → told self.new n ≡ told self.old n }
 
-        ensures rises { OnErr result (Rose (count self.old) (count self.new)) }
+        ensures rises { OnErr result (Increased (count self.old) (count self.new)) }
         ensures never_falls { count self.old ≤ count self.new }
         ensures counted { power self.new ≡ after_call (power self.old) }
         ensures powered { OnOk result (IsTrue (has_power (power self.new))) };
@@ -119,7 +119,7 @@ pub trait Disk {
         ensures dark { IsTrue tells → has_power (power self.old) ≡ false
             → (n : ℕ) → told self.new n ≡ told self.old n }
 
-        ensures rises { OnErr result (Rose (count self.old) (count self.new)) }
+        ensures rises { OnErr result (Increased (count self.old) (count self.new)) }
         ensures never_falls { count self.old ≤ count self.new }
         ensures counted { power self.new ≡ after_call (power self.old) }
         ensures powered { OnOk result (IsTrue (has_power (power self.new))) };
@@ -137,7 +137,7 @@ pub trait Disk {
         ensures dark { IsTrue tells → has_power (power self.old) ≡ false
             → (n : ℕ) → told self.new n ≡ told self.old n }
 
-        ensures rises { OnErr result (Rose (count self.old) (count self.new)) }
+        ensures rises { OnErr result (Increased (count self.old) (count self.new)) }
         ensures never_falls { count self.old ≤ count self.new }
         ensures counted { power self.new ≡ after_call (power self.old) }
         ensures powered { OnOk result (IsTrue (has_power (power self.new))) };
@@ -148,7 +148,7 @@ pub trait Disk {
         ensures failed { OnErr result (IsTrue tells → told self.new file ≡ told self.old file) }
         ensures others { IsTrue tells → (n : ℕ) → n ≢ file → told self.new n ≡ told self.old n }
 
-        ensures rises { OnErr result (Rose (count self.old) (count self.new)) }
+        ensures rises { OnErr result (Increased (count self.old) (count self.new)) }
         ensures never_falls { count self.old ≤ count self.new }
         ensures counted { power self.new ≡ after_call (power self.old) }
         ensures powered { OnOk result (IsTrue (has_power (power self.new))) };
@@ -162,7 +162,7 @@ pub trait Disk {
         ensures dark { IsTrue tells → has_power (power self.old) ≡ false
             → (n : ℕ) → told self.new n ≡ told self.old n }
 
-        ensures rises { OnErr result (Rose (count self.old) (count self.new)) }
+        ensures rises { OnErr result (Increased (count self.old) (count self.new)) }
         ensures never_falls { count self.old ≤ count self.new }
         ensures counted { power self.new ≡ after_call (power self.old) }
         ensures powered { OnOk result (IsTrue (has_power (power self.new))) };
@@ -173,7 +173,7 @@ pub trait Disk {
             → (n : ℕ) → told self.new n ≡ names_synced (told self.old n)) }
         ensures failed { OnErr result (IsTrue tells → (n : ℕ) → told self.new n ≡ told self.old n) }
 
-        ensures rises { OnErr result (Rose (count self.old) (count self.new)) }
+        ensures rises { OnErr result (Increased (count self.old) (count self.new)) }
         ensures never_falls { count self.old ≤ count self.new }
         ensures counted { power self.new ≡ after_call (power self.old) }
         ensures powered { OnOk result (IsTrue (has_power (power self.new))) };

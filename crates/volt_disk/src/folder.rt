@@ -1,7 +1,7 @@
-//! A disk over real files, all in one folder. It is the edge to the outside: it tells no bytes,
+//! A disk over real files, all in one folder. It is the edge to the environment: it tells no bytes,
 //! and no clause says what a file gives or takes.
 ghost use Rattle.std.specs.Prelude.{◌≡◌, ◌≤◌, ℕ, false, is_ok, IsTrue, OnOk, OnErr};
-ghost use Rattle.volt_disk.specs.Faults.{Rose};
+ghost use Rattle.volt_base.specs.Faults.{Increased};
 ghost use Rattle.volt_disk.specs.File.{no_file};
 ghost use Rattle.volt_disk.specs.Folder.{new_folder, counted_folder, faulted_folder, called_folder};
 ghost use Rattle.volt_disk.specs.Power.{has_power, after_call, planned, cycled};
@@ -35,7 +35,7 @@ impl Tally {
     fn answer<T: Drop>(&mut self, done: io::Result<T>) -> Result<T, DiskFailed>
         ensures good { OnOk result (self.new ≡ self.old) }
         ensures failed { OnErr result (self.new ≡ faulted_folder self.old) }
-        ensures rises { OnErr result (Rose self.old.faults self.new.faults) }
+        ensures rises { OnErr result (Increased self.old.faults self.new.faults) }
         ensures never_falls { self.old.faults ≤ self.new.faults }
     {
         match done {
@@ -47,7 +47,7 @@ impl Tally {
     // Counts a fault.
     fn fault(&mut self) -> DiskFailed
         ensures after { self.new ≡ faulted_folder self.old }
-        ensures rises { Rose self.old.faults self.new.faults }
+        ensures rises { Increased self.old.faults self.new.faults }
         ensures never_falls { self.old.faults ≤ self.new.faults }
     {
         self.faults = self.faults.saturating_add(1);
@@ -104,7 +104,7 @@ fn path_of(alloc: Global, folder: &str, file: u64) -> io::Result<String> {
     }
 }
 
-fn outside() -> io::Error {
+fn beyond() -> io::Error {
     io::Error::from(ErrorKind::InvalidInput)
 }
 
@@ -139,7 +139,7 @@ fn read_file<F: Files>(
     let path = path?;
     let path = path.as_str();
     if !fits(at, into.len(), size_at(rt, path)?) {
-        return Err(outside());
+        return Err(beyond());
     }
     if into.is_empty() {
         return Ok(());
@@ -154,7 +154,7 @@ fn grow_file<F: Files>(rt: &F, path: io::Result<String>, to: u64) -> io::Result<
     let path = path.as_str();
     let file = OpenOptions::new().write(true).create(true).open(rt, path)?;
     if file.metadata()?.len() > to {
-        return Err(outside());
+        return Err(beyond());
     }
     file.set_len(to)
 }
@@ -163,7 +163,7 @@ fn write_file<F: Files>(rt: &F, path: io::Result<String>, at: u64, bytes: &[u8])
     let path = path?;
     let path = path.as_str();
     if !fits(at, bytes.len(), size_at(rt, path)?) {
-        return Err(outside());
+        return Err(beyond());
     }
     if bytes.is_empty() {
         return Ok(());
@@ -216,7 +216,7 @@ impl<F: Files + Send + Drop> Disk for FileDisk<F> {
         ensures after { self.new ≡ called_folder (is_ok result) self.old }
 
         // As each disk.
-        ensures rises { OnErr result (Rose self.old.faults self.new.faults) }
+        ensures rises { OnErr result (Increased self.old.faults self.new.faults) }
         ensures never_falls { self.old.faults ≤ self.new.faults }
         ensures counted { self.new.power ≡ after_call self.old.power }
         ensures powered { OnOk result (IsTrue (has_power self.new.power)) }
@@ -233,7 +233,7 @@ impl<F: Files + Send + Drop> Disk for FileDisk<F> {
         ensures after { self.new ≡ called_folder (is_ok result) self.old }
 
         // As each disk.
-        ensures rises { OnErr result (Rose self.old.faults self.new.faults) }
+        ensures rises { OnErr result (Increased self.old.faults self.new.faults) }
         ensures never_falls { self.old.faults ≤ self.new.faults }
         ensures counted { self.new.power ≡ after_call self.old.power }
         ensures powered { OnOk result (IsTrue (has_power self.new.power)) }
@@ -250,7 +250,7 @@ impl<F: Files + Send + Drop> Disk for FileDisk<F> {
         ensures after { self.new ≡ called_folder (is_ok result) self.old }
 
         // As each disk.
-        ensures rises { OnErr result (Rose self.old.faults self.new.faults) }
+        ensures rises { OnErr result (Increased self.old.faults self.new.faults) }
         ensures never_falls { self.old.faults ≤ self.new.faults }
         ensures counted { self.new.power ≡ after_call self.old.power }
         ensures powered { OnOk result (IsTrue (has_power self.new.power)) }
@@ -267,7 +267,7 @@ impl<F: Files + Send + Drop> Disk for FileDisk<F> {
         ensures after { self.new ≡ called_folder (is_ok result) self.old }
 
         // As each disk.
-        ensures rises { OnErr result (Rose self.old.faults self.new.faults) }
+        ensures rises { OnErr result (Increased self.old.faults self.new.faults) }
         ensures never_falls { self.old.faults ≤ self.new.faults }
         ensures counted { self.new.power ≡ after_call self.old.power }
         ensures powered { OnOk result (IsTrue (has_power self.new.power)) }
@@ -284,7 +284,7 @@ impl<F: Files + Send + Drop> Disk for FileDisk<F> {
         ensures after { self.new ≡ called_folder (is_ok result) self.old }
 
         // As each disk.
-        ensures rises { OnErr result (Rose self.old.faults self.new.faults) }
+        ensures rises { OnErr result (Increased self.old.faults self.new.faults) }
         ensures never_falls { self.old.faults ≤ self.new.faults }
         ensures counted { self.new.power ≡ after_call self.old.power }
         ensures powered { OnOk result (IsTrue (has_power self.new.power)) }
@@ -301,7 +301,7 @@ impl<F: Files + Send + Drop> Disk for FileDisk<F> {
         ensures after { self.new ≡ called_folder (is_ok result) self.old }
 
         // As each disk.
-        ensures rises { OnErr result (Rose self.old.faults self.new.faults) }
+        ensures rises { OnErr result (Increased self.old.faults self.new.faults) }
         ensures never_falls { self.old.faults ≤ self.new.faults }
         ensures counted { self.new.power ≡ after_call self.old.power }
         ensures powered { OnOk result (IsTrue (has_power self.new.power)) }
@@ -318,7 +318,7 @@ impl<F: Files + Send + Drop> Disk for FileDisk<F> {
         ensures after { self.new ≡ called_folder (is_ok result) self.old }
 
         // As each disk.
-        ensures rises { OnErr result (Rose self.old.faults self.new.faults) }
+        ensures rises { OnErr result (Increased self.old.faults self.new.faults) }
         ensures never_falls { self.old.faults ≤ self.new.faults }
         ensures counted { self.new.power ≡ after_call self.old.power }
         ensures powered { OnOk result (IsTrue (has_power self.new.power)) }

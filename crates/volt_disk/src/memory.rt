@@ -1,6 +1,6 @@
 //! A disk in memory. It tells its bytes, fails as it is told to, and loses power as planned.
 ghost use Rattle.std.specs.Prelude.{◌≡◌, ◌≢◌, ◌+◌, ◌≤◌, ℕ, true, false, IsTrue, length, slice_range, IfOk, OnOk, OnErr};
-ghost use Rattle.volt_disk.specs.Faults.{Rose};
+ghost use Rattle.volt_base.specs.Faults.{Increased};
 ghost use Rattle.volt_disk.specs.File.{seen};
 ghost use Rattle.volt_disk.specs.Effects.{growth_asked, grown, write_asked, after_write, synced, removed, removal_asked, names_synced, FailsAs, CyclesTo};
 ghost use Rattle.volt_disk.specs.Power.{has_power, after_call, planned, cycled};
@@ -113,7 +113,7 @@ impl MemDisk {
     // Counts a fault.
     fn fault(&mut self) -> DiskFailed
         ensures after { self.new ≡ faulted self.old }
-        ensures rises { Rose self.old.faults self.new.faults }
+        ensures rises { Increased self.old.faults self.new.faults }
         ensures never_falls { self.old.faults ≤ self.new.faults }
     {
         self.faults = self.faults.saturating_add(1);
@@ -123,9 +123,9 @@ impl MemDisk {
     // Counts a call that found no memory.
     fn starve(&mut self) -> DiskFailed
         ensures after { self.new ≡ starving self.old }
-        ensures rises { Rose self.old.faults self.new.faults }
+        ensures rises { Increased self.old.faults self.new.faults }
         ensures never_falls { self.old.faults ≤ self.new.faults }
-        ensures hungrier { Rose self.old.starved self.new.starved }
+        ensures hungrier { Increased self.old.starved self.new.starved }
     {
         self.faults = self.faults.saturating_add(1);
         self.starved = self.starved.saturating_add(1);
@@ -148,7 +148,7 @@ impl Disk for MemDisk {
 
         // As each disk.
         ensures len { IfOk result (λ n. n ≡ length (seen (told_of self.old file))) }
-        ensures rises { OnErr result (Rose self.old.faults self.new.faults) }
+        ensures rises { OnErr result (Increased self.old.faults self.new.faults) }
         ensures never_falls { self.old.faults ≤ self.new.faults }
         ensures counted { self.new.power ≡ after_call self.old.power }
         ensures powered { OnOk result (IsTrue (has_power self.new.power)) }
@@ -169,7 +169,7 @@ impl Disk for MemDisk {
 
         // As each disk.
         ensures bytes { OnOk result (into.new ≡ slice_range (seen (told_of self.old file)) at (at + length into.old)) }
-        ensures rises { OnErr result (Rose self.old.faults self.new.faults) }
+        ensures rises { OnErr result (Increased self.old.faults self.new.faults) }
         ensures never_falls { self.old.faults ≤ self.new.faults }
         ensures counted { self.new.power ≡ after_call self.old.power }
         ensures powered { OnOk result (IsTrue (has_power self.new.power)) }
@@ -202,7 +202,7 @@ impl Disk for MemDisk {
             (growth_asked to (told_of self.old file)) (grown to (told_of self.old file)) (told_of self.new file)) }
         ensures others { (n : ℕ) → n ≢ file → told_of self.new n ≡ told_of self.old n }
         ensures dark { has_power self.old.power ≡ false → (n : ℕ) → told_of self.new n ≡ told_of self.old n }
-        ensures rises { OnErr result (Rose self.old.faults self.new.faults) }
+        ensures rises { OnErr result (Increased self.old.faults self.new.faults) }
         ensures never_falls { self.old.faults ≤ self.new.faults }
         ensures counted { self.new.power ≡ after_call self.old.power }
         ensures powered { OnOk result (IsTrue (has_power self.new.power)) }
@@ -238,7 +238,7 @@ impl Disk for MemDisk {
             (write_asked at (length bytes.now) (told_of self.old file)) (after_write at bytes.now (told_of self.old file)) (told_of self.new file)) }
         ensures others { (n : ℕ) → n ≢ file → told_of self.new n ≡ told_of self.old n }
         ensures dark { has_power self.old.power ≡ false → (n : ℕ) → told_of self.new n ≡ told_of self.old n }
-        ensures rises { OnErr result (Rose self.old.faults self.new.faults) }
+        ensures rises { OnErr result (Increased self.old.faults self.new.faults) }
         ensures never_falls { self.old.faults ≤ self.new.faults }
         ensures counted { self.new.power ≡ after_call self.old.power }
         ensures powered { OnOk result (IsTrue (has_power self.new.power)) }
@@ -273,7 +273,7 @@ impl Disk for MemDisk {
         ensures synced { OnOk result (told_of self.new file ≡ synced (told_of self.old file)) }
         ensures failed { OnErr result (told_of self.new file ≡ told_of self.old file) }
         ensures others { (n : ℕ) → n ≢ file → told_of self.new n ≡ told_of self.old n }
-        ensures rises { OnErr result (Rose self.old.faults self.new.faults) }
+        ensures rises { OnErr result (Increased self.old.faults self.new.faults) }
         ensures never_falls { self.old.faults ≤ self.new.faults }
         ensures counted { self.new.power ≡ after_call self.old.power }
         ensures powered { OnOk result (IsTrue (has_power self.new.power)) }
@@ -301,7 +301,7 @@ impl Disk for MemDisk {
             (removal_asked (told_of self.old file)) (removed (told_of self.old file)) (told_of self.new file)) }
         ensures others { (n : ℕ) → n ≢ file → told_of self.new n ≡ told_of self.old n }
         ensures dark { has_power self.old.power ≡ false → (n : ℕ) → told_of self.new n ≡ told_of self.old n }
-        ensures rises { OnErr result (Rose self.old.faults self.new.faults) }
+        ensures rises { OnErr result (Increased self.old.faults self.new.faults) }
         ensures never_falls { self.old.faults ≤ self.new.faults }
         ensures counted { self.new.power ≡ after_call self.old.power }
         ensures powered { OnOk result (IsTrue (has_power self.new.power)) }
@@ -329,7 +329,7 @@ impl Disk for MemDisk {
         // As each disk.
         ensures synced { OnOk result ((n : ℕ) → told_of self.new n ≡ names_synced (told_of self.old n)) }
         ensures failed { OnErr result ((n : ℕ) → told_of self.new n ≡ told_of self.old n) }
-        ensures rises { OnErr result (Rose self.old.faults self.new.faults) }
+        ensures rises { OnErr result (Increased self.old.faults self.new.faults) }
         ensures never_falls { self.old.faults ≤ self.new.faults }
         ensures counted { self.new.power ≡ after_call self.old.power }
         ensures powered { OnOk result (IsTrue (has_power self.new.power)) }

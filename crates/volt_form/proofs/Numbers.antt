@@ -35,8 +35,8 @@ unfolding magnitude_of
 no_magnitude-large ds h = grind (arith, nat_tests)
 
 -- which may be seen before the last digit
-pub no_magnitude-front : (ds : List ℕ) (i v : ℕ) → i < length ds → digits_value_after 10 v (drop i ds) ≡ digits_value 10 ds → greatest < v * 10 + digit_value (get_or ds i 0) → magnitude_of ds ≡ None
-no_magnitude-front ds i v h e large =
+pub no_magnitude-prefix : (ds : List ℕ) (i v : ℕ) → i < length ds → digits_value_after 10 v (drop i ds) ≡ digits_value 10 ds → greatest < v * 10 + digit_value (get_or ds i 0) → magnitude_of ds ≡ None
+no_magnitude-prefix ds i v h e large =
     let step = at_drop_more (digits_value_after 10 v) ds i 0 h in
     let grows = value_grows (v * 10 + digit_value (get_or ds i 0)) (drop (i + 1) ds) in
     no_magnitude-large ds (omega arith)

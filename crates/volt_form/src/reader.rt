@@ -22,7 +22,7 @@ const FIRST_CALL: u32 = 29;
 pub enum FormFault {
     /// The text isn't of the form; the number is that of its first line that isn't, from 1.
     NotOfForm { line: u32 },
-    /// Memory was wanting.
+    /// Out of memory.
     NoMemory,
 }
 

@@ -1,6 +1,6 @@
 -- What was written to a sink over memory, and which of its calls fail.
 use Rattle.std.specs.Prelude.{ℕ, min, List, [], ◌++◌}
-use Rattle.volt_io.specs.Faults.{one_more}
+use Rattle.volt_base.specs.Faults.{one_more}
 
 -- a sink over memory
 pub record Store : Type 0 where

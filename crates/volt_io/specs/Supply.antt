@@ -1,6 +1,6 @@
 -- What a source over memory has left, and which of its calls fail.
 use Rattle.std.specs.Prelude.{ℕ, min, List, length, drop}
-use Rattle.volt_io.specs.Faults.{one_more}
+use Rattle.volt_base.specs.Faults.{one_more}
 
 -- a source over memory
 pub record Supply : Type 0 where

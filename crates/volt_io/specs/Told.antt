@@ -8,18 +8,18 @@ Keeps (Some bytes) None = ⊥
 Keeps (Some bytes) (Some now) = now ≡ bytes
 
 -- told bytes begin with these, and are told again without them
-abbrev pub TakesFront : Option (List ℕ) → Option (List ℕ) → List ℕ → Type 0
-TakesFront None after front = Unit {0}
-TakesFront (Some bytes) None front = ⊥
-TakesFront (Some bytes) (Some now) front = bytes ≡ front ++ now
+abbrev pub TakesPrefix : Option (List ℕ) → Option (List ℕ) → List ℕ → Type 0
+TakesPrefix None after prefix = Unit {0}
+TakesPrefix (Some bytes) None prefix = ⊥
+TakesPrefix (Some bytes) (Some now) prefix = bytes ≡ prefix ++ now
 
--- some front of told bytes is gone, and the others are told
-abbrev pub LosesFront : Option (List ℕ) → Option (List ℕ) → Type 0
-LosesFront before after = (front : List ℕ) × TakesFront before after front
+-- some prefix of told bytes is gone, and the others are told
+abbrev pub LosesPrefix : Option (List ℕ) → Option (List ℕ) → Type 0
+LosesPrefix before after = (prefix : List ℕ) × TakesPrefix before after prefix
 
--- some front of told bytes moves to the end of a list
-abbrev pub MovesFront : Option (List ℕ) → Option (List ℕ) → List ℕ → List ℕ → Type 0
-MovesFront before after old new = (front : List ℕ) × TakesFront before after front × (new ≡ old ++ front)
+-- some prefix of told bytes moves to the end of a list
+abbrev pub MovesPrefix : Option (List ℕ) → Option (List ℕ) → List ℕ → List ℕ → Type 0
+MovesPrefix before after old new = (prefix : List ℕ) × TakesPrefix before after prefix × (new ≡ old ++ prefix)
 
 -- told bytes are told again, with these at their end
 abbrev pub Appends : Option (List ℕ) → Option (List ℕ) → List ℕ → Type 0
@@ -28,13 +28,13 @@ Appends (Some bytes) None more = ⊥
 Appends (Some bytes) (Some now) more = now ≡ bytes ++ more
 
 -- a list begins with another
-abbrev pub IsFrontOf : List ℕ → List ℕ → Type 0
-IsFrontOf front whole = (others : List ℕ) × (whole ≡ front ++ others)
+abbrev pub IsPrefixOf : List ℕ → List ℕ → Type 0
+IsPrefixOf prefix whole = (others : List ℕ) × (whole ≡ prefix ++ others)
 
--- told bytes are told again, with some front of these at their end
-abbrev pub AppendsFrontOf : Option (List ℕ) → Option (List ℕ) → List ℕ → Type 0
-AppendsFrontOf before after text = (front : List ℕ) × IsFrontOf front text × Appends before after front
+-- told bytes are told again, with some prefix of these at their end
+abbrev pub AppendsPrefixOf : Option (List ℕ) → Option (List ℕ) → List ℕ → Type 0
+AppendsPrefixOf before after text = (prefix : List ℕ) × IsPrefixOf prefix text × Appends before after prefix
 
 -- told bytes are told again, with all of these at their end but the last ones
 abbrev pub AppendsAllBut : Option (List ℕ) → Option (List ℕ) → List ℕ → List ℕ → Type 0
-AppendsAllBut before after text last = (front : List ℕ) × (text ≡ front ++ last) × Appends before after front
+AppendsAllBut before after text last = (prefix : List ℕ) × (text ≡ prefix ++ last) × Appends before after prefix

@@ -1,8 +1,8 @@
 //! Bytes that are held back on their way to a sink, so that it takes them in large pieces.
 ghost use Rattle.std.specs.Prelude.{◌≡◌, ◌≤◌, [], ◌++◌, IsOk, OnOk, OnErr};
 ghost use Rattle.volt_io.specs.Buffer.{HasRoom};
-ghost use Rattle.volt_io.specs.Faults.{Rose};
-ghost use Rattle.volt_io.specs.Told.{Appends, AppendsFrontOf, AppendsAllBut};
+ghost use Rattle.volt_base.specs.Faults.{Increased};
+ghost use Rattle.volt_io.specs.Told.{Appends, AppendsPrefixOf, AppendsAllBut};
 
 use crate::sink::{Sink, WriteFailed};
 use crate::transfer::write_all;
@@ -42,7 +42,7 @@ impl WriteBuffer {
     /// Holds `text` behind the bytes that are held already. Where there is no room it first writes
     /// these, and a text that is longer than the buffer too.
     ///
-    /// After an `Err` some front of all of them was written, and nothing is held.
+    /// After an `Err` some prefix of all of them was written, and nothing is held.
     pub fn push<K: Sink>(&mut self, sink: &mut K, text: &[u8]) -> Result<(), WriteFailed>
         // Where there is room it is held, and the sink is left alone.
         ensures waits { HasRoom self.old text.now → self.new ≡ self.old ++ text.now }
@@ -52,12 +52,12 @@ impl WriteBuffer {
         // What is written, and what is held.
         ensures kept { OnOk result (AppendsAllBut (K.contents sink.old) (K.contents sink.new)
             (self.old ++ text.now) self.new) }
-        ensures partly { OnErr result (AppendsFrontOf (K.contents sink.old) (K.contents sink.new)
+        ensures partly { OnErr result (AppendsPrefixOf (K.contents sink.old) (K.contents sink.new)
             (self.old ++ text.now)) }
         ensures lost { OnErr result (self.new ≡ []) }
 
         // The sink's faults.
-        ensures rises { OnErr result (Rose (K.count sink.old) (K.count sink.new)) }
+        ensures rises { OnErr result (Increased (K.count sink.old) (K.count sink.new)) }
         ensures never_falls { K.count sink.old ≤ K.count sink.new }
     {
         if self.held.try_extend_from_slice(text).is_ok() {
@@ -70,16 +70,16 @@ impl WriteBuffer {
         write_all(sink, text)
     }
 
-    /// Writes all bytes that are held. Then nothing is held, even after an `Err`, where some front
+    /// Writes all bytes that are held. Then nothing is held, even after an `Err`, where some prefix
     /// of them was written.
     pub fn flush<K: Sink>(&mut self, sink: &mut K) -> Result<(), WriteFailed>
         // What is written, and what is held.
         ensures written { OnOk result (Appends (K.contents sink.old) (K.contents sink.new) self.old) }
-        ensures partly { OnErr result (AppendsFrontOf (K.contents sink.old) (K.contents sink.new) self.old) }
+        ensures partly { OnErr result (AppendsPrefixOf (K.contents sink.old) (K.contents sink.new) self.old) }
         ensures empty { self.new ≡ [] }
 
         // The sink's faults.
-        ensures rises { OnErr result (Rose (K.count sink.old) (K.count sink.new)) }
+        ensures rises { OnErr result (Increased (K.count sink.old) (K.count sink.new)) }
         ensures never_falls { K.count sink.old ≤ K.count sink.new }
     {
         let written = write_all(sink, self.held.as_slice());

@@ -1,6 +1,6 @@
 //! A source and a sink over memory. They tell their bytes, and fail as they are told to.
 ghost use Rattle.std.specs.Prelude.{◌≡◌, ◌-◌, ◌^◌, ◌<◌, ◌≤◌, ◌↔◌, [], ◌++◌, Some, Contains, drop, length, take, IsErr, IfOk, OnErr};
-ghost use Rattle.volt_io.specs.Faults.{Rose};
+ghost use Rattle.volt_base.specs.Faults.{Increased};
 ghost use Rattle.volt_io.specs.Supply.{supply_of, given_len, after_giving, after_failed_read};
 ghost use Rattle.volt_io.specs.Store.{empty_store, taken_len, after_taking, after_failed_write, after_starved_write};
 
@@ -82,7 +82,7 @@ impl Source for MemSource {
 
         // As each source.
         ensures ends { IfOk result (λ n. (n ≡ 0) ↔ (self.old.left ≡ [])) }
-        ensures rises { OnErr result (Rose self.old.faults self.new.faults) }
+        ensures rises { OnErr result (Increased self.old.faults self.new.faults) }
         ensures never_falls { self.old.faults ≤ self.new.faults }
     {
         let fails = self.fail.contains(&self.call);
@@ -192,7 +192,7 @@ impl Sink for MemSink {
 
         // As each sink.
         ensures some { IfOk result (λ n. 0 < n) }
-        ensures rises { OnErr result (Rose self.old.faults self.new.faults) }
+        ensures rises { OnErr result (Increased self.old.faults self.new.faults) }
         ensures kept { OnErr result (self.new.written ≡ self.old.written) }
         ensures never_falls { self.old.faults ≤ self.new.faults }
     {

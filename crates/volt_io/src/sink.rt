@@ -1,6 +1,6 @@
 //! Where bytes go.
 ghost use Rattle.std.specs.Prelude.{◌≡◌, ℕ, ◌<◌, ◌≤◌, List, length, take, Option, Some, codes, IfOk, OnErr};
-ghost use Rattle.volt_io.specs.Faults.{Rose};
+ghost use Rattle.volt_base.specs.Faults.{Increased};
 ghost use Rattle.volt_io.specs.Told.{Keeps, Appends};
 
 use std::error::Error;
@@ -23,7 +23,7 @@ impl Error for WriteFailed {}
 /// Where bytes go, and how often it failed to take them.
 ///
 /// A sink that knows its bytes tells what was written (`contents`), and one that doesn't tells
-/// nothing. Each sink counts its faults, and a write fails only where that count rose. A count
+/// nothing. Each sink counts its faults, and a write fails only where that count increased. A count
 /// that stands at the greatest `u64` is taken as risen, since it can't rise further.
 pub trait Sink {
     /// The bytes written so far, where the sink tells them.
@@ -32,7 +32,7 @@ pub trait Sink {
     /// How many faults there were.
     ghost count: { Self → ℕ };
 
-    /// Takes bytes from the front of `piece`, at least one, and says how many.
+    /// Takes bytes from the beginning of `piece`, at least one, and says how many.
     fn write(&mut self, piece: &[u8]) -> Result<usize, WriteFailed>
         requires { 0 < length piece.now }
 
@@ -42,7 +42,7 @@ pub trait Sink {
         ensures appends { IfOk result (λ n. Appends (contents self.old) (contents self.new) (take n piece.now)) }
 
         // A failure.
-        ensures rises { OnErr result (Rose (count self.old) (count self.new)) }
+        ensures rises { OnErr result (Increased (count self.old) (count self.new)) }
         ensures kept { OnErr result (Keeps (contents self.old) (contents self.new)) }
         ensures never_falls { count self.old ≤ count self.new };
 

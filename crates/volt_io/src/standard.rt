@@ -1,7 +1,7 @@
-//! A source over any reader of std, and a sink over any writer. They are the edge to the outside:
+//! A source over any reader of std, and a sink over any writer. They are the edge to the environment:
 //! they tell no bytes, and no clause says what a file, a pipe or a terminal gives or takes.
 ghost use Rattle.std.specs.Prelude.{◌≡◌, ◌<◌, ◌≤◌, length, None, IfSome, IfOk, OnOk, OnErr};
-ghost use Rattle.volt_io.specs.Faults.{Rose, one_more};
+ghost use Rattle.volt_base.specs.Faults.{Increased, one_more};
 
 use crate::sink::{Sink, WriteFailed};
 use crate::source::{ReadFailed, Source};
@@ -51,7 +51,7 @@ impl<R: Read + Drop> Source for StdSource<R> {
 
         // As each source.
         ensures within { IfOk result (λ n. n ≤ length into.new) }
-        ensures rises { OnErr result (Rose self.old self.new) }
+        ensures rises { OnErr result (Increased self.old self.new) }
         ensures never_falls { self.old ≤ self.new }
     {
         match read_some(&mut self.reader, into) {
@@ -127,7 +127,7 @@ impl<W: Write + Drop> Sink for StdSink<W> {
         // As each sink.
         ensures some { IfOk result (λ n. 0 < n) }
         ensures within { IfOk result (λ n. n ≤ length piece.now) }
-        ensures rises { OnErr result (Rose self.old self.new) }
+        ensures rises { OnErr result (Increased self.old self.new) }
         ensures never_falls { self.old ≤ self.new }
     {
         match write_some(&mut self.writer, piece) {

@@ -1,7 +1,7 @@
 //! All of a source into memory, and all of a text into a sink.
 ghost use Rattle.std.specs.Prelude.{◌≡◌, [], ◌+◌, ◌^◌, ◌<◌, ◌≤◌, length, take, vec_len, IfOk, IfSome, MatchResult, OnOk, OnErr};
-ghost use Rattle.volt_io.specs.Faults.{Rose};
-ghost use Rattle.volt_io.specs.Told.{TakesFront, LosesFront, MovesFront, Appends, AppendsFrontOf};
+ghost use Rattle.volt_base.specs.Faults.{Increased};
+ghost use Rattle.volt_io.specs.Told.{TakesPrefix, LosesPrefix, MovesPrefix, Appends, AppendsPrefixOf};
 
 use crate::sink::{Sink, WriteFailed};
 use crate::source::{ReadFailed, Source};
@@ -73,18 +73,18 @@ pub fn read_to_end<S: Source>(
 
     // The bytes.
     ensures within { IfOk result (λ bytes. vec_len bytes ≤ limit + 1) }
-    ensures front { IfOk result (λ bytes. IfSome (S.rest source.old)
+    ensures prefix { IfOk result (λ bytes. IfSome (S.rest source.old)
         (λ left. bytes.items ≡ take (limit + 1) left)) }
     ensures whole { IfOk result (λ bytes. IfSome (S.rest source.old)
         (λ left. vec_len bytes ≤ limit → bytes.items ≡ left)) }
 
     // What is left in the source.
     ensures rest { MatchResult result
-        (λ bytes. TakesFront (S.rest source.old) (S.rest source.new) bytes.items)
-        (λ _. LosesFront (S.rest source.old) (S.rest source.new)) }
+        (λ bytes. TakesPrefix (S.rest source.old) (S.rest source.new) bytes.items)
+        (λ _. LosesPrefix (S.rest source.old) (S.rest source.new)) }
 
     // Its faults.
-    ensures rises { result ≡ Err ReadFault.Failed → Rose (S.count source.old) (S.count source.new) }
+    ensures rises { result ≡ Err ReadFault.Failed → Increased (S.count source.old) (S.count source.new) }
     ensures never_falls { S.count source.old ≤ S.count source.new }
 {
     let mut piece = zeros(alloc, PIECE)?;
@@ -108,13 +108,13 @@ fn read_piece<S: Source>(
 
     ensures within { IfOk result (λ n. n ≤ length piece.old) }
     ensures grows { IfOk result (λ n. vec_len bytes.new ≡ vec_len bytes.old + n) }
-    ensures moves { OnOk result (MovesFront (S.rest source.old) (S.rest source.new)
+    ensures moves { OnOk result (MovesPrefix (S.rest source.old) (S.rest source.new)
         bytes.old.items bytes.new.items) }
     ensures ends { IfOk result (λ n. n ≡ 0 → IfSome (S.rest source.old) (λ left. left ≡ [])) }
     ensures same { IfOk result (λ n. n ≡ 0 → bytes.new.items ≡ bytes.old.items) }
 
-    ensures loses { OnErr result (LosesFront (S.rest source.old) (S.rest source.new)) }
-    ensures rises { result ≡ Err ReadFault.Failed → Rose (S.count source.old) (S.count source.new) }
+    ensures loses { OnErr result (LosesPrefix (S.rest source.old) (S.rest source.new)) }
+    ensures rises { result ≡ Err ReadFault.Failed → Increased (S.count source.old) (S.count source.new) }
     ensures never_falls { S.count source.old ≤ S.count source.new }
 {
     let count = source.read(piece)?;
@@ -131,14 +131,14 @@ fn zeros(alloc: Global, len: usize) -> Result<Vec<u8>, AllocError>
 
 /// Writes all of `text`. It takes no memory.
 ///
-/// After an `Err` some front of `text` was written.
+/// After an `Err` some prefix of `text` was written.
 pub fn write_all<K: Sink>(sink: &mut K, text: &[u8]) -> Result<(), WriteFailed>
     // What is written.
     ensures written { OnOk result (Appends (K.contents sink.old) (K.contents sink.new) text.now) }
-    ensures partly { OnErr result (AppendsFrontOf (K.contents sink.old) (K.contents sink.new) text.now) }
+    ensures partly { OnErr result (AppendsPrefixOf (K.contents sink.old) (K.contents sink.new) text.now) }
 
     // The sink's faults.
-    ensures rises { OnErr result (Rose (K.count sink.old) (K.count sink.new)) }
+    ensures rises { OnErr result (Increased (K.count sink.old) (K.count sink.new)) }
     ensures never_falls { K.count sink.old ≤ K.count sink.new }
 {
     let mut at = 0;

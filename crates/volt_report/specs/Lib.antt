@@ -1,3 +1,3 @@
 pub mod Report
 pub mod Spelling
-pub mod Worked
+pub mod Examples

@@ -33,7 +33,7 @@ fn put_call_and_client(into: &mut Vec<u8>, call: CallNo, client: ClientNo) -> Re
     put_number(into, u64::from(client))
 }
 
-/// The front of a call that ended, up to its end: its number, its client, the stamps of its
+/// The prefix of a call that ended, up to its end: its number, its client, the stamps of its
 /// submission and of its end, and a space.
 pub fn print_call_head(
     into: &mut Vec<u8>,

@@ -5,9 +5,9 @@ use volt_wire::{Actor, Event};
 
 #[test]
 fn lines(rt: HostRuntime) -> Result<(), Fail> {
-    worked_ends();
-    worked_faults();
-    worked_report();
+    example_ends();
+    example_faults();
+    example_report();
     let mut out = Vec::new(rt.alloc());
     print_opening(&mut out)?;
     print_head(&mut out, b"calls", 12)?;

@@ -39,9 +39,9 @@ pub begins_comment-first : (b : ℕ) (bs : List ℕ) → begins_comment (b ∷ b
 begins_comment-first b [] h = absurd cc
 begins_comment-first b (c ∷ cs) h = grind (arith, nat_tests)
 
--- the piece of this kind and length stands at the front of the text
-abbrev pub FrontIs : List ℕ → PieceKind → ℕ → Type 0
-FrontIs text kind len = (0 < len) × (len ≤ length text) × Stands kind (take len text) (drop len text)
+-- the piece of this kind and length stands at the beginning of the text
+abbrev pub PrefixIs : List ℕ → PieceKind → ℕ → Type 0
+PrefixIs text kind len = (0 < len) × (len ≤ length text) × Stands kind (take len text) (drop len text)
 
 list_all-after : (p : ℕ → Bool) (xs : List ℕ) (m : ℕ) (ms : List ℕ) → list_all p (xs ++ m ∷ ms) ≡ true → p m ≡ true
 list_all-after p [] m ms h = grind arith
@@ -62,11 +62,11 @@ run_longest kind p b bs after from hyphen only stops other (m ∷ ms) rest e h =
           absurd cc
     ]
 
--- the run at the front of the text is the piece that stands there
-run_front : (kind : PieceKind) (p : ℕ → Bool) (b : ℕ) (bs : List ℕ) → p b ≡ true → kind_from b ≡ kind → (b ≡ 45 → ⊥) → (kind ≡ Lexeme Text → ⊥)
+-- the run at the beginning of the text is the piece that stands there
+run_prefix : (kind : PieceKind) (p : ℕ → Bool) (b : ℕ) (bs : List ℕ) → p b ≡ true → kind_from b ≡ kind → (b ≡ 45 → ⊥) → (kind ≡ Lexeme Text → ⊥)
     → ((xs : List ℕ) → IsPiece kind xs → list_all p xs ≡ true) → ((xs : List ℕ) → list_all p (b ∷ xs) ≡ true → IsPiece kind (b ∷ xs))
-    → FrontIs (b ∷ bs) kind (prefix_len p (b ∷ bs))
-run_front kind p b bs first from hyphen text only made =
+    → PrefixIs (b ∷ bs) kind (prefix_len p (b ∷ bs))
+run_prefix kind p b bs first from hyphen text only made =
     let r = run p bs in
     rw (first, one_more) (
       omega arith,
@@ -78,17 +78,17 @@ run_front kind p b bs first from hyphen text only made =
       },
     )
 
-pub blank_front : (text : List ℕ) → 0 < length text → is_blank (get_or text 0 0) ≡ true → FrontIs text Blank (prefix_len is_blank text)
-blank_front [] some h = absurd (omega arith)
-blank_front (b ∷ bs) some h = run_front Blank is_blank b bs h (grind (arith, nat_tests)) (grind (arith, nat_tests)) (λ e. cc) (λ xs k. grind (arith, nat_tests)) (λ xs k. grind (arith, nat_tests))
+pub blank_prefix : (text : List ℕ) → 0 < length text → is_blank (get_or text 0 0) ≡ true → PrefixIs text Blank (prefix_len is_blank text)
+blank_prefix [] some h = absurd (omega arith)
+blank_prefix (b ∷ bs) some h = run_prefix Blank is_blank b bs h (grind (arith, nat_tests)) (grind (arith, nat_tests)) (λ e. cc) (λ xs k. grind (arith, nat_tests)) (λ xs k. grind (arith, nat_tests))
 
-pub word_front : (text : List ℕ) → 0 < length text → is_letter (get_or text 0 0) ≡ true → FrontIs text (Lexeme Word) (prefix_len is_word_byte text)
-word_front [] some h = absurd (omega arith)
-word_front (b ∷ bs) some h = run_front (Lexeme Word) is_word_byte b bs (grind (arith, nat_tests)) (grind (arith, nat_tests)) (grind (arith, nat_tests)) (λ e. cc) (λ xs k. grind (arith, nat_tests)) (λ xs k. grind (arith, nat_tests))
+pub word_prefix : (text : List ℕ) → 0 < length text → is_letter (get_or text 0 0) ≡ true → PrefixIs text (Lexeme Word) (prefix_len is_word_byte text)
+word_prefix [] some h = absurd (omega arith)
+word_prefix (b ∷ bs) some h = run_prefix (Lexeme Word) is_word_byte b bs (grind (arith, nat_tests)) (grind (arith, nat_tests)) (grind (arith, nat_tests)) (λ e. cc) (λ xs k. grind (arith, nat_tests)) (λ xs k. grind (arith, nat_tests))
 
-pub number_front : (text : List ℕ) → 0 < length text → is_ascii_digit (get_or text 0 0) ≡ true → FrontIs text (Lexeme Number) (prefix_len is_ascii_digit text)
-number_front [] some h = absurd (omega arith)
-number_front (b ∷ bs) some h = run_front (Lexeme Number) is_ascii_digit b bs h (grind (arith, nat_tests)) (grind (arith, nat_tests)) (λ e. cc) (λ xs k. grind (arith, nat_tests)) (λ xs k. grind (arith, nat_tests))
+pub number_prefix : (text : List ℕ) → 0 < length text → is_ascii_digit (get_or text 0 0) ≡ true → PrefixIs text (Lexeme Number) (prefix_len is_ascii_digit text)
+number_prefix [] some h = absurd (omega arith)
+number_prefix (b ∷ bs) some h = run_prefix (Lexeme Number) is_ascii_digit b bs h (grind (arith, nat_tests)) (grind (arith, nat_tests)) (λ e. cc) (λ xs k. grind (arith, nat_tests)) (λ xs k. grind (arith, nat_tests))
 
 -- Comments
 
@@ -106,8 +106,8 @@ comment_longest line after stops (Lexeme Text) (m ∷ ms) rest e h = absurd (let
 comment_longest [] after stops (Lexeme Sign) (m ∷ ms) rest e h = absurd cc
 comment_longest (l ∷ ls) after stops (Lexeme Sign) (m ∷ ms) rest e h = absurd cc
 
-comment_front_by : (line : List ℕ) → FrontIs (45 ∷ 45 ∷ line) Comment (1 + (1 + prefix_len is_in_line line))
-comment_front_by line =
+comment_prefix_by : (line : List ℕ) → PrefixIs (45 ∷ 45 ∷ line) Comment (1 + (1 + prefix_len is_in_line line))
+comment_prefix_by line =
     let r = run is_in_line line in
     rw (one_more (1 + prefix_len is_in_line line), one_more (prefix_len is_in_line line)) (
       omega arith,
@@ -119,13 +119,13 @@ comment_front_by line =
       },
     )
 
-pub comment_front : (text : List ℕ) → begins_comment text ≡ true → FrontIs text Comment (prefix_len is_in_line text)
-comment_front [] h = absurd cc
-comment_front (b ∷ []) h = absurd cc
-comment_front (b ∷ c ∷ line) h =
+pub comment_prefix : (text : List ℕ) → begins_comment text ≡ true → PrefixIs text Comment (prefix_len is_in_line text)
+comment_prefix [] h = absurd cc
+comment_prefix (b ∷ []) h = absurd cc
+comment_prefix (b ∷ c ∷ line) h =
     let first : b ≡ 45 = grind (arith, nat_tests) in
     let second : c ≡ 45 = grind (arith, nat_tests) in
-    rw (first, second) (comment_front_by line)
+    rw (first, second) (comment_prefix_by line)
 
 -- Quoted texts
 
@@ -156,8 +156,8 @@ some_quoted : (text inner : List ℕ) (len : ℕ) → take len text ≡ quoted i
 some_quoted text inner zero e = absurd cc
 some_quoted text inner (suc n) e = omega arith
 
-pub closed_front : (text : List ℕ) (len : ℕ) → IsClosed text len true → FrontIs text (Lexeme Text) len
-closed_front text len c = (
+pub closed_prefix : (text : List ℕ) (len : ℕ) → IsClosed text len true → PrefixIs text (Lexeme Text) len
+closed_prefix text len c = (
   some_quoted text c.inner len c.is_quoted,
   c.is_within,
   record {
@@ -167,7 +167,7 @@ closed_front text len c = (
   },
 )
 
--- what follows a quoted text at the front
+-- what follows a quoted text at the beginning
 closed_text : (text : List ℕ) (len : ℕ) (is_plain : Bool) (c : IsClosed text len is_plain) → text ≡ 39 ∷ (doubled c.inner ++ 39 ∷ drop len text)
 closed_text text len is_plain c =
     sym (take-append-drop len text) ∙ ap (λ xs. xs ++ drop len text) c.is_quoted ∙ ap (λ xs. 39 ∷ xs) (append_assoc (doubled c.inner) (39 ∷ []) (drop len text))
@@ -242,13 +242,13 @@ pair_longest : (b c : ℕ) (bs : List ℕ) → is_pair b c ≡ true → begins_c
 pair_longest b c bs pair comment other [] rest e h = refl
 pair_longest b c bs pair comment other (m ∷ ms) rest e h = absurd (false≢true (sign_only other b (c ∷ m ∷ ms) (pair-kind b c pair) comment h))
 
-pub sign_front : (text : List ℕ) (len : ℕ) → len ≡ sign_len text → (len ≡ 0 → ⊥) → begins_comment text ≡ false → FrontIs text (Lexeme Sign) len
-sign_front [] len e some comment = absurd (some e)
-sign_front (b ∷ []) len e some comment = elim (cases_Bool (is_single b)) [
+pub sign_prefix : (text : List ℕ) (len : ℕ) → len ≡ sign_len text → (len ≡ 0 → ⊥) → begins_comment text ≡ false → PrefixIs text (Lexeme Sign) len
+sign_prefix [] len e some comment = absurd (some e)
+sign_prefix (b ∷ []) len e some comment = elim (cases_Bool (is_single b)) [
   | inl single ↦ rw (e, single) (omega arith, omega arith, record { is_piece = single; is_longest = λ other more rest from h. no_more more rest from; is_ended = λ k. absurd cc })
   | inr none ↦ absurd (some (rw (e, none) refl))
 ]
-sign_front (b ∷ c ∷ bs) len e some comment = elim (cases_Bool (is_pair b c)) [
+sign_prefix (b ∷ c ∷ bs) len e some comment = elim (cases_Bool (is_pair b c)) [
   | inl pair ↦ rw (e, pair) (omega arith, omega arith, record { is_piece = pair; is_longest = pair_longest b c bs pair comment; is_ended = λ k. absurd cc })
   | inr no_pair ↦ elim (cases_Bool (is_single b)) [
     | inl single ↦ rw (e, no_pair, single) (omega arith, omega arith, record { is_piece = single; is_longest = single_longest b c bs single no_pair comment; is_ended = λ k. absurd cc })

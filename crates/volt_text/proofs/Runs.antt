@@ -1,4 +1,4 @@
--- Runs of bytes at the front of a text.
+-- Runs of bytes at the beginning of a text.
 use Rattle.std.proofs.Common.{◌≡◌, ◌≤◌, ℕ, suc, ◌+◌, Bool, true, false, cond, List, [], ◌∷◌, length, take, drop, arith, refl}
 use Rattle.std.proofs.lemmas.List.Sums.{prefix_len-drop_yes, prefix_len-drop_no, prefix_len-drop_all}
 use Rattle.std.specs.List.{prefix_len, list_all}
@@ -9,7 +9,7 @@ pub ruleset runs = (prefix_len-drop_yes, prefix_len-drop_no, prefix_len-drop_all
 pub one_more : (n : ℕ) → 1 + n ≡ suc n
 one_more n = omega arith
 
--- the first so many bytes of a text are the longest run at its front
+-- the first so many bytes of a text are the longest run at its beginning
 pub record IsRun (p : ℕ → Bool) (text : List ℕ) (len : ℕ) : Type 0 where
   pub within : len ≤ length text
   pub all : list_all p (take len text) ≡ true

@@ -42,9 +42,9 @@ slices_of : (ps : List Piece) (text rest : List ℕ) (at : ℕ) → Cut ps rest 
 slices_of [] text rest at cut e = tt
 slices_of (p ∷ ps) text rest at (after, f, s, cut) e =
     let is : drop at text ≡ p.bytes ++ after = e ∙ f in
-    let front : take (length p.bytes) (drop at text) ≡ p.bytes = rw is (take_at p.bytes after (length p.bytes) refl) in
+    let prefix : take (length p.bytes) (drop at text) ≡ p.bytes = rw is (take_at p.bytes after (length p.bytes) refl) in
     let back : drop (at + length p.bytes) text ≡ after = sym (drop-drop (length p.bytes) at text) ∙ (rw is (drop_at p.bytes after (length p.bytes) refl)) in
-    slices_before text at (length p.bytes) p.kind (tokens_at (at + length p.bytes) ps) (rw front s.is_piece)
+    slices_before text at (length p.bytes) p.kind (tokens_at (at + length p.bytes) ps) (rw prefix s.is_piece)
     (slices_of ps text after (at + length p.bytes) cut back)
 
 pub slices : (text : List ℕ) (tokens : List Token) → Reads text (Tokens tokens) → All (IsSlice text) tokens

@@ -9,7 +9,7 @@ use Rattle.volt_text.specs.declared.token.Token.{Token}
 use Rattle.volt_text.specs.Tokens.{is_blank, is_letter, is_quote, begins, HasNone, IsOpen, Reads, Reading, Tokens, BadChar, OpenText}
 use Rattle.volt_text.specs.Scan.{IsClosed, begins_comment, sign_len}
 use Rattle.volt_text.proofs.Cuts.{IsRead, read_none, read_more, read_all, read_to}
-use Rattle.volt_text.proofs.Pieces.{FrontIs, blank_front, word_front, number_front, comment_front, closed_front, closed_none, sign_front, sign_none}
+use Rattle.volt_text.proofs.Pieces.{PrefixIs, blank_prefix, word_prefix, number_prefix, comment_prefix, closed_prefix, closed_none, sign_prefix, sign_none}
 use Rattle.volt_text.proofs.QuotedTexts.{IsScanned, scan_start, scan_byte, scan_quote, scan_closed, scan_open}
 
 -- what a quote begins
@@ -38,38 +38,38 @@ scan (suc fuel) text at is_plain enough s = elim (cases_lt at (length text)) [
   ]
 ]
 
--- what stands at the front of a text
-data Front (text : List ℕ) : Type 0 where
-  some : (kind : PieceKind) (len : ℕ) → FrontIs text kind len → Front text
-  bad : HasNone text → ¬ IsOpen text → Front text
-  opened : IsOpen text → Front text
+-- what stands at the beginning of a text
+data FirstPiece (text : List ℕ) : Type 0 where
+  some : (kind : PieceKind) (len : ℕ) → PrefixIs text kind len → FirstPiece text
+  bad : HasNone text → ¬ IsOpen text → FirstPiece text
+  opened : IsOpen text → FirstPiece text
 
-quoted_front : (text : List ℕ) → Quotes text → Front text
-quoted_front text (closed len true c) = some _ len (closed_front text len c)
-quoted_front text (closed len false c) = let none = closed_none text len c in bad none.0 none.1
-quoted_front text (never o) = opened o
+quoted_piece : (text : List ℕ) → Quotes text → FirstPiece text
+quoted_piece text (closed len true c) = some _ len (closed_prefix text len c)
+quoted_piece text (closed len false c) = let none = closed_none text len c in bad none.0 none.1
+quoted_piece text (never o) = opened o
 
 first_quote : (text : List ℕ) → is_quote (get_or text 0 0) ≡ true → begins is_quote text ≡ true
 first_quote [] h = absurd cc
 first_quote (b ∷ bs) h = h
 
 sign_or_none : (text : List ℕ) (len : ℕ) → len ≡ sign_len text → is_letter (get_or text 0 0) ≡ false → is_blank (get_or text 0 0) ≡ false → is_ascii_digit (get_or text 0 0) ≡ false
-    → is_quote (get_or text 0 0) ≡ false → begins_comment text ≡ false → Front text
+    → is_quote (get_or text 0 0) ≡ false → begins_comment text ≡ false → FirstPiece text
 sign_or_none text zero e letter blank digit quote comment =
     let none = sign_none text letter blank digit (grind (arith, nat_tests)) comment (sym e) in bad none.0 none.1
-sign_or_none text (suc n) e letter blank digit quote comment = some _ (suc n) (sign_front text (suc n) e (λ z. absurd cc) comment)
+sign_or_none text (suc n) e letter blank digit quote comment = some _ (suc n) (sign_prefix text (suc n) e (λ z. absurd cc) comment)
 
-front : (text : List ℕ) → 0 < length text → Front text
-front text h = elim (cases_Bool (is_letter (get_or text 0 0))) [
-  | inl letter ↦ some _ _ (word_front text h letter)
+first_piece-of : (text : List ℕ) → 0 < length text → FirstPiece text
+first_piece-of text h = elim (cases_Bool (is_letter (get_or text 0 0))) [
+  | inl letter ↦ some _ _ (word_prefix text h letter)
   | inr no_letter ↦ elim (cases_Bool (is_blank (get_or text 0 0))) [
-    | inl blank ↦ some _ _ (blank_front text h blank)
+    | inl blank ↦ some _ _ (blank_prefix text h blank)
     | inr no_blank ↦ elim (cases_Bool (is_ascii_digit (get_or text 0 0))) [
-      | inl digit ↦ some _ _ (number_front text h digit)
+      | inl digit ↦ some _ _ (number_prefix text h digit)
       | inr no_digit ↦ elim (cases_Bool (is_quote (get_or text 0 0))) [
-        | inl quote ↦ quoted_front text (scan (length text) text 1 true (omega arith) (scan_start text (first_quote text quote)))
+        | inl quote ↦ quoted_piece text (scan (length text) text 1 true (omega arith) (scan_start text (first_quote text quote)))
         | inr no_quote ↦ elim (cases_Bool (begins_comment text)) [
-          | inl comment ↦ some _ _ (comment_front text comment)
+          | inl comment ↦ some _ _ (comment_prefix text comment)
           | inr no_comment ↦ sign_or_none text (sign_len text) refl no_letter no_blank no_digit no_quote no_comment
         ]
       ]
@@ -85,7 +85,7 @@ unfolding Reads
 go zero text at ts enough r = (Tokens ts, read_all text at ts r (omega arith))
 go (suc fuel) text at ts enough r = elim (cases_lt at (length text)) [
   | inr le ↦ (Tokens ts, read_all text at ts r le)
-  | inl lt ↦ elim (front (drop at text) (omega (arith, length-drop at text))) [
+  | inl lt ↦ elim (first_piece-of (drop at text) (omega (arith, length-drop at text))) [
     | some kind len f ↦ go fuel text (at + len) _ (let one = f.0 in omega arith) (read_more text at len kind ts _ r lt f.1 f.2 refl)
     | bad none ended ↦ (BadChar at, (read_to text at ts r lt, none, ended))
     | opened o ↦ (OpenText at, (read_to text at ts r lt, o))

@@ -32,20 +32,20 @@ one_kind kind other (b ∷ bs) h k = elim (kind_is kind b bs h) [
   ]
 ]
 
--- Of two fronts of one text one is a front of the other.
+-- Of two prefixes of one text one is a prefix of the other.
 
 pub record Extends (short long after rest : List ℕ) : Type 0 where
   pub more : List ℕ
   pub is_longer : long ≡ short ++ more
   pub is_rest : after ≡ more ++ rest
 
-fronts : (xs ys after rest : List ℕ) → xs ++ after ≡ ys ++ rest → Extends xs ys after rest ⊎ Extends ys xs rest after
-fronts [] ys after rest e = inl (record { more = ys; is_longer = refl; is_rest = e })
-fronts (x ∷ xs) [] after rest e = inr (record { more = x ∷ xs; is_longer = refl; is_rest = sym e })
-fronts (x ∷ xs) (y ∷ ys) after rest e =
+prefixes : (xs ys after rest : List ℕ) → xs ++ after ≡ ys ++ rest → Extends xs ys after rest ⊎ Extends ys xs rest after
+prefixes [] ys after rest e = inl (record { more = ys; is_longer = refl; is_rest = e })
+prefixes (x ∷ xs) [] after rest e = inr (record { more = x ∷ xs; is_longer = refl; is_rest = sym e })
+prefixes (x ∷ xs) (y ∷ ys) after rest e =
     let first : x ≡ y = cc in
     let tail : xs ++ after ≡ ys ++ rest = cc in
-    elim (fronts xs ys after rest tail) [
+    elim (prefixes xs ys after rest tail) [
       | inl k ↦ inl (record { more = k.more; is_longer = rw (first, k.is_longer) refl; is_rest = k.is_rest })
       | inr k ↦ inr (record { more = k.more; is_longer = rw (← first, k.is_longer) refl; is_rest = k.is_rest })
     ]
@@ -70,7 +70,7 @@ longest_once kind other bytes others after rest s t k =
 
 stands_once : (kind other : PieceKind) (bytes others after rest : List ℕ) → Stands kind bytes after → Stands other others rest → bytes ++ after ≡ others ++ rest
     → Same kind other bytes others after rest
-stands_once kind other bytes others after rest s t e = elim (fronts bytes others after rest e) [
+stands_once kind other bytes others after rest s t e = elim (prefixes bytes others after rest e) [
   | inl k ↦ longest_once kind other bytes others after rest s t k
   | inr k ↦ let same = longest_once other kind others bytes rest after t s k in record { kinds = sym same.kinds; pieces = sym same.pieces; rests = sym same.rests }
 ]

@@ -1,8 +1,8 @@
--- What the functions that look at the front of a text answer.
+-- What the functions that look at the beginning of a text answer.
 use Rattle.std.specs.Prelude.{◌≡◌, ◌<◌, ◌≤◌, ℕ, ◌==◌, ◌&&◌, Bool, false, if◌then◌else◌, List, [], ◌∷◌, length, take, drop, Result, Ok, Err}
 use Rattle.std.specs.List.{list_all}
 use Rattle.std.specs.Str.{byte}
-use Rattle.volt_text.specs.declared.piece.Front.{Front}
+use Rattle.volt_text.specs.declared.piece.FirstPiece.{FirstPiece}
 use Rattle.volt_text.specs.declared.piece.Stop.{Stop}
 use Rattle.volt_text.specs.declared.piece.Stop.TheVariants as stop
 use Rattle.volt_text.specs.declared.quoted.Quoted.{Quoted}
@@ -11,7 +11,7 @@ use Rattle.volt_text.specs.declared.token.LexFault.{LexFault}
 use Rattle.volt_text.specs.declared.token.LexFault.TheVariants as fault
 use Rattle.volt_text.specs.Tokens.{begins, is_quote, quoted, may_be_quoted, is_pair, is_single, Stands, HasNone, IsOpen}
 
--- at the front of the text stands a quoted text of so many bytes, and nothing of it is a control character
+-- at the beginning of the text stands a quoted text of so many bytes, and nothing of it is a control character
 pub record IsClosed (text : List ℕ) (len : ℕ) (is_plain : Bool) : Type 0 where
   pub inner : List ℕ
   pub is_within : len ≤ length text
@@ -28,17 +28,17 @@ abbrev pub begins_comment : List ℕ → Bool
 begins_comment (b ∷ c ∷ bs) = b == byte "-" && c == byte "-"
 begins_comment _ = false
 
--- the length of the longest sign at the front of the text, and 0 where there is none
+-- the length of the longest sign at the beginning of the text, and 0 where there is none
 abbrev pub sign_len : List ℕ → ℕ
 sign_len [] = 0
 sign_len (b ∷ []) = if is_single b then 1 else 0
 sign_len (b ∷ c ∷ bs) = if is_pair b c then 2 else (if is_single b then 1 else 0)
 
--- the piece at the front of the text, or why there is none
-abbrev pub IsFront : List ℕ → Result Front Stop → Type 0
-IsFront text (Ok front) = (0 < front.len) × (front.len ≤ length text) × Stands front.kind (take front.len text) (drop front.len text)
-IsFront text (Err stop.BadChar) = HasNone text × ¬ IsOpen text
-IsFront text (Err stop.OpenText) = IsOpen text
+-- the piece at the beginning of the text, or why there is none
+abbrev pub IsFirstPiece : List ℕ → Result FirstPiece Stop → Type 0
+IsFirstPiece text (Ok piece) = (0 < piece.len) × (piece.len ≤ length text) × Stands piece.kind (take piece.len text) (drop piece.len text)
+IsFirstPiece text (Err stop.BadChar) = HasNone text × ¬ IsOpen text
+IsFirstPiece text (Err stop.OpenText) = IsOpen text
 
 -- why lexing stops at this place
 abbrev pub fault_of : Stop → ℕ → LexFault

@@ -1,4 +1,4 @@
--- The tokens of a text. From its front on a text is cut into pieces, which are blanks, comments and tokens: at each
+-- The tokens of a text. From its beginning on a text is cut into pieces, which are blanks, comments and tokens: at each
 -- place stands the longest piece that begins there.
 use Rattle.std.specs.Prelude.{◌≡◌, ◌<◌, ◌≤◌, ℕ, ◌+◌, ◌==◌, nat_lt, Bool, true, false, not, ◌&&◌, ◌||◌, if◌then◌else◌, List, [], ◌∷◌, ◌++◌, length, take, drop, codes, IsTrue}
 use Rattle.std.specs.Char.{is_ascii_alphabetic, is_ascii_digit}
@@ -79,7 +79,7 @@ IsPiece (Lexeme Sign) bytes = IsTrue (is_sign bytes)
 
 -- Where pieces stand
 
--- at the front of a text stands a piece of this kind with these bytes, and this follows it
+-- at the beginning of a text stands a piece of this kind with these bytes, and this follows it
 pub record Stands (kind : PieceKind) (bytes after : List ℕ) : Type 0 where
   pub is_piece : IsPiece kind bytes
   -- no longer piece, of whatever kind, begins there
@@ -87,7 +87,7 @@ pub record Stands (kind : PieceKind) (bytes after : List ℕ) : Type 0 where
   -- a quote that is doubled ends no quoted text
   pub is_ended : kind ≡ Lexeme Text → begins is_quote after ≡ false
 
--- no piece stands at the front of the text
+-- no piece stands at the beginning of the text
 abbrev pub HasNone : List ℕ → Type 0
 HasNone text = (kind : PieceKind) (bytes after : List ℕ) → text ≡ bytes ++ after → Stands kind bytes after → ⊥
 
@@ -100,7 +100,7 @@ pub record Piece : Type 0 where
   pub kind : PieceKind
   pub bytes : List ℕ
 
--- from its front on the text has these pieces, and then this rest
+-- from its beginning on the text has these pieces, and then this rest
 abbrev pub Cut : List Piece → List ℕ → List ℕ → Type 0
 Cut [] text rest = text ≡ rest
 Cut (p ∷ ps) text rest = (after : List ℕ) × (text ≡ p.bytes ++ after) × Stands p.kind p.bytes after × Cut ps after rest

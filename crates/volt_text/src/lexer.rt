@@ -4,21 +4,21 @@ ghost use Rattle.std.specs.Prelude.{◌≡◌, ◌<◌, ◌^◌, ◌++◌, [], �
 ghost use Rattle.volt_text.specs.Tokens.{Reads, Tokens, BadChar, OpenText, token_before};
 ghost use Rattle.volt_text.specs.Scan.{fault_of};
 
-use crate::piece::{Front, PieceKind, Stop, piece_at_front};
+use crate::piece::{FirstPiece, PieceKind, Stop, first_piece};
 use crate::token::{LexFault, Token};
 use std::alloc::{AllocFailed, Global};
 
 /// Notes the piece at this place, where it is a token.
-fn note(tokens: &mut Vec<Token>, at: u32, front: Front) -> Result<(), AllocFailed<Token>>
-    requires { front.len < 2 ^ 32 }
+fn note(tokens: &mut Vec<Token>, at: u32, piece: FirstPiece) -> Result<(), AllocFailed<Token>>
+    requires { piece.len < 2 ^ 32 }
     ensures { OnOk result (tokens.new.items
-        ≡ tokens.old.items ++ token_before at front.kind front.len []) }
+        ≡ tokens.old.items ++ token_before at piece.kind piece.len []) }
 {
-    match front.kind {
+    match piece.kind {
         PieceKind::Lexeme(kind) => tokens.push(Token {
             kind,
             at,
-            len: front.len as u32,
+            len: piece.len as u32,
         }),
         PieceKind::Blank | PieceKind::Comment => Ok(()),
     }
@@ -58,10 +58,10 @@ pub fn lex(alloc: Global, text: &str) -> Result<Vec<Token>, LexFault>
     let mut at = 0;
     while at < bytes.len() {
         let (_, rest) = bytes.split_at(at);
-        match piece_at_front(rest) {
-            Ok(front) => {
-                note(&mut tokens, at as u32, front)?;
-                at += front.len;
+        match first_piece(rest) {
+            Ok(piece) => {
+                note(&mut tokens, at as u32, piece)?;
+                at += piece.len;
             }
             Err(stop) => return Err(fault_of(stop, at as u32)),
         }

@@ -1,8 +1,8 @@
-//! The piece that stands at the front of a text.
+//! The piece at the beginning of a text.
 
 ghost use Rattle.std.specs.Prelude.{◌≡◌, ◌<◌, length, true};
 ghost use Rattle.volt_text.specs.Tokens.{begins, is_quote};
-ghost use Rattle.volt_text.specs.Scan.{begins_comment, sign_len, IsFront};
+ghost use Rattle.volt_text.specs.Scan.{begins_comment, sign_len, IsFirstPiece};
 
 use crate::bytes::{blanks, bytes_in_line, digits, is_blank, is_letter, word_bytes};
 use crate::quoted::{Quoted, read_quoted};
@@ -19,22 +19,22 @@ pub enum PieceKind {
     Lexeme(TokenKind),
 }
 
-/// The piece at the front of a text: what it is, and how many bytes it has.
+/// The piece at the beginning of a text: what it is, and how many bytes it has.
 #[derive(Clone, Copy, Debug, PartialEq, Eq)]
-pub struct Front {
+pub struct FirstPiece {
     pub kind: PieceKind,
     pub len: usize,
 }
 
-impl Front {
-    fn new(kind: PieceKind, len: usize) -> Front
+impl FirstPiece {
+    fn new(kind: PieceKind, len: usize) -> FirstPiece
         ensures { result ≡ record { kind = kind; len = len } }
     {
-        Front { kind, len }
+        FirstPiece { kind, len }
     }
 }
 
-/// Why no piece stands at the front of a text.
+/// Why no piece stands at the beginning of a text.
 #[derive(Clone, Copy, Debug, PartialEq, Eq)]
 pub enum Stop {
     BadChar,
@@ -48,7 +48,7 @@ fn begins_comment(text: &[u8]) -> bool
     text.len() > 1 && text[0] == b'-' && text[1] == b'-'
 }
 
-/// How many bytes the longest sign at the front of the text has: 0 where there is none.
+/// How many bytes the longest sign at the beginning of the text has: 0 where there is none.
 fn sign_len(text: &[u8]) -> usize
     ensures { result ≡ sign_len text.now }
 {
@@ -75,45 +75,45 @@ fn sign_len(text: &[u8]) -> usize
     }
 }
 
-/// The quoted text at the front of a text that begins with a quote.
-fn quoted_front(text: &[u8]) -> Result<Front, Stop>
+/// The quoted text at the beginning of a text that begins with a quote.
+fn quoted_piece(text: &[u8]) -> Result<FirstPiece, Stop>
     requires { begins is_quote text.now ≡ true }
-    ensures { IsFront text.now result }
+    ensures { IsFirstPiece text.now result }
 {
     match read_quoted(text) {
         Quoted::Closed {
             len,
             is_plain: true,
-        } => Ok(Front::new(PieceKind::Lexeme(TokenKind::Text), len)),
+        } => Ok(FirstPiece::new(PieceKind::Lexeme(TokenKind::Text), len)),
         Quoted::Closed { .. } => Err(Stop::BadChar),
         Quoted::Open => Err(Stop::OpenText),
     }
 }
 
-/// The piece at the front of a text that isn't empty.
-pub fn piece_at_front(text: &[u8]) -> Result<Front, Stop>
+/// The piece at the beginning of a text that isn't empty.
+pub fn first_piece(text: &[u8]) -> Result<FirstPiece, Stop>
     requires { 0 < length text.now }
-    ensures { IsFront text.now result }
+    ensures { IsFirstPiece text.now result }
 {
     let first = text[0];
     if is_letter(first) {
-        return Ok(Front::new(PieceKind::Lexeme(TokenKind::Word), word_bytes(text)));
+        return Ok(FirstPiece::new(PieceKind::Lexeme(TokenKind::Word), word_bytes(text)));
     }
     if is_blank(first) {
-        return Ok(Front::new(PieceKind::Blank, blanks(text)));
+        return Ok(FirstPiece::new(PieceKind::Blank, blanks(text)));
     }
     if first.is_ascii_digit() {
-        return Ok(Front::new(PieceKind::Lexeme(TokenKind::Number), digits(text)));
+        return Ok(FirstPiece::new(PieceKind::Lexeme(TokenKind::Number), digits(text)));
     }
     if first == b'\'' {
-        return quoted_front(text);
+        return quoted_piece(text);
     }
     if begins_comment(text) {
-        return Ok(Front::new(PieceKind::Comment, bytes_in_line(text)));
+        return Ok(FirstPiece::new(PieceKind::Comment, bytes_in_line(text)));
     }
     let len = sign_len(text);
     if len == 0 {
         return Err(Stop::BadChar);
     }
-    Ok(Front::new(PieceKind::Lexeme(TokenKind::Sign), len))
+    Ok(FirstPiece::new(PieceKind::Lexeme(TokenKind::Sign), len))
 }

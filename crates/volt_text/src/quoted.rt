@@ -15,7 +15,7 @@ pub enum Quoted {
     Open,
 }
 
-/// What the quote at the text's front begins.
+/// What the quote at the text's beginning begins.
 pub fn read_quoted(text: &[u8]) -> Quoted
     requires { begins is_quote text.now ≡ true }
     ensures { IsQuoted text.now result }

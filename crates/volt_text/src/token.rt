@@ -31,7 +31,7 @@ pub enum LexFault {
     BadChar(u32),
     /// Here stands a quote that no later quote ends.
     OpenText(u32),
-    /// Memory was wanting.
+    /// Out of memory.
     NoMemory,
 }
 

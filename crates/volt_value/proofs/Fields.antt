@@ -42,26 +42,26 @@ pub record IsInteger (bytes : List ℕ) (z : ℤ) : Type 0 where
 pub integer_is : (bytes : List ℕ) (z : ℤ) → IsBytes bytes → integer_at bytes ≡ Some z → IsInteger bytes z
 unfolding integer_at
 integer_is bytes z fits e =
-    let front = take 8 bytes in
-    let number = from_be_bytes w64 front in
+    let prefix = take 8 bytes in
+    let number = from_be_bytes w64 prefix in
     let g = guard_some (nat_lt (length bytes) 8) (if_bigint (cast_signed w64 number)) z e in
     let long : 8 ≤ length bytes = ltb-false _ _ g.0 in
     let read = cond_some (is_bigint (cast_signed w64 number)) (cast_signed w64 number) z g.1 in
     let bytes_fit = IsBytes-take 8 bytes fits in
     let below : number < 2 ^ 64 = omega (arith, bytes_fit 0, bytes_fit 1, bytes_fit 2, bytes_fit 3, bytes_fit 4, bytes_fit 5, bytes_fit 6, bytes_fit 7) in
     let same : cast_unsigned w64 z ≡ number = rw (← read.1) (of_z-to_z w64 number below) in
-    let back : to_be_bytes w64 number ≡ front = be_bytes_8 front number (omega (arith, length-take 8 bytes)) bytes_fit refl in
+    let back : to_be_bytes w64 number ≡ prefix = be_bytes_8 prefix number (omega (arith, length-take 8 bytes)) bytes_fit refl in
     record {
       spelled = sym (ap (λ n. to_be_bytes w64 n ++ drop 8 bytes) same ∙ ap (λ (f : List ℕ). f ++ drop 8 bytes) back ∙ take-append-drop 8 bytes);
       within = long;
       is_value = rw (← read.1) read.0;
     }
 
-integer_at-front : (front rest : List ℕ) → length front ≡ 8 → integer_at (front ++ rest) ≡ if_bigint (cast_signed w64 (from_be_bytes w64 front))
+integer_at-prefix : (prefix rest : List ℕ) → length prefix ≡ 8 → integer_at (prefix ++ rest) ≡ if_bigint (cast_signed w64 (from_be_bytes w64 prefix))
 unfolding integer_at
-integer_at-front front rest len =
-    let long : nat_lt (length (front ++ rest)) 8 ≡ false = le-ltb _ _ (omega (arith, length-append front rest)) in
-    rw (long, take_at front rest 8 len) refl
+integer_at-prefix prefix rest len =
+    let long : nat_lt (length (prefix ++ rest)) 8 ≡ false = le-ltb _ _ (omega (arith, length-append prefix rest)) in
+    rw (long, take_at prefix rest 8 len) refl
 
 unsigned_below : (z : ℤ) → IsTrue (is_bigint z) → cast_unsigned w64 z < 2 ^ 64
 unsigned_below (pos n) fits = grind (arith, nat_tests)
@@ -72,7 +72,7 @@ integer_again z rest fits =
     let number = cast_unsigned w64 z in
     let in_width = fits_signed_from_abs w64 z (grind (arith, nat_tests)) in
     let back = from_be_bytes-to_be_bytes_8 number (unsigned_below z fits) in
-    integer_at-front (to_be_bytes w64 number) rest refl ∙ ap (λ n. if_bigint (cast_signed w64 n)) back ∙ ap if_bigint (to_z-of_z w64 z in_width) ∙ rw fits refl
+    integer_at-prefix (to_be_bytes w64 number) rest refl ∙ ap (λ n. if_bigint (cast_signed w64 n)) back ∙ ap if_bigint (to_z-of_z w64 z in_width) ∙ rw fits refl
 
 -- ---- texts
 
@@ -86,9 +86,9 @@ pub record IsText (bytes t : List ℕ) : Type 0 where
 pub text_is : (bytes t : List ℕ) → IsBytes bytes → text_at bytes ≡ Some t → IsText bytes t
 unfolding text_at
 text_is bytes t fits e =
-    let front = take 4 bytes in
+    let prefix = take 4 bytes in
     let rest = drop 4 bytes in
-    let len = from_be_bytes w32 front in
+    let len = from_be_bytes w32 prefix in
     let g = guard_some (nat_lt (length bytes) 4) (text_of_length len rest) t e in
     let long : 4 ≤ length bytes = ltb-false _ _ g.0 in
     let h = guard_some (nat_lt (length rest) len) (if_utf8 (take len rest)) t g.1 in
@@ -96,31 +96,31 @@ text_is bytes t fits e =
     let read = cond_some (is_utf8 (take len rest)) (take len rest) t h.1 in
     let size : length t ≡ len = rw (← read.1) (omega (arith, length-take len rest)) in
     let bytes_fit = IsBytes-take 4 bytes fits in
-    let back : to_be_bytes w32 len ≡ front = be_bytes_4 front len (omega (arith, length-take 4 bytes)) bytes_fit refl in
+    let back : to_be_bytes w32 len ≡ prefix = be_bytes_4 prefix len (omega (arith, length-take 4 bytes)) bytes_fit refl in
     record {
       spelled = sym (ap (λ n. to_be_bytes w32 n ++ (t ++ drop (4 + n) bytes)) size ∙ ap (λ (f : List ℕ). f ++ (t ++ drop (4 + len) bytes)) back
-          ∙ ap (λ (r : List ℕ). front ++ (t ++ r)) (sym (drop-drop len 4 bytes)) ∙ ap (λ (s : List ℕ). front ++ (s ++ drop len rest)) (sym read.1)
-          ∙ ap (λ (r : List ℕ). front ++ r) (take-append-drop len rest) ∙ take-append-drop 4 bytes);
+          ∙ ap (λ (r : List ℕ). prefix ++ (t ++ r)) (sym (drop-drop len 4 bytes)) ∙ ap (λ (s : List ℕ). prefix ++ (s ++ drop len rest)) (sym read.1)
+          ∙ ap (λ (r : List ℕ). prefix ++ r) (take-append-drop len rest) ∙ take-append-drop 4 bytes);
       within = omega (arith, length-drop 4 bytes);
       is_utf8 = rw (← read.1) (IsUtf8-from_is_utf8 (take len rest) read.0);
       short = omega (arith, bytes_fit 0, bytes_fit 1, bytes_fit 2, bytes_fit 3);
     }
 
-text_at-front : (front rest : List ℕ) → length front ≡ 4 → text_at (front ++ rest) ≡ text_of_length (from_be_bytes w32 front) rest
+text_at-prefix : (prefix rest : List ℕ) → length prefix ≡ 4 → text_at (prefix ++ rest) ≡ text_of_length (from_be_bytes w32 prefix) rest
 unfolding text_at
-text_at-front front rest len =
-    let long : nat_lt (length (front ++ rest)) 4 ≡ false = le-ltb _ _ (omega (arith, length-append front rest)) in
-    rw (long, take_at front rest 4 len, drop_at front rest 4 len) refl
+text_at-prefix prefix rest len =
+    let long : nat_lt (length (prefix ++ rest)) 4 ≡ false = le-ltb _ _ (omega (arith, length-append prefix rest)) in
+    rw (long, take_at prefix rest 4 len, drop_at prefix rest 4 len) refl
 
-text_of_length-front : (t rest : List ℕ) → IsUtf8 t → text_of_length (length t) (t ++ rest) ≡ Some t
-text_of_length-front t rest utf8 =
+text_of_length-prefix : (t rest : List ℕ) → IsUtf8 t → text_of_length (length t) (t ++ rest) ≡ Some t
+text_of_length-prefix t rest utf8 =
     let long : nat_lt (length (t ++ rest)) (length t) ≡ false = le-ltb _ _ (omega (arith, length-append t rest)) in
     rw (long, take_at t rest (length t) refl, is_utf8-from_IsUtf8 t utf8) refl
 
 pub text_again : (t rest : List ℕ) → IsUtf8 t → length t < 2 ^ 32 → text_at (to_be_bytes w32 (length t) ++ (t ++ rest)) ≡ Some t
 text_again t rest utf8 lt =
-    text_at-front (to_be_bytes w32 (length t)) (t ++ rest) refl
-    ∙ ap (λ n. text_of_length n (t ++ rest)) (from_be_bytes-to_be_bytes_4 (length t) lt) ∙ text_of_length-front t rest utf8
+    text_at-prefix (to_be_bytes w32 (length t)) (t ++ rest) refl
+    ∙ ap (λ n. text_of_length n (t ++ rest)) (from_be_bytes-to_be_bytes_4 (length t) lt) ∙ text_of_length-prefix t rest utf8
 
 -- what the test of UTF-8 tells
 pub ruleset utf8_tests = (IsUtf8-from_is_utf8, is_utf8-from_IsUtf8)

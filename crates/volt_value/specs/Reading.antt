@@ -1,4 +1,4 @@
--- Reading a value from the front of bytes.
+-- Reading a value from the beginning of bytes.
 use Rattle.std.specs.Prelude.{ℕ, zero, suc, ◌+◌, nat_lt, if◌then◌else◌, List, [], ◌∷◌, length, take, drop, ℤ, Option, Some, None, option_map}
 use Rattle.std.specs.Int.{w32, w64, from_be_bytes, cast_signed}
 use Rattle.std.specs.Str.{is_utf8}

@@ -1,4 +1,4 @@
-//! Reads a value from the front of bytes. Numbers have their high byte first.
+//! Reads a value from the beginning of bytes. Numbers have their high byte first.
 
 ghost use Rattle.std.specs.Prelude.{◌≡◌, ℕ, ◌++◌, List, Some, length, option_map, IfOk, IfSome, IfNone};
 ghost use Rattle.volt_value.specs.declared.value.Value.{Value};
@@ -37,8 +37,8 @@ fn read_text(bytes: &[u8]) -> Option<&str>
     if bytes.len() < 4 {
         return None;
     }
-    let (front, rest) = bytes.split_at(4);
-    let len = u32::from_be_bytes([front[0], front[1], front[2], front[3]]) as usize;
+    let (prefix, rest) = bytes.split_at(4);
+    let len = u32::from_be_bytes([prefix[0], prefix[1], prefix[2], prefix[3]]) as usize;
     if rest.len() < len {
         return None;
     }

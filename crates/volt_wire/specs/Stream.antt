@@ -5,7 +5,7 @@ use Rattle.volt_base.specs.declared.entry.Outcome.{Outcome}
 
 pub record StreamHead : Type 0 where
   -- the position at which the tables are read out
-  pub nj : ℕ
+  pub stream_start : ℕ
   -- the mark that the joiner's base gets
   pub mark : ℕ
   -- the calls that were applied up to that position

@@ -101,13 +101,13 @@ pub enum Msg<S> {
     },
     /// From the initiator to the leaders: a round of a multi-partition transaction.
     Frag {
-        m: u64,
+        transaction: u64,
         round: u16,
         body: Bytes,
     },
     /// From the initiator to the leaders: the end of a multi-partition transaction.
     Done {
-        m: u64,
+        transaction: u64,
         outcome: Outcome,
     },
 
@@ -120,18 +120,18 @@ pub enum Msg<S> {
     },
     /// To the initiator: what a partition answered in a round.
     FragDone {
-        m: u64,
+        transaction: u64,
         round: u16,
         partial: Bytes,
     },
     /// To the initiator: the end of a transaction stands in a partition for good.
     Finished {
-        m: u64,
+        transaction: u64,
     },
     /// To the initiator of a new term: the transaction that is open in a partition, or the last one
     /// that was done.
     MpState {
-        m: u64,
+        transaction: u64,
         is_open: bool,
         outcome: Option<Outcome>,
     },

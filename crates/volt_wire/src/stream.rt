@@ -12,7 +12,7 @@ pub struct Stream {
 
 #[derive(Debug, Drop)]
 struct HeldStream {
-    nj: Pos,
+    stream_start: Pos,
     mark: Term,
     applied: Vec<Applied>,
     last: Option<(u64, Outcome)>,
@@ -24,7 +24,7 @@ impl Model for Stream {
     ghost Value = { StreamHead };
 
     ghost view = { λ s. record {
-      nj = s.held.value.nj;
+      stream_start = s.held.value.stream_start;
       mark = s.held.value.mark;
       applied = s.held.value.applied.items;
       last = s.held.value.last;

@@ -11,21 +11,21 @@ use Rattle.cluster_model.specs.Engine.{Database}
 use Rattle.cluster_model.specs.Words.{Deployment, is_host, term_in}
 use Rattle.cluster_model.specs.Letters.{Letter, Turn, becomes, ◌▸◌, arrival, Arrival, Taken, Refused, Waits, Waiting, of_term, above_term}
 use Rattle.cluster_model.specs.AgentState.{AgentState, Admission, new_agent, stops, stops_with_host}
-use Rattle.cluster_model.specs.Agent.{agent_row, row_and_word, unless_stopped, takes_each, takes_waiting, agent_runs, agent_takes, agent_turn, start_after, start_taken, on_start}
-use Rattle.cluster_model.specs.Outside.{Outside, Fair, DiskFails, NoMemory, DisksShow}
+use Rattle.cluster_model.specs.Agent.{agent_handler, handler_and_word, unless_stopped, takes_each, takes_waiting, agent_runs, agent_takes, agent_turn, start_after, start_taken, on_start}
+use Rattle.cluster_model.specs.Environment.{Environment, NoFault, DiskFails, NoMemory, DisksShow}
 use Rattle.cluster_model.specs.World.{took, rest}
 use Rattle.cluster_model.specs.Laws.{start_in_letter, starts_in}
 use Rattle.word_laws.specs.Histories.{In, State, start_at, starts_to, Holds, LetterOk, AskOk, CameOk, QueuedOk, WaitingFrom, WaitingOk, ClosesFrom, InOrder}
 use Rattle.word_laws.proofs.Lists.{all-mono, all-filter, eqb-same, not-both}
 use Rattle.word_laws.proofs.Moves.{Nobody, Anyone, after, popped, Later, BringsWord, asked_by, Heeded, Goes}
 use Rattle.word_laws.proofs.Laters.{ask-later, came-later, closes-later, ask-began, waiting-later}
-use Rattle.word_laws.proofs.Turns.{row-calm, tells, concludes, stops_with_host-closed}
+use Rattle.word_laws.proofs.Turns.{handler-calm, tells, concludes, stops_with_host-closed}
 use Rattle.word_laws.proofs.Arrivals.{arrival-waits, arrival-taken, arrival-open, arrival-dropped, Commands, Takes, Stops_, Ignores, Runs_, takes-cases, runs-taken, runs-waits, runs-refused, turn-cases, stopped-cases, unless-running, waiting-brings}
 use Rattle.word_laws.proofs.Steps.{later-moved, pops, pops-other, waiting-shrinks, waits-holds}
 use Rattle.word_laws.proofs.Rejoins.{start-goes, start-stops-goes}
 use Rattle.word_laws.proofs.Draws.{director-drops-holds}
-use Rattle.word_laws.proofs.Hearings.{Row, none-row, row-grows, row-plain, stay-row, agent-there, on-row, then-assoc, calm-row, concluded-row, after-same}
-use Rattle.word_laws.proofs.Letters.{forgets-row, stop-row, closed-row, word-row, decided-row}
+use Rattle.word_laws.proofs.Hearings.{Handler, none-handler, handler-grows, handler-plain, stay-handler, agent-there, on-handler, then-assoc, calm-handler, concluded-handler, after-same}
+use Rattle.word_laws.proofs.Letters.{forgets-handler, stop-handler, closed-handler, word-handler, decided-handler}
 
 -- ---- a message leaves its channel
 
@@ -43,11 +43,11 @@ pops-any S (Scanner i) n l ls is heeded h = pops-other S (Scanner i) n (λ k. re
 
 -- The agent stops, and then the message leaves its channel.
 pub stop-pops : (S : State) (from : Actor) (n : ℕ) (l : Letter) (ls : List Letter) (t : Turn AgentState) → S.channel from (Agent n) ≡ l ∷ ls → Holds S → 0 < start_at S n → t.state ≡ new_agent 0
-    → ((g : ℕ) → t.sends (Agent g) ≡ (stops S.deployment n (start_at S n)).sends (Agent g)) → Row Nobody (popped S from n) n t
-stop-pops S from n l ls t is h up e sends = forgets-row S n from l ls t is r (λ more q. pops-any T from n l more q (λ k z. unheeded) r.holds)
+    → ((g : ℕ) → t.sends (Agent g) ≡ (stops S.deployment n (start_at S n)).sends (Agent g)) → Handler Nobody (popped S from n) n t
+stop-pops S from n l ls t is h up e sends = forgets-handler S n from l ls t is r (λ more q. pops-any T from n l more q (λ k z. unheeded) r.holds)
   where
-    r : Row Nobody S n t
-    r = stop-row S n t h up e sends
+    r : Handler Nobody S n t
+    r = stop-handler S n t h up e sends
 
     T : State
     T = after S n t.state t.sends r.history
@@ -85,26 +85,26 @@ came-popped S k n j l ls h is = (
 pub calm-event : {M : ℕ → ℕ → Type 0} (E : Database) (P : State) (n stamp : ℕ) (from : Actor) (l : Letter) → Holds P → 0 < start_at P n → (BringsWord from l → ⊥)
     → ((j h term : ℕ) → In (Admission j h term) (asked_by from l) → QueuedOk P n (Admission j h term))
     → ((j h term : ℕ) → In (Admission j h term) ((P.agents n).initiating.queue ++ asked_by from l) → M j h)
-    → Row M P n (agent_row E P.deployment n stamp (P.agents n) from l ▸ tells n (P.agents n).own)
+    → Handler M P n (agent_handler E P.deployment n stamp (P.agents n) from l ▸ tells n (P.agents n).own)
 calm-event E P n stamp from l h up calm new may =
-    calm-row P h n (asked_by from l) (agent_row E P.deployment n stamp (P.agents n) from l) up (row-calm E P.deployment n stamp (P.agents n) from l calm) new may
+    calm-handler P h n (asked_by from l) (agent_handler E P.deployment n stamp (P.agents n) from l) up (handler-calm E P.deployment n stamp (P.agents n) from l calm) new may
 
--- ---- the row of a message, and what the agent says then
+-- ---- the handler of a message, and what the agent says then
 
 -- of a message that is taken
-pub row-event : {M : ℕ → ℕ → Type 0} (E : Database) (S : State) (n stamp : ℕ) (from : Actor) (l : Letter) (ls : List Letter) → Holds S → 0 < start_at S n
+pub handler-event : {M : ℕ → ℕ → Type 0} (E : Database) (S : State) (n stamp : ℕ) (from : Actor) (l : Letter) (ls : List Letter) → Holds S → 0 < start_at S n
     → S.channel from (Agent n) ≡ l ∷ ls
     → arrival (start_at S n) (term_in (S.agents n).decided) l ≡ Taken
     → ((j h term : ℕ) → In (Admission j h term) ((S.agents n).initiating.queue ++ asked_by from l) → M j h)
-    → Row M (popped S from n) n (agent_row E S.deployment n stamp (S.agents n) from l ▸ tells n (S.agents n).own)
-row-event {M = M} E S n stamp (Agent k) l ls h up is taken may = elim l.body as (λ m. S.channel (Agent k) (Agent n) ≡ record l { body = m } ∷ ls
+    → Handler M (popped S from n) n (agent_handler E S.deployment n stamp (S.agents n) from l ▸ tells n (S.agents n).own)
+handler-event {M = M} E S n stamp (Agent k) l ls h up is taken may = elim l.body as (λ m. S.channel (Agent k) (Agent n) ≡ record l { body = m } ∷ ls
     → arrival (start_at S n) (term_in (S.agents n).decided) (record l { body = m }) ≡ Taken
     → ((j h term : ℕ) → In (Admission j h term) ((S.agents n).initiating.queue ++ asked_by (Agent k) (record l { body = m })) → M j h)
-    → Row M (popped S (Agent k) n) n (agent_row E S.deployment n stamp (S.agents n) (Agent k) (record l { body = m }) ▸ tells n (S.agents n).own)) [
-      | msg.Closed o ↦ λ e a may. none-row (closed-row S h n k o l ls up e)
-      | msg.Word base lost admitted ↦ λ e a may. none-row (word-row S h n k base lost admitted l ls up e
+    → Handler M (popped S (Agent k) n) n (agent_handler E S.deployment n stamp (S.agents n) (Agent k) (record l { body = m }) ▸ tells n (S.agents n).own)) [
+      | msg.Closed o ↦ λ e a may. none-handler (closed-handler S h n k o l ls up e)
+      | msg.Word base lost admitted ↦ λ e a may. none-handler (word-handler S h n k base lost admitted l ls up e
           (arrival-taken (start_at S n) (term_in (S.agents n).decided) (record l { body = msg.Word base lost admitted }) a))
-      | msg.Decided w ↦ λ e a may. none-row (decided-row (popped S (Agent k) n) (pops S k n (record l { body = msg.Decided w }) ls e tt h) n w up
+      | msg.Decided w ↦ λ e a may. none-handler (decided-handler (popped S (Agent k) n) (pops S k n (record l { body = msg.Decided w }) ls e tt h) n w up
           (subst (AllByRecursion (LetterOk S k n)) e (h.channels k n).letters).0.1)
       | msg.Admit j ↦ λ e a may. calm-event E (popped S (Agent k) n) n stamp (Agent k) (record l { body = msg.Admit j })
           (pops S k n (record l { body = msg.Admit j }) ls e tt h) up (λ b. b)
@@ -115,13 +115,13 @@ row-event {M = M} E S n stamp (Agent k) l ls h up is taken may = elim l.body as 
       | m ↦ λ e a may. calm-event E (popped S (Agent k) n) n stamp (Agent k) (record l { body = m }) (pops S k n (record l { body = m }) ls e tt h) up (λ b. b)
           (λ i g term q. absurd q) may
     ] is taken may
-row-event {M = M} E S n stamp Director l ls h up is taken may =
+handler-event {M = M} E S n stamp Director l ls h up is taken may =
     calm-event E (popped S Director n) n stamp Director l (director-drops-holds S n h) up (λ b. b) (λ i g term q. absurd q) may
-row-event {M = M} E S n stamp (Client c) l ls h up is taken may =
+handler-event {M = M} E S n stamp (Client c) l ls h up is taken may =
     calm-event E (popped S (Client c) n) n stamp (Client c) l (pops-any S (Client c) n l ls is (λ k q. absurd (cc)) h) up (λ b. b) (λ i g term q. absurd q) may
-row-event {M = M} E S n stamp (Site i) l ls h up is taken may =
+handler-event {M = M} E S n stamp (Site i) l ls h up is taken may =
     calm-event E (popped S (Site i) n) n stamp (Site i) l (pops-any S (Site i) n l ls is (λ k q. absurd (cc)) h) up (λ b. b) (λ i g term q. absurd q) may
-row-event {M = M} E S n stamp (Scanner i) l ls h up is taken may =
+handler-event {M = M} E S n stamp (Scanner i) l ls h up is taken may =
     calm-event E (popped S (Scanner i) n) n stamp (Scanner i) l (pops-any S (Scanner i) n l ls is (λ k q. absurd (cc)) h) up (λ b. b) (λ i g term q. absurd q) may
 
 -- ---- a message that waited
@@ -137,11 +137,11 @@ asked-waiting P n (Client c) l w j h term i = absurd i
 asked-waiting P n (Site s) l w j h term i = absurd i
 asked-waiting P n (Scanner x) l w j h term i = absurd i
 
-waited-row : (E : Database) (P : State) (n stamp : ℕ) (from : Actor) (l : Letter) → Holds P → 0 < start_at P n → WaitingFrom P n from l
-    → Row Anyone P n (row_and_word E P.deployment n stamp (P.agents n) from l)
-waited-row E P n stamp from l h up w =
-    subst (Row Anyone P n) (then-assoc (agent_row E P.deployment n stamp (P.agents n) from l) (tells n (P.agents n).own) (concludes P.deployment n))
-    (concluded-row P n P.deployment (agent_row E P.deployment n stamp (P.agents n) from l ▸ tells n (P.agents n).own)
+waited-handler : (E : Database) (P : State) (n stamp : ℕ) (from : Actor) (l : Letter) → Holds P → 0 < start_at P n → WaitingFrom P n from l
+    → Handler Anyone P n (handler_and_word E P.deployment n stamp (P.agents n) from l)
+waited-handler E P n stamp from l h up w =
+    subst (Handler Anyone P n) (then-assoc (agent_handler E P.deployment n stamp (P.agents n) from l) (tells n (P.agents n).own) (concludes P.deployment n))
+    (concluded-handler P n P.deployment (agent_handler E P.deployment n stamp (P.agents n) from l ▸ tells n (P.agents n).own)
     (calm-event E P n stamp from l h up (waiting-brings P n from l w) (asked-waiting P n from l w) (λ j g term i. tt)))
 
 -- an Admit that came stays one that came
@@ -156,23 +156,23 @@ none-taken E D n stamp [] = refl
 none-taken E D n stamp (w ∷ ws) = none-taken E D n stamp ws
 
 waited-each : (E : Database) (D : Deployment) (n stamp : ℕ) (ws : List Waiting) (P : State) → P.deployment ≡ D → Holds P → 0 < start_at P n → AllByRecursion (λ w. WaitingFrom P n w.from w.letter) ws
-    → Row Anyone P n (takes_each E D n stamp ws (P.agents n))
-waited-each E D n stamp [] P d h up w = stay-row P n (inl (refl, up)) h
-waited-each E D n stamp (w ∷ ws) P d h up k = on-row P n (unless_stopped E D n stamp (P.agents n) w.from w.letter) (takes_each E D n stamp ws) first (none-taken E D n stamp ws)
+    → Handler Anyone P n (takes_each E D n stamp ws (P.agents n))
+waited-each E D n stamp [] P d h up w = stay-handler P n (inl (refl, up)) h
+waited-each E D n stamp (w ∷ ws) P d h up k = on-handler P n (unless_stopped E D n stamp (P.agents n) w.from w.letter) (takes_each E D n stamp ws) first (none-taken E D n stamp ws)
     (λ T e q later others g u. waited-each E D n stamp ws T (q ∙ d) g u
     (all-mono (λ x. WaitingFrom P n x.from x.letter) (λ x. WaitingFrom T n x.from x.letter) (λ x p. waiting-later P T n (came-still P T n later others) x.from x.letter p) ws k.1))
   where
     running : (P.agents n).start == 0 ≡ false
     running = grind (arith, nat_tests, up)
 
-    first : Row Anyone P n (unless_stopped E D n stamp (P.agents n) w.from w.letter)
-    first = subst (Row Anyone P n) (sym (unless-running E D n stamp (P.agents n) w.from w.letter running))
-        (subst (λ z. Row Anyone P n (row_and_word E z n stamp (P.agents n) w.from w.letter)) d (waited-row E P n stamp w.from w.letter h up k.0))
+    first : Handler Anyone P n (unless_stopped E D n stamp (P.agents n) w.from w.letter)
+    first = subst (Handler Anyone P n) (sym (unless-running E D n stamp (P.agents n) w.from w.letter running))
+        (subst (λ z. Handler Anyone P n (handler_and_word E z n stamp (P.agents n) w.from w.letter)) d (waited-handler E P n stamp w.from w.letter h up k.0))
 
-waited : (E : Database) (D : Deployment) (n stamp : ℕ) (P : State) → P.deployment ≡ D → Holds P → 0 < start_at P n → Row Anyone P n (takes_waiting E D n stamp (P.agents n))
+waited : (E : Database) (D : Deployment) (n stamp : ℕ) (P : State) → P.deployment ≡ D → Holds P → 0 < start_at P n → Handler Anyone P n (takes_waiting E D n stamp (P.agents n))
 waited E D n stamp P d h up =
-    on-row P n (becomes (record (P.agents n) { waiting = above_term (term_in (P.agents n).decided) (P.agents n).waiting })) (takes_each E D n stamp (of_term (term_in (P.agents n).decided) (P.agents n).waiting))
-    (row-plain P n (becomes (record (P.agents n) { waiting = above_term (term_in (P.agents n).decided) (P.agents n).waiting })) (inl (refl, up))
+    on-handler P n (becomes (record (P.agents n) { waiting = above_term (term_in (P.agents n).decided) (P.agents n).waiting })) (takes_each E D n stamp (of_term (term_in (P.agents n).decided) (P.agents n).waiting))
+    (handler-plain P n (becomes (record (P.agents n) { waiting = above_term (term_in (P.agents n).decided) (P.agents n).waiting })) (inl (refl, up))
     (waiting-shrinks P n (λ w. nat_lt (term_in (P.agents n).decided) w.letter.term) h))
     (none-taken E D n stamp (of_term (term_in (P.agents n).decided) (P.agents n).waiting))
     (λ T e q later others g u. waited-each E D n stamp (of_term (term_in (P.agents n).decided) (P.agents n).waiting) T (q ∙ d) g u
@@ -188,21 +188,21 @@ none-waited E D n stamp = refl
 -- and what follows: it takes those that waited for the term
 pub taken-event : (E : Database) (S : State) (n stamp : ℕ) (from : Actor) (l : Letter) (ls : List Letter) → Holds S → 0 < start_at S n → S.channel from (Agent n) ≡ l ∷ ls
     → arrival (start_at S n) (term_in (S.agents n).decided) l ≡ Taken
-    → Row Anyone (popped S from n) n (row_and_word E S.deployment n stamp (S.agents n) from l ▸ takes_waiting E S.deployment n stamp)
+    → Handler Anyone (popped S from n) n (handler_and_word E S.deployment n stamp (S.agents n) from l ▸ takes_waiting E S.deployment n stamp)
 taken-event E S n stamp from l ls h up is taken =
-    on-row (popped S from n) n (row_and_word E S.deployment n stamp (S.agents n) from l) (takes_waiting E S.deployment n stamp)
-    (subst (Row Anyone (popped S from n) n) (then-assoc (agent_row E S.deployment n stamp (S.agents n) from l) (tells n (S.agents n).own) (concludes S.deployment n))
-    (concluded-row (popped S from n) n S.deployment (agent_row E S.deployment n stamp (S.agents n) from l ▸ tells n (S.agents n).own)
-    (row-event E S n stamp from l ls h up is taken (λ j g term i. tt))))
+    on-handler (popped S from n) n (handler_and_word E S.deployment n stamp (S.agents n) from l) (takes_waiting E S.deployment n stamp)
+    (subst (Handler Anyone (popped S from n) n) (then-assoc (agent_handler E S.deployment n stamp (S.agents n) from l) (tells n (S.agents n).own) (concludes S.deployment n))
+    (concluded-handler (popped S from n) n S.deployment (agent_handler E S.deployment n stamp (S.agents n) from l ▸ tells n (S.agents n).own)
+    (handler-event E S n stamp from l ls h up is taken (λ j g term i. tt))))
     (none-waited E S.deployment n stamp)
     (λ T e q later others g u. waited E S.deployment n stamp T q g u)
 
 -- one that waits for its term
 pub waits-event : {M : ℕ → ℕ → Type 0} (S : State) (n : ℕ) (from : Actor) (l : Letter) (ls : List Letter) → Holds S → 0 < start_at S n → S.channel from (Agent n) ≡ l ∷ ls
     → arrival (start_at S n) (term_in (S.agents n).decided) l ≡ Waits
-    → Row M (popped S from n) n (becomes (record (S.agents n) { waiting = (S.agents n).waiting ++ record { from = from; letter = l } ∷ [] }))
+    → Handler M (popped S from n) n (becomes (record (S.agents n) { waiting = (S.agents n).waiting ++ record { from = from; letter = l } ∷ [] }))
 waits-event S n from l ls h up is waits =
-    row-plain (popped S from n) n (becomes (record (S.agents n) { waiting = (S.agents n).waiting ++ record { from = from; letter = l } ∷ [] })) (inl (refl, up))
+    handler-plain (popped S from n) n (becomes (record (S.agents n) { waiting = (S.agents n).waiting ++ record { from = from; letter = l } ∷ [] })) (inl (refl, up))
     (waits-holds (popped S from n) from n l (may-wait from l is waits)
     (pops-any S from n l ls is (λ k e. unheeded k l (subst (λ z. S.channel z (Agent n) ≡ l ∷ ls) e is) waits) h))
   where
@@ -233,9 +233,9 @@ waits-event S n from l ls h up is waits =
 
 -- one for another start, or of a lower term
 pub refused-event : {M : ℕ → ℕ → Type 0} (S : State) (n : ℕ) (from : Actor) (l : Letter) (ls : List Letter) → Holds S → 0 < start_at S n → S.channel from (Agent n) ≡ l ∷ ls
-    → arrival (start_at S n) (term_in (S.agents n).decided) l ≡ Refused → Row M (popped S from n) n (becomes (S.agents n))
+    → arrival (start_at S n) (term_in (S.agents n).decided) l ≡ Refused → Handler M (popped S from n) n (becomes (S.agents n))
 refused-event S n from l ls h up is refused =
-    stay-row (popped S from n) n (inl (refl, up)) (pops-any S from n l ls is (λ k e. unheeded k l (subst (λ z. S.channel z (Agent n) ≡ l ∷ ls) e is) refused) h)
+    stay-handler (popped S from n) n (inl (refl, up)) (pops-any S from n l ls is (λ k e. unheeded k l (subst (λ z. S.channel z (Agent n) ≡ l ∷ ls) e is) refused) h)
   where
     taken-not : (l : Letter) → arrival (start_at S n) (term_in (S.agents n).decided) l ≡ Refused → l.start ≡ 0 → l.term ≡ 0 → ⊥
     taken-not l r s t =
@@ -255,8 +255,8 @@ refused-event S n from l ls h up is refused =
 
 -- a Start or a Stop that doesn't concern it
 pub ignored-event : {M : ℕ → ℕ → Type 0} (S : State) (n : ℕ) (from : Actor) (l : Letter) (ls : List Letter) → Holds S → 0 < start_at S n → S.channel from (Agent n) ≡ l ∷ ls
-    → Commands l → Row M (popped S from n) n (becomes (S.agents n))
-ignored-event S n from l ls h up is c = stay-row (popped S from n) n (inl (refl, up)) (pops-any S from n l ls is (λ k e. heeded l c) h)
+    → Commands l → Handler M (popped S from n) n (becomes (S.agents n))
+ignored-event S n from l ls h up is c = stay-handler (popped S from n) n (inl (refl, up)) (pops-any S from n l ls is (λ k e. heeded l c) h)
   where
     heeded : (l : Letter) → Commands l → Heeded S n l
     heeded l c = (elim l.body as (λ m. Commands (record l { body = m }) → Heeded S n (record l { body = m })) [
@@ -265,33 +265,33 @@ ignored-event S n from l ls h up is c = stay-row (popped S from n) n (inl (refl,
       | m ↦ λ p. absurd p
     ]) c
 
-running-event : (E : Database) (S : State) (n stamp : ℕ) (from : Actor) (l : Letter) (ls : List Letter) (o : Outside) → Holds S → 0 < start_at S n → S.channel from (Agent n) ≡ l ∷ ls
-    → Row Anyone (popped S from n) n (agent_turn E S.deployment n stamp (S.agents n) from l o)
+running-event : (E : Database) (S : State) (n stamp : ℕ) (from : Actor) (l : Letter) (ls : List Letter) (o : Environment) → Holds S → 0 < start_at S n → S.channel from (Agent n) ≡ l ∷ ls
+    → Handler Anyone (popped S from n) n (agent_turn E S.deployment n stamp (S.agents n) from l o)
 running-event E S n stamp from l ls o h up is = elim (turn-cases E S.deployment n stamp (S.agents n) from l o running) [
-  | inl e ↦ subst (Row Anyone (popped S from n) n) (sym e) (none-row
+  | inl e ↦ subst (Handler Anyone (popped S from n) n) (sym e) (none-handler
       (stop-pops S from n l ls (stops_with_host S.deployment n (start_at S n)) is h up refl (λ g. stops_with_host-closed S.deployment n (start_at S n) g)))
-  | inr e ↦ subst (Row Anyone (popped S from n) n) (sym e) (takes (takes-cases E S.deployment n stamp (S.agents n) from l running))
+  | inr e ↦ subst (Handler Anyone (popped S from n) n) (sym e) (takes (takes-cases E S.deployment n stamp (S.agents n) from l running))
 ]
   where
     running : ((S.agents n).start == 0) ≡ false
     running = grind (arith, nat_tests, up)
 
-    runs : (x : Arrival) → arrival (start_at S n) (term_in (S.agents n).decided) l ≡ x → Row Anyone (popped S from n) n (agent_runs E S.deployment n stamp (S.agents n) from l)
-    runs Taken e = subst (Row Anyone (popped S from n) n) (sym (runs-taken E S.deployment n stamp (S.agents n) from l e)) (taken-event E S n stamp from l ls h up is e)
-    runs Waits e = subst (Row Anyone (popped S from n) n) (sym (runs-waits E S.deployment n stamp (S.agents n) from l e)) (waits-event S n from l ls h up is e)
-    runs Refused e = subst (Row Anyone (popped S from n) n) (sym (runs-refused E S.deployment n stamp (S.agents n) from l e)) (refused-event S n from l ls h up is e)
+    runs : (x : Arrival) → arrival (start_at S n) (term_in (S.agents n).decided) l ≡ x → Handler Anyone (popped S from n) n (agent_runs E S.deployment n stamp (S.agents n) from l)
+    runs Taken e = subst (Handler Anyone (popped S from n) n) (sym (runs-taken E S.deployment n stamp (S.agents n) from l e)) (taken-event E S n stamp from l ls h up is e)
+    runs Waits e = subst (Handler Anyone (popped S from n) n) (sym (runs-waits E S.deployment n stamp (S.agents n) from l e)) (waits-event S n from l ls h up is e)
+    runs Refused e = subst (Handler Anyone (popped S from n) n) (sym (runs-refused E S.deployment n stamp (S.agents n) from l e)) (refused-event S n from l ls h up is e)
 
-    takes : Takes E S.deployment n stamp (S.agents n) from l → Row Anyone (popped S from n) n (agent_takes E S.deployment n stamp (S.agents n) from l)
-    takes (Stops_ e) = subst (Row Anyone (popped S from n) n) (sym e) (none-row (stop-pops S from n l ls (stops S.deployment n (start_at S n)) is h up refl (λ g. refl)))
-    takes (Ignores e c) = subst (Row Anyone (popped S from n) n) (sym e) (ignored-event S n from l ls h up is c)
-    takes (Runs_ e c) = subst (Row Anyone (popped S from n) n) (sym e) (runs (arrival (start_at S n) (term_in (S.agents n).decided) l) refl)
+    takes : Takes E S.deployment n stamp (S.agents n) from l → Handler Anyone (popped S from n) n (agent_takes E S.deployment n stamp (S.agents n) from l)
+    takes (Stops_ e) = subst (Handler Anyone (popped S from n) n) (sym e) (none-handler (stop-pops S from n l ls (stops S.deployment n (start_at S n)) is h up refl (λ g. refl)))
+    takes (Ignores e c) = subst (Handler Anyone (popped S from n) n) (sym e) (ignored-event S n from l ls h up is c)
+    takes (Runs_ e c) = subst (Handler Anyone (popped S from n) n) (sym e) (runs (arrival (start_at S n) (term_in (S.agents n).decided) l) refl)
 
 -- ---- the whole
 
-row-goes : (S : State) (n : ℕ) (from : Actor) (t : Turn AgentState) → Row Anyone (popped S from n) n t → Goes S n from t
-row-goes S n from t r = record {
+handler-goes : (S : State) (n : ℕ) (from : Actor) (t : Turn AgentState) → Handler Anyone (popped S from n) n t → Goes S n from t
+handler-goes S n from t r = record {
   history = r.history;
-  grows = row-grows r;
+  grows = handler-grows r;
   holds = r.holds;
 }
 
@@ -366,15 +366,15 @@ stopped-memory S n from l ls h z host is some = (elim l.body as (λ m. S.channel
 -- ---- an agent takes a message
 
 -- A message of an agent that is there: what holds, holds after its turn, with a history that grew.
-pub agent-event : (E : Database) (S : State) (n stamp : ℕ) (from : Actor) (l : Letter) (ls : List Letter) (o : Outside) → S.channel from (Agent n) ≡ l ∷ ls → is_host S.deployment n ≡ true
+pub agent-event : (E : Database) (S : State) (n stamp : ℕ) (from : Actor) (l : Letter) (ls : List Letter) (o : Environment) → S.channel from (Agent n) ≡ l ∷ ls → is_host S.deployment n ≡ true
     → ((answered : ℕ) → o ≡ NoMemory answered → nat_lt 0 (start_after (S.agents n) from l) ≡ true) → Holds S → Goes S n from (agent_turn E S.deployment n stamp (S.agents n) from l o)
 agent-event E S n stamp from l ls o is host memory h = elim (cases_eq (start_at S n) 0) [
   | inl z ↦ stopped o z memory
-  | inr r ↦ row-goes S n from (agent_turn E S.deployment n stamp (S.agents n) from l o) (running-event E S n stamp from l ls o h (omega (arith, r)) is)
+  | inr r ↦ handler-goes S n from (agent_turn E S.deployment n stamp (S.agents n) from l o) (running-event E S n stamp from l ls o h (omega (arith, r)) is)
 ]
   where
-    stopped : (o : Outside) → start_at S n ≡ 0 → ((answered : ℕ) → o ≡ NoMemory answered → nat_lt 0 (start_after (S.agents n) from l) ≡ true) → Goes S n from (agent_turn E S.deployment n stamp (S.agents n) from l o)
-    stopped Fair z m = stopped-takes E S n stamp from l ls h z host is
+    stopped : (o : Environment) → start_at S n ≡ 0 → ((answered : ℕ) → o ≡ NoMemory answered → nat_lt 0 (start_after (S.agents n) from l) ≡ true) → Goes S n from (agent_turn E S.deployment n stamp (S.agents n) from l o)
+    stopped NoFault z m = stopped-takes E S n stamp from l ls h z host is
     stopped (DiskFails answered) z m = stopped-takes E S n stamp from l ls h z host is
     stopped (NoMemory answered) z m = stopped-memory S n from l ls h z host is (m answered refl)
     stopped (DisksShow shown failed) z m = stopped-takes E S n stamp from l ls h z host is

@@ -8,7 +8,7 @@ use Rattle.cluster_model.specs.Words.{is_in, term_of, start_of, admits, with_adm
 use Rattle.word_laws.specs.Histories.{In, State, Within, Alike, Comparable, Admitted, Runs, names, Recorded, GoodWord, Falls, HistoryOk}
 use Rattle.word_laws.proofs.Lists.{not-both, all-at}
 use Rattle.word_laws.proofs.Algebra.{HostsOwned, within-cases, within-refl, within-trans, names-first, names-admits, names-cases, names-within, admits-fresh, within-with_admitted-back, with_admitted-admits, alike-is, within-of-term}
-use Rattle.word_laws.proofs.Members.{start_of-named, start_of-greatest, initiator-member, best-within, least-outside}
+use Rattle.word_laws.proofs.Members.{start_of-named, start_of-greatest, initiator-member, best-within, least-elsewhere}
 
 -- ---- words that fall
 
@@ -250,7 +250,7 @@ module _ (S : State) (H : HistoryOk S) where
     | inl p ↦ inl p
     | inr out ↦
         let b = best-within V S.history.decided S.history.first H.chain H.first_decided (first-within V) in
-        elim (least-outside V S.history.decided H.chain) [
+        elim (least-elsewhere V S.history.decided H.chain) [
           | inl q ↦ absurd (out (q U ud))
           | inr l ↦ inr (within-trans V l.0 U
               (least-above V g all h v mv b.0 b.1 b.2 b.3 l.0 l.1 l.2 l.3)

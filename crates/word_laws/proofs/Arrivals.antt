@@ -7,12 +7,12 @@ use Rattle.volt_wire.specs.declared.actor.Actor.{Actor}
 use Rattle.volt_wire.specs.declared.actor.Actor.TheVariants.{Director, Client, Agent, Site, Scanner}
 use Rattle.volt_wire.specs.declared.message.Msg.{Msg}
 use Rattle.volt_wire.specs.declared.message.Msg.TheVariants as msg
-use Rattle.cluster_model.specs.Outside.{Outside, Fair, DiskFails, NoMemory, DisksShow}
+use Rattle.cluster_model.specs.Environment.{Environment, NoFault, DiskFails, NoMemory, DisksShow}
 use Rattle.cluster_model.specs.Engine.{Database}
 use Rattle.cluster_model.specs.Words.{Deployment, term_in}
 use Rattle.cluster_model.specs.Letters.{Blocks, Letter, becomes, ◌▸◌, in_term, arrival, Taken, Refused, Waits}
 use Rattle.cluster_model.specs.AgentState.{AgentState, stops, stops_with_host}
-use Rattle.cluster_model.specs.Agent.{row_and_word, unless_stopped, takes_waiting, on_start, agent_runs, agent_takes, takes_start, agent_turn}
+use Rattle.cluster_model.specs.Agent.{handler_and_word, unless_stopped, takes_waiting, on_start, agent_runs, agent_takes, takes_start, agent_turn}
 use Rattle.cluster_model.proofs.Closing.{start_after-same}
 use Rattle.word_laws.specs.Histories.{State, WaitingFrom}
 use Rattle.word_laws.proofs.Moves.{BringsWord}
@@ -111,7 +111,7 @@ takes-cases E D n stamp a from l runs = elim l.body as (λ m. Takes E D n stamp 
 
 -- the three things that it makes of others
 pub runs-taken : (E : Database) (D : Deployment) (n stamp : ℕ) (a : AgentState) (from : Actor) (l : Letter) → arrival a.start (term_in a.decided) l ≡ Taken
-    → agent_runs E D n stamp a from l ≡ (row_and_word E D n stamp a from l ▸ takes_waiting E D n stamp)
+    → agent_runs E D n stamp a from l ≡ (handler_and_word E D n stamp a from l ▸ takes_waiting E D n stamp)
 runs-taken E D n stamp a from l e = rw (e, agent_runs) refl
 
 pub runs-waits : (E : Database) (D : Deployment) (n stamp : ℕ) (a : AgentState) (from : Actor) (l : Letter) → arrival a.start (term_in a.decided) l ≡ Waits
@@ -122,10 +122,10 @@ pub runs-refused : (E : Database) (D : Deployment) (n stamp : ℕ) (a : AgentSta
     → agent_runs E D n stamp a from l ≡ becomes a
 runs-refused E D n stamp a from l e = rw (e, agent_runs) refl
 
--- with the outside's share: without memory it stops with its host
-pub turn-cases : (E : Database) (D : Deployment) (n stamp : ℕ) (a : AgentState) (from : Actor) (l : Letter) (o : Outside) → (a.start == 0) ≡ false
+-- with the environment's share: without memory it stops with its host
+pub turn-cases : (E : Database) (D : Deployment) (n stamp : ℕ) (a : AgentState) (from : Actor) (l : Letter) (o : Environment) → (a.start == 0) ≡ false
     → (agent_turn E D n stamp a from l o ≡ stops_with_host D n a.start) ⊎ (agent_turn E D n stamp a from l o ≡ agent_takes E D n stamp a from l)
-turn-cases E D n stamp a from l Fair runs = inr refl
+turn-cases E D n stamp a from l NoFault runs = inr refl
 turn-cases E D n stamp a from l (DiskFails answered) runs = inr refl
 turn-cases E D n stamp a from l (NoMemory answered) runs = inl (ap (λ s. stops_with_host D n s) (start_after-same a from l runs))
 turn-cases E D n stamp a from l (DisksShow shown failed) runs = inr refl
@@ -152,9 +152,9 @@ stopped-cases E D n stamp a from l stopped =
 
 -- ---- choices
 
--- the row of a message, for one that runs
+-- the handler of a message, for one that runs
 pub unless-running : (E : Database) (D : Deployment) (n stamp : ℕ) (a : AgentState) (from : Actor) (l : Letter) → (a.start == 0) ≡ false
-    → unless_stopped E D n stamp a from l ≡ row_and_word E D n stamp a from l
+    → unless_stopped E D n stamp a from l ≡ handler_and_word E D n stamp a from l
 unless-running E D n stamp a from l runs = rw runs refl
 
 -- what waits brings none

@@ -244,7 +244,7 @@ host-widened S next owner out g some k up same_owner drawn rise =
     let Owned : ℕ → Type 0 = λ x. (owner x ≡ g) × (0 < x) × (x < next) in
     let kept : (x : ℕ) → Own x → Owned x = λ x o. (same_owner x o.2 ∙ o.0, o.1, omega (arith, o.2, up)) in
     record {
-      outside = k.outside;
+      environment = k.environment;
       running = λ u. let r = k.running u in (same_owner (start_at S g) r.1 ∙ r.0, omega (arith, r.1, up));
       last = k.last;
       began = all-mono Own Owned kept (S.history.began g) k.began;
@@ -266,8 +266,8 @@ director-holds S next owner out h up same_owner drawn rise =
     (directed-holds S next owner (λ b. S.channel Director b ++ out b) h up same_owner (λ g. host-widened S next owner out g h.some (h.hosts g) up same_owner (drawn g) (rise g)))
 
 -- It sends no start.
-pub director-quiet-holds : (S : State) (out : Sends) → Holds S → ((g : ℕ) → starts_in (out (Agent g)) ≡ []) → Holds (widened S S.next S.owner out)
-director-quiet-holds S out h none =
+pub director-inert-holds : (S : State) (out : Sends) → Holds S → ((g : ℕ) → starts_in (out (Agent g)) ≡ []) → Holds (widened S S.next S.owner out)
+director-inert-holds S out h none =
     director-holds S S.next S.owner out h (omega arith) (λ x l. refl)
     (λ g. subst (λ xs. AllByRecursion (Drawn S.next S.next S.owner g) xs) (sym (none g)) tt) (λ g. subst (λ xs. RiseFrom S.next xs) (sym (none g)) tt)
 
@@ -294,7 +294,7 @@ draws-holds S k h =
 
 host-dropped : (S : State) (n g : ℕ) → HostOk S g → HostOk (directed S S.next S.owner (λ b. took S.channel Director (Agent n) Director b)) g
 host-dropped S n g k = record {
-  outside = k.outside;
+  environment = k.environment;
   running = k.running;
   last = k.last;
   began = k.began;

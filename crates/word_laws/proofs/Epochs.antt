@@ -150,7 +150,7 @@ pub record Begins (D : Deployment) (base start number next : ℕ) (agents : ℕ 
   pub room : start + D.layout.hosts ≤ next
   pub hosts : (h : ℕ) → is_host D h ≡ true → agents h ≡ member_agent (new_word D base start) number start h
   pub others : (h : ℕ) → is_host D h ≡ false → agents h ≡ new_agent 0
-  pub quiet : (h g : ℕ) → channel (Agent h) (Agent g) ≡ []
+  pub inert : (h g : ℕ) → channel (Agent h) (Agent g) ≡ []
   pub owned : (h : ℕ) → is_host D h ≡ true → owner (start + h) ≡ h
   pub older : (h : ℕ) → AllByRecursion (λ x. (owner x ≡ h) × (0 < x) × (x < start)) (starts_in (channel Director (Agent h)))
   pub rising : (h : ℕ) → RiseFrom 0 (starts_in (channel Director (Agent h)))
@@ -284,7 +284,7 @@ module _ (D : Deployment) (base start number next : ℕ) (agents : ℕ → Agent
 
   host-ok : (h : ℕ) (c : Bool) → is_host D h ≡ c → HostOk T h
   host-ok h true q = record {
-    outside = λ e. absurd (cc);
+    environment = λ e. absurd (cc);
     running = λ u. rw (run-start h q) (b.owned h q, host-below h q);
     last = λ u. ([], rw (run-start h q) (if-true (is_host D h) ((start + h) ∷ []) [] q));
     began = all-one (λ x. (owner x ≡ h) × (0 < x) × (x < next)) (is_host D h) (start + h) (λ e. (b.owned h q, omega (arith, b.positive), host-below h q));
@@ -294,7 +294,7 @@ module _ (D : Deployment) (base start number next : ℕ) (agents : ℕ → Agent
     rising = b.rising h;
   }
   host-ok h false q = record {
-    outside = λ e. rest-start h q;
+    environment = λ e. rest-start h q;
     running = λ u. absurd (omega (arith, u, rest-start h q));
     last = λ u. absurd (omega (arith, u, rest-start h q));
     began = all-one (λ x. (owner x ≡ h) × (0 < x) × (x < next)) (is_host D h) (start + h) (λ e. absurd (cc));
@@ -339,8 +339,8 @@ module _ (D : Deployment) (base start number next : ℕ) (agents : ℕ → Agent
 
   channel-ok : (h g : ℕ) → ChannelOk T h g
   channel-ok h g = record {
-    letters = subst (λ ls. AllByRecursion (LetterOk T h g) ls) (sym (b.quiet h g)) tt;
-    ordered = subst (λ ls. InOrder (T.history.began h) ls) (sym (b.quiet h g)) tt;
+    letters = subst (λ ls. AllByRecursion (LetterOk T h g) ls) (sym (b.inert h g)) tt;
+    ordered = subst (λ ls. InOrder (T.history.began h) ls) (sym (b.inert h g)) tt;
   }
 
   -- each start that began runs
@@ -389,7 +389,7 @@ boot-holds D base number =
       room = omega arith;
       hosts = λ h e. if-true (is_host D h) (member_agent (new_word D base 1) number 1 h) (new_agent 0) e;
       others = λ h e. if-false (is_host D h) (member_agent (new_word D base 1) number 1 h) (new_agent 0) e;
-      quiet = λ h g. refl;
+      inert = λ h g. refl;
       owned = λ h e. new_owner-new 1 (λ s. 0) h;
       older = λ h. tt;
       rising = λ h. tt;
@@ -406,7 +406,7 @@ recovery-holds S base number h others =
       room = omega arith;
       hosts = λ g e. if-true (is_host D g) (member_agent (new_word D base S.next) number S.next g) (S.agents g) e;
       others = λ g e. if-false (is_host D g) (member_agent (new_word D base S.next) number S.next g) (S.agents g) e ∙ others g e;
-      quiet = λ f g. refl;
+      inert = λ f g. refl;
       owned = λ g e. new_owner-new S.next S.owner g;
       older = λ g. subst (λ ls. AllByRecursion (λ x. (new_owner S.next S.owner x ≡ g) × (0 < x) × (x < S.next)) (starts_in ls)) (sym (append-nil (S.channel Director (Agent g))))
           (all-mono (λ x. (S.owner x ≡ g) × (0 < x) × (x < S.next)) (λ x. (new_owner S.next S.owner x ≡ g) × (0 < x) × (x < S.next))

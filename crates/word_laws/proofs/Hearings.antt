@@ -1,4 +1,4 @@
--- The rows of an agent, and what it says of a new word: what holds, holds after them.
+-- The handlers of an agent, and what it says of a new word: what holds, holds after them.
 use Rattle.std.proofs.Common.{◌≡◌, ◌<◌, Bool, true, false, List, [], ◌∷◌, ◌++◌, append-nil, append_assoc, refl, sym, subst, ap, ◌∙◌, ◌⊎◌, inl, inr, ◌==◌, arith}
 use Rattle.std.proofs.lemmas.Bool.{cases_Bool, eqb-true}
 use Rattle.std.proofs.Math.Path.{fun_ext}
@@ -31,7 +31,7 @@ abbrev pub Going : State → ℕ → AgentState → Type 0
 Going P n a = ((a.start ≡ start_at P n) × (0 < start_at P n)) ⊎ (a ≡ new_agent 0)
 
 -- A turn of the agent of host n, from a state: the agent goes on or has stopped, and what holds of the state after it.
-pub record Row (M : ℕ → ℕ → Type 0) (P : State) (n : ℕ) (t : Turn AgentState) : Type 0 where
+pub record Handler (M : ℕ → ℕ → Type 0) (P : State) (n : ℕ) (t : Turn AgentState) : Type 0 where
   pub history : History
   pub goes : Going P n t.state
   pub first : history.first ≡ P.history.first
@@ -47,8 +47,8 @@ pub record Row (M : ℕ → ℕ → Type 0) (P : State) (n : ℕ) (t : Turn Agen
   pub holds : Holds (after P n t.state t.sends history)
 
 -- such a turn only adds to the history
-pub row-grows : {M : ℕ → ℕ → Type 0} {P : State} {n : ℕ} {t : Turn AgentState} (r : Row M P n t) → Grows P.history r.history
-row-grows r = record {
+pub handler-grows : {M : ℕ → ℕ → Type 0} {P : State} {n : ℕ} {t : Turn AgentState} (r : Handler M P n t) → Grows P.history r.history
+handler-grows r = record {
   first = r.first;
   began = λ h s i. rw r.began i;
   said = r.said;
@@ -58,12 +58,12 @@ row-grows r = record {
 }
 
 -- and to the state
-pub row-later : {M : ℕ → ℕ → Type 0} (P : State) (n : ℕ) (t : Turn AgentState) (r : Row M P n t) → Later P (after P n t.state t.sends r.history)
-row-later P n t r = later-after P n t.state t.sends r.history (elim r.goes [ inl e ↦ inl e.0 | inr e ↦ inr (ap (λ x. x.start) e) ]) r.first r.began r.said r.took_word r.decided r.admitted
+pub handler-later : {M : ℕ → ℕ → Type 0} (P : State) (n : ℕ) (t : Turn AgentState) (r : Handler M P n t) → Later P (after P n t.state t.sends r.history)
+handler-later P n t r = later-after P n t.state t.sends r.history (elim r.goes [ inl e ↦ inl e.0 | inr e ↦ inr (ap (λ x. x.start) e) ]) r.first r.began r.said r.took_word r.decided r.admitted
 
 -- where nobody is admitted, this holds of all who are
-pub none-row : {M : ℕ → ℕ → Type 0} {P : State} {n : ℕ} {t : Turn AgentState} → Row Nobody P n t → Row M P n t
-none-row r = record {
+pub none-handler : {M : ℕ → ℕ → Type 0} {P : State} {n : ℕ} {t : Turn AgentState} → Handler Nobody P n t → Handler M P n t
+none-handler r = record {
   history = r.history;
   goes = r.goes;
   first = r.first;
@@ -81,8 +81,8 @@ none-row r = record {
 }
 
 -- a turn in which the history stays
-pub row-plain : {M : ℕ → ℕ → Type 0} (P : State) (n : ℕ) (t : Turn AgentState) → Going P n t.state → Holds (after P n t.state t.sends P.history) → Row M P n t
-row-plain P n t g h = record {
+pub handler-plain : {M : ℕ → ℕ → Type 0} (P : State) (n : ℕ) (t : Turn AgentState) → Going P n t.state → Holds (after P n t.state t.sends P.history) → Handler M P n t
+handler-plain P n t g h = record {
   history = P.history;
   goes = g;
   first = refl;
@@ -110,9 +110,9 @@ others-after P n a out H h e = choice (n == h) refl
     choice false q = refl
 
 -- One turn, and then another one from the state after it, with the history that this one leaves.
-pub after-row : {M : ℕ → ℕ → Type 0} (P : State) (n : ℕ) (t : Turn AgentState) (f : AgentState → Turn AgentState) (r : Row M P n t)
-    → (q : Row M (after P n t.state t.sends r.history) n (f t.state)) → (both : Row M P n (t ▸ f)) × (both.history ≡ q.history)
-after-row P n t f r q = (
+pub after-handler : {M : ℕ → ℕ → Type 0} (P : State) (n : ℕ) (t : Turn AgentState) (f : AgentState → Turn AgentState) (r : Handler M P n t)
+    → (q : Handler M (after P n t.state t.sends r.history) n (f t.state)) → (both : Handler M P n (t ▸ f)) × (both.history ≡ q.history)
+after-handler P n t f r q = (
   record {
     history = q.history;
     goes = elim q.goes [
@@ -154,12 +154,12 @@ after-row P n t f r q = (
     ]
 
 -- from whatever state that is
-pub then-row : {M : ℕ → ℕ → Type 0} (P : State) (n : ℕ) (t : Turn AgentState) (f : AgentState → Turn AgentState) → Row M P n t
+pub then-handler : {M : ℕ → ℕ → Type 0} (P : State) (n : ℕ) (t : Turn AgentState) (f : AgentState → Turn AgentState) → Handler M P n t
     → ((T : State) → T.agents n ≡ t.state → T.deployment ≡ P.deployment → Later P T
     → ((h : ℕ) → (h == n) ≡ false → T.channel (Agent h) (Agent n) ≡ P.channel (Agent h) (Agent n)) → Holds T
-    → Row M T n (f t.state)) → Row M P n (t ▸ f)
-then-row P n t f r g = (after-row P n t f r
-    (g (after P n t.state t.sends r.history) (agent-there P n t.state t.sends r.history) refl (row-later P n t r) (others-after P n t.state t.sends r.history) r.holds)).0
+    → Handler M T n (f t.state)) → Handler M P n (t ▸ f)
+then-handler P n t f r g = (after-handler P n t f r
+    (g (after P n t.state t.sends r.history) (agent-there P n t.state t.sends r.history) refl (handler-later P n t r) (others-after P n t.state t.sends r.history) r.holds)).0
 
 -- ---- turns that are one
 
@@ -167,8 +167,8 @@ pub then-assoc : {A : Type 0} (t : Turn A) (f g : A → Turn A) → (t ▸ f) �
 then-assoc t f g = ap (λ z. record { state = (g (f t.state).state).state; sends = z }) (fun_ext (λ b. append_assoc (t.sends b) ((f t.state).sends b) ((g (f t.state).state).sends b)))
 
 -- a turn that does nothing leaves the one before
-pub then-quiet : (t : Turn AgentState) (f : AgentState → Turn AgentState) → f t.state ≡ becomes t.state → t ▸ f ≡ t
-then-quiet t f e = ap (λ u. record { state = u.state; sends = λ b. t.sends b ++ u.sends b }) e
+pub then-inert : (t : Turn AgentState) (f : AgentState → Turn AgentState) → f t.state ≡ becomes t.state → t ▸ f ≡ t
+then-inert t f e = ap (λ u. record { state = u.state; sends = λ b. t.sends b ++ u.sends b }) e
     ∙ ap (λ z. record { state = t.state; sends = z }) (fun_ext (λ b. append-nil (t.sends b)))
 
 -- a word isn't another one than itself
@@ -183,14 +183,14 @@ after-same P n = ap (λ c. record P { agents = set_at P.agents n (P.agents n); c
     ∙ ap (λ f. record P { agents = f }) (set-same P.agents n)
 
 -- a turn of an agent that stays as it is
-pub stay-row : {M : ℕ → ℕ → Type 0} (P : State) (n : ℕ) → Going P n (P.agents n) → Holds P → Row M P n (becomes (P.agents n))
-stay-row P n g h = row-plain P n (becomes (P.agents n)) g (subst Holds (sym (after-same P n)) h)
+pub stay-handler : {M : ℕ → ℕ → Type 0} (P : State) (n : ℕ) → Going P n (P.agents n) → Holds P → Handler M P n (becomes (P.agents n))
+stay-handler P n g h = handler-plain P n (becomes (P.agents n)) g (subst Holds (sym (after-same P n)) h)
 
 -- ---- a word is decided, where it may be
 
 module _ {M : ℕ → ℕ → Type 0} (T : State) (H : Holds T) (n : ℕ) (D : Deployment) (up : 0 < start_at T n) where
-  pub decides-row : (v : Membership) → (T.agents n).own ≡ Some v → may_decide n (T.agents n) (Some v) ≡ true → Row M T n (decides_word D n (T.agents n) (Some v))
-  decides-row v own may = record {
+  pub decides-handler : (v : Membership) → (T.agents n).own ≡ Some v → may_decide n (T.agents n) (Some v) ≡ true → Handler M T n (decides_word D n (T.agents n) (Some v))
+  decides-handler v own may = record {
     history = record T.history { decided = v ∷ T.history.decided };
     goes = inl (d.start, up);
     first = refl;
@@ -240,14 +240,14 @@ module _ {M : ℕ → ℕ → Type 0} (T : State) (H : Holds T) (n : ℕ) (D : D
           choice false q i = heard-from h r ((T.agents n).said h) e ((H.agents n).heard h) i
 
   -- It decides its word, or goes on as it was.
-  pub concludes-row : Row M T n (concludes D n (T.agents n))
-  concludes-row = go (T.agents n).own refl
+  pub concludes-handler : Handler M T n (concludes D n (T.agents n))
+  concludes-handler = go (T.agents n).own refl
     where
-      go : (o : Option Membership) → (T.agents n).own ≡ o → Row M T n (concludes D n (T.agents n))
-      go None e = subst (Row M T n) (sym (concludes-not D n (T.agents n) (ap (λ z. may_decide n (T.agents n) z) e))) (stay-row T n (inl (refl, up)) H)
+      go : (o : Option Membership) → (T.agents n).own ≡ o → Handler M T n (concludes D n (T.agents n))
+      go None e = subst (Handler M T n) (sym (concludes-not D n (T.agents n) (ap (λ z. may_decide n (T.agents n) z) e))) (stay-handler T n (inl (refl, up)) H)
       go (Some v) e = elim (cases_Bool (may_decide n (T.agents n) (Some v))) [
-        | inl m ↦ subst (Row M T n) (sym (concludes-is D n (T.agents n) (ap (λ z. may_decide n (T.agents n) z) e ∙ m) ∙ ap (decides_word D n (T.agents n)) e)) (decides-row v e m)
-        | inr m ↦ subst (Row M T n) (sym (concludes-not D n (T.agents n) (ap (λ z. may_decide n (T.agents n) z) e ∙ m))) (stay-row T n (inl (refl, up)) H)
+        | inl m ↦ subst (Handler M T n) (sym (concludes-is D n (T.agents n) (ap (λ z. may_decide n (T.agents n) z) e ∙ m) ∙ ap (decides_word D n (T.agents n)) e)) (decides-handler v e m)
+        | inr m ↦ subst (Handler M T n) (sym (concludes-not D n (T.agents n) (ap (λ z. may_decide n (T.agents n) z) e ∙ m))) (stay-handler T n (inl (refl, up)) H)
       ]
 
 -- ---- a message that brings no word
@@ -260,8 +260,8 @@ module _ {M : ℕ → ℕ → Type 0} (P : State) (H : Holds P) (n : ℕ) (came 
     (new : (j h term : ℕ) → In (Admission j h term) came → QueuedOk P n (Admission j h term))
     (may : (j h term : ℕ) → In (Admission j h term) ((P.agents n).initiating.queue ++ came) → M j h) where
   -- it admits a start
-  admits-row : AdmitsNow (P.agents n) came t.state.own → Row M P n (t ▸ tells n (P.agents n).own)
-  admits-row m = record {
+  admits-handler : AdmitsNow (P.agents n) came t.state.own → Handler M P n (t ▸ tells n (P.agents n).own)
+  admits-handler m = record {
     history = G;
     goes = inl (ap (λ u. u.state.start) turn-is ∙ c.start, up);
     first = refl;
@@ -373,27 +373,27 @@ module _ {M : ℕ → ℕ → Type 0} (P : State) (H : Holds P) (n : ℕ) (came 
       turn-is = ap (λ u. record { state = u.state; sends = λ b. t.sends b ++ u.sends b }) (says-word n t.state (P.agents n).own v m.becomes other)
 
   -- A turn that brings no word, and what the agent says then.
-  pub calm-row : Row M P n (t ▸ tells n (P.agents n).own)
-  calm-row = elim c.own [
-    | inl same ↦ subst (Row M P n) (sym (then-quiet t (tells n (P.agents n).own)
+  pub calm-handler : Handler M P n (t ▸ tells n (P.agents n).own)
+  calm-handler = elim c.own [
+    | inl same ↦ subst (Handler M P n) (sym (then-inert t (tells n (P.agents n).own)
         (tells-same n (P.agents n).own t.state (ap (is_other_word (P.agents n).own) same ∙ other-self (P.agents n).own))))
-        (row-plain P n t (inl (c.start, up)) (calm-holds P n came t up c same new H))
-    | inr m ↦ admits-row m
+        (handler-plain P n t (inl (c.start, up)) (calm-holds P n came t up c same new H))
+    | inr m ↦ admits-handler m
   ]
 
 -- One turn, and then another one of an agent that goes on. One that has stopped does nothing then.
-pub on-row : {M : ℕ → ℕ → Type 0} (P : State) (n : ℕ) (t : Turn AgentState) (f : AgentState → Turn AgentState) → Row M P n t → f (new_agent 0) ≡ becomes (new_agent 0)
+pub on-handler : {M : ℕ → ℕ → Type 0} (P : State) (n : ℕ) (t : Turn AgentState) (f : AgentState → Turn AgentState) → Handler M P n t → f (new_agent 0) ≡ becomes (new_agent 0)
     → ((T : State) → T.agents n ≡ t.state → T.deployment ≡ P.deployment → Later P T
     → ((h : ℕ) → (h == n) ≡ false → T.channel (Agent h) (Agent n) ≡ P.channel (Agent h) (Agent n)) → Holds T
-    → 0 < start_at T n → Row M T n (f (T.agents n))) → Row M P n (t ▸ f)
-on-row {M = M} P n t f r silent g = then-row P n t f r (λ T e d k o h. elim r.goes [
-  | inl q ↦ subst (λ z. Row M T n (f z)) e (g T e d k o h (subst (λ z. 0 < z) (sym (ap (λ x. x.start) e ∙ q.0)) q.1))
-  | inr z ↦ subst (λ u. Row M T n u) (sym (ap f z ∙ silent)) (subst (λ u. Row M T n (becomes u)) (e ∙ z) (stay-row T n (inr (e ∙ z)) h))
+    → 0 < start_at T n → Handler M T n (f (T.agents n))) → Handler M P n (t ▸ f)
+on-handler {M = M} P n t f r silent g = then-handler P n t f r (λ T e d k o h. elim r.goes [
+  | inl q ↦ subst (λ z. Handler M T n (f z)) e (g T e d k o h (subst (λ z. 0 < z) (sym (ap (λ x. x.start) e ∙ q.0)) q.1))
+  | inr z ↦ subst (λ u. Handler M T n u) (sym (ap f z ∙ silent)) (subst (λ u. Handler M T n (becomes u)) (e ∙ z) (stay-handler T n (inr (e ∙ z)) h))
 ])
 
 pub concludes-none : (D : Deployment) (n : ℕ) → concludes D n (new_agent 0) ≡ becomes (new_agent 0)
 concludes-none D n = refl
 
--- what follows a row, when the agent has said its word
-pub concluded-row : {M : ℕ → ℕ → Type 0} (P : State) (n : ℕ) (D : Deployment) (t : Turn AgentState) → Row M P n t → Row M P n (t ▸ concludes D n)
-concluded-row P n D t r = on-row P n t (concludes D n) r (concludes-none D n) (λ T e d k o h up. concludes-row T h n D up)
+-- what follows a handler, when the agent has said its word
+pub concluded-handler : {M : ℕ → ℕ → Type 0} (P : State) (n : ℕ) (D : Deployment) (t : Turn AgentState) → Handler M P n t → Handler M P n (t ▸ concludes D n)
+concluded-handler P n D t r = on-handler P n t (concludes D n) r (concludes-none D n) (λ T e d k o h up. concludes-handler T h n D up)

@@ -21,32 +21,32 @@ use Rattle.word_laws.proofs.Continues.{continues-holds}
 -- ---- a turn in which nothing is said to other agents, and the agent's start stays
 
 -- the state after it: only what starts took may be more
-abbrev pub quiet : State → ℕ → AgentState → Sends → (ℕ → Option Membership) → State
-quiet S n a out took_word = after S n a out (record S.history { took = took_word })
+abbrev pub inert : State → ℕ → AgentState → Sends → (ℕ → Option Membership) → State
+inert S n a out took_word = after S n a out (record S.history { took = took_word })
 
 -- such a turn only adds to the state
-pub later-quiet : (S : State) (n : ℕ) (a : AgentState) (out : Sends) (K : ℕ → Option Membership) → a.start ≡ start_at S n
-    → ((r : ℕ) (u : Membership) → S.history.took r ≡ Some u → K r ≡ Some u) → Later S (quiet S n a out K)
-later-quiet S n a out K start keeps = later-after S n a out (record S.history { took = K }) (inl start) refl refl (λ s u i. i) keeps (λ u i. i) (λ x i. i)
+pub later-inert : (S : State) (n : ℕ) (a : AgentState) (out : Sends) (K : ℕ → Option Membership) → a.start ≡ start_at S n
+    → ((r : ℕ) (u : Membership) → S.history.took r ≡ Some u → K r ≡ Some u) → Later S (inert S n a out K)
+later-inert S n a out K start keeps = later-after S n a out (record S.history { took = K }) (inl start) refl refl (λ s u i. i) keeps (λ u i. i) (λ x i. i)
 
 -- an Admit that came is still ahead of all Closed of earlier starts
-pub came-quiet : (S : State) (n : ℕ) (a : AgentState) (out : Sends) (K : ℕ → Option Membership) → a.start ≡ start_at S n → ((g : ℕ) → out (Agent g) ≡ [])
-    → ((r : ℕ) (u : Membership) → S.history.took r ≡ Some u → K r ≡ Some u) → (g h term j : ℕ) → CameOk S h g term j → CameOk (quiet S n a out K) h g term j
-came-quiet S n a out K start silent keeps = came-after S n a out (record S.history { took = K }) (later-quiet S n a out K start keeps) refl
+pub came-inert : (S : State) (n : ℕ) (a : AgentState) (out : Sends) (K : ℕ → Option Membership) → a.start ≡ start_at S n → ((g : ℕ) → out (Agent g) ≡ [])
+    → ((r : ℕ) (u : Membership) → S.history.took r ≡ Some u → K r ≡ Some u) → (g h term j : ℕ) → CameOk S h g term j → CameOk (inert S n a out K) h g term j
+came-inert S n a out K start silent keeps = came-after S n a out (record S.history { took = K }) (later-inert S n a out K start keeps) refl
     (λ g j. subst (λ x. AllByRecursion (ClosesFrom (S.history.began n) j) x) (sym (silent g)) tt)
 
 -- What must hold of such a turn, so that what holds, holds after it: who knew of an admission, or of a start that stopped, still does.
-pub quiet-holds : (S : State) (H : Holds S) (n : ℕ) (a : AgentState) (out : Sends) (K : ℕ → Option Membership) → 0 < start_at S n → a.start ≡ start_at S n → ((g : ℕ) → out (Agent g) ≡ [])
+pub inert-holds : (S : State) (H : Holds S) (n : ℕ) (a : AgentState) (out : Sends) (K : ℕ → Option Membership) → 0 < start_at S n → a.start ≡ start_at S n → ((g : ℕ) → out (Agent g) ≡ [])
     → ((r : ℕ) (u : Membership) → S.history.took r ≡ Some u → K r ≡ Some u)
     → ((r : ℕ) → (r ≡ start_at S n → ⊥) → K r ≡ S.history.took r)
     → ((j : ℕ) (u : Membership) → K j ≡ Some u → In u S.history.decided × Begun S j × ((s : ℕ) → names u s ≡ true → S.owner s ≡ S.owner j → Earlier s j (S.history.began (S.owner j))) × (is_in j u.lost ≡ false))
-    → AgentOk (quiet S n a out K) n a
+    → AgentOk (inert S n a out K) n a
     → ((x : Admitted) → In x S.history.admitted → names x.at (start_at S n) ≡ true → Runs S (start_at S n)
     → (OwnAdmits x.start (S.agents n) → OwnAdmits x.start a)
     × (OwnAdmits x.start a ⊎ ((u : Membership) → a.own ≡ Some u → is_in x.by u.lost ≡ true → ⊥)))
     → ((o : ℕ) → OwnLost o (S.agents n) → OwnLost o a)
-    → Holds (quiet S n a out K)
-quiet-holds S H n a out K up start silent keeps others took_ok this knows loses = continues-holds S H n a out (record S.history { took = K }) (record {
+    → Holds (inert S n a out K)
+inert-holds S H n a out K up start silent keeps others took_ok this knows loses = continues-holds S H n a out (record S.history { took = K }) (record {
   up = up;
   start = start;
   began = refl;
@@ -63,10 +63,10 @@ quiet-holds S H n a out K up start silent keeps others took_ok this knows loses 
 }) (λ x i c m ne r. told x i c m r (cases_eq (S.owner c) n) (H.told x i c m ne r))
   where
     T : State
-    T = quiet S n a out K
+    T = inert S n a out K
 
     f : Later S T
-    f = later-quiet S n a out K start keeps
+    f = later-inert S n a out K start keeps
 
     nothing : (P : List Letter → Type 0) (g : ℕ) → P [] → P (out (Agent g))
     nothing P g p = subst P (sym (silent g)) p
@@ -112,7 +112,7 @@ took-keeps K s w none r u e = took-both (λ k o. K k ≡ Some u → o ≡ Some u
 pub takes_word-holds : (S : State) (H : Holds S) (n : ℕ) (w : Membership) (out : Sends) → 0 < start_at S n → (S.agents n).own ≡ None → (S.agents n).taken ≡ None → In w S.history.decided
     → ((g : ℕ) → out (Agent g) ≡ [])
     → Holds (after S n (record (S.agents n) { own = Some w; taken = Some w }) out (record S.history { took = λ r. if r == start_at S n then Some w else S.history.took r }))
-takes_word-holds S H n w out up own taken i silent = quiet-holds S H n a out K up refl silent keeps others took_ok this
+takes_word-holds S H n w out up own taken i silent = inert-holds S H n a out K up refl silent keeps others took_ok this
     (λ x k m r. absurd (named-knows S H x k s m r (subst (λ h. (S.agents h).own ≡ None) (sym owned) own)))
     (λ o k. absurd (none-and-some own k.1))
   where
@@ -126,7 +126,7 @@ takes_word-holds S H n w out up own taken i silent = quiet-holds S H n a out K u
     K = took_more S.history.took s w
 
     T : State
-    T = quiet S n a out K
+    T = inert S n a out K
 
     owned : S.owner s ≡ n
     owned = ((H.hosts n).running up).0
@@ -141,7 +141,7 @@ takes_word-holds S H n w out up own taken i silent = quiet-holds S H n a out K u
     others r d = took-both (λ k o. (k ≡ s → ⊥) → o ≡ S.history.took k) S.history.took s w (λ e. absurd (e refl)) (λ k e f. refl) r d
 
     f : Later S T
-    f = later-quiet S n a out K refl keeps
+    f = later-inert S n a out K refl keeps
 
     good : GoodWord S w
     good = H.history.decided_good w i
@@ -180,8 +180,8 @@ takes_word-holds S H n w out up own taken i silent = quiet-holds S H n a out K u
       wordless = λ none. absurd (none-and-some none refl);
       joins = λ d none. absurd (none-and-some none refl);
       heard = λ g. some-mono (SaidBy S g) (SaidBy T g) (said_by-later S T f g) ((S.agents n).said g) (k.heard g);
-      waiting = all-mono (WaitingOk S n) (WaitingOk T n) (λ x. waiting-later S T n (came-quiet S n a out K refl silent keeps n) x.from x.letter) (S.agents n).waiting k.waiting;
-      queue = all-mono (QueuedOk S n) (QueuedOk T n) (queued-later S T n (came-quiet S n a out K refl silent keeps n)) (S.agents n).initiating.queue k.queue;
+      waiting = all-mono (WaitingOk S n) (WaitingOk T n) (λ x. waiting-later S T n (came-inert S n a out K refl silent keeps n) x.from x.letter) (S.agents n).waiting k.waiting;
+      queue = all-mono (QueuedOk S n) (QueuedOk T n) (queued-later S T n (came-inert S n a out K refl silent keeps n)) (S.agents n).initiating.queue k.queue;
       initiates = k.initiates;
     }
 
@@ -193,7 +193,7 @@ pub grows-holds : (S : State) (H : Holds S) (n : ℕ) (w v : Membership) (heard 
     → ((x : Admitted) → In x S.history.admitted → names x.at (start_at S n) ≡ true → is_in x.by v.lost ≡ true → admits v x.start ≡ true)
     → ((g : ℕ) → out (Agent g) ≡ [])
     → Holds (after S n (record (S.agents n) { own = Some v; said = heard }) out S.history)
-grows-holds S H n w v heard out up own low joiner good hears knows silent = quiet-holds S H n a out S.history.took up refl silent (λ r u e. e) (λ r d. refl) H.history.took_ok this
+grows-holds S H n w v heard out up own low joiner good hears knows silent = inert-holds S H n a out S.history.took up refl silent (λ r u e. e) (λ r d. refl) H.history.took_ok this
     (λ x i m r. (grew (λ u. admits u x.start ≡ true) (λ p. low.admitted x.start p), told x i m (is_in x.by v.lost) refl))
     (λ o. grew (λ u. is_in o u.lost ≡ true) (low.lost o))
   where
@@ -204,13 +204,13 @@ grows-holds S H n w v heard out up own low joiner good hears knows silent = quie
     a = record (S.agents n) { own = Some v; said = heard }
 
     T : State
-    T = quiet S n a out S.history.took
+    T = inert S n a out S.history.took
 
     f : Later S T
-    f = later-quiet S n a out S.history.took refl (λ r u e. e)
+    f = later-inert S n a out S.history.took refl (λ r u e. e)
 
     came : (h term j : ℕ) → CameOk S h n term j → CameOk T h n term j
-    came = came-quiet S n a out S.history.took refl silent (λ r u e. e) n
+    came = came-inert S n a out S.history.took refl silent (λ r u e. e) n
 
     grew : (P : Membership → Type 0) → (P w → P v) → OwnIs P (S.agents n) → OwnIs P a
     grew P g o = (v, refl, g (subst P (same-some (sym o.1 ∙ own)) o.2))

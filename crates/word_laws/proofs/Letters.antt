@@ -1,4 +1,4 @@
--- An agent takes a message that brings a word: what holds, holds after its row and what it says then.
+-- An agent takes a message that brings a word: what holds, holds after its handler and what it says then.
 use Rattle.std.proofs.Common.{◌≡◌, ◌<◌, Bool, true, false, List, [], ◌∷◌, ◌++◌, refl, sym, subst, ap, ◌∙◌, ◌⊎◌, inl, inr, ◌==◌, arith}
 use Rattle.std.proofs.lemmas.Bool.{cases_Bool, eqb-true}
 use Rattle.std.specs.Prelude.{ℕ, if◌then◌else◌, Option, Some, None}
@@ -23,16 +23,16 @@ use Rattle.word_laws.proofs.Steps.{later-after, took-sent, pops, stops-holds, un
 use Rattle.word_laws.proofs.OwnWords.{said_more, said-both, says-holds, said_to}
 use Rattle.word_laws.proofs.Goods.{good-lost, good-union}
 use Rattle.word_laws.proofs.Joins.{took-keeps, takes_word-holds, grows-holds, heard-holds}
-use Rattle.word_laws.proofs.Hearings.{Row, row-plain, stay-row, agent-there, other-self, says-word, then-quiet}
+use Rattle.word_laws.proofs.Hearings.{Handler, handler-plain, stay-handler, agent-there, other-self, says-word, then-inert}
 
 -- ---- a message is forgotten behind the turn in which it was heeded
 
 -- behind a turn, where it may be forgotten after it
-pub forgets-row : {M : ℕ → ℕ → Type 0} (S : State) (n : ℕ) (from : Actor) (l : Letter) (ls : List Letter) (t : Turn AgentState) → S.channel from (Agent n) ≡ l ∷ ls
-    → (r : Row M S n t)
+pub forgets-handler : {M : ℕ → ℕ → Type 0} (S : State) (n : ℕ) (from : Actor) (l : Letter) (ls : List Letter) (t : Turn AgentState) → S.channel from (Agent n) ≡ l ∷ ls
+    → (r : Handler M S n t)
     → ((more : List Letter) → (after S n t.state t.sends r.history).channel from (Agent n) ≡ l ∷ more → Holds (popped (after S n t.state t.sends r.history) from n))
-    → Row M (popped S from n) n t
-forgets-row S n from l ls t is r forgets = record {
+    → Handler M (popped S from n) n t
+forgets-handler S n from l ls t is r forgets = record {
   history = r.history;
   goes = r.goes;
   first = r.first;
@@ -51,16 +51,16 @@ forgets-row S n from l ls t is r forgets = record {
     behind false = (ls, is)
 
 -- a message between agents that it has heeded
-pub pop-row : {M : ℕ → ℕ → Type 0} (S : State) (n k : ℕ) (l : Letter) (ls : List Letter) (t : Turn AgentState) → S.channel (Agent k) (Agent n) ≡ l ∷ ls
-    → (r : Row M S n t) → Heeded (after S n t.state t.sends r.history) n l → Row M (popped S (Agent k) n) n t
-pop-row S n k l ls t is r heeded = forgets-row S n (Agent k) l ls t is r (λ more e. pops (after S n t.state t.sends r.history) k n l more e heeded r.holds)
+pub pop-handler : {M : ℕ → ℕ → Type 0} (S : State) (n k : ℕ) (l : Letter) (ls : List Letter) (t : Turn AgentState) → S.channel (Agent k) (Agent n) ≡ l ∷ ls
+    → (r : Handler M S n t) → Heeded (after S n t.state t.sends r.history) n l → Handler M (popped S (Agent k) n) n t
+pop-handler S n k l ls t is r heeded = forgets-handler S n (Agent k) l ls t is r (λ more e. pops (after S n t.state t.sends r.history) k n l more e heeded r.holds)
 
 -- ---- an agent stops
 
 -- it says Closed as it should
-pub stop-row : (S : State) (n : ℕ) (t : Turn AgentState) → Holds S → 0 < start_at S n → t.state ≡ new_agent 0
-    → ((g : ℕ) → t.sends (Agent g) ≡ (stops S.deployment n (start_at S n)).sends (Agent g)) → Row Nobody S n t
-stop-row S n t H up e sends = row-plain S n t (inr e) (stops-holds S n t up e
+pub stop-handler : (S : State) (n : ℕ) (t : Turn AgentState) → Holds S → 0 < start_at S n → t.state ≡ new_agent 0
+    → ((g : ℕ) → t.sends (Agent g) ≡ (stops S.deployment n (start_at S n)).sends (Agent g)) → Handler Nobody S n t
+stop-handler S n t H up e sends = handler-plain S n t (inr e) (stops-holds S n t up e
     (λ g i o. sends g ∙ stops-sends S.deployment n (start_at S n) g i o)
     (λ g o. sends g ∙ stops-sends-none S.deployment n (start_at S n) g o) H)
 
@@ -73,9 +73,9 @@ module _ (S : State) (H : Holds S) (n : ℕ) (w v : Membership) (heard : ℕ →
   speaker = record (S.agents n) { own = Some v; said = heard }
 
   -- a member says it
-  pub own-row : names v (start_at S n) ≡ true → ((y : Admitted) → In y S.history.admitted → is_in y.by v.lost ≡ true → admits v y.start ≡ true)
-      → Row Nobody S n (says n speaker (Some v))
-  own-row member knows = record {
+  pub own-handler : names v (start_at S n) ≡ true → ((y : Admitted) → In y S.history.admitted → is_in y.by v.lost ≡ true → admits v y.start ≡ true)
+      → Handler Nobody S n (says n speaker (Some v))
+  own-handler member knows = record {
     history = record S.history { said = said_more S.history.said (start_at S n) v };
     goes = inl (refl, up);
     first = refl;
@@ -106,9 +106,9 @@ module _ (S : State) (H : Holds S) (n : ℕ) (w v : Membership) (heard : ℕ →
   ]
 
   -- a joiner says nothing
-  pub silent-row : names v (start_at S n) ≡ false → ((y : Admitted) → In y S.history.admitted → names y.at (start_at S n) ≡ true → is_in y.by v.lost ≡ true → admits v y.start ≡ true)
-      → Row Nobody S n (says n speaker (Some v))
-  silent-row other knows = row-plain S n (says n speaker (Some v)) (inl (refl, up))
+  pub silent-handler : names v (start_at S n) ≡ false → ((y : Admitted) → In y S.history.admitted → names y.at (start_at S n) ≡ true → is_in y.by v.lost ≡ true → admits v y.start ≡ true)
+      → Handler Nobody S n (says n speaker (Some v))
+  silent-handler other knows = handler-plain S n (says n speaker (Some v)) (inl (refl, up))
       (grows-holds S H n w v heard (says n speaker (Some v)).sends up own low other good hears knows (silent-words other))
 
 -- ---- Closed
@@ -154,22 +154,22 @@ module _ (S : State) (H : Holds S) (n k o : ℕ) (l : Letter) (ls : List Letter)
           (subst (λ z. Telling (start_at S n) y.start y.by (S.channel (Agent (S.owner y.by)) (Agent z))) owned t)) in
           elim u [ inl p ↦ p | inr p ↦ p.0 e ]
 
-  pub closed-row : Row Nobody (popped S (Agent k) n) n closed-turn
-  closed-row = go (S.agents n).own refl
+  pub closed-handler : Handler Nobody (popped S (Agent k) n) n closed-turn
+  closed-handler = go (S.agents n).own refl
     where
       stays : closed-turn ≡ becomes (S.agents n)
           → (0 < start_at S n → OwnLost o (S.agents n) ⊎ ((u : Membership) → In u (S.history.said o) → names u (start_at S n) ≡ false))
-          → Row Nobody (popped S (Agent k) n) n closed-turn
-      stays e heeded = subst (Row Nobody (popped S (Agent k) n) n) (sym e)
-          (stay-row (popped S (Agent k) n) n (inl (refl, up)) (pops S k n (record l { body = msg.Closed o }) ls is heeded H))
+          → Handler Nobody (popped S (Agent k) n) n closed-turn
+      stays e heeded = subst (Handler Nobody (popped S (Agent k) n) n) (sym e)
+          (stay-handler (popped S (Agent k) n) n (inl (refl, up)) (pops S k n (record l { body = msg.Closed o }) ls is heeded H))
 
       grown : (w : Membership) → (S.agents n).own ≡ Some w → (t : Turn AgentState) → closed-turn ≡ t
-          → t.state ≡ record (S.agents n) { own = Some (with_lost o w) } → Row Nobody S n t → Row Nobody (popped S (Agent k) n) n closed-turn
-      grown w own t e state r = subst (Row Nobody (popped S (Agent k) n) n) (sym e)
-          (pop-row S n k (record l { body = msg.Closed o }) ls t is r
+          → t.state ≡ record (S.agents n) { own = Some (with_lost o w) } → Handler Nobody S n t → Handler Nobody (popped S (Agent k) n) n closed-turn
+      grown w own t e state r = subst (Handler Nobody (popped S (Agent k) n) n) (sym e)
+          (pop-handler S n k (record l { body = msg.Closed o }) ls t is r
           (λ up. inl (with_lost o w, ap (λ a. a.own) (agent-there S n t.state t.sends r.history ∙ state), with_lost-in o w)))
 
-      go : (z : Option Membership) → (S.agents n).own ≡ z → Row Nobody (popped S (Agent k) n) n closed-turn
+      go : (z : Option Membership) → (S.agents n).own ≡ z → Handler Nobody (popped S (Agent k) n) n closed-turn
       go None e = stays (ap (λ z. becomes (on_closed (S.agents n) z o) ▸ tells n z) e ∙ tells-same n None (S.agents n) (ap (is_other_word None) e))
           (λ u. inr (λ w i. elim (cases_Bool (names w (start_at S n))) [
             | inl m ↦ absurd (unnamed-not S (start_at S n) w (said-good S H.history o w i) m ((H.agents n).alone up e).0)
@@ -179,9 +179,9 @@ module _ (S : State) (H : Holds S) (n k o : ℕ) (l : Letter) (ls : List Letter)
         | inl other ↦ grown w e (says n (record (S.agents n) { own = Some (with_lost o w) }) (Some (with_lost o w)))
             (ap (λ z. becomes (on_closed (S.agents n) z o) ▸ tells n z) e ∙ says-word n (record (S.agents n) { own = Some (with_lost o w) }) (Some w) (with_lost o w) refl other) refl
             (elim (cases_Bool (names (with_lost o w) (start_at S n))) [
-              | inl m ↦ own-row S H n w (with_lost o w) (S.agents n).said up e (within-with_lost o w) (good w e) (H.agents n).heard m
+              | inl m ↦ own-handler S H n w (with_lost o w) (S.agents n).said up e (within-with_lost o w) (good w e) (H.agents n).heard m
                   (λ y i l. knows-told S H.history y i (start_at S n) w (with_lost o w) (good w e) m (within-with_lost o w) (λ q. closed-told w e y i q l))
-              | inr m ↦ silent-row S H n w (with_lost o w) (S.agents n).said up e (within-with_lost o w) (good w e) (H.agents n).heard m
+              | inr m ↦ silent-handler S H n w (with_lost o w) (S.agents n).said up e (within-with_lost o w) (good w e) (H.agents n).heard m
                   (λ y i q l. (within-with_lost o w).admitted y.start (closed-told w e y i q l))
             ])
         | inr other ↦ let same = is_other_word-equal w (with_lost o w) refl other in
@@ -281,36 +281,36 @@ module _ (S : State) (H : Holds S) (n k base : ℕ) (lost : List ℕ) (admitted 
     base-same : (w.base == base) ≡ true
     base-same = subst (λ z. (w.base == z) ≡ true) (own-good.base ∙ sym letter.1) (eqb-same w.base)
 
-    row-is : becomes (on_word (S.agents n) (Some w) k base lost admitted) ▸ tells n (Some w)
+    handler-is : becomes (on_word (S.agents n) (Some w) k base lost admitted) ▸ tells n (Some w)
         ≡ tells n (Some w) hearer
-    row-is = rw base-same refl
+    handler-is = rw base-same refl
 
-    tells-row : Row Nobody S n (tells n (Some w) hearer)
-    tells-row = elim (cases_Bool (is_other_word (Some w) (Some v))) [
-      | inl other ↦ subst (Row Nobody S n) (sym (says-word n hearer (Some w) v refl other)) (own-row S H n w v heard up own low v-good hears member knows)
+    tells-handler : Handler Nobody S n (tells n (Some w) hearer)
+    tells-handler = elim (cases_Bool (is_other_word (Some w) (Some v))) [
+      | inl other ↦ subst (Handler Nobody S n) (sym (says-word n hearer (Some w) v refl other)) (own-handler S H n w v heard up own low v-good hears member knows)
       | inr other ↦
           let same = is_other_word-equal w v refl other in
-          subst (Row Nobody S n) (sym (tells-same n (Some w) hearer other))
-          (subst (λ z. Row Nobody S n (becomes (record (S.agents n) { own = z; said = heard }))) (own ∙ ap Some same)
-          (row-plain S n (becomes (record (S.agents n) { said = heard })) (inl (refl, up)) (heard-holds S H n heard up hears)))
+          subst (Handler Nobody S n) (sym (tells-same n (Some w) hearer other))
+          (subst (λ z. Handler Nobody S n (becomes (record (S.agents n) { own = z; said = heard }))) (own ∙ ap Some same)
+          (handler-plain S n (becomes (record (S.agents n) { said = heard })) (inl (refl, up)) (heard-holds S H n heard up hears)))
     ]
 
   -- what the agent does with it, and says then
   abbrev word-turn : Turn AgentState
   word-turn = becomes (on_word (S.agents n) (S.agents n).own k base lost admitted) ▸ tells n (S.agents n).own
 
-  pub word-row : Row Nobody (popped S (Agent k) n) n word-turn
-  word-row = go (S.agents n).own refl
+  pub word-handler : Handler Nobody (popped S (Agent k) n) n word-turn
+  word-handler = go (S.agents n).own refl
     where
-      go : (z : Option Membership) → (S.agents n).own ≡ z → Row Nobody (popped S (Agent k) n) n word-turn
-      go None e = subst (Row Nobody (popped S (Agent k) n) n)
+      go : (z : Option Membership) → (S.agents n).own ≡ z → Handler Nobody (popped S (Agent k) n) n word-turn
+      go None e = subst (Handler Nobody (popped S (Agent k) n) n)
           (sym (ap (λ z. becomes (on_word (S.agents n) z k base lost admitted) ▸ tells n z) e ∙ tells-same n None (S.agents n) (ap (is_other_word None) e)))
-          (stay-row (popped S (Agent k) n) n (inl (refl, up)) (pops S k n (record l { body = msg.Word base lost admitted }) ls is (λ u m. inl e) H))
+          (stay-handler (popped S (Agent k) n) n (inl (refl, up)) (pops S k n (record l { body = msg.Word base lost admitted }) ls is (λ u m. inl e) H))
       go (Some w) e =
           let t = tells n (Some w) (hearer w e) in
-          let r = tells-row w e in
-          subst (Row Nobody (popped S (Agent k) n) n) (sym (ap (λ z. becomes (on_word (S.agents n) z k base lost admitted) ▸ tells n z) e ∙ row-is w e))
-          (pop-row S n k (record l { body = msg.Word base lost admitted }) ls t is r
+          let r = tells-handler w e in
+          subst (Handler Nobody (popped S (Agent k) n) n) (sym (ap (λ z. becomes (on_word (S.agents n) z k base lost admitted) ▸ tells n z) e ∙ handler-is w e))
+          (pop-handler S n k (record l { body = msg.Word base lost admitted }) ls t is r
           (λ u m. inr (λ j q. (
             v w e,
             ap (λ a. a.own) (agent-there S n t.state t.sends r.history
@@ -328,18 +328,18 @@ module _ (P : State) (H : Holds P) (n : ℕ) (w : Membership) (up : 0 < start_at
       choice true = refl
       choice false = refl
 
-  unchanged : Row Nobody P n (becomes (P.agents n) ▸ tells n (P.agents n).own)
-  unchanged = subst (Row Nobody P n) (sym (tells-same n (P.agents n).own (P.agents n) (other-self (P.agents n).own))) (stay-row P n (inl (refl, up)) H)
+  unchanged : Handler Nobody P n (becomes (P.agents n) ▸ tells n (P.agents n).own)
+  unchanged = subst (Handler Nobody P n) (sym (tells-same n (P.agents n).own (P.agents n) (other-self (P.agents n).own))) (stay-handler P n (inl (refl, up)) H)
 
-  stops-then : Row Nobody P n (stops_with_host P.deployment n (start_at P n) ▸ tells n (P.agents n).own)
-  stops-then = subst (Row Nobody P n) (sym (then-quiet (stops_with_host P.deployment n (start_at P n)) (tells n (P.agents n).own) (tells-nothing n (P.agents n).own)))
-      (stop-row P n (stops_with_host P.deployment n (start_at P n)) H up refl (λ g. stops_with_host-closed P.deployment n (start_at P n) g))
+  stops-then : Handler Nobody P n (stops_with_host P.deployment n (start_at P n) ▸ tells n (P.agents n).own)
+  stops-then = subst (Handler Nobody P n) (sym (then-inert (stops_with_host P.deployment n (start_at P n)) (tells n (P.agents n).own) (tells-nothing n (P.agents n).own)))
+      (stop-handler P n (stops_with_host P.deployment n (start_at P n)) H up refl (λ g. stops_with_host-closed P.deployment n (start_at P n) g))
 
   abbrev joiner : AgentState
   joiner = record (P.agents n) { own = Some w; taken = Some w }
 
   -- a joiner takes its first word
-  takes : (P.agents n).own ≡ None → (P.agents n).taken ≡ None → Row Nobody P n (takes_word P.deployment n (P.agents n) w ▸ tells n (P.agents n).own)
+  takes : (P.agents n).own ≡ None → (P.agents n).taken ≡ None → Handler Nobody P n (takes_word P.deployment n (P.agents n) w ▸ tells n (P.agents n).own)
   takes own taken = record {
     history = record P.history { took = λ r. if r == start_at P n then Some w else P.history.took r };
     goes = inl (ap (λ u. u.state.start) turn-is, up);
@@ -384,17 +384,17 @@ module _ (P : State) (H : Holds P) (n : ℕ) (w : Membership) (up : 0 < start_at
       grows : (s : ℕ) (u : Membership) → P.history.took s ≡ Some u → (if s == start_at P n then Some w else P.history.took s) ≡ Some u
       grows = took-keeps P.history.took (start_at P n) w ((H.agents n).untaken up taken)
 
-  pub decided-row : Row Nobody P n (on_decided P.deployment n (P.agents n) (P.agents n).decided (P.agents n).taken w ▸ tells n (P.agents n).own)
-  decided-row = go (P.agents n).decided (P.agents n).taken refl refl
+  pub decided-handler : Handler Nobody P n (on_decided P.deployment n (P.agents n) (P.agents n).decided (P.agents n).taken w ▸ tells n (P.agents n).own)
+  decided-handler = go (P.agents n).decided (P.agents n).taken refl refl
     where
       go : (d t : Option Membership) → (P.agents n).decided ≡ d → (P.agents n).taken ≡ t
-          → Row Nobody P n (on_decided P.deployment n (P.agents n) (P.agents n).decided (P.agents n).taken w ▸ tells n (P.agents n).own)
-      go (Some d) t e f = subst (λ z. Row Nobody P n (on_decided P.deployment n (P.agents n) z (P.agents n).taken w ▸ tells n (P.agents n).own)) (sym e) unchanged
-      go None None e f = subst (λ z. Row Nobody P n (on_decided P.deployment n (P.agents n) z (P.agents n).taken w ▸ tells n (P.agents n).own)) (sym e)
-          (subst (λ z. Row Nobody P n (on_decided P.deployment n (P.agents n) None z w ▸ tells n (P.agents n).own)) (sym f) (takes ((H.agents n).joins e f) f))
-      go None (Some t) e f = subst (λ z. Row Nobody P n (on_decided P.deployment n (P.agents n) z (P.agents n).taken w ▸ tells n (P.agents n).own)) (sym e)
-          (subst (λ z. Row Nobody P n (on_decided P.deployment n (P.agents n) None z w ▸ tells n (P.agents n).own)) (sym f)
+          → Handler Nobody P n (on_decided P.deployment n (P.agents n) (P.agents n).decided (P.agents n).taken w ▸ tells n (P.agents n).own)
+      go (Some d) t e f = subst (λ z. Handler Nobody P n (on_decided P.deployment n (P.agents n) z (P.agents n).taken w ▸ tells n (P.agents n).own)) (sym e) unchanged
+      go None None e f = subst (λ z. Handler Nobody P n (on_decided P.deployment n (P.agents n) z (P.agents n).taken w ▸ tells n (P.agents n).own)) (sym e)
+          (subst (λ z. Handler Nobody P n (on_decided P.deployment n (P.agents n) None z w ▸ tells n (P.agents n).own)) (sym f) (takes ((H.agents n).joins e f) f))
+      go None (Some t) e f = subst (λ z. Handler Nobody P n (on_decided P.deployment n (P.agents n) z (P.agents n).taken w ▸ tells n (P.agents n).own)) (sym e)
+          (subst (λ z. Handler Nobody P n (on_decided P.deployment n (P.agents n) None z w ▸ tells n (P.agents n).own)) (sym f)
           (elim (on_decided-joiner P.deployment n (P.agents n) t w) [
-            | inl s ↦ subst (λ z. Row Nobody P n (z ▸ tells n (P.agents n).own)) (sym s) stops-then
-            | inr b ↦ subst (λ z. Row Nobody P n (z ▸ tells n (P.agents n).own)) (sym b) unchanged
+            | inl s ↦ subst (λ z. Handler Nobody P n (z ▸ tells n (P.agents n).own)) (sym s) stops-then
+            | inr b ↦ subst (λ z. Handler Nobody P n (z ▸ tells n (P.agents n).own)) (sym b) unchanged
           ]))

@@ -1,4 +1,4 @@
 -- Lost starts are stopped: what an agent knows and says of lost starts, the starts of agents, and runs.
-pub mod Rows
+pub mod Handlers
 pub mod Starts
 pub mod Runs

@@ -286,11 +286,11 @@ best-within V ds c k i h = elim (best-or-none V ds k) [
 ]
 
 -- all of these are within V, or there is a least one that isn't
-pub least-outside : (V : Membership) (ds : List Membership) → Comparing ds
+pub least-elsewhere : (V : Membership) (ds : List Membership) → Comparing ds
     → ((d : Membership) → In d ds → Within d V) ⊎ ((u : Membership) × In u ds × (Within u V → ⊥) × ((d : Membership) → In d ds → (Within d V → ⊥) → Within u d))
-least-outside V [] c = inl (λ d i. absurd i)
-least-outside V (w ∷ ds) c = elim (within-cases w V) [
-  | inl y ↦ elim (least-outside V ds (fewer w ds c)) [
+least-elsewhere V [] c = inl (λ d i. absurd i)
+least-elsewhere V (w ∷ ds) c = elim (within-cases w V) [
+  | inl y ↦ elim (least-elsewhere V ds (fewer w ds c)) [
     | inl all ↦ inl (λ d i. elim i [
       | inl e ↦ subst (λ x. Within x V) e y
       | inr k ↦ all d k
@@ -305,7 +305,7 @@ least-outside V (w ∷ ds) c = elim (within-cases w V) [
       ],
     )
   ]
-  | inr out ↦ elim (least-outside V ds (fewer w ds c)) [
+  | inr out ↦ elim (least-elsewhere V ds (fewer w ds c)) [
     | inl all ↦ inr (
       w,
       inl refl,

@@ -220,7 +220,7 @@ module _ (S : State) (n s k : ℕ) (out : Sends) (h : Holds S) (c : TakesStart S
   host-here =
       let o = subst (λ xs. AllByRecursion (λ x. (S.owner x ≡ n) × (0 < x) × (x < S.next)) xs) c.comes (h.hosts n).owned in
       record {
-        outside = λ e. absurd (cc (c.host, e));
+        environment = λ e. absurd (cc (c.host, e));
         running = λ u. let e : start_at T n ≡ s = run-here ∙ goes-on (subst (λ x. 0 < x) run-here u) in rw e (drawn.0, drawn.2);
         last = λ u. let e : start_at T n ≡ s = run-here ∙ goes-on (subst (λ x. 0 < x) run-here u) in (S.history.began n, rw e began-here);
         began = rw began-here (drawn, (h.hosts n).began);
@@ -235,7 +235,7 @@ module _ (S : State) (n s k : ℕ) (out : Sends) (h : Holds S) (c : TakesStart S
       let e : start_at T g ≡ start_at S g = ap (λ a. a.start) (run-there g d) in
       let k = h.hosts g in
       record {
-        outside = λ o. e ∙ k.outside o;
+        environment = λ o. e ∙ k.environment o;
         running = λ u. rw e (k.running (subst (λ x. 0 < x) e u));
         last = λ u. let l = k.last (subst (λ x. 0 < x) e u) in (l.0, began-there g d ∙ l.1 ∙ ap (λ x. x ∷ l.0) (sym e));
         began = rw (began-there g d) k.began;

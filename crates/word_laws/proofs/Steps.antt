@@ -90,7 +90,7 @@ later-after S n a out H e first began said took_word decided admitted = record {
 -- what holds of a host, where the starts that began stay
 pub host-after : (S : State) (n : ℕ) (a : AgentState) (out : Sends) (H : History) → GoesOn S n a → H.began ≡ S.history.began → (h : ℕ) → HostOk S h → HostOk (after S n a out H) h
 host-after S n a out H e began h k = record {
-  outside = λ o. elim runs [ inl q ↦ q ∙ k.outside o | inr z ↦ z ];
+  environment = λ o. elim runs [ inl q ↦ q ∙ k.environment o | inr z ↦ z ];
   running = λ up. subst (λ x. (S.owner x ≡ h) × (x < S.next)) (sym (same-start up)) (k.running (subst (λ x. 0 < x) (same-start up) up));
   last = λ up. let l = k.last (subst (λ x. 0 < x) (same-start up) up) in (l.0, ap (λ f. f h) began ∙ l.1 ∙ ap (λ x. x ∷ l.0) (sym (same-start up)));
   began = subst (λ f. AllByRecursion (λ x. (S.owner x ≡ h) × (0 < x) × (x < S.next)) (f h)) (sym began) k.began;
@@ -217,7 +217,7 @@ pub channel-moves : (S : State) (ch : Actor → Actor → List Letter) → ((h :
 channel-moves S ch starts all order told heard h = record {
   some = h.some;
   hosts = λ g. let k = h.hosts g in record {
-    outside = k.outside;
+    environment = k.environment;
     running = k.running;
     last = k.last;
     began = k.began;
@@ -550,7 +550,7 @@ begun-running S n h up = record {
 
     is-host : (c : Bool) → is_host S.deployment n ≡ c → c ≡ true
     is-host true q = refl
-    is-host false q = let z = k.outside q in absurd (omega (arith, z, up))
+    is-host false q = let z = k.environment q in absurd (omega (arith, z, up))
 
 -- what an agent sends in a turn that brings no word may be sent
 pub plain-ok : (S : State) (n g : ℕ) → Holds S → 0 < start_at S n → (l : Letter) → Plain n (S.agents n) g l → LetterOk S n g l
@@ -743,7 +743,7 @@ stops-holds S n t up e says silent h = turn-holds S n t.state t.sends (inr (zero
       where
         choice : (b c : Bool) → is_host S.deployment g ≡ b → (g == n) ≡ c → Closing s (t.sends (Agent g))
         choice true false x y = subst (λ ls. Closing s ls) (sym (says g x y)) (inl refl)
-        choice false c x y = let z = (h.hosts g).outside x in absurd (omega (arith, z, runs))
+        choice false c x y = let z = (h.hosts g).environment x in absurd (omega (arith, z, runs))
         choice true true x y = absurd (ne (eqb-true g n y))
 
     not-run : (c : Bool) → (S.owner s == n) ≡ c → (if c then t.state else S.agents (S.owner s)).start ≡ s → ⊥

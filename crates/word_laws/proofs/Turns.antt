@@ -1,4 +1,4 @@
--- What the rows of an agent do with words.
+-- What the handlers of an agent do with words.
 use Rattle.std.proofs.Common.{◌≡◌, ◌<◌, Bool, true, false, List, [], ◌∷◌, ◌++◌, refl, sym, subst, ap, ◌∙◌, ◌⊎◌, inl, inr, ◌==◌, arith}
 use Rattle.std.proofs.lemmas.Bool.{and_parts, eqb-true, ltb-true}
 use Rattle.std.proofs.lemmas.Bool.Decides.{nat_tests}
@@ -16,7 +16,7 @@ use Rattle.cluster_model.specs.Words.{Deployment, part_of_slot, is_host, slots_o
 use Rattle.cluster_model.specs.Letters.{Blocks, same, Letter, Turn, becomes, sending, ◌▸◌, open_letter, letter_to, letter_in, only}
 use Rattle.cluster_model.specs.AgentState.{AgentState, Phase, Off, Hears, Closes, Idle, Works, Work, Job, RunCall, TakeSnapshot, Queued, Job_, Admission, Heard, Initiating, initiates, answers_client, on_reply, stops, stops_with_host}
 use Rattle.cluster_model.specs.Initiator.{to_all_leaders, begins, admitting, works_queue, if_idle, queues, answers, no_work, with_work, with_phase, all_finished, open_told, rests, ends_job, goes_on, feeds, ends_round, gathers, on_frag_done, settles, on_finished, done_to, closes_open, first_number, hears, on_mp_state}
-use Rattle.cluster_model.specs.Agent.{to_slot, to_partition, to_initiator, hands_on, unless_down, on_call, on_hello, on_decided, asks_initiator, has_loaded, on_loaded, is_other_word, says, decides_word, is_word, may_decide, from_agent, from_site, from_director, from_client, agent_row}
+use Rattle.cluster_model.specs.Agent.{to_slot, to_partition, to_initiator, hands_on, unless_down, on_call, on_hello, on_decided, asks_initiator, has_loaded, on_loaded, is_other_word, says, decides_word, is_word, may_decide, from_agent, from_site, from_director, from_client, agent_handler}
 use Rattle.word_laws.specs.Histories.{In, IsOff}
 use Rattle.word_laws.proofs.Lists.{all-append, all-if, same-some, in-left, in-right, in-cases}
 use Rattle.word_laws.proofs.Algebra.{same_word-is}
@@ -319,7 +319,7 @@ on_finished-calm n a0 came E D a Works (Some w) p m (inr on) h =
     elim w.decision as (λ x. Calm n a0 came (elim x as (λ _. Turn AgentState) [
       | None ↦ becomes a
       | Some d ↦
-          if w.m == m
+          if w.transaction == m
           then (if all_finished (all_parts D) done.finished then ends_job E D n (with_work a done) w.job d.end else becomes (with_work a done))
           else becomes a
     ])) [
@@ -432,7 +432,7 @@ on_loaded-calm n a0 came D a slot start h =
     calm-if n a0 came (start == a.start) (has_loaded D n b a.taken) (becomes a)
     (has_loaded-calm n a0 came D b a.taken (sym h.taken) (calm-with a0 came a b h refl refl refl refl refl refl h.queue h.phase)) (becomes-calm n a0 came a h)
 
--- ---- the rows
+-- ---- the handlers
 
 from_agent-calm : (E : Database) (D : Deployment) (n stamp : ℕ) (a : AgentState) (g : ℕ) (l : Letter) → (BringsWord (Agent g) l → ⊥) → Calm n a (asked_by (Agent g) l) (from_agent E D n stamp a g l)
 from_agent-calm E D n stamp a g l none =
@@ -477,15 +477,15 @@ from_client-calm D n a c l =
       | m ↦ becomes-calm n a [] a h
     ]
 
--- A row that brings no word changes no word but by an admission.
-pub row-calm : (E : Database) (D : Deployment) (n stamp : ℕ) (a : AgentState) (from : Actor) (l : Letter) → (BringsWord from l → ⊥) → Calm n a (asked_by from l) (agent_row E D n stamp a from l)
-row-calm E D n stamp a Director l none = from_director-calm E D n a l
-row-calm E D n stamp a (Client c) l none = from_client-calm D n a c l
-row-calm E D n stamp a (Agent g) l none = from_agent-calm E D n stamp a g l none
-row-calm E D n stamp a (Site s) l none = from_site-calm E D n stamp a s l
-row-calm E D n stamp a (Scanner x) l none = becomes-calm n a [] a (calm-first a [])
+-- A handler that brings no word changes no word but by an admission.
+pub handler-calm : (E : Database) (D : Deployment) (n stamp : ℕ) (a : AgentState) (from : Actor) (l : Letter) → (BringsWord from l → ⊥) → Calm n a (asked_by from l) (agent_handler E D n stamp a from l)
+handler-calm E D n stamp a Director l none = from_director-calm E D n a l
+handler-calm E D n stamp a (Client c) l none = from_client-calm D n a c l
+handler-calm E D n stamp a (Agent g) l none = from_agent-calm E D n stamp a g l none
+handler-calm E D n stamp a (Site s) l none = from_site-calm E D n stamp a s l
+handler-calm E D n stamp a (Scanner x) l none = becomes-calm n a [] a (calm-first a [])
 
--- ---- the rows that bring words
+-- ---- the handlers that bring words
 
 -- Decided, as it comes to a joiner that took a word: it stops, or does nothing
 pub on_decided-joiner : (D : Deployment) (n : ℕ) (a : AgentState) (taken w : Membership)
@@ -514,7 +514,7 @@ stops-sends-none D n s g (inr e) = choice (is_host D g) (g == n) e
     choice true false q = absurd (cc)
     choice false b q = refl
 
--- ---- what follows a row: the agent says its word, and decides it
+-- ---- what follows a handler: the agent says its word, and decides it
 
 pub says-state : (n : ℕ) (a : AgentState) (own : Option Membership) → (says n a own).state ≡ a
 says-state n a None = refl
@@ -578,8 +578,8 @@ decides-sends D n a w g = all-if (λ l. l ≡ open_letter (msg.Decided w)) (is_h
 pub may_decide-cases : (n : ℕ) (a : AgentState) (w : Membership) → may_decide n a (Some w) ≡ true
     → (is_member w n a.start ≡ true) × (list_all (λ m. m.0 == n || is_word w (a.said m.0)) (members w) ≡ true)
 may_decide-cases n a w e =
-    let (front, all) = and_parts (is_member w n a.start && not (is_word w a.decided)) (list_all (λ m. m.0 == n || is_word w (a.said m.0)) (members w)) e in
-    ((and_parts (is_member w n a.start) (not (is_word w a.decided)) front).0, all)
+    let (prefix, all) = and_parts (is_member w n a.start && not (is_word w a.decided)) (list_all (λ m. m.0 == n || is_word w (a.said m.0)) (members w)) e in
+    ((and_parts (is_member w n a.start) (not (is_word w a.decided)) prefix).0, all)
 
 -- of two words that aren't other ones
 pub is_other_word-same : (v w : Membership) → is_other_word (Some v) (Some w) ≡ false → same_word v w ≡ true

@@ -17,7 +17,7 @@ use Rattle.cluster_model.specs.Engine.{Database}
 use Rattle.cluster_model.specs.Words.{Deployment, is_host, parts, slots}
 use Rattle.cluster_model.specs.Letters.{same, Letter, Turn, open_letter}
 use Rattle.cluster_model.specs.Director.{DirectorState, does, does_next}
-use Rattle.cluster_model.specs.Outside.{Outside, Fair, DiskFails, NoMemory, DisksShow}
+use Rattle.cluster_model.specs.Environment.{Environment, NoFault, DiskFails, NoMemory, DisksShow}
 use Rattle.cluster_model.specs.AgentState.{new_agent}
 use Rattle.cluster_model.specs.Agent.{agent_turn, start_after}
 use Rattle.cluster_model.specs.World.{World, Input, first_world, set_at, sent, stamp_of, with_director, member_agent, new_word, greatest_done}
@@ -33,7 +33,7 @@ use Rattle.word_laws.proofs.Channels.{starts-if, stops_all-starts}
 use Rattle.word_laws.proofs.Moves.{Grows}
 use Rattle.word_laws.proofs.Steps.{channel-holds}
 use Rattle.word_laws.proofs.Epochs.{new_history, new_owner, boot-holds, recovery-holds}
-use Rattle.word_laws.proofs.Draws.{director-quiet-holds, draws-holds}
+use Rattle.word_laws.proofs.Draws.{director-inert-holds, draws-holds}
 use Rattle.word_laws.proofs.AgentEvents.{agent-event}
 
 -- ---- an agent that is there is a host's
@@ -107,12 +107,12 @@ still w c k = record { next = k; grows = λ e. grows-same k.history }
 
 -- where the history stays
 keeps : (w v : World) (c : Bool) (k : InEpoch w) (owner : ℕ → ℕ) → Holds (state_of v owner k.history) → ((h : ℕ) → is_host v.deployment h ≡ false → v.agents h ≡ new_agent 0) → Reaches k.history c v
-keeps w v c k owner holds outsiders = record { next = record { owner = owner; history = k.history; holds = holds; outsiders = outsiders }; grows = λ e. grows-same k.history }
+keeps w v c k owner holds strangers = record { next = record { owner = owner; history = k.history; holds = holds; strangers = strangers }; grows = λ e. grows-same k.history }
 
 -- the event is noted in the trace
 noted : (G : History) (c : Bool) (v : World) (trace : List Event) → Reaches G c v → Reaches G c (record v { trace = trace })
 noted G c v trace r = record {
-  next = record { owner = r.next.owner; history = r.next.history; holds = r.next.holds; outsiders = r.next.outsiders };
+  next = record { owner = r.next.owner; history = r.next.history; holds = r.next.holds; strangers = r.next.strangers };
   grows = r.grows;
 }
 
@@ -122,26 +122,26 @@ others-hold : (w : World) (k : InEpoch w) (ch : Actor → Actor → List Letter)
     → ((h : ℕ) → starts_in (ch Director (Agent h)) ≡ starts_in (w.channel Director (Agent h))) → Holds (record (state_of w k.owner k.history) { channel = ch })
 others-hold w k ch stays starts = channel-holds (state_of w k.owner k.history) ch stays starts k.holds
 
-to_site-reaches : (E : Database) (w : World) (i : ℕ) (from : Actor) (ls : List Letter) (o : Outside) (c : Bool) (k : InEpoch w) → Reaches k.history c (delivered E w (Site i) from ls o)
+to_site-reaches : (E : Database) (w : World) (i : ℕ) (from : Actor) (ls : List Letter) (o : Environment) (c : Bool) (k : InEpoch w) → Reaches k.history c (delivered E w (Site i) from ls o)
 to_site-reaches E w i from [] o c k = still w c k
 to_site-reaches E w i from (l ∷ ls) o c k = keeps w (delivered E w (Site i) from (l ∷ ls) o) c k k.owner
-    (others-hold w k (delivered E w (Site i) from (l ∷ ls) o).channel (λ h g. refl) (λ h. refl)) k.outsiders
+    (others-hold w k (delivered E w (Site i) from (l ∷ ls) o).channel (λ h g. refl) (λ h. refl)) k.strangers
 
-to_client-reaches : (E : Database) (w : World) (n : ℕ) (from : Actor) (ls : List Letter) (o : Outside) (c : Bool) (k : InEpoch w) → Reaches k.history c (delivered E w (Client n) from ls o)
+to_client-reaches : (E : Database) (w : World) (n : ℕ) (from : Actor) (ls : List Letter) (o : Environment) (c : Bool) (k : InEpoch w) → Reaches k.history c (delivered E w (Client n) from ls o)
 to_client-reaches E w n from [] o c k = still w c k
 to_client-reaches E w n from (l ∷ ls) o c k = keeps w (delivered E w (Client n) from (l ∷ ls) o) c k k.owner
-    (others-hold w k (delivered E w (Client n) from (l ∷ ls) o).channel (λ h g. refl) (λ h. refl)) k.outsiders
+    (others-hold w k (delivered E w (Client n) from (l ∷ ls) o).channel (λ h g. refl) (λ h. refl)) k.strangers
 
-to_scanner-reaches : (E : Database) (w : World) (i : ℕ) (from : Actor) (ls : List Letter) (o : Outside) (c : Bool) (k : InEpoch w) → Reaches k.history c (delivered E w (Scanner i) from ls o)
+to_scanner-reaches : (E : Database) (w : World) (i : ℕ) (from : Actor) (ls : List Letter) (o : Environment) (c : Bool) (k : InEpoch w) → Reaches k.history c (delivered E w (Scanner i) from ls o)
 to_scanner-reaches E w i from [] o c k = still w c k
 to_scanner-reaches E w i from (l ∷ ls) o c k = keeps w (delivered E w (Scanner i) from (l ∷ ls) o) c k k.owner
-    (others-hold w k (delivered E w (Scanner i) from (l ∷ ls) o).channel (λ h g. refl) (λ h. refl)) k.outsiders
+    (others-hold w k (delivered E w (Scanner i) from (l ∷ ls) o).channel (λ h g. refl) (λ h. refl)) k.strangers
 
-to_director-reaches : (E : Database) (w : World) (from : Actor) (ls : List Letter) (o : Outside) (c : Bool) (k : InEpoch w) → Reaches k.history c (delivered E w Director from ls o)
+to_director-reaches : (E : Database) (w : World) (from : Actor) (ls : List Letter) (o : Environment) (c : Bool) (k : InEpoch w) → Reaches k.history c (delivered E w Director from ls o)
 to_director-reaches E w from [] o c k = still w c k
 to_director-reaches E w from (l ∷ ls) o c k = keeps w (delivered E w Director from (l ∷ ls) o) c k k.owner
     (subst (λ n. Holds (record (state_of w k.owner k.history) { next = n; channel = (delivered E w Director from (l ∷ ls) o).channel })) (takes-next w.director from l)
-    (others-hold w k (delivered E w Director from (l ∷ ls) o).channel (λ h g. refl) (λ h. ap starts_in (append-nil (w.channel Director (Agent h)))))) k.outsiders
+    (others-hold w k (delivered E w Director from (l ∷ ls) o).channel (λ h g. refl) (λ h. ap starts_in (append-nil (w.channel Director (Agent h)))))) k.strangers
 
 -- ---- the director does an item
 
@@ -150,13 +150,13 @@ plain-reaches : (w : World) (t : Turn DirectorState) (c : Bool) (k : InEpoch w) 
     → Reaches k.history c (with_director w t)
 plain-reaches w t c k same none = keeps w (with_director w t) c k k.owner
     (subst (λ n. Holds (record (state_of w k.owner k.history) { next = n; channel = sent w.channel Director t.sends })) same
-    (director-quiet-holds (state_of w k.owner k.history) t.sends k.holds none)) k.outsiders
+    (director-inert-holds (state_of w k.owner k.history) t.sends k.holds none)) k.strangers
 
 item-reaches : (w : World) (left : List TimedItem) (i : Item) (c : Bool) (k : InEpoch w) → Reaches k.history c (with_director w (does w.deployment (record w.director { items = left }) i))
 item-reaches w left (item.Lose host) c k = plain-reaches w (does w.deployment (record w.director { items = left }) (item.Lose host)) c k refl
     (λ g. starts-if (g == host) (open_letter (msg.Stop (w.director.last_start host)) ∷ []) refl)
 item-reaches w left (item.Rejoin host) c k = keeps w (with_director w (does w.deployment (record w.director { items = left }) (item.Rejoin host))) c k (set_at k.owner w.director.next_start host)
-    (draws-holds (state_of w k.owner k.history) host k.holds) k.outsiders
+    (draws-holds (state_of w k.owner k.history) host k.holds) k.strangers
 item-reaches w left item.Snapshot c k = plain-reaches w (does w.deployment (record w.director { items = left }) item.Snapshot) c k refl
     (λ g. starts-if (is_host w.deployment g) (open_letter msg.Snap ∷ []) refl)
 item-reaches w left (item.Power slot call choice) c k = plain-reaches w (does w.deployment (record w.director { items = left }) (item.Power slot call choice)) c k refl (λ g. refl)
@@ -180,7 +180,7 @@ first-holds E I =
       owner = new_owner 1 (λ s. 0);
       history = new_history D (new_word D I.base 1) 1;
       holds = boot-holds D I.base number;
-      outsiders = λ h e. if-false (is_host D h) (member_agent (new_word D I.base 1) number 1 h) (new_agent 0) e;
+      strangers = λ h e. if-false (is_host D h) (member_agent (new_word D I.base 1) number 1 h) (new_agent 0) e;
     }
 
 anew-reaches : (E : Database) (w : World) (shown : List ℕ) (k : InEpoch w) → Reaches k.history true (starts_anew E w shown)
@@ -193,18 +193,18 @@ anew-reaches E w shown k =
       next = record {
         owner = new_owner start k.owner;
         history = new_history D (new_word D base start) start;
-        holds = recovery-holds (state_of w k.owner k.history) base number k.holds k.outsiders;
-        outsiders = λ h e. if-false (is_host D h) (member_agent (new_word D base start) number start h) (w.agents h) e ∙ k.outsiders h e;
+        holds = recovery-holds (state_of w k.owner k.history) base number k.holds k.strangers;
+        strangers = λ h e. if-false (is_host D h) (member_agent (new_word D base start) number start h) (w.agents h) e ∙ k.strangers h e;
       };
       grows = λ e. absurd (false≢true (sym e));
     }
 
 recovers-reaches : (E : Database) (w : World) (shown : List ℕ) (failed : Option (ℕ × Bool)) (k : InEpoch w) → Reaches k.history (is_none failed) (recovers E w shown failed)
 recovers-reaches E w shown None k = anew-reaches E w shown k
-recovers-reaches E w shown (Some failed) k = keeps w (stays_stopped E w shown failed) false k k.owner k.holds k.outsiders
+recovers-reaches E w shown (Some failed) k = keeps w (stays_stopped E w shown failed) false k k.owner k.holds k.strangers
 
-recovery-reaches : (E : Database) (w : World) (o : Outside) (k : InEpoch w) → Reaches k.history (renews_by o) (recovered_with E w o)
-recovery-reaches E w Fair k = still w false k
+recovery-reaches : (E : Database) (w : World) (o : Environment) (k : InEpoch w) → Reaches k.history (renews_by o) (recovered_with E w o)
+recovery-reaches E w NoFault k = still w false k
 recovery-reaches E w (DiskFails answered) k = still w false k
 recovery-reaches E w (NoMemory answered) k = still w false k
 recovery-reaches E w (DisksShow shown failed) k = recovers-reaches E w shown failed k
@@ -212,7 +212,7 @@ recovery-reaches E w (DisksShow shown failed) k = recovers-reaches E w shown fai
 -- ---- an agent takes a message
 
 -- an agent that may find no memory runs once it has taken its message
-pub memory-runs : (w : World) (n answered : ℕ) (from : Actor) (l : Letter) (ls : List Letter) (o : Outside) → w.channel from (Agent n) ≡ l ∷ ls
+pub memory-runs : (w : World) (n answered : ℕ) (from : Actor) (l : Letter) (ls : List Letter) (o : Environment) → w.channel from (Agent n) ≡ l ∷ ls
     → allows w (event.Deliver (Agent n) from) o ≡ true
     → o ≡ NoMemory answered → nat_lt 0 (start_after (w.agents n) from l) ≡ true
 memory-runs w n answered from l ls o is may e =
@@ -220,7 +220,7 @@ memory-runs w n answered from l ls o is may e =
     let some : (nat_lt 0 (start_after (w.agents n) from l) && nat_le answered 0) ≡ true = rw is at out in
     (and_parts (nat_lt 0 (start_after (w.agents n) from l)) (nat_le answered 0) some).0
 
-to_agent-reaches : (E : Database) (w : World) (n : ℕ) (from : Actor) (ls : List Letter) (o : Outside) (c : Bool) (k : InEpoch w) → w.channel from (Agent n) ≡ ls
+to_agent-reaches : (E : Database) (w : World) (n : ℕ) (from : Actor) (ls : List Letter) (o : Environment) (c : Bool) (k : InEpoch w) → w.channel from (Agent n) ≡ ls
     → is_host w.deployment n ≡ true → allows w (event.Deliver (Agent n) from) o ≡ true → Reaches k.history c (delivered E w (Agent n) from ls o)
 to_agent-reaches E w n from [] o c k is host may = still w c k
 to_agent-reaches E w n from (l ∷ ls) o c k is host may =
@@ -231,14 +231,14 @@ to_agent-reaches E w n from (l ∷ ls) o c k is host may =
         owner = k.owner;
         history = g.history;
         holds = g.holds;
-        outsiders = λ h e. if-false (h == n) (agent_turn E w.deployment n (stamp_of w) (w.agents n) from l o).state (w.agents h) (host-apart w.deployment n h host e) ∙ k.outsiders h e;
+        strangers = λ h e. if-false (h == n) (agent_turn E w.deployment n (stamp_of w) (w.agents n) from l o).state (w.agents h) (host-apart w.deployment n h host e) ∙ k.strangers h e;
       };
       grows = λ e. g.grows;
     }
 
 -- ---- events
 
-delivered-reaches : (E : Database) (w : World) (to from : Actor) (o : Outside) (k : InEpoch w) → is_actor w.deployment to ≡ true → allows w (event.Deliver to from) o ≡ true
+delivered-reaches : (E : Database) (w : World) (to from : Actor) (o : Environment) (k : InEpoch w) → is_actor w.deployment to ≡ true → allows w (event.Deliver to from) o ≡ true
     → Reaches k.history false (delivered E w to from (w.channel from to) o)
 delivered-reaches E w Director from o k there may = to_director-reaches E w from (w.channel from Director) o false k
 delivered-reaches E w (Client n) from o k there may = to_client-reaches E w n from (w.channel from (Client n)) o false k
@@ -246,14 +246,14 @@ delivered-reaches E w (Agent n) from o k there may = to_agent-reaches E w n from
 delivered-reaches E w (Site i) from o k there may = to_site-reaches E w i from (w.channel from (Site i)) o false k
 delivered-reaches E w (Scanner i) from o k there may = to_scanner-reaches E w i from (w.channel from (Scanner i)) o false k
 
-happens-reaches : (E : Database) (w : World) (e : Event) (o : Outside) (k : InEpoch w) → can w e ≡ true → allows w e o ≡ true → Reaches k.history (renews_at e o) (happens E w e o)
-happens-reaches E w (event.Deliver to from) o k may outside = delivered-reaches E w to from o k (and_parts (is_some_letter (w.channel from to)) (is_actor w.deployment to) may).1 outside
-happens-reaches E w (event.Sync i) o k may outside = keeps w (happens E w (event.Sync i) o) false k k.owner (others-hold w k (happens E w (event.Sync i) o).channel (λ h g. refl) (λ h. refl)) k.outsiders
-happens-reaches E w (event.Scan i) o k may outside = keeps w (happens E w (event.Scan i) o) false k k.owner (others-hold w k (happens E w (event.Scan i) o).channel (λ h g. refl) (λ h. refl)) k.outsiders
-happens-reaches E w event.Recover o k may outside = recovery-reaches E w o k
-happens-reaches E w event.Item o k may outside = next-reaches w (may_do w w.director.items) w.director.items false k
-happens-reaches E w (event.Submit n) o k may outside = keeps w (happens E w (event.Submit n) o) false k k.owner (others-hold w k (happens E w (event.Submit n) o).channel (λ h g. refl) (λ h. refl)) k.outsiders
-happens-reaches E w (event.Idle a) o k may outside = still w false k
+happens-reaches : (E : Database) (w : World) (e : Event) (o : Environment) (k : InEpoch w) → can w e ≡ true → allows w e o ≡ true → Reaches k.history (renews_at e o) (happens E w e o)
+happens-reaches E w (event.Deliver to from) o k may environment = delivered-reaches E w to from o k (and_parts (is_some_letter (w.channel from to)) (is_actor w.deployment to) may).1 environment
+happens-reaches E w (event.Sync i) o k may environment = keeps w (happens E w (event.Sync i) o) false k k.owner (others-hold w k (happens E w (event.Sync i) o).channel (λ h g. refl) (λ h. refl)) k.strangers
+happens-reaches E w (event.Scan i) o k may environment = keeps w (happens E w (event.Scan i) o) false k k.owner (others-hold w k (happens E w (event.Scan i) o).channel (λ h g. refl) (λ h. refl)) k.strangers
+happens-reaches E w event.Recover o k may environment = recovery-reaches E w o k
+happens-reaches E w event.Item o k may environment = next-reaches w (may_do w w.director.items) w.director.items false k
+happens-reaches E w (event.Submit n) o k may environment = keeps w (happens E w (event.Submit n) o) false k k.owner (others-hold w k (happens E w (event.Submit n) o).channel (λ h g. refl) (λ h. refl)) k.strangers
+happens-reaches E w (event.Idle a) o k may environment = still w false k
 
 step-reaches : (E : Database) (w : World) (e : Happening) → may_happen w e ≡ true → (k : InEpoch w) → Reaches k.history (renews e) (step E w e)
 step-reaches E w e may k =

@@ -6,7 +6,7 @@ use Rattle.volt_wire.specs.declared.event.Event.{Event}
 use Rattle.volt_wire.specs.declared.event.Event.TheVariants as event
 use Rattle.cluster_model.specs.Words.{is_host, not_lost}
 use Rattle.cluster_model.specs.AgentState.{new_agent}
-use Rattle.cluster_model.specs.Outside.{Outside, DisksShow}
+use Rattle.cluster_model.specs.Environment.{Environment, DisksShow}
 use Rattle.cluster_model.specs.World.{World}
 use Rattle.cluster_model.specs.Runs.{Happening}
 use Rattle.word_laws.specs.Histories.{In, State, History, Holds}
@@ -30,14 +30,14 @@ pub record InEpoch (w : World) : Type 0 where
   pub owner : ℕ → ℕ
   pub history : History
   pub holds : Holds (state_of w owner history)
-  pub outsiders : (h : ℕ) → is_host w.deployment h ≡ false → w.agents h ≡ new_agent 0
+  pub strangers : (h : ℕ) → is_host w.deployment h ≡ false → w.agents h ≡ new_agent 0
 
 -- a recovery that works begins a new epoch
-abbrev pub renews_by : Outside → Bool
+abbrev pub renews_by : Environment → Bool
 renews_by (DisksShow shown failed) = is_none failed
 renews_by o = false
 
-abbrev pub renews_at : Event → Outside → Bool
+abbrev pub renews_at : Event → Environment → Bool
 renews_at event.Recover o = renews_by o
 renews_at e o = false
 

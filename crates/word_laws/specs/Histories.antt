@@ -108,7 +108,7 @@ Earlier r s (x ∷ xs) = ((x ≡ s) × In r xs) ⊎ Earlier r s xs
 
 -- Of one host: the start that runs is the last one that began. Those under way are its own and haven't begun.
 pub record HostOk (S : State) (h : ℕ) : Type 0 where
-  pub outside : is_host S.deployment h ≡ false → start_at S h ≡ 0
+  pub environment : is_host S.deployment h ≡ false → start_at S h ≡ 0
   pub running : 0 < start_at S h → (S.owner (start_at S h) ≡ h) × (start_at S h < S.next)
   pub last : 0 < start_at S h → (before : List ℕ) × (S.history.began h ≡ start_at S h ∷ before)
   pub began : AllByRecursion (λ x. (S.owner x ≡ h) × (0 < x) × (x < S.next)) (S.history.began h)

@@ -1,5 +1,5 @@
 //! Laws of the words by which the hosts of a cluster agree on who is a member. They hold of every run
-//! of the whole world, with any input, any outside and any database. Each is a function without a
+//! of the whole world, with any input, any environment and any database. Each is a function without a
 //! body; the clause is the law.
 #![tactic(auto)]
 

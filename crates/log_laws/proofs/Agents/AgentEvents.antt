@@ -11,10 +11,10 @@ use Rattle.cluster_model.specs.Engine.{Database}
 use Rattle.cluster_model.specs.Words.{is_host, term_in}
 use Rattle.cluster_model.specs.Letters.{Letter, Sends, Turn, becomes, open_letter, ◌▸◌, arrival, Arrival, Taken, Refused, Waits, Waiting, of_term, above_term}
 use Rattle.cluster_model.specs.AgentState.{AgentState, new_agent, stops, stops_with_host}
-use Rattle.cluster_model.specs.Agent.{agent_row, row_and_word, unless_stopped, takes_each, takes_waiting, agent_runs, agent_takes, agent_turn, start_after, start_taken, on_start}
+use Rattle.cluster_model.specs.Agent.{agent_handler, handler_and_word, unless_stopped, takes_each, takes_waiting, agent_runs, agent_takes, agent_turn, start_after, start_taken, on_start}
 use Rattle.cluster_model.specs.World.{rest}
 use Rattle.cluster_model.specs.Laws.{start_in_letter, starts_in}
-use Rattle.cluster_model.specs.Outside.{Outside, Fair, DiskFails, NoMemory, DisksShow}
+use Rattle.cluster_model.specs.Environment.{Environment, NoFault, DiskFails, NoMemory, DisksShow}
 use Rattle.word_laws.specs.Histories as word
 use Rattle.word_laws.specs.Histories.{In, History, Admitted, CameOk, WaitingFrom, WaitingOk}
 use Rattle.word_laws.proofs.Lists.{all-mono, all-append, all-filter, all-if}
@@ -26,15 +26,15 @@ use Rattle.word_laws.proofs.Turns.{tells, concludes}
 use Rattle.word_laws.proofs.Arrivals.{Takes, Stops_, Ignores, Runs_, takes-cases, runs-taken, runs-waits, runs-refused, turn-cases, stopped-cases, unless-running, waiting-brings}
 use Rattle.word_laws.proofs.Steps.{pops, waiting-shrinks}
 use Rattle.word_laws.proofs.Rejoins.{with_began, start-grows, start-holds, start-stops-holds}
-use Rattle.word_laws.proofs.Hearings.{Row, none-row, row-grows, row-plain, row-later, others-after, then-assoc, concludes-none}
-use Rattle.word_laws.proofs.AgentEvents.{calm-event, row-event, asked-waiting, came-still, none-taken, none-waited, waits-event, refused-event, ignored-event, stop-pops, stays-holds, comes-first, start-of-body}
+use Rattle.word_laws.proofs.Hearings.{Handler, none-handler, handler-grows, handler-plain, handler-later, others-after, then-assoc, concludes-none}
+use Rattle.word_laws.proofs.AgentEvents.{calm-event, handler-event, asked-waiting, came-still, none-taken, none-waited, waits-event, refused-event, ignored-event, stop-pops, stays-holds, comes-first, start-of-body}
 use Rattle.log_laws.specs.Histories.{LogState, AskedOk, Holds}
 use Rattle.log_laws.proofs.Agents.AgentSends.{NoView, NoAdmit, stops-plain, stops-none, stops_with_host-plain}
 use Rattle.log_laws.proofs.Agents.Views.{turned}
 use Rattle.log_laws.proofs.Agents.Admits.{asked-worded}
-use Rattle.log_laws.proofs.Agents.AgentTurns.{Rest, rest-of, holds-of, heard, rest-heard, MayJoin, AgentRow, plain-rest, plain-agent, stay-plain, stay-agent, stopped-agent, then-agent}
+use Rattle.log_laws.proofs.Agents.AgentTurns.{Rest, rest-of, holds-of, heard, rest-heard, MayJoin, AgentHandler, plain-rest, plain-agent, stay-plain, stay-agent, stopped-agent, then-agent}
 use Rattle.log_laws.proofs.Agents.AgentWords.{concludes-agent, begins-rest}
-use Rattle.log_laws.proofs.Agents.AgentRows.{BringsDecided, may-join, first-agent}
+use Rattle.log_laws.proofs.Agents.AgentHandlers.{BringsDecided, may-join, first-agent}
 
 -- ---- a message that comes
 
@@ -59,22 +59,22 @@ decided-pops S (Client c) n l ls h is b = absurd b
 decided-pops S (Site c) n l ls h is b = absurd b
 decided-pops S (Scanner x) n l ls h is b = absurd b
 
--- what follows a row, when the agent has said its word
-concluded-agent : (S : LogState) (n : ℕ) (t : Turn AgentState) → AgentRow S n t → AgentRow S n (t ▸ concludes S.words.deployment n)
+-- what follows a handler, when the agent has said its word
+concluded-agent : (S : LogState) (n : ℕ) (t : Turn AgentState) → AgentHandler S n t → AgentHandler S n (t ▸ concludes S.words.deployment n)
 concluded-agent S n t r =
-    then-agent S n t (concludes S.words.deployment n) r (concludes-none S.words.deployment n) (concludes-agent (turned S n t.state t.sends r.row.history) n)
+    then-agent S n t (concludes S.words.deployment n) r (concludes-none S.words.deployment n) (concludes-agent (turned S n t.state t.sends r.handler.history) n)
 
 -- ---- messages that waited
 
-row-waited : (E : Database) (S : LogState) (n stamp : ℕ) (from : Actor) (l : Letter) → word.Holds S.words → Rest S → 0 < word.start_at S.words n
+handler-waited : (E : Database) (S : LogState) (n stamp : ℕ) (from : Actor) (l : Letter) → word.Holds S.words → Rest S → 0 < word.start_at S.words n
     → WaitingFrom S.words n from l → AskedOk S from l
-    → AgentRow S n (unless_stopped E S.words.deployment n stamp (S.words.agents n) from l)
-row-waited E S n stamp from l h r up w asked =
+    → AgentHandler S n (unless_stopped E S.words.deployment n stamp (S.words.agents n) from l)
+handler-waited E S n stamp from l h r up w asked =
     let D = S.words.deployment in
     let a = S.words.agents n in
-    subst (AgentRow S n) (sym (unless-running E D n stamp a from l running))
-    (subst (AgentRow S n) (then-assoc (agent_row E D n stamp a from l) (tells n a.own) (concludes D n))
-    (concluded-agent S n (agent_row E D n stamp a from l ▸ tells n a.own)
+    subst (AgentHandler S n) (sym (unless-running E D n stamp a from l running))
+    (subst (AgentHandler S n) (then-assoc (agent_handler E D n stamp a from l) (tells n a.own) (concludes D n))
+    (concluded-agent S n (agent_handler E D n stamp a from l ▸ tells n a.own)
     (first-agent S n r up E stamp from l asked (λ b. h)
     (calm-event E S.words n stamp from l h up (waiting-brings S.words n from l w) (asked-waiting S.words n from l w) (may-join S n r up from l asked)))))
   where
@@ -82,22 +82,22 @@ row-waited E S n stamp from l h r up w asked =
     running = grind (arith, nat_tests, up)
 
 -- what waits and what it asks stay as they are behind a turn
-module _ (S : LogState) (n : ℕ) (t : Turn AgentState) (r : AgentRow S n t) where
+module _ (S : LogState) (n : ℕ) (t : Turn AgentState) (r : AgentHandler S n t) where
   abbrev V : LogState
-  V = turned S n t.state t.sends r.row.history
+  V = turned S n t.state t.sends r.handler.history
 
   pub waits-on : (ws : List Waiting) → AllByRecursion (λ x. WaitingFrom S.words n x.from x.letter) ws → AllByRecursion (λ x. WaitingFrom V.words n x.from x.letter) ws
   waits-on ws k = all-mono _ _ (λ x p. waiting-later S.words V.words n came x.from x.letter p) ws k
     where
       came : (h term j : ℕ) → CameOk S.words h n term j → CameOk V.words h n term j
-      came = came-still S.words V.words n (row-later S.words n t r.row) (others-after S.words n t.state t.sends r.row.history)
+      came = came-still S.words V.words n (handler-later S.words n t r.handler) (others-after S.words n t.state t.sends r.handler.history)
 
   pub asks-on : (ws : List Waiting) → AllByRecursion (λ x. AskedOk S x.from x.letter) ws → AllByRecursion (λ x. AskedOk V x.from x.letter) ws
-  asks-on ws k = all-mono _ _ (λ x p. asked-worded S V.words.agents V.words.channel r.row.history x.from x.letter p) ws k
+  asks-on ws k = all-mono _ _ (λ x p. asked-worded S V.words.agents V.words.channel r.handler.history x.from x.letter p) ws k
 
 waited-each : (E : Database) (n stamp : ℕ) (ws : List Waiting) (S : LogState) → word.Holds S.words → Rest S → 0 < word.start_at S.words n
     → AllByRecursion (λ x. WaitingFrom S.words n x.from x.letter) ws → AllByRecursion (λ x. AskedOk S x.from x.letter) ws
-    → AgentRow S n (takes_each E S.words.deployment n stamp ws (S.words.agents n))
+    → AgentHandler S n (takes_each E S.words.deployment n stamp ws (S.words.agents n))
 waited-each E n stamp [] S h r up w asked = stay-agent S n h r up
 waited-each E n stamp (x ∷ xs) S h r up w asked = then-agent S n t (takes_each E S.words.deployment n stamp xs) first (none-taken E S.words.deployment n stamp xs)
     (λ k q u. waited-each E n stamp xs (V S n t first) k q u (waits-on S n t first xs w.1) (asks-on S n t first xs asked.1))
@@ -105,12 +105,12 @@ waited-each E n stamp (x ∷ xs) S h r up w asked = then-agent S n t (takes_each
     t : Turn AgentState
     t = unless_stopped E S.words.deployment n stamp (S.words.agents n) x.from x.letter
 
-    first : AgentRow S n t
-    first = row-waited E S n stamp x.from x.letter h r up w.0 asked.0
+    first : AgentHandler S n t
+    first = handler-waited E S n stamp x.from x.letter h r up w.0 asked.0
 
 -- those of the term that the agent has come to
 waited-agent : (E : Database) (S : LogState) (n stamp : ℕ) → word.Holds S.words → Rest S → 0 < word.start_at S.words n
-    → AgentRow S n (takes_waiting E S.words.deployment n stamp (S.words.agents n))
+    → AgentHandler S n (takes_waiting E S.words.deployment n stamp (S.words.agents n))
 waited-agent E S n stamp h r up = then-agent S n t (takes_each E S.words.deployment n stamp ws) first (none-taken E S.words.deployment n stamp ws)
     (λ k q u. waited-each E n stamp ws (V S n t first) k q u
     (waits-on S n t first ws (all-filter (WaitingOk S.words n) (λ w. w.letter.term == term) (S.words.agents n).waiting (h.agents n).waiting))
@@ -125,8 +125,8 @@ waited-agent E S n stamp h r up = then-agent S n t (takes_each E S.words.deploym
     t : Turn AgentState
     t = becomes (record (S.words.agents n) { waiting = above_term term (S.words.agents n).waiting })
 
-    first : AgentRow S n t
-    first = plain-agent S n t r (row-plain S.words n t (inl (refl, up)) (waiting-shrinks S.words n (λ w. nat_lt term w.letter.term) h)) (record {
+    first : AgentHandler S n t
+    first = plain-agent S n t r (handler-plain S.words n t (inl (refl, up)) (waiting-shrinks S.words n (λ w. nat_lt term w.letter.term) h)) (record {
       start = refl;
       decided = refl;
       taken = refl;
@@ -155,21 +155,21 @@ module _ (E : Database) (S : LogState) (n stamp : ℕ) (from : Actor) (l : Lette
   asks = first-asks S from n l ls (rest-of S H) is
 
   -- it is taken, and then those that waited for the term
-  taken-agent : arrival a.start (term_in a.decided) l ≡ Taken → AgentRow P n (row_and_word E S.words.deployment n stamp a from l ▸ takes_waiting E S.words.deployment n stamp)
-  taken-agent e = then-agent P n (row_and_word E S.words.deployment n stamp a from l) (takes_waiting E S.words.deployment n stamp) first (none-waited E S.words.deployment n stamp)
-      (waited-agent E (turned P n t.state t.sends first.row.history) n stamp)
+  taken-agent : arrival a.start (term_in a.decided) l ≡ Taken → AgentHandler P n (handler_and_word E S.words.deployment n stamp a from l ▸ takes_waiting E S.words.deployment n stamp)
+  taken-agent e = then-agent P n (handler_and_word E S.words.deployment n stamp a from l) (takes_waiting E S.words.deployment n stamp) first (none-waited E S.words.deployment n stamp)
+      (waited-agent E (turned P n t.state t.sends first.handler.history) n stamp)
     where
       t : Turn AgentState
-      t = row_and_word E S.words.deployment n stamp a from l
+      t = handler_and_word E S.words.deployment n stamp a from l
 
-      first : AgentRow P n t
-      first = subst (AgentRow P n) (then-assoc (agent_row E S.words.deployment n stamp a from l) (tells n a.own) (concludes S.words.deployment n))
-          (concluded-agent P n (agent_row E S.words.deployment n stamp a from l ▸ tells n a.own)
+      first : AgentHandler P n t
+      first = subst (AgentHandler P n) (then-assoc (agent_handler E S.words.deployment n stamp a from l) (tells n a.own) (concludes S.words.deployment n))
+          (concluded-agent P n (agent_handler E S.words.deployment n stamp a from l ▸ tells n a.own)
           (first-agent P n left up E stamp from l asks (decided-pops S from n l ls H.words is)
-          (row-event E S.words n stamp from l ls H.words up is e (may-join P n left up from l asks))))
+          (handler-event E S.words n stamp from l ls H.words up is e (may-join P n left up from l asks))))
 
   -- it waits for its term
-  waits-agent : arrival a.start (term_in a.decided) l ≡ Waits → AgentRow P n (becomes (record a { waiting = a.waiting ++ record { from = from; letter = l } ∷ [] }))
+  waits-agent : arrival a.start (term_in a.decided) l ≡ Waits → AgentHandler P n (becomes (record a { waiting = a.waiting ++ record { from = from; letter = l } ∷ [] }))
   waits-agent e = plain-agent P n (becomes (record a { waiting = a.waiting ++ record { from = from; letter = l } ∷ [] })) left
       (waits-event S.words n from l ls H.words up is e) (record {
         start = refl;
@@ -183,30 +183,30 @@ module _ (E : Database) (S : LogState) (n stamp : ℕ) (from : Actor) (l : Lette
       })
 
   -- it is dropped
-  dropped-agent : Row (MayJoin P) P.words n (becomes a) → AgentRow P n (becomes a)
-  dropped-agent row = plain-agent P n (becomes a) left row (stay-plain P n left)
+  dropped-agent : Handler (MayJoin P) P.words n (becomes a) → AgentHandler P n (becomes a)
+  dropped-agent handler = plain-agent P n (becomes a) left handler (stay-plain P n left)
 
-  runs-agent : (x : Arrival) → arrival a.start (term_in a.decided) l ≡ x → AgentRow P n (agent_runs E S.words.deployment n stamp a from l)
-  runs-agent Taken e = subst (AgentRow P n) (sym (runs-taken E S.words.deployment n stamp a from l e)) (taken-agent e)
-  runs-agent Waits e = subst (AgentRow P n) (sym (runs-waits E S.words.deployment n stamp a from l e)) (waits-agent e)
-  runs-agent Refused e = subst (AgentRow P n) (sym (runs-refused E S.words.deployment n stamp a from l e)) (dropped-agent (refused-event S.words n from l ls H.words up is e))
+  runs-agent : (x : Arrival) → arrival a.start (term_in a.decided) l ≡ x → AgentHandler P n (agent_runs E S.words.deployment n stamp a from l)
+  runs-agent Taken e = subst (AgentHandler P n) (sym (runs-taken E S.words.deployment n stamp a from l e)) (taken-agent e)
+  runs-agent Waits e = subst (AgentHandler P n) (sym (runs-waits E S.words.deployment n stamp a from l e)) (waits-agent e)
+  runs-agent Refused e = subst (AgentHandler P n) (sym (runs-refused E S.words.deployment n stamp a from l e)) (dropped-agent (refused-event S.words n from l ls H.words up is e))
 
   -- it stops
   stops-agent : (t : Turn AgentState) → t.state ≡ new_agent 0 → ((g : ℕ) → t.sends (Agent g) ≡ (stops S.words.deployment n a.start).sends (Agent g))
-      → ((c : ℕ) → AllByRecursion NoView (t.sends (Site c))) → AgentRow P n t
-  stops-agent t z sends sites = stopped-agent P n t left (none-row (stop-pops S.words from n l ls t is H.words up z sends)) z sites
+      → ((c : ℕ) → AllByRecursion NoView (t.sends (Site c))) → AgentHandler P n t
+  stops-agent t z sends sites = stopped-agent P n t left (none-handler (stop-pops S.words from n l ls t is H.words up z sends)) z sites
       (λ g. subst (AllByRecursion NoAdmit) (sym (sends g)) (stops-none S.words.deployment n a.start g))
 
-  takes-agent : Takes E S.words.deployment n stamp a from l → AgentRow P n (agent_takes E S.words.deployment n stamp a from l)
-  takes-agent (Stops_ e) = subst (AgentRow P n) (sym e) (stops-agent (stops S.words.deployment n a.start) refl (λ g. refl) (stops-plain S.words.deployment n a.start))
-  takes-agent (Ignores e c) = subst (AgentRow P n) (sym e) (dropped-agent (ignored-event S.words n from l ls H.words up is c))
-  takes-agent (Runs_ e c) = subst (AgentRow P n) (sym e) (runs-agent (arrival a.start (term_in a.decided) l) refl)
+  takes-agent : Takes E S.words.deployment n stamp a from l → AgentHandler P n (agent_takes E S.words.deployment n stamp a from l)
+  takes-agent (Stops_ e) = subst (AgentHandler P n) (sym e) (stops-agent (stops S.words.deployment n a.start) refl (λ g. refl) (stops-plain S.words.deployment n a.start))
+  takes-agent (Ignores e c) = subst (AgentHandler P n) (sym e) (dropped-agent (ignored-event S.words n from l ls H.words up is c))
+  takes-agent (Runs_ e c) = subst (AgentHandler P n) (sym e) (runs-agent (arrival a.start (term_in a.decided) l) refl)
 
-  running-agent : (o : Outside) → AgentRow P n (agent_turn E S.words.deployment n stamp a from l o)
+  running-agent : (o : Environment) → AgentHandler P n (agent_turn E S.words.deployment n stamp a from l o)
   running-agent o = elim (turn-cases E S.words.deployment n stamp a from l o running) [
-    | inl e ↦ subst (AgentRow P n) (sym e)
+    | inl e ↦ subst (AgentHandler P n) (sym e)
         (stops-agent (stops_with_host S.words.deployment n a.start) refl (λ g. refl) (stops_with_host-plain S.words.deployment n a.start))
-    | inr e ↦ subst (AgentRow P n) (sym e) (takes-agent (takes-cases E S.words.deployment n stamp a from l running))
+    | inr e ↦ subst (AgentHandler P n) (sym e) (takes-agent (takes-cases E S.words.deployment n stamp a from l running))
   ]
     where
       running : (a.start == 0) ≡ false
@@ -223,16 +223,16 @@ pub record AgentGoes (S : LogState) (n : ℕ) (from : Actor) (t : Turn AgentStat
   pub by : (x : Admitted) → In x history.admitted → In x S.words.history.admitted ⊎ ((x.by ≡ word.start_at S.words n) × (0 < word.start_at S.words n))
   pub holds : Holds (record S { words = word_moves.after (word_moves.popped S.words from n) n t.state t.sends history })
 
-row-goes : (S : LogState) (n : ℕ) (from : Actor) (t : Turn AgentState) → AgentRow (heard S from n) n t → AgentGoes S n from t
-row-goes S n from t r = record {
-  history = r.row.history;
-  grows = row-grows r.row;
-  goes = elim r.row.goes [
+handler-goes : (S : LogState) (n : ℕ) (from : Actor) (t : Turn AgentState) → AgentHandler (heard S from n) n t → AgentGoes S n from t
+handler-goes S n from t r = record {
+  history = r.handler.history;
+  grows = handler-grows r.handler;
+  goes = elim r.handler.goes [
     | inl e ↦ inl e.0
     | inr z ↦ inr (ap (λ a. a.own) z)
   ];
-  by = r.row.by;
-  holds = holds-of (turned (heard S from n) n t.state t.sends r.row.history) r.row.holds r.rest;
+  by = r.handler.by;
+  holds = holds-of (turned (heard S from n) n t.state t.sends r.handler.history) r.handler.holds r.rest;
 }
 
 -- one that is stopped, and stays so
@@ -320,18 +320,18 @@ stopped-memory S n from l ls h z host is some =
     started (Site i) s l e b u = absurd (not-some u)
     started (Scanner i) s l e b u = absurd (not-some u)
 
--- A message of an agent that is there, with any share of the outside's: what holds, holds after its turn.
-pub agent-event : (E : Database) (S : LogState) (n stamp : ℕ) (from : Actor) (l : Letter) (ls : List Letter) (o : Outside) → S.words.channel from (Agent n) ≡ l ∷ ls
+-- A message of an agent that is there, with any share of the environment's: what holds, holds after its turn.
+pub agent-event : (E : Database) (S : LogState) (n stamp : ℕ) (from : Actor) (l : Letter) (ls : List Letter) (o : Environment) → S.words.channel from (Agent n) ≡ l ∷ ls
     → is_host S.words.deployment n ≡ true → ((answered : ℕ) → o ≡ NoMemory answered → nat_lt 0 (start_after (S.words.agents n) from l) ≡ true) → Holds S
     → AgentGoes S n from (agent_turn E S.words.deployment n stamp (S.words.agents n) from l o)
 agent-event E S n stamp from l ls o is host memory h = elim (cases_eq (word.start_at S.words n) 0) [
   | inl z ↦ stopped o z memory
-  | inr r ↦ row-goes S n from (agent_turn E S.words.deployment n stamp (S.words.agents n) from l o) (running-agent E S n stamp from l ls h (omega (arith, r)) is o)
+  | inr r ↦ handler-goes S n from (agent_turn E S.words.deployment n stamp (S.words.agents n) from l o) (running-agent E S n stamp from l ls h (omega (arith, r)) is o)
 ]
   where
-    stopped : (o : Outside) → word.start_at S.words n ≡ 0 → ((answered : ℕ) → o ≡ NoMemory answered → nat_lt 0 (start_after (S.words.agents n) from l) ≡ true)
+    stopped : (o : Environment) → word.start_at S.words n ≡ 0 → ((answered : ℕ) → o ≡ NoMemory answered → nat_lt 0 (start_after (S.words.agents n) from l) ≡ true)
         → AgentGoes S n from (agent_turn E S.words.deployment n stamp (S.words.agents n) from l o)
-    stopped Fair z m = stopped-takes E S n stamp from l ls h z host is
+    stopped NoFault z m = stopped-takes E S n stamp from l ls h z host is
     stopped (DiskFails answered) z m = stopped-takes E S n stamp from l ls h z host is
     stopped (NoMemory answered) z m = stopped-memory S n from l ls h z host is (m answered refl)
     stopped (DisksShow shown failed) z m = stopped-takes E S n stamp from l ls h z host is

@@ -1,4 +1,4 @@
--- What an agent says to sites: in most rows neither a start nor a word.
+-- What an agent says to sites: in most handlers neither a start nor a word.
 use Rattle.std.proofs.Common.{◌≡◌, ◌+◌, Bool, true, false, List, [], ◌∷◌, ◌++◌, refl, subst, ◌∙◌, ◌==◌}
 use Rattle.std.specs.Prelude.{ℕ, ◌&&◌, not, if◌then◌else◌, Option, Some, None, nat_lt}
 use Rattle.std.specs.List.{AllByRecursion}
@@ -14,7 +14,7 @@ use Rattle.cluster_model.specs.Words.{Deployment, part_of_slot, all_parts, is_in
 use Rattle.cluster_model.specs.Letters.{Blocks, same, Letter, Turn, becomes, sending, ◌▸◌, open_letter, letter_to, only}
 use Rattle.cluster_model.specs.AgentState.{AgentState, Phase, Off, Hears, Closes, Idle, Works, Work, Job, RunCall, TakeSnapshot, Queued, Job_, Admission, Heard, answers_client, on_reply, stops, stops_with_host}
 use Rattle.cluster_model.specs.Initiator.{to_leader, to_leaders, to_all_leaders, begins, admitting, works_queue, if_idle, queues, answers, no_work, with_work, with_phase, all_finished, open_told, rests, ends_job, goes_on, feeds, ends_round, gathers, on_frag_done, settles, on_finished, done_to, closes_open, greatest_told, first_number, hears, on_mp_state}
-use Rattle.cluster_model.specs.Agent.{to_slot, to_partition, to_initiator, hands_on, unless_down, on_call, on_closed, on_word, on_hello, says, word_to, from_agent, from_site, from_director, from_client, agent_row}
+use Rattle.cluster_model.specs.Agent.{to_slot, to_partition, to_initiator, hands_on, unless_down, on_call, on_closed, on_word, on_hello, says, word_to, from_agent, from_site, from_director, from_client, agent_handler}
 use Rattle.word_laws.proofs.Lists.{all-append, all-if}
 use Rattle.word_laws.proofs.Turns.{tells}
 
@@ -183,7 +183,7 @@ on_finished-calls E D n a Works (Some w) p m =
     elim w.decision as (λ x. Calls a.loaded (elim x as (λ _. Turn AgentState) [
       | None ↦ becomes a
       | Some d ↦
-          if w.m == m
+          if w.transaction == m
           then (if all_finished (all_parts D) done.finished then ends_job E D n (with_work a done) w.job d.end else becomes (with_work a done))
           else becomes a
     ])) [
@@ -299,7 +299,7 @@ says-calls n a (Some w) = record {
 pub tells-calls : (n : ℕ) (before : Option Membership) (a : AgentState) → Calls a.loaded (tells n before a)
 tells-calls n before a = calls-if a.loaded _ _ _ (says-calls n a a.own) (becomes-calls a)
 
--- ---- the rows
+-- ---- the handlers
 
 -- the messages upon which it says more
 abbrev pub SaysMore : Actor → Letter → Type 0
@@ -349,13 +349,13 @@ from_client-calls D a n l = elim l.body as (λ m. Calls a.loaded (from_client D 
   | m ↦ becomes-calls a
 ]
 
--- All rows but these two say no word to a site, and don't ask to be admitted.
-pub row-calls : (E : Database) (D : Deployment) (n stamp : ℕ) (a : AgentState) (from : Actor) (l : Letter) → (SaysMore from l → ⊥) → Calls a.loaded (agent_row E D n stamp a from l)
-row-calls E D n stamp a Director l none = from_director-calls E D n a l
-row-calls E D n stamp a (Client c) l none = from_client-calls D a c l
-row-calls E D n stamp a (Agent g) l none = from_agent-calls E D n stamp a g l none
-row-calls E D n stamp a (Site s) l none = from_site-calls E D n stamp a s l none
-row-calls E D n stamp a (Scanner x) l none = becomes-calls a
+-- All handlers but these two say no word to a site, and don't ask to be admitted.
+pub handler-calls : (E : Database) (D : Deployment) (n stamp : ℕ) (a : AgentState) (from : Actor) (l : Letter) → (SaysMore from l → ⊥) → Calls a.loaded (agent_handler E D n stamp a from l)
+handler-calls E D n stamp a Director l none = from_director-calls E D n a l
+handler-calls E D n stamp a (Client c) l none = from_client-calls D a c l
+handler-calls E D n stamp a (Agent g) l none = from_agent-calls E D n stamp a g l none
+handler-calls E D n stamp a (Site s) l none = from_site-calls E D n stamp a s l none
+handler-calls E D n stamp a (Scanner x) l none = becomes-calls a
 
 -- ---- an agent that stops
 

@@ -18,7 +18,7 @@ use Rattle.word_laws.proofs.Moves.{Grows}
 use Rattle.word_laws.proofs.Worlds.{grows-same}
 use Rattle.word_laws.proofs.Turns.{tells, tells-state}
 use Rattle.word_laws.proofs.Steps.{after-after}
-use Rattle.word_laws.proofs.Hearings.{Row, row-grows, stay-row, agent-there, after-row, then-quiet}
+use Rattle.word_laws.proofs.Hearings.{Handler, handler-grows, stay-handler, agent-there, after-handler, then-inert}
 use Rattle.log_laws.specs.Histories.{LogState, LoadedOk, AllLoaded, AskedOk, QueuedOk, ForeignOk, LoadsOk, ViewsOk, Holds, sent_term, from_agent}
 use Rattle.log_laws.proofs.Agents.Words.{SitesHold, sites-hold, sites-kept}
 use Rattle.log_laws.proofs.Agents.AgentSends.{NoView, NoAdmit, Calls, tells-calls}
@@ -45,7 +45,7 @@ holds-of S w r = record {
   loads = r.loads;
   entered = r.sites.entered;
   streamed = r.sites.streamed;
-  reigns = r.sites.reigns;
+  leaderships = r.sites.leaderships;
   unled = r.sites.unled;
   some = r.sites.some;
   first = r.sites.first;
@@ -113,14 +113,14 @@ abbrev pub MayJoin : LogState → ℕ → ℕ → Type 0
 MayJoin S j h = AllLoaded S h j
 
 -- A turn of an agent that goes on or has stopped: what holds of words, and the rest.
-pub record AgentRow (S : LogState) (n : ℕ) (t : Turn AgentState) : Type 0 where
-  pub row : Row (MayJoin S) S.words n t
-  pub rest : Rest (turned S n t.state t.sends row.history)
+pub record AgentHandler (S : LogState) (n : ℕ) (t : Turn AgentState) : Type 0 where
+  pub handler : Handler (MayJoin S) S.words n t
+  pub rest : Rest (turned S n t.state t.sends handler.history)
 
 -- who is admitted in it
-pub row-admits : (S : LogState) (n : ℕ) (t : Turn AgentState) → Rest S → (r : Row (MayJoin S) S.words n t) → (x : Admitted) → In x r.history.admitted
+pub handler-admits : (S : LogState) (n : ℕ) (t : Turn AgentState) → Rest S → (r : Handler (MayJoin S) S.words n t) → (x : Admitted) → In x r.history.admitted
     → AllLoaded S (S.words.owner x.start) x.start
-row-admits S n t r row x i = elim (row.admits x i) [
+handler-admits S n t r handler x i = elim (handler.admits x i) [
   | inl k ↦ r.loads.admitted x k
   | inr k ↦ k
 ]
@@ -190,19 +190,19 @@ plain-rest S n t G r g admitted p = rest-turned S n t.state t.sends G r (record 
     sent : (c : ℕ) → host_of_slot S.words.deployment c ≡ n → 0 < t.state.start → SentUpTo S c t.state.start (sent_term t.state) (S.words.channel (Agent n) (Site c))
     sent c e u = rw (p.start, sent_term-same (S.words.agents n) t.state p.decided p.taken) ((was c e).below (subst (λ s. 0 < s) p.start u))
 
-pub plain-agent : (S : LogState) (n : ℕ) (t : Turn AgentState) → Rest S → Row (MayJoin S) S.words n t → PlainTurn S n t → AgentRow S n t
-plain-agent S n t r row p = record { row = row; rest = plain-rest S n t row.history r (row-grows row) (row-admits S n t r row) p }
+pub plain-agent : (S : LogState) (n : ℕ) (t : Turn AgentState) → Rest S → Handler (MayJoin S) S.words n t → PlainTurn S n t → AgentHandler S n t
+plain-agent S n t r handler p = record { handler = handler; rest = plain-rest S n t handler.history r (handler-grows handler) (handler-admits S n t r handler) p }
 
 -- ---- one in which it stops
 
-pub stopped-agent : (S : LogState) (n : ℕ) (t : Turn AgentState) → Rest S → Row (MayJoin S) S.words n t → t.state ≡ new_agent 0
-    → ((c : ℕ) → AllByRecursion NoView (t.sends (Site c))) → ((g : ℕ) → AllByRecursion NoAdmit (t.sends (Agent g))) → AgentRow S n t
-stopped-agent S n t r row z sites agents = record {
-  row = row;
-  rest = rest-turned S n t.state t.sends row.history r (record {
-    grows = row-grows row;
+pub stopped-agent : (S : LogState) (n : ℕ) (t : Turn AgentState) → Rest S → Handler (MayJoin S) S.words n t → t.state ≡ new_agent 0
+    → ((c : ℕ) → AllByRecursion NoView (t.sends (Site c))) → ((g : ℕ) → AllByRecursion NoAdmit (t.sends (Agent g))) → AgentHandler S n t
+stopped-agent S n t r handler z sites agents = record {
+  handler = handler;
+  rest = rest-turned S n t.state t.sends handler.history r (record {
+    grows = handler-grows handler;
     views = λ c e. views-plainly T c n t.state (S.words.channel (Agent n) (Site c))
-        (views-later S T.words.agents T.words.channel row.history (row-grows row) c n (S.words.agents n) t.state (S.words.channel (Agent n) (Site c)) (views-in S c n e (r.views c))
+        (views-later S T.words.agents T.words.channel handler.history (handler-grows handler) c n (S.words.agents n) t.state (S.words.channel (Agent n) (Site c)) (views-in S c n e (r.views c))
         (λ u. absurd (off u)) (λ u. absurd (off u)))
         (t.sends (Site c)) (sites c);
     foreign = λ c. plain-foreign S c n (t.sends (Site c)) (sites c);
@@ -211,18 +211,18 @@ stopped-agent S n t r row z sites agents = record {
       asked = λ g. all-mono NoAdmit (AskedOk S (Agent n)) (none-asked S n) (t.sends (Agent g)) (agents g);
       waiting = rw z tt;
       queued = rw z tt;
-      admitted = row-admits S n t r row;
+      admitted = handler-admits S n t r handler;
     };
   });
 }
   where
     T : LogState
-    T = turned S n t.state t.sends row.history
+    T = turned S n t.state t.sends handler.history
 
     off : 0 < t.state.start → ⊥
     off u = let e : t.state.start ≡ 0 = ap (λ a. a.start) z in absurd (omega (arith, u, e))
 
--- ---- what follows a row
+-- ---- what follows a handler
 
 -- the agent stays as it is
 pub stay-plain : (S : LogState) (n : ℕ) → Rest S → PlainTurn S n (becomes (S.words.agents n))
@@ -237,8 +237,8 @@ stay-plain S n r = record {
   queued = r.loads.queued n;
 }
 
-pub stay-agent : (S : LogState) (n : ℕ) → word.Holds S.words → Rest S → 0 < word.start_at S.words n → AgentRow S n (becomes (S.words.agents n))
-stay-agent S n h r up = plain-agent S n (becomes (S.words.agents n)) r (stay-row S.words n (inl (refl, up)) h) (stay-plain S n r)
+pub stay-agent : (S : LogState) (n : ℕ) → word.Holds S.words → Rest S → 0 < word.start_at S.words n → AgentHandler S n (becomes (S.words.agents n))
+stay-agent S n h r up = plain-agent S n (becomes (S.words.agents n)) r (stay-handler S.words n (inl (refl, up)) h) (stay-plain S n r)
 
 -- it says its word to the others
 pub tells-plain : (S : LogState) (n : ℕ) (t : Turn AgentState) (before : Option Membership) → PlainTurn S n t → PlainTurn S n (t ▸ tells n before)
@@ -261,22 +261,22 @@ tells-plain S n t before p = record {
     calls = tells-calls n before t.state
 
 -- One turn, and then another one of an agent that goes on. One that has stopped does nothing then.
-pub then-agent : (S : LogState) (n : ℕ) (t : Turn AgentState) (f : AgentState → Turn AgentState) (r : AgentRow S n t) → f (new_agent 0) ≡ becomes (new_agent 0)
-    → (let T = turned S n t.state t.sends r.row.history in word.Holds T.words → Rest T → 0 < word.start_at T.words n → AgentRow T n (f (T.words.agents n))) → AgentRow S n (t ▸ f)
-then-agent S n t f r silent g = elim r.row.goes [
-  | inl q ↦ both (subst (λ z. AgentRow T n (f z)) here (g r.row.holds r.rest (subst (λ x. 0 < x) (sym (ap (λ x. x.start) here ∙ q.0)) q.1)))
-  | inr z ↦ subst (AgentRow S n) (sym (then-quiet t f (ap f z ∙ silent ∙ ap becomes (sym z)))) r
+pub then-agent : (S : LogState) (n : ℕ) (t : Turn AgentState) (f : AgentState → Turn AgentState) (r : AgentHandler S n t) → f (new_agent 0) ≡ becomes (new_agent 0)
+    → (let T = turned S n t.state t.sends r.handler.history in word.Holds T.words → Rest T → 0 < word.start_at T.words n → AgentHandler T n (f (T.words.agents n))) → AgentHandler S n (t ▸ f)
+then-agent S n t f r silent g = elim r.handler.goes [
+  | inl q ↦ both (subst (λ z. AgentHandler T n (f z)) here (g r.handler.holds r.rest (subst (λ x. 0 < x) (sym (ap (λ x. x.start) here ∙ q.0)) q.1)))
+  | inr z ↦ subst (AgentHandler S n) (sym (then-inert t f (ap f z ∙ silent ∙ ap becomes (sym z)))) r
 ]
   where
     T : LogState
-    T = turned S n t.state t.sends r.row.history
+    T = turned S n t.state t.sends r.handler.history
 
     here : T.words.agents n ≡ t.state
-    here = agent-there S.words n t.state t.sends r.row.history
+    here = agent-there S.words n t.state t.sends r.handler.history
 
-    both : AgentRow T n (f t.state) → AgentRow S n (t ▸ f)
-    both q = let k = after-row S.words n t f r.row q.row in record {
-      row = k.0;
+    both : AgentHandler T n (f t.state) → AgentHandler S n (t ▸ f)
+    both q = let k = after-handler S.words n t f r.handler q.handler in record {
+      handler = k.0;
       rest = subst (λ G. Rest (turned S n (f t.state).state (λ b. t.sends b ++ (f t.state).sends b) G)) (sym k.1)
-          (subst (λ w. Rest (record S { words = w })) (after-after S.words n t.state (f t.state).state t.sends (f t.state).sends r.row.history q.row.history) q.rest);
+          (subst (λ w. Rest (record S { words = w })) (after-after S.words n t.state (f t.state).state t.sends (f t.state).sends r.handler.history q.handler.history) q.rest);
     }

@@ -15,7 +15,7 @@ use Rattle.word_laws.specs.Histories as word
 use Rattle.word_laws.specs.Histories.{In, names}
 use Rattle.word_laws.proofs.Lists.{all-mono, all-append, some-here, none-and-some, in-none}
 use Rattle.word_laws.proofs.Members.{is_member-start}
-use Rattle.word_laws.proofs.Hearings.{Row, row-grows, agent-there, decides-row}
+use Rattle.word_laws.proofs.Hearings.{Handler, handler-grows, agent-there, decides-handler}
 use Rattle.word_laws.proofs.Rejoins.{with_began, start-grows}
 use Rattle.word_laws.proofs.Turns.{Decides, decides-state, decides-sends, may_decide-cases, tells, tells-state, concludes, concludes-not, concludes-is}
 use Rattle.log_laws.specs.Histories.{LogState, LoadedOk, AskedOk, ForeignOk, sent_term, start_at, views}
@@ -23,7 +23,7 @@ use Rattle.log_laws.proofs.Agents.AgentSends.{NoView, NoAdmit, Calls, tells-call
 use Rattle.log_laws.proofs.Agents.Decided.{decides-above}
 use Rattle.log_laws.proofs.Agents.Views.{turned, Unsent, SentUpTo, ViewsIn, views-in, views-later, views-plainly, views-start, views-next}
 use Rattle.log_laws.proofs.Agents.Admits.{none-asked}
-use Rattle.log_laws.proofs.Agents.AgentTurns.{Rest, MayJoin, AgentRow, rest-turned, plain-foreign, row-admits, stay-agent}
+use Rattle.log_laws.proofs.Agents.AgentTurns.{Rest, MayJoin, AgentHandler, rest-turned, plain-foreign, handler-admits, stay-agent}
 
 -- a slot of a host
 slot-host : (S : LogState) (n c : ℕ) → is_slot_of S.words.deployment n c ≡ true → host_of_slot S.words.deployment c ≡ n
@@ -38,8 +38,8 @@ has-begun : (S : LogState) (n : ℕ) → word.Holds S.words → 0 < word.start_a
 has-begun S n h up = let k = (h.hosts n).last up in subst (In (word.start_at S.words n)) (sym k.1) (inl refl)
 
 -- what is known of the agent after its turn
-agent-ok : (S : LogState) (n : ℕ) (t : Turn AgentState) (row : Row (MayJoin S) S.words n t) → word.AgentOk (turned S n t.state t.sends row.history).words n t.state
-agent-ok S n t row = subst (word.AgentOk (turned S n t.state t.sends row.history).words n) (agent-there S.words n t.state t.sends row.history) (row.holds.agents n)
+agent-ok : (S : LogState) (n : ℕ) (t : Turn AgentState) (handler : Handler (MayJoin S) S.words n t) → word.AgentOk (turned S n t.state t.sends handler.history).words n t.state
+agent-ok S n t handler = subst (word.AgentOk (turned S n t.state t.sends handler.history).words n) (agent-there S.words n t.state t.sends handler.history) (handler.holds.agents n)
 
 -- ---- a joiner takes its first word
 
@@ -78,12 +78,12 @@ module _ (S : LogState) (n : ℕ) (w : Membership) (h : word.Holds S.words) (r :
   other : (c : ℕ) → host_of_slot S.words.deployment c ≡ n → start_at S c ≡ a.start → ⊥
   other c e q = (none c e).1 (ran-with S c a.start r up q)
 
-  module _ (row : Row (MayJoin S) S.words n takes) where
+  module _ (handler : Handler (MayJoin S) S.words n takes) where
     abbrev T : LogState
-    T = turned S n joiner takes.sends row.history
+    T = turned S n joiner takes.sends handler.history
 
     before : (c : ℕ) → host_of_slot S.words.deployment c ≡ n → ViewsIn T c n joiner (ls c)
-    before c e = views-later S T.words.agents T.words.channel row.history (row-grows row) c n a joiner (ls c) (views-in S c n e (r.views c))
+    before c e = views-later S T.words.agents T.words.channel handler.history (handler-grows handler) c n a joiner (ls c) (views-in S c n e (r.views c))
         (λ u t d. absurd (none-and-some t refl))
         (λ u. (subst (AllByRecursion (λ v. term_of v ≤ sent_term joiner)) (sym (none c e).2) tt, λ q. absurd (other c e q)))
 
@@ -91,13 +91,13 @@ module _ (S : LogState) (n : ℕ) (w : Membership) (h : word.Holds S.words) (r :
     started c e false = views-plainly T c n joiner (ls c) (before c e) ((tells n a.own joiner).sends (Site c)) (calls.sites c)
     started c e true = subst (ViewsIn T c n joiner) (append_assoc (ls c) first ((tells n a.own joiner).sends (Site c)))
         (views-plainly T c n joiner (ls c ++ first)
-        (views-start T c n joiner (ls c) (before c e) w up (none c e) ((row-grows row).began n a.start (has-begun S n h up)) (agent-ok S n takes row).taken.0 refl
+        (views-start T c n joiner (ls c) (before c e) w up (none c e) ((handler-grows handler).began n a.start (has-begun S n h up)) (agent-ok S n takes handler).taken.0 refl
         (rw decided refl) (other c e))
         ((tells n a.own joiner).sends (Site c)) (calls.sites c))
 
     rest : Rest T
-    rest = rest-turned S n joiner takes.sends row.history r (record {
-      grows = row-grows row;
+    rest = rest-turned S n joiner takes.sends handler.history r (record {
+      grows = handler-grows handler;
       views = λ c e. started c e (is_slot_of S.words.deployment n c);
       foreign = λ c. all-append (ForeignOk S c (Agent n)) (if is_slot_of S.words.deployment n c then first else []) ((tells n a.own joiner).sends (Site c))
           (foreign c (is_slot_of S.words.deployment n c) refl) (plain-foreign S c n ((tells n a.own joiner).sends (Site c)) (calls.sites c));
@@ -106,12 +106,12 @@ module _ (S : LogState) (n : ℕ) (w : Membership) (h : word.Holds S.words) (r :
         asked = λ g. all-mono NoAdmit (AskedOk S (Agent n)) (none-asked S n) ((tells n a.own joiner).sends (Agent g)) (calls.agents g);
         waiting = r.loads.waiting n;
         queued = r.loads.queued n;
-        admitted = row-admits S n takes r row;
+        admitted = handler-admits S n takes r handler;
       };
     })
 
-  pub takes-agent : Row (MayJoin S) S.words n (takes_word S.words.deployment n a w ▸ tells n a.own) → AgentRow S n (takes_word S.words.deployment n a w ▸ tells n a.own)
-  takes-agent row = let k = subst (Row (MayJoin S) S.words n) takes-is row in subst (AgentRow S n) (sym takes-is) (record { row = k; rest = rest k })
+  pub takes-agent : Handler (MayJoin S) S.words n (takes_word S.words.deployment n a w ▸ tells n a.own) → AgentHandler S n (takes_word S.words.deployment n a w ▸ tells n a.own)
+  takes-agent handler = let k = subst (Handler (MayJoin S) S.words n) takes-is handler in subst (AgentHandler S n) (sym takes-is) (record { handler = k; rest = rest k })
 
 -- ---- a member decides its word
 
@@ -145,15 +145,15 @@ module _ (S : LogState) (n : ℕ) (v : Membership) (h : word.Holds S.words) (r :
   to-site c true e = (sym (slot-host S n c (and_parts (is_slot_of S.words.deployment n c) (not (is_down S.words.deployment v)) e).0), tt)
   to-site c false e = tt
 
-  module _ (row : Row (MayJoin S) S.words n decides) where
+  module _ (handler : Handler (MayJoin S) S.words n decides) where
     abbrev U : LogState
-    U = turned S n decides.state decides.sends row.history
+    U = turned S n decides.state decides.sends handler.history
 
     is : In v U.words.history.decided
-    is = (some-here (λ x. In x U.words.history.decided × (names x decides.state.start ≡ true)) decides.state.decided v state.decided (agent-ok S n decides row).decided).0
+    is = (some-here (λ x. In x U.words.history.decided × (names x decides.state.start ≡ true)) decides.state.decided v state.decided (agent-ok S n decides handler).decided).0
 
     above : sent_term was < term_of v
-    above = decides-above S.words U.words h row.holds n v up own may is row.decided row.took_word
+    above = decides-above S.words U.words h handler.holds n v up own may is handler.decided handler.took_word
 
     top : sent_term decides.state ≡ term_of v
     top = rw (state.decided, sent_term) refl
@@ -168,7 +168,7 @@ module _ (S : LogState) (n : ℕ) (v : Membership) (h : word.Holds S.words) (r :
     )
 
     kept : (c : ℕ) → host_of_slot S.words.deployment c ≡ n → ViewsIn U c n decides.state (channel-to c)
-    kept c e = views-later S U.words.agents U.words.channel row.history (row-grows row) c n was decides.state (channel-to c) (views-in S c n e (r.views c))
+    kept c e = views-later S U.words.agents U.words.channel handler.history (handler-grows handler) c n was decides.state (channel-to c) (views-in S c n e (r.views c))
         (λ u t d. absurd (none-and-some d state.decided))
         (λ u. subst (λ s. SentUpTo S c s (sent_term decides.state) (channel-to c)) (sym state.start) (higher c e))
 
@@ -177,12 +177,12 @@ module _ (S : LogState) (n : ℕ) (v : Membership) (h : word.Holds S.words) (r :
     seen c e true = subst (λ s. ViewsIn U c n decides.state (channel-to c ++ letter_to s (msg.View v) ∷ [])) state.start
         (views-next U c n decides.state (channel-to c) (kept c e) v (sent_term was) (rw state.start up) is
         (rw state.start (ap (start_of v) e ∙ is_member-start v n was.start (may_decide-cases n was v may).0))
-        (rw state.start ((row-grows row).began n was.start (has-begun S n h up))) state.decided
+        (rw state.start ((handler-grows handler).began n was.start (has-begun S n h up))) state.decided
         (subst (λ s. SentUpTo S c s (sent_term was) (channel-to c)) (sym state.start) (sent c e)) above)
 
     pub decides-rest : Rest U
-    decides-rest = rest-turned S n decides.state decides.sends row.history r (record {
-      grows = row-grows row;
+    decides-rest = rest-turned S n decides.state decides.sends handler.history r (record {
+      grows = handler-grows handler;
       views = λ c e. seen c e (is_slot_of S.words.deployment n c && not (is_down S.words.deployment v));
       foreign = λ c. to-site c (is_slot_of S.words.deployment n c && not (is_down S.words.deployment v)) refl;
       loads = record {
@@ -191,26 +191,26 @@ module _ (S : LogState) (n : ℕ) (v : Membership) (h : word.Holds S.words) (r :
             (decides-sends S.words.deployment n was v g);
         waiting = rw state.waiting (r.loads.waiting n);
         queued = rw state.queue (r.loads.queued n);
-        admitted = row-admits S n decides r row;
+        admitted = handler-admits S n decides r handler;
       };
     })
 
 -- It decides its word, or goes on as it was.
-pub concludes-agent : (S : LogState) (n : ℕ) → word.Holds S.words → Rest S → 0 < word.start_at S.words n → AgentRow S n (concludes S.words.deployment n (S.words.agents n))
+pub concludes-agent : (S : LogState) (n : ℕ) → word.Holds S.words → Rest S → 0 < word.start_at S.words n → AgentHandler S n (concludes S.words.deployment n (S.words.agents n))
 concludes-agent S n h r up = go (S.words.agents n).own refl
   where
-    stays : concludes S.words.deployment n (S.words.agents n) ≡ becomes (S.words.agents n) → AgentRow S n (concludes S.words.deployment n (S.words.agents n))
-    stays e = subst (AgentRow S n) (sym e) (stay-agent S n h r up)
+    stays : concludes S.words.deployment n (S.words.agents n) ≡ becomes (S.words.agents n) → AgentHandler S n (concludes S.words.deployment n (S.words.agents n))
+    stays e = subst (AgentHandler S n) (sym e) (stay-agent S n h r up)
 
-    go : (o : Option Membership) → (S.words.agents n).own ≡ o → AgentRow S n (concludes S.words.deployment n (S.words.agents n))
+    go : (o : Option Membership) → (S.words.agents n).own ≡ o → AgentHandler S n (concludes S.words.deployment n (S.words.agents n))
     go None e = stays (concludes-not S.words.deployment n (S.words.agents n) (ap (λ z. may_decide n (S.words.agents n) z) e))
     go (Some v) e = elim (cases_Bool (may_decide n (S.words.agents n) (Some v))) [
       | inl m ↦
-          let row = decides-row S.words h n S.words.deployment up v e m in
-          subst (AgentRow S n)
+          let handler = decides-handler S.words h n S.words.deployment up v e m in
+          subst (AgentHandler S n)
           (sym (concludes-is S.words.deployment n (S.words.agents n) (ap (λ z. may_decide n (S.words.agents n) z) e ∙ m) ∙ ap
           (decides_word S.words.deployment n (S.words.agents n)) e))
-          (record { row = row; rest = decides-rest S n v h r up e m row })
+          (record { handler = handler; rest = decides-rest S n v h r up e m handler })
       | inr m ↦ stays (concludes-not S.words.deployment n (S.words.agents n) (ap (λ z. may_decide n (S.words.agents n) z) e ∙ m))
     ]
 

@@ -43,8 +43,8 @@ module _ (S T : State) (H : Holds S) (K : Holds T) (n : ℕ) (v : Membership) (u
 
   tests : (is_member v n s ≡ true) × (is_word v (S.agents n).decided ≡ false)
   tests =
-      let front = (and_parts (is_member v n s && not (is_word v (S.agents n).decided)) (list_all (λ m. m.0 == n || is_word v ((S.agents n).said m.0)) (members v)) may).0 in
-      let both = and_parts (is_member v n s) (not (is_word v (S.agents n).decided)) front in
+      let prefix = (and_parts (is_member v n s && not (is_word v (S.agents n).decided)) (list_all (λ m. m.0 == n || is_word v ((S.agents n).said m.0)) (members v)) may).0 in
+      let both = and_parts (is_member v n s) (not (is_word v (S.agents n).decided)) prefix in
       (both.0, not-true (is_word v (S.agents n).decided) both.1)
 
   named : names v s ≡ true

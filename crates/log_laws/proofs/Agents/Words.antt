@@ -16,7 +16,7 @@ use Rattle.cluster_model.specs.SiteState.{Streamed, Joining, Joiner}
 use Rattle.word_laws.specs.Histories.{State}
 use Rattle.word_laws.proofs.Lists.{all-mono}
 use Rattle.word_laws.proofs.Moves.{Grows}
-use Rattle.log_laws.specs.Histories.{LogState, Entered, Streaming, Reign, Flow, IsSlot, HasBeen, AckOk, ReportOk, AskOk, CountedOk, EndOk, SiteLetterOk, MemberOk, Coming, Took, Quiet, Untaken, StreamIn, InWord, Wordless, ViewIn, JoinerOk, WaitingFrom, WaitingOk, KeepsOk, SiteOk, Came, EnteredOk, StreamedOk, ReignOk, UnledOk, WordOf, Holds, base_of, part, start_at, term_at, between, flow}
+use Rattle.log_laws.specs.Histories.{LogState, Entered, Streaming, Leadership, Flow, IsSlot, HasBeen, AckOk, ReportOk, AskOk, CountedOk, EndOk, SiteLetterOk, MemberOk, Coming, Took, Inert, Untaken, StreamIn, InWord, Wordless, ViewIn, JoinerOk, WaitingFrom, WaitingOk, KeepsOk, SiteOk, Came, EnteredOk, StreamedOk, LeadershipOk, UnledOk, WordOf, Holds, base_of, part, start_at, term_at, between, flow}
 
 -- what is under way between sites as in the first one, and else as in the second one
 abbrev between_sites : (Actor → Actor → List Letter) → (Actor → Actor → List Letter) → Actor → Actor → List Letter
@@ -54,11 +54,11 @@ module _ (S : LogState) (W : State) (contents : ℕ → List Shown) where
   coming : (c : ℕ) (w : Membership) (fl : List Flow) → Coming S c w fl → Coming T c w fl
   coming c w fl k = search
 
-  took : (c : ℕ) (w : Membership) (j : Joining) (nj : ℕ) → Took S c w j nj → Took T c w j nj
-  took c w j nj k = search
+  took : (c : ℕ) (w : Membership) (j : Joining) (stream_start : ℕ) → Took S c w j stream_start → Took T c w j stream_start
+  took c w j stream_start k = search
 
-  quiet : (c : ℕ) (w : Membership) (l : ℕ) → Quiet S c w l → Quiet T c w l
-  quiet c w l k = search
+  inert : (c : ℕ) (w : Membership) (l : ℕ) → Inert S c w l → Inert T c w l
+  inert c w l k = search
 
   untaken : (c : ℕ) (w : Membership) (j : Joining) → Untaken S c w j → Untaken T c w j
   untaken c w j k = record {
@@ -69,14 +69,14 @@ module _ (S : LogState) (W : State) (contents : ℕ → List Shown) where
     floor = k.floor;
     never = k.never;
     comes = λ l f e. elim (k.comes l f e) [
-      | inl q ↦ inl (quiet c w l q)
+      | inl q ↦ inl (inert c w l q)
       | inr q ↦ inr (coming c w (flow (start_at S c) (term_of w) (between S l c)) q.0, q.1)
     ];
   }
 
   stream : (c : ℕ) (w : Membership) (j : Joining) (st : Option Streamed) → StreamIn S c w j st → StreamIn T c w j st
   stream c w j None k = untaken c w j k
-  stream c w j (Some st) k = took c w j st.nj k
+  stream c w j (Some st) k = took c w j st.stream_start k
 
   wordless : (c : ℕ) (j : Joining) → Wordless S c j → Wordless T c j
   wordless c j k = search
@@ -143,7 +143,7 @@ module _ (S : LogState) (W : State) (contents : ℕ → List Shown) where
 
     site : (c : ℕ) → SiteOk S c → SiteOk T c
     site c k = record {
-      outside = k.outside;
+      environment = k.environment;
       ran = k.ran;
       term = k.term;
       earlier = k.earlier;
@@ -164,8 +164,8 @@ module _ (S : LogState) (W : State) (contents : ℕ → List Shown) where
     streamed : (c t : ℕ) (x : Streaming) → StreamedOk S c t x → StreamedOk T c t x
     streamed c t x k = search (been, g.took_word)
 
-    reigned : (p t : ℕ) (r : Reign) → ReignOk S p t r → ReignOk T p t r
-    reigned p t r k = record { word = k.word; is_word = word t k.word k.is_word; grown = k.grown; within = k.within; entered = k.entered; begun_by = rw g.first k.begun_by }
+    same-leadership-ok : (p t : ℕ) (r : Leadership) → LeadershipOk S p t r → LeadershipOk T p t r
+    same-leadership-ok p t r k = record { word = k.word; is_word = word t k.word k.is_word; grown = k.grown; within = k.within; entered = k.entered; begun_by = rw g.first k.begun_by }
 
 -- ---- the whole of it
 
@@ -175,10 +175,10 @@ pub record SitesHold (S : LogState) : Type 0 where
   pub letters : (i c : ℕ) → IsSlot S c → AllByRecursion (SiteLetterOk S i c) (between S i c)
   pub entered : (c t : ℕ) (e : Entered) → S.logs.entered c t ≡ Some e → EnteredOk S c t e
   pub streamed : (c t : ℕ) (x : Streaming) → S.logs.streamed c t ≡ Some x → StreamedOk S c t x
-  pub reigns : (p t : ℕ) (g : Reign) → S.logs.reign p t ≡ Some g → ReignOk S p t g
-  pub unled : (p t : ℕ) → S.logs.reign p t ≡ None → UnledOk S p t
+  pub leaderships : (p t : ℕ) (g : Leadership) → S.logs.leadership p t ≡ Some g → LeadershipOk S p t g
+  pub unled : (p t : ℕ) → S.logs.leadership p t ≡ None → UnledOk S p t
   pub some : 0 < base_of S
-  pub first : (p : ℕ) → (g : Reign) × (S.logs.reign p (base_of S) ≡ Some g)
+  pub first : (p : ℕ) → (g : Leadership) × (S.logs.leadership p (base_of S) ≡ Some g)
 
 pub sites-hold : (S : LogState) → Holds S → SitesHold S
 sites-hold S h = record {
@@ -186,7 +186,7 @@ sites-hold S h = record {
   letters = h.letters;
   entered = h.entered;
   streamed = h.streamed;
-  reigns = h.reigns;
+  leaderships = h.leaderships;
   unled = h.unled;
   some = h.some;
   first = h.first;
@@ -223,7 +223,7 @@ module _ (S : LogState) (W : State) (contents : ℕ → List Shown) (k : KeepsSi
     letters = λ i c s. all-mono (SiteLetterOk S i c) (SiteLetterOk (T S W contents) i c) (letter S W contents k.grows i c) (between S i c) (h.letters i c s);
     entered = λ c t e q. entered S W contents k.grows c t e (h.entered c t e q);
     streamed = λ c t x q. streamed S W contents k.grows c t x (h.streamed c t x q);
-    reigns = λ p t r q. reigned S W contents k.grows p t r (h.reigns p t r q);
+    leaderships = λ p t r q. same-leadership-ok S W contents k.grows p t r (h.leaderships p t r q);
     unled = h.unled;
     some = rw k.grows.first h.some;
     first = rw k.grows.first h.first;

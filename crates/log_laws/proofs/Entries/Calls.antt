@@ -19,25 +19,25 @@ use Rattle.word_laws.proofs.Lists.{all-append}
 use Rattle.log_laws.specs.Histories.{LogState, HeldOk, HeldFor, Holds, start_at}
 use Rattle.log_laws.proofs.Kept.Moves.{Goes}
 use Rattle.log_laws.proofs.Kept.Plumbing.{GoesFrom, goes-then, goes-same}
-use Rattle.log_laws.proofs.Kept.QuietTurns.{unwatched, quiet-becomes, calls-goes}
+use Rattle.log_laws.proofs.Kept.InertTurns.{unwatched, inert-becomes, calls-goes}
 use Rattle.log_laws.proofs.Kept.Rests.{part-from}
 use Rattle.log_laws.proofs.Entries.Leads.{leads-goes, leads-on}
 
 -- ---- one part behind another
 
 -- of a part that is shown for each state in which the site leads
-lead-from : (S : LogState) (i : ℕ) (s : SiteState) (part : Deployment → SiteState → Turn SiteState)
+authoritative-from : (S : LogState) (i : ℕ) (s : SiteState) (part : Deployment → SiteState → Turn SiteState)
     → ((T : LogState) → Holds T → 0 < start_at T i → leads T.words.deployment i (T.sites i) ≡ true → Goes T i (part T.words.deployment (T.sites i)))
     → 0 < s.start → leads S.words.deployment i s ≡ true → GoesFrom S i s (part S.words.deployment s)
-lead-from S i s part goes up lead T here same pending H =
+authoritative-from S i s part goes up authoritative T here same pending H =
     subst (λ D. Goes T i (part D s)) same (subst (λ x. Goes T i (part T.words.deployment x)) here
-    (goes T H (subst (λ x. 0 < x.start) (sym here) up) (subst (λ D. leads D i (T.sites i) ≡ true) (sym same) (subst (λ x. leads S.words.deployment i x ≡ true) (sym here) lead))))
+    (goes T H (subst (λ x. 0 < x.start) (sym here) up) (subst (λ D. leads D i (T.sites i) ≡ true) (sym same) (subst (λ x. leads S.words.deployment i x ≡ true) (sym here) authoritative))))
 
 -- ---- answers that are held
 
 -- an answer to an agent
 held-goes : (S : LogState) (i h : ℕ) (l : Letter) → HeldFor (Agent h) l → Holds S → Goes S i (becomes (holds (S.sites i) (Agent h) l))
-held-goes S i h l k H = quiet-becomes S i (holds (S.sites i) (Agent h) l) H
+held-goes S i h l k H = inert-becomes S i (holds (S.sites i) (Agent h) l) H
     (unwatched (S.sites i) (holds (S.sites i) (Agent h) l)
     (λ old. all-append HeldOk (S.sites i).held (record { position = length (S.sites i).log + 1; to = Agent h; letter = l } ∷ []) old (k, tt)))
 
@@ -45,26 +45,26 @@ held-goes S i h l k H = quiet-becomes S i (holds (S.sites i) (Agent h) l) H
 
 pub run-goes : (E : Database) (stamp : ℕ) (c : AskedCall) (T : LogState) (i : ℕ) → Holds T → 0 < start_at T i → leads T.words.deployment i (T.sites i) ≡ true
     → Goes T i (runs_call E T.words.deployment i stamp c (T.sites i))
-run-goes E stamp c T i H up lead =
+run-goes E stamp c T i H up authoritative =
     let e = Sp c.call stamp c.body in
     let reply = letter_to c.start (msg.Reply c.call c.start (end_of_reply (answer_behind E (part_of_slot T.words.deployment i) (T.sites i).log e))) in
     goes-then T i (becomes (holds (T.sites i) (Agent c.host) reply)) (leads_with E T.words.deployment i e) (held-goes T i c.host reply tt H)
-    (lead-from T i (holds (T.sites i) (Agent c.host) reply) (λ D. leads_with E D i e) (λ S. leads-goes E S i e) up lead)
+    (authoritative-from T i (holds (T.sites i) (Agent c.host) reply) (λ D. leads_with E D i e) (λ S. leads-goes E S i e) up authoritative)
 
 -- and it leads still
 run-on : (E : Database) (D : Deployment) (stamp i : ℕ) (c : AskedCall) (s : SiteState) → leads D i s ≡ true → leads D i (runs_call E D i stamp c s).state ≡ true
-run-on E D stamp i c s lead =
+run-on E D stamp i c s authoritative =
     let e = Sp c.call stamp c.body in
-    leads-on E D i e (holds s (Agent c.host) (letter_to c.start (msg.Reply c.call c.start (end_of_reply (answer_behind E (part_of_slot D i) s.log e))))) lead
+    leads-on E D i e (holds s (Agent c.host) (letter_to c.start (msg.Reply c.call c.start (end_of_reply (answer_behind E (part_of_slot D i) s.log e))))) authoritative
 
 pub runs-goes : (E : Database) (stamp : ℕ) (cs : List AskedCall) (T : LogState) (i : ℕ) → Holds T → 0 < start_at T i → leads T.words.deployment i (T.sites i) ≡ true
     → Goes T i (runs_calls E T.words.deployment i stamp cs (T.sites i))
-runs-goes E stamp [] T i H up lead = goes-same T i H
-runs-goes E stamp (c ∷ cs) T i H up lead =
-    let g = run-goes E stamp c T i H up lead in
+runs-goes E stamp [] T i H up authoritative = goes-same T i H
+runs-goes E stamp (c ∷ cs) T i H up authoritative =
+    let g = run-goes E stamp c T i H up authoritative in
     goes-then T i (runs_call E T.words.deployment i stamp c (T.sites i)) (runs_calls E T.words.deployment i stamp cs) g
-    (lead-from T i (runs_call E T.words.deployment i stamp c (T.sites i)).state (λ D. runs_calls E D i stamp cs) (λ S. runs-goes E stamp cs S i)
-    (subst (λ x. 0 < x) (sym g.start) up) (run-on E T.words.deployment stamp i c (T.sites i) lead))
+    (authoritative-from T i (runs_call E T.words.deployment i stamp c (T.sites i)).state (λ D. runs_calls E D i stamp cs) (λ S. runs-goes E stamp cs S i)
+    (subst (λ x. 0 < x) (sym g.start) up) (run-on E T.words.deployment stamp i c (T.sites i) authoritative))
 
 -- A leader runs those that wait; any other site waits.
 pub works-goes : (E : Database) (T : LogState) (i stamp : ℕ) → Holds T → 0 < start_at T i → Goes T i (works_calls E T.words.deployment i stamp (T.sites i))
@@ -74,7 +74,7 @@ works-goes E T i stamp H up = choice (leads T.words.deployment i (T.sites i) && 
         → Goes T i (if b then runs_calls E T.words.deployment i stamp (T.sites i).calls (record (T.sites i) { calls = [] }) else becomes (T.sites i))
     choice false q = goes-same T i H
     choice true q = goes-then T i (becomes (record (T.sites i) { calls = [] })) (runs_calls E T.words.deployment i stamp (T.sites i).calls) (calls-goes T i [] H)
-        (lead-from T i (record (T.sites i) { calls = [] }) (λ D. runs_calls E D i stamp (T.sites i).calls) (λ S. runs-goes E stamp (T.sites i).calls S i) up
+        (authoritative-from T i (record (T.sites i) { calls = [] }) (λ D. runs_calls E D i stamp (T.sites i).calls) (λ S. runs-goes E stamp (T.sites i).calls S i) up
         (and_parts (leads T.words.deployment i (T.sites i)) (nothing_open (T.sites i).log) q).0)
 
 -- from whatever state in which the site is so
@@ -93,11 +93,11 @@ on_sp_call-goes E T H i stamp host call start body up =
 -- A leader appends the entry, and holds the answer to it for the initiator.
 entry-goes : (E : Database) (T : LogState) (i : ℕ) (e : Entry) (first : Option (ℕ × ℕ)) (m : Msg Blocks) → ((h term start : ℕ) → HeldFor (Agent h) (letter_in term start m))
     → Holds T → 0 < start_at T i → leads T.words.deployment i (T.sites i) ≡ true → Goes T i (leads_with E T.words.deployment i e (holds_for (T.sites i) first m))
-entry-goes E T i e None m k H up lead = leads-goes E T i e H up lead
-entry-goes E T i e (Some first) m k H up lead =
+entry-goes E T i e None m k H up authoritative = leads-goes E T i e H up authoritative
+entry-goes E T i e (Some first) m k H up authoritative =
     let l = letter_in (site_term (T.sites i)) first.1 m in
     goes-then T i (becomes (holds (T.sites i) (Agent first.0) l)) (leads_with E T.words.deployment i e) (held-goes T i first.0 l (k first.0 (site_term (T.sites i)) first.1) H)
-    (lead-from T i (holds (T.sites i) (Agent first.0) l) (λ D. leads_with E D i e) (λ S. leads-goes E S i e) up lead)
+    (authoritative-from T i (holds (T.sites i) (Agent first.0) l) (λ D. leads_with E D i e) (λ S. leads-goes E S i e) up authoritative)
 
 pub on_frag-goes : (E : Database) (T : LogState) → Holds T → (i m round : ℕ) (body : List ℕ) → 0 < start_at T i
     → Goes T i (on_frag E T.words.deployment i (T.sites i) m round body)

@@ -14,34 +14,34 @@ use Rattle.cluster_model.specs.Letters.{Sends}
 use Rattle.cluster_model.specs.Site.{leads_with}
 use Rattle.word_laws.specs.Histories.{In}
 use Rattle.word_laws.proofs.Lists.{all-append, not-both, same-some, none-and-some, all-at, set-both}
-use Rattle.log_laws.specs.Histories.{LogState, Logs, Reign, Front, Line, Repairs, Puts, Flow, Begins, Follows, FollowsIn, LeadsIn, Coming, Took, Quiet, InWord, JoinerOk, MemberOk, CountedOk, IsCounted, IsSlot, SiteLetterOk, ForeignOk, ToldOk, BeginsAt, Holds, follows, line, flow, ends, asked, asks_in, asks_waiting, asks_of_term, between, part, start_at, log_at, term_at}
+use Rattle.log_laws.specs.Histories.{LogState, Logs, Leadership, Prefix, Line, Repairs, Puts, Flow, Begins, Follows, FollowsIn, LeadsIn, Coming, Took, Inert, InWord, JoinerOk, MemberOk, CountedOk, IsCounted, IsSlot, SiteLetterOk, ForeignOk, ToldOk, BeginsAt, Holds, follows, line, flow, ends, asked, asks_in, asks_waiting, asks_of_term, between, part, start_at, log_at, term_at}
 use Rattle.log_laws.proofs.Plain.Lines.{line-append, line-same, flow-append, flow-same, ends-same, puts-append, follows-append, put_letter, task_letter}
 use Rattle.log_laws.proofs.Plain.Copies.{leader-follows-none, leads-parts, leader-view, is-leader, start-in-view, other-copy, copy-other, follows-part, follows-one, leader-followed}
-use Rattle.log_laws.proofs.Kept.Moves.{Grown, Later, SameReigns, NoStreamStart, Goes, after}
+use Rattle.log_laws.proofs.Kept.Moves.{Grown, Later, SameLeaderships, NoStreamStart, Goes, after}
 use Rattle.log_laws.proofs.Kept.Grown.{grown-at, enters-same}
 use Rattle.log_laws.proofs.Kept.Plumbing.{sent-either, here, there, between-here, between-there}
-use Rattle.log_laws.proofs.Kept.Terms.{same-word, some-term, reign-entered, took-decided, took-unnamed}
+use Rattle.log_laws.proofs.Kept.Terms.{same-word, some-term, leadership-entered, took-decided, took-unnamed}
 use Rattle.log_laws.proofs.Kept.Asked.{at-most-is}
-use Rattle.log_laws.proofs.Kept.Keeps.{Still, SameFrom, SameTerm, SameRun, Uncounted, still-same, member-keeps-from, counted-from, quiet-keeps, coming-keeps, took-keeps, in_word-keeps-with, joiner-keeps-with}
+use Rattle.log_laws.proofs.Kept.Keeps.{Still, SameFrom, SameTerm, SameRun, Uncounted, still-same, member-keeps-from, counted-from, inert-keeps, coming-keeps, took-keeps, in_word-keeps-with, joiner-keeps-with}
 use Rattle.log_laws.proofs.Kept.Turned.{put_at, put-both, put-here, put-there}
 use Rattle.log_laws.proofs.Kept.Growing.{Carries, grew-later, grew-member, grew-holds}
-use Rattle.log_laws.proofs.Plain.Fronts.{front-append, front-length}
+use Rattle.log_laws.proofs.Plain.Prefixes.{prefix-append, prefix-length}
 use Rattle.log_laws.proofs.Plain.Appends.{grown, Passed, leads-with, passed-line, passed-line-other, passed-flow, passed-flow-other, passed-ends, passed-all, passed-follows}
 
 -- ---- the history of the leader's term
 
 -- its log with one entry more
-abbrev pub longer : Reign → Entry → Reign
+abbrev pub longer : Leadership → Entry → Leadership
 longer g e = record g { log = g.log ++ e ∷ [] }
 
 -- where the log of what a term is led with has grown
-pub longer-same : (G : Logs) (p t : ℕ) (g h : Reign) → G.reign p t ≡ Some g → h.begun ≡ g.begun → Front g.log h.log
-    → SameReigns G (record G { reign = put_at G.reign p t (Some h) })
+pub longer-same : (G : Logs) (p t : ℕ) (g h : Leadership) → G.leadership p t ≡ Some g → h.begun ≡ g.begun → Prefix g.log h.log
+    → SameLeaderships G (record G { leadership = put_at G.leadership p t (Some h) })
 longer-same G p t g h led begun more = record {
-  kept = put-both (λ q u o. (f : Reign) → G.reign q u ≡ Some f → (n : Reign) × (o ≡ Some n) × (n.begun ≡ f.begun) × Front f.log n.log) G.reign p t (Some h)
-      (λ f is. let o = same-some (sym led ∙ is) in (h, refl, begun ∙ ap (λ x. x.begun) o, subst (λ x. Front x.log h.log) o more))
+  kept = put-both (λ q u o. (f : Leadership) → G.leadership q u ≡ Some f → (n : Leadership) × (o ≡ Some n) × (n.begun ≡ f.begun) × Prefix f.log n.log) G.leadership p t (Some h)
+      (λ f is. let o = same-some (sym led ∙ is) in (h, refl, begun ∙ ap (λ x. x.begun) o, subst (λ x. Prefix x.log h.log) o more))
       (λ q u _ f is. (f, is, refl, ([], sym (append-nil f.log))));
-  none = put-both (λ q u o. G.reign q u ≡ None → o ≡ None) G.reign p t (Some h) (λ is. absurd (none-and-some is led)) (λ q u _ is. is);
+  none = put-both (λ q u o. G.leadership q u ≡ None → o ≡ None) G.leadership p t (Some h) (λ is. absurd (none-and-some is led)) (λ q u _ is. is);
 }
 
 -- ---- who leads
@@ -54,18 +54,18 @@ pub record Leading (T : LogState) (i : ℕ) : Type 0 where
   pub first : leader T.words.deployment word (part T i) ≡ Some i
   pub repaired : (T.sites i).repaired ≡ true
   pub member : MemberOk T i word
-  pub reign : Reign
-  pub led : T.logs.reign (part T i) (term_of word) ≡ Some reign
-  pub log : log_at T i ≡ reign.log
+  pub leadership : Leadership
+  pub led : T.logs.leadership (part T i) (term_of word) ≡ Some leadership
+  pub log : log_at T i ≡ leadership.log
 
 pub leading : (T : LogState) (i : ℕ) → Holds T → 0 < start_at T i → leads T.words.deployment i (T.sites i) ≡ true → Leading T i
-leading T i H up lead = begun (T.logs.reign (part T i) (term_of m.0)) refl (m.2.leading first)
+leading T i H up authoritative = begun (T.logs.leadership (part T i) (term_of m.0)) refl (m.2.leading first)
   where
     s : SiteState
     s = T.sites i
 
     tests : (is_leader T.words.deployment i s ≡ true) × (s.repaired ≡ true)
-    tests = leads-parts T.words.deployment i s lead
+    tests = leads-parts T.words.deployment i s authoritative
 
     joins : s.joining ≡ None
     joins = (leader-view T.words.deployment i s tests.0).0
@@ -76,7 +76,7 @@ leading T i H up lead = begun (T.logs.reign (part T i) (term_of m.0)) refl (m.2.
     first : leader T.words.deployment m.0 (part T i) ≡ Some i
     first = (is-leader T.words.deployment i s m.0 m.1 tests.0).1
 
-    begun : (r : Option Reign) → T.logs.reign (part T i) (term_of m.0) ≡ r → LeadsIn s (T.logs.reign (part T i) (term_of m.0)) → Leading T i
+    begun : (r : Option Leadership) → T.logs.leadership (part T i) (term_of m.0) ≡ r → LeadsIn s (T.logs.leadership (part T i) (term_of m.0)) → Leading T i
     begun None e k = absurd (true≢false (sym tests.1 ∙ subst (λ r. LeadsIn s r) e k))
     begun (Some g) e k = record {
       joins = joins;
@@ -85,7 +85,7 @@ leading T i H up lead = begun (T.logs.reign (part T i) (term_of m.0)) refl (m.2.
       first = first;
       repaired = tests.1;
       member = m.2;
-      reign = g;
+      leadership = g;
       led = e;
       log = (subst (λ r. LeadsIn s r) e k).1;
     }
@@ -93,7 +93,7 @@ leading T i H up lead = begun (T.logs.reign (part T i) (term_of m.0)) refl (m.2.
 -- ---- with one entry more
 
 -- what a copy follows
-pub follows-longer : (s : SiteState) (ln : List Line) (g : Reign) (e : Entry) → FollowsIn s ln (Some g) → FollowsIn s (ln ++ Puts e ∷ []) (Some (longer g e))
+pub follows-longer : (s : SiteState) (ln : List Line) (g : Leadership) (e : Entry) → FollowsIn s ln (Some g) → FollowsIn s (ln ++ Puts e ∷ []) (Some (longer g e))
 follows-longer s ln g e (inl (es, repaired, line_is, log_is, behind)) = inl (
   es ++ e ∷ [],
   repaired,
@@ -112,7 +112,7 @@ follows-longer s ln g e (inr (es, unrepaired, line_is, log_is)) = inr (
 
 -- nothing is under way to a joiner, or a stream
 abbrev Comes : LogState → ℕ → ℕ → Membership → ℕ → Type 0
-Comes S a c w l = Quiet S c w l ⊎ (Coming S c w (flow a (term_of w) (between S l c)) × (asked S c l (term_of w) ≡ []))
+Comes S a c w l = Inert S c w l ⊎ (Coming S c w (flow a (term_of w) (between S l c)) × (asked S c l (term_of w) ≡ []))
 
 module _ (T : LogState) (i : ℕ) (e : Entry) (H : Holds T) (up : 0 < start_at T i) (k : Leading T i) (scans : ℕ) (scanning : Option Scanning) (out : Sends)
     (passed : Passed T.words.deployment i e (grown (T.sites i) (e ∷ []) scans scanning) out) where
@@ -120,7 +120,7 @@ module _ (T : LogState) (i : ℕ) (e : Entry) (H : Holds T) (up : 0 < start_at T
   state = grown (T.sites i) (e ∷ []) scans scanning
 
   abbrev logs : Logs
-  logs = record T.logs { reign = put_at T.logs.reign (part T i) (term_of k.word) (Some (longer k.reign e)) }
+  logs = record T.logs { leadership = put_at T.logs.leadership (part T i) (term_of k.word) (Some (longer k.leadership e)) }
 
   abbrev next : LogState
   next = after T i state out logs
@@ -137,10 +137,10 @@ module _ (T : LogState) (i : ℕ) (e : Entry) (H : Holds T) (up : 0 < start_at T
   -- ---- what only grows
 
   later : Later T next
-  later = grew-later T H i (e ∷ []) (T.sites i).floor (T.sites i).repaired (T.sites i).owes scans scanning next.words.channel logs.reign
+  later = grew-later T H i (e ∷ []) (T.sites i).floor (T.sites i).repaired (T.sites i).owes scans scanning next.words.channel logs.leadership
 
-  same-reigns : SameReigns T.logs logs
-  same-reigns = longer-same T.logs (part T i) (term_of k.word) k.reign (longer k.reign e) k.led refl (e ∷ [], refl)
+  same-leaderships : SameLeaderships T.logs logs
+  same-leaderships = longer-same T.logs (part T i) (term_of k.word) k.leadership (longer k.leadership e) k.led refl (e ∷ [], refl)
 
   -- ---- what is under way
 
@@ -153,14 +153,14 @@ module _ (T : LogState) (i : ℕ) (e : Entry) (H : Holds T) (up : 0 < start_at T
 
   -- ---- its term
 
-  reign-apart : (c t : ℕ) → (part T c ≡ part T i → t ≡ term_of k.word → ⊥) → logs.reign (part T c) t ≡ T.logs.reign (part T c) t
-  reign-apart c t n = put-there T.logs.reign (part T i) (term_of k.word) (Some (longer k.reign e)) (part T c) t n
+  leadership-apart : (c t : ℕ) → (part T c ≡ part T i → t ≡ term_of k.word → ⊥) → logs.leadership (part T c) t ≡ T.logs.leadership (part T c) t
+  leadership-apart c t n = put-there T.logs.leadership (part T i) (term_of k.word) (Some (longer k.leadership e)) (part T c) t n
 
-  reign-own : (c : ℕ) → part T c ≡ part T i → logs.reign (part T c) (term_of k.word) ≡ Some (longer k.reign e)
-  reign-own c p = ap (λ q. logs.reign q (term_of k.word)) p ∙ put-here T.logs.reign (part T i) (term_of k.word) (Some (longer k.reign e))
+  leadership-own : (c : ℕ) → part T c ≡ part T i → logs.leadership (part T c) (term_of k.word) ≡ Some (longer k.leadership e)
+  leadership-own c p = ap (λ q. logs.leadership q (term_of k.word)) p ∙ put-here T.logs.leadership (part T i) (term_of k.word) (Some (longer k.leadership e))
 
-  reign-before : (c : ℕ) → part T c ≡ part T i → T.logs.reign (part T c) (term_of k.word) ≡ Some k.reign
-  reign-before c p = ap (λ q. T.logs.reign q (term_of k.word)) p ∙ k.led
+  leadership-before : (c : ℕ) → part T c ≡ part T i → T.logs.leadership (part T c) (term_of k.word) ≡ Some k.leadership
+  leadership-before c p = ap (λ q. T.logs.leadership q (term_of k.word)) p ∙ k.led
 
   -- of a decided word: a slot that doesn't follow the leader by it is of another partition or term
   word-is : (w : Membership) → In w T.words.history.decided → term_of w ≡ term_of k.word → w ≡ k.word
@@ -175,11 +175,11 @@ module _ (T : LogState) (i : ℕ) (e : Entry) (H : Holds T) (up : 0 < start_at T
 
   -- one that follows the leader in its term gets the entry
   copy-gets : (c : ℕ) → (c ≡ i → ⊥) → part T c ≡ part T i → MemberOk T c k.word
-      → FollowsIn (T.sites c) (line (start_at T c) (term_of k.word) (between T i c)) (T.logs.reign (part T c) (term_of k.word))
-      → FollowsIn (T.sites c) (line (start_at T c) (term_of k.word) (between next i c)) (logs.reign (part T c) (term_of k.word))
-  copy-gets c other p m old = rw (ln, reign-own c p)
-      (follows-longer (T.sites c) (line (start_at T c) (term_of k.word) (between T i c)) k.reign e
-      (subst (λ r. FollowsIn (T.sites c) (line (start_at T c) (term_of k.word) (between T i c)) r) (reign-before c p) old))
+      → FollowsIn (T.sites c) (line (start_at T c) (term_of k.word) (between T i c)) (T.logs.leadership (part T c) (term_of k.word))
+      → FollowsIn (T.sites c) (line (start_at T c) (term_of k.word) (between next i c)) (logs.leadership (part T c) (term_of k.word))
+  copy-gets c other p m old = rw (ln, leadership-own c p)
+      (follows-longer (T.sites c) (line (start_at T c) (term_of k.word) (between T i c)) k.leadership e
+      (subst (λ r. FollowsIn (T.sites c) (line (start_at T c) (term_of k.word) (between T i c)) r) (leadership-before c p) old))
     where
       got : line (start_at T c) (term_of k.word) (out (Site c)) ≡ Puts e ∷ []
       got = passed-line T.words.deployment i e state out passed c (start_at T c) (term_of k.word)
@@ -199,17 +199,17 @@ module _ (T : LogState) (i : ℕ) (e : Entry) (H : Holds T) (up : 0 < start_at T
   copy-keeps : (c : ℕ) → (c ≡ i → ⊥) → (w : Membership) → MemberOk T c w → MemberOk next c w
   copy-keeps c other w m = member-keeps-from T next H later c (still-same (T.sites c) (next.sites c) (there T i state out logs c other)) i w m
       (λ l n. ap (line (start_at T c) (term_of w)) (between-there T i state out logs l c n))
-      (λ f. reign-apart c (term_of w) (apart c other w m.decided f))
+      (λ f. leadership-apart c (term_of w) (apart c other w m.decided f))
       (λ f old. mine f old)
       (λ f old. copy-none c (start_at T c) (term_of w) (apart c other w m.decided f) ∙ old)
     where
-      mine : follows T.words.deployment w c i ≡ true → FollowsIn (T.sites c) (line (start_at T c) (term_of w) (between T i c)) (T.logs.reign (part T c) (term_of w))
-          → FollowsIn (T.sites c) (line (start_at T c) (term_of w) (between next i c)) (logs.reign (part T c) (term_of w))
+      mine : follows T.words.deployment w c i ≡ true → FollowsIn (T.sites c) (line (start_at T c) (term_of w) (between T i c)) (T.logs.leadership (part T c) (term_of w))
+          → FollowsIn (T.sites c) (line (start_at T c) (term_of w) (between next i c)) (logs.leadership (part T c) (term_of w))
       mine f old = elim (cases_eq (term_of w) (term_of k.word)) [
-        | inl t ↦ subst (λ v. MemberOk T c v → FollowsIn (T.sites c) (line (start_at T c) (term_of v) (between T i c)) (T.logs.reign (part T c) (term_of v))
-            → FollowsIn (T.sites c) (line (start_at T c) (term_of v) (between next i c)) (logs.reign (part T c) (term_of v)))
+        | inl t ↦ subst (λ v. MemberOk T c v → FollowsIn (T.sites c) (line (start_at T c) (term_of v) (between T i c)) (T.logs.leadership (part T c) (term_of v))
+            → FollowsIn (T.sites c) (line (start_at T c) (term_of v) (between next i c)) (logs.leadership (part T c) (term_of v)))
             (sym (word-is w m.decided t)) (copy-gets c other (sym (follows-part T.words.deployment w c i f))) m old
-        | inr n ↦ rw (copy-none c (start_at T c) (term_of w) (λ _ t. n t), reign-apart c (term_of w) (λ _ t. n t)) old
+        | inr n ↦ rw (copy-none c (start_at T c) (term_of w) (λ _ t. n t), leadership-apart c (term_of w) (λ _ t. n t)) old
       ]
 
   -- ---- joiners
@@ -268,30 +268,30 @@ module _ (T : LogState) (i : ℕ) (e : Entry) (H : Holds T) (up : 0 < start_at T
     | inr u ↦ u (counted-part c j is q) (term-is t x)
   ])
 
-  counted-flow : (c a nj : ℕ) → part T c ≡ part T i → IsCounted T c a nj k.word → flow a (term_of k.word) (out (Site c)) ≡ Follows e ∷ []
-  counted-flow c a nj p counted =
+  counted-flow : (c a stream_start : ℕ) → part T c ≡ part T i → IsCounted T c a stream_start k.word → flow a (term_of k.word) (out (Site c)) ≡ Follows e ∷ []
+  counted-flow c a stream_start p counted =
       let r = counted i (ap (λ q. leader T.words.deployment k.word q) p ∙ k.first) up k.joins k.view in
       passed-flow T.words.deployment i e state out passed c a (term_of k.word) ((H.sites i).keeps up).alone r.0 r.1 r.2 r.3 (ap term_in k.view)
 
   -- it is counted as it was
-  still-counted : (c a nj : ℕ) (w : Membership) → IsCounted T c a nj w → IsCounted next c a nj w
-  still-counted c a nj w = counted-from T next H later i (λ l n. there T i state out logs l n) c a nj w
-      (subst (λ x. 0 < x.start → x.joining ≡ None → x.view ≡ Some w → (j : Joiner) × In j x.joiners × (j.slot ≡ c) × (j.start ≡ a) × (j.nj ≡ nj)) (sym (here T i state out logs)))
+  still-counted : (c a stream_start : ℕ) (w : Membership) → IsCounted T c a stream_start w → IsCounted next c a stream_start w
+  still-counted c a stream_start w = counted-from T next H later i (λ l n. there T i state out logs l n) c a stream_start w
+      (subst (λ x. 0 < x.start → x.joining ≡ None → x.view ≡ Some w → (j : Joiner) × In j x.joiners × (j.slot ≡ c) × (j.start ≡ a) × (j.stream_start ≡ stream_start)) (sym (here T i state out logs)))
 
   -- the flow with the entry
-  longer-flow : (c a nj : ℕ) (past : List Flow) (more : List Entry) → part T c ≡ part T i → IsCounted T c a nj k.word
+  longer-flow : (c a stream_start : ℕ) (past : List Flow) (more : List Entry) → part T c ≡ part T i → IsCounted T c a stream_start k.word
       → flow a (term_of k.word) (between T i c) ≡ past ++ map Follows more → flow a (term_of k.word) (between next i c) ≡ past ++ map Follows (more ++ e ∷ [])
-  longer-flow c a nj past more p counted is = ap (flow a (term_of k.word)) (between-here T i state out logs c)
+  longer-flow c a stream_start past more p counted is = ap (flow a (term_of k.word)) (between-here T i state out logs c)
       ∙ flow-append a (term_of k.word) (between T i c) (out (Site c))
-      ∙ ap (λ x. flow a (term_of k.word) (between T i c) ++ x) (counted-flow c a nj p counted)
+      ∙ ap (λ x. flow a (term_of k.word) (between T i c) ++ x) (counted-flow c a stream_start p counted)
       ∙ ap (λ x. x ++ Follows e ∷ []) is
       ∙ append_assoc past (map Follows more) (Follows e ∷ [])
       ∙ ap (λ x. past ++ x) (sym (follows-append more (e ∷ [])))
 
-  longer-log : (c : ℕ) (past more : List Entry) (g : Reign) → part T c ≡ part T i → T.logs.reign (part T c) (term_of k.word) ≡ Some g → past ++ more ≡ g.log
-      → past ++ (more ++ e ∷ []) ≡ (longer k.reign e).log
+  longer-log : (c : ℕ) (past more : List Entry) (g : Leadership) → part T c ≡ part T i → T.logs.leadership (part T c) (term_of k.word) ≡ Some g → past ++ more ≡ g.log
+      → past ++ (more ++ e ∷ []) ≡ (longer k.leadership e).log
   longer-log c past more g p led whole = sym (append_assoc past more (e ∷ []))
-      ∙ ap (λ x. x ++ e ∷ []) (whole ∙ ap (λ x. x.log) (same-some (sym led ∙ reign-before c p)))
+      ∙ ap (λ x. x ++ e ∷ []) (whole ∙ ap (λ x. x.log) (same-some (sym led ∙ leadership-before c p)))
 
   module _ (c : ℕ) (other : c ≡ i → ⊥) where
     run : SameRun T next c
@@ -302,53 +302,53 @@ module _ (T : LogState) (i : ℕ) (e : Entry) (H : Holds T) (up : 0 < start_at T
 
     -- where nothing is for it
     same-term : (t : ℕ) → (part T c ≡ part T i → t ≡ term_of k.word → ⊥) → SameTerm T next (part T c) t
-    same-term t n = record { reign = reign-apart c t n; reach = refl }
+    same-term t n = record { leadership = leadership-apart c t n; reach = refl }
 
     coming-else : (w : Membership) (l : ℕ) → SameTerm T next (part T c) (term_of w) → SameFrom T next c l (term_of w)
         → Comes T (start_at T c) c w l → Comes next (start_at T c) c w l
-    coming-else w l same from (inl q) = inl (quiet-keeps T next H later c site w l from q)
+    coming-else w l same from (inl q) = inl (inert-keeps T next H later c site w l from q)
     coming-else w l same from (inr q) = inr (
       subst (Coming next c w) (sym from.flows)
-          (coming-keeps T next H later c site w (flow (start_at T c) (term_of w) (between T l c)) same (λ nj. still-counted c (start_at T c) nj w) q.0),
+          (coming-keeps T next H later c site w (flow (start_at T c) (term_of w) (between T l c)) same (λ stream_start. still-counted c (start_at T c) stream_start w) q.0),
       asked-same c l (term_of w) other ∙ q.1,
     )
 
     -- to one in the leader's term the entry comes, if a stream does
     coming-own : part T c ≡ part T i → line (start_at T c) (term_of k.word) (out (Site c)) ≡ []
         → Comes T (start_at T c) c k.word i → Comes next (start_at T c) c k.word i
-    coming-own p none (inl q) = inl (quiet-keeps T next H later c site k.word i
+    coming-own p none (inl q) = inl (inert-keeps T next H later c site k.word i
         (same-from c i (term_of k.word) other (λ _. none) (λ _. uncounted-flow c (term_of k.word) (inl q.uncounted))) q)
     coming-own p none (inr (q, asks)) = inr (
       record {
         past = q.past;
         more = q.more ++ e ∷ [];
-        reign = longer k.reign e;
+        leadership = longer k.leadership e;
         flow_is = longer-flow c (start_at T c) (length q.past) (Begins q.past (length q.past) ∷ []) q.more p q.counted q.flow_is;
-        led = reign-own c p;
-        whole = longer-log c q.past q.more q.reign p q.led q.whole;
-        behind = subst (λ g. length g.begun ≤ length q.past) (same-some (sym q.led ∙ reign-before c p)) q.behind;
+        led = leadership-own c p;
+        whole = longer-log c q.past q.more q.leadership p q.led q.whole;
+        behind = subst (λ g. length g.begun ≤ length q.past) (same-some (sym q.led ∙ leadership-before c p)) q.behind;
         reach = q.reach;
         counted = subst (λ a. IsCounted next c a (length q.past) k.word) (sym site.start) (still-counted c (start_at T c) (length q.past) k.word q.counted);
       },
       asked-same c i (term_of k.word) other ∙ asks,
     )
 
-    took-own : (j : Joining) (nj : ℕ) → InWord T c k.word j → part T c ≡ part T i → Took T c k.word j nj → Took next c k.word j nj
-    took-own j nj word p q =
-        let old = H.streamed c (term_of k.word) (record { start = start_at T c; nj = nj }) q.streamed in
-        let counted : IsCounted T c (start_at T c) nj k.word =
-        subst (λ v. IsCounted T c (start_at T c) nj v) (same-some (sym old.took ∙ word.took)) old.counted in
+    took-own : (j : Joining) (stream_start : ℕ) → InWord T c k.word j → part T c ≡ part T i → Took T c k.word j stream_start → Took next c k.word j stream_start
+    took-own j stream_start word p q =
+        let old = H.streamed c (term_of k.word) (record { start = start_at T c; stream_start = stream_start }) q.streamed in
+        let counted : IsCounted T c (start_at T c) stream_start k.word =
+        subst (λ v. IsCounted T c (start_at T c) stream_start v) (same-some (sym old.took ∙ word.took)) old.counted in
         let is : q.from ≡ i = follows-one T.words.deployment k.word c q.from i q.following (leader-followed T.words.deployment k.word i c k.first p other) in
         record {
           from = i;
           following = leader-followed T.words.deployment k.word i c k.first p other;
           more = q.more ++ e ∷ [];
-          reign = longer k.reign e;
-          led = reign-own c p;
+          leadership = longer k.leadership e;
+          led = leadership-own c p;
           flow_is = ap (λ a. flow a (term_of k.word) (between next i c)) site.start
-              ∙ longer-flow c (start_at T c) nj [] q.more p counted (subst (λ l. flow (start_at T c) (term_of k.word) (between T l c) ≡ map Follows q.more) is q.flow_is);
-          whole = rw site.log (longer-log c (log_at T c ++ j.tasks) q.more q.reign p q.led q.whole);
-          streamed = q.streamed ∙ ap (λ a. Some (record { start = a; nj = nj })) (sym site.start);
+              ∙ longer-flow c (start_at T c) stream_start [] q.more p counted (subst (λ l. flow (start_at T c) (term_of k.word) (between T l c) ≡ map Follows q.more) is q.flow_is);
+          whole = rw site.log (longer-log c (log_at T c ++ j.tasks) q.more q.leadership p q.led q.whole);
+          streamed = q.streamed ∙ ap (λ a. Some (record { start = a; stream_start = stream_start })) (sym site.start);
           loading = λ x. rw site.log (q.loading x);
           loaded = q.loaded;
           ends = q.ends;
@@ -381,7 +381,7 @@ module _ (T : LogState) (i : ℕ) (e : Entry) (H : Holds T) (up : 0 < start_at T
         ))
         (λ l. at-most-is (asked T c l (term_of w)) (asked next c l (term_of w)) (asked-same c l (term_of w) other))
         (λ l f low. comes l f (joiner-word w decided))
-        (λ nj. took nj (joiner-word w decided))
+        (λ stream_start. took stream_start (joiner-word w decided))
         m
       where
         decided : In w T.words.history.decided
@@ -395,10 +395,10 @@ module _ (T : LogState) (i : ℕ) (e : Entry) (H : Holds T) (up : 0 < start_at T
             (subst (λ x. line (start_at T c) (term_of k.word) (out (Site c)) ≡ [] → Comes T (start_at T c) c k.word x → Comes next (start_at T c) c k.word x)
             (sym (not-its l p (subst (λ v. follows T.words.deployment v c l ≡ true) q f))) (coming-own p)) (joiner-line c w j m)
 
-        took : (nj : ℕ) → ((part T c ≡ part T i) × (w ≡ k.word)) ⊎ (part T c ≡ part T i → term_of w ≡ term_of k.word → ⊥) → Took T c w j nj → Took next c w j nj
-        took nj (inr n) = took-keeps T next H later c site w j nj (same-term (term_of w) n)
+        took : (stream_start : ℕ) → ((part T c ≡ part T i) × (w ≡ k.word)) ⊎ (part T c ≡ part T i → term_of w ≡ term_of k.word → ⊥) → Took T c w j stream_start → Took next c w j stream_start
+        took stream_start (inr n) = took-keeps T next H later c site w j stream_start (same-term (term_of w) n)
             (λ l. same-from c l (term_of w) other (λ _. joiner-line c w j m) (λ _. uncounted-flow c (term_of w) (inr n)))
-        took nj (inl (p, q)) = subst (λ v. InWord T c v j → Took T c v j nj → Took next c v j nj) (sym q) (λ x. took-own j nj x p) m
+        took stream_start (inl (p, q)) = subst (λ v. InWord T c v j → Took T c v j stream_start → Took next c v j stream_start) (sym q) (λ x. took-own j stream_start x p) m
 
     joiner-keeps : (j : Joining) → JoinerOk T c j → JoinerOk next c j
     joiner-keeps j m = joiner-keeps-with T next H later c site j run (λ w v. in_word-keeps w j) m
@@ -406,9 +406,9 @@ module _ (T : LogState) (i : ℕ) (e : Entry) (H : Holds T) (up : 0 < start_at T
   -- ---- the leader itself
 
   own-member : MemberOk next i k.word
-  own-member = grew-member T H i (e ∷ []) (T.sites i).floor (T.sites i).repaired (T.sites i).owes scans scanning next.words.channel logs.reign
+  own-member = grew-member T H i (e ∷ []) (T.sites i).floor (T.sites i).repaired (T.sites i).owes scans scanning next.words.channel logs.leadership
       k.word k.repaired k.member.floor
-      (λ _. subst (λ r. LeadsIn state r) (sym (reign-own i refl)) (k.repaired, ap (λ log. log ++ e ∷ []) k.log))
+      (λ _. subst (λ r. LeadsIn state r) (sym (leadership-own i refl)) (k.repaired, ap (λ log. log ++ e ∷ []) k.log))
       (λ l f. absurd (not-both (follows T.words.deployment k.word i l) f (leader-follows-none T.words.deployment k.word i l k.first)))
       (λ l f. line-else i (start_at T i) (term_of k.word) l (λ _. passed-line-other T.words.deployment i e state out passed i (start_at T i) (term_of k.word)
       (λ is _ _. (copy-in i is).0 refl)) ∙ k.member.others l f)
@@ -425,7 +425,7 @@ module _ (T : LogState) (i : ℕ) (e : Entry) (H : Holds T) (up : 0 < start_at T
       → SiteLetterOk T i c (put_letter T.words.deployment state e c (other_copies T.words.deployment i state))
   some-put c slot is =
       let m = copy-in c is in
-      let r = reign-entered T H (part T i) (term_of k.word) k.reign k.led k.word (record { decided = k.member.decided; term_is = refl }) c m.2.0 slot m.1 m.2.1 in
+      let r = leadership-entered T H (part T i) (term_of k.word) k.leadership k.led k.word (record { decided = k.member.decided; term_is = refl }) c m.2.0 slot m.1 m.2.1 in
       let old = H.entered c (term_of k.word) r.0 r.1 in (
         reached c (start_in_view T.words.deployment state.view c) r.0.start (start-in-view T.words.deployment i state k.word k.view c m.2.0 m.2.1 ∙ sym r.2)
             old.been.some old.been.ran (λ runs. (old.running runs).1),
@@ -448,10 +448,10 @@ module _ (T : LogState) (i : ℕ) (e : Entry) (H : Holds T) (up : 0 < start_at T
     letters = λ j c slot. sent-either T i state out logs (λ j ls. AllByRecursion (SiteLetterOk T j c) ls) (Site c)
         (all-append (SiteLetterOk T i c) (between T i c) (out (Site c)) (H.letters i c slot)
         (passed-all T.words.deployment i e state out passed c (SiteLetterOk T i c) (some-put c slot) (some-task c))) (λ j n. H.letters j c slot) j;
-    begins = λ j c start term nj. sent-either T i state out logs
-        (λ j ls. AllByRecursion (BeginsAt nj) (flow start term (between T j c)) → AllByRecursion (BeginsAt nj) (flow start term ls)) (Site c)
-        (λ h. rw flow-append (all-append (BeginsAt nj) (flow start term (between T i c)) (flow start term (out (Site c))) h
-        (passed-follows T.words.deployment i e state out passed c (BeginsAt nj) start term tt))) (λ j n h. h) j;
+    begins = λ j c start term stream_start. sent-either T i state out logs
+        (λ j ls. AllByRecursion (BeginsAt stream_start) (flow start term (between T j c)) → AllByRecursion (BeginsAt stream_start) (flow start term ls)) (Site c)
+        (λ h. rw flow-append (all-append (BeginsAt stream_start) (flow start term (between T i c)) (flow start term (out (Site c))) h
+        (passed-follows T.words.deployment i e state out passed c (BeginsAt stream_start) start term tt))) (λ j n h. h) j;
   }
     where
       foreign : (from : Actor) (c : ℕ) → AllByRecursion (ForeignOk T c from) (next.words.channel from (Site c))
@@ -464,24 +464,24 @@ module _ (T : LogState) (i : ℕ) (e : Entry) (H : Holds T) (up : 0 < start_at T
       foreign (Scanner x) c = H.foreign (Scanner x) c
 
   led-holds : Holds next
-  led-holds = grew-holds T H i (e ∷ []) (T.sites i).floor (T.sites i).repaired (T.sites i).owes scans scanning next.words.channel logs.reign
-      up k.joins same-reigns carries k.word k.view own-member copy-keeps joiner-keeps
+  led-holds = grew-holds T H i (e ∷ []) (T.sites i).floor (T.sites i).repaired (T.sites i).owes scans scanning next.words.channel logs.leadership
+      up k.joins same-leaderships carries k.word k.view own-member copy-keeps joiner-keeps
 
   -- its log has grown
   led-grown : Grown T.words.deployment i state T.logs logs
   led-grown = grown-at T.words.deployment i state T.logs logs (part T i) (term_of k.word)
       (record { word = k.word; view = k.view; part_is = refl; term_is = refl; first = k.first; start_is = k.member.start_is })
-      (record { kept = same-reigns.kept; reach = λ q u. omega arith }) (put-there T.logs.reign (part T i) (term_of k.word) (Some (longer k.reign e)))
+      (record { kept = same-leaderships.kept; reach = λ q u. omega arith }) (put-there T.logs.leadership (part T i) (term_of k.word) (Some (longer k.leadership e)))
 
 -- ---- the turn
 
 pub leads-goes : (E : Database) (T : LogState) (i : ℕ) (e : Entry) → Holds T → 0 < start_at T i → leads T.words.deployment i (T.sites i) ≡ true
     → Goes T i (leads_with E T.words.deployment i e (T.sites i))
-leads-goes E T i e H up lead =
-    let k = leading T i H up lead in
+leads-goes E T i e H up authoritative =
+    let k = leading T i H up authoritative in
     let r = leads-with E T.words.deployment i e (T.sites i) in
     let out = (leads_with E T.words.deployment i e (T.sites i)).sends in
-    let G : Logs = record T.logs { reign = put_at T.logs.reign (part T i) (term_of k.word) (Some (longer k.reign e)) } in
+    let G : Logs = record T.logs { leadership = put_at T.logs.leadership (part T i) (term_of k.word) (Some (longer k.leadership e)) } in
     record {
       logs = G;
       start = ap (λ s. s.start) r.state;
@@ -490,9 +490,9 @@ leads-goes E T i e H up lead =
       holds = subst (λ s. Holds (after T i s out G)) (sym r.state) (led-holds T i e H up k r.scans r.scanning out r.passed);
       grown = subst (λ s. Grown T.words.deployment i s T.logs G) (sym r.state) (led-grown T i e H up k r.scans r.scanning out r.passed);
       enters = enters-same i (length (log_at T i)) T.logs G refl;
-      longer = subst (λ s. length (log_at T i) ≤ length s.log) (sym r.state) (front-length (log_at T i) (log_at T i ++ e ∷ []) (front-append (log_at T i) (e ∷ [])));
+      longer = subst (λ s. length (log_at T i) ≤ length s.log) (sym r.state) (prefix-length (log_at T i) (log_at T i ++ e ∷ []) (prefix-append (log_at T i) (e ∷ [])));
     }
 
 -- and it leads still
 pub leads-on : (E : Database) (D : Deployment) (i : ℕ) (e : Entry) (s : SiteState) → leads D i s ≡ true → leads D i (leads_with E D i e s).state ≡ true
-leads-on E D i e s lead = ap (leads D i) (leads-with E D i e s).state ∙ lead
+leads-on E D i e s authoritative = ap (leads D i) (leads-with E D i e s).state ∙ authoritative

@@ -17,18 +17,18 @@ use Rattle.cluster_model.specs.World.{took, sent, rest}
 use Rattle.word_laws.specs.Histories.{In}
 use Rattle.word_laws.proofs.Lists.{and-false, eqb-same, if-false, not-both, same-some, set-here, set-there, set-both}
 use Rattle.word_laws.proofs.Channels.{took-all}
-use Rattle.log_laws.specs.Histories.{LogState, Reign, Front, Line, Puts, Repairs, FollowsIn, JoinerOk, ViewIn, MemberOk, Reached, ForeignOk, ToldOk, SiteLetterOk, BeginsAt, Holds, line_in, flow_in, ask_in, follows, line, flow, ends, asks_in, asks_waiting, asks_of_term, asked, between, part, start_at, term_at, log_at}
+use Rattle.log_laws.specs.Histories.{LogState, Leadership, Prefix, Line, Puts, Repairs, FollowsIn, JoinerOk, ViewIn, MemberOk, Reached, ForeignOk, ToldOk, SiteLetterOk, BeginsAt, Holds, line_in, flow_in, ask_in, follows, line, flow, ends, asks_in, asks_waiting, asks_of_term, asked, between, part, start_at, term_at, log_at}
 use Rattle.log_laws.proofs.Plain.Lines.{puts-cons, puts-not-repairs, repairs-not-put, repairs-same, line-here, flow-plain, asks-plain}
-use Rattle.log_laws.proofs.Kept.Terms.{running-slot, reign-entered}
+use Rattle.log_laws.proofs.Kept.Terms.{running-slot, leadership-entered}
 use Rattle.log_laws.proofs.Plain.Copies.{leader-follows-none, follows-one}
 use Rattle.log_laws.proofs.Kept.Moves.{Later, after, popped, NoStreamStart, Goes}
 use Rattle.log_laws.proofs.Kept.Grown.{grown-same, enters-same}
-use Rattle.log_laws.proofs.Kept.Laters.{same-reigns}
+use Rattle.log_laws.proofs.Kept.Laters.{same-leaderships}
 use Rattle.log_laws.proofs.Kept.Plumbing.{taken-either}
 use Rattle.log_laws.proofs.Kept.Asked.{at-most-is}
 use Rattle.log_laws.proofs.Kept.Keeps as keeps
 use Rattle.log_laws.proofs.Kept.Keeps.{Still, SameFrom, Uncounted, still-same, member-keeps, counted-from}
-use Rattle.log_laws.proofs.Plain.Fronts.{front-append, front-grows, front-length, front-refl, front-rest}
+use Rattle.log_laws.proofs.Plain.Prefixes.{prefix-append, prefix-grows, prefix-length, prefix-refl, prefix-rest}
 use Rattle.log_laws.proofs.Plain.Appends.{Appended, appends-one, appends-all}
 use Rattle.log_laws.proofs.Kept.Growing.{Carries, grew, grew-later, grew-member, grew-holds}
 
@@ -41,9 +41,9 @@ pub record Receives (S : LogState) (k i : ℕ) (x : Line) (ls : List Letter) : T
   pub view : (S.sites i).view ≡ Some word
   pub member : MemberOk S i word
   pub following : follows S.words.deployment word i k ≡ true
-  pub reign : Reign
-  pub led : S.logs.reign (part S i) (term_of word) ≡ Some reign
-  pub lacks : FollowsIn (S.sites i) (x ∷ line (start_at S i) (term_of word) ls) (Some reign)
+  pub leadership : Leadership
+  pub led : S.logs.leadership (part S i) (term_of word) ≡ Some leadership
+  pub lacks : FollowsIn (S.sites i) (x ∷ line (start_at S i) (term_of word) ls) (Some leadership)
 
 module _ (S : LogState) (H : Holds S) (k i : ℕ) (l : Letter) (ls : List Letter) (is : between S k i ≡ l ∷ ls) (own : l.start ≡ start_at S i) (now : l.term ≡ term_at S i)
     (up : 0 < start_at S i) (some : 0 < l.term) (x : Line) (said : line_in l.body ≡ x ∷ []) where
@@ -63,14 +63,14 @@ module _ (S : LogState) (H : Holds S) (k i : ℕ) (l : Letter) (ls : List Letter
   receives = joins (S.sites i).joining refl
     where
       begun : (m : (w : Membership) × ((S.sites i).view ≡ Some w) × MemberOk S i w) → (S.sites i).joining ≡ None → (f : follows S.words.deployment m.0 i k ≡ true)
-          → (r : Option Reign) → S.logs.reign (part S i) (term_of m.0) ≡ r → FollowsIn (S.sites i) (x ∷ line (start_at S i) (term_of m.0) ls) r → Receives S k i x ls
+          → (r : Option Leadership) → S.logs.leadership (part S i) (term_of m.0) ≡ r → FollowsIn (S.sites i) (x ∷ line (start_at S i) (term_of m.0) ls) r → Receives S k i x ls
       begun m none f None led lacks = let e = lacks.1 in absurd (cc)
-      begun m none f (Some g) led lacks = record { joins = none; word = m.0; view = m.1; member = m.2; following = f; reign = g; led = led; lacks = lacks }
+      begun m none f (Some g) led lacks = record { joins = none; word = m.0; view = m.1; member = m.2; following = f; leadership = g; led = led; lacks = lacks }
 
       leads : (m : (w : Membership) × ((S.sites i).view ≡ Some w) × MemberOk S i w) → (S.sites i).joining ≡ None → Receives S k i x ls
       leads m none = elim (cases_Bool (follows S.words.deployment m.0 i k)) [
-        | inl f ↦ begun m none f (S.logs.reign (part S i) (term_of m.0)) refl
-            (subst (λ ys. FollowsIn (S.sites i) ys (S.logs.reign (part S i) (term_of m.0))) (first-line m.0 m.1) (m.2.following k f))
+        | inl f ↦ begun m none f (S.logs.leadership (part S i) (term_of m.0)) refl
+            (subst (λ ys. FollowsIn (S.sites i) ys (S.logs.leadership (part S i) (term_of m.0))) (first-line m.0 m.1) (m.2.following k f))
         | inr f ↦ (let e = sym (first-line m.0 m.1) ∙ m.2.others k f in absurd (cc))
       ]
 
@@ -80,7 +80,7 @@ module _ (S : LogState) (H : Holds S) (k i : ℕ) (l : Letter) (ls : List Letter
 
 -- ---- the messages behind it
 
-module _ (S : LogState) (k i : ℕ) (out : Sends) (quiet : (b : Actor) → same (Scanner i) b ≡ false → out b ≡ []) where
+module _ (S : LogState) (k i : ℕ) (out : Sends) (inert : (b : Actor) → same (Scanner i) b ≡ false → out b ≡ []) where
   abbrev ch : Actor → Actor → List Letter
   ch = sent (took S.words.channel (Site k) (Site i)) (Site i) out
 
@@ -90,7 +90,7 @@ module _ (S : LogState) (k i : ℕ) (out : Sends) (quiet : (b : Actor) → same 
     where
       choice : (c : Bool) → (if c then took S.words.channel (Site k) (Site i) (Site a) b ++ out b else took S.words.channel (Site k) (Site i) (Site a) b)
           ≡ took S.words.channel (Site k) (Site i) (Site a) b
-      choice true = ap (λ ys. took S.words.channel (Site k) (Site i) (Site a) b ++ ys) (quiet b apart) ∙ append-nil (took S.words.channel (Site k) (Site i) (Site a) b)
+      choice true = ap (λ ys. took S.words.channel (Site k) (Site i) (Site a) b ++ ys) (inert b apart) ∙ append-nil (took S.words.channel (Site k) (Site i) (Site a) b)
       choice false = refl
 
   -- to other slots all is as it was
@@ -109,9 +109,9 @@ module _ (S : LogState) (k i : ℕ) (out : Sends) (quiet : (b : Actor) → same 
 
 module _ (S : LogState) (H : Holds S) (k i : ℕ) (l : Letter) (ls : List Letter) (is : between S k i ≡ l ∷ ls) (up : 0 < start_at S i) (x : Line) (r : Receives S k i x ls)
     (no-flow : flow_in l.past l.body ≡ []) (no-ask : ask_in l.body ≡ [])
-    (more : List Entry) (floor : ℕ) (owes : Option ℕ) (scans : ℕ) (scanning : Option Scanning) (out : Sends) (quiet : (b : Actor) → same (Scanner i) b ≡ false → out b ≡ [])
+    (more : List Entry) (floor : ℕ) (owes : Option ℕ) (scans : ℕ) (scanning : Option Scanning) (out : Sends) (inert : (b : Actor) → same (Scanner i) b ≡ false → out b ≡ [])
     (below : floor ≤ S.logs.reach (part S i) (term_of r.word))
-    (lacks : FollowsIn (grew (S.sites i) more floor true owes scans scanning) (line (start_at S i) (term_of r.word) ls) (Some r.reign)) where
+    (lacks : FollowsIn (grew (S.sites i) more floor true owes scans scanning) (line (start_at S i) (term_of r.word) ls) (Some r.leadership)) where
   abbrev state : SiteState
   state = grew (S.sites i) more floor true owes scans scanning
 
@@ -119,21 +119,21 @@ module _ (S : LogState) (H : Holds S) (k i : ℕ) (l : Letter) (ls : List Letter
   next = after (popped S (Site k) i) i state out S.logs
 
   abbrev channel : Actor → Actor → List Letter
-  channel = ch S k i out quiet
+  channel = ch S k i out inert
 
   later : Later S next
-  later = grew-later S H i more floor true owes scans scanning channel S.logs.reign
+  later = grew-later S H i more floor true owes scans scanning channel S.logs.leadership
 
   -- what was taken was neither a stream's nor an ask
   flow-kept : (j c start term : ℕ) → flow start term (channel (Site j) (Site c)) ≡ flow start term (between S j c)
-  flow-kept j c start term = ap (flow start term) (from-site S k i out quiet j (Site c) refl)
+  flow-kept j c start term = ap (flow start term) (from-site S k i out inert j (Site c) refl)
       ∙ taken-either S (Site k) i (λ a c ys. flow start term ys ≡ flow start term (S.words.channel a (Site c)))
       (λ c q. subst (λ y. flow start term (rest (between S k y)) ≡ flow start term (between S k y)) (sym q)
       (ap (λ ys. flow start term (rest ys)) is ∙ sym (ap (λ ys. ys ++ flow start term ls) (flow-plain start term l no-flow)) ∙ ap (flow start term) (sym is)))
       (Site j) c refl
 
   asks-kept : (j c term : ℕ) → asks_in term (channel (Site j) (Site c)) ≡ asks_in term (between S j c)
-  asks-kept j c term = ap (asks_in term) (from-site S k i out quiet j (Site c) refl)
+  asks-kept j c term = ap (asks_in term) (from-site S k i out inert j (Site c) refl)
       ∙ taken-either S (Site k) i (λ a c ys. asks_in term ys ≡ asks_in term (S.words.channel a (Site c)))
       (λ c q. subst (λ y. asks_in term (rest (between S k y)) ≡ asks_in term (between S k y)) (sym q)
       (ap (λ ys. asks_in term (rest ys)) is ∙ sym (ap (λ ys. ys ++ asks_in term ls) (asks-plain term l no-ask)) ∙ ap (asks_in term) (sym is)))
@@ -144,14 +144,14 @@ module _ (S : LogState) (H : Holds S) (k i : ℕ) (l : Letter) (ls : List Letter
     agents = λ h b. if-false (same (Site i) b && false) (rest (S.words.channel (Agent h) b)) (S.words.channel (Agent h) b) (and-false (same (Site i) b));
     director = λ h. refl;
     foreign = foreign;
-    told = λ c h. subst (AllByRecursion (ToldOk S c)) (sym (from-site S k i out quiet c (Agent h) refl)) (H.loads.told c h);
-    letters = λ j c slot. subst (AllByRecursion (SiteLetterOk S j c)) (sym (from-site S k i out quiet j (Site c) refl))
+    told = λ c h. subst (AllByRecursion (ToldOk S c)) (sym (from-site S k i out inert c (Agent h) refl)) (H.loads.told c h);
+    letters = λ j c slot. subst (AllByRecursion (SiteLetterOk S j c)) (sym (from-site S k i out inert j (Site c) refl))
         (took-all (SiteLetterOk S j c) S.words.channel (Site k) (Site i) (Site j) (Site c) (H.letters j c slot));
-    begins = λ j c start term nj. subst (AllByRecursion (BeginsAt nj)) (sym (flow-kept j c start term));
+    begins = λ j c start term stream_start. subst (AllByRecursion (BeginsAt stream_start)) (sym (flow-kept j c start term));
   }
     where
       foreign : (from : Actor) (c : ℕ) → AllByRecursion (ForeignOk S c from) (channel from (Site c))
-      foreign (Site j) c = subst (AllByRecursion (ForeignOk S c (Site j))) (sym (from-site S k i out quiet j (Site c) refl))
+      foreign (Site j) c = subst (AllByRecursion (ForeignOk S c (Site j))) (sym (from-site S k i out inert j (Site c) refl))
           (took-all (ForeignOk S c (Site j)) S.words.channel (Site k) (Site i) (Site j) (Site c) (H.foreign (Site j) c))
       foreign (Agent h) c = took-all (ForeignOk S c (Agent h)) S.words.channel (Site k) (Site i) (Agent h) (Site c) (H.foreign (Agent h) c)
       foreign Director c = took-all (ForeignOk S c Director) S.words.channel (Site k) (Site i) Director (Site c) (H.foreign Director c)
@@ -159,12 +159,12 @@ module _ (S : LogState) (H : Holds S) (k i : ℕ) (l : Letter) (ls : List Letter
       foreign (Scanner z) c = took-all (ForeignOk S c (Scanner z)) S.words.channel (Site k) (Site i) (Scanner z) (Site c) (H.foreign (Scanner z) c)
 
   own-member : MemberOk next i r.word
-  own-member = grew-member S H i more floor true owes scans scanning channel S.logs.reign r.word refl below
+  own-member = grew-member S H i more floor true owes scans scanning channel S.logs.leadership r.word refl below
       (λ e. absurd (not-both (follows S.words.deployment r.word i k) r.following (leader-follows-none S.words.deployment r.word i k e)))
-      (λ a f. subst (λ y. FollowsIn state (line (start_at S i) (term_of r.word) (channel (Site y) (Site i))) (S.logs.reign (part S i) (term_of r.word)))
+      (λ a f. subst (λ y. FollowsIn state (line (start_at S i) (term_of r.word) (channel (Site y) (Site i))) (S.logs.leadership (part S i) (term_of r.word)))
       (follows-one S.words.deployment r.word i k a r.following f)
-      (rw (r.led, from-first S k i out quiet l ls is) lacks))
-      (λ a f. ap (line (start_at S i) (term_of r.word)) (from-other S k i out quiet a
+      (rw (r.led, from-first S k i out inert l ls is) lacks))
+      (λ a f. ap (line (start_at S i) (term_of r.word)) (from-other S k i out inert a
       (λ e. not-both (follows S.words.deployment r.word i a) (subst (λ y. follows S.words.deployment r.word i y ≡ true) (sym e) r.following) f)) ∙ r.member.others a f)
       r.member
 
@@ -173,7 +173,7 @@ module _ (S : LogState) (H : Holds S) (k i : ℕ) (l : Letter) (ls : List Letter
     site = still-same (S.sites c) (next.sites c) (set-there S.sites i state c other)
 
     copy-keeps : (v : Membership) → MemberOk S c v → MemberOk next c v
-    copy-keeps v m = member-keeps S next H later c site v m (λ a. ap (line (start_at S c) (term_of v)) (to-other S k i out quiet a c other)) refl
+    copy-keeps v m = member-keeps S next H later c site v m (λ a. ap (line (start_at S c) (term_of v)) (to-other S k i out inert a c other)) refl
 
     asked-same : (a t : ℕ) → asked next c a t ≡ asked S c a t
     asked-same a t =
@@ -183,9 +183,9 @@ module _ (S : LogState) (H : Holds S) (k i : ℕ) (l : Letter) (ls : List Letter
 
     same-from : (a t : ℕ) → SameFrom S next c a t
     same-from a t = record {
-      lines = ap (line (start_at S c) t) (to-other S k i out quiet a c other);
-      flows = ap (flow (start_at S c) t) (to-other S k i out quiet a c other);
-      ends = λ e. ap (ends (start_at S c) t) (to-other S k i out quiet a c other) ∙ e;
+      lines = ap (line (start_at S c) t) (to-other S k i out inert a c other);
+      flows = ap (flow (start_at S c) t) (to-other S k i out inert a c other);
+      ends = λ e. ap (ends (start_at S c) t) (to-other S k i out inert a c other) ∙ e;
       asks = at-most-is (asked S c a t) (asked next c a t) (asked-same a t);
       uncounted = set-both (λ h y. Uncounted S h c (start_at S c) → (j : Joiner) → In j y.joiners → j.slot ≡ c → j.start ≡ start_at S c → ⊥)
           S.sites i state (λ f. f) (λ h n f. f) a;
@@ -194,18 +194,18 @@ module _ (S : LogState) (H : Holds S) (k i : ℕ) (l : Letter) (ls : List Letter
     joiner-keeps : (j : Joining) → JoinerOk S c j → JoinerOk next c j
     joiner-keeps j m = keeps.joiner-keeps S next H later c site j
         (record { entered = λ t e is _. is; streamed = λ t y is _. is })
-        (record { reign = refl; reach = refl })
+        (record { leadership = refl; reach = refl })
         (λ a. same-from a (term_at S c))
-        (λ nj v. counted-from S next H later i (λ a n. set-there S.sites i state a n) c (start_at S c) nj v
-        (subst (λ y. 0 < y.start → y.joining ≡ None → y.view ≡ Some v → (j : Joiner) × In j y.joiners × (j.slot ≡ c) × (j.start ≡ start_at S c) × (j.nj ≡ nj))
+        (λ stream_start v. counted-from S next H later i (λ a n. set-there S.sites i state a n) c (start_at S c) stream_start v
+        (subst (λ y. 0 < y.start → y.joining ≡ None → y.view ≡ Some v → (j : Joiner) × In j y.joiners × (j.slot ≡ c) × (j.start ≡ start_at S c) × (j.stream_start ≡ stream_start))
         (sym (set-here S.sites i state))))
         m
 
   taken-holds : Holds next
-  taken-holds = grew-holds S H i more floor true owes scans scanning channel S.logs.reign
-      up r.joins (same-reigns S.logs S.logs refl) carries r.word r.view own-member copy-keeps joiner-keeps
+  taken-holds = grew-holds S H i more floor true owes scans scanning channel S.logs.leadership
+      up r.joins (same-leaderships S.logs S.logs refl) carries r.word r.view own-member copy-keeps joiner-keeps
 
--- ---- the rows
+-- ---- the handlers
 
 -- what is so of the first message
 first-ok : (S : LogState) → Holds S → (k i : ℕ) (l : Letter) (ls : List Letter) → between S k i ≡ l ∷ ls → 0 < start_at S i → SiteLetterOk S k i l
@@ -228,11 +228,11 @@ on_put-goes E S H i k l ls position e floor is up own now = goes r.lacks
     below : max (S.sites i).floor floor ≤ S.logs.reach (part S i) (term_of r.word)
     below = let a = r.member.floor in let b = subst (λ t. floor ≤ S.logs.reach (part S i) t) (now ∙ ap term_in r.view) ok.1 in omega (arith, a, b)
 
-    goes : FollowsIn (S.sites i) (Puts e ∷ line (start_at S i) (term_of r.word) ls) (Some r.reign)
+    goes : FollowsIn (S.sites i) (Puts e ∷ line (start_at S i) (term_of r.word) ls) (Some r.leadership)
         → Goes (popped S (Site k) i) i (on_put E S.words.deployment i (S.sites i) position e floor)
     goes (inr (es, unrepaired, line_is, whole)) =
-        absurd (repairs-not-put (length (S.sites i).log) (drop (length (S.sites i).log) r.reign.begun) e (map Puts es) (line (start_at S i) (term_of r.word) ls) (sym line_is))
-    goes (inl (es, repaired, line_is, whole, front)) =
+        absurd (repairs-not-put (length (S.sites i).log) (drop (length (S.sites i).log) r.leadership.begun) e (map Puts es) (line (start_at S i) (term_of r.word) ls) (sym line_is))
+    goes (inl (es, repaired, line_is, whole, prefix)) =
         let fs = puts-cons es e (line (start_at S i) (term_of r.word) ls) (sym line_is) in
         let state : (on_put E S.words.deployment i (S.sites i) position e floor).state
         ≡ grew (S.sites i) (e ∷ []) (max (S.sites i).floor floor) true (S.sites i).owes one.scans one.scanning =
@@ -241,21 +241,21 @@ on_put-goes E S H i k l ls position e floor is up own now = goes r.lacks
           logs = S.logs;
           start = ap (λ x. x.start) state;
           view = ap (λ x. x.view) state;
-          plain = λ c. subst (AllByRecursion NoStreamStart) (sym (one.quiet (Site c) refl)) tt;
+          plain = λ c. subst (AllByRecursion NoStreamStart) (sym (one.inert (Site c) refl)) tt;
           holds = subst (λ x. Holds (after (popped S (Site k) i) i x (on_put E S.words.deployment i (S.sites i) position e floor).sends S.logs)) (sym state)
               (taken-holds S H k i (record l { body = msg.Put position e floor }) ls is up (Puts e) r refl refl (e ∷ [])
               (max (S.sites i).floor floor) (S.sites i).owes one.scans one.scanning
-              (on_put E S.words.deployment i (S.sites i) position e floor).sends one.quiet below
+              (on_put E S.words.deployment i (S.sites i) position e floor).sends one.inert below
               (inl (
                 fs.0,
                 refl,
                 fs.2,
                 append_assoc (S.sites i).log (e ∷ []) fs.0 ∙ ap (λ x. (S.sites i).log ++ x) (sym fs.1) ∙ whole,
-                front-grows r.reign.begun (S.sites i).log (e ∷ []) front,
+                prefix-grows r.leadership.begun (S.sites i).log (e ∷ []) prefix,
               )));
           grown = grown-same S.words.deployment i (on_put E S.words.deployment i (S.sites i) position e floor).state S.logs;
           enters = enters-same i (length (log_at S i)) S.logs S.logs refl;
-          longer = subst (λ x. length (log_at S i) ≤ length x.log) (sym state) (front-length (log_at S i) (log_at S i ++ e ∷ []) (front-append (log_at S i) (e ∷ [])));
+          longer = subst (λ x. length (log_at S i) ≤ length x.log) (sym state) (prefix-length (log_at S i) (log_at S i ++ e ∷ []) (prefix-append (log_at S i) (e ∷ [])));
         }
 
 pub on_repair-goes : (E : Database) (S : LogState) → Holds S → (i k : ℕ) (l : Letter) (ls : List Letter) (from : ℕ) (entries : List Entry)
@@ -269,40 +269,40 @@ on_repair-goes E S H i k l ls from entries is up own now = goes r.lacks
     r : Receives S k i (Repairs from entries) ls
     r = receives S H k i (record l { body = msg.Repair from entries }) ls is own now up ok.0.1 (Repairs from entries) refl
 
-    -- what it entered the term with is a front of what that begins with
-    behind : (S.sites i).repaired ≡ false → Front (S.sites i).log r.reign.begun
+    -- what it entered the term with is a prefix of what that begins with
+    behind : (S.sites i).repaired ≡ false → Prefix (S.sites i).log r.leadership.begun
     behind unrepaired =
-        let o = reign-entered S H (part S i) (term_of r.word) r.reign r.led r.word (record { decided = r.member.decided; term_is = refl }) i (start_at S i)
+        let o = leadership-entered S H (part S i) (term_of r.word) r.leadership r.led r.word (record { decided = r.member.decided; term_is = refl }) i (start_at S i)
         (running-slot S H i up) refl r.member.start_is in
-        subst (λ x. Front x r.reign.begun) (sym ((r.member.still unrepaired).0 ∙ ap (λ e. e.log) (same-some (sym r.member.is_entered ∙ o.1)))) o.3
+        subst (λ x. Prefix x r.leadership.begun) (sym ((r.member.still unrepaired).0 ∙ ap (λ e. e.log) (same-some (sym r.member.is_entered ∙ o.1)))) o.3
 
     all : Appended i (record (S.sites i) { owes = Some (site_term (S.sites i)); repaired = true }) (drop (length (S.sites i).log - from) entries)
         (on_repair E S.words.deployment i (S.sites i) from entries)
     all = appends-all E S.words.deployment i (drop (length (S.sites i).log - from) entries) (record (S.sites i) { owes = Some (site_term (S.sites i)); repaired = true })
 
-    goes : FollowsIn (S.sites i) (Repairs from entries ∷ line (start_at S i) (term_of r.word) ls) (Some r.reign)
+    goes : FollowsIn (S.sites i) (Repairs from entries ∷ line (start_at S i) (term_of r.word) ls) (Some r.leadership)
         → Goes (popped S (Site k) i) i (on_repair E S.words.deployment i (S.sites i) from entries)
-    goes (inl (es, repaired, line_is, whole, front)) = absurd (puts-not-repairs es entries from (line (start_at S i) (term_of r.word) ls) (sym line_is))
+    goes (inl (es, repaired, line_is, whole, prefix)) = absurd (puts-not-repairs es entries from (line (start_at S i) (term_of r.word) ls) (sym line_is))
     goes (inr (es, unrepaired, line_is, whole)) =
-        let same = repairs-same from (length (S.sites i).log) entries (drop (length (S.sites i).log) r.reign.begun)
+        let same = repairs-same from (length (S.sites i).log) entries (drop (length (S.sites i).log) r.leadership.begun)
         (line (start_at S i) (term_of r.word) ls) (map Puts es) line_is in
         let none : length (S.sites i).log - from ≡ 0 = omega (arith, same.0) in
-        let lacked : drop (length (S.sites i).log - from) entries ≡ drop (length (S.sites i).log) r.reign.begun =
+        let lacked : drop (length (S.sites i).log - from) entries ≡ drop (length (S.sites i).log) r.leadership.begun =
         ap (λ n. drop n entries) none ∙ same.1 in
-        let begun : (S.sites i).log ++ drop (length (S.sites i).log - from) entries ≡ r.reign.begun =
-        ap (λ x. (S.sites i).log ++ x) lacked ∙ sym (front-rest (S.sites i).log r.reign.begun (behind unrepaired)) in
+        let begun : (S.sites i).log ++ drop (length (S.sites i).log - from) entries ≡ r.leadership.begun =
+        ap (λ x. (S.sites i).log ++ x) lacked ∙ sym (prefix-rest (S.sites i).log r.leadership.begun (behind unrepaired)) in
         record {
           logs = S.logs;
           start = ap (λ x. x.start) all.state;
           view = ap (λ x. x.view) all.state;
-          plain = λ c. subst (AllByRecursion NoStreamStart) (sym (all.quiet (Site c) refl)) tt;
+          plain = λ c. subst (AllByRecursion NoStreamStart) (sym (all.inert (Site c) refl)) tt;
           holds = subst (λ x. Holds (after (popped S (Site k) i) i x (on_repair E S.words.deployment i (S.sites i) from entries).sends S.logs)) (sym all.state)
               (taken-holds S H k i (record l { body = msg.Repair from entries }) ls is up (Repairs from entries) r refl refl (drop (length (S.sites i).log - from) entries)
               (S.sites i).floor (Some (site_term (S.sites i))) all.scans all.scanning
-              (on_repair E S.words.deployment i (S.sites i) from entries).sends all.quiet r.member.floor
-              (inl (es, refl, same.2, ap (λ x. x ++ es) begun ∙ whole, subst (Front r.reign.begun) (sym begun) (front-refl r.reign.begun))));
+              (on_repair E S.words.deployment i (S.sites i) from entries).sends all.inert r.member.floor
+              (inl (es, refl, same.2, ap (λ x. x ++ es) begun ∙ whole, subst (Prefix r.leadership.begun) (sym begun) (prefix-refl r.leadership.begun))));
           grown = grown-same S.words.deployment i (on_repair E S.words.deployment i (S.sites i) from entries).state S.logs;
           enters = enters-same i (length (log_at S i)) S.logs S.logs refl;
           longer = subst (λ x. length (log_at S i) ≤ length x.log) (sym all.state)
-              (front-length (log_at S i) (log_at S i ++ drop (length (S.sites i).log - from) entries) (front-append (log_at S i) (drop (length (S.sites i).log - from) entries)));
+              (prefix-length (log_at S i) (log_at S i ++ drop (length (S.sites i).log - from) entries) (prefix-append (log_at S i) (drop (length (S.sites i).log - from) entries)));
         }

@@ -38,10 +38,10 @@ position-start slot position j = choice (j.slot == slot)
     choice true = refl
     choice false = refl
 
-position-nj : (slot position : ℕ) (j : Joiner) → (with_position slot position j).nj ≡ j.nj
-position-nj slot position j = choice (j.slot == slot)
+position-stream_start : (slot position : ℕ) (j : Joiner) → (with_position slot position j).stream_start ≡ j.stream_start
+position-stream_start slot position j = choice (j.slot == slot)
   where
-    choice : (b : Bool) → (if b then record j { position = position } else j).nj ≡ j.nj
+    choice : (b : Bool) → (if b then record j { position = position } else j).stream_start ≡ j.stream_start
     choice true = refl
     choice false = refl
 
@@ -81,7 +81,7 @@ module _ (T : LogState) (H : Holds T) (i slot position : ℕ) (up : 0 < start_at
       | inl e ↦ inl (ap (map (with_position slot position)) e)
       | inr e ↦ inr e
     ];
-    counted = map-joiners (with_position slot position) (position-slot slot position) (position-start slot position) (position-nj slot position) (T.sites i).joiners;
+    counted = map-joiners (with_position slot position) (position-slot slot position) (position-start slot position) (position-stream_start slot position) (T.sites i).joiners;
     on_disk = λ _. k.on_disk;
     held = λ _. k.held;
   }

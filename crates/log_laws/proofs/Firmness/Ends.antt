@@ -70,21 +70,21 @@ module _ (T : LogState) (H : Holds T) (i : ℕ) (up : 0 < start_at T i) where
     term = ap term_in o.view
 
     -- a start of its slot that is counted in this term is this one
-    counted-nj : (a nj : ℕ) (v : Membership) → WordOf T (term_of o.word) v → IsCounted T j.slot a nj v → nj ≡ j.nj
-    counted-nj a nj v of c =
+    counted-stream_start : (a stream_start : ℕ) (v : Membership) → WordOf T (term_of o.word) v → IsCounted T j.slot a stream_start v → stream_start ≡ j.stream_start
+    counted-stream_start a stream_start v of c =
         let is : v ≡ o.word = same-word T H (term_of o.word) v o.word of own in
         let r = c i (ap (λ x. leader T.words.deployment x (part T j.slot)) is ∙ ap (λ p. leader T.words.deployment o.word p) k.part_is ∙ o.first)
         up o.none (o.view ∙ ap Some (sym is)) in
-        sym r.4 ∙ ap (λ x. x.nj) (slot-one (T.sites i).joiners keeps.alone r.0 j r.1 here r.2)
+        sym r.4 ∙ ap (λ x. x.stream_start) (slot-one (T.sites i).joiners keeps.alone r.0 j r.1 here r.2)
 
     -- what is under way to it begins at its position
     view-begins : (x : Joining) → (T.sites j.slot).joining ≡ Some x → start_at T j.slot ≡ j.start → (T.sites j.slot).earlier < term_at T i
         → (v : Option Membership) → (T.sites j.slot).view ≡ v → term_in v ≡ term_at T i → ViewIn T j.slot x v
-        → AllByRecursion (BeginsAt j.nj) (flow j.start (term_at T i) (between T i j.slot))
+        → AllByRecursion (BeginsAt j.stream_start) (flow j.start (term_at T i) (between T i j.slot))
     view-begins x joins runs low None view is w = absurd (let p = some-term T H o.word o.member.decided in omega (arith, is, term, p))
     view-begins x joins runs low (Some v) view is w =
-        subst (λ t. AllByRecursion (BeginsAt j.nj) (flow j.start t (between T i j.slot))) is
-        (subst (λ a. AllByRecursion (BeginsAt j.nj) (flow a (term_of v) (between T i j.slot))) runs (stream-begins x.stream w.stream))
+        subst (λ t. AllByRecursion (BeginsAt j.stream_start) (flow j.start t (between T i j.slot))) is
+        (subst (λ a. AllByRecursion (BeginsAt j.stream_start) (flow a (term_of v) (between T i j.slot))) runs (stream-begins x.stream w.stream))
       where
         decided : In v T.words.history.decided
         decided = took-decided T H (start_at T j.slot) v w.took
@@ -96,33 +96,33 @@ module _ (T : LogState) (H : Holds T) (i : ℕ) (up : 0 < start_at T i) where
         followed = subst (λ y. follows T.words.deployment y j.slot i ≡ true) (sym (same-word T H (term_of o.word) v o.word of own))
             (leader-followed T.words.deployment o.word i j.slot o.first k.part_is (λ e. none-and-some o.none (ap (λ c. (T.sites c).joining) (sym e) ∙ joins)))
 
-        only-follows : (es : List Entry) → AllByRecursion (BeginsAt j.nj) (map Follows es)
+        only-follows : (es : List Entry) → AllByRecursion (BeginsAt j.stream_start) (map Follows es)
         only-follows [] = tt
         only-follows (e ∷ es) = (tt, only-follows es)
 
-        stream-begins : (st : Option Streamed) → StreamIn T j.slot v x st → AllByRecursion (BeginsAt j.nj) (flow (start_at T j.slot) (term_of v) (between T i j.slot))
+        stream-begins : (st : Option Streamed) → StreamIn T j.slot v x st → AllByRecursion (BeginsAt j.stream_start) (flow (start_at T j.slot) (term_of v) (between T i j.slot))
         stream-begins None u = elim (u.comes i followed (subst (λ t. (T.sites j.slot).earlier < t) (sym is) low)) [
           | inl q ↦ absurd (q.uncounted j here refl (sym runs))
-          | inr q ↦ subst (AllByRecursion (BeginsAt j.nj)) (sym q.0.flow_is) (counted-nj (start_at T j.slot) (length q.0.past) v of q.0.counted, only-follows q.0.more)
+          | inr q ↦ subst (AllByRecursion (BeginsAt j.stream_start)) (sym q.0.flow_is) (counted-stream_start (start_at T j.slot) (length q.0.past) v of q.0.counted, only-follows q.0.more)
         ]
-        stream-begins (Some st) u = subst (λ l. AllByRecursion (BeginsAt j.nj) (flow (start_at T j.slot) (term_of v) (between T l j.slot)))
-            (follows-one T.words.deployment v j.slot u.from i u.following followed) (subst (AllByRecursion (BeginsAt j.nj)) (sym u.flow_is) (only-follows u.more))
+        stream-begins (Some st) u = subst (λ l. AllByRecursion (BeginsAt j.stream_start) (flow (start_at T j.slot) (term_of v) (between T l j.slot)))
+            (follows-one T.words.deployment v j.slot u.from i u.following followed) (subst (AllByRecursion (BeginsAt j.stream_start)) (sym u.flow_is) (only-follows u.more))
 
     -- its position is everywhere
-    everywhere : j.nj ≤ T.logs.reach (part T j.slot) (term_at T i)
-    everywhere = subst (λ p. j.nj ≤ T.logs.reach p (term_at T i)) (sym k.part_is) (subst (λ t. j.nj ≤ T.logs.reach (part T i) t) (sym term)
-        (let firm = o.member.firm in let b = leb-true j.nj (T.sites i).firm (and_parts (is_some j.count) (nat_le j.nj (T.sites i).firm) sent).1 in omega (arith, firm, b)))
+    everywhere : j.stream_start ≤ T.logs.reach (part T j.slot) (term_at T i)
+    everywhere = subst (λ p. j.stream_start ≤ T.logs.reach p (term_at T i)) (sym k.part_is) (subst (λ t. j.stream_start ≤ T.logs.reach (part T i) t) (sym term)
+        (let firm = o.member.firm in let b = leb-true j.stream_start (T.sites i).firm (and_parts (is_some j.count) (nat_le j.stream_start (T.sites i).firm) sent).1 in omega (arith, firm, b)))
 
     end-ok : SiteLetterOk T i j.slot (end_letter (T.sites i) j.slot j)
     end-ok = (
       ((k.been.some, subst (λ t. 0 < t) (sym term) (some-term T H o.word o.member.decided)), k.been.ran, k.reached),
       record {
-        nj = j.nj;
+        stream_start = j.stream_start;
         everywhere = everywhere;
         begun = λ x joins runs is low. view-begins x joins runs low (T.sites j.slot).view refl is ((H.sites j.slot).joiner x joins).view;
         taken = λ runs is x streamed start.
             let r = H.streamed j.slot (term_at T i) x streamed in
-            counted-nj x.start x.nj r.word (record { decided = took-decided T H x.start r.word r.took; term_is = r.term_is ∙ term }) r.counted;
+            counted-stream_start x.start x.stream_start r.word (record { decided = took-decided T H x.start r.word r.took; term_is = r.term_is ∙ term }) r.counted;
       },
     )
 
@@ -169,7 +169,7 @@ module _ (T : LogState) (H : Holds T) (i : ℕ) (up : 0 < start_at T i) where
           | inr e ↦ inr e
         ];
         counted = map-joiners (without_count (T.sites i)) (count-same (λ j. j.slot) (λ j. refl) (T.sites i)) (count-same (λ j. j.start) (λ j. refl) (T.sites i))
-            (count-same (λ j. j.nj) (λ j. refl) (T.sites i)) (T.sites i).joiners;
+            (count-same (λ j. j.stream_start) (λ j. refl) (T.sites i)) (T.sites i).joiners;
         on_disk = λ _. keeps.on_disk;
         held = λ _. keeps.held;
       }

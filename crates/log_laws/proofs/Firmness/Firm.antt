@@ -14,7 +14,7 @@ use Rattle.cluster_model.specs.Site.{own_ack, acked_in, firm_now, floor_now, ans
 use Rattle.word_laws.specs.Histories.{In}
 use Rattle.word_laws.proofs.Lists.{all-at, all-from, all-filter, in-filter, in-map-from, same-some, none-and-some, not-both}
 use Rattle.word_laws.proofs.Steps.{same-true}
-use Rattle.log_laws.specs.Histories.{LogState, Entered, Streaming, Reign, Flow, Holds, IsSlot, WordOf, AckOk, CountedOk, IsCounted, HeldFor, HeldOk, LeadsIn, MemberOk, KeepsOk, Coming, ToldOk, SiteLetterOk, end_of, part, start_at, log_at, term_at}
+use Rattle.log_laws.specs.Histories.{LogState, Entered, Streaming, Leadership, Flow, Holds, IsSlot, WordOf, AckOk, CountedOk, IsCounted, HeldFor, HeldOk, LeadsIn, MemberOk, KeepsOk, Coming, ToldOk, SiteLetterOk, end_of, part, start_at, log_at, term_at}
 use Rattle.log_laws.proofs.Kept.Moves.{Goes}
 use Rattle.log_laws.proofs.Plain.Lines.{ends-none}
 use Rattle.log_laws.proofs.Plain.Copies.{is_in-in, copy-other, leads-parts, leader-view, is-leader}
@@ -108,9 +108,9 @@ module _ (T : LogState) (H : Holds T) (i : ℕ) (up : 0 < start_at T i) (o : Lea
       low = known-below c (length (log_at T c)) same ((H.entered c (term_of w) e is).running runs).2
 
   -- a start that is counted
-  counted-joiner : (c a nj : ℕ) (v : Membership) → part T c ≡ part T i → WordOf T (term_of w) v → IsCounted T c a nj v
-      → (j : Joiner) × In j (T.sites i).joiners × (j.slot ≡ c) × (j.start ≡ a) × (j.nj ≡ nj)
-  counted-joiner c a nj v same of counted =
+  counted-joiner : (c a stream_start : ℕ) (v : Membership) → part T c ≡ part T i → WordOf T (term_of w) v → IsCounted T c a stream_start v
+      → (j : Joiner) × In j (T.sites i).joiners × (j.slot ≡ c) × (j.start ≡ a) × (j.stream_start ≡ stream_start)
+  counted-joiner c a stream_start v same of counted =
       let is : v ≡ w = same-word T H (term_of w) v w of own-word in
       counted i (ap (λ x. leader T.words.deployment x (part T c)) is ∙ ap (λ p. leader T.words.deployment w p) same ∙ o.first) up o.none (o.view ∙ ap Some (sym is))
 
@@ -118,9 +118,9 @@ module _ (T : LogState) (H : Holds T) (i : ℕ) (up : 0 < start_at T i) (o : Lea
   joiner-ok j is = subst (λ t. CountedOk T (part T i) t j) here (all-at (CountedOk T (part T i) (term_at T i)) (T.sites i).joiners keeps.joiners j is)
 
   -- of which it isn't above where its stream began or what is in its log
-  pub reach_now-counted : (c a nj n : ℕ) (v : Membership) → part T c ≡ part T i → WordOf T (term_of w) v → IsCounted T c a nj v → start_at T c ≡ a → (T.sites c).earlier < term_of w
-      → T.logs.reach (part T c) (term_of w) ≤ n → nj ≤ n → length (log_at T c) ≤ n → reach_now T.words.deployment i (T.sites i) ≤ n
-  reach_now-counted c a nj n v same of counted runs below reach from upto =
+  pub reach_now-counted : (c a stream_start n : ℕ) (v : Membership) → part T c ≡ part T i → WordOf T (term_of w) v → IsCounted T c a stream_start v → start_at T c ≡ a → (T.sites c).earlier < term_of w
+      → T.logs.reach (part T c) (term_of w) ≤ n → stream_start ≤ n → length (log_at T c) ≤ n → reach_now T.words.deployment i (T.sites i) ≤ n
+  reach_now-counted c a stream_start n v same of counted runs below reach from upto =
       reach_now-joiner T.words.deployment i (T.sites i) n low.0 low.1 j r.1
       (let m = (joiner-ok j r.1).position (ap (λ x. start_at T x) r.2 ∙ runs ∙ sym r.3) (subst (λ x. (T.sites x).earlier < term_of w) (sym r.2) below) in
       let l : length (log_at T j.slot) ≤ n = subst (λ x. length (log_at T x) ≤ n) (sym r.2) upto in
@@ -130,8 +130,8 @@ module _ (T : LogState) (H : Holds T) (i : ℕ) (up : 0 < start_at T i) (o : Lea
       low : ((T.sites i).firm ≤ n) × ((T.sites i).floor ≤ n)
       low = known-below c n same reach
 
-      r : (j : Joiner) × In j (T.sites i).joiners × (j.slot ≡ c) × (j.start ≡ a) × (j.nj ≡ nj)
-      r = counted-joiner c a nj v same of counted
+      r : (j : Joiner) × In j (T.sites i).joiners × (j.slot ≡ c) × (j.start ≡ a) × (j.stream_start ≡ stream_start)
+      r = counted-joiner c a stream_start v same of counted
 
       j : Joiner
       j = r.0
@@ -142,7 +142,7 @@ module _ (T : LogState) (H : Holds T) (i : ℕ) (up : 0 < start_at T i) (o : Lea
   reach_now-streamed c x same is runs =
       let k = H.streamed c (term_of w) x is in
       let r = k.running runs in
-      reach_now-counted c x.start x.nj (length (log_at T c)) k.word same
+      reach_now-counted c x.start x.stream_start (length (log_at T c)) k.word same
       (record { decided = took-decided T H x.start k.word k.took; term_is = k.term_is }) k.counted runs r.0 r.2 r.3 (omega arith)
 
   -- what the log has with which a stream begins that is under way
@@ -154,12 +154,12 @@ module _ (T : LogState) (H : Holds T) (i : ℕ) (up : 0 < start_at T i) (o : Lea
 
   -- ---- what those have in their logs that entered a later term
 
-  known-since : (c t : ℕ) (e : Entered) (g : Reign) → T.logs.reign (part T i) (term_of w) ≡ Some g → part T c ≡ part T i → T.logs.entered c t ≡ Some e → term_of w < t
+  known-since : (c t : ℕ) (e : Entered) (g : Leadership) → T.logs.leadership (part T i) (term_of w) ≡ Some g → part T c ≡ part T i → T.logs.entered c t ≡ Some e → term_of w < t
       → ((T.sites i).firm ≤ length e.log) × ((T.sites i).floor ≤ length e.log)
   known-since c t e g led same is above =
-      known-below c (length e.log) same ((H.entered c t e is).since (term_of w) g (ap (λ p. T.logs.reign p (term_of w)) same ∙ led) above)
+      known-below c (length e.log) same ((H.entered c t e is).since (term_of w) g (ap (λ p. T.logs.leadership p (term_of w)) same ∙ led) above)
 
-  since-entered : (g : Reign) → T.logs.reign (part T i) (term_of w) ≡ Some g → (c t : ℕ) (e f : Entered) → part T c ≡ part T i → T.logs.entered c (term_of w) ≡ Some f
+  since-entered : (g : Leadership) → T.logs.leadership (part T i) (term_of w) ≡ Some g → (c t : ℕ) (e f : Entered) → part T c ≡ part T i → T.logs.entered c (term_of w) ≡ Some f
       → T.logs.entered c t ≡ Some e → f.start ≡ e.start → term_of w < t → reach_now T.words.deployment i (T.sites i) ≤ length e.log
   since-entered g led c t e f same was is start above =
       reach_now-copy T.words.deployment i (T.sites i) (length e.log) low.0 low.1 c (other c f same was away) (acked-since c t e f was is start above)
@@ -175,18 +175,18 @@ module _ (T : LogState) (H : Holds T) (i : ℕ) (up : 0 < start_at T i) (o : Lea
           let at = ap (λ x. term_at T x) q in
           omega (arith, up-to, at, here, above)
 
-  since-streamed : (g : Reign) → T.logs.reign (part T i) (term_of w) ≡ Some g → (c t : ℕ) (e : Entered) (x : Streaming) → part T c ≡ part T i
+  since-streamed : (g : Leadership) → T.logs.leadership (part T i) (term_of w) ≡ Some g → (c t : ℕ) (e : Entered) (x : Streaming) → part T c ≡ part T i
       → T.logs.streamed c (term_of w) ≡ Some x → T.logs.entered c t ≡ Some e → x.start ≡ e.start → term_of w < t → reach_now T.words.deployment i (T.sites i) ≤ length e.log
   since-streamed g led c t e x same was is start above =
       let k = H.streamed c (term_of w) x was in
-      let r = counted-joiner c x.start x.nj k.word same (record { decided = took-decided T H x.start k.word k.took; term_is = k.term_is }) k.counted in
+      let r = counted-joiner c x.start x.stream_start k.word same (record { decided = took-decided T H x.start k.word k.took; term_is = k.term_is }) k.counted in
       let low = known-since c t e g led same is above in
       let p = (joiner-ok r.0 r.1).later x (ap (λ d. T.logs.streamed d (term_of w)) r.2 ∙ was) (sym r.3) t e above (ap (λ d. T.logs.entered d t) r.2 ∙ is) (sym start ∙ sym r.3) in
       let n = (k.later t e is (sym start)).1 in
       let q = r.4 in
       reach_now-joiner T.words.deployment i (T.sites i) (length e.log) low.0 low.1 r.0 r.1 (omega (arith, p, n, q))
 
-  pub reach_now-since : (g : Reign) → T.logs.reign (part T i) (term_of w) ≡ Some g → (c t : ℕ) (e : Entered) → part T c ≡ part T i → T.logs.entered c t ≡ Some e → term_of w < t
+  pub reach_now-since : (g : Leadership) → T.logs.leadership (part T i) (term_of w) ≡ Some g → (c t : ℕ) (e : Entered) → part T c ≡ part T i → T.logs.entered c t ≡ Some e → term_of w < t
       → reach_now T.words.deployment i (T.sites i) ≤ length e.log
   reach_now-since g led = since-raised T H (part T i) (term_of w) (reach_now T.words.deployment i (T.sites i)) g led (since-entered g led) (since-streamed g led)
 
@@ -204,7 +204,7 @@ pub raised-here : (f : ℕ → ℕ → ℕ) (p t n : ℕ) → n ≤ raised f p t
 raised-here f p t n = subst (λ m. n ≤ m) (sym (put-here f p t (max (f p t) n))) (omega arith)
 
 -- In a term that was led it may rise to what is in each log that was in that term, in those with which slots entered later terms, and in the past of each stream under way.
-pub reach-raised : (S : LogState) → Holds S → (p t n : ℕ) (g : Reign) → S.logs.reign p t ≡ Some g → n ≤ length g.log
+pub reach-raised : (S : LogState) → Holds S → (p t n : ℕ) (g : Leadership) → S.logs.leadership p t ≡ Some g → n ≤ length g.log
     → ((c : ℕ) (e : Entered) → part S c ≡ p → S.logs.entered c t ≡ Some e → start_at S c ≡ e.start → n ≤ length (log_at S c))
     → ((c : ℕ) (x : Streaming) → part S c ≡ p → S.logs.streamed c t ≡ Some x → start_at S c ≡ x.start → n ≤ length (log_at S c))
     → ((c u : ℕ) (e : Entered) → part S c ≡ p → S.logs.entered c u ≡ Some e → t < u → n ≤ length e.log)
@@ -213,9 +213,9 @@ pub reach-raised : (S : LogState) → Holds S → (p t n : ℕ) (g : Reign) → 
 reach-raised S H p t n g led within entered streamed since coming = record {
   rises = λ q u. raised-both (λ m. S.logs.reach q u ≤ m) S.logs.reach p t n q u (λ a b. omega arith) (omega arith);
   unled = λ q u none. raised-both (λ m. m ≡ S.logs.reach q u) S.logs.reach p t n q u
-      (λ a b. absurd (none-and-some none (ap (λ z. S.logs.reign z u) a ∙ ap (λ z. S.logs.reign p z) b ∙ led))) refl;
+      (λ a b. absurd (none-and-some none (ap (λ z. S.logs.leadership z u) a ∙ ap (λ z. S.logs.leadership p z) b ∙ led))) refl;
   led = λ q u h is. raised-both (λ m. m ≤ length h.log) S.logs.reach p t n q u
-      (λ a b. let r = o.led q u h is in let e = ap (λ x. length x.log) (same-some (sym led ∙ ap (λ z. S.logs.reign p z) (sym b) ∙ ap (λ z. S.logs.reign z u) (sym a) ∙ is)) in
+      (λ a b. let r = o.led q u h is in let e = ap (λ x. length x.log) (same-some (sym led ∙ ap (λ z. S.logs.leadership p z) (sym b) ∙ ap (λ z. S.logs.leadership z u) (sym a) ∙ is)) in
       omega (arith, r, e, within)) (o.led q u h is);
   entered = λ c u e is runs. raised-both (λ m. m ≤ length (log_at S c)) S.logs.reach p t n (part S c) u
       (λ a b. let r = o.entered c u e is runs in let m = entered c e a (ap (λ z. S.logs.entered c z) (sym b) ∙ is) runs in omega (arith, r, m)) (o.entered c u e is runs);
@@ -270,7 +270,7 @@ answers-rest T i firm ds h = record {
 
 counts-leads : (T : LogState) → Holds T → (i : ℕ) → 0 < start_at T i → leads T.words.deployment i (T.sites i) ≡ true
     → Goes T i (sends_firm (record (T.sites i) { firm = firm_now T.words.deployment i (T.sites i); floor = floor_now T.words.deployment i (T.sites i) }))
-counts-leads T H i up lead = begun (T.logs.reign (part T i) (term_of w)) refl
+counts-leads T H i up authoritative = begun (T.logs.leadership (part T i) (term_of w)) refl
   where
     D : Deployment
     D = T.words.deployment
@@ -282,7 +282,7 @@ counts-leads T H i up lead = begun (T.logs.reign (part T i) (term_of w)) refl
     n = reach_now D i s
 
     parts : (is_leader D i s ≡ true) × (s.repaired ≡ true)
-    parts = leads-parts D i s lead
+    parts = leads-parts D i s authoritative
 
     o : LeaderOf T i
     o = leader-of T H i up parts.0
@@ -319,13 +319,13 @@ counts-leads T H i up lead = begun (T.logs.reign (part T i) (term_of w)) refl
     }
 
     -- its own log is that of its term
-    within : (g : Reign) → T.logs.reign (part T i) (term_of w) ≡ Some g → n ≤ length g.log
+    within : (g : Leadership) → T.logs.leadership (part T i) (term_of w) ≡ Some g → n ≤ length g.log
     within g e =
         let b = reach_now-entered T H i up o i o.member.entered refl o.member.is_entered (sym o.member.since) in
         let l = ap length (subst (λ r. LeadsIn s r) e (o.member.leading o.first)).1 in
         omega (arith, b, l)
 
-    begun : (r : Option Reign) → T.logs.reign (part T i) (term_of w) ≡ r
+    begun : (r : Option Leadership) → T.logs.leadership (part T i) (term_of w) ≡ r
         → Goes T i (sends_firm (record s { firm = firm_now D i s; floor = floor_now D i s }))
     begun None e = absurd (not-both s.repaired parts.1 (subst (λ r. LeadsIn s r) e (o.member.leading o.first)))
     begun (Some g) e = rests-goes T H i (record s { firm = firm_now D i s; floor = floor_now D i s; held = filter (λ d. nat_lt (firm_now D i s) d.position) s.held })

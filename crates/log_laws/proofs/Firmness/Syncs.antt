@@ -101,7 +101,7 @@ module _ (T : LogState) (H : Holds T) (i : ℕ) (up : 0 < start_at T i) where
     where
       streamed : (w : Membership) (st : Option Streamed) → StreamIn T i w j st → WasIn T i (term_of w) (start_at T i)
       streamed w None u = absurd (not-both j.is_loaded loaded u.loads)
-      streamed w (Some st) u = inr (record { start = start_at T i; nj = st.nj }, u.streamed, refl)
+      streamed w (Some st) u = inr (record { start = start_at T i; stream_start = st.stream_start }, u.streamed, refl)
 
       viewed : (o : Option Membership) → (T.sites i).view ≡ o → ViewIn T i j o
           → (w : Membership) × ((T.sites i).view ≡ Some w) × In w T.words.history.decided × WasIn T i (term_at T i) (start_at T i)
@@ -179,14 +179,14 @@ module _ (T : LogState) (H : Holds T) (i : ℕ) (up : 0 < start_at T i) where
       o = (H.sites i).joiner j some
 
       choice : (b : Bool) → j.is_loaded ≡ b → SiteRests T T.logs.reach i (record (if b
-          then record (T.sites i) { joining = Some (record j { written = j.blocks; is_based = true }); on_disk = length (log_at T i); mark = st.mark; base = st.nj }
+          then record (T.sites i) { joining = Some (record j { written = j.blocks; is_based = true }); on_disk = length (log_at T i); mark = st.mark; base = st.stream_start }
           else record (T.sites i) { joining = Some (record j { written = j.blocks }) }) { contents = contents })
       choice true e = site-rests T H i T.logs.reach
           (record (T.sites i) {
             joining = Some (record j { written = j.blocks; is_based = true });
             on_disk = length (log_at T i);
             mark = st.mark;
-            base = st.nj;
+            base = st.stream_start;
             contents = contents;
           })
           refl refl refl refl refl refl (λ none. absurd (none-and-some none some))

@@ -113,7 +113,7 @@ pub join-ask-left-goes : (S : LogState) → Holds S → (i c : ℕ) (l : Letter)
 join-ask-left-goes S H i c l ws a slot e up start term = becomes-goes (left S i ws) i s S.logs.streamed refl refl (omega arith)
     (keeping-holds S H i a slot ok S.words.channel (set_at S.pending i ws) k (record { lines = λ l a t. refl; flows = λ l a t e. e; ends = λ l a t e. e }) (λ l a t. refl)
     (λ h. subst (AllByRecursion (WaitingOk S i)) (sym (set-here S.pending i ws)) (pend.1))
-    (λ l is. takes-letters S H i s S.words.channel (set_at S.pending i ws) S.logs.streamed k (λ t. refl) l (λ a t nj b. b) (between S l i) (H.letters l i is))
+    (λ l is. takes-letters S H i s S.words.channel (set_at S.pending i ws) S.logs.streamed k (λ t. refl) l (λ a t stream_start b. b) (between S l i) (H.letters l i is))
     (λ from. H.foreign from i))
   where
     s : SiteState

@@ -24,7 +24,7 @@ use Rattle.log_laws.proofs.Kept.Rests.{SameJoiners, map-joiners, map-slots}
 -- ---- a site changes with nothing under way
 
 module _ (S : LogState) (H : Holds S) (i : ℕ) (up : 0 < start_at S i) (s : SiteState) (g : GoesOn (S.sites i) s) (asks : s.asks ≡ (S.sites i).asks)
-    (each : (j : Joiner) → In j (S.sites i).joiners → (n : Joiner) × In n s.joiners × (n.slot ≡ j.slot) × (n.start ≡ j.start) × (n.nj ≡ j.nj))
+    (each : (j : Joiner) → In j (S.sites i).joiners → (n : Joiner) × In n s.joiners × (n.slot ≡ j.slot) × (n.start ≡ j.start) × (n.stream_start ≡ j.stream_start))
     (back : (n : Joiner) → In n s.joiners → (j : Joiner) × In j (S.sites i).joiners × (j.slot ≡ n.slot) × (j.start ≡ n.start)) where
   pub alone-takes : Takes S i s S.words.channel S.pending S.logs.streamed
   alone-takes = record {
@@ -55,7 +55,7 @@ module _ (S : LogState) (H : Holds S) (i : ℕ) (up : 0 < start_at S i) (s : Sit
       → Goes S i (becomes s)
   alone-goes member joiner keeps = becomes-goes S i s S.logs.streamed g.start g.view g.log
       (takes-holds S H i s S.words.channel S.pending S.logs.streamed alone-takes member joiner keeps
-      (λ l slot. takes-letters S H i s S.words.channel S.pending S.logs.streamed alone-takes (λ t. refl) l (λ a t nj b. b) (between S l i) (H.letters l i slot))
+      (λ l slot. takes-letters S H i s S.words.channel S.pending S.logs.streamed alone-takes (λ t. refl) l (λ a t stream_start b. b) (between S l i) (H.letters l i slot))
       (λ from. H.foreign from i)
       (takes-stream S H i s S.words.channel S.pending S.logs.streamed alone-takes))
 
@@ -66,11 +66,11 @@ abbrev pub with-load : SiteState → Joining → List Entry → SiteState
 with-load s n log = record s { joining = Some n; log = log }
 
 -- What is so of the load of a joiner that took its stream, from which it goes on to another one with this log.
-pub record LoadsOn (S : LogState) (i : ℕ) (j n : Joining) (log : List Entry) (w : Membership) (nj : ℕ) : Type 0 where
+pub record LoadsOn (S : LogState) (i : ℕ) (j n : Joining) (log : List Entry) (w : Membership) (stream_start : ℕ) : Type 0 where
   pub whole : log ++ n.tasks ≡ log_at S i ++ j.tasks
-  pub loading : n.is_loaded ≡ false → length log ≡ nj
+  pub loading : n.is_loaded ≡ false → length log ≡ stream_start
   pub loaded : n.is_loaded ≡ true → n.tasks ≡ []
-  pub ends : (n.is_loaded ≡ true ⊎ is_some n.count ≡ true) → nj ≤ S.logs.reach (part S i) (term_of w)
+  pub ends : (n.is_loaded ≡ true ⊎ is_some n.count ≡ true) → stream_start ≤ S.logs.reach (part S i) (term_of w)
 
 pub load-on : (s : SiteState) (j n : Joining) (log : List Entry) → s.joining ≡ Some j → length s.log ≤ length log → (j.is_based ≡ true → n.is_based ≡ true)
     → GoesOn s (with-load s n log)
@@ -93,7 +93,7 @@ module _ (S : LogState) (H : Holds S) (i : ℕ) (up : 0 < start_at S i) (j n : J
     (longer : length (log_at S i) ≤ length log) (loaded : j.is_loaded ≡ true → n.is_loaded ≡ true) where
   load-goes : n.has_told ≡ j.has_told → n.is_based ≡ j.is_based → n.stream ≡ j.stream
       → (j.stream ≡ None → (n.is_loaded ≡ j.is_loaded) × (n.count ≡ j.count) × (n.tasks ≡ j.tasks) × (log ≡ log_at S i))
-      → ((w : Membership) (nj : ℕ) → (S.sites i).view ≡ Some w → Took S i w j nj → LoadsOn S i j n log w nj)
+      → ((w : Membership) (stream_start : ℕ) → (S.sites i).view ≡ Some w → Took S i w j stream_start → LoadsOn S i j n log w stream_start)
       → Goes S i (becomes (with-load (S.sites i) n log))
   load-goes told based stream untaken took = becomes-goes S i s S.logs.streamed refl refl longer
       (takes-joined S H i s S.words.channel S.pending S.logs.streamed k j n is refl refl refl (λ h. let d = h.on_disk in omega (arith, d, longer)) (λ h. h)
@@ -103,7 +103,7 @@ module _ (S : LogState) (H : Holds S) (i : ℕ) (up : 0 < start_at S i) (j n : J
       (λ u. subst (StreamIn T i w n) (sym stream) (in-stream w view j.stream refl u)) h)
       (λ none h. let u = untaken h.stream in
       takes-wordless S H i s S.words.channel S.pending S.logs.streamed k j n stream u.0 u.1 u.2 u.3 refl (λ t. refl) h) old)
-      (λ l slot. takes-letters S H i s S.words.channel S.pending S.logs.streamed k (λ t. refl) l (λ a t nj b. b) (between S l i) (H.letters l i slot))
+      (λ l slot. takes-letters S H i s S.words.channel S.pending S.logs.streamed k (λ t. refl) l (λ a t stream_start b. b) (between S l i) (H.letters l i slot))
       (λ from. H.foreign from i)
       (takes-stream S H i s S.words.channel S.pending S.logs.streamed k))
     where
@@ -113,7 +113,7 @@ module _ (S : LogState) (H : Holds S) (i : ℕ) (up : 0 < start_at S i) (j n : J
       T : LogState
       T = with-site S i s S.words.channel S.pending S.logs.streamed
 
-      each : (x : Joiner) → In x (S.sites i).joiners → (y : Joiner) × In y s.joiners × (y.slot ≡ x.slot) × (y.start ≡ x.start) × (y.nj ≡ x.nj)
+      each : (x : Joiner) → In x (S.sites i).joiners → (y : Joiner) × In y s.joiners × (y.slot ≡ x.slot) × (y.start ≡ x.start) × (y.stream_start ≡ x.stream_start)
       each = same-counts (S.sites i).joiners s.joiners refl
 
       back : (y : Joiner) → In y s.joiners → (x : Joiner) × In x (S.sites i).joiners × (x.slot ≡ y.slot) × (x.start ≡ y.start)
@@ -131,15 +131,15 @@ module _ (S : LogState) (H : Holds S) (i : ℕ) (up : 0 < start_at S i) (j n : J
       in-stream : (w : Membership) → (S.sites i).view ≡ Some w → (o : Option Streamed) → j.stream ≡ o → StreamIn S i w j o → StreamIn T i w n o
       in-stream w view None e h = let u = untaken e in
           takes-untaken S H i s S.words.channel S.pending S.logs.streamed k less (λ t. refl) w j n u.0 u.1 u.2 u.3 refl (λ l f low. refl) h
-      in-stream w view (Some x) e h = let u = took w x.nj view h in
-          takes-took S H i s S.words.channel S.pending S.logs.streamed k w j n x.nj h h.more h.flow_is (ap (λ z. z ++ h.more) u.whole ∙ h.whole) u.loading u.loaded u.ends refl
+      in-stream w view (Some x) e h = let u = took w x.stream_start view h in
+          takes-took S H i s S.words.channel S.pending S.logs.streamed k w j n x.stream_start h h.more h.flow_is (ap (λ z. z ++ h.more) u.whole ∙ h.whole) u.loading u.loaded u.ends refl
 
 -- ---- with all blocks its load is finished
 
 module _ (S : LogState) (H : Holds S) (i : ℕ) (up : 0 < start_at S i) (j n : Joining) (is : (S.sites i).joining ≡ Some j)
     (stream : n.stream ≡ j.stream) (loads : n.is_loaded ≡ j.is_loaded) (tasks : n.tasks ≡ j.tasks) (based : n.is_based ≡ j.is_based) (told : n.has_told ≡ j.has_told)
     (counts : j.stream ≡ None → n.count ≡ j.count)
-    (ends : (w : Membership) (nj : ℕ) → (S.sites i).view ≡ Some w → Took S i w j nj → is_some n.count ≡ true → nj ≤ S.logs.reach (part S i) (term_of w)) where
+    (ends : (w : Membership) (stream_start : ℕ) → (S.sites i).view ≡ Some w → Took S i w j stream_start → is_some n.count ≡ true → stream_start ≤ S.logs.reach (part S i) (term_of w)) where
   finish-goes : Goes S i (becomes (finishes_load (S.sites i) n))
   finish-goes = choice (may_finish n) refl
     where
@@ -159,21 +159,21 @@ module _ (S : LogState) (H : Holds S) (i : ℕ) (up : 0 < start_at S i) (j n : J
       choice : (b : Bool) → may_finish n ≡ b → Goes S i (becomes (if b then with-load (S.sites i) done (log_at S i ++ n.tasks) else with_joining (S.sites i) n))
       choice true e = load-goes S H i up j done (log_at S i ++ n.tasks) is (rw (length-append (log_at S i) n.tasks) (omega arith)) (λ _. refl) told based stream
           (λ none. absurd (true≢false (sym (parts e).0 ∙ ap is_some (stream ∙ none))))
-          (λ w nj view h. record {
+          (λ w stream_start view h. record {
             whole = append-nil (log_at S i ++ n.tasks) ∙ ap (λ z. log_at S i ++ z) tasks;
             loading = λ no. absurd (true≢false no);
             loaded = λ _. refl;
-            ends = λ _. ends w nj view h (parts e).1;
+            ends = λ _. ends w stream_start view h (parts e).1;
           })
       choice false e = load-goes S H i up j n (log_at S i) is (omega arith) (λ l. loads ∙ l) told based stream
           (λ none. (loads, counts none, tasks, refl))
-          (λ w nj view h. record {
+          (λ w stream_start view h. record {
             whole = ap (λ z. log_at S i ++ z) tasks;
             loading = λ no. h.loading (sym loads ∙ no);
             loaded = λ whole. tasks ∙ h.loaded (sym loads ∙ whole);
             ends = λ some. elim some [
               | inl whole ↦ h.ends (inl (sym loads ∙ whole))
-              | inr known ↦ ends w nj view h known
+              | inr known ↦ ends w stream_start view h known
             ];
           })
 
@@ -189,11 +189,11 @@ stream-end-goes S H i c x count up start term e = go (S.sites i).joining refl
         n : Joining
         n = record j { count = Some count }
 
-        ends : (w : Membership) (nj : ℕ) → (S.sites i).view ≡ Some w → Took S i w j nj → is_some n.count ≡ true → nj ≤ S.logs.reach (part S i) (term_of w)
-        ends w nj view h _ =
+        ends : (w : Membership) (stream_start : ℕ) → (S.sites i).view ≡ Some w → Took S i w j stream_start → is_some n.count ≡ true → stream_start ≤ S.logs.reach (part S i) (term_of w)
+        ends w stream_start view h _ =
             let same-term : x.term ≡ term_of w = term ∙ ap term_in view in
-            let at = e.taken (sym start) (sym term) (record { start = start_at S i; nj = nj }) (ap (S.logs.streamed i) same-term ∙ h.streamed) (sym start) in
-            let low = subst (λ t. e.nj ≤ S.logs.reach (part S i) t) same-term e.everywhere in
+            let at = e.taken (sym start) (sym term) (record { start = start_at S i; stream_start = stream_start }) (ap (S.logs.streamed i) same-term ∙ h.streamed) (sym start) in
+            let low = subst (λ t. e.stream_start ≤ S.logs.reach (part S i) t) same-term e.everywhere in
             omega (arith, at, low)
 
         choice : (b : Bool) → is_some j.stream ≡ b → Goes S i (becomes (if b then finishes_load (S.sites i) n else S.sites i))
@@ -204,7 +204,7 @@ stream-end-goes S H i c x count up start term e = go (S.sites i).joining refl
 
 -- a site that stays as it was, but for what it keeps
 still-goes : (S : LogState) (H : Holds S) (i : ℕ) (up : 0 < start_at S i) (s : SiteState) (g : GoesOn (S.sites i) s) → Still (S.sites i) s → (asks : s.asks ≡ (S.sites i).asks)
-    → (each : (j : Joiner) → In j (S.sites i).joiners → (n : Joiner) × In n s.joiners × (n.slot ≡ j.slot) × (n.start ≡ j.start) × (n.nj ≡ j.nj))
+    → (each : (j : Joiner) → In j (S.sites i).joiners → (n : Joiner) × In n s.joiners × (n.slot ≡ j.slot) × (n.start ≡ j.start) × (n.stream_start ≡ j.stream_start))
     → (back : (n : Joiner) → In n s.joiners → (j : Joiner) × In j (S.sites i).joiners × (j.slot ≡ n.slot) × (j.start ≡ n.start))
     → (KeepsOk S i → KeepsOk (with-site S i s S.words.channel S.pending S.logs.streamed) i) → Goes S i (becomes s)
 still-goes S H i up s g still asks each back keeps = alone-goes S H i up s g asks each back
@@ -250,7 +250,7 @@ scan-goes S H i up scanning = still-goes S H i up s (scans-on (S.sites i) scanni
     s : SiteState
     s = record (S.sites i) { scanning = scanning }
 
-    each : (x : Joiner) → In x (S.sites i).joiners → (y : Joiner) × In y s.joiners × (y.slot ≡ x.slot) × (y.start ≡ x.start) × (y.nj ≡ x.nj)
+    each : (x : Joiner) → In x (S.sites i).joiners → (y : Joiner) × In y s.joiners × (y.slot ≡ x.slot) × (y.start ≡ x.start) × (y.stream_start ≡ x.stream_start)
     each = same-counts (S.sites i).joiners s.joiners refl
 
     back : (y : Joiner) → In y s.joiners → (x : Joiner) × In x (S.sites i).joiners × (x.slot ≡ y.slot) × (x.start ≡ y.start)
@@ -260,23 +260,23 @@ scan-goes S H i up scanning = still-goes S H i up s (scans-on (S.sites i) scanni
 pub record SameJoiner (j n : Joiner) : Type 0 where
   pub slot : n.slot ≡ j.slot
   pub start : n.start ≡ j.start
-  pub nj : n.nj ≡ j.nj
+  pub stream_start : n.stream_start ≡ j.stream_start
   pub position : n.position ≡ j.position
 
 pub with_count-same : (slot count : ℕ) (j : Joiner) → SameJoiner j (with_count slot count j)
 with_count-same slot count j = choice (j.slot == slot)
   where
     choice : (b : Bool) → SameJoiner j (if b then record j { count = Some count } else j)
-    choice true = record { slot = refl; start = refl; nj = refl; position = refl }
-    choice false = record { slot = refl; start = refl; nj = refl; position = refl }
+    choice true = record { slot = refl; start = refl; stream_start = refl; position = refl }
+    choice false = record { slot = refl; start = refl; stream_start = refl; position = refl }
 
 pub counted-same : (S : LogState) (p t : ℕ) (j n : Joiner) → SameJoiner j n → CountedOk S p t j → CountedOk S p t n
 counted-same S p t j n e k = record {
   been = rw (e.slot, e.start) k.been;
   part_is = rw e.slot k.part_is;
   reached = rw (e.slot, e.start) k.reached;
-  position = rw (e.slot, e.start, e.nj, e.position) k.position;
-  later = rw (e.slot, e.start, e.nj, e.position) k.later;
+  position = rw (e.slot, e.start, e.stream_start, e.position) k.position;
+  later = rw (e.slot, e.start, e.stream_start, e.position) k.later;
 }
 
 module _ (f : Joiner → Joiner) (same : (j : Joiner) → SameJoiner j (f j)) where
@@ -301,10 +301,10 @@ scan_end-joiners S H i up slot count = still-goes S H i up s (scans-on (S.sites 
     s = scans (S.sites i) None js
 
     mapped : SameJoiners (S.sites i).joiners js
-    mapped = map-joiners (with_count slot count) (λ j. (with_count-same slot count j).slot) (λ j. (with_count-same slot count j).start) (λ j. (with_count-same slot count j).nj)
+    mapped = map-joiners (with_count slot count) (λ j. (with_count-same slot count j).slot) (λ j. (with_count-same slot count j).start) (λ j. (with_count-same slot count j).stream_start)
         (S.sites i).joiners
 
-    each : (x : Joiner) → In x (S.sites i).joiners → (y : Joiner) × In y s.joiners × (y.slot ≡ x.slot) × (y.start ≡ x.start) × (y.nj ≡ x.nj)
+    each : (x : Joiner) → In x (S.sites i).joiners → (y : Joiner) × In y s.joiners × (y.slot ≡ x.slot) × (y.start ≡ x.start) × (y.stream_start ≡ x.stream_start)
     each = mapped.kept
 
     back : (y : Joiner) → In y s.joiners → (x : Joiner) × In x (S.sites i).joiners × (x.slot ≡ y.slot) × (x.start ≡ y.start)
@@ -335,7 +335,7 @@ pub chunk-goes : (S : LogState) → Holds S → (i id : ℕ) → 0 < start_at S 
 chunk-goes S H i id up = go (S.sites i).joining refl (S.sites i).scanning
   where
     go : (o : Option Joining) → (S.sites i).joining ≡ o → (scanning : Option Scanning) → Goes S i (becomes (on_chunk (S.sites i) o scanning id))
-    go (Some j) is scanning = finish-goes S H i up j (record j { blocks = j.blocks + 1 }) is refl refl refl refl refl (λ none. refl) (λ w nj view h some. h.ends (inr some))
+    go (Some j) is scanning = finish-goes S H i up j (record j { blocks = j.blocks + 1 }) is refl refl refl refl refl (λ none. refl) (λ w stream_start view h some. h.ends (inr some))
     go None none None = goes-same S i H
     go None none (Some (ForJoiner own slot)) = goes-same S i H
     go None none (Some (ForBase own position blocks written count)) = choice (own == id)

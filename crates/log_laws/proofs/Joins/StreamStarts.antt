@@ -71,7 +71,7 @@ module _ (S T : LogState) (H : Holds S) (f : Later S T) where
 module _ (S : LogState) (H : Holds S) (m i : ℕ) (l : Letter) (ls : List Letter) (head : StreamHead)
     (e : between S m i ≡ record l { body = msg.StreamStart head } ∷ ls) (up : 0 < start_at S i) (start : l.start ≡ start_at S i) (term : l.term ≡ term_at S i) where
   -- it is the first thing that is under way to the joiner from there
-  stream-first : (w : Membership) → (S.sites i).view ≡ Some w → flow (start_at S i) (term_of w) (between S m i) ≡ Begins l.past head.nj ∷ flow (start_at S i) (term_of w) ls
+  stream-first : (w : Membership) → (S.sites i).view ≡ Some w → flow (start_at S i) (term_of w) (between S m i) ≡ Begins l.past head.stream_start ∷ flow (start_at S i) (term_of w) ls
   stream-first w view = ap (flow (start_at S i) (term_of w)) e
       ∙ ap (λ z. z ++ flow (start_at S i) (term_of w) ls) (flow-here (start_at S i) (term_of w) (record l { body = msg.StreamStart head }) start (term ∙ ap term_in view))
 
@@ -89,24 +89,24 @@ module _ (S : LogState) (H : Holds S) (m i : ℕ) (l : Letter) (ls : List Letter
           took : (o : Option Streamed) → StreamIn S i w j o → (is_none o && nat_lt (S.sites i).earlier l.term) ≡ false → ⊥
           took None u b = true≢false (sym below ∙ b)
           took (Some y) u b = let from = follows-one S.words.deployment w i m u.from f u.following in
-              follows-not-begins u.more l.past head.nj (flow (start_at S i) (term_of w) ls)
-              (sym u.flow_is ∙ subst (λ z. flow (start_at S i) (term_of w) (between S z i) ≡ Begins l.past head.nj ∷ flow (start_at S i) (term_of w) ls) from (stream-first w view))
+              follows-not-begins u.more l.past head.stream_start (flow (start_at S i) (term_of w) ls)
+              (sym u.flow_is ∙ subst (λ z. flow (start_at S i) (term_of w) (between S z i) ≡ Begins l.past head.stream_start ∷ flow (start_at S i) (term_of w) ls) from (stream-first w view))
 
   -- ---- a joiner takes it
 
   module _ (w : Membership) (view : (S.sites i).view ≡ Some w) (j : Joining) (is : (S.sites i).joining ≡ Some j) (none : j.stream ≡ None)
       (low : (S.sites i).earlier < term_of w) where
     abbrev joined : Joining
-    joined = record j { stream = Some (record { nj = head.nj; mark = head.mark }) }
+    joined = record j { stream = Some (record { stream_start = head.stream_start; mark = head.mark }) }
 
     abbrev s : SiteState
-    s = record (S.sites i) { joining = Some joined; log = l.past; floor = head.nj; contents = None ∷ [] }
+    s = record (S.sites i) { joining = Some joined; log = l.past; floor = head.stream_start; contents = None ∷ [] }
 
     abbrev x : Letter
     x = record l { body = msg.StreamStart head }
 
     abbrev st : ℕ → ℕ → Option Streaming
-    st = with-stream S.logs.streamed i (term_of w) (record { start = start_at S i; nj = head.nj })
+    st = with-stream S.logs.streamed i (term_of w) (record { start = start_at S i; stream_start = head.stream_start })
 
     abbrev T : LogState
     T = with-site S i s (without S m i) S.pending st
@@ -132,11 +132,11 @@ module _ (S : LogState) (H : Holds S) (m i : ℕ) (l : Letter) (ls : List Letter
       | inr q ↦ q
     ]
 
-    begins : (l.past ≡ coming.0.past) × (head.nj ≡ length coming.0.past) × (flow (start_at S i) (term_of w) ls ≡ map Follows coming.0.more)
-    begins = begins-same l.past coming.0.past head.nj (length coming.0.past) (flow (start_at S i) (term_of w) ls) (map Follows coming.0.more)
+    begins : (l.past ≡ coming.0.past) × (head.stream_start ≡ length coming.0.past) × (flow (start_at S i) (term_of w) ls ≡ map Follows coming.0.more)
+    begins = begins-same l.past coming.0.past head.stream_start (length coming.0.past) (flow (start_at S i) (term_of w) ls) (map Follows coming.0.more)
         (sym (stream-first w view) ∙ coming.0.flow_is)
 
-    same-length : length l.past ≡ head.nj
+    same-length : length l.past ≡ head.stream_start
     same-length = ap length begins.0 ∙ sym begins.1
 
     -- nobody took a stream or was a member in that term
@@ -172,15 +172,15 @@ module _ (S : LogState) (H : Holds S) (m i : ℕ) (l : Letter) (ls : List Letter
     }
 
     k : Takes S i s (without S m i) S.pending st
-    k = first-takes S H m i x ls e s g st up (λ c t n. stream-other S.logs.streamed i (term_of w) (record { start = start_at S i; nj = head.nj }) c t n)
+    k = first-takes S H m i x ls e s g st up (λ c t n. stream-other S.logs.streamed i (term_of w) (record { start = start_at S i; stream_start = head.stream_start }) c t n)
         (λ t y took. elim (cases_eq t (term_of w)) [
           | inl q ↦ absurd (unstreamed y (subst (λ z. S.logs.streamed i z ≡ Some y) q took))
-          | inr n ↦ stream-term S.logs.streamed i (term_of w) (record { start = start_at S i; nj = head.nj }) t n ∙ took
+          | inr n ↦ stream-term S.logs.streamed i (term_of w) (record { start = start_at S i; stream_start = head.stream_start }) t n ∙ took
         ])
         (λ t y took. elim (cases_eq t (term_of w)) [
           | inl q ↦ inr (λ u v was own. old.unentered u v was (own ∙ ap (λ z. z.start) (sym (same-some
-              (sym (stream-here S.logs.streamed i (term_of w) (record { start = start_at S i; nj = head.nj })) ∙ subst (λ u. st i u ≡ Some y) q took)))))
-          | inr n ↦ inl (sym (stream-term S.logs.streamed i (term_of w) (record { start = start_at S i; nj = head.nj }) t n) ∙ took)
+              (sym (stream-here S.logs.streamed i (term_of w) (record { start = start_at S i; stream_start = head.stream_start })) ∙ subst (λ u. st i u ≡ Some y) q took)))))
+          | inr n ↦ inl (sym (stream-term S.logs.streamed i (term_of w) (record { start = start_at S i; stream_start = head.stream_start }) t n) ∙ took)
         ])
         (popped-less S (Site m) i x ls e S.logs s refl (λ c t. at-most-same (asks_of_term c t (S.sites i)))) refl
 
@@ -204,17 +204,17 @@ module _ (S : LogState) (H : Holds S) (m i : ℕ) (l : Letter) (ls : List Letter
     unended (inl all) = true≢false (sym all ∙ untaken.loads)
     unended (inr known) = true≢false (sym known ∙ ap is_some untaken.counts)
 
-    takes-it : Took T i w joined head.nj
+    takes-it : Took T i w joined head.stream_start
     takes-it = record {
       from = m;
       following = follows-it;
       more = coming.0.more;
-      reign = coming.0.reign;
+      leadership = coming.0.leadership;
       led = coming.0.led;
       flow_is = rw start-is (ap (flow (start_at S i) (term_of w)) (without-here S m i x ls e) ∙ begins.2);
-      whole = subst (λ z. z.log ++ j.tasks ++ coming.0.more ≡ coming.0.reign.log) (sym site-is)
+      whole = subst (λ z. z.log ++ j.tasks ++ coming.0.more ≡ coming.0.leadership.log) (sym site-is)
           (ap (λ z. l.past ++ z ++ coming.0.more) untaken.tasks ∙ ap (λ z. z ++ coming.0.more) (append-nil l.past ∙ begins.0) ∙ coming.0.whole);
-      streamed = rw start-is (stream-here S.logs.streamed i (term_of w) (record { start = start_at S i; nj = head.nj }));
+      streamed = rw start-is (stream-here S.logs.streamed i (term_of w) (record { start = start_at S i; stream_start = head.stream_start }));
       loading = λ _. ap (λ z. length z.log) site-is ∙ same-length;
       loaded = λ all. absurd (true≢false (sym all ∙ untaken.loads));
       ends = λ some. absurd (unended some);
@@ -225,26 +225,26 @@ module _ (S : LogState) (H : Holds S) (m i : ℕ) (l : Letter) (ls : List Letter
     later : Later S T
     later = steady-later S (without S m i) (set_at S.sites i s) S.pending st H (takes-steady S H i s (without S m i) S.pending st k)
 
-    new-stream : StreamedOk T i (term_of w) (record { start = start_at S i; nj = head.nj })
+    new-stream : StreamedOk T i (term_of w) (record { start = start_at S i; stream_start = head.stream_start })
     new-stream = record {
       word = w;
       took = word.took;
       term_is = refl;
       apart = apart (S.logs.entered i (term_of w)) refl;
       later = λ u y was own. absurd (old.unentered u y was own);
-      reign = coming.0.reign;
+      leadership = coming.0.leadership;
       led = coming.0.led;
-      behind = subst (λ z. length coming.0.reign.begun ≤ z) (sym begins.1) coming.0.behind;
+      behind = subst (λ z. length coming.0.leadership.begun ≤ z) (sym begins.1) coming.0.behind;
       been = been-later S T H later i (term_of w) (start_at S i) own-been;
-      running = λ at. let r = subst (λ z. (z.earlier < term_of w) × (term_of w ≤ site_term z) × (S.logs.reach (part S i) (term_of w) ≤ length z.log) × (head.nj ≤ length z.log))
+      running = λ at. let r = subst (λ z. (z.earlier < term_of w) × (term_of w ≤ site_term z) × (S.logs.reach (part S i) (term_of w) ≤ length z.log) × (head.stream_start ≤ length z.log))
           (sym site-is) (
             low,
             at-term,
             subst (λ z. S.logs.reach (part S i) (term_of w) ≤ z) (sym (same-length ∙ begins.1)) coming.0.reach,
-            subst (λ z. head.nj ≤ z) (sym same-length) (omega arith),
+            subst (λ z. head.stream_start ≤ z) (sym same-length) (omega arith),
           ) in
           (r.0, r.1, r.2, r.3);
-      counted = takes-counted S H i s (without S m i) S.pending st k i (start_at S i) head.nj w
+      counted = takes-counted S H i s (without S m i) S.pending st k i (start_at S i) head.stream_start w
           (subst (λ z. IsCounted S i (start_at S i) z w) (sym begins.1) coming.0.counted);
     }
       where
@@ -271,31 +271,31 @@ module _ (S : LogState) (H : Holds S) (m i : ℕ) (l : Letter) (ls : List Letter
     ]
       where
         x-stream : Streaming
-        x-stream = record { start = start_at S i; nj = head.nj }
+        x-stream = record { start = start_at S i; stream_start = head.stream_start }
 
     -- who told it that its stream is whole meant this one
     end-taken : (c : ℕ) (y : Letter) → In y (between S c i) → (end_in y.body ≡ [] → ⊥) → (h : EndOk S c i y) → (z : Streaming) → st i y.term ≡ Some z → z.start ≡ y.start
-        → (S.logs.streamed i y.term ≡ Some z) ⊎ (z.nj ≡ h.nj)
+        → (S.logs.streamed i y.term ≡ Some z) ⊎ (z.stream_start ≡ h.stream_start)
     end-taken c y there some h z took own = elim (cases_eq y.term (term_of w)) [
-      | inr n ↦ inl (sym (stream-term S.logs.streamed i (term_of w) (record { start = start_at S i; nj = head.nj }) y.term n) ∙ took)
+      | inr n ↦ inl (sym (stream-term S.logs.streamed i (term_of w) (record { start = start_at S i; stream_start = head.stream_start }) y.term n) ∙ took)
       | inl q ↦ inr (meant q (cases_eq c m))
     ]
       where
-        meant : y.term ≡ term_of w → (c ≡ m) ⊎ (c ≡ m → ⊥) → z.nj ≡ h.nj
+        meant : y.term ≡ term_of w → (c ≡ m) ⊎ (c ≡ m → ⊥) → z.stream_start ≡ h.stream_start
         meant q either = elim either [
-          | inl from ↦ ap (λ z. z.nj) (sym new) ∙ (subst (AllByRecursion (BeginsAt h.nj)) (same-flow from)
+          | inl from ↦ ap (λ z. z.stream_start) (sym new) ∙ (subst (AllByRecursion (BeginsAt h.stream_start)) (same-flow from)
               (h.begun j is (sym start-own) (ap term_in view ∙ sym q) (rw q low))).0
           | inr n ↦ absurd (some (sym (ends-here (start_at S i) (term_of w) y start-own q)
               ∙ ends-empty (start_at S i) (term_of w) (between S c i) (word.others c (elsewhere n)).1 y there))
         ]
           where
-            new : record { start = start_at S i; nj = head.nj } ≡ z
-            new = same-some (sym (stream-here S.logs.streamed i (term_of w) (record { start = start_at S i; nj = head.nj })) ∙ subst (λ u. st i u ≡ Some z) q took)
+            new : record { start = start_at S i; stream_start = head.stream_start } ≡ z
+            new = same-some (sym (stream-here S.logs.streamed i (term_of w) (record { start = start_at S i; stream_start = head.stream_start })) ∙ subst (λ u. st i u ≡ Some z) q took)
 
             start-own : y.start ≡ start_at S i
             start-own = sym own ∙ ap (λ z. z.start) (sym new)
 
-            same-flow : c ≡ m → flow y.start y.term (between S c i) ≡ Begins l.past head.nj ∷ flow (start_at S i) (term_of w) ls
+            same-flow : c ≡ m → flow y.start y.term (between S c i) ≡ Begins l.past head.stream_start ∷ flow (start_at S i) (term_of w) ls
             same-flow from = rw (start-own, q, from) (stream-first w view)
 
             elsewhere : (c ≡ m → ⊥) → follows S.words.deployment w i c ≡ false
@@ -313,7 +313,7 @@ module _ (S : LogState) (H : Holds S) (m i : ℕ) (l : Letter) (ls : List Letter
         letter : (c : ℕ) (y : Letter) → In y (between S c i) → SiteLetterOk S c i y → SiteLetterOk T c i y
         letter c y there = letter-later-ends S T H later c i y
             (steady-joins S (without S m i) (set_at S.sites i s) S.pending st H (takes-steady S H i s (without S m i) S.pending st k) c)
-            (λ some r h. end-later-if S T H later c i y r h (λ j' joins same-start same-term begun. first-begun S H m i x ls e c y.start y.term h.nj begun)
+            (λ some r h. end-later-if S T H later c i y r h (λ j' joins same-start same-term begun. first-begun S H m i x ls e c y.start y.term h.stream_start begun)
             (λ z took own. end-taken c y there some h z took own))
 
     taken-goes : Goes (popped S (Site m) i) i (becomes s)
@@ -338,9 +338,9 @@ module _ (S : LogState) (H : Holds S) (m i : ℕ) (l : Letter) (ls : List Letter
         where
           streaming : SiteState
           streaming = record (S.sites i) {
-            joining = Some (record j { stream = Some (record { nj = head.nj; mark = head.mark }) });
+            joining = Some (record j { stream = Some (record { stream_start = head.stream_start; mark = head.mark }) });
             log = l.past;
-            floor = head.nj;
+            floor = head.stream_start;
             contents = None ∷ [];
           }
 

@@ -17,18 +17,18 @@ use Rattle.cluster_model.specs.Words.{leader, term_in, term_of}
 use Rattle.cluster_model.specs.World.{sent, set_at}
 use Rattle.word_laws.proofs.Lists.{all-append, all-at, all-from, eqb-same, filter-in, if-true, in-cases, in-left, in-map, in-map-from, in-right, list_any-in, none-and-some, same-some, set-both, set-here, set-there}
 use Rattle.word_laws.specs.Histories.{Distinct, In}
-use Rattle.log_laws.specs.Histories.{AskOk, BeginsAt, Coming, CountedOk, EndOk, ForeignOk, Holds, InWord, IsCounted, IsSlot, JoinerOk, JoinsIn, KeepsOk, LeadsIn, LogState, MemberOk, Quiet, Reign, SiteLetterOk, StreamIn, Took, ViewIn, asked, asks_in, asks_kept, asks_of_term, asks_waiting, between, end_in, ends, flow, flow_of, follows, line, log_at, part, start_at, term_at}
+use Rattle.log_laws.specs.Histories.{AskOk, BeginsAt, Coming, CountedOk, EndOk, ForeignOk, Holds, InWord, IsCounted, IsSlot, JoinerOk, JoinsIn, KeepsOk, LeadsIn, LogState, MemberOk, Inert, Leadership, SiteLetterOk, StreamIn, Took, ViewIn, asked, asks_in, asks_kept, asks_of_term, asks_waiting, between, end_in, ends, flow, flow_of, follows, line, log_at, part, start_at, term_at}
 use Rattle.log_laws.proofs.Kept.Asked.{AsksLess, AtMost, at-most-behind, at-most-both, at-most-is, at-most-same}
 use Rattle.log_laws.proofs.Plain.Copies.{follows-one, is-leader, leader-followed, leader-view, leads-parts}
-use Rattle.log_laws.proofs.Plain.Fronts.{front-length}
+use Rattle.log_laws.proofs.Plain.Prefixes.{prefix-length}
 use Rattle.log_laws.proofs.Kept.Keeps.{CountedBy, Still, Uncounted, counted-from, in_word-keeps-with, joiner-keeps-with}
 use Rattle.log_laws.proofs.Kept.Laters.{streamed-later}
 use Rattle.log_laws.proofs.Plain.Lines.{asks-plain, asks-same, ends-empty, ends-here, ends-plain, ends-same, flow-here, flow-other, flow-push, flow-same, line-plain, line-same, kept-append}
 use Rattle.log_laws.proofs.Kept.Moves.{Later, after}
 use Rattle.log_laws.proofs.Kept.OneSite.{counts-on, with-site}
 use Rattle.log_laws.proofs.Kept.Plumbing.{after-same}
-use Rattle.log_laws.proofs.Kept.Quiet.{still-at}
-use Rattle.log_laws.proofs.Kept.Steady.{GoesOn, Steady, goes-on-same, steady-asks, steady-counted, steady-holds, steady-joiner, steady-joins, steady-keeps, steady-later, steady-member, steady-reigns}
+use Rattle.log_laws.proofs.Kept.Inert.{still-at}
+use Rattle.log_laws.proofs.Kept.Steady.{GoesOn, Steady, goes-on-same, steady-asks, steady-counted, steady-holds, steady-joiner, steady-joins, steady-keeps, steady-later, steady-member, steady-leaderships}
 use Rattle.log_laws.proofs.Joins.StreamStarts.{letter-later-ends}
 use Rattle.log_laws.proofs.Kept.Terms.{running-slot, same-word, some-term, took-decided}
 
@@ -101,7 +101,7 @@ module _ (E : Database) (S : LogState) (H : Holds S) (i : ℕ) (up : 0 < start_a
   begins = record (letter_in (term_at S i) a.start (msg.StreamStart (stream_head E S.words.deployment i (S.sites i)))) { past = log_at S i }
 
   abbrev new : Joiner
-  new = record { slot = a.slot; start = a.start; nj = length (log_at S i); position = length (log_at S i); count = None }
+  new = record { slot = a.slot; start = a.start; stream_start = length (log_at S i); position = length (log_at S i); count = None }
 
   abbrev channels : Actor → Actor → List Letter
   channels = sent S.words.channel (Site i) turn.sends
@@ -136,17 +136,17 @@ module _ (E : Database) (S : LogState) (H : Holds S) (i : ℕ) (up : 0 < start_a
   same-term : term_at S i ≡ term_of w
   same-term = ap term_in found.1
 
-  lead : leader S.words.deployment w (part S i) ≡ Some i
-  lead = (is-leader S.words.deployment i (S.sites i) w found.1 leading.0).1
+  authoritative : leader S.words.deployment w (part S i) ≡ Some i
+  authoritative = (is-leader S.words.deployment i (S.sites i) w found.1 leading.0).1
 
   slot : IsSlot S i
   slot = running-slot S H i up
 
-  reign : (g : Reign) × (S.logs.reign (part S i) (term_of w) ≡ Some g) × (log_at S i ≡ g.log)
-  reign = go (S.logs.reign (part S i) (term_of w)) refl (found.2.leading lead)
+  leadership : (g : Leadership) × (S.logs.leadership (part S i) (term_of w) ≡ Some g) × (log_at S i ≡ g.log)
+  leadership = go (S.logs.leadership (part S i) (term_of w)) refl (found.2.leading authoritative)
     where
-      go : (o : Option Reign) → S.logs.reign (part S i) (term_of w) ≡ o → LeadsIn (S.sites i) o
-          → (g : Reign) × (S.logs.reign (part S i) (term_of w) ≡ Some g) × (log_at S i ≡ g.log)
+      go : (o : Option Leadership) → S.logs.leadership (part S i) (term_of w) ≡ o → LeadsIn (S.sites i) o
+          → (g : Leadership) × (S.logs.leadership (part S i) (term_of w) ≡ Some g) × (log_at S i ≡ g.log)
       go None e k = absurd (true≢false (sym leading.1 ∙ k))
       go (Some g) e k = (g, e, k.1)
 
@@ -251,9 +251,9 @@ module _ (E : Database) (S : LogState) (H : Holds S) (i : ℕ) (up : 0 < start_a
           (at-most-same (asks_in t (between S c i) ++ rest i ++ asks_waiting c t (S.pending i))) (fewer (site_term (S.sites i) == t)))
 
   -- whom it counted it counts
-  counted : (c b nj : ℕ) (v : Membership) → IsCounted S c b nj v → IsCounted T c b nj v
-  counted c b nj v k = counted-from S T H later i there c b nj v (counts-on S i turn.state channels S.pending S.logs.streamed goes-on
-      (λ j is. (j, in-left j (S.sites i).joiners (new ∷ []) is, refl, refl, refl)) c b nj v) k
+  counted : (c b stream_start : ℕ) (v : Membership) → IsCounted S c b stream_start v → IsCounted T c b stream_start v
+  counted c b stream_start v k = counted-from S T H later i there c b stream_start v (counts-on S i turn.state channels S.pending S.logs.streamed goes-on
+      (λ j is. (j, in-left j (S.sites i).joiners (new ∷ []) is, refl, refl, refl)) c b stream_start v) k
 
   uncounted : (l c b : ℕ) → (c ≡ a.slot → b ≡ a.start → ⊥) → Uncounted S l c b → Uncounted T l c b
   uncounted l c b n k = set-both (λ l x. Uncounted S l c b → (j : Joiner) → In j x.joiners → j.slot ≡ c → j.start ≡ b → ⊥) S.sites i turn.state
@@ -306,45 +306,45 @@ module _ (E : Database) (S : LogState) (H : Holds S) (i : ℕ) (up : 0 < start_a
     in-word = subst (λ v. InWord S a.slot v j) word-is in-own
 
     follows-it : follows S.words.deployment w a.slot i ≡ true
-    follows-it = leader-followed S.words.deployment w i a.slot lead ok.part_is not-itself
+    follows-it = leader-followed S.words.deployment w i a.slot authoritative ok.part_is not-itself
 
-    untook : (nj : ℕ) → Took S a.slot w j nj → ⊥
-    untook nj u = unasked (u.asks i slot)
+    untook : (stream_start : ℕ) → Took S a.slot w j stream_start → ⊥
+    untook stream_start u = unasked (u.asks i slot)
 
-    is-quiet : Quiet S a.slot w i ⊎ (Coming S a.slot w (flow (start_at S a.slot) (term_of w) (between S i a.slot)) × (asked S a.slot i (term_of w) ≡ [])) → Quiet S a.slot w i
-    is-quiet (inl q) = q
-    is-quiet (inr q) = absurd (unasked q.1)
+    is-inert : Inert S a.slot w i ⊎ (Coming S a.slot w (flow (start_at S a.slot) (term_of w) (between S i a.slot)) × (asked S a.slot i (term_of w) ≡ [])) → Inert S a.slot w i
+    is-inert (inl q) = q
+    is-inert (inr q) = absurd (unasked q.1)
 
-    quiet : (S.sites a.slot).earlier < term_of w → Quiet S a.slot w i
-    quiet low = go j.stream in-word.stream
+    inert : (S.sites a.slot).earlier < term_of w → Inert S a.slot w i
+    inert low = go j.stream in-word.stream
       where
-        go : (o : Option Streamed) → StreamIn S a.slot w j o → Quiet S a.slot w i
-        go None u = is-quiet (u.comes i follows-it low)
-        go (Some st) u = absurd (untook st.nj u)
+        go : (o : Option Streamed) → StreamIn S a.slot w j o → Inert S a.slot w i
+        go None u = is-inert (u.comes i follows-it low)
+        go (Some st) u = absurd (untook st.stream_start u)
 
     -- then its stream begins
     new-counted : IsCounted T a.slot (start_at S a.slot) (length (log_at S i)) w
     new-counted l leads = subst (λ z. CountedBy T a.slot (start_at S a.slot) (length (log_at S i)) w z)
-        (same-some (sym lead ∙ subst (λ p. leader S.words.deployment w p ≡ Some l) ok.part_is leads))
+        (same-some (sym authoritative ∙ subst (λ p. leader S.words.deployment w p ≡ Some l) ok.part_is leads))
         (λ _ _ _. (new, subst (λ x. In new x.joiners) (sym (set-here S.sites i turn.state)) (in-right new (S.sites i).joiners (new ∷ []) (inl refl)), refl, sym runs, refl))
 
-    new-coming : Quiet S a.slot w i → Coming T a.slot w (flow (start_at S a.slot) (term_of w) (between T i a.slot))
+    new-coming : Inert S a.slot w i → Coming T a.slot w (flow (start_at S a.slot) (term_of w) (between T i a.slot))
     new-coming q = record {
       past = log_at S i;
       more = [];
-      reign = reign.0;
+      leadership = leadership.0;
       flow_is = ap (flow (start_at S a.slot) (term_of w)) chan-here ∙ flow-push (start_at S a.slot) (term_of w) (between S i a.slot) begins
           ∙ ap (λ z. z ++ flow_of (start_at S a.slot) (term_of w) begins) q.flow_is ∙ flow-here (start_at S a.slot) (term_of w) begins (sym runs) same-term;
-      led = ap (λ p. S.logs.reign p (term_of w)) ok.part_is ∙ reign.1;
-      whole = append-nil (log_at S i) ∙ reign.2;
-      behind = subst (λ z. length reign.0.begun ≤ length z) (sym reign.2) (front-length reign.0.begun reign.0.log (H.reigns (part S i) (term_of w) reign.0 reign.1).grown);
+      led = ap (λ p. S.logs.leadership p (term_of w)) ok.part_is ∙ leadership.1;
+      whole = append-nil (log_at S i) ∙ leadership.2;
+      behind = subst (λ z. length leadership.0.begun ≤ length z) (sym leadership.2) (prefix-length leadership.0.begun leadership.0.log (H.leaderships (part S i) (term_of w) leadership.0 leadership.1).grown);
       reach = subst (λ p. S.logs.reach p (term_of w) ≤ length (log_at S i)) (sym ok.part_is)
           ((H.entered i (term_of w) found.2.entered found.2.is_entered).running (sym found.2.since)).2;
       counted = rw ((still a.slot).start) new-counted;
     }
 
     -- and it has asked no more
-    new-asked : Quiet S a.slot w i → asked T a.slot i (term_of w) ≡ []
+    new-asked : Inert S a.slot w i → asked T a.slot i (term_of w) ≡ []
     new-asked q = elim (q.asks slot) [
       | inl none ↦ absurd (unasked none)
       | inr one ↦ nil_from_length (asked T a.slot i (term_of w)) (fewer (ap length one))
@@ -382,9 +382,9 @@ module _ (E : Database) (S : LogState) (H : Holds S) (i : ℕ) (up : 0 < start_a
         (λ l e. same-lines l a.slot (start_at S a.slot) (term_of w) ∙ e)
         (λ l f flows ending. (ap (flow (start_at S a.slot) (term_of w)) (elsewhere l f) ∙ flows, same-ends l a.slot (start_at S a.slot) (term_of w) ∙ ending))
         (λ l. asks-less a.slot l (term_of w))
-        (λ l f low either. subst (λ z. Quiet T a.slot w z ⊎ (Coming T a.slot w (flow (start_at S a.slot) (term_of w) (between T z a.slot)) × (asked T a.slot z (term_of w) ≡ [])))
-        (follows-one S.words.deployment w a.slot i l follows-it f) (inr (new-coming (quiet low), new-asked (quiet low))))
-        (λ nj u. absurd (untook nj u)) in-word
+        (λ l f low either. subst (λ z. Inert T a.slot w z ⊎ (Coming T a.slot w (flow (start_at S a.slot) (term_of w) (between T z a.slot)) × (asked T a.slot z (term_of w) ≡ [])))
+        (follows-one S.words.deployment w a.slot i l follows-it f) (inr (new-coming (inert low), new-asked (inert low))))
+        (λ stream_start u. absurd (untook stream_start u)) in-word
       where
         elsewhere : (l : ℕ) → follows S.words.deployment w a.slot l ≡ false → between T l a.slot ≡ between S l a.slot
         elsewhere l f = elim (chan l a.slot) [
@@ -416,7 +416,7 @@ module _ (E : Database) (S : LogState) (H : Holds S) (i : ℕ) (up : 0 < start_a
           asks = asks-less c l (term_at S c);
           uncounted = uncounted l c (start_at S c) n;
         })
-        (λ nj v. counted c (start_at S c) nj v) k e
+        (λ stream_start v. counted c (start_at S c) stream_start v) k e
   ]
     where
       of-asker : start_at S a.slot ≡ a.start → (S.sites a.slot).joining ≡ Some k → JoinerOk T a.slot k
@@ -469,7 +469,7 @@ module _ (E : Database) (S : LogState) (H : Holds S) (i : ℕ) (up : 0 < start_a
   -- who is told that its stream is whole was counted before
   end-after : (k c : ℕ) (y : Letter) → In y (between S k c) → (end_in y.body ≡ [] → ⊥) → EndOk S k c y → EndOk T k c y
   end-after k c y is some h = record {
-    nj = h.nj;
+    stream_start = h.stream_start;
     everywhere = h.everywhere;
     begun = λ x joins start term low. begun (sym (still c).start ∙ start) (ap term_in (sym (still c).view) ∙ term) (subst (λ n. n < y.term) (still c).earlier low)
         (h.begun x (sym (still c).joining ∙ joins) (sym (still c).start ∙ start) (ap term_in (sym (still c).view) ∙ term) (subst (λ n. n < y.term) (still c).earlier low));
@@ -483,15 +483,15 @@ module _ (E : Database) (S : LogState) (H : Holds S) (i : ℕ) (up : 0 < start_a
           let at : y.term ≡ term_of w = sym (subst (λ z. term_at S z ≡ y.term) e term) ∙ ap term_in (view-is runs) in
           let below = subst (λ n. (S.sites a.slot).earlier < n) at (subst (λ z. (S.sites z).earlier < y.term) e low) in
           some (sym (ends-here (start_at S a.slot) (term_of w) y (sym (subst (λ z. start_at S z ≡ y.start) e start)) at)
-          ∙ ends-empty (start_at S a.slot) (term_of w) (between S i a.slot) (quiet runs below).ends_are y
+          ∙ ends-empty (start_at S a.slot) (term_of w) (between S i a.slot) (inert runs below).ends_are y
           (subst (λ z. In y (between S z a.slot)) q (subst (λ z. In y (between S k z)) e is)))
 
-      begun : start_at S c ≡ y.start → term_at S c ≡ y.term → (S.sites c).earlier < y.term → AllByRecursion (BeginsAt h.nj) (flow y.start y.term (between S k c))
-          → AllByRecursion (BeginsAt h.nj) (flow y.start y.term (between T k c))
+      begun : start_at S c ≡ y.start → term_at S c ≡ y.term → (S.sites c).earlier < y.term → AllByRecursion (BeginsAt h.stream_start) (flow y.start y.term (between S k c))
+          → AllByRecursion (BeginsAt h.stream_start) (flow y.start y.term (between T k c))
       begun start term low old = elim (asker c) [
-        | inr n ↦ subst (AllByRecursion (BeginsAt h.nj)) (sym (same-flows k c y.start y.term (λ e r. n e (start ∙ r)))) old
+        | inr n ↦ subst (AllByRecursion (BeginsAt h.stream_start)) (sym (same-flows k c y.start y.term (λ e r. n e (start ∙ r)))) old
         | inl r ↦ elim (chan k c) [
-          | inl e ↦ subst (λ z. AllByRecursion (BeginsAt h.nj) (flow y.start y.term z)) (sym e) old
+          | inl e ↦ subst (λ z. AllByRecursion (BeginsAt h.stream_start) (flow y.start y.term z)) (sym e) old
           | inr e ↦ absurd (clash start term low r.0 r.1 e.0)
         ]
       ]
@@ -534,9 +534,9 @@ module _ (E : Database) (S : LogState) (H : Holds S) (i : ℕ) (up : 0 < start_a
       (λ c none. (there c (λ e. let z = subst (λ z. start_at S z ≡ 0) e none in omega (arith, z, up)), refl))
       letters-after foreign-after
       (λ c t x is. let h = H.streamed c t x is in
-      streamed-later S T H later c t x h (steady-reigns S channels (set_at S.sites i turn.state) S.pending S.logs.streamed H steady) h.apart
+      streamed-later S T H later c t x h (steady-leaderships S channels (set_at S.sites i turn.state) S.pending S.logs.streamed H steady) h.apart
       (λ at. subst (λ z. S.logs.reach (part S c) t ≤ length z) (sym (still c).log) (h.running (sym (still c).start ∙ at)).2)
-      (counted c x.start x.nj h.word))
+      (counted c x.start x.stream_start h.word))
 
 -- ---- the turn
 

@@ -117,8 +117,8 @@ module _ (S : LogState) (H : Holds S) (m i : ℕ) (l : Letter) (ls : List Letter
       old = (H.sites i).joiner j is
 
       -- it comes from its leader
-      goes-on : (w : Membership) → (S.sites i).view ≡ Some w → InWord S i w j → Took S i w j st.nj → Took T i w n st.nj
-      goes-on w view h u = takes-took S H i s (without S m i) S.pending S.logs.streamed k w j n st.nj u rest.0
+      goes-on : (w : Membership) → (S.sites i).view ≡ Some w → InWord S i w j → Took S i w j st.stream_start → Took T i w n st.stream_start
+      goes-on w view h u = takes-took S H i s (without S m i) S.pending S.logs.streamed k w j n st.stream_start u rest.0
           (subst (λ z. flow (start_at S i) (term_of w) (without S m i (Site z) (Site i)) ≡ map Follows rest.0) from
           (ap (flow (start_at S i) (term_of w)) (without-here S m i x ls e) ∙ rest.2))
           (ap (λ z. z ++ rest.0) (whole u.loaded) ∙ append_assoc (log_at S i ++ j.tasks) (v ∷ []) rest.0 ∙ ap (λ z. log_at S i ++ j.tasks ++ z) (sym rest.1) ∙ u.whole)

@@ -59,7 +59,7 @@ at-most-swap xs ys = record {
   ];
 }
 
--- without what is in front, or behind
+-- without what is ahead, or behind
 pub at-most-behind : (xs ys : List ℕ) → AtMost (xs ++ ys) ys
 at-most-behind xs ys = record {
   shorter = rw (length-append xs ys) (omega arith);

@@ -16,10 +16,10 @@ use Rattle.cluster_model.specs.Laws.{starts_in}
 use Rattle.word_laws.specs.Histories.{In}
 use Rattle.word_laws.proofs.Lists.{all-mono, none-and-some, set-here, set-there, set-both}
 use Rattle.word_laws.proofs.Steps.{channel-holds}
-use Rattle.log_laws.specs.Histories.{LogState, Reign, FollowsIn, LeadsIn, MemberOk, JoinerOk, AckOk, ReportOk, AskOk, CountedOk, WaitingOk, KeepsOk, SiteOk, SiteLetterOk, ForeignOk, ToldOk, BeginsAt, IsSlot, IsCounted, Holds, from_agent, follows, line, flow, between, part, start_at, log_at, term_at}
-use Rattle.log_laws.proofs.Plain.Fronts.{front-grows}
-use Rattle.log_laws.proofs.Kept.Moves.{Stays, Later, SameReigns, JoinsOn}
-use Rattle.log_laws.proofs.Kept.Laters.{letter-later, waiting-later, ack-later, report-later, ask-later, counted-later, entered-later, streamed-later, reigns-later, unleds-later, first-later, loads-later}
+use Rattle.log_laws.specs.Histories.{LogState, Leadership, FollowsIn, LeadsIn, MemberOk, JoinerOk, AckOk, ReportOk, AskOk, CountedOk, WaitingOk, KeepsOk, SiteOk, SiteLetterOk, ForeignOk, ToldOk, BeginsAt, IsSlot, IsCounted, Holds, from_agent, follows, line, flow, between, part, start_at, log_at, term_at}
+use Rattle.log_laws.proofs.Plain.Prefixes.{prefix-grows}
+use Rattle.log_laws.proofs.Kept.Moves.{Stays, Later, SameLeaderships, JoinsOn}
+use Rattle.log_laws.proofs.Kept.Laters.{letter-later, waiting-later, ack-later, report-later, ask-later, counted-later, entered-later, streamed-later, leaderships-later, unleds-later, first-later, loads-later}
 use Rattle.log_laws.proofs.Kept.Plumbing.{words-later}
 use Rattle.log_laws.proofs.Kept.Keeps.{still-same, kept-same, counted-from, keeps-with, site-keeps-with}
 use Rattle.log_laws.proofs.Kept.KeepsViews.{views-keeps-with, leaves-same}
@@ -31,7 +31,7 @@ pub record Carries (S : LogState) (ch : Actor → Actor → List Letter) : Type 
   pub foreign : (from : Actor) (c : ℕ) → AllByRecursion (ForeignOk S c from) (ch from (Site c))
   pub told : (c h : ℕ) → AllByRecursion (ToldOk S c) (ch (Site c) (Agent h))
   pub letters : (j c : ℕ) → IsSlot S c → AllByRecursion (SiteLetterOk S j c) (ch (Site j) (Site c))
-  pub begins : (j c start term nj : ℕ) → AllByRecursion (BeginsAt nj) (flow start term (between S j c)) → AllByRecursion (BeginsAt nj) (flow start term (ch (Site j) (Site c)))
+  pub begins : (j c start term stream_start : ℕ) → AllByRecursion (BeginsAt stream_start) (flow start term (between S j c)) → AllByRecursion (BeginsAt stream_start) (flow start term (ch (Site j) (Site c)))
 
 -- the site with more entries, and what may change with them
 abbrev pub grew : SiteState → List Entry → ℕ → Bool → Option ℕ → ℕ → Option Scanning → SiteState
@@ -39,11 +39,11 @@ grew s more floor repaired owes scans scanning =
     record s { log = s.log ++ more; floor = floor; repaired = repaired; owes = owes; scans = scans; scanning = scanning }
 
 -- the state with that site, these messages, and what terms were led with
-abbrev pub grown_to : LogState → ℕ → SiteState → (Actor → Actor → List Letter) → (ℕ → ℕ → Option Reign) → LogState
-grown_to S i s ch R = record S { words = record S.words { channel = ch }; sites = set_at S.sites i s; logs = record S.logs { reign = R } }
+abbrev pub grown_to : LogState → ℕ → SiteState → (Actor → Actor → List Letter) → (ℕ → ℕ → Option Leadership) → LogState
+grown_to S i s ch R = record S { words = record S.words { channel = ch }; sites = set_at S.sites i s; logs = record S.logs { leadership = R } }
 
 module _ (S : LogState) (H : Holds S) (i : ℕ) (more : List Entry) (floor : ℕ) (repaired : Bool) (owes : Option ℕ) (scans : ℕ) (scanning : Option Scanning)
-    (ch : Actor → Actor → List Letter) (R : ℕ → ℕ → Option Reign) where
+    (ch : Actor → Actor → List Letter) (R : ℕ → ℕ → Option Leadership) where
   abbrev s : SiteState
   s = grew (S.sites i) more floor repaired owes scans scanning
 
@@ -104,7 +104,7 @@ module _ (S : LogState) (H : Holds S) (i : ℕ) (more : List Entry) (floor : ℕ
     is_entered = m.is_entered;
     since = rw (own, start_at) m.since;
     earlier = rw own m.earlier;
-    grown = rw (own, log_at) (front-grows m.entered.log (log_at S i) more m.grown);
+    grown = rw (own, log_at) (prefix-grows m.entered.log (log_at S i) more m.grown);
     still = rw own (λ e. absurd (true≢false (sym is ∙ e)));
     floor = rw own below;
     firm = rw own m.firm;
@@ -134,7 +134,7 @@ module _ (S : LogState) (H : Holds S) (i : ℕ) (more : List Entry) (floor : ℕ
 
   site-own : 0 < start_at S i → (S.sites i).joining ≡ None → (w : Membership) → (S.sites i).view ≡ Some w → MemberOk T i w → SiteOk T i
   site-own up none w view mine = let k = H.sites i in record {
-    outside = rw (own, start_at) k.outside;
+    environment = rw (own, start_at) k.environment;
     ran = rw (own, start_at) k.ran;
     term = rw own k.term;
     earlier = rw own k.earlier;
@@ -157,7 +157,7 @@ module _ (S : LogState) (H : Holds S) (i : ℕ) (more : List Entry) (floor : ℕ
 
   -- ---- all of it
 
-  pub grew-holds : 0 < start_at S i → (S.sites i).joining ≡ None → SameReigns S.logs (record S.logs { reign = R }) → Carries S ch
+  pub grew-holds : 0 < start_at S i → (S.sites i).joining ≡ None → SameLeaderships S.logs (record S.logs { leadership = R }) → Carries S ch
       → (w : Membership) → (S.sites i).view ≡ Some w → MemberOk T i w
       → ((c : ℕ) → (c ≡ i → ⊥) → (v : Membership) → MemberOk S c v → MemberOk T c v)
       → ((c : ℕ) → (c ≡ i → ⊥) → (j : Joining) → JoinerOk S c j → JoinerOk T c j)
@@ -172,7 +172,7 @@ module _ (S : LogState) (H : Holds S) (i : ℕ) (more : List Entry) (floor : ℕ
         (set-both (λ h x. x.view ≡ (S.sites h).view) S.sites i s refl (λ h n. refl) c) refl refl (λ a m. m)
         (leaves-same (start_at S c) (from_agent S c) (from_agent T c) (carries.agents (host_of_slot S.words.deployment c) (Site c))) (H.views c);
     letters = λ j c slot. all-mono (SiteLetterOk S j c) (SiteLetterOk T j c)
-        (λ l. letter-later S T H grew-later j c l (joins-on j) (λ k _ _ _ _. carries.begins j c l.start l.term k.nj) (λ k x is start. inl is))
+        (λ l. letter-later S T H grew-later j c l (joins-on j) (λ k _ _ _ _. carries.begins j c l.start l.term k.stream_start) (λ k x is start. inl is))
         (ch (Site j) (Site c)) (carries.letters j c slot);
     foreign = carries.foreign;
     loads = loads-later S T H grew-later refl refl carries.told (λ h g. carries.agents h (Agent g));
@@ -180,13 +180,13 @@ module _ (S : LogState) (H : Holds S) (i : ℕ) (more : List Entry) (floor : ℕ
         (λ runs. let a = ((H.entered c t e is).running (sym (stays c).start ∙ runs)).2 in let b = (stays c).log in omega (arith, a, b)) (H.entered c t e is).since;
     streamed = λ c t x is. let k = H.streamed c t x is in streamed-later S T H grew-later c t x k same k.apart
         (λ runs. let a = (k.running (sym (stays c).start ∙ runs)).2 in let b = (stays c).log in omega (arith, a, b))
-        (counted c x.start x.nj k.word);
-    reigns = reigns-later S T H grew-later same (λ p t g is. (H.reigns p t g is).within);
+        (counted c x.start x.stream_start k.word);
+    leaderships = leaderships-later S T H grew-later same (λ p t g is. (H.leaderships p t g is).within);
     unled = λ p t. unleds-later S T H grew-later same p t refl;
     some = H.some;
     first = first-later S T H grew-later same;
   }
     where
-      counted : (c a nj : ℕ) (v : Membership) → IsCounted S c a nj v → IsCounted T c a nj v
-      counted c a nj v = counted-from S T H grew-later i grew-other c a nj v
-          (subst (λ x. 0 < x.start → x.joining ≡ None → x.view ≡ Some v → (j : Joiner) × In j x.joiners × (j.slot ≡ c) × (j.start ≡ a) × (j.nj ≡ nj)) (sym own))
+      counted : (c a stream_start : ℕ) (v : Membership) → IsCounted S c a stream_start v → IsCounted T c a stream_start v
+      counted c a stream_start v = counted-from S T H grew-later i grew-other c a stream_start v
+          (subst (λ x. 0 < x.start → x.joining ≡ None → x.view ≡ Some v → (j : Joiner) × In j x.joiners × (j.slot ≡ c) × (j.start ≡ a) × (j.stream_start ≡ stream_start)) (sym own))

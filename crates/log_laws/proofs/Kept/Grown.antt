@@ -5,14 +5,14 @@ use Rattle.std.specs.Prelude.{ℕ, ◌≤◌, Some, length}
 use Rattle.cluster_model.specs.Words.{Deployment}
 use Rattle.cluster_model.specs.SiteState.{SiteState}
 use Rattle.log_laws.specs.Histories.{LogState, Logs, log_at}
-use Rattle.log_laws.proofs.Plain.Fronts.{front-refl, front-trans}
+use Rattle.log_laws.proofs.Plain.Prefixes.{prefix-refl, prefix-trans}
 use Rattle.log_laws.proofs.Kept.Moves.{Later, Onward, Heads, Grown, Enters}
 
 -- ---- a later history
 
 -- where the same terms are led, with the same logs
-onward-reach : (F G : Logs) → G.reign ≡ F.reign → ((p t : ℕ) → F.reach p t ≤ G.reach p t) → Onward F G
-onward-reach F G same reach = record { kept = λ p t g is. (g, ap (λ r. r p t) same ∙ is, refl, front-refl g.log); reach = reach }
+onward-reach : (F G : Logs) → G.leadership ≡ F.leadership → ((p t : ℕ) → F.reach p t ≤ G.reach p t) → Onward F G
+onward-reach F G same reach = record { kept = λ p t g is. (g, ap (λ r. r p t) same ∙ is, refl, prefix-refl g.log); reach = reach }
 
 pub onward-same : (F : Logs) → Onward F F
 onward-same F = onward-reach F F refl (λ p t. omega arith)
@@ -22,7 +22,7 @@ onward-then F G H first second = record {
   kept = λ p t g is.
       let k = first.kept p t g is in
       let l = second.kept p t k.0 k.1 in
-      (l.0, l.1, l.2 ∙ k.2, front-trans g.log k.0.log l.0.log k.3 l.3);
+      (l.0, l.1, l.2 ∙ k.2, prefix-trans g.log k.0.log l.0.log k.3 l.3);
   reach = λ p t. let k = first.reach p t in let l = second.reach p t in omega (arith, k, l);
 }
 
@@ -71,7 +71,7 @@ module _ (D : Deployment) (i : ℕ) where
   }
 
   -- no term is led anew, or with a longer log
-  pub grown-reach : (s : SiteState) (F G : Logs) → G.reign ≡ F.reign → ((p t : ℕ) → F.reach p t ≤ G.reach p t) → Grown D i s F G
+  pub grown-reach : (s : SiteState) (F G : Logs) → G.leadership ≡ F.leadership → ((p t : ℕ) → F.reach p t ≤ G.reach p t) → Grown D i s F G
   grown-reach s F G same reach = record { onward = onward-reach F G same reach; led = λ p t h is. inl (ap (λ r. r p t) (sym same) ∙ is) }
 
   -- nothing is added
@@ -79,7 +79,7 @@ module _ (D : Deployment) (i : ℕ) where
   grown-same s F = grown-reach s F F refl (λ p t. omega arith)
 
   -- one is, which the site leads
-  pub grown-at : (s : SiteState) (F G : Logs) (p t : ℕ) → Heads D i s p t → Onward F G → ((q u : ℕ) → (q ≡ p → u ≡ t → ⊥) → G.reign q u ≡ F.reign q u) → Grown D i s F G
+  pub grown-at : (s : SiteState) (F G : Logs) (p t : ℕ) → Heads D i s p t → Onward F G → ((q u : ℕ) → (q ≡ p → u ≡ t → ⊥) → G.leadership q u ≡ F.leadership q u) → Grown D i s F G
   grown-at s F G p t heads onward apart = record {
     onward = onward;
     led = λ q u h is. elim (cases_eq q p) [

@@ -8,7 +8,7 @@ use Rattle.cluster_model.specs.Words.{Deployment, term_of, term_in, leader}
 use Rattle.cluster_model.specs.SiteState.{SiteState, Streamed, Joining, Joiner, Ask}
 use Rattle.word_laws.specs.Histories.{In}
 use Rattle.word_laws.proofs.Lists.{all-mono}
-use Rattle.log_laws.specs.Histories.{LogState, Holds, Entered, Streaming, Reign, Line, Flow, FollowsIn, LeadsIn, HeldOk, AskOk, CountedOk, WaitingOk, KeepsOk, SiteOk, AckOk, ReportOk, MemberOk, JoinerOk, InWord, Wordless, ViewIn, StreamIn, Untaken, Took, Coming, Quiet, NoStream, IsCounted, IsSlot, part, start_at, term_at, between, follows, line, flow, ends, asked}
+use Rattle.log_laws.specs.Histories.{LogState, Holds, Entered, Streaming, Leadership, Line, Flow, FollowsIn, LeadsIn, HeldOk, AskOk, CountedOk, WaitingOk, KeepsOk, SiteOk, AckOk, ReportOk, MemberOk, JoinerOk, InWord, Wordless, ViewIn, StreamIn, Untaken, Took, Coming, Inert, NoStream, IsCounted, IsSlot, part, start_at, term_at, between, follows, line, flow, ends, asked}
 use Rattle.log_laws.proofs.Kept.Moves.{Later, Stays, JoinsOn}
 use Rattle.log_laws.proofs.Kept.Asked.{AtMost, at-most-none, at-most-one}
 use Rattle.log_laws.proofs.Kept.Laters.{part-later, slot-before, start-later, ack-later, report-later, counted-later, ask-later-on, waiting-later-on}
@@ -55,7 +55,7 @@ pub record SameFrom (S T : LogState) (c l t : ℕ) : Type 0 where
 
 -- of a partition in a term
 pub record SameTerm (S T : LogState) (p t : ℕ) : Type 0 where
-  pub reign : T.logs.reign p t ≡ S.logs.reign p t
+  pub leadership : T.logs.leadership p t ≡ S.logs.leadership p t
   pub reach : T.logs.reach p t ≡ S.logs.reach p t
 
 -- What a site keeps is the same, but for what waits.
@@ -90,42 +90,42 @@ pub record SameRun (S T : LogState) (c : ℕ) : Type 0 where
 
 -- slot l, while it is in this word, counts it
 abbrev pub CountedBy : LogState → ℕ → ℕ → ℕ → Membership → ℕ → Type 0
-CountedBy S c a nj w l =
-    0 < start_at S l → (S.sites l).joining ≡ None → (S.sites l).view ≡ Some w → (j : Joiner) × In j (S.sites l).joiners × (j.slot ≡ c) × (j.start ≡ a) × (j.nj ≡ nj)
+CountedBy S c a stream_start w l =
+    0 < start_at S l → (S.sites l).joining ≡ None → (S.sites l).view ≡ Some w → (j : Joiner) × In j (S.sites l).joiners × (j.slot ≡ c) × (j.start ≡ a) × (j.stream_start ≡ stream_start)
 
-pub counted_by-same : (S T : LogState) (c a nj : ℕ) (w : Membership) (l : ℕ) → T.sites l ≡ S.sites l → CountedBy S c a nj w l → CountedBy T c a nj w l
-counted_by-same S T c a nj w l e k = λ up joining view.
+pub counted_by-same : (S T : LogState) (c a stream_start : ℕ) (w : Membership) (l : ℕ) → T.sites l ≡ S.sites l → CountedBy S c a stream_start w l → CountedBy T c a stream_start w l
+counted_by-same S T c a stream_start w l e k = λ up joining view.
     let r = k (subst (λ s. 0 < s.start) e up) (ap (λ s. s.joining) (sym e) ∙ joining) (ap (λ s. s.view) (sym e) ∙ view) in
     (r.0, subst (λ s. In r.0 s.joiners) (sym e) r.1, r.2, r.3, r.4)
 
 module _ (S T : LogState) (H : Holds S) (f : Later S T) where
   -- by each leader
-  pub counted-keeps : (c a nj : ℕ) (w : Membership) → ((l : ℕ) → CountedBy S c a nj w l → CountedBy T c a nj w l) → IsCounted S c a nj w → IsCounted T c a nj w
-  counted-keeps c a nj w each k l lead = each l (k l (leads-before c l w lead))
+  pub counted-keeps : (c a stream_start : ℕ) (w : Membership) → ((l : ℕ) → CountedBy S c a stream_start w l → CountedBy T c a stream_start w l) → IsCounted S c a stream_start w → IsCounted T c a stream_start w
+  counted-keeps c a stream_start w each k l authoritative = each l (k l (leads-before c l w authoritative))
     where
       leads-before : (c l : ℕ) (w : Membership) → leader T.words.deployment w (part T c) ≡ Some l → leader S.words.deployment w (part S c) ≡ Some l
-      leads-before c l w lead = rw (f.words.deployment) at lead
+      leads-before c l w authoritative = rw (f.words.deployment) at authoritative
 
   -- where at most slot i changes, and it counts whom it counted
-  pub counted-from : (i : ℕ) → ((l : ℕ) → (l ≡ i → ⊥) → T.sites l ≡ S.sites l) → (c a nj : ℕ) (w : Membership)
-      → (CountedBy S c a nj w i → CountedBy T c a nj w i) → IsCounted S c a nj w → IsCounted T c a nj w
-  counted-from i others c a nj w mine = counted-keeps c a nj w each
+  pub counted-from : (i : ℕ) → ((l : ℕ) → (l ≡ i → ⊥) → T.sites l ≡ S.sites l) → (c a stream_start : ℕ) (w : Membership)
+      → (CountedBy S c a stream_start w i → CountedBy T c a stream_start w i) → IsCounted S c a stream_start w → IsCounted T c a stream_start w
+  counted-from i others c a stream_start w mine = counted-keeps c a stream_start w each
     where
-      each : (l : ℕ) → CountedBy S c a nj w l → CountedBy T c a nj w l
+      each : (l : ℕ) → CountedBy S c a stream_start w l → CountedBy T c a stream_start w l
       each l k = elim (cases_eq l i) [
-        | inl e ↦ subst (CountedBy T c a nj w) (sym e) (mine (subst (CountedBy S c a nj w) e k))
-        | inr d ↦ counted_by-same S T c a nj w l (others l d) k
+        | inl e ↦ subst (CountedBy T c a stream_start w) (sym e) (mine (subst (CountedBy S c a stream_start w) e k))
+        | inr d ↦ counted_by-same S T c a stream_start w l (others l d) k
       ]
 
 -- ---- a member
 
 -- these look at whether a site is repaired, and at its log
-pub follows_in-same : (s t : SiteState) (ln : List Line) (o : Option Reign) → t.repaired ≡ s.repaired → t.log ≡ s.log → FollowsIn s ln o → FollowsIn t ln o
+pub follows_in-same : (s t : SiteState) (ln : List Line) (o : Option Leadership) → t.repaired ≡ s.repaired → t.log ≡ s.log → FollowsIn s ln o → FollowsIn t ln o
 follows_in-same s t ln None r l k = (r ∙ k.0, k.1)
-follows_in-same s t ln (Some g) r l (inl (es, repaired, is, whole, front)) = inl (es, r ∙ repaired, is, rw l whole, rw l front)
+follows_in-same s t ln (Some g) r l (inl (es, repaired, is, whole, prefix)) = inl (es, r ∙ repaired, is, rw l whole, rw l prefix)
 follows_in-same s t ln (Some g) r l (inr (es, repaired, is, whole)) = inr (es, r ∙ repaired, rw l is, whole)
 
-pub leads_in-same : (s t : SiteState) (o : Option Reign) → t.repaired ≡ s.repaired → t.log ≡ s.log → LeadsIn s o → LeadsIn t o
+pub leads_in-same : (s t : SiteState) (o : Option Leadership) → t.repaired ≡ s.repaired → t.log ≡ s.log → LeadsIn s o → LeadsIn t o
 leads_in-same s t None r l k = r ∙ k
 leads_in-same s t (Some g) r l k = (r ∙ k.0, l ∙ k.1)
 
@@ -141,10 +141,10 @@ module _ (S T : LogState) (H : Holds S) (f : Later S T) (c : ℕ) (site : Still 
 
   -- where all that it looks at is given anew
   pub member-keeps-with : (w : Membership) → MemberOk S c w
-      → (leader S.words.deployment w (part S c) ≡ Some c → LeadsIn (S.sites c) (S.logs.reign (part S c) (term_of w))
-      → LeadsIn (S.sites c) (T.logs.reign (part S c) (term_of w)))
-      → ((l : ℕ) → follows S.words.deployment w c l ≡ true → FollowsIn (S.sites c) (line (start_at S c) (term_of w) (between S l c)) (S.logs.reign (part S c) (term_of w))
-      → FollowsIn (S.sites c) (line (start_at S c) (term_of w) (between T l c)) (T.logs.reign (part S c) (term_of w)))
+      → (leader S.words.deployment w (part S c) ≡ Some c → LeadsIn (S.sites c) (S.logs.leadership (part S c) (term_of w))
+      → LeadsIn (S.sites c) (T.logs.leadership (part S c) (term_of w)))
+      → ((l : ℕ) → follows S.words.deployment w c l ≡ true → FollowsIn (S.sites c) (line (start_at S c) (term_of w) (between S l c)) (S.logs.leadership (part S c) (term_of w))
+      → FollowsIn (S.sites c) (line (start_at S c) (term_of w) (between T l c)) (T.logs.leadership (part S c) (term_of w)))
       → ((l : ℕ) → follows S.words.deployment w c l ≡ false → line (start_at S c) (term_of w) (between S l c) ≡ []
       → line (start_at S c) (term_of w) (between T l c) ≡ [])
       → MemberOk T c w
@@ -159,10 +159,10 @@ module _ (S T : LogState) (H : Holds S) (f : Later S T) (c : ℕ) (site : Still 
     still = λ e. let r = k.still (sym site.repaired ∙ e) in (site.log ∙ r.0, site.floor ∙ r.1, site.firm ∙ r.2);
     floor = rw (site.floor, part-later S T H f c) (let a = k.floor in let b = f.reach (part S c) (term_of w) in omega (arith, a, b));
     firm = rw (site.firm, part-later S T H f c) (let a = k.firm in let b = f.reach (part S c) (term_of w) in omega (arith, a, b));
-    leading = λ e. rw (part-later S T H f c) (leads_in-same (S.sites c) (T.sites c) (T.logs.reign (part S c) (term_of w)) site.repaired site.log
+    leading = λ e. rw (part-later S T H f c) (leads_in-same (S.sites c) (T.sites c) (T.logs.leadership (part S c) (term_of w)) site.repaired site.log
         (leading (leader-before w c e) (k.leading (leader-before w c e))));
     following = λ l e. rw (part-later S T H f c, site.start)
-        (follows_in-same (S.sites c) (T.sites c) (line (start_at S c) (term_of w) (between T l c)) (T.logs.reign (part S c) (term_of w)) site.repaired site.log
+        (follows_in-same (S.sites c) (T.sites c) (line (start_at S c) (term_of w) (between T l c)) (T.logs.leadership (part S c) (term_of w)) site.repaired site.log
         (following l (follows-before w l true e) (k.following l (follows-before w l true e))));
     others = λ l e. rw (site.start) (others l (follows-before w l false e) (k.others l (follows-before w l false e)));
   }
@@ -170,34 +170,34 @@ module _ (S T : LogState) (H : Holds S) (f : Later S T) (c : ℕ) (site : Still 
   -- where all is the same
   pub member-keeps : (w : Membership) → MemberOk S c w
       → ((l : ℕ) → line (start_at S c) (term_of w) (between T l c) ≡ line (start_at S c) (term_of w) (between S l c))
-      → T.logs.reign (part S c) (term_of w) ≡ S.logs.reign (part S c) (term_of w) → MemberOk T c w
-  member-keeps w k lines reign = member-keeps-with w k
-      (λ e p. rw reign p)
-      (λ l e p. rw (lines l, reign) p)
+      → T.logs.leadership (part S c) (term_of w) ≡ S.logs.leadership (part S c) (term_of w) → MemberOk T c w
+  member-keeps w k lines leadership = member-keeps-with w k
+      (λ e p. rw leadership p)
+      (λ l e p. rw (lines l, leadership) p)
       (λ l e p. lines l ∙ p)
 
   -- where all but what comes from slot i is the same
   pub member-keeps-from : (i : ℕ) (w : Membership) → MemberOk S c w
       → ((l : ℕ) → (l ≡ i → ⊥) → line (start_at S c) (term_of w) (between T l c) ≡ line (start_at S c) (term_of w) (between S l c))
-      → (follows S.words.deployment w c i ≡ false → T.logs.reign (part S c) (term_of w) ≡ S.logs.reign (part S c) (term_of w))
-      → (follows S.words.deployment w c i ≡ true → FollowsIn (S.sites c) (line (start_at S c) (term_of w) (between S i c)) (S.logs.reign (part S c) (term_of w))
-      → FollowsIn (S.sites c) (line (start_at S c) (term_of w) (between T i c)) (T.logs.reign (part S c) (term_of w)))
+      → (follows S.words.deployment w c i ≡ false → T.logs.leadership (part S c) (term_of w) ≡ S.logs.leadership (part S c) (term_of w))
+      → (follows S.words.deployment w c i ≡ true → FollowsIn (S.sites c) (line (start_at S c) (term_of w) (between S i c)) (S.logs.leadership (part S c) (term_of w))
+      → FollowsIn (S.sites c) (line (start_at S c) (term_of w) (between T i c)) (T.logs.leadership (part S c) (term_of w)))
       → (follows S.words.deployment w c i ≡ false → line (start_at S c) (term_of w) (between S i c) ≡ []
       → line (start_at S c) (term_of w) (between T i c) ≡ [])
       → MemberOk T c w
-  member-keeps-from i w k lines reign mine none = member-keeps-with w k leading following others
+  member-keeps-from i w k lines leadership mine none = member-keeps-with w k leading following others
     where
       D : Deployment
       D = S.words.deployment
 
-      same-reign : (l : ℕ) → (l ≡ i → ⊥) → leader D w (part S c) ≡ Some l → T.logs.reign (part S c) (term_of w) ≡ S.logs.reign (part S c) (term_of w)
-      same-reign l d e = reign (rw e (is-none (i == c)))
+      same-leadership : (l : ℕ) → (l ≡ i → ⊥) → leader D w (part S c) ≡ Some l → T.logs.leadership (part S c) (term_of w) ≡ S.logs.leadership (part S c) (term_of w)
+      same-leadership l d e = leadership (rw e (is-none (i == c)))
         where
           is-none : (b : Bool) → (l == i && not b) ≡ false
           is-none b = rw (ne_eqb l i d) refl
 
-      leading : leader D w (part S c) ≡ Some c → LeadsIn (S.sites c) (S.logs.reign (part S c) (term_of w)) → LeadsIn (S.sites c) (T.logs.reign (part S c) (term_of w))
-      leading e p = rw (reign (rw e (self c i))) p
+      leading : leader D w (part S c) ≡ Some c → LeadsIn (S.sites c) (S.logs.leadership (part S c) (term_of w)) → LeadsIn (S.sites c) (T.logs.leadership (part S c) (term_of w))
+      leading e p = rw (leadership (rw e (self c i))) p
         where
           eqb_swap : (x y : ℕ) → (x == y) ≡ true → (y == x) ≡ true
           eqb_swap x y q = eq-eqb y x (sym (eqb-true x y q))
@@ -208,13 +208,13 @@ module _ (S T : LogState) (H : Holds S) (f : Later S T) (c : ℕ) (site : Still 
             | inr q ↦ rw q refl
           ]
 
-      following : (l : ℕ) → follows D w c l ≡ true → FollowsIn (S.sites c) (line (start_at S c) (term_of w) (between S l c)) (S.logs.reign (part S c) (term_of w))
-          → FollowsIn (S.sites c) (line (start_at S c) (term_of w) (between T l c)) (T.logs.reign (part S c) (term_of w))
+      following : (l : ℕ) → follows D w c l ≡ true → FollowsIn (S.sites c) (line (start_at S c) (term_of w) (between S l c)) (S.logs.leadership (part S c) (term_of w))
+          → FollowsIn (S.sites c) (line (start_at S c) (term_of w) (between T l c)) (T.logs.leadership (part S c) (term_of w))
       following l e p = elim (cases_eq l i) [
-        | inl q ↦ subst (λ x. FollowsIn (S.sites c) (line (start_at S c) (term_of w) (between T x c)) (T.logs.reign (part S c) (term_of w))) (sym q)
+        | inl q ↦ subst (λ x. FollowsIn (S.sites c) (line (start_at S c) (term_of w) (between T x c)) (T.logs.leadership (part S c) (term_of w))) (sym q)
             (mine (subst (λ x. follows D w c x ≡ true) q e)
-            (subst (λ x. FollowsIn (S.sites c) (line (start_at S c) (term_of w) (between S x c)) (S.logs.reign (part S c) (term_of w))) q p))
-        | inr d ↦ rw (lines l d, same-reign l d (follows-leader D w c l e).0) p
+            (subst (λ x. FollowsIn (S.sites c) (line (start_at S c) (term_of w) (between S x c)) (S.logs.leadership (part S c) (term_of w))) q p))
+        | inr d ↦ rw (lines l d, same-leadership l d (follows-leader D w c l e).0) p
       ]
 
       others : (l : ℕ) → follows D w c l ≡ false → line (start_at S c) (term_of w) (between S l c) ≡ [] → line (start_at S c) (term_of w) (between T l c) ≡ []
@@ -227,8 +227,8 @@ module _ (S T : LogState) (H : Holds S) (f : Later S T) (c : ℕ) (site : Still 
   -- ---- a joiner
 
   -- one to which nothing is under way
-  pub quiet-keeps : (w : Membership) (l : ℕ) → SameFrom S T c l (term_of w) → Quiet S c w l → Quiet T c w l
-  quiet-keeps w l same k = record {
+  pub inert-keeps : (w : Membership) (l : ℕ) → SameFrom S T c l (term_of w) → Inert S c w l → Inert T c w l
+  inert-keeps w l same k = record {
     flow_is = rw (site.start) (same.flows ∙ k.flow_is);
     ends_are = rw (site.start) (same.ends k.ends_are);
     uncounted = λ j is slot start. same.uncounted k.uncounted j is slot (start ∙ site.start);
@@ -243,13 +243,13 @@ module _ (S T : LogState) (H : Holds S) (f : Later S T) (c : ℕ) (site : Still 
 
   -- one to which a stream is
   pub coming-keeps : (w : Membership) (fl : List Flow) → SameTerm S T (part S c) (term_of w)
-      → ((nj : ℕ) → IsCounted S c (start_at S c) nj w → IsCounted T c (start_at S c) nj w) → Coming S c w fl → Coming T c w fl
+      → ((stream_start : ℕ) → IsCounted S c (start_at S c) stream_start w → IsCounted T c (start_at S c) stream_start w) → Coming S c w fl → Coming T c w fl
   coming-keeps w fl same counted k = record {
     past = k.past;
     more = k.more;
-    reign = k.reign;
+    leadership = k.leadership;
     flow_is = k.flow_is;
-    led = rw (part-later S T H f c) (same.reign ∙ k.led);
+    led = rw (part-later S T H f c) (same.leadership ∙ k.led);
     whole = k.whole;
     behind = k.behind;
     reach = rw (part-later S T H f c, same.reach) k.reach;
@@ -257,17 +257,17 @@ module _ (S T : LogState) (H : Holds S) (f : Later S T) (c : ℕ) (site : Still 
   }
 
   -- one that took it
-  pub took-keeps : (w : Membership) (j : Joining) (nj : ℕ) → SameTerm S T (part S c) (term_of w) → ((l : ℕ) → SameFrom S T c l (term_of w))
-      → Took S c w j nj → Took T c w j nj
-  took-keeps w j nj same each k = record {
+  pub took-keeps : (w : Membership) (j : Joining) (stream_start : ℕ) → SameTerm S T (part S c) (term_of w) → ((l : ℕ) → SameFrom S T c l (term_of w))
+      → Took S c w j stream_start → Took T c w j stream_start
+  took-keeps w j stream_start same each k = record {
     from = k.from;
     following = rw (f.words.deployment) k.following;
     more = k.more;
-    reign = k.reign;
-    led = rw (part-later S T H f c) (same.reign ∙ k.led);
+    leadership = k.leadership;
+    led = rw (part-later S T H f c) (same.leadership ∙ k.led);
     flow_is = rw (site.start) ((each k.from).flows ∙ k.flow_is);
     whole = rw (site.log) k.whole;
-    streamed = f.streamed c (term_of w) (record { start = start_at S c; nj = nj }) k.streamed ∙ ap (λ s. Some (record { start = s; nj = nj })) (sym site.start);
+    streamed = f.streamed c (term_of w) (record { start = start_at S c; stream_start = stream_start }) k.streamed ∙ ap (λ s. Some (record { start = s; stream_start = stream_start })) (sym site.start);
     loading = λ e. rw (site.log) (k.loading e);
     loaded = k.loaded;
     ends = λ e. rw (part-later S T H f c) (let a = k.ends e in let b = f.reach (part S c) (term_of w) in omega (arith, a, b));
@@ -281,8 +281,8 @@ module _ (S T : LogState) (H : Holds S) (f : Later S T) (c : ℕ) (site : Still 
   -- one that hasn't
   pub untaken-keeps-with : (w : Membership) (j : Joining) → SameRun S T c
       → ((l : ℕ) → follows S.words.deployment w c l ≡ true → (S.sites c).earlier < term_of w
-      → Quiet S c w l ⊎ (Coming S c w (flow (start_at S c) (term_of w) (between S l c)) × (asked S c l (term_of w) ≡ []))
-      → Quiet T c w l ⊎ (Coming T c w (flow (start_at S c) (term_of w) (between T l c)) × (asked T c l (term_of w) ≡ [])))
+      → Inert S c w l ⊎ (Coming S c w (flow (start_at S c) (term_of w) (between S l c)) × (asked S c l (term_of w) ≡ []))
+      → Inert T c w l ⊎ (Coming T c w (flow (start_at S c) (term_of w) (between T l c)) × (asked T c l (term_of w) ≡ [])))
       → Untaken S c w j → Untaken T c w j
   untaken-keeps-with w j run comes k = record {
     loads = k.loads;
@@ -313,9 +313,9 @@ module _ (S T : LogState) (H : Holds S) (f : Later S T) (c : ℕ) (site : Still 
       → (flow (start_at S c) (term_of w) (between T l c) ≡ []) × (ends (start_at S c) (term_of w) (between T l c) ≡ []))
       → ((l : ℕ) → AtMost (asked S c l (term_of w)) (asked T c l (term_of w)))
       → ((l : ℕ) → follows S.words.deployment w c l ≡ true → (S.sites c).earlier < term_of w
-      → Quiet S c w l ⊎ (Coming S c w (flow (start_at S c) (term_of w) (between S l c)) × (asked S c l (term_of w) ≡ []))
-      → Quiet T c w l ⊎ (Coming T c w (flow (start_at S c) (term_of w) (between T l c)) × (asked T c l (term_of w) ≡ [])))
-      → ((nj : ℕ) → Took S c w j nj → Took T c w j nj)
+      → Inert S c w l ⊎ (Coming S c w (flow (start_at S c) (term_of w) (between S l c)) × (asked S c l (term_of w) ≡ []))
+      → Inert T c w l ⊎ (Coming T c w (flow (start_at S c) (term_of w) (between T l c)) × (asked T c l (term_of w) ≡ [])))
+      → ((stream_start : ℕ) → Took S c w j stream_start → Took T c w j stream_start)
       → InWord S c w j → InWord T c w j
   in_word-keeps-with w j run lines other asks comes took k = record {
     took = f.words.took_word (start_at T c) w (rw (site.start) k.took);
@@ -331,7 +331,7 @@ module _ (S T : LogState) (H : Holds S) (f : Later S T) (c : ℕ) (site : Still 
     where
       stream : (o : Option Streamed) → StreamIn S c w j o → StreamIn T c w j o
       stream None u = untaken-keeps-with w j run comes u
-      stream (Some st) u = took st.nj u
+      stream (Some st) u = took st.stream_start u
 
   pub joiner-keeps-with : (j : Joining) → SameRun S T c → ((w : Membership) → (S.sites c).view ≡ Some w → InWord S c w j → InWord T c w j) → JoinerOk S c j → JoinerOk T c j
   joiner-keeps-with j run word k = record {
@@ -349,7 +349,7 @@ module _ (S T : LogState) (H : Holds S) (f : Later S T) (c : ℕ) (site : Still 
 
   -- where all is the same
   pub joiner-keeps : (j : Joining) → SameRun S T c → SameTerm S T (part S c) (term_at S c) → ((l : ℕ) → SameFrom S T c l (term_at S c))
-      → ((nj : ℕ) (w : Membership) → IsCounted S c (start_at S c) nj w → IsCounted T c (start_at S c) nj w)
+      → ((stream_start : ℕ) (w : Membership) → IsCounted S c (start_at S c) stream_start w → IsCounted T c (start_at S c) stream_start w)
       → JoinerOk S c j → JoinerOk T c j
   joiner-keeps j run term each counted = joiner-keeps-with j run (λ w e. let same = subst (λ o. SameTerm S T (part S c) (term_in o)) e term in
       let from = subst (λ o. (l : ℕ) → SameFrom S T c l (term_in o)) e each in
@@ -358,13 +358,13 @@ module _ (S T : LogState) (H : Holds S) (f : Later S T) (c : ℕ) (site : Still 
       (λ l _ z e. ((from l).flows ∙ z, (from l).ends e))
       (λ l. (from l).asks)
       (λ l _ _ z. elim z [
-        | inl q ↦ inl (quiet-keeps w l (from l) q)
+        | inl q ↦ inl (inert-keeps w l (from l) q)
         | inr q ↦ inr (
-          rw ((from l).flows) (coming-keeps w (flow (start_at S c) (term_of w) (between S l c)) same (λ nj. counted nj w) q.0),
+          rw ((from l).flows) (coming-keeps w (flow (start_at S c) (term_of w) (between S l c)) same (λ stream_start. counted stream_start w) q.0),
           at-most-none (asked S c l (term_of w)) (asked T c l (term_of w)) q.1 (from l).asks,
         )
       ])
-      (λ nj. took-keeps w j nj same from))
+      (λ stream_start. took-keeps w j stream_start same from))
 
   -- ---- what a site keeps
 
@@ -408,7 +408,7 @@ module _ (S T : LogState) (H : Holds S) (f : Later S T) (c : ℕ) (site : Still 
       → ((j : Joining) → (S.sites c).joining ≡ Some j → JoinerOk S c j → JoinerOk T c j)
       → (0 < start_at S c → KeepsOk S c → KeepsOk T c) → (start_at S c ≡ 0 → KeepsNone S c → KeepsNone T c) → SiteOk S c → SiteOk T c
   site-keeps-with ran member joiner keeps stopped k = record {
-    outside = λ e. site.start ∙ k.outside (rw (f.words.deployment) at e);
+    environment = λ e. site.start ∙ k.environment (rw (f.words.deployment) at e);
     ran = λ up. rw (ran, site.start) (k.ran (rw (site.start) at up));
     term = rw (term-still, site.greatest) k.term;
     earlier = rw (site.earlier, site.greatest) k.earlier;
@@ -422,11 +422,11 @@ module _ (S T : LogState) (H : Holds S) (f : Later S T) (c : ℕ) (site : Still 
 
   -- where all is the same
   pub site-keeps : T.logs.ran c ≡ S.logs.ran c → SameRun S T c → SameTerm S T (part S c) (term_at S c) → (0 < start_at S c → (l : ℕ) → SameFrom S T c l (term_at S c))
-      → ((nj : ℕ) (w : Membership) → IsCounted S c (start_at S c) nj w → IsCounted T c (start_at S c) nj w)
+      → ((stream_start : ℕ) (w : Membership) → IsCounted S c (start_at S c) stream_start w → IsCounted T c (start_at S c) stream_start w)
       → (0 < start_at S c → KeepsOk S c → KeepsOk T c) → (start_at S c ≡ 0 → KeepsNone S c → KeepsNone T c) → SiteOk S c → SiteOk T c
   site-keeps ran run term each counted keeps stopped = site-keeps-with ran
       (λ up none w e m. member-keeps w m
       (subst (λ o. (l : ℕ) → line (start_at S c) (term_in o) (between T l c) ≡ line (start_at S c) (term_in o) (between S l c)) e (λ l. (each up l).lines))
-      (subst (λ o. T.logs.reign (part S c) (term_in o) ≡ S.logs.reign (part S c) (term_in o)) e term.reign))
+      (subst (λ o. T.logs.leadership (part S c) (term_in o) ≡ S.logs.leadership (part S c) (term_in o)) e term.leadership))
       (λ j e k. joiner-keeps j run term (each k.runs) counted k)
       keeps stopped

@@ -14,14 +14,14 @@ use Rattle.cluster_model.specs.AgentState.{Queued, Job_, Admission}
 use Rattle.cluster_model.specs.SiteState.{Joiner, Joining}
 use Rattle.word_laws.specs.Histories.{In}
 use Rattle.word_laws.proofs.Lists.{all-mono, none-and-some, same-some}
-use Rattle.log_laws.specs.Histories.{LogState, Logs, base_of, Holds, HasBeen, WasIn, AckOk, ReportOk, AskOk, CountedOk, EndOk, Reached, LoadedOk, BeginsAt, SiteLetterOk, WaitingFrom, WaitingOk, ToldOk, AskedOk, QueuedOk, LoadsOk, IsSlot, AllLoaded, Entered, Streaming, Reign, EnteredOk, StreamedOk, ReignOk, UnledOk, Last, Unled, Front, Came, IsCounted, WordOf, part, start_at, log_at, term_at, flow, between}
-use Rattle.log_laws.proofs.Plain.Fronts.{front-length, front-refl, front-trans}
-use Rattle.log_laws.proofs.Kept.Moves.{Later, EntersNow, Stays, JoinsOn, SameReigns}
+use Rattle.log_laws.specs.Histories.{LogState, Logs, base_of, Holds, HasBeen, WasIn, AckOk, ReportOk, AskOk, CountedOk, EndOk, Reached, LoadedOk, BeginsAt, SiteLetterOk, WaitingFrom, WaitingOk, ToldOk, AskedOk, QueuedOk, LoadsOk, IsSlot, AllLoaded, Entered, Streaming, Leadership, EnteredOk, StreamedOk, LeadershipOk, UnledOk, Last, Unled, Prefix, Came, IsCounted, WordOf, part, start_at, log_at, term_at, flow, between}
+use Rattle.log_laws.proofs.Plain.Prefixes.{prefix-length, prefix-refl, prefix-trans}
+use Rattle.log_laws.proofs.Kept.Moves.{Later, EntersNow, Stays, JoinsOn, SameLeaderships}
 
 -- the same terms are led where nothing of them changes
-pub same-reigns : (G H : Logs) → H.reign ≡ G.reign → SameReigns G H
-same-reigns G H e = record {
-  kept = λ p t g is. (g, ap (λ r. r p t) e ∙ is, refl, front-refl g.log);
+pub same-leaderships : (G H : Logs) → H.leadership ≡ G.leadership → SameLeaderships G H
+same-leaderships G H e = record {
+  kept = λ p t g is. (g, ap (λ r. r p t) e ∙ is, refl, prefix-refl g.log);
   none = λ p t is. ap (λ r. r p t) e ∙ is;
 }
 
@@ -129,7 +129,7 @@ module _ (S T : LogState) (H : Holds S) (f : Later S T) where
 
       -- what it acknowledged is in its log, with which it enters a term
       entered-on : (x : Streaming) → S.logs.streamed j.slot t ≡ Some x → x.start ≡ j.start → (e : Entered) → e.start ≡ j.start → (u : ℕ) → EntersNow S j.slot u e
-          → j.position ≤ max j.nj (length e.log)
+          → j.position ≤ max j.stream_start (length e.log)
       entered-on x is start e same u new =
           let runs = sym new.start ∙ same in
           let n = k.position runs ((H.streamed j.slot t x is).running (runs ∙ sym start)).0 in
@@ -157,11 +157,11 @@ module _ (S T : LogState) (H : Holds S) (f : Later S T) where
   -- where what is under way from the leader begins where it did, and so does what was taken since
   pub end-later-if : (i c : ℕ) (l : Letter) → Reached S c l → (k : EndOk S i c l)
       → ((j : Joining) → (S.sites c).joining ≡ Some j → start_at S c ≡ l.start → term_at S c ≡ l.term
-      → AllByRecursion (BeginsAt k.nj) (flow l.start l.term (between S i c)) → AllByRecursion (BeginsAt k.nj) (flow l.start l.term (between T i c)))
-      → ((x : Streaming) → T.logs.streamed c l.term ≡ Some x → x.start ≡ l.start → (S.logs.streamed c l.term ≡ Some x) ⊎ (x.nj ≡ k.nj))
+      → AllByRecursion (BeginsAt k.stream_start) (flow l.start l.term (between S i c)) → AllByRecursion (BeginsAt k.stream_start) (flow l.start l.term (between T i c)))
+      → ((x : Streaming) → T.logs.streamed c l.term ≡ Some x → x.start ≡ l.start → (S.logs.streamed c l.term ≡ Some x) ⊎ (x.stream_start ≡ k.stream_start))
       → EndOk T i c l
   end-later-if i c l r k keeps taken = record {
-    nj = k.nj;
+    stream_start = k.stream_start;
     everywhere = rw (part-later c) (let a = f.reach (part S c) l.term in let b = k.everywhere in omega (arith, a, b));
     begun = λ j joins is term below. let s = before is in let old = s.loaded j joins in
         keeps old.0 old.1 (sym s.start ∙ is) (same-term is term) (k.begun old.0 old.1 (sym s.start ∙ is) (same-term is term) (rw s.earlier at below));
@@ -178,8 +178,8 @@ module _ (S T : LogState) (H : Holds S) (f : Later S T) where
       same-term is term = let s = before is in let low = r.2 (sym s.start ∙ is) in let m = s.term in omega (arith, term, low, m)
 
   pub end-later : (i c : ℕ) (l : Letter) → Reached S c l → (k : EndOk S i c l)
-      → (AllByRecursion (BeginsAt k.nj) (flow l.start l.term (between S i c)) → AllByRecursion (BeginsAt k.nj) (flow l.start l.term (between T i c)))
-      → ((x : Streaming) → T.logs.streamed c l.term ≡ Some x → x.start ≡ l.start → (S.logs.streamed c l.term ≡ Some x) ⊎ (x.nj ≡ k.nj))
+      → (AllByRecursion (BeginsAt k.stream_start) (flow l.start l.term (between S i c)) → AllByRecursion (BeginsAt k.stream_start) (flow l.start l.term (between T i c)))
+      → ((x : Streaming) → T.logs.streamed c l.term ≡ Some x → x.start ≡ l.start → (S.logs.streamed c l.term ≡ Some x) ⊎ (x.stream_start ≡ k.stream_start))
       → EndOk T i c l
   end-later i c l r k keeps taken = end-later-if i c l r k (λ j joins is term. keeps) taken
 
@@ -208,8 +208,8 @@ module _ (S T : LogState) (H : Holds S) (f : Later S T) where
 
   pub letter-later : (i c : ℕ) (l : Letter) → JoinsOn S T i
       → ((k : EndOk S i c l) (j : Joining) → (S.sites c).joining ≡ Some j → start_at S c ≡ l.start → term_at S c ≡ l.term
-      → AllByRecursion (BeginsAt k.nj) (flow l.start l.term (between S i c)) → AllByRecursion (BeginsAt k.nj) (flow l.start l.term (between T i c)))
-      → ((k : EndOk S i c l) (x : Streaming) → T.logs.streamed c l.term ≡ Some x → x.start ≡ l.start → (S.logs.streamed c l.term ≡ Some x) ⊎ (x.nj ≡ k.nj))
+      → AllByRecursion (BeginsAt k.stream_start) (flow l.start l.term (between S i c)) → AllByRecursion (BeginsAt k.stream_start) (flow l.start l.term (between T i c)))
+      → ((k : EndOk S i c l) (x : Streaming) → T.logs.streamed c l.term ≡ Some x → x.start ≡ l.start → (S.logs.streamed c l.term ≡ Some x) ⊎ (x.stream_start ≡ k.stream_start))
       → SiteLetterOk S i c l → SiteLetterOk T i c l
   letter-later i c l on keeps taken k =
       letter-later-with i c l (λ a _ _. ask-later (part S c) i l.term a on) (λ r e. end-later-if i c l r e (keeps e) (taken e)) k
@@ -280,34 +280,34 @@ module _ (S T : LogState) (H : Holds S) (f : Later S T) where
   came-later c t a (inr (u, x, is, start, below)) = inr (u, x, f.streamed c u x is, start, below)
 
   -- the last leader's term is the same one, if the same terms were led
-  pub last-before : (p q v t : ℕ) → q ≡ p → SameReigns S.logs T.logs → (l : Last T.logs q v t) → (k : Last S.logs p v t) × Front k.reign.log l.reign.log
-  last-before p q v t eq same l = go (S.logs.reign p v) refl
+  pub last-before : (p q v t : ℕ) → q ≡ p → SameLeaderships S.logs T.logs → (l : Last T.logs q v t) → (k : Last S.logs p v t) × Prefix k.leadership.log l.leadership.log
+  last-before p q v t eq same l = go (S.logs.leadership p v) refl
     where
-      at : (x : ℕ) (g : Reign) → T.logs.reign p x ≡ Some g → T.logs.reign q x ≡ Some g
-      at x g is = ap (λ z. T.logs.reign z x) eq ∙ is
+      at : (x : ℕ) (g : Leadership) → T.logs.leadership p x ≡ Some g → T.logs.leadership q x ≡ Some g
+      at x g is = ap (λ z. T.logs.leadership z x) eq ∙ is
 
-      led : T.logs.reign p v ≡ Some l.reign
-      led = ap (λ z. T.logs.reign z v) (sym eq) ∙ l.led
+      led : T.logs.leadership p v ≡ Some l.leadership
+      led = ap (λ z. T.logs.leadership z v) (sym eq) ∙ l.led
 
-      go : (o : Option Reign) → S.logs.reign p v ≡ o → (k : Last S.logs p v t) × Front k.reign.log l.reign.log
+      go : (o : Option Leadership) → S.logs.leadership p v ≡ o → (k : Last S.logs p v t) × Prefix k.leadership.log l.leadership.log
       go None e = absurd (none-and-some (same.none p v e) led)
       go (Some g) e = let h = same.kept p v g e in (
         record {
-          reign = g;
+          leadership = g;
           led = e;
           below = l.below;
           greatest = λ x k is. let r = same.kept p x k is in l.greatest x r.0 (at x r.0 r.1);
         },
-        subst (λ z. Front g.log z.log) (same-some (sym h.1 ∙ led)) h.3,
+        subst (λ z. Prefix g.log z.log) (same-some (sym h.1 ∙ led)) h.3,
       )
 
-  pub unled-before : (p v t : ℕ) → SameReigns S.logs T.logs → Unled T.logs p v t → Unled S.logs p v t
+  pub unled-before : (p v t : ℕ) → SameLeaderships S.logs T.logs → Unled T.logs p v t → Unled S.logs p v t
   unled-before p v t same k x g is = let r = same.kept p x g is in k x r.0 r.1
 
   -- Of a slot that entered a term, where what is everywhere is in its log still.
-  pub entered-later : (c t : ℕ) (e : Entered) → EnteredOk S c t e → SameReigns S.logs T.logs
+  pub entered-later : (c t : ℕ) (e : Entered) → EnteredOk S c t e → SameLeaderships S.logs T.logs
       → (start_at T c ≡ e.start → T.logs.reach (part T c) t ≤ length (log_at T c))
-      → ((v : ℕ) (g : Reign) → S.logs.reign (part S c) v ≡ Some g → v < t → T.logs.reach (part S c) v ≤ length e.log) → EnteredOk T c t e
+      → ((v : ℕ) (g : Leadership) → S.logs.leadership (part S c) v ≡ Some g → v < t → T.logs.reach (part S c) v ≤ length e.log) → EnteredOk T c t e
   entered-later c t e k same reach since = record {
     slot = slot-later c k.slot;
     word = k.word;
@@ -318,7 +318,7 @@ module _ (S T : LogState) (H : Holds S) (f : Later S T) where
     reach = rw (part-later c) (let a = f.reach (part S c) t in let b = k.reach in omega (arith, a, b));
     behind = λ v l. let old = last-before (part S c) (part T c) v t (part-later c) same l in
         let b = k.behind v old.0 in (
-          front-trans e.log old.0.reign.log l.reign.log b.0 old.1,
+          prefix-trans e.log old.0.leadership.log l.leadership.log b.0 old.1,
           rw (part-later c) (let r = f.reach (part S c) v in let n = b.1 in omega (arith, r, n)),
         );
     still = λ v g below then start none. elim (f.entered_now c v g then) [
@@ -328,10 +328,10 @@ module _ (S T : LogState) (H : Holds S) (f : Later S T) where
     running = λ at_start. let s = stays c e.start k.been.some k.been.ran at_start in
         let r = k.running (sym s.start ∙ at_start) in
         (s.member r.0, (let a = r.1 in let b = s.term in omega (arith, a, b)), reach at_start);
-    since = λ v g led below. rw (part-later c) (led-before v (S.logs.reign (part S c) v) refl (ap (λ p. T.logs.reign p v) (sym (part-later c)) ∙ led) below);
+    since = λ v g led below. rw (part-later c) (led-before v (S.logs.leadership (part S c) v) refl (ap (λ p. T.logs.leadership p v) (sym (part-later c)) ∙ led) below);
   }
     where
-      led-before : (v : ℕ) (o : Option Reign) → S.logs.reign (part S c) v ≡ o → {g : Reign} → T.logs.reign (part S c) v ≡ Some g → v < t → T.logs.reach (part S c) v ≤ length e.log
+      led-before : (v : ℕ) (o : Option Leadership) → S.logs.leadership (part S c) v ≡ o → {g : Leadership} → T.logs.leadership (part S c) v ≡ Some g → v < t → T.logs.reach (part S c) v ≤ length e.log
       led-before v None none led below = absurd (none-and-some (same.none (part S c) v none) led)
       led-before v (Some h) old led below = since v h old below
 
@@ -354,11 +354,11 @@ module _ (S T : LogState) (H : Holds S) (f : Later S T) where
       ]
 
   -- Of a slot that took the stream of a term, where it didn't enter it, what is everywhere is in its log still, and it is counted.
-  pub streamed-later : (c t : ℕ) (x : Streaming) → (k : StreamedOk S c t x) → SameReigns S.logs T.logs → T.logs.entered c t ≡ None
+  pub streamed-later : (c t : ℕ) (x : Streaming) → (k : StreamedOk S c t x) → SameLeaderships S.logs T.logs → T.logs.entered c t ≡ None
       → (start_at T c ≡ x.start → T.logs.reach (part T c) t ≤ length (log_at T c))
-      → (IsCounted S c x.start x.nj k.word → IsCounted T c x.start x.nj k.word) → StreamedOk T c t x
+      → (IsCounted S c x.start x.stream_start k.word → IsCounted T c x.start x.stream_start k.word) → StreamedOk T c t x
   streamed-later c t x k same apart reach counted =
-      let r = same.kept (part S c) t k.reign k.led in record {
+      let r = same.kept (part S c) t k.leadership k.led in record {
         word = k.word;
         took = f.words.took_word x.start k.word k.took;
         term_is = k.term_is;
@@ -368,7 +368,7 @@ module _ (S T : LogState) (H : Holds S) (f : Later S T) where
           | inr new ↦ let r = k.running (sym new.start ∙ start) in let up = r.1 in let above = new.above in let n = r.3 in let m = new.log in
               (omega (arith, up, above), omega (arith, n, m))
         ];
-        reign = r.0;
+        leadership = r.0;
         led = rw (part-later c) r.1;
         behind = rw r.2 k.behind;
         been = been-later c t x.start k.been;
@@ -383,12 +383,12 @@ module _ (S T : LogState) (H : Holds S) (f : Later S T) where
       }
 
   -- Of a term that a leader began.
-  pub reign-later : (p t : ℕ) (g h : Reign) → h.begun ≡ g.begun → Front g.log h.log → T.logs.reach p t ≤ length g.log → ReignOk S p t g → ReignOk T p t h
-  reign-later p t g h begun more within k = record {
+  pub leadership-later : (p t : ℕ) (g h : Leadership) → h.begun ≡ g.begun → Prefix g.log h.log → T.logs.reach p t ≤ length g.log → LeadershipOk S p t g → LeadershipOk T p t h
+  leadership-later p t g h begun more within k = record {
     word = k.word;
     is_word = word_of-later t k.word k.is_word;
-    grown = rw begun (front-trans g.begun g.log h.log k.grown more);
-    within = let l = front-length g.log h.log more in omega (arith, within, l);
+    grown = rw begun (prefix-trans g.begun g.log h.log k.grown more);
+    within = let l = prefix-length g.log h.log more in omega (arith, within, l);
     entered = λ c a slot is start. let r = k.entered c a (slot-before c slot) (sym (part-later c) ∙ is) (sym (start-later k.word c) ∙ start) in
         (r.0, f.entered c t r.0 r.1, r.2, rw begun r.3);
     begun_by = λ above. let r = k.begun_by (rw base-later at above) in
@@ -396,29 +396,29 @@ module _ (S T : LogState) (H : Holds S) (f : Later S T) where
   }
 
   -- where what is everywhere is in its log still
-  pub reigns-later : SameReigns S.logs T.logs → ((p t : ℕ) (g : Reign) → S.logs.reign p t ≡ Some g → T.logs.reach p t ≤ length g.log)
-      → (p t : ℕ) (h : Reign) → T.logs.reign p t ≡ Some h → ReignOk T p t h
-  reigns-later same within p t h led = go (S.logs.reign p t) refl
+  pub leaderships-later : SameLeaderships S.logs T.logs → ((p t : ℕ) (g : Leadership) → S.logs.leadership p t ≡ Some g → T.logs.reach p t ≤ length g.log)
+      → (p t : ℕ) (h : Leadership) → T.logs.leadership p t ≡ Some h → LeadershipOk T p t h
+  leaderships-later same within p t h led = go (S.logs.leadership p t) refl
     where
-      go : (o : Option Reign) → S.logs.reign p t ≡ o → ReignOk T p t h
+      go : (o : Option Leadership) → S.logs.leadership p t ≡ o → LeadershipOk T p t h
       go None e = absurd (none-and-some (same.none p t e) led)
       go (Some g) e = let r = same.kept p t g e in
           let is = same-some (sym r.1 ∙ led) in
-          reign-later p t g h (ap (λ z. z.begun) (sym is) ∙ r.2) (subst (λ z. Front g.log z.log) is r.3) (within p t g e) (H.reigns p t g e)
+          leadership-later p t g h (ap (λ z. z.begun) (sym is) ∙ r.2) (subst (λ z. Prefix g.log z.log) is r.3) (within p t g e) (H.leaderships p t g e)
 
   -- Of one that none began.
   pub unled-later : (p t : ℕ) → T.logs.reach p t ≡ S.logs.reach p t → UnledOk S p t → UnledOk T p t
   unled-later p t same (inl e) = inl (same ∙ e)
   unled-later p t same (inr (c, e, is, entered, reach)) = inr (c, e, part-later c ∙ is, f.entered c t e entered, same ∙ reach)
 
-  pub unleds-later : SameReigns S.logs T.logs → (p t : ℕ) → T.logs.reach p t ≡ S.logs.reach p t → T.logs.reign p t ≡ None → UnledOk T p t
-  unleds-later same p t reach led = go (S.logs.reign p t) refl
+  pub unleds-later : SameLeaderships S.logs T.logs → (p t : ℕ) → T.logs.reach p t ≡ S.logs.reach p t → T.logs.leadership p t ≡ None → UnledOk T p t
+  unleds-later same p t reach led = go (S.logs.leadership p t) refl
     where
-      go : (o : Option Reign) → S.logs.reign p t ≡ o → UnledOk T p t
+      go : (o : Option Leadership) → S.logs.leadership p t ≡ o → UnledOk T p t
       go None e = unled-later p t reach (H.unled p t e)
       go (Some g) e = absurd (none-and-some led (same.kept p t g e).1)
 
-  pub first-later : SameReigns S.logs T.logs → (p : ℕ) → (g : Reign) × (T.logs.reign p (base_of T) ≡ Some g)
+  pub first-later : SameLeaderships S.logs T.logs → (p : ℕ) → (g : Leadership) × (T.logs.leadership p (base_of T) ≡ Some g)
   first-later same p = let o = H.first p in let r = same.kept p (base_of S) o.0 o.1 in (r.0, rw base-later r.1)
 
   -- Who asks to be admitted has loaded all, and has it on disk, where no agent moves, and all that sites tell agents is so.

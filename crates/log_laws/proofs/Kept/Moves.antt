@@ -12,7 +12,7 @@ use Rattle.cluster_model.specs.SiteState.{SiteState, Joining}
 use Rattle.cluster_model.specs.World.{took, sent, set_at}
 use Rattle.word_laws.specs.Histories.{In}
 use Rattle.word_laws.proofs.Moves as word
-use Rattle.log_laws.specs.Histories.{LogState, Logs, Entered, Streaming, Reign, Front, Holds, start_at, log_at, term_at, JoinsIn}
+use Rattle.log_laws.specs.Histories.{LogState, Logs, Entered, Streaming, Leadership, Prefix, Holds, start_at, log_at, term_at, JoinsIn}
 
 -- ---- states
 
@@ -78,9 +78,9 @@ pub record Later (S T : LogState) : Type 0 where
   pub reach : (p t : ℕ) → S.logs.reach p t ≤ T.logs.reach p t
 
 -- The same terms have been led, and their logs have only grown.
-pub record SameReigns (G H : Logs) : Type 0 where
-  pub kept : (p t : ℕ) (g : Reign) → G.reign p t ≡ Some g → (h : Reign) × (H.reign p t ≡ Some h) × (h.begun ≡ g.begun) × Front g.log h.log
-  pub none : (p t : ℕ) → G.reign p t ≡ None → H.reign p t ≡ None
+pub record SameLeaderships (G H : Logs) : Type 0 where
+  pub kept : (p t : ℕ) (g : Leadership) → G.leadership p t ≡ Some g → (h : Leadership) × (H.leadership p t ≡ Some h) × (h.begun ≡ g.begun) × Prefix g.log h.log
+  pub none : (p t : ℕ) → G.leadership p t ≡ None → H.leadership p t ≡ None
 
 -- a start joins on in its word
 abbrev pub JoinsOn : LogState → LogState → ℕ → Type 0
@@ -90,7 +90,7 @@ JoinsOn S T c = (w : _) → JoinsIn S c w → JoinsIn T c w
 
 -- Terms that were led are led, with logs that have only grown. What is everywhere only rises. So it is while no recovery works.
 pub record Onward (F G : Logs) : Type 0 where
-  pub kept : (p t : ℕ) (g : Reign) → F.reign p t ≡ Some g → (h : Reign) × (G.reign p t ≡ Some h) × (h.begun ≡ g.begun) × Front g.log h.log
+  pub kept : (p t : ℕ) (g : Leadership) → F.leadership p t ≡ Some g → (h : Leadership) × (G.leadership p t ≡ Some h) × (h.begun ≡ g.begun) × Prefix g.log h.log
   pub reach : (p t : ℕ) → F.reach p t ≤ G.reach p t
 
 -- Slot i leads partition p in term t, by the word that its site has.
@@ -105,7 +105,7 @@ pub record Heads (D : Deployment) (i : ℕ) (s : SiteState) (p t : ℕ) : Type 0
 -- By a turn of the site of slot i, of which this is made, no term is led anew, or with a longer log, but for one that it leads.
 pub record Grown (D : Deployment) (i : ℕ) (s : SiteState) (F G : Logs) : Type 0 where
   pub onward : Onward F G
-  pub led : (p t : ℕ) (h : Reign) → G.reign p t ≡ Some h → (F.reign p t ≡ Some h) ⊎ Heads D i s p t
+  pub led : (p t : ℕ) (h : Leadership) → G.leadership p t ≡ Some h → (F.leadership p t ≡ Some h) ⊎ Heads D i s p t
 
 -- By a turn of the site of slot i, with so many entries in its log, what was entered stays, and it enters a term with no fewer.
 pub record Enters (i low : ℕ) (F G : Logs) : Type 0 where

@@ -14,14 +14,14 @@ use Rattle.cluster_model.specs.World.{set_at}
 use Rattle.word_laws.proofs.Lists.{all-mono, none-and-some, same-some, set-here, set-there}
 use Rattle.word_laws.proofs.Channels.{sent-nothing}
 use Rattle.word_laws.specs.Histories.{Distinct, In}
-use Rattle.log_laws.specs.Histories.{AskOk, BeginsAt, Coming, CountedOk, Flow, Follows, ForeignOk, Holds, InWord, IsCounted, IsSlot, JoinerOk, KeepsOk, LogState, MemberOk, Quiet, SiteLetterOk, StreamIn, StreamedOk, Streaming, Took, Untaken, ViewIn, WaitingOk, Wordless, asked, between, ends, flow, follows, line, part, start_at, term_at, log_at}
+use Rattle.log_laws.specs.Histories.{AskOk, BeginsAt, Coming, CountedOk, Flow, Follows, ForeignOk, Holds, InWord, IsCounted, IsSlot, JoinerOk, KeepsOk, LogState, MemberOk, Inert, SiteLetterOk, StreamIn, StreamedOk, Streaming, Took, Untaken, ViewIn, WaitingOk, Wordless, asked, between, ends, flow, follows, line, part, start_at, term_at, log_at}
 use Rattle.log_laws.proofs.Kept.Asked.{AsksLess, at-most-none, at-most-one}
 use Rattle.log_laws.proofs.Plain.Copies.{leader-view}
 use Rattle.log_laws.proofs.Kept.Keeps.{CountedBy, SameFrom, Still, Uncounted, counted-from, still-same}
 use Rattle.log_laws.proofs.Kept.Laters.{letter-later, streamed-later}
 use Rattle.log_laws.proofs.Kept.Moves.{Goes, Later, Unentered}
 use Rattle.log_laws.proofs.Kept.Grown.{grown-reach, enters-same}
-use Rattle.log_laws.proofs.Kept.Steady.{GoesOn, Steady, goes-on-same, shifted, steady-asks, steady-counted, steady-holds, steady-joiner, steady-joins, steady-keeps, steady-later, steady-member, steady-reigns}
+use Rattle.log_laws.proofs.Kept.Steady.{GoesOn, Steady, goes-on-same, shifted, steady-asks, steady-counted, steady-holds, steady-joiner, steady-joins, steady-keeps, steady-later, steady-member, steady-leaderships}
 
 -- the state in which the site of slot i is this one, with these channels, with what is pending, and with the streams that were taken
 abbrev pub with-site : LogState → ℕ → SiteState → (Actor → Actor → List Letter) → (ℕ → List Waiting) → (ℕ → ℕ → Option Streaming) → LogState
@@ -41,7 +41,7 @@ pub record Takes (S : LogState) (i : ℕ) (s : SiteState) (ch : Actor → Actor 
   pub stays : (t : ℕ) (x : Streaming) → S.logs.streamed i t ≡ Some x → st i t ≡ Some x
   pub fresh : (t : ℕ) (x : Streaming) → st i t ≡ Some x → (S.logs.streamed i t ≡ Some x) ⊎ Unentered S.logs i x.start
   pub asks : AsksLess S (with-site S i s ch pend st)
-  pub counted : (c a nj : ℕ) (w : Membership) → CountedBy S c a nj w i → CountedBy (with-site S i s ch pend st) c a nj w i
+  pub counted : (c a stream_start : ℕ) (w : Membership) → CountedBy S c a stream_start w i → CountedBy (with-site S i s ch pend st) c a stream_start w i
   pub uncounted : (c a : ℕ) → Uncounted S i c a → Uncounted (with-site S i s ch pend st) i c a
 
 module _ (S : LogState) (H : Holds S) (i : ℕ) (s : SiteState) (ch : Actor → Actor → List Letter) (pend : ℕ → List Waiting) (st : ℕ → ℕ → Option Streaming)
@@ -69,8 +69,8 @@ module _ (S : LogState) (H : Holds S) (i : ℕ) (s : SiteState) (ch : Actor → 
   }
 
   -- who was counted is, by this site and by others
-  pub takes-counted : (c a nj : ℕ) (w : Membership) → IsCounted S c a nj w → IsCounted (with-site S i s ch pend st) c a nj w
-  takes-counted c a nj w h = counted-from S (with-site S i s ch pend st) H (steady-later S ch (set_at S.sites i s) pend st H takes-steady) i there c a nj w (k.counted c a nj w) h
+  pub takes-counted : (c a stream_start : ℕ) (w : Membership) → IsCounted S c a stream_start w → IsCounted (with-site S i s ch pend st) c a stream_start w
+  takes-counted c a stream_start w h = counted-from S (with-site S i s ch pend st) H (steady-later S ch (set_at S.sites i s) pend st H takes-steady) i there c a stream_start w (k.counted c a stream_start w) h
 
   takes-uncounted : (l c a : ℕ) → Uncounted S l c a → Uncounted (with-site S i s ch pend st) l c a
   takes-uncounted l c a h = elim (cases_eq l i) [
@@ -95,7 +95,7 @@ module _ (S : LogState) (H : Holds S) (i : ℕ) (s : SiteState) (ch : Actor → 
       (λ c j is. elim (cases_eq c i) [
         | inl e ↦ subst (λ z. JoinerOk T z j) (sym e) (joiner j (ap (λ x. x.joining) (sym (set-here S.sites i s)) ∙ subst (λ z. (set_at S.sites i s z).joining ≡ Some j) e is))
         | inr n ↦ steady-joiner S ch (set_at S.sites i s) pend st H takes-steady c (still c n) (λ t x own _. sym (k.streamed c t n) ∙ own)
-            (λ l. from c n l) (λ nj w. takes-counted c (start_at S c) nj w) j is
+            (λ l. from c n l) (λ stream_start w. takes-counted c (start_at S c) stream_start w) j is
       ])
       (λ c up h. elim (cases_eq c i) [
         | inl e ↦ subst (KeepsOk T) (sym e) (keeps (subst (KeepsOk S) e h))
@@ -150,9 +150,9 @@ module _ (S : LogState) (H : Holds S) (i : ℕ) (s : SiteState) (ch : Actor → 
 
       other-stream : (c t : ℕ) (x : Streaming) → (c ≡ i → ⊥) → S.logs.streamed c t ≡ Some x → StreamedOk T c t x
       other-stream c t x n is = let h = H.streamed c t x is in
-          streamed-later S T H later c t x h (steady-reigns S ch (set_at S.sites i s) pend st H takes-steady) h.apart
+          streamed-later S T H later c t x h (steady-leaderships S ch (set_at S.sites i s) pend st H takes-steady) h.apart
           (λ at. subst (λ z. S.logs.reach (part S c) t ≤ length z.log) (sym (there c n)) (h.running (ap (λ z. z.start) (sym (there c n)) ∙ at)).2)
-          (takes-counted c x.start x.nj h.word)
+          (takes-counted c x.start x.stream_start h.word)
 
 -- ---- the slot itself
 
@@ -257,20 +257,20 @@ module _ (S : LogState) (H : Holds S) (i : ℕ) (s : SiteState) (ch : Actor → 
   }
 
   -- one that took its stream, and goes on with it
-  pub takes-took : (w : Membership) (j n : Joining) (nj : ℕ) (h : Took S i w j nj) (more : List Entry)
-      → flow (start_at S i) (term_of w) (ch (Site h.from) (Site i)) ≡ map Follows more → s.log ++ n.tasks ++ more ≡ h.reign.log
-      → (n.is_loaded ≡ false → length s.log ≡ nj) → (n.is_loaded ≡ true → n.tasks ≡ [])
-      → ((n.is_loaded ≡ true ⊎ is_some n.count ≡ true) → nj ≤ S.logs.reach (part S i) (term_of w))
-      → s.floor ≡ (S.sites i).floor → Took (with-site S i s ch pend st) i w n nj
-  takes-took w j n nj h more flowing whole loading loaded ends floor = record {
+  pub takes-took : (w : Membership) (j n : Joining) (stream_start : ℕ) (h : Took S i w j stream_start) (more : List Entry)
+      → flow (start_at S i) (term_of w) (ch (Site h.from) (Site i)) ≡ map Follows more → s.log ++ n.tasks ++ more ≡ h.leadership.log
+      → (n.is_loaded ≡ false → length s.log ≡ stream_start) → (n.is_loaded ≡ true → n.tasks ≡ [])
+      → ((n.is_loaded ≡ true ⊎ is_some n.count ≡ true) → stream_start ≤ S.logs.reach (part S i) (term_of w))
+      → s.floor ≡ (S.sites i).floor → Took (with-site S i s ch pend st) i w n stream_start
+  takes-took w j n stream_start h more flowing whole loading loaded ends floor = record {
     from = h.from;
     following = h.following;
     more = more;
-    reign = h.reign;
+    leadership = h.leadership;
     led = h.led;
     flow_is = rw start-here flowing;
-    whole = subst (λ x. x.log ++ n.tasks ++ more ≡ h.reign.log) (sym here) whole;
-    streamed = rw start-here (k.stays (term_of w) (record { start = start_at S i; nj = nj }) h.streamed);
+    whole = subst (λ x. x.log ++ n.tasks ++ more ≡ h.leadership.log) (sym here) whole;
+    streamed = rw start-here (k.stays (term_of w) (record { start = start_at S i; stream_start = stream_start }) h.streamed);
     loading = λ e. ap (λ x. length x.log) here ∙ loading e;
     loaded = loaded;
     ends = ends;
@@ -279,8 +279,8 @@ module _ (S : LogState) (H : Holds S) (i : ℕ) (s : SiteState) (ch : Actor → 
   }
 
   -- one that took none, where what is under way to it is the same
-  takes-quiet : LessTo S i ch → (w : Membership) (l : ℕ) → Quiet S i w l → Quiet (with-site S i s ch pend st) i w l
-  takes-quiet less w l h = record {
+  takes-inert : LessTo S i ch → (w : Membership) (l : ℕ) → Inert S i w l → Inert (with-site S i s ch pend st) i w l
+  takes-inert less w l h = record {
     flow_is = rw start-here (less.flows l (start_at S i) (term_of w) h.flow_is);
     ends_are = rw start-here (less.ends l (start_at S i) (term_of w) h.ends_are);
     uncounted = λ j is slot at. takes-uncounted S H i s ch pend st k l i (start_at S i) h.uncounted j is slot (at ∙ start-here);
@@ -294,7 +294,7 @@ module _ (S : LogState) (H : Holds S) (i : ℕ) (s : SiteState) (ch : Actor → 
   takes-coming w fl h = record {
     past = h.past;
     more = h.more;
-    reign = h.reign;
+    leadership = h.leadership;
     flow_is = h.flow_is;
     led = h.led;
     whole = h.whole;
@@ -317,7 +317,7 @@ module _ (S : LogState) (H : Holds S) (i : ℕ) (s : SiteState) (ch : Actor → 
     never = λ t x is at. h.never t x (sym (streamed t) ∙ is) (at ∙ start-here);
     comes = λ l is low. let below = subst (λ x. x < term_of w) (ap (λ x. x.earlier) here ∙ k.goes.earlier) low in
         elim (h.comes l is below) [
-          | inl q ↦ inl (takes-quiet less w l q)
+          | inl q ↦ inl (takes-inert less w l q)
           | inr q ↦ inr (
             rw (start-here, flows l is below) (takes-coming w (flow (start_at S i) (term_of w) (between S l i)) q.0),
             at-most-none (asked S i l (term_of w)) (asked (with-site S i s ch pend st) i l (term_of w)) q.1 (k.asks i l (term_of w)),
@@ -336,8 +336,8 @@ module _ (S : LogState) (H : Holds S) (i : ℕ) (s : SiteState) (ch : Actor → 
     where
       stream : (w : Membership) → (S.sites i).view ≡ Some w → (o : Option Streamed) → StreamIn S i w j o → StreamIn (with-site S i s ch pend st) i w j o
       stream w view None u = takes-untaken less streamed w j j refl refl refl still.log still.floor (flows w view) u
-      stream w view (Some x) u = takes-took w j j x.nj u u.more
-          (flows w view u.from u.following ((H.streamed i (term_of w) (record { start = start_at S i; nj = x.nj }) u.streamed).running refl).0 ∙ u.flow_is)
+      stream w view (Some x) u = takes-took w j j x.stream_start u u.more
+          (flows w view u.from u.following ((H.streamed i (term_of w) (record { start = start_at S i; stream_start = x.stream_start }) u.streamed).running refl).0 ∙ u.flow_is)
           (rw still.log u.whole) (λ e. ap length still.log ∙ u.loading e) u.loaded u.ends still.floor
 
   -- All holds after it, where a joiner has become this one.
@@ -355,31 +355,31 @@ module _ (S : LogState) (H : Holds S) (i : ℕ) (s : SiteState) (ch : Actor → 
 
   -- messages to it, where no stream is under way that wasn't
   pub takes-letters : ((t : ℕ) → st i t ≡ S.logs.streamed i t) → (l : ℕ)
-      → ((a t nj : ℕ) → AllByRecursion (BeginsAt nj) (flow a t (between S l i)) → AllByRecursion (BeginsAt nj) (flow a t (ch (Site l) (Site i))))
+      → ((a t stream_start : ℕ) → AllByRecursion (BeginsAt stream_start) (flow a t (between S l i)) → AllByRecursion (BeginsAt stream_start) (flow a t (ch (Site l) (Site i))))
       → (ls : List Letter) → AllByRecursion (SiteLetterOk S l i) ls → AllByRecursion (SiteLetterOk (with-site S i s ch pend st) l i) ls
   takes-letters streamed l begun ls h = all-mono (SiteLetterOk S l i) (SiteLetterOk (with-site S i s ch pend st) l i)
       (λ x. letter-later S (with-site S i s ch pend st) H (steady-later S ch (set_at S.sites i s) pend st H (takes-steady S H i s ch pend st k)) l i x
       (steady-joins S ch (set_at S.sites i s) pend st H (takes-steady S H i s ch pend st k) l)
-      (λ b j joins same-start same-term. begun x.start x.term b.nj)
+      (λ b j joins same-start same-term. begun x.start x.term b.stream_start)
       (λ b y is start. inl (sym (streamed x.term) ∙ is))) ls h
 
   -- the streams that it took before
   pub takes-stream : (t : ℕ) (x : Streaming) → S.logs.streamed i t ≡ Some x → StreamedOk (with-site S i s ch pend st) i t x
   takes-stream t x is = let h = H.streamed i t x is in
       streamed-later S (with-site S i s ch pend st) H (steady-later S ch (set_at S.sites i s) pend st H (takes-steady S H i s ch pend st k)) i t x h
-      (steady-reigns S ch (set_at S.sites i s) pend st H (takes-steady S H i s ch pend st k)) h.apart
+      (steady-leaderships S ch (set_at S.sites i s) pend st H (takes-steady S H i s ch pend st k)) h.apart
       (λ at. subst (λ z. S.logs.reach (part S i) t ≤ length z.log) (sym here)
       (let r = h.running (sym start-here ∙ at) in let low = r.2 in let up = k.goes.log in omega (arith, low, up)))
-      (takes-counted S H i s ch pend st k i x.start x.nj h.word)
+      (takes-counted S H i s ch pend st k i x.start x.stream_start h.word)
 
 -- ---- whom it counts
 
 module _ (S : LogState) (i : ℕ) (s : SiteState) (ch : Actor → Actor → List Letter) (pend : ℕ → List Waiting) (st : ℕ → ℕ → Option Streaming)
     (g : GoesOn (S.sites i) s) where
   -- for each that it counted there is one now, and for each one now there was one
-  pub counts-on : ((j : Joiner) → In j (S.sites i).joiners → (n : Joiner) × In n s.joiners × (n.slot ≡ j.slot) × (n.start ≡ j.start) × (n.nj ≡ j.nj))
-      → (c a nj : ℕ) (w : Membership) → CountedBy S c a nj w i → CountedBy (with-site S i s ch pend st) c a nj w i
-  counts-on each c a nj w h = λ up none view.
+  pub counts-on : ((j : Joiner) → In j (S.sites i).joiners → (n : Joiner) × In n s.joiners × (n.slot ≡ j.slot) × (n.start ≡ j.start) × (n.stream_start ≡ j.stream_start))
+      → (c a stream_start : ℕ) (w : Membership) → CountedBy S c a stream_start w i → CountedBy (with-site S i s ch pend st) c a stream_start w i
+  counts-on each c a stream_start w h = λ up none view.
       let e = set-here S.sites i s in
       let r = h (subst (λ z. 0 < z) (ap (λ x. x.start) e ∙ g.start) up) (none-before (ap (λ x. x.joining) (sym e) ∙ none)) (sym g.view ∙ ap (λ x. x.view) (sym e) ∙ view) in
       let n = each r.0 r.1 in
@@ -398,7 +398,7 @@ module _ (S : LogState) (i : ℕ) (s : SiteState) (ch : Actor → Actor → List
       let r = each n (subst (λ x. In n x.joiners) (set-here S.sites i s) is) in h r.0 r.1 (r.2 ∙ slot) (r.3 ∙ start)
 
 -- the same ones
-pub same-counts : (js ks : List Joiner) → ks ≡ js → (j : Joiner) → In j js → (n : Joiner) × In n ks × (n.slot ≡ j.slot) × (n.start ≡ j.start) × (n.nj ≡ j.nj)
+pub same-counts : (js ks : List Joiner) → ks ≡ js → (j : Joiner) → In j js → (n : Joiner) × In n ks × (n.slot ≡ j.slot) × (n.start ≡ j.start) × (n.stream_start ≡ j.stream_start)
 same-counts js ks e j is = (j, subst (In j) (sym e) is, refl, refl, refl)
 
 pub same-uncounts : (js ks : List Joiner) → ks ≡ js → (n : Joiner) → In n ks → (j : Joiner) × In j js × (j.slot ≡ n.slot) × (j.start ≡ n.start)

@@ -20,7 +20,7 @@ use Rattle.log_laws.proofs.Kept.Moves.{after, NoStreamStart, Turns}
 use Rattle.log_laws.proofs.Plain.Lines.{in_order, line-append, flow-append, ends-append, asks-append, line-order, flow-order, ends-order, asks-order, all-order}
 use Rattle.log_laws.proofs.Kept.Asked.{at-most-is}
 use Rattle.log_laws.proofs.Kept.KeepsViews.{leaves-same}
-use Rattle.log_laws.proofs.Kept.Quiet.{moved, channels-hold}
+use Rattle.log_laws.proofs.Kept.Inert.{moved, channels-hold}
 
 -- ---- two turns that differ in the order of what they send
 
@@ -79,13 +79,13 @@ order-holds S i s out G plain H = channels-hold T ch H
     asks c l t = sent-two S i s out (λ b. in_order (out b)) G (λ j xs ys. asks_in t ys ≡ asks_in t xs) (Site l)
         (same-behind (asks_in t) (asks-append t) (between S i l) (out (Site l)) (asks-order t (out (Site l)))) (λ j other. refl) c
 
-    in-front : (P : Letter → Type 0) (xs ys : List Letter) → AllByRecursion P (xs ++ ys) → AllByRecursion P xs
-    in-front P [] ys k = tt
-    in-front P (x ∷ xs) ys k = (k.0, in-front P xs ys k.1)
+    in-prefix : (P : Letter → Type 0) (xs ys : List Letter) → AllByRecursion P (xs ++ ys) → AllByRecursion P xs
+    in-prefix P [] ys k = tt
+    in-prefix P (x ∷ xs) ys k = (k.0, in-prefix P xs ys k.1)
 
     all-two : (P : ℕ → Letter → Type 0) (b : Actor) (j : ℕ) → AllByRecursion (P j) (T.words.channel (Site j) b) → AllByRecursion (P j) (ch (Site j) b)
     all-two P b = sent-two S i s out (λ b. in_order (out b)) G (λ j xs ys. AllByRecursion (P j) xs → AllByRecursion (P j) ys) b
-        (λ k. all-append (P i) (S.words.channel (Site i) b) (in_order (out b)) (in-front (P i) (S.words.channel (Site i) b) (out b) k)
+        (λ k. all-append (P i) (S.words.channel (Site i) b) (in_order (out b)) (in-prefix (P i) (S.words.channel (Site i) b) (out b) k)
         (all-order (P i) (out b) (all-behind (P i) (S.words.channel (Site i) b) (out b) k)))
         (λ j other k. k)
 

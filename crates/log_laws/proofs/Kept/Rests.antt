@@ -13,10 +13,10 @@ use Rattle.cluster_model.specs.SiteState.{SiteState, Streamed, Joining, Joiner, 
 use Rattle.cluster_model.specs.World.{sent, set_at}
 use Rattle.word_laws.specs.Histories.{In, Distinct}
 use Rattle.word_laws.proofs.Lists.{not-both, in-none, in-map, in-map-from, all-append, all-mono, none-and-some, same-some, set-both}
-use Rattle.log_laws.specs.Histories.{LogState, Entered, Streaming, Reign, Flow, Holds, SiteOk, BeginsAt, WaitingOk, ReportOk, AskOk, from_agent, IsSlot, AckOk, CountedOk, IsCounted, HeldOk, MemberOk, JoinerOk, ViewIn, StreamIn, Quiet, Coming, KeepsOk, ViewsOk, ForeignOk, LoadsOk, ToldOk, SiteLetterOk, JoinsIn, line_in, flow_in, ask_in, line_of, flow_of, ask_of, asks_waiting, asks_of_term, line, flow, ends, asks_in, asked, follows, FollowsIn, part, start_at, log_at, term_at, between}
-use Rattle.log_laws.proofs.Kept.Moves.{after, Later, Goes, NoStreamStart, JoinsOn, SameReigns}
+use Rattle.log_laws.specs.Histories.{LogState, Entered, Streaming, Leadership, Flow, Holds, SiteOk, BeginsAt, WaitingOk, ReportOk, AskOk, from_agent, IsSlot, AckOk, CountedOk, IsCounted, HeldOk, MemberOk, JoinerOk, ViewIn, StreamIn, Inert, Coming, KeepsOk, ViewsOk, ForeignOk, LoadsOk, ToldOk, SiteLetterOk, JoinsIn, line_in, flow_in, ask_in, line_of, flow_of, ask_of, asks_waiting, asks_of_term, line, flow, ends, asks_in, asked, follows, FollowsIn, part, start_at, log_at, term_at, between}
+use Rattle.log_laws.proofs.Kept.Moves.{after, Later, Goes, NoStreamStart, JoinsOn, SameLeaderships}
 use Rattle.log_laws.proofs.Kept.Grown.{grown-reach, enters-same}
-use Rattle.log_laws.proofs.Kept.Laters.{ack-later, report-later, ask-later, counted-later, letter-later, waiting-later-with, loads-later, entered-later, streamed-later, reigns-later, unleds-later}
+use Rattle.log_laws.proofs.Kept.Laters.{ack-later, report-later, ask-later, counted-later, letter-later, waiting-later-with, loads-later, entered-later, streamed-later, leaderships-later, unleds-later}
 use Rattle.log_laws.proofs.Plain.Copies.{leader-same, leader-view}
 use Rattle.log_laws.proofs.Plain.Lines.{line-same, flow-same, ends-same, asks-same, line-none, flow-none, asks-none, line-plain, flow-plain, asks-plain}
 use Rattle.log_laws.proofs.Kept.KeepsViews.{views-keeps-with, leaves-same}
@@ -50,8 +50,8 @@ pub record JoiningRests (j k : Joining) : Type 0 where
 
 -- the same starts are counted, from the same positions on
 pub record SameJoiners (js ks : List Joiner) : Type 0 where
-  pub kept : (j : Joiner) → In j js → (k : Joiner) × In k ks × (k.slot ≡ j.slot) × (k.start ≡ j.start) × (k.nj ≡ j.nj)
-  pub back : (k : Joiner) → In k ks → (j : Joiner) × In j js × (j.slot ≡ k.slot) × (j.start ≡ k.start) × (j.nj ≡ k.nj)
+  pub kept : (j : Joiner) → In j js → (k : Joiner) × In k ks × (k.slot ≡ j.slot) × (k.start ≡ j.start) × (k.stream_start ≡ j.stream_start)
+  pub back : (k : Joiner) → In k ks → (j : Joiner) × In j js × (j.slot ≡ k.slot) × (j.start ≡ k.start) × (j.stream_start ≡ k.stream_start)
 
 -- Of the site of slot c, with what is everywhere in each term.
 pub record SiteRests (S : LogState) (reach : ℕ → ℕ → ℕ) (c : ℕ) (s : SiteState) : Type 0 where
@@ -73,11 +73,11 @@ pub record SiteRests (S : LogState) (reach : ℕ → ℕ → ℕ) (c : ℕ) (s :
 -- Of what is everywhere in each term: it only rises, in terms that were led, and not above what is in the logs of that term.
 pub record ReachRests (S : LogState) (reach : ℕ → ℕ → ℕ) : Type 0 where
   pub rises : (p t : ℕ) → S.logs.reach p t ≤ reach p t
-  pub unled : (p t : ℕ) → S.logs.reign p t ≡ None → reach p t ≡ S.logs.reach p t
-  pub led : (p t : ℕ) (g : Reign) → S.logs.reign p t ≡ Some g → reach p t ≤ length g.log
+  pub unled : (p t : ℕ) → S.logs.leadership p t ≡ None → reach p t ≡ S.logs.reach p t
+  pub led : (p t : ℕ) (g : Leadership) → S.logs.leadership p t ≡ Some g → reach p t ≤ length g.log
   pub entered : (c t : ℕ) (e : Entered) → S.logs.entered c t ≡ Some e → start_at S c ≡ e.start → reach (part S c) t ≤ length (log_at S c)
   pub streamed : (c t : ℕ) (x : Streaming) → S.logs.streamed c t ≡ Some x → start_at S c ≡ x.start → reach (part S c) t ≤ length (log_at S c)
-  pub since : (c t : ℕ) (e : Entered) → S.logs.entered c t ≡ Some e → (v : ℕ) (g : Reign) → S.logs.reign (part S c) v ≡ Some g → v < t
+  pub since : (c t : ℕ) (e : Entered) → S.logs.entered c t ≡ Some e → (v : ℕ) (g : Leadership) → S.logs.leadership (part S c) v ≡ Some g → v < t
       → reach (part S c) v ≤ length e.log
   pub coming : (c : ℕ) (w : Membership) (fl : List Flow) → In w S.words.history.decided → log_at S c ≡ [] → (S.sites c).earlier < term_of w
       → (k : Coming S c w fl) → reach (part S c) (term_of w) ≤ length k.past
@@ -90,7 +90,7 @@ Plain l = (line_in l.body ≡ []) × (flow_in l.past l.body ≡ []) × (ask_in l
 pub record SaysRests (S : LogState) (i : ℕ) (out : Sends) : Type 0 where
   pub sites : (c : ℕ) → AllByRecursion (λ l. Plain l × SiteLetterOk S i c l) (out (Site c))
   pub ended : (c : ℕ) (w : Membership) → JoinsIn S c w → In w S.words.history.decided
-      → Quiet S c w i ⊎ (follows S.words.deployment w c i ≡ false) → ends (start_at S c) (term_of w) (out (Site c)) ≡ []
+      → Inert S c w i ⊎ (follows S.words.deployment w c i ≡ false) → ends (start_at S c) (term_of w) (out (Site c)) ≡ []
   pub told : (h : ℕ) → AllByRecursion (ToldOk S i) (out (Agent h))
 
 -- ---- the state after it
@@ -146,8 +146,8 @@ module _ (S : LogState) (H : Holds S) (states : ℕ → SiteState) (i : ℕ) (ou
     reach = reaches.rises;
   }
 
-  same-reigns : SameReigns S.logs T.logs
-  same-reigns = record { kept = λ p t g is. (g, is, refl, ([], sym (append-nil g.log))); none = λ p t is. is }
+  same-leaderships : SameLeaderships S.logs T.logs
+  same-leaderships = record { kept = λ p t g is. (g, is, refl, ([], sym (append-nil g.log))); none = λ p t is. is }
 
   -- ---- what is under way
 
@@ -173,22 +173,22 @@ module _ (S : LogState) (H : Holds S) (states : ℕ → SiteState) (i : ℕ) (ou
   askeds : (c l term : ℕ) → asked T c l term ≡ asked S c l term
   askeds c l term = ap (λ xs. xs ++ asks_waiting c term (S.sites l).waiting ++ asks_waiting c term (S.pending l) ++ asks_of_term c term (S.sites l)) (asks-under term c l)
 
-  ends-from : (c l : ℕ) (w : Membership) → JoinsIn S c w → In w S.words.history.decided → Quiet S c w l ⊎ (follows S.words.deployment w c l ≡ false)
+  ends-from : (c l : ℕ) (w : Membership) → JoinsIn S c w → In w S.words.history.decided → Inert S c w l ⊎ (follows S.words.deployment w c l ≡ false)
       → ends (start_at S c) (term_of w) (between S l c) ≡ [] → ends (start_at S c) (term_of w) (between T l c) ≡ []
   ends-from c l w joins decided away none = sent-either S i (S.sites i) out S.logs
-      (λ l ls. Quiet S c w l ⊎ (follows S.words.deployment w c l ≡ false) → ends (start_at S c) (term_of w) (between S l c) ≡ [] → ends (start_at S c) (term_of w) ls ≡ []) (Site c)
+      (λ l ls. Inert S c w l ⊎ (follows S.words.deployment w c l ≡ false) → ends (start_at S c) (term_of w) (between S l c) ≡ [] → ends (start_at S c) (term_of w) ls ≡ []) (Site c)
       (λ q e. ends-same (start_at S c) (term_of w) (between S i c) (out (Site c)) (says.ended c w joins decided q) ∙ e) (λ l n q e. e) l away none
 
   -- ---- who is counted
 
-  counted-rests : (c a nj : ℕ) (w : Membership) → IsCounted S c a nj w → IsCounted T c a nj w
-  counted-rests c a nj w k l lead up none view =
-      let r = k l lead up (member-before l none) view in
+  counted-rests : (c a stream_start : ℕ) (w : Membership) → IsCounted S c a stream_start w → IsCounted T c a stream_start w
+  counted-rests c a stream_start w k l authoritative up none view =
+      let r = k l authoritative up (member-before l none) view in
       let m = (rests l).counted.kept r.0 r.1 in
       (m.0, m.1, m.2 ∙ r.2, m.3 ∙ r.3, m.4 ∙ r.4)
 
-  quiet-rests : (c : ℕ) (w : Membership) (l : ℕ) → JoinsIn S c w → In w S.words.history.decided → Quiet S c w l → Quiet T c w l
-  quiet-rests c w l joins decided q = record {
+  inert-rests : (c : ℕ) (w : Membership) (l : ℕ) → JoinsIn S c w → In w S.words.history.decided → Inert S c w l → Inert T c w l
+  inert-rests c w l joins decided q = record {
     flow_is = flows (start_at S c) (term_of w) l c ∙ q.flow_is;
     ends_are = ends-from c l w joins decided (inl q) q.ends_are;
     uncounted = λ k here slot start. let b = (rests l).counted.back k here in q.uncounted b.0 b.1 (b.2 ∙ slot) (b.3 ∙ start);
@@ -202,7 +202,7 @@ module _ (S : LogState) (H : Holds S) (states : ℕ → SiteState) (i : ℕ) (ou
   coming-rests c w fl decided empty below k = record {
     past = k.past;
     more = k.more;
-    reign = k.reign;
+    leadership = k.leadership;
     flow_is = k.flow_is;
     led = k.led;
     whole = k.whole;
@@ -229,7 +229,7 @@ module _ (S : LogState) (H : Holds S) (states : ℕ → SiteState) (i : ℕ) (ou
     floor = known.0;
     firm = known.1;
     leading = m.leading;
-    following = λ l f. subst (λ ln. FollowsIn (T.sites c) ln (S.logs.reign (part S c) (term_of w))) (sym (lines (start_at S c) (term_of w) l c)) (m.following l f);
+    following = λ l f. subst (λ ln. FollowsIn (T.sites c) ln (S.logs.leadership (part S c) (term_of w))) (sym (lines (start_at S c) (term_of w) l c)) (m.following l f);
     others = λ l f. lines (start_at S c) (term_of w) l c ∙ m.others l f;
   }
     where
@@ -258,7 +258,7 @@ module _ (S : LogState) (H : Holds S) (states : ℕ → SiteState) (i : ℕ) (ou
       floor = same-counts.0 ∙ u.floor;
       never = u.never;
       comes = λ l f below. elim (u.comes l f below) [
-        | inl q ↦ inl (quiet-rests c w l (j, some, view) decided q)
+        | inl q ↦ inl (inert-rests c w l (j, some, view) decided q)
         | inr q ↦ inr (
           subst (Coming T c w) (sym (flows (start_at S c) (term_of w) l c)) (coming-rests c w (flow (start_at S c) (term_of w) (between S l c)) decided u.empty below q.0),
           askeds c l (term_of w) ∙ q.1,
@@ -269,7 +269,7 @@ module _ (S : LogState) (H : Holds S) (states : ℕ → SiteState) (i : ℕ) (ou
       from = u.from;
       following = u.following;
       more = u.more;
-      reign = u.reign;
+      leadership = u.leadership;
       led = u.led;
       flow_is = flows (start_at S c) (term_of w) u.from c ∙ u.flow_is;
       whole = u.whole;
@@ -317,7 +317,7 @@ module _ (S : LogState) (H : Holds S) (states : ℕ → SiteState) (i : ℕ) (ou
   -- what came to slot c from slot j is still so
   letter-rests : (j c : ℕ) (l : Letter) → SiteLetterOk S j c l → SiteLetterOk T j c l
   letter-rests j c l k = letter-later S T H later j c l (joins-on j)
-      (λ e n some start term b. subst (AllByRecursion (BeginsAt e.nj)) (sym (flows l.start l.term j c)) b) (λ e x is start. inl is) k
+      (λ e n some start term b. subst (AllByRecursion (BeginsAt e.stream_start)) (sym (flows l.start l.term j c)) b) (λ e x is start. inl is) k
 
   waiting-rests : (c : ℕ) (x : Waiting) → WaitingOk S c x → WaitingOk T c x
   waiting-rests c x k = waiting-later-with S T H later c refl x (λ j a _ _ _. ask-later S T H later (part S c) j x.letter.term a (joins-on j)) k
@@ -349,7 +349,7 @@ module _ (S : LogState) (H : Holds S) (states : ℕ → SiteState) (i : ℕ) (ou
 
   site_ok-rests : (c : ℕ) → SiteOk S c → SiteOk T c
   site_ok-rests c o = record {
-    outside = o.outside;
+    environment = o.environment;
     ran = o.ran;
     term = o.term;
     earlier = o.earlier;
@@ -401,11 +401,11 @@ module _ (S : LogState) (H : Holds S) (states : ℕ → SiteState) (i : ℕ) (ou
         (λ j n. all-mono (SiteLetterOk S j c) (SiteLetterOk T j c) (letter-rests j c) (between S j c) (H.letters j c slot)) j;
     foreign = foreign-rests;
     loads = loads-rests;
-    entered = λ c t e is. entered-later S T H later c t e (H.entered c t e is) same-reigns (reaches.entered c t e is) (reaches.since c t e is);
+    entered = λ c t e is. entered-later S T H later c t e (H.entered c t e is) same-leaderships (reaches.entered c t e is) (reaches.since c t e is);
     streamed = λ c t x is. let k = H.streamed c t x is in
-        streamed-later S T H later c t x k same-reigns k.apart (reaches.streamed c t x is) (counted-rests c x.start x.nj k.word);
-    reigns = reigns-later S T H later same-reigns reaches.led;
-    unled = λ p t none. unleds-later S T H later same-reigns p t (reaches.unled p t none) none;
+        streamed-later S T H later c t x k same-leaderships k.apart (reaches.streamed c t x is) (counted-rests c x.start x.stream_start k.word);
+    leaderships = leaderships-later S T H later same-leaderships reaches.led;
+    unled = λ p t none. unleds-later S T H later same-leaderships p t (reaches.unled p t none) none;
     some = H.some;
     first = H.first;
   }
@@ -416,12 +416,12 @@ pub same-joiners : (js : List Joiner) → SameJoiners js js
 same-joiners js = record { kept = λ j k. (j, k, refl, refl, refl); back = λ j k. (j, k, refl, refl, refl) }
 
 -- where each joiner becomes another one with its slot, its start and its first position
-pub map-joiners : (f : Joiner → Joiner) → ((j : Joiner) → (f j).slot ≡ j.slot) → ((j : Joiner) → (f j).start ≡ j.start) → ((j : Joiner) → (f j).nj ≡ j.nj)
+pub map-joiners : (f : Joiner → Joiner) → ((j : Joiner) → (f j).slot ≡ j.slot) → ((j : Joiner) → (f j).start ≡ j.start) → ((j : Joiner) → (f j).stream_start ≡ j.stream_start)
     → (js : List Joiner) → SameJoiners js (map f js)
-map-joiners f slot start nj js = record {
-  kept = λ j k. (f j, in-map f j js k, slot j, start j, nj j);
+map-joiners f slot start stream_start js = record {
+  kept = λ j k. (f j, in-map f j js k, slot j, start j, stream_start j);
   back = λ k here. let r = in-map-from f k js here in
-      (r.0, r.1, sym (slot r.0) ∙ ap (λ x. x.slot) r.2, sym (start r.0) ∙ ap (λ x. x.start) r.2, sym (nj r.0) ∙ ap (λ x. x.nj) r.2);
+      (r.0, r.1, sym (slot r.0) ∙ ap (λ x. x.slot) r.2, sym (start r.0) ∙ ap (λ x. x.start) r.2, sym (stream_start r.0) ∙ ap (λ x. x.stream_start) r.2);
 }
 
 pub map-slots : (f : Joiner → Joiner) → ((j : Joiner) → (f j).slot ≡ j.slot) → (js : List Joiner) → map (λ j. j.slot) (map f js) ≡ map (λ j. j.slot) js
@@ -439,7 +439,7 @@ pub reach-same : (S : LogState) → Holds S → ReachRests S S.logs.reach
 reach-same S H = record {
   rises = λ p t. omega arith;
   unled = λ p t none. refl;
-  led = λ p t g is. (H.reigns p t g is).within;
+  led = λ p t g is. (H.leaderships p t g is).within;
   entered = λ c t e is runs. ((H.entered c t e is).running runs).2;
   streamed = λ c t x is runs. ((H.streamed c t x is).running runs).2;
   since = λ c t e is. (H.entered c t e is).since;

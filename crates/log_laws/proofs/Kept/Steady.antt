@@ -14,8 +14,8 @@ use Rattle.word_laws.proofs.Steps.{channel-holds}
 use Rattle.word_laws.specs.Histories.{Distinct}
 use Rattle.log_laws.specs.Histories.{AckOk, AskOk, AskedOk, CountedOk, FirstViews, ForeignOk, Holds, IsCounted, IsSlot, JoinerOk, KeepsOk, LoadsOk, LogState, MemberOk, QueuedOk, ReportOk, RunViews, SiteLetterOk, SiteOk, StreamedOk, Streaming, ToldOk, ViewsOk, WaitingOk, between, from_agent, line, part, start_at, term_at, views}
 use Rattle.log_laws.proofs.Kept.Keeps.{SameFrom, SameRun, Still, joiner-keeps, member-keeps}
-use Rattle.log_laws.proofs.Kept.Laters.{ack-later, all_loaded-later, ask-later, asked-later, counted-later, entered-later, loaded-later, queued-later, reigns-later, report-later, same-reigns, told-later, unleds-later, waiting-later-with}
-use Rattle.log_laws.proofs.Kept.Moves.{JoinsOn, Later, SameReigns, Unentered}
+use Rattle.log_laws.proofs.Kept.Laters.{ack-later, all_loaded-later, ask-later, asked-later, counted-later, entered-later, loaded-later, queued-later, leaderships-later, report-later, same-leaderships, told-later, unleds-later, waiting-later-with}
+use Rattle.log_laws.proofs.Kept.Moves.{JoinsOn, Later, SameLeaderships, Unentered}
 use Rattle.log_laws.proofs.Kept.Plumbing.{words-later}
 
 -- ---- a move
@@ -96,8 +96,8 @@ module _ (S : LogState) (ch : Actor → Actor → List Letter) (f : ℕ → Site
   pub steady-joins : (c : ℕ) → JoinsOn S (shifted S ch f pend st) c
   steady-joins c w (j, is, view) = let k = (m.sites c).joins j is in (k.0, k.1, (m.sites c).view ∙ view)
 
-  pub steady-reigns : SameReigns S.logs (shifted S ch f pend st).logs
-  steady-reigns = same-reigns S.logs (shifted S ch f pend st).logs refl
+  pub steady-leaderships : SameLeaderships S.logs (shifted S ch f pend st).logs
+  steady-leaderships = same-leaderships S.logs (shifted S ch f pend st).logs refl
 
   -- what waits, and what was asked and counted
   pub steady-waiting : (c : ℕ) (ws : List Waiting) → AllByRecursion (WaitingOk S c) ws → AllByRecursion (WaitingOk (shifted S ch f pend st) c) ws
@@ -193,18 +193,18 @@ module _ (S : LogState) (ch : Actor → Actor → List Letter) (f : ℕ → Site
     letters = letters;
     foreign = foreign;
     loads = steady-loads H.loads;
-    entered = λ c t e is. entered-later S (shifted S ch f pend st) H steady-later c t e (H.entered c t e is) steady-reigns (λ at_start.
+    entered = λ c t e is. entered-later S (shifted S ch f pend st) H steady-later c t e (H.entered c t e is) steady-leaderships (λ at_start.
         let r = (H.entered c t e is).running (sym (m.sites c).start ∙ at_start) in let low = r.2 in let up = (m.sites c).log in omega (arith, low, up)) (H.entered c t e is).since;
     streamed = streamed;
-    reigns = reigns-later S (shifted S ch f pend st) H steady-later steady-reigns (λ p t g is. (H.reigns p t g is).within);
-    unled = λ p t none. unleds-later S (shifted S ch f pend st) H steady-later steady-reigns p t refl none;
+    leaderships = leaderships-later S (shifted S ch f pend st) H steady-later steady-leaderships (λ p t g is. (H.leaderships p t g is).within);
+    unled = λ p t none. unleds-later S (shifted S ch f pend st) H steady-later steady-leaderships p t refl none;
     some = H.some;
     first = H.first;
   }
     where
       site : (c : ℕ) → SiteOk (shifted S ch f pend st) c
       site c = let g = m.sites c in let h = H.sites c in record {
-        outside = λ out. g.start ∙ h.outside out;
+        environment = λ out. g.start ∙ h.environment out;
         ran = λ up. let r = h.ran (rw g.start at up) in (r.0, rw g.start r.1);
         term = rw (g.view, g.greatest) h.term;
         earlier = rw (g.earlier, g.greatest) h.earlier;
@@ -236,7 +236,7 @@ module _ (S : LogState) (ch : Actor → Actor → List Letter) (f : ℕ → Site
 
   pub steady-joiner : ((t : ℕ) (x : Streaming) → st c t ≡ Some x → x.start ≡ start_at S c → S.logs.streamed c t ≡ Some x)
       → ((l : ℕ) → SameFrom S (shifted S ch f pend st) c l (term_at S c))
-      → ((nj : ℕ) (w : Membership) → IsCounted S c (start_at S c) nj w → IsCounted (shifted S ch f pend st) c (start_at S c) nj w)
+      → ((stream_start : ℕ) (w : Membership) → IsCounted S c (start_at S c) stream_start w → IsCounted (shifted S ch f pend st) c (start_at S c) stream_start w)
       → (k : Joining) → (f c).joining ≡ Some k → JoinerOk (shifted S ch f pend st) c k
   steady-joiner streamed from counted k e = joiner-keeps S (shifted S ch f pend st) H (steady-later S ch f pend st H m) c site k (steady-run streamed)
-      (record { reign = refl; reach = refl }) from counted ((H.sites c).joiner k (sym site.joining ∙ e))
+      (record { leadership = refl; reach = refl }) from counted ((H.sites c).joiner k (sym site.joining ∙ e))

@@ -11,7 +11,7 @@ use Rattle.word_laws.proofs.Lists.{same-some, none-and-some, not-both}
 use Rattle.word_laws.proofs.Algebra.{firsts, subset-length, within-refl, within-cases, names-first, names-admits, names-within, admits-fresh, admits-firsts}
 use Rattle.word_laws.proofs.Agreement.{one-first, term-same, member-of, member-is}
 use Rattle.word_laws.proofs.Admissions.{not-earlier-self}
-use Rattle.log_laws.specs.Histories.{LogState, Holds, Entered, Reign, WordOf, Last, WasIn, HasBeen, Came, Front, ReignOk, IsSlot, base_of, part, start_at, log_at, term_at}
+use Rattle.log_laws.specs.Histories.{LogState, Holds, Entered, Leadership, WordOf, Last, WasIn, HasBeen, Came, Prefix, LeadershipOk, IsSlot, base_of, part, start_at, log_at, term_at}
 
 module _ (S : LogState) (H : Holds S) where
   -- ---- sites
@@ -20,7 +20,7 @@ module _ (S : LogState) (H : Holds S) where
   pub running-slot : (c : ℕ) → 0 < start_at S c → IsSlot S c
   running-slot c up = elim (cases_Bool (nat_lt c (slots S.words.deployment))) [
     | inl is ↦ is
-    | inr out ↦ absurd (omega (arith, up, (H.sites c).outside out))
+    | inr out ↦ absurd (omega (arith, up, (H.sites c).environment out))
   ]
 
   -- ---- words
@@ -145,14 +145,14 @@ module _ (S : LogState) (H : Holds S) where
   pub entered-start : (c t : ℕ) (e : Entered) → S.logs.entered c t ≡ Some e → (w : Membership) → WordOf S t w → start_of_slot S.words.deployment w c ≡ Some e.start
   entered-start c t e k w d = subst (λ x. start_of_slot S.words.deployment x c ≡ Some e.start) (entered-word c t e k w d) (H.entered c t e k).start_is
 
-  pub reigns-word : (p t : ℕ) (g : Reign) (k : S.logs.reign p t ≡ Some g) (w : Membership) → WordOf S t w → (H.reigns p t g k).word ≡ w
-  reigns-word p t g k w d = same-word t (H.reigns p t g k).word w (H.reigns p t g k).is_word d
+  pub leaderships-word : (p t : ℕ) (g : Leadership) (k : S.logs.leadership p t ≡ Some g) (w : Membership) → WordOf S t w → (H.leaderships p t g k).word ≡ w
+  leaderships-word p t g k w d = same-word t (H.leaderships p t g k).word w (H.leaderships p t g k).is_word d
 
   -- each copy had entered a term that was led
-  pub reign-entered : (p t : ℕ) (g : Reign) → S.logs.reign p t ≡ Some g → (w : Membership) → WordOf S t w → (c a : ℕ) → IsSlot S c → part S c ≡ p
-      → start_of_slot S.words.deployment w c ≡ Some a → (e : Entered) × (S.logs.entered c t ≡ Some e) × (e.start ≡ a) × Front e.log g.begun
-  reign-entered p t g k w d c a s q m =
-      (H.reigns p t g k).entered c a s q (subst (λ x. start_of_slot S.words.deployment x c ≡ Some a) (sym (reigns-word p t g k w d)) m)
+  pub leadership-entered : (p t : ℕ) (g : Leadership) → S.logs.leadership p t ≡ Some g → (w : Membership) → WordOf S t w → (c a : ℕ) → IsSlot S c → part S c ≡ p
+      → start_of_slot S.words.deployment w c ≡ Some a → (e : Entered) × (S.logs.entered c t ≡ Some e) × (e.start ≡ a) × Prefix e.log g.begun
+  leadership-entered p t g k w d c a s q m =
+      (H.leaderships p t g k).entered c a s q (subst (λ x. start_of_slot S.words.deployment x c ≡ Some a) (sym (leaderships-word p t g k w d)) m)
 
   -- ---- who was in a term
 
@@ -177,8 +177,8 @@ module _ (S : LogState) (H : Holds S) where
       → (v : ℕ) → Last S.logs (part S c) v t → WasIn S c v a
   was-in c t a w s d m came v l = from came
     where
-      k : ReignOk S (part S c) v l.reign
-      k = H.reigns (part S c) v l.reign l.led
+      k : LeadershipOk S (part S c) v l.leadership
+      k = H.leaderships (part S c) v l.leadership l.led
 
       entered : start_of_slot S.words.deployment k.word c ≡ Some a → WasIn S c v a
       entered n = let r = k.entered c a s refl n in inl (r.0, r.1, r.2)
@@ -193,33 +193,33 @@ module _ (S : LogState) (H : Holds S) where
         | inr (y, took, after, before) ↦
             let h = H.streamed c u x e in
             let same : h.word ≡ y = same-some (sym h.took ∙ ap S.words.history.took q ∙ took) in
-            let at : u ≡ v = omega (arith, l.greatest u h.reign h.led b, after, k.is_word.term_is, h.term_is, ap term_of same) in
+            let at : u ≡ v = omega (arith, l.greatest u h.leadership h.led b, after, k.is_word.term_is, h.term_is, ap term_of same) in
             inr (x, subst (λ z. S.logs.streamed c z ≡ Some x) at e, q)
       ]
 
   -- ---- the last term that was led
 
   -- one term more
-  last-more : (p t : ℕ) (o : Option Reign) → S.logs.reign p t ≡ o → (v : ℕ) × Last S.logs p v t → (v : ℕ) × Last S.logs p v (t + 1)
-  last-more p t (Some g) e (v, l) = (t, record { reign = g; led = e; below = omega arith; greatest = λ x h k b. omega (arith, b) })
+  last-more : (p t : ℕ) (o : Option Leadership) → S.logs.leadership p t ≡ o → (v : ℕ) × Last S.logs p v t → (v : ℕ) × Last S.logs p v (t + 1)
+  last-more p t (Some g) e (v, l) = (t, record { leadership = g; led = e; below = omega arith; greatest = λ x h k b. omega (arith, b) })
   last-more p t None e (v, l) = (
     v,
     record {
-      reign = l.reign;
+      leadership = l.leadership;
       led = l.led;
       below = omega (arith, l.below);
       greatest = λ x h k b. elim (cases_lt x t) [
         | inl s ↦ l.greatest x h k s
-        | inr s ↦ let q : x ≡ t = omega (arith, b, s) in absurd (none-and-some e (ap (S.logs.reign p) (sym q) ∙ k))
+        | inr s ↦ let q : x ≡ t = omega (arith, b, s) in absurd (none-and-some e (ap (S.logs.leadership p) (sym q) ∙ k))
       ];
     },
   )
 
   last-above : (p n : ℕ) → (v : ℕ) × Last S.logs p v (base_of S + 1 + n)
-  last-above p zero = let f = H.first p in (base_of S, record { reign = f.0; led = f.1; below = omega arith; greatest = λ x g k b. omega (arith, b) })
+  last-above p zero = let f = H.first p in (base_of S, record { leadership = f.0; led = f.1; below = omega arith; greatest = λ x g k b. omega (arith, b) })
   last-above p (suc n) =
       let q : base_of S + 1 + n + 1 ≡ base_of S + 1 + suc n = omega arith in
-      subst (λ t. (v : ℕ) × Last S.logs p v t) q (last-more p (base_of S + 1 + n) (S.logs.reign p (base_of S + 1 + n)) refl (last-above p n))
+      subst (λ t. (v : ℕ) × Last S.logs p v t) q (last-more p (base_of S + 1 + n) (S.logs.leadership p (base_of S + 1 + n)) refl (last-above p n))
 
   pub last-below : (p t : ℕ) → base_of S < t → (v : ℕ) × Last S.logs p v t
   last-below p t b =

@@ -14,14 +14,14 @@ use Rattle.cluster_model.specs.World.{set_at}
 use Rattle.word_laws.specs.Histories as word
 use Rattle.word_laws.specs.Histories.{In, Distinct}
 use Rattle.word_laws.proofs.Lists.{all-from, all-at, all-append, all-mono, in-left, in-right, in-map, filter-in, eqb-same, set-here, set-there, set-both}
-use Rattle.log_laws.specs.Histories.{LogState, Holds, Entered, Streaming, Reign, EnteredOk, StreamedOk, ReignOk, UnledOk, SiteOk, KeepsOk, MemberOk, JoinerOk, InWord, Coming, ViewsOk, LoadsOk, ForeignOk, AckOk, ReportOk, CountedOk, HeldOk, SiteLetterOk, WaitingOk, AskOk, EndOk, Reached, IsCounted, IsSlot, ToldOk, AskedOk, QueuedOk, base_of, part, start_at, term_at, between, from_agent, line, flow, ends, ask_of, wait_of, asks_in, asks_waiting, asks_kept, asks_of_term, asked}
+use Rattle.log_laws.specs.Histories.{LogState, Holds, Entered, Streaming, Leadership, EnteredOk, StreamedOk, LeadershipOk, UnledOk, SiteOk, KeepsOk, MemberOk, JoinerOk, InWord, Coming, ViewsOk, LoadsOk, ForeignOk, AckOk, ReportOk, CountedOk, HeldOk, SiteLetterOk, WaitingOk, AskOk, EndOk, Reached, IsCounted, IsSlot, ToldOk, AskedOk, QueuedOk, base_of, part, start_at, term_at, between, from_agent, line, flow, ends, ask_of, wait_of, asks_in, asks_waiting, asks_kept, asks_of_term, asked}
 use Rattle.log_laws.proofs.Kept.Moves.{Later, EntersNow}
 use Rattle.log_laws.proofs.Kept.Laters.{been-later, ack-later, report-later, ask-later, counted-later, loaded-later, all_loaded-later, end-later, told-later, asked-later, queued-later, stays, letter-later-with, waiting-later-with}
 use Rattle.log_laws.proofs.Plain.Lines.{in-flat, flow-same, ends-same}
 use Rattle.log_laws.proofs.Kept.Asked.{AtMost, at-most-is, at-most-both, at-most-same, at-most-none}
 use Rattle.log_laws.proofs.Kept.Plumbing.{words-later}
 use Rattle.log_laws.proofs.Kept.Terms.{running-slot, took-decided}
-use Rattle.log_laws.proofs.Kept.Keeps.{Still, SameFrom, SameTerm, SameRun, still-same, site-keeps-with, joiner-keeps-with, in_word-keeps-with, quiet-keeps, coming-keeps, took-keeps}
+use Rattle.log_laws.proofs.Kept.Keeps.{Still, SameFrom, SameTerm, SameRun, still-same, site-keeps-with, joiner-keeps-with, in_word-keeps-with, inert-keeps, coming-keeps, took-keeps}
 use Rattle.log_laws.proofs.Kept.KeepsViews.{views-keeps-with, leaves-same, foreign-later}
 
 -- ---- functions of two numbers that were changed at one place
@@ -64,15 +64,15 @@ goes-on-same a = record {
 }
 
 -- the state after a turn of the site of slot i, with these channels and this history of terms
-abbrev pub turned : LogState → ℕ → SiteState → (Actor → Actor → List Letter) → (ℕ → ℕ → Option Entered) → (ℕ → ℕ → Option Reign) → (ℕ → ℕ → ℕ) → LogState
+abbrev pub turned : LogState → ℕ → SiteState → (Actor → Actor → List Letter) → (ℕ → ℕ → Option Entered) → (ℕ → ℕ → Option Leadership) → (ℕ → ℕ → ℕ) → LogState
 turned S i s ch en re rc = record S {
   words = record S.words { channel = ch };
   sites = set_at S.sites i s;
-  logs = record S.logs { entered = en; reign = re; reach = rc };
+  logs = record S.logs { entered = en; leadership = re; reach = rc };
 }
 
 -- Such a state is a later one, where the site goes on, and the history grows.
-pub turned-later : (S : LogState) (i : ℕ) (s : SiteState) (ch : Actor → Actor → List Letter) (en : ℕ → ℕ → Option Entered) (re : ℕ → ℕ → Option Reign) (rc : ℕ → ℕ → ℕ)
+pub turned-later : (S : LogState) (i : ℕ) (s : SiteState) (ch : Actor → Actor → List Letter) (en : ℕ → ℕ → Option Entered) (re : ℕ → ℕ → Option Leadership) (rc : ℕ → ℕ → ℕ)
     → GoesOn (S.sites i) s
     → ((c t : ℕ) (e : Entered) → S.logs.entered c t ≡ Some e → en c t ≡ Some e)
     → ((c t : ℕ) (e : Entered) → en c t ≡ Some e → (S.logs.entered c t ≡ Some e) ⊎ EntersNow S c t e)
@@ -102,7 +102,7 @@ said-same f S i ch new mine theirs a c same = elim (cases_eq a i) [
 ]
 
 -- What must be so of it. The site sent these to others.
-pub record Turned (S : LogState) (i : ℕ) (s : SiteState) (ch : Actor → Actor → List Letter) (en : ℕ → ℕ → Option Entered) (re : ℕ → ℕ → Option Reign) (rc : ℕ → ℕ → ℕ)
+pub record Turned (S : LogState) (i : ℕ) (s : SiteState) (ch : Actor → Actor → List Letter) (en : ℕ → ℕ → Option Entered) (re : ℕ → ℕ → Option Leadership) (rc : ℕ → ℕ → ℕ)
     (new : ℕ → List Letter) : Type 0 where
   pub later : Later S (turned S i s ch en re rc)
   -- its channels: no stream is in them
@@ -121,16 +121,16 @@ pub record Turned (S : LogState) (i : ℕ) (s : SiteState) (ch : Actor → Actor
   pub joins : (c t a : ℕ) → IsSlot S c → In a (asked S i c t) → AskOk S (part S c) i t a → AskOk (turned S i s ch en re rc) (part S c) i t a
   -- what others have entered, and terms that were led, are the same
   pub entered : (c t : ℕ) → (c ≡ i → ⊥) → en c t ≡ S.logs.entered c t
-  pub led : (p t : ℕ) (g : Reign) → S.logs.reign p t ≡ Some g → (re p t ≡ S.logs.reign p t) × (rc p t ≡ S.logs.reach p t)
-  pub counted : (c a nj : ℕ) (w : Membership) (g : Reign) → In w S.words.history.decided → S.logs.reign (part S c) (term_of w) ≡ Some g
-      → IsCounted S c a nj w → IsCounted (turned S i s ch en re rc) c a nj w
+  pub led : (p t : ℕ) (g : Leadership) → S.logs.leadership p t ≡ Some g → (re p t ≡ S.logs.leadership p t) × (rc p t ≡ S.logs.reach p t)
+  pub counted : (c a stream_start : ℕ) (w : Membership) (g : Leadership) → In w S.words.history.decided → S.logs.leadership (part S c) (term_of w) ≡ Some g
+      → IsCounted S c a stream_start w → IsCounted (turned S i s ch en re rc) c a stream_start w
   -- what comes to the others
   pub members : (c : ℕ) (w : Membership) → (c ≡ i → ⊥) → 0 < start_at S c → (S.sites c).joining ≡ None → (S.sites c).view ≡ Some w
       → MemberOk S c w → MemberOk (turned S i s ch en re rc) c w
   pub lines : (c l : ℕ) (w : Membership) (j : Joining) → (c ≡ i → ⊥) → (S.sites c).joining ≡ Some j → JoinerOk S c j
       → line (start_at S c) (term_of w) (between S l c) ≡ [] → line (start_at S c) (term_of w) (ch (Site l) (Site c)) ≡ []
 
-module _ (S : LogState) (H : Holds S) (i : ℕ) (s : SiteState) (ch : Actor → Actor → List Letter) (en : ℕ → ℕ → Option Entered) (re : ℕ → ℕ → Option Reign) (rc : ℕ → ℕ → ℕ)
+module _ (S : LogState) (H : Holds S) (i : ℕ) (s : SiteState) (ch : Actor → Actor → List Letter) (en : ℕ → ℕ → Option Entered) (re : ℕ → ℕ → Option Leadership) (rc : ℕ → ℕ → ℕ)
     (new : ℕ → List Letter) (F : Turned S i s ch en re rc new) where
   abbrev T : LogState
   T = turned S i s ch en re rc
@@ -276,22 +276,22 @@ module _ (S : LogState) (H : Holds S) (i : ℕ) (s : SiteState) (ch : Actor → 
           (λ l _ e d. (flows-same l c (start_at S c) (term_of w) ∙ e, ends-are-same l c (start_at S c) (term_of w) ∙ d))
           (λ l. asked-less c l (term_of w) other)
           (λ l _ _ z. elim z [
-            | inl q ↦ inl (quiet-keeps S T H F.later c site w l (from l) q)
+            | inl q ↦ inl (inert-keeps S T H F.later c site w l (from l) q)
             | inr q ↦ inr (
               subst (Coming T c w) (sym (flows-same l c (start_at S c) (term_of w)))
-                  (coming-keeps S T H F.later c site w (flow (start_at S c) (term_of w) (between S l c)) (same-term q.0.reign q.0.led)
-                  (λ nj. F.counted c (start_at S c) nj w q.0.reign decided q.0.led) q.0),
+                  (coming-keeps S T H F.later c site w (flow (start_at S c) (term_of w) (between S l c)) (same-term q.0.leadership q.0.led)
+                  (λ stream_start. F.counted c (start_at S c) stream_start w q.0.leadership decided q.0.led) q.0),
               at-most-none (asked S c l (term_of w)) (asked T c l (term_of w)) q.1 (asked-less c l (term_of w) other),
             )
           ])
-          (λ nj q. took-keeps S T H F.later c site w j nj (same-term q.reign q.led) from q)
+          (λ stream_start q. took-keeps S T H F.later c site w j stream_start (same-term q.leadership q.led) from q)
           n
         where
           decided : In w S.words.history.decided
           decided = took-decided S H (start_at S c) w n.took
 
-          same-term : (g : Reign) → S.logs.reign (part S c) (term_of w) ≡ Some g → SameTerm S T (part S c) (term_of w)
-          same-term g is = let p = F.led (part S c) (term_of w) g is in record { reign = p.0; reach = p.1 }
+          same-term : (g : Leadership) → S.logs.leadership (part S c) (term_of w) ≡ Some g → SameTerm S T (part S c) (term_of w)
+          same-term g is = let p = F.led (part S c) (term_of w) g is in record { leadership = p.0; reach = p.1 }
 
           from : (l : ℕ) → SameFrom S T c l (term_of w)
           from l = record {
@@ -332,7 +332,7 @@ module _ (S : LogState) (H : Holds S) (i : ℕ) (s : SiteState) (ch : Actor → 
   streamed-turned : (c t : ℕ) (x : Streaming) → S.logs.streamed c t ≡ Some x → en c t ≡ None → StreamedOk T c t x
   streamed-turned c t x is apart =
       let k = H.streamed c t x is in
-      let r = F.led (part S c) t k.reign k.led in record {
+      let r = F.led (part S c) t k.leadership k.led in record {
         word = k.word;
         took = k.took;
         term_is = k.term_is;
@@ -342,7 +342,7 @@ module _ (S : LogState) (H : Holds S) (i : ℕ) (s : SiteState) (ch : Actor → 
           | inr fresh ↦ let o = k.running (sym fresh.start ∙ start) in let up = o.1 in let above = fresh.above in let n = o.3 in let m = fresh.log in
               (omega (arith, up, above), omega (arith, n, m))
         ];
-        reign = k.reign;
+        leadership = k.leadership;
         led = r.0 ∙ k.led;
         behind = k.behind;
         been = been-later S T H F.later c t x.start k.been;
@@ -354,7 +354,7 @@ module _ (S : LogState) (H : Holds S) (i : ℕ) (s : SiteState) (ch : Actor → 
               (let a = o.2 in let b = y.log in let e = r.1 in omega (arith, a, b, e)),
               (let a = o.3 in let b = y.log in omega (arith, a, b)),
             );
-        counted = F.counted c x.start x.nj k.word k.reign (took-decided S H x.start k.word k.took) (subst (λ z. S.logs.reign (part S c) z ≡ Some k.reign) (sym k.term_is) k.led) k.counted;
+        counted = F.counted c x.start x.stream_start k.word k.leadership (took-decided S H x.start k.word k.took) (subst (λ z. S.logs.leadership (part S c) z ≡ Some k.leadership) (sym k.term_is) k.led) k.counted;
       }
 
   -- ---- a site that keeps nothing but what waits
@@ -388,10 +388,10 @@ module _ (S : LogState) (H : Holds S) (i : ℕ) (s : SiteState) (ch : Actor → 
   pub turned-holds : word.Holds T.words → SiteOk T i → ViewsOk T i → ((c : ℕ) → IsSlot S c → AllByRecursion (SiteLetterOk T i c) (new c))
       → ((c t : ℕ) (e : Entered) → en c t ≡ Some e → EnteredOk T c t e)
       → ((c t : ℕ) (x : Streaming) → S.logs.streamed c t ≡ Some x → en c t ≡ None)
-      → ((p t : ℕ) (g : Reign) → re p t ≡ Some g → ReignOk T p t g)
+      → ((p t : ℕ) (g : Leadership) → re p t ≡ Some g → LeadershipOk T p t g)
       → ((p t : ℕ) → re p t ≡ None → UnledOk T p t)
       → Holds T
-  turned-holds words site views letters entered apart reigns unled = record {
+  turned-holds words site views letters entered apart leaderships unled = record {
     words = words;
     sites = λ c. elim (cases_eq c i) [ inl e ↦ subst (SiteOk T) (sym e) site | inr n ↦ site-other c n ];
     views = λ c. elim (cases_eq c i) [ inl e ↦ subst (ViewsOk T) (sym e) views | inr n ↦ views-other c n ];
@@ -400,7 +400,7 @@ module _ (S : LogState) (H : Holds S) (i : ℕ) (s : SiteState) (ch : Actor → 
     loads = loads-turned;
     entered = entered;
     streamed = λ c t x is. streamed-turned c t x is (apart c t x is);
-    reigns = reigns;
+    leaderships = leaderships;
     unled = unled;
     some = H.some;
     first = λ p. let o = H.first p in (o.0, (F.led p (base_of S) o.0 o.1).0 ∙ o.1);

@@ -21,7 +21,7 @@ use Rattle.log_laws.proofs.Kept.Asked.{AsksLess, at-most-same, popped-less, left
 use Rattle.log_laws.proofs.Kept.Keeps.{still-same}
 use Rattle.log_laws.proofs.Kept.KeepsViews.{Leaves, leaves-same, leaves-first}
 use Rattle.log_laws.proofs.Kept.Plumbing.{after-same, taken-either, words-popped}
-use Rattle.log_laws.proofs.Kept.Quiet.{ChannelsOk, channels-same, SiteStill, quiet-holds, site-same, site-waiting, moved, moved-later, still-holds}
+use Rattle.log_laws.proofs.Kept.Inert.{ChannelsOk, channels-same, SiteStill, inert-holds, site-same, site-waiting, moved, moved-later, still-holds}
 use Rattle.log_laws.proofs.Kept.Terms.{running-slot}
 
 -- ---- whether a site takes a message
@@ -312,7 +312,7 @@ module _ (S : LogState) (H : Holds S) (from : Actor) (i : ℕ) (l : Letter) (ls 
 -- one of it is taken, or dropped
 pub leaves : (S : LogState) → Holds S → (i : ℕ) (x : Waiting) (ws : List Waiting) → S.pending i ≡ x ∷ ws → Holds (left S i ws)
 leaves S H i x ws is = subst (λ f. Holds (moved S S.words.channel f (set_at S.pending i ws))) (set-same S.sites i)
-    (quiet-holds S i (S.sites i) S.words.channel ws H (site-same S i H) (channels-same S H)
+    (inert-holds S i (S.sites i) S.words.channel ws H (site-same S i H) (channels-same S H)
     (λ up. (subst (AllByRecursion (WaitingOk S i)) is ((H.sites i).keeps up).pending).1)
     (λ z. let e = sym is ∙ ((H.sites i).stopped z).3 in absurd (cc))
     (subst (AsksLess S) nothing (left-less S i ws S.logs x is (S.sites i) refl (λ c t. at-most-same (asks_of_term c t (S.sites i))))))
@@ -326,7 +326,7 @@ pub takes-up : (S : LogState) → Holds S → (i : ℕ) → S.pending i ≡ [] �
       sites = set_at S.sites i (record (S.sites i) { waiting = above_term term (S.sites i).waiting });
       pending = set_at S.pending i (of_term term (S.sites i).waiting);
     })
-takes-up S H i none term = quiet-holds S i s S.words.channel now H
+takes-up S H i none term = inert-holds S i s S.words.channel now H
     (site-waiting S i (above_term term old) (λ up. all-filter (WaitingOk S i) (λ w. nat_lt term w.letter.term) old ((H.sites i).keeps up).waiting)
     (λ z. ap (above_term term) ((H.sites i).stopped z).0))
     (channels-same S H)

@@ -20,16 +20,16 @@ use Rattle.cluster_model.specs.Laws.{starts_in}
 use Rattle.word_laws.specs.Histories.{In}
 use Rattle.word_laws.proofs.Lists.{all-if, all-mono, not-both, same-some, set-both, set-here, set-there, set-twice}
 use Rattle.log_laws.specs.Histories.{LogState, Logs, Entered, Streaming, Holds, IsCounted, SiteLetterOk, ForeignOk, IsSlot, SiteOk, KeepsOk, ViewsOk, JoinerOk, FirstViews, Starting, part, start_at, log_at, term_at, between, from_agent, views, asks_in, asks_waiting, asks_of_term}
-use Rattle.log_laws.proofs.Kept.Moves.{Grown, Enters, after, popped, Later, SiteLater, Stays, SameReigns, JoinsOn}
+use Rattle.log_laws.proofs.Kept.Moves.{Grown, Enters, after, popped, Later, SiteLater, Stays, SameLeaderships, JoinsOn}
 use Rattle.log_laws.proofs.Kept.Grown.{grown-same, grown-reach, enters-same}
-use Rattle.log_laws.proofs.Kept.Laters.{stays, same-reigns, ask-later-on, letter-later-with, end-later-if, loads-later, entered-later, streamed-later, reigns-later}
+use Rattle.log_laws.proofs.Kept.Laters.{stays, same-leaderships, ask-later-on, letter-later-with, end-later-if, loads-later, entered-later, streamed-later, leaderships-later}
 use Rattle.log_laws.proofs.Plain.Lines.{if-none}
 use Rattle.log_laws.proofs.Kept.Asked.{AtMost, AsksLess, asks-at, at-most-both, at-most-same}
 use Rattle.log_laws.proofs.Kept.Keeps.{Still, still-same, Uncounted, counted-from, site-keeps, keeps-later}
 use Rattle.log_laws.proofs.Kept.KeepsViews.{foreign-later, first_views-later, views-keeps}
 use Rattle.log_laws.proofs.Kept.Plumbing.{words-later, goes-same, here, popped-here, popped-after, first-after}
 use Rattle.log_laws.proofs.Messages.Pops.{pops-kind, pops-stopped}
-use Rattle.log_laws.proofs.Kept.QuietTurns.{Silent, Unwatched, unwatched, quiet-after}
+use Rattle.log_laws.proofs.Kept.InertTurns.{Silent, Unwatched, unwatched, inert-after}
 
 -- a site that is as it was goes on
 pub stays-same : (S T : LogState) (c : ℕ) → T.sites c ≡ S.sites c → Stays S T c
@@ -86,8 +86,8 @@ module _ (S : LogState) (H : Holds S) (i : ℕ) (s : SiteState) (ran : ℕ → L
     | inr d ↦ other c d
   ]
 
-  counts : (c a nj : ℕ) (w : Membership) → IsCounted S c a nj w → IsCounted T c a nj w
-  counts c a nj w = counted-from S T H new.later i other c a nj w (λ k up joining view.
+  counts : (c a stream_start : ℕ) (w : Membership) → IsCounted S c a stream_start w → IsCounted T c a stream_start w
+  counts c a stream_start w = counted-from S T H new.later i other c a stream_start w (λ k up joining view.
       let z = new.joins (ap (λ x. x.joining) (sym mine) ∙ joining) in let u = subst (λ x. 0 < x.start) mine up in absurd (omega (arith, z, u)))
 
   asks-less : AsksLess S T
@@ -110,9 +110,9 @@ module _ (S : LogState) (H : Holds S) (i : ℕ) (s : SiteState) (ran : ℕ → L
       at-most-nothing xs = record { shorter = omega arith; within = λ y k. absurd k }
 
   other-ok : (c : ℕ) → (c ≡ i → ⊥) → SiteOk T c
-  other-ok c d = site-keeps S T H new.later c still (new.others c d) (record { entered = λ t e k _. k; streamed = λ t x k _. k }) (record { reign = refl; reach = refl })
+  other-ok c d = site-keeps S T H new.later c still (new.others c d) (record { entered = λ t e k _. k; streamed = λ t x k _. k }) (record { leadership = refl; reach = refl })
       (λ up l. record { lines = refl; flows = refl; ends = λ e. e; asks = asks-less c l (term_at S c); uncounted = uncounted l })
-      (λ nj w. counts c (start_at S c) nj w) keeps
+      (λ stream_start w. counts c (start_at S c) stream_start w) keeps
       (λ z k. (ap (λ x. x.waiting) (other c d) ∙ k.0, ap (λ x. x.asks) (other c d) ∙ k.1, ap (λ x. x.joiners) (other c d) ∙ k.2, k.3))
       (H.sites c)
     where
@@ -147,17 +147,17 @@ module _ (S : LogState) (H : Holds S) (i : ℕ) (s : SiteState) (ran : ℕ → L
     foreign = λ a c. all-mono (ForeignOk S c a) (ForeignOk T c a) (foreign-later S T H new.later c a) (S.words.channel a (Site c)) (H.foreign a c);
     loads = loads-later S T H new.later refl refl H.loads.told (λ h g. refl);
     entered = λ c t e k. let o = H.entered c t e k in
-        entered-later S T H new.later c t e o reigns (λ is. within c t e.start o.been.some o.been.ran is (λ r. (o.running r).2)) o.since;
+        entered-later S T H new.later c t e o leaderships (λ is. within c t e.start o.been.some o.been.ran is (λ r. (o.running r).2)) o.since;
     streamed = λ c t x k. let o = H.streamed c t x k in
-        streamed-later S T H new.later c t x o reigns o.apart (λ is. within c t x.start o.been.some o.been.ran is (λ r. (o.running r).2)) (counts c x.start x.nj o.word);
-    reigns = reigns-later S T H new.later reigns (λ p t g is. (H.reigns p t g is).within);
+        streamed-later S T H new.later c t x o leaderships o.apart (λ is. within c t x.start o.been.some o.been.ran is (λ r. (o.running r).2)) (counts c x.start x.stream_start o.word);
+    leaderships = leaderships-later S T H new.later leaderships (λ p t g is. (H.leaderships p t g is).within);
     unled = H.unled;
     some = H.some;
     first = H.first;
   }
     where
-      reigns : SameReigns S.logs T.logs
-      reigns = same-reigns S.logs T.logs refl
+      leaderships : SameLeaderships S.logs T.logs
+      leaderships = same-leaderships S.logs T.logs refl
 
       -- what is everywhere is in the log of a slot that runs on
       within : (c t a : ℕ) → 0 < a → In a (S.logs.ran c) → start_at T c ≡ a → (start_at S c ≡ a → S.logs.reach (part S c) t ≤ length (log_at S c))
@@ -172,7 +172,7 @@ pub renewed-sends : (S : LogState) (i : ℕ) (s : SiteState) (ran : ℕ → List
 renewed-sends S i s ran out H silent =
     subst (λ f. Holds (record S { words = record S.words { channel = sent S.words.channel (Site i) out }; sites = f; logs = record S.logs { ran = ran } }))
     (set-twice S.sites i s s)
-    (quiet-after (renewed S i s ran) i s out H (subst (λ z. Unwatched z s) (sym (set-here S.sites i s)) (unwatched s s (λ k. k))) silent)
+    (inert-after (renewed S i s ran) i s out H (subst (λ z. Unwatched z s) (sym (set-here S.sites i s)) (unwatched s s (λ k. k))) silent)
 
 -- ---- a site that stops
 
@@ -205,7 +205,7 @@ module _ (S : LogState) (H : Holds S) (i : ℕ) (none : S.pending i ≡ []) (sto
 
   stop-site : SiteOk Q i
   stop-site = record {
-    outside = λ _. ap (λ x. x.start) gone;
+    environment = λ _. ap (λ x. x.start) gone;
     ran = λ up. absurd (no-start up);
     term = rw gone (omega arith);
     earlier = rw gone (omega arith);
@@ -342,7 +342,7 @@ module _ (S : LogState) (H : Holds S) (i : ℕ) (l : Letter) (ls : List Letter) 
 
   start-site : SiteOk N i
   start-site = record {
-    outside = λ e. absurd (not-both (nat_lt i (slots S.words.deployment)) slot e);
+    environment = λ e. absurd (not-both (nat_lt i (slots S.words.deployment)) slot e);
     ran = λ _. (S.logs.ran i, ran-here ∙ ap (λ z. z ∷ S.logs.ran i) (ap (λ x. x.start) (sym fresh)));
     term = rw (ap site_term fresh) (omega arith);
     earlier = rw (ap (λ x. x.earlier) fresh, ap (λ x. x.greatest) fresh) (omega arith);
@@ -481,7 +481,7 @@ on_stop-after S H from i l ls a is none = choice (nat_le (S.sites i).start a)
     )
     choice false = (
       S.logs,
-      quiet-after (popped S from i) i noted no_sends (pops-kind S H from i (record l { body = msg.Stop a }) ls is tt) (unwatched (S.sites i) noted (λ k. k)) (λ b. tt),
+      inert-after (popped S from i) i noted no_sends (pops-kind S H from i (record l { body = msg.Stop a }) ls is tt) (unwatched (S.sites i) noted (λ k. k)) (λ b. tt),
       grown-same S.words.deployment i noted S.logs,
       enters-same i (length (log_at S i)) S.logs S.logs refl,
       inl refl,

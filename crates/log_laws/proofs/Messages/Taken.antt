@@ -69,9 +69,9 @@ module _ (S : LogState) (H : Holds S) (l i : ℕ) (x : Letter) (ls : List Letter
   }
 
   -- streams begin where they did
-  pub first-begun : (k a t nj : ℕ) → AllByRecursion (BeginsAt nj) (flow a t (between S k i)) → AllByRecursion (BeginsAt nj) (flow a t (without S l i (Site k) (Site i)))
-  first-begun k a t nj = without-each S l i (λ k ys. AllByRecursion (BeginsAt nj) (flow a t (between S k i)) → AllByRecursion (BeginsAt nj) (flow a t ys)) x ls e
-      (rw e (all-behind (BeginsAt nj) (flow_of a t x) (flow a t ls))) (λ k n h. h) k
+  pub first-begun : (k a t stream_start : ℕ) → AllByRecursion (BeginsAt stream_start) (flow a t (between S k i)) → AllByRecursion (BeginsAt stream_start) (flow a t (without S l i (Site k) (Site i)))
+  first-begun k a t stream_start = without-each S l i (λ k ys. AllByRecursion (BeginsAt stream_start) (flow a t (between S k i)) → AllByRecursion (BeginsAt stream_start) (flow a t ys)) x ls e
+      (rw e (all-behind (BeginsAt stream_start) (flow_of a t x) (flow a t ls))) (λ k n h. h) k
 
   pub first-foreign : (from : Actor) → AllByRecursion (ForeignOk S i from) (without S l i from (Site i))
   first-foreign from = took-all (ForeignOk S i from) S.words.channel (Site l) (Site i) from (Site i) (H.foreign from i)

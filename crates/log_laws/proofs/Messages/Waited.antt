@@ -8,7 +8,7 @@ use Rattle.cluster_model.specs.Engine.{Database}
 use Rattle.cluster_model.specs.Words.{Deployment, term_in}
 use Rattle.cluster_model.specs.Letters.{Waiting, Turn, ◌▸◌, no_sends, of_term, above_term}
 use Rattle.cluster_model.specs.SiteState.{SiteState, site_term}
-use Rattle.cluster_model.specs.Site.{site_row, takes_each, takes_waiting}
+use Rattle.cluster_model.specs.Site.{site_handler, takes_each, takes_waiting}
 use Rattle.word_laws.proofs.Lists.{all-append, all-from, in-filter, set-here, set-same, set-twice}
 use Rattle.log_laws.specs.Histories.{LogState, Holds, WaitingOk, start_at, log_at, term_at}
 use Rattle.log_laws.proofs.Kept.Moves.{after, left, Enters, Goes, NoStreamStart}
@@ -44,30 +44,30 @@ left-then S i ws vs t f g r = record {
 -- ---- one after another
 
 module _ (E : Database) (D : Deployment) (stamp i : ℕ) where
-  -- All holds after the row of each message that waited for the term.
-  abbrev pub RowsGo : Type 0
-  RowsGo = (T : LogState) (x : Waiting) (ws : List Waiting) → Holds T → 0 < start_at T i → T.words.deployment ≡ D → T.pending i ≡ x ∷ ws
-      → x.letter.term ≡ term_at T i → WaitingOk T i x → Goes (left T i ws) i (site_row E D stamp i (T.sites i) x.from x.letter)
+  -- All holds after the handler of each message that waited for the term.
+  abbrev pub HandlersGo : Type 0
+  HandlersGo = (T : LogState) (x : Waiting) (ws : List Waiting) → Holds T → 0 < start_at T i → T.words.deployment ≡ D → T.pending i ≡ x ∷ ws
+      → x.letter.term ≡ term_at T i → WaitingOk T i x → Goes (left T i ws) i (site_handler E D stamp i (T.sites i) x.from x.letter)
 
-  pub each-goes : (ws : List Waiting) (S : LogState) → RowsGo → Holds S → 0 < start_at S i → S.words.deployment ≡ D → S.pending i ≡ ws
+  pub each-goes : (ws : List Waiting) (S : LogState) → HandlersGo → Holds S → 0 < start_at S i → S.words.deployment ≡ D → S.pending i ≡ ws
       → AllByRecursion (λ x. x.letter.term ≡ term_at S i) ws → Goes (left S i []) i (takes_each E D stamp i ws (S.sites i))
-  each-goes [] S rows H up d is t = subst (λ T. Goes T i (takes_each E D stamp i [] (S.sites i))) (sym (left-same S i [] is)) (goes-same S i H)
-  each-goes (x ∷ ws) S rows H up d is t =
-      left-then S i ws [] row (takes_each E D stamp i ws) g (subst (λ s. Goes (left T i []) i (takes_each E D stamp i ws s)) there
-      (each-goes ws T rows g.holds (subst (λ s. 0 < s) (sym start) up) d (set-here S.pending i ws)
+  each-goes [] S handlers H up d is t = subst (λ T. Goes T i (takes_each E D stamp i [] (S.sites i))) (sym (left-same S i [] is)) (goes-same S i H)
+  each-goes (x ∷ ws) S handlers H up d is t =
+      left-then S i ws [] handler (takes_each E D stamp i ws) g (subst (λ s. Goes (left T i []) i (takes_each E D stamp i ws s)) there
+      (each-goes ws T handlers g.holds (subst (λ s. 0 < s) (sym start) up) d (set-here S.pending i ws)
       (subst (λ o. AllByRecursion (λ x. x.letter.term ≡ term_in o) ws) (sym view) t.1)))
     where
-      row : Turn SiteState
-      row = site_row E D stamp i (S.sites i) x.from x.letter
+      handler : Turn SiteState
+      handler = site_handler E D stamp i (S.sites i) x.from x.letter
 
-      g : Goes (left S i ws) i row
-      g = rows S x ws H up d is t.0 (subst (AllByRecursion (WaitingOk S i)) is ((H.sites i).keeps up).pending).0
+      g : Goes (left S i ws) i handler
+      g = handlers S x ws H up d is t.0 (subst (AllByRecursion (WaitingOk S i)) is ((H.sites i).keeps up).pending).0
 
       T : LogState
-      T = after (left S i ws) i row.state row.sends g.logs
+      T = after (left S i ws) i handler.state handler.sends g.logs
 
-      there : T.sites i ≡ row.state
-      there = here (left S i ws) i row.state row.sends g.logs
+      there : T.sites i ≡ handler.state
+      there = here (left S i ws) i handler.state handler.sends g.logs
 
       start : start_at T i ≡ start_at S i
       start = ap (λ s. s.start) there ∙ g.start
@@ -76,8 +76,8 @@ module _ (E : Database) (D : Deployment) (stamp i : ℕ) where
       view = ap (λ s. s.view) there ∙ g.view
 
   -- What waited for the site's term is taken.
-  pub waited-goes : (S : LogState) → RowsGo → Holds S → 0 < start_at S i → S.words.deployment ≡ D → S.pending i ≡ [] → Goes S i (takes_waiting E D stamp i (S.sites i))
-  waited-goes S rows H up d none = record {
+  pub waited-goes : (S : LogState) → HandlersGo → Holds S → 0 < start_at S i → S.words.deployment ≡ D → S.pending i ≡ [] → Goes S i (takes_waiting E D stamp i (S.sites i))
+  waited-goes S handlers H up d none = record {
     logs = g.logs;
     start = g.start ∙ ap (λ x. x.start) there;
     view = g.view ∙ ap (λ x. x.view) there;
@@ -110,4 +110,4 @@ module _ (E : Database) (D : Deployment) (stamp i : ℕ) where
 
       g : Goes (left T i []) i t
       g = subst (λ z. Goes (left T i []) i (takes_each E D stamp i now z)) there
-          (each-goes now T rows (takes-up-after S H i none (term_at S i)) (subst (λ z. 0 < z.start) (sym there) up) d (set-here S.pending i now) terms)
+          (each-goes now T handlers (takes-up-after S H i none (term_at S i)) (subst (λ z. 0 < z.start) (sym there) up) d (set-here S.pending i now) terms)

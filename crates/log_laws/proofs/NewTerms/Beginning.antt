@@ -12,8 +12,8 @@ use Rattle.cluster_model.specs.SiteState.{SiteState, Reported, other_copies}
 use Rattle.cluster_model.specs.Site.{longest, lacks}
 use Rattle.word_laws.specs.Histories.{In}
 use Rattle.word_laws.proofs.Lists.{none-and-some, same-some, all-at, not-both, list_all-at, list_any-from}
-use Rattle.log_laws.specs.Histories.{LogState, Entered, Reign, Front, Holds, IsSlot, WordOf, Last, Unled, known, EnteredOk, ReportOk, MemberOk, LeadsIn, base_of, part, start_at, log_at, term_at}
-use Rattle.log_laws.proofs.Plain.Fronts.{fronts-order}
+use Rattle.log_laws.specs.Histories.{LogState, Entered, Leadership, Prefix, Holds, IsSlot, WordOf, Last, Unled, known, EnteredOk, ReportOk, MemberOk, LeadsIn, base_of, part, start_at, log_at, term_at}
+use Rattle.log_laws.proofs.Plain.Prefixes.{prefixes-order}
 use Rattle.log_laws.proofs.Kept.Terms.{base-least, entered-start, member-or-joined, named-first, last-below}
 use Rattle.log_laws.proofs.Plain.Copies.{copy-other, is_in-in}
 use Rattle.log_laws.proofs.NewTerms.Entering.{behind-at}
@@ -51,8 +51,8 @@ lacks-behind end floor log r f t low =
 abbrev pub begun_log : SiteState → List Entry
 begun_log s = s.log ++ lacks (length s.log) (longest (length s.log) None s.reports)
 
-abbrev pub begun_reign : SiteState → Reign
-begun_reign s = record { begun = begun_log s; log = begun_log s }
+abbrev pub begun_leadership : SiteState → Leadership
+begun_leadership s = record { begun = begun_log s; log = begun_log s }
 
 -- ---- a leader with all reports
 
@@ -69,10 +69,10 @@ module _ (T : LogState) (H : Holds T) (i : ℕ) (w : Membership) (up : 0 < start
   word = record { decided = leading-member.decided; term_is = refl }
 
   -- nobody has led it
-  pub not-begun : T.logs.reign (part T i) (term_of w) ≡ None
-  not-begun = go (T.logs.reign (part T i) (term_of w)) refl
+  pub not-begun : T.logs.leadership (part T i) (term_of w) ≡ None
+  not-begun = go (T.logs.leadership (part T i) (term_of w)) refl
     where
-      go : (o : Option Reign) → T.logs.reign (part T i) (term_of w) ≡ o → T.logs.reign (part T i) (term_of w) ≡ None
+      go : (o : Option Leadership) → T.logs.leadership (part T i) (term_of w) ≡ o → T.logs.leadership (part T i) (term_of w) ≡ None
       go None e = e
       go (Some g) e = absurd (not-both (T.sites i).repaired (subst (LeadsIn (T.sites i)) e (leading-member.leading leads)).0 unrepaired)
 
@@ -84,13 +84,13 @@ module _ (T : LogState) (H : Holds T) (i : ℕ) (w : Membership) (up : 0 < start
   -- the last leader before
   last : (u : ℕ) × Last T.logs (part T i) u (term_of w)
   last = last-below T H (part T i) (term_of w) (elim (cases_eq (base_of T) (term_of w)) [
-    | inl e ↦ let f = H.first (part T i) in absurd (none-and-some not-begun (ap (T.logs.reign (part T i)) (sym e) ∙ f.1))
+    | inl e ↦ let f = H.first (part T i) in absurd (none-and-some not-begun (ap (T.logs.leadership (part T i)) (sym e) ∙ f.1))
     | inr n ↦ let b = base-least T H w leading-member.decided in omega (arith, b, n)
   ])
 
-  -- Each log that entered the term stands at the front of that leader's, and its floor isn't above this leader's end.
-  entered-front : (c : ℕ) (e : Entered) → part T c ≡ part T i → T.logs.entered c (term_of w) ≡ Some e → Front e.log last.1.reign.log
-  entered-front c e part-is is = (behind-at T H (part T i) c (term_of w) last.0 e part-is is last.1).0
+  -- Each log that entered the term is a prefix of that leader's, and its floor isn't above this leader's end.
+  entered-prefix : (c : ℕ) (e : Entered) → part T c ≡ part T i → T.logs.entered c (term_of w) ≡ Some e → Prefix e.log last.1.leadership.log
+  entered-prefix c e part-is is = (behind-at T H (part T i) c (term_of w) last.0 e part-is is last.1).0
 
   floor-low : (c : ℕ) (e : Entered) → part T c ≡ part T i → T.logs.entered c (term_of w) ≡ Some e → e.floor ≤ length (log_at T i)
   floor-low c e part-is is =
@@ -101,12 +101,12 @@ module _ (T : LogState) (H : Holds T) (i : ℕ) (w : Membership) (up : 0 < start
 
   -- ---- the log with which it begins
 
-  -- of a report that is longer than its own log, its own stands at the front
-  own-before : (r : Reported) (is : In r (T.sites i).reports) → length (log_at T i) < r.position → Front (log_at T i) (reported r is).entered.log
+  -- of a report that is longer than its own log, its own stands at the beginning
+  own-before : (r : Reported) (is : In r (T.sites i).reports) → length (log_at T i) < r.position → Prefix (log_at T i) (reported r is).entered.log
   own-before r is longer = let k = reported r is in
       let e = k.position_is in
-      fronts-order (log_at T i) k.entered.log last.1.reign.log
-      (rw same (entered-front i leading-member.entered refl leading-member.is_entered)) (entered-front r.slot k.entered k.part_is k.is_entered)
+      prefixes-order (log_at T i) k.entered.log last.1.leadership.log
+      (rw same (entered-prefix i leading-member.entered refl leading-member.is_entered)) (entered-prefix r.slot k.entered k.part_is k.is_entered)
       (omega (arith, longer, e))
 
   -- it is its own or the longest one
@@ -128,10 +128,10 @@ module _ (T : LogState) (H : Holds T) (i : ℕ) (w : Membership) (up : 0 < start
           ∙ ap (drop (length (log_at T i))) f.1 ∙ drop-append_seam (log_at T i) f.0)
           ∙ sym f.1
 
-  begun-front : Front (begun_log (T.sites i)) last.1.reign.log
-  begun-front = elim begun-cases [
-    | inl (e, low) ↦ rw (e, same) (entered-front i leading-member.entered refl leading-member.is_entered)
-    | inr (r, is, e, longer, low) ↦ let k = reported r is in rw e (entered-front r.slot k.entered k.part_is k.is_entered)
+  begun-prefix : Prefix (begun_log (T.sites i)) last.1.leadership.log
+  begun-prefix = elim begun-cases [
+    | inl (e, low) ↦ rw (e, same) (entered-prefix i leading-member.entered refl leading-member.is_entered)
+    | inr (r, is, e, longer, low) ↦ let k = reported r is in rw e (entered-prefix r.slot k.entered k.part_is k.is_entered)
   ]
 
   -- it is one with which a copy entered the term
@@ -142,15 +142,15 @@ module _ (T : LogState) (H : Holds T) (i : ℕ) (w : Membership) (up : 0 < start
         (r.slot, k.entered, (H.entered r.slot (term_of w) k.entered k.is_entered).slot, k.part_is, k.is_entered, sym e)
   ]
 
-  -- its own log stands at its front
-  pub own-front : Front (log_at T i) (begun_log (T.sites i))
-  own-front = (lacks (length (log_at T i)) (longest (length (log_at T i)) None (T.sites i).reports), refl)
+  -- its own log stands at its beginning
+  pub own-prefix : Prefix (log_at T i) (begun_log (T.sites i))
+  own-prefix = (lacks (length (log_at T i)) (longest (length (log_at T i)) None (T.sites i).reports), refl)
 
   -- and so does each that was reported
-  pub report-front : (r : Reported) (is : In r (T.sites i).reports) → Front (reported r is).entered.log (begun_log (T.sites i))
-  report-front r is =
+  pub report-prefix : (r : Reported) (is : In r (T.sites i).reports) → Prefix (reported r is).entered.log (begun_log (T.sites i))
+  report-prefix r is =
       let k = reported r is in
-      fronts-order k.entered.log (begun_log (T.sites i)) last.1.reign.log (entered-front r.slot k.entered k.part_is k.is_entered) begun-front
+      prefixes-order k.entered.log (begun_log (T.sites i)) last.1.leadership.log (entered-prefix r.slot k.entered k.part_is k.is_entered) begun-prefix
       (let e = k.position_is in elim begun-cases [
         | inl (b, low) ↦ let n = ap length b in let m = all-at (λ r. r.position ≤ length (log_at T i)) (T.sites i).reports low r is in omega (arith, n, m, e)
         | inr (q, at, b, longer, low) ↦
@@ -169,30 +169,30 @@ module _ (T : LogState) (H : Holds T) (i : ℕ) (w : Membership) (up : 0 < start
       (r.0, r.1, eqb-true r.0.slot c r.2)
 
   pub all-entered : (c a : ℕ) → IsSlot T c → part T c ≡ part T i → start_of_slot T.words.deployment w c ≡ Some a
-      → (e : Entered) × (T.logs.entered c (term_of w) ≡ Some e) × (e.start ≡ a) × Front e.log (begun_log (T.sites i))
+      → (e : Entered) × (T.logs.entered c (term_of w) ≡ Some e) × (e.start ≡ a) × Prefix e.log (begun_log (T.sites i))
   all-entered c a slot part-is member = elim (cases_eq c i) [
     | inl e ↦ (
       leading-member.entered,
       ap (λ x. T.logs.entered x (term_of w)) e ∙ leading-member.is_entered,
       same-some (sym (entered-start T H i (term_of w) leading-member.entered leading-member.is_entered w word) ∙ ap (start_of_slot T.words.deployment w) (sym e) ∙ member),
-      subst (λ l. Front l (begun_log (T.sites i))) same own-front,
+      subst (λ l. Prefix l (begun_log (T.sites i))) same own-prefix,
     )
     | inr n ↦ other n
   ]
     where
-      other : (c ≡ i → ⊥) → (e : Entered) × (T.logs.entered c (term_of w) ≡ Some e) × (e.start ≡ a) × Front e.log (begun_log (T.sites i))
+      other : (c ≡ i → ⊥) → (e : Entered) × (T.logs.entered c (term_of w) ≡ Some e) × (e.start ≡ a) × Prefix e.log (begun_log (T.sites i))
       other n =
           let r = has-report c a n part-is member in
           let k = reported r.0 r.1 in
           let is = ap (λ x. T.logs.entered x (term_of w)) (sym r.2) ∙ k.is_entered in
-          (k.entered, is, same-some (sym (entered-start T H c (term_of w) k.entered is w word) ∙ member), report-front r.0 r.1)
+          (k.entered, is, same-some (sym (entered-start T H c (term_of w) k.entered is w word) ∙ member), report-prefix r.0 r.1)
 
   -- ---- slots that have gone on
 
   -- Where this term is the last one that was led before a later one that a slot has entered, it had entered this one too.
   pub begun-behind : (c u : ℕ) (e : Entered) → part T c ≡ part T i → T.logs.entered c u ≡ Some e → term_of w < u
-      → ((x : ℕ) (g : Reign) → T.logs.reign (part T i) x ≡ Some g → x < u → x ≤ term_of w)
-      → Front e.log (begun_log (T.sites i)) × (known e ≤ T.logs.reach (part T i) (term_of w))
+      → ((x : ℕ) (g : Leadership) → T.logs.leadership (part T i) x ≡ Some g → x < u → x ≤ term_of w)
+      → Prefix e.log (begun_log (T.sites i)) × (known e ≤ T.logs.reach (part T i) (term_of w))
   begun-behind c u e part-is is above greatest =
       let s = k.still (term_of w) f.0 above f.1 f.2 unled in
       let r = (H.entered c (term_of w) f.0 f.1).reach in
@@ -204,10 +204,10 @@ module _ (T : LogState) (H : Holds T) (i : ℕ) (w : Membership) (up : 0 < start
       -- it isn't led in between
       unled : Unled T.logs (part T c) (term_of w) u
       unled x g led low high =
-          let at = ap (λ q. T.logs.reign q x) (sym part-is) ∙ led in
+          let at = ap (λ q. T.logs.leadership q x) (sym part-is) ∙ led in
           let b = greatest x g at high in
           let q : x ≡ term_of w = omega (arith, b, low) in
-          none-and-some not-begun (ap (T.logs.reign (part T i)) (sym q) ∙ at)
+          none-and-some not-begun (ap (T.logs.leadership (part T i)) (sym q) ∙ at)
 
       up-to : term_of w ≤ term_of k.word
       up-to = let t = k.is_word.term_is in omega (arith, above, t)
@@ -222,9 +222,9 @@ module _ (T : LogState) (H : Holds T) (i : ℕ) (w : Membership) (up : 0 < start
               let same-took : h.word ≡ y = same-some (sym h.took ∙ ap T.words.history.took start ∙ took) in
               let t = ap term_of same-took in
               let low : term_of w ≤ z = (let a = h.term_is in omega (arith, after, t, a)) in
-              absurd (unled z h.reign h.led low below)
+              absurd (unled z h.leadership h.led low below)
         ]
       ]
 
-      f : (f : Entered) × (T.logs.entered c (term_of w) ≡ Some f) × (f.start ≡ e.start) × Front f.log (begun_log (T.sites i))
+      f : (f : Entered) × (T.logs.entered c (term_of w) ≡ Some f) × (f.start ≡ e.start) × Prefix f.log (begun_log (T.sites i))
       f = all-entered c e.start k.slot part-is member

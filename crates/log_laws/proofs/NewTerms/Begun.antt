@@ -13,12 +13,12 @@ use Rattle.cluster_model.specs.Site.{longest, lacks, repair_to}
 use Rattle.cluster_model.specs.World.{sent}
 use Rattle.word_laws.specs.Histories.{In}
 use Rattle.word_laws.proofs.Lists.{none-and-some, same-some, all-mono, not-both, set-here, set-there, set-both}
-use Rattle.log_laws.specs.Histories.{LogState, Logs, Repairs, Entered, Reign, Front, Holds, IsSlot, WordOf, Last, known, EnteredOk, ReportOk, ReignOk, UnledOk, SiteOk, KeepsOk, MemberOk, JoinerOk, LeadsIn, FollowsIn, SiteLetterOk, Reached, IsCounted, AckOk, CountedOk, AskOk, ForeignOk, WaitingOk, JoinsIn, asks_of_term, part, start_at, log_at, term_at, between, follows, line}
+use Rattle.log_laws.specs.Histories.{LogState, Logs, Repairs, Entered, Leadership, Prefix, Holds, IsSlot, WordOf, Last, known, EnteredOk, ReportOk, LeadershipOk, UnledOk, SiteOk, KeepsOk, MemberOk, JoinerOk, LeadsIn, FollowsIn, SiteLetterOk, Reached, IsCounted, AckOk, CountedOk, AskOk, ForeignOk, WaitingOk, JoinsIn, asks_of_term, part, start_at, log_at, term_at, between, follows, line}
 use Rattle.log_laws.proofs.Kept.Moves.{Grown, after, Later, JoinsOn}
 use Rattle.log_laws.proofs.Kept.Grown.{grown-at}
-use Rattle.log_laws.proofs.Kept.Laters.{been-later, word_of-later, ack-later, counted-later, ask-later, reached-later, stays, reign-later, unled-later}
+use Rattle.log_laws.proofs.Kept.Laters.{been-later, word_of-later, ack-later, counted-later, ask-later, reached-later, stays, leadership-later, unled-later}
 use Rattle.log_laws.proofs.Plain.Lines.{line-same, line-append, repair-line, repair-line-other, repair-flow, repair-ends, repair-all, repair_letter}
-use Rattle.log_laws.proofs.Plain.Fronts.{front-length, front-refl, front-trans}
+use Rattle.log_laws.proofs.Plain.Prefixes.{prefix-length, prefix-refl, prefix-trans}
 use Rattle.log_laws.proofs.Plain.Appends.{grown}
 use Rattle.log_laws.proofs.Plain.Copies.{start-in-view, follows-leader, leader-follows-none, leader-followed}
 use Rattle.log_laws.proofs.Kept.Terms.{running-slot, same-word, some-term, entered-start, running-in}
@@ -26,7 +26,7 @@ use Rattle.log_laws.proofs.Kept.Plumbing.{sent-here, sent-there, words-after, fo
 use Rattle.log_laws.proofs.Kept.Keeps.{still-same, member-keeps-with}
 use Rattle.log_laws.proofs.Kept.Asked.{at-most-same}
 use Rattle.log_laws.proofs.NewTerms.Since.{since-unled, unled-above}
-use Rattle.log_laws.proofs.NewTerms.Beginning.{begun-by, begun_log, begun_reign, leading-member, not-begun, reported, own-front, has-report, all-entered, begun-behind}
+use Rattle.log_laws.proofs.NewTerms.Beginning.{begun-by, begun_log, begun_leadership, leading-member, not-begun, reported, own-prefix, has-report, all-entered, begun-behind}
 use Rattle.log_laws.proofs.Kept.Turned.{put_at, put-both, put-here, put-there, turned, turned-later, Turned, turned-holds, waiting-turned, pending-turned}
 
 -- the leader with the longest log, with its scans as they may be, and once it has begun its term
@@ -37,8 +37,8 @@ abbrev pub begun_site : SiteState → ℕ → Option Scanning → SiteState
 begun_site s scans scanning = record (longest_site s scans scanning) { repaired = true; owes = Some (site_term s); reports = [] }
 
 -- the term is led now, with the log that it begins with
-abbrev pub begun_reigns : LogState → ℕ → ℕ → ℕ → ℕ → Option Reign
-begun_reigns S i t = put_at S.logs.reign (part S i) t (Some (begun_reign (S.sites i)))
+abbrev pub begun_leaderships : LogState → ℕ → ℕ → ℕ → ℕ → Option Leadership
+begun_leaderships S i t = put_at S.logs.leadership (part S i) t (Some (begun_leadership (S.sites i)))
 
 -- it is sent to each slot that reported
 abbrev pub repairs_of : LogState → ℕ → ℕ → Option Scanning → ℕ → List Letter
@@ -47,15 +47,15 @@ repairs_of S i scans scanning c = repair_to S.words.deployment (longest_site (S.
 module _ (S : LogState) (H : Holds S) (i : ℕ) (w : Membership) (up : 0 < start_at S i) (none : (S.sites i).joining ≡ None) (view : (S.sites i).view ≡ Some w)
     (leads : leader S.words.deployment w (part S i) ≡ Some i) (unrepaired : (S.sites i).repaired ≡ false)
     (all : list_all (λ c. list_any (λ r. r.slot == c) (S.sites i).reports) (other_copies S.words.deployment i (S.sites i)) ≡ true)
-    (scans : ℕ) (scanning : Option Scanning) (out : Sends) (sends : (c : ℕ) → out (Site c) ≡ repairs_of S i scans scanning c) (quiet : (h : ℕ) → out (Agent h) ≡ []) where
+    (scans : ℕ) (scanning : Option Scanning) (out : Sends) (sends : (c : ℕ) → out (Site c) ≡ repairs_of S i scans scanning c) (inert : (h : ℕ) → out (Agent h) ≡ []) where
   abbrev s : SiteState
   s = begun_site (S.sites i) scans scanning
 
   abbrev ch : Actor → Actor → List Letter
   ch = sent S.words.channel (Site i) out
 
-  abbrev re : ℕ → ℕ → Option Reign
-  re = begun_reigns S i (term_of w)
+  abbrev re : ℕ → ℕ → Option Leadership
+  re = begun_leaderships S i (term_of w)
 
   abbrev T : LogState
   T = turned S i s ch S.logs.entered re S.logs.reach
@@ -64,7 +64,7 @@ module _ (S : LogState) (H : Holds S) (i : ℕ) (w : Membership) (up : 0 < start
   new = repairs_of S i scans scanning
 
   abbrev G : Logs
-  G = record S.logs { reign = re }
+  G = record S.logs { leadership = re }
 
   here : T.sites i ≡ s
   here = set-here S.sites i s
@@ -72,16 +72,16 @@ module _ (S : LogState) (H : Holds S) (i : ℕ) (w : Membership) (up : 0 < start
   there : (c : ℕ) → (c ≡ i → ⊥) → T.sites c ≡ S.sites c
   there c other = set-there S.sites i s c other
 
-  led-here : re (part S i) (term_of w) ≡ Some (begun_reign (S.sites i))
-  led-here = put-here S.logs.reign (part S i) (term_of w) (Some (begun_reign (S.sites i)))
+  led-here : re (part S i) (term_of w) ≡ Some (begun_leadership (S.sites i))
+  led-here = put-here S.logs.leadership (part S i) (term_of w) (Some (begun_leadership (S.sites i)))
 
-  led-there : (q x : ℕ) → (q ≡ part S i → x ≡ term_of w → ⊥) → re q x ≡ S.logs.reign q x
-  led-there q x n = put-there S.logs.reign (part S i) (term_of w) (Some (begun_reign (S.sites i))) q x n
+  led-there : (q x : ℕ) → (q ≡ part S i → x ≡ term_of w → ⊥) → re q x ≡ S.logs.leadership q x
+  led-there q x n = put-there S.logs.leadership (part S i) (term_of w) (Some (begun_leadership (S.sites i))) q x n
 
   -- a term that was led is led as it was
-  led-still : (q x : ℕ) (g : Reign) → S.logs.reign q x ≡ Some g → re q x ≡ S.logs.reign q x
+  led-still : (q x : ℕ) (g : Leadership) → S.logs.leadership q x ≡ Some g → re q x ≡ S.logs.leadership q x
   led-still q x g is = led-there q x (λ e f. none-and-some (not-begun S H i w up none view leads unrepaired all)
-      (ap (λ z. S.logs.reign z (term_of w)) (sym e) ∙ ap (S.logs.reign q) (sym f) ∙ is))
+      (ap (λ z. S.logs.leadership z (term_of w)) (sym e) ∙ ap (S.logs.leadership q) (sym f) ∙ is))
 
   later : Later S T
   later = turned-later S i s ch S.logs.entered re S.logs.reach
@@ -89,7 +89,7 @@ module _ (S : LogState) (H : Holds S) (i : ℕ) (w : Membership) (up : 0 < start
         start = refl;
         earlier = refl;
         greatest = omega arith;
-        log = front-length (log_at S i) (begun_log (S.sites i)) (own-front S H i w up none view leads unrepaired all);
+        log = prefix-length (log_at S i) (begun_log (S.sites i)) (own-prefix S H i w up none view leads unrepaired all);
         term = omega arith;
         member = λ e. e;
         loaded = λ k e. (k, e, λ l. l);
@@ -166,7 +166,7 @@ module _ (S : LogState) (H : Holds S) (i : ℕ) (w : Membership) (up : 0 < start
   -- a copy that follows, has entered the term and is behind: its repair is under way to it
   repaired-by : (c : ℕ) → (c ≡ i → ⊥) → part S c ≡ part S i → MemberOk S c w
       → FollowsIn (S.sites c) (line (start_at S c) (term_of w) (between S i c)) None
-      → FollowsIn (S.sites c) (line (start_at S c) (term_of w) (ch (Site i) (Site c))) (Some (begun_reign (S.sites i)))
+      → FollowsIn (S.sites c) (line (start_at S c) (term_of w) (ch (Site i) (Site c))) (Some (begun_leadership (S.sites i)))
   repaired-by c other part-is k f =
       let r = has-report S H i w up none view leads unrepaired all c (start_at S c) other part-is k.start_is in
       let n = repair-line S.words.deployment (longest_site (S.sites i) scans scanning) c (start_at S c) (term_of w) (S.sites i).reports r.0 r.1 r.2
@@ -204,22 +204,22 @@ module _ (S : LogState) (H : Holds S) (i : ℕ) (w : Membership) (up : 0 < start
 
       follower : part S c ≡ part S i → MemberOk S c w → MemberOk T c w
       follower e k = member-keeps-with S T H later c (still-same (S.sites c) (T.sites c) (there c other)) w k
-          (λ lead. absurd (other (same-some (sym lead ∙ ap (leader S.words.deployment w) e ∙ leads))))
+          (λ authoritative. absurd (other (same-some (sym authoritative ∙ ap (leader S.words.deployment w) e ∙ leads))))
           (λ l fo f. let q = same-some (sym (follows-leader S.words.deployment w c l fo).0 ∙ ap (leader S.words.deployment w) e ∙ leads) in
           subst (λ z. FollowsIn (S.sites c) (line (start_at S c) (term_of w) (ch (Site z) (Site c))) (re (part S c) (term_of w))) (sym q)
           (subst (FollowsIn (S.sites c) (line (start_at S c) (term_of w) (ch (Site i) (Site c)))) (sym (ap (λ z. re z (term_of w)) e ∙ led-here))
           (repaired-by c other e k
           (subst (FollowsIn (S.sites c) (line (start_at S c) (term_of w) (between S i c)))
-          (ap (λ z. S.logs.reign z (term_of w)) e ∙ not-begun S H i w up none view leads unrepaired all)
-          (subst (λ z. FollowsIn (S.sites c) (line (start_at S c) (term_of w) (between S z c)) (S.logs.reign (part S c) (term_of w))) q f)))))
+          (ap (λ z. S.logs.leadership z (term_of w)) e ∙ not-begun S H i w up none view leads unrepaired all)
+          (subst (λ z. FollowsIn (S.sites c) (line (start_at S c) (term_of w) (between S z c)) (S.logs.leadership (part S c) (term_of w))) q f)))))
           (λ l fo f. line-there l c (start_at S c) (term_of w) (λ q. absurd (not-both (follows S.words.deployment w c l)
           (subst (λ z. follows S.words.deployment w c z ≡ true) (sym q) (leader-followed S.words.deployment w i c leads e other)) fo)) ∙ f)
 
   -- ---- the turn
 
-  counted : (c a nj : ℕ) (u : Membership) → IsCounted S c a nj u → IsCounted T c a nj u
-  counted c a nj u k l lead = set-both (λ l z. leader S.words.deployment u (part S c) ≡ Some l → 0 < z.start → z.joining ≡ None → z.view ≡ Some u
-      → (j : Joiner) × In j z.joiners × (j.slot ≡ c) × (j.start ≡ a) × (j.nj ≡ nj)) S.sites i s (k i) (λ l _. k l) l lead
+  counted : (c a stream_start : ℕ) (u : Membership) → IsCounted S c a stream_start u → IsCounted T c a stream_start u
+  counted c a stream_start u k l authoritative = set-both (λ l z. leader S.words.deployment u (part S c) ≡ Some l → 0 < z.start → z.joining ≡ None → z.view ≡ Some u
+      → (j : Joiner) × In j z.joiners × (j.slot ≡ c) × (j.start ≡ a) × (j.stream_start ≡ stream_start)) S.sites i s (k i) (λ l _. k l) l authoritative
 
   turns : Turned S i s ch S.logs.entered re S.logs.reach new
   turns = record {
@@ -231,7 +231,7 @@ module _ (S : LogState) (H : Holds S) (i : ℕ) (w : Membership) (up : 0 < start
     agreed = λ h g. refl;
     tells = λ c h. elim (cases_eq c i) [
       | inl e ↦ subst (λ z. ch (Site z) (Agent h) ≡ S.words.channel (Site z) (Agent h)) (sym e)
-          (sent-here S i s out G (Agent h) ∙ ap (λ z. S.words.channel (Site i) (Agent h) ++ z) (quiet h) ∙ append-nil (S.words.channel (Site i) (Agent h)))
+          (sent-here S i s out G (Agent h) ∙ ap (λ z. S.words.channel (Site i) (Agent h) ++ z) (inert h) ∙ append-nil (S.words.channel (Site i) (Agent h)))
       | inr n ↦ sent-there S i s out G c (Agent h) n
     ];
     views = λ c _. refl;
@@ -243,7 +243,7 @@ module _ (S : LogState) (H : Holds S) (i : ℕ) (w : Membership) (up : 0 < start
     joins = λ c t a slot is. ask-later S T H later (part S c) i t a (λ u j. (j.0, ap (λ z. z.joining) here ∙ j.1, ap (λ z. z.view) here ∙ j.2));
     entered = λ c t other. refl;
     led = λ q x g is. (led-still q x g is, refl);
-    counted = λ c a nj u g _ _ k. counted c a nj u k;
+    counted = λ c a stream_start u g _ _ k. counted c a stream_start u k;
     members = members;
     lines = λ c l u j other joins k e. line-there l c (start_at S c) (term_of u) (λ _. not-joiner c j k (term_of u)) ∙ e;
   }
@@ -268,7 +268,7 @@ module _ (S : LogState) (H : Holds S) (i : ℕ) (w : Membership) (up : 0 < start
     since = since;
   }
     where
-      since : (v : ℕ) (g : Reign) → re (part S c) v ≡ Some g → v < u → S.logs.reach (part S c) v ≤ length e.log
+      since : (v : ℕ) (g : Leadership) → re (part S c) v ≡ Some g → v < u → S.logs.reach (part S c) v ≤ length e.log
       since v g led below = elim (cases_eq (part S c) (part S i)) [
         | inr n ↦ before (λ q _. n q)
         | inl q ↦ elim (cases_eq v (term_of w)) [
@@ -285,7 +285,7 @@ module _ (S : LogState) (H : Holds S) (i : ℕ) (w : Membership) (up : 0 < start
           before : (part S c ≡ part S i → v ≡ term_of w → ⊥) → S.logs.reach (part S c) v ≤ length e.log
           before n = (H.entered c u e is).since v g (sym (led-there (part S c) v n) ∙ led) below
 
-      behind : (v : ℕ) (l : Last T.logs (part S c) v u) → Front e.log l.reign.log × (known e ≤ S.logs.reach (part S c) v)
+      behind : (v : ℕ) (l : Last T.logs (part S c) v u) → Prefix e.log l.leadership.log × (known e ≤ S.logs.reach (part S c) v)
       behind v l = elim (cases_eq (part S c) (part S i)) [
         | inr n ↦ plain (λ q _. n q)
         | inl q ↦ elim (cases_eq v (term_of w)) [
@@ -294,42 +294,42 @@ module _ (S : LogState) (H : Holds S) (i : ℕ) (w : Membership) (up : 0 < start
         ]
       ]
         where
-          plain : (part S c ≡ part S i → v ≡ term_of w → ⊥) → Front e.log l.reign.log × (known e ≤ S.logs.reach (part S c) v)
+          plain : (part S c ≡ part S i → v ≡ term_of w → ⊥) → Prefix e.log l.leadership.log × (known e ≤ S.logs.reach (part S c) v)
           plain n = (H.entered c u e is).behind v (record {
-            reign = l.reign;
+            leadership = l.leadership;
             led = sym (led-there (part S c) v n) ∙ l.led;
             below = l.below;
             greatest = λ x g led. l.greatest x g (led-still (part S c) x g led ∙ led);
           })
 
-          now : part S c ≡ part S i → v ≡ term_of w → Front e.log l.reign.log × (known e ≤ S.logs.reach (part S c) v)
+          now : part S c ≡ part S i → v ≡ term_of w → Prefix e.log l.leadership.log × (known e ≤ S.logs.reach (part S c) v)
           now q t =
               let r = begun-behind S H i w up none view leads unrepaired all c u e q is (let b = l.below in omega (arith, b, t)) (λ x g led high.
-              let at = ap (λ z. S.logs.reign z x) q ∙ led in
+              let at = ap (λ z. S.logs.leadership z x) q ∙ led in
               let b = l.greatest x g (led-still (part S c) x g at ∙ at) high in omega (arith, b, t)) in
               let g = same-some (sym led-here ∙ ap (re (part S i)) (sym t) ∙ ap (λ z. re z v) (sym q) ∙ l.led) in
-              (subst (λ z. Front e.log z.log) g r.0, subst (λ z. known e ≤ S.logs.reach z v) (sym q) (subst (λ z. known e ≤ S.logs.reach (part S i) z) (sym t) r.1))
+              (subst (λ z. Prefix e.log z.log) g r.0, subst (λ z. known e ≤ S.logs.reach z v) (sym q) (subst (λ z. known e ≤ S.logs.reach (part S i) z) (sym t) r.1))
 
-  reigns : (q x : ℕ) (g : Reign) → re q x ≡ Some g → ReignOk T q x g
-  reigns = put-both (λ q x o. (g : Reign) → o ≡ Some g → ReignOk T q x g) S.logs.reign (part S i) (term_of w) (Some (begun_reign (S.sites i)))
-      (λ g e. subst (ReignOk T (part S i) (term_of w)) (same-some e) begun)
-      (λ q x _ g is. reign-later S T H later q x g g refl (front-refl g.log) (H.reigns q x g is).within (H.reigns q x g is))
+  leaderships : (q x : ℕ) (g : Leadership) → re q x ≡ Some g → LeadershipOk T q x g
+  leaderships = put-both (λ q x o. (g : Leadership) → o ≡ Some g → LeadershipOk T q x g) S.logs.leadership (part S i) (term_of w) (Some (begun_leadership (S.sites i)))
+      (λ g e. subst (LeadershipOk T (part S i) (term_of w)) (same-some e) begun)
+      (λ q x _ g is. leadership-later S T H later q x g g refl (prefix-refl g.log) (H.leaderships q x g is).within (H.leaderships q x g is))
     where
-      begun : ReignOk T (part S i) (term_of w) (begun_reign (S.sites i))
+      begun : LeadershipOk T (part S i) (term_of w) (begun_leadership (S.sites i))
       begun = record {
         word = w;
         is_word = record { decided = member.decided; term_is = refl };
-        grown = front-refl (begun_log (S.sites i));
+        grown = prefix-refl (begun_log (S.sites i));
         within =
             let b = (running-in S H i (term_of w) (start_at S i) (inl (member.entered, member.is_entered, member.since)) refl).0 in
-            let l = front-length (log_at S i) (begun_log (S.sites i)) (own-front S H i w up none view leads unrepaired all) in
+            let l = prefix-length (log_at S i) (begun_log (S.sites i)) (own-prefix S H i w up none view leads unrepaired all) in
             omega (arith, b, l);
         entered = all-entered S H i w up none view leads unrepaired all;
         begun_by = λ _. begun-by S H i w up none view leads unrepaired all;
       }
 
   unled : (q x : ℕ) → re q x ≡ None → UnledOk T q x
-  unled = put-both (λ q x o. o ≡ None → UnledOk T q x) S.logs.reign (part S i) (term_of w) (Some (begun_reign (S.sites i)))
+  unled = put-both (λ q x o. o ≡ None → UnledOk T q x) S.logs.leadership (part S i) (term_of w) (Some (begun_leadership (S.sites i)))
       (λ e. absurd (none-and-some e refl))
       (λ q x _ is. unled-later S T H later q x refl (H.unled q x is))
 
@@ -346,8 +346,8 @@ module _ (S : LogState) (H : Holds S) (i : ℕ) (w : Membership) (up : 0 < start
     is_entered = member.is_entered;
     since = member.since ∙ sym own-start;
     earlier = rw here member.earlier;
-    grown = subst (λ z. Front member.entered.log z.log) (sym here)
-        (front-trans member.entered.log (log_at S i) (begun_log (S.sites i)) member.grown (own-front S H i w up none view leads unrepaired all));
+    grown = subst (λ z. Prefix member.entered.log z.log) (sym here)
+        (prefix-trans member.entered.log (log_at S i) (begun_log (S.sites i)) member.grown (own-prefix S H i w up none view leads unrepaired all));
     still = λ e. absurd (true≢false (sym (ap (λ z. z.repaired) here) ∙ e));
     floor = rw here member.floor;
     firm = rw here member.firm;
@@ -372,7 +372,7 @@ module _ (S : LogState) (H : Holds S) (i : ℕ) (w : Membership) (up : 0 < start
         (waiting-turned S H i s ch S.logs.entered re S.logs.reach new turns i (running-slot S H i up) own-start k);
     pending = pending-turned S H i s ch S.logs.entered re S.logs.reach new turns i (running-slot S H i up) own-start k;
     on_disk = subst (λ z. z.on_disk ≤ length z.log) (sym here)
-        (let a = k.on_disk in let b = front-length (log_at S i) (begun_log (S.sites i)) (own-front S H i w up none view leads unrepaired all) in omega (arith, a, b));
+        (let a = k.on_disk in let b = prefix-length (log_at S i) (begun_log (S.sites i)) (own-prefix S H i w up none view leads unrepaired all) in omega (arith, a, b));
     held = rw here k.held;
   }
     where
@@ -381,7 +381,7 @@ module _ (S : LogState) (H : Holds S) (i : ℕ) (w : Membership) (up : 0 < start
 
   own-site : SiteOk T i
   own-site = let k = H.sites i in record {
-    outside = λ e. own-start ∙ k.outside e;
+    environment = λ e. own-start ∙ k.environment e;
     ran = λ _. let r = k.ran up in (r.0, r.1 ∙ ap (λ z. z ∷ r.0) (sym own-start));
     term = rw here k.term;
     earlier = rw here k.earlier;
@@ -402,11 +402,11 @@ module _ (S : LogState) (H : Holds S) (i : ℕ) (w : Membership) (up : 0 < start
       (λ r is q. reached-later S T H later c (repair_letter S.words.deployment (longest_site (S.sites i) scans scanning) c r) (reached-new c r is q)))
       entered
       (λ c t x is. (H.streamed c t x is).apart)
-      reigns
+      leaderships
       unled
 
   -- the term is led from now on
   pub begun-grown : Grown S.words.deployment i s S.logs G
   begun-grown = grown-at S.words.deployment i s S.logs G (part S i) (term_of w)
       (record { word = w; view = view; part_is = refl; term_is = refl; first = leads; start_is = member.start_is })
-      (record { kept = λ q x g is. (g, led-still q x g is ∙ is, refl, front-refl g.log); reach = λ q x. omega arith }) led-there
+      (record { kept = λ q x g is. (g, led-still q x g is ∙ is, refl, prefix-refl g.log); reach = λ q x. omega arith }) led-there

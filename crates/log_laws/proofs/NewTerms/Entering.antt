@@ -9,9 +9,9 @@ use Rattle.word_laws.specs.Histories.{In, Admitted, names, HistoryOk, GoodWord, 
 use Rattle.word_laws.proofs.Lists.{none-and-some, same-some, all-at, not-both}
 use Rattle.word_laws.proofs.Algebra.{admits-fresh}
 use Rattle.word_laws.proofs.Agreement.{one-first, at-good, term-same, member-is}
-use Rattle.log_laws.specs.Histories.{LogState, Entered, Streaming, Reign, Front, Holds, IsSlot, WordOf, WasIn, Last, Unled, Came, known, MemberOk, JoinerOk, InWord, Took, ViewIn, StreamIn, LeadsIn, FollowsIn, line, between, part, start_at, log_at, term_at}
-use Rattle.log_laws.proofs.Plain.Fronts.{front-trans}
-use Rattle.log_laws.proofs.Kept.Terms.{running-slot, took-not-named, base-least, entered-start, reign-entered, running-in, was-in, last-below}
+use Rattle.log_laws.specs.Histories.{LogState, Entered, Streaming, Leadership, Prefix, Holds, IsSlot, WordOf, WasIn, Last, Unled, Came, known, MemberOk, JoinerOk, InWord, Took, ViewIn, StreamIn, LeadsIn, FollowsIn, line, between, part, start_at, log_at, term_at}
+use Rattle.log_laws.proofs.Plain.Prefixes.{prefix-trans}
+use Rattle.log_laws.proofs.Kept.Terms.{running-slot, took-not-named, base-least, entered-start, leadership-entered, running-in, was-in, last-below}
 use Rattle.log_laws.proofs.NewTerms.Since.{since-running}
 use Rattle.log_laws.proofs.Plain.Copies.{leads-or-follows}
 
@@ -62,38 +62,38 @@ came-up S c t u a low (inr (x, k, is, start, below)) = inr (x, k, is, start, ome
 
 -- what a slot of a partition entered a term with, and the partition's last leader before
 pub behind-at : (S : LogState) → Holds S → (p c t u : ℕ) (e : Entered) → part S c ≡ p → S.logs.entered c t ≡ Some e → (l : Last S.logs p u t)
-    → Front e.log l.reign.log × (known e ≤ S.logs.reach p u)
+    → Prefix e.log l.leadership.log × (known e ≤ S.logs.reach p u)
 behind-at S H p c t u e part-is is l =
     let r = (H.entered c t e is).behind u (record {
-      reign = l.reign;
-      led = ap (λ q. S.logs.reign q u) part-is ∙ l.led;
+      leadership = l.leadership;
+      led = ap (λ q. S.logs.leadership q u) part-is ∙ l.led;
       below = l.below;
-      greatest = λ x g k. l.greatest x g (ap (λ q. S.logs.reign q x) (sym part-is) ∙ k);
+      greatest = λ x g k. l.greatest x g (ap (λ q. S.logs.leadership q x) (sym part-is) ∙ k);
     }) in
     (r.0, subst (λ q. known e ≤ S.logs.reach q u) part-is r.1)
 
 -- ---- a member of a word
 
--- in its log there is the front of what its leader has, and it is as it entered where nobody leads
-pub led-front : (S : LogState) → Holds S → (c : ℕ) (v : Membership) → MemberOk S c v → IsSlot S c → (g : Reign) → S.logs.reign (part S c) (term_of v) ≡ Some g
-    → Front (log_at S c) g.log
-led-front S H c v k slot g led = elim (leads-or-follows S.words.deployment v c (start_at S c) k.start_is) [
-  | inl lead ↦ let e = (subst (LeadsIn (S.sites c)) led (k.leading lead)).1 in ([], sym e ∙ sym (append-nil (log_at S c)))
+-- in its log there is the prefix of what its leader has, and it is as it entered where nobody leads
+pub led-prefix : (S : LogState) → Holds S → (c : ℕ) (v : Membership) → MemberOk S c v → IsSlot S c → (g : Leadership) → S.logs.leadership (part S c) (term_of v) ≡ Some g
+    → Prefix (log_at S c) g.log
+led-prefix S H c v k slot g led = elim (leads-or-follows S.words.deployment v c (start_at S c) k.start_is) [
+  | inl authoritative ↦ let e = (subst (LeadsIn (S.sites c)) led (k.leading authoritative)).1 in ([], sym e ∙ sym (append-nil (log_at S c)))
   | inr f ↦ follower f.0 (subst (FollowsIn (S.sites c) (line (start_at S c) (term_of v) (between S f.0 c))) led (k.following f.0 f.1))
 ]
   where
-    own : (e : Entered) × (S.logs.entered c (term_of v) ≡ Some e) × (e.start ≡ start_at S c) × Front e.log g.begun
-    own = reign-entered S H (part S c) (term_of v) g led v (record { decided = k.decided; term_is = refl }) c (start_at S c) slot refl k.start_is
+    own : (e : Entered) × (S.logs.entered c (term_of v) ≡ Some e) × (e.start ≡ start_at S c) × Prefix e.log g.begun
+    own = leadership-entered S H (part S c) (term_of v) g led v (record { decided = k.decided; term_is = refl }) c (start_at S c) slot refl k.start_is
 
-    follower : (l : ℕ) → FollowsIn (S.sites c) (line (start_at S c) (term_of v) (between S l c)) (Some g) → Front (log_at S c) g.log
+    follower : (l : ℕ) → FollowsIn (S.sites c) (line (start_at S c) (term_of v) (between S l c)) (Some g) → Prefix (log_at S c) g.log
     follower l (inl (es, _, _, e, _)) = (es, sym e)
     follower l (inr (es, rep, _, e)) =
         let log = (k.still rep).0 ∙ ap (λ x. x.log) (same-some (sym k.is_entered ∙ own.1)) in
-        rw log (front-trans own.0.log g.begun g.log own.3 (es, sym e))
+        rw log (prefix-trans own.0.log g.begun g.log own.3 (es, sym e))
 
-pub unled-repaired : (S : LogState) (c : ℕ) (v : Membership) → MemberOk S c v → S.logs.reign (part S c) (term_of v) ≡ None → (S.sites c).repaired ≡ false
+pub unled-repaired : (S : LogState) (c : ℕ) (v : Membership) → MemberOk S c v → S.logs.leadership (part S c) (term_of v) ≡ None → (S.sites c).repaired ≡ false
 unled-repaired S c v k none = elim (leads-or-follows S.words.deployment v c (start_at S c) k.start_is) [
-  | inl lead ↦ subst (LeadsIn (S.sites c)) none (k.leading lead)
+  | inl authoritative ↦ subst (LeadsIn (S.sites c)) none (k.leading authoritative)
   | inr f ↦ (subst (FollowsIn (S.sites c) (line (start_at S c) (term_of v) (between S f.0 c))) none (k.following f.0 f.1)).0
 ]
 
@@ -104,8 +104,8 @@ pub record Loaded (S : LogState) (i : ℕ) (v : Membership) : Type 0 where
   pub ok : JoinerOk S i joining
   pub in_word : InWord S i v joining
   pub loaded : joining.is_loaded ≡ true
-  pub nj : ℕ
-  pub took : Took S i v joining nj
+  pub stream_start : ℕ
+  pub took : Took S i v joining stream_start
 
 -- what a site enters a term with
 abbrev pub entering : SiteState → Entered
@@ -149,7 +149,7 @@ module _ (S : LogState) (H : Holds S) (i : ℕ) (v w : Membership) (up : 0 < sta
 
           streamed : (o : Option Streamed) → j.stream ≡ o → StreamIn S i v j o → Loaded S i v
           streamed None e k = absurd (not-both j.is_loaded loaded k.loads)
-          streamed (Some st) e k = record { joining = j; joins = joins; ok = ok; in_word = in_word; loaded = loaded; nj = st.nj; took = k }
+          streamed (Some st) e k = record { joining = j; joins = joins; ok = ok; in_word = in_word; loaded = loaded; stream_start = st.stream_start; took = k }
 
       go : (o : Option Joining) → (S.sites i).joining ≡ o → MemberOk S i v ⊎ Loaded S i v
       go None e = let m = (H.sites i).member up e in inl (subst (MemberOk S i) (same-some (sym m.1 ∙ view)) m.2)
@@ -189,12 +189,12 @@ module _ (S : LogState) (H : Holds S) (i : ℕ) (v w : Membership) (up : 0 < sta
         | inr other ↦ let low = k.been.others up other in let b = earlier-below in absurd (omega (arith, low, b, above))
       ]
 
-  pub not-led : S.logs.reign (part S i) (term_of w) ≡ None
-  not-led = go (S.logs.reign (part S i) (term_of w)) refl
+  pub not-led : S.logs.leadership (part S i) (term_of w) ≡ None
+  not-led = go (S.logs.leadership (part S i) (term_of w)) refl
     where
-      go : (o : Option Reign) → S.logs.reign (part S i) (term_of w) ≡ o → S.logs.reign (part S i) (term_of w) ≡ None
+      go : (o : Option Leadership) → S.logs.leadership (part S i) (term_of w) ≡ o → S.logs.leadership (part S i) (term_of w) ≡ None
       go None e = e
-      go (Some g) e = absurd (none-and-some not-entered (reign-entered S H (part S i) (term_of w) g e w word i (start_at S i) slot refl member).1)
+      go (Some g) e = absurd (none-and-some not-entered (leadership-entered S H (part S i) (term_of w) g e w word i (start_at S i) slot refl member).1)
 
   -- It was in the last term that was led, and no later one.
   pub was-last : (u : ℕ) → Last S.logs (part S i) u (term_of w) → WasIn S i u (start_at S i)
@@ -204,14 +204,14 @@ module _ (S : LogState) (H : Holds S) (i : ℕ) (v w : Membership) (up : 0 < sta
   last-low u l = let b = (running-in S H i u (start_at S i) (was-last u l) refl).1 in omega (arith, b, here)
 
   -- as a member, in a term that nobody led
-  unled-here : (k : MemberOk S i v) → S.logs.reign (part S i) (term_of v) ≡ None → (log_at S i ≡ k.entered.log) × (known (entering (S.sites i)) ≡ known k.entered)
+  unled-here : (k : MemberOk S i v) → S.logs.leadership (part S i) (term_of v) ≡ None → (log_at S i ≡ k.entered.log) × (known (entering (S.sites i)) ≡ known k.entered)
   unled-here k none = let s = k.still (unled-repaired S i v k none) in (s.0, λ n. max (s.1 n) (s.2 n))
 
-  -- Its log stands at the front of that of the last leader before, and what it took to be everywhere was so in that leader's term.
-  pub behind : (u : ℕ) (l : Last S.logs (part S i) u (term_of w)) → Front (log_at S i) l.reign.log × (known (entering (S.sites i)) ≤ S.logs.reach (part S i) u)
+  -- Its log is a prefix of that of the last leader before, and what it took to be everywhere was so in that leader's term.
+  pub behind : (u : ℕ) (l : Last S.logs (part S i) u (term_of w)) → Prefix (log_at S i) l.leadership.log × (known (entering (S.sites i)) ≤ S.logs.reach (part S i) u)
   behind u l = elim was-member [
     | inl k ↦ elim (cases_eq u (term_of v)) [
-      | inl e ↦ (led-front S H i v k slot l.reign (rw (← e) l.led), (let a = k.floor in let b = k.firm in rw e (omega (arith, a, b))))
+      | inl e ↦ (led-prefix S H i v k slot l.leadership (rw (← e) l.led), (let a = k.floor in let b = k.firm in rw e (omega (arith, a, b))))
       | inr n ↦ lower k n
     ]
     | inr k ↦ joined k
@@ -220,20 +220,20 @@ module _ (S : LogState) (H : Holds S) (i : ℕ) (v w : Membership) (up : 0 < sta
       low : u ≤ term_of v
       low = last-low u l
 
-      lower : (k : MemberOk S i v) → (u ≡ term_of v → ⊥) → Front (log_at S i) l.reign.log × (known (entering (S.sites i)) ≤ S.logs.reach (part S i) u)
-      lower k n = let same = unled-here k (none (S.logs.reign (part S i) (term_of v)) refl) in
+      lower : (k : MemberOk S i v) → (u ≡ term_of v → ⊥) → Prefix (log_at S i) l.leadership.log × (known (entering (S.sites i)) ≤ S.logs.reach (part S i) u)
+      lower k n = let same = unled-here k (none (S.logs.leadership (part S i) (term_of v)) refl) in
           rw (same.0, same.1) ((H.entered i (term_of v) k.entered k.is_entered).behind u
-          (record { reign = l.reign; led = l.led; below = omega (arith, low, n); greatest = λ x g is b. l.greatest x g is (omega (arith, b, above)) }))
+          (record { leadership = l.leadership; led = l.led; below = omega (arith, low, n); greatest = λ x g is b. l.greatest x g is (omega (arith, b, above)) }))
         where
-          none : (o : Option Reign) → S.logs.reign (part S i) (term_of v) ≡ o → S.logs.reign (part S i) (term_of v) ≡ None
+          none : (o : Option Leadership) → S.logs.leadership (part S i) (term_of v) ≡ o → S.logs.leadership (part S i) (term_of v) ≡ None
           none None e = e
           none (Some g) e = let b = l.greatest (term_of v) g e above in absurd (n (omega (arith, low, b)))
 
-      joined : (k : Loaded S i v) → Front (log_at S i) l.reign.log × (known (entering (S.sites i)) ≤ S.logs.reach (part S i) u)
+      joined : (k : Loaded S i v) → Prefix (log_at S i) l.leadership.log × (known (entering (S.sites i)) ≤ S.logs.reach (part S i) u)
       joined k =
-          let b = l.greatest (term_of v) k.took.reign k.took.led above in
+          let b = l.greatest (term_of v) k.took.leadership k.took.led above in
           let e : u ≡ term_of v = omega (arith, low, b) in
-          let g = same-some (sym l.led ∙ ap (S.logs.reign (part S i)) e ∙ k.took.led) in
+          let g = same-some (sym l.led ∙ ap (S.logs.leadership (part S i)) e ∙ k.took.led) in
           let r = k.took.ends (inl k.loaded) in (
             (k.joining.tasks ++ k.took.more, ap (λ z. z.log) g ∙ sym k.took.whole ∙ append_assoc (log_at S i) k.joining.tasks k.took.more),
             (let f = k.took.floor in let z = k.ok.firm in rw e (omega (arith, r, f, z))),
@@ -245,7 +245,7 @@ module _ (S : LogState) (H : Holds S) (i : ℕ) (v w : Membership) (up : 0 < sta
   still u f below is start unled = elim was-member [
     | inl k ↦
         let low = ((H.entered i u f is).running (sym start)).1 in
-        let same = unled-here k (none k (S.logs.reign (part S i) (term_of v)) refl) in
+        let same = unled-here k (none k (S.logs.leadership (part S i) (term_of v)) refl) in
         elim (cases_eq u (term_of v)) [
           | inl e ↦ let g = same-some (sym k.is_entered ∙ ap (S.logs.entered i) (sym e) ∙ is) in (same.0 ∙ ap (λ z. z.log) g, same.1 ∙ ap known g)
           | inr n ↦
@@ -256,7 +256,7 @@ module _ (S : LogState) (H : Holds S) (i : ℕ) (v w : Membership) (up : 0 < sta
     | inr k ↦ absurd (k.ok.unentered u f is start)
   ]
     where
-      none : MemberOk S i v → (o : Option Reign) → S.logs.reign (part S i) (term_of v) ≡ o → S.logs.reign (part S i) (term_of v) ≡ None
+      none : MemberOk S i v → (o : Option Leadership) → S.logs.leadership (part S i) (term_of v) ≡ o → S.logs.leadership (part S i) (term_of v) ≡ None
       none k None e = e
       none k (Some g) e = let low = ((H.entered i u f is).running (sym start)).1 in absurd (unled (term_of v) g e (omega (arith, low, here)) above)
 
@@ -281,7 +281,7 @@ module _ (S : LogState) (H : Holds S) (i : ℕ) (v w : Membership) (up : 0 < sta
   ]
 
   -- and so is what was everywhere in each earlier term that was led
-  pub since-within : (u : ℕ) (g : Reign) → S.logs.reign (part S i) u ≡ Some g → u < term_of w → S.logs.reach (part S i) u ≤ length (log_at S i)
+  pub since-within : (u : ℕ) (g : Leadership) → S.logs.leadership (part S i) u ≡ Some g → u < term_of w → S.logs.reach (part S i) u ≤ length (log_at S i)
   since-within = since-running S H i (term_of w) (start_at S i) w slot word member came refl
 
   -- in those of other copies that have entered the term too

@@ -14,10 +14,10 @@ use Rattle.cluster_model.specs.Site.{in_new_term}
 use Rattle.cluster_model.specs.World.{sent}
 use Rattle.word_laws.specs.Histories.{In}
 use Rattle.word_laws.proofs.Lists.{none-and-some, same-some, all-filter, set-here, set-there, set-both}
-use Rattle.log_laws.specs.Histories.{LogState, Logs, Holds, Entered, Streaming, IsSlot, Front, known, EnteredOk, UnledOk, MemberOk, SiteOk, LeadsIn, FollowsIn, SiteLetterOk, AskOk, HasBeen, HeldOk, ForeignOk, part, start_at, log_at, term_at, between, line, line_of, flow_of, end_of, asks_of_term, asked}
+use Rattle.log_laws.specs.Histories.{LogState, Logs, Holds, Entered, Streaming, IsSlot, Prefix, known, EnteredOk, UnledOk, MemberOk, SiteOk, LeadsIn, FollowsIn, SiteLetterOk, AskOk, HasBeen, HeldOk, ForeignOk, part, start_at, log_at, term_at, between, line, line_of, flow_of, end_of, asks_of_term, asked}
 use Rattle.log_laws.proofs.Kept.Moves.{after, popped, Later, Stays, EntersNow, Turns, NoStreamStart}
 use Rattle.log_laws.proofs.Kept.Grown.{grown-reach, enters-later}
-use Rattle.log_laws.proofs.Kept.Laters.{been-later, stays, entered-later, same-reigns, reigns-later}
+use Rattle.log_laws.proofs.Kept.Laters.{been-later, stays, entered-later, same-leaderships, leaderships-later}
 use Rattle.log_laws.proofs.Plain.Lines.{line-none, line-same, line-plain, flow-none, flow-plain, ends-none, ends-plain, if-none}
 use Rattle.log_laws.proofs.Kept.Asked.{AtMost}
 use Rattle.log_laws.proofs.Plain.Copies.{leader-copy, start-in-view}
@@ -27,7 +27,7 @@ use Rattle.log_laws.proofs.Kept.Keeps.{still-same, member-keeps}
 use Rattle.log_laws.proofs.NewTerms.Entering.{since-within, running-ran, entering, was-member, came, earlier-below, not-entered, not-streamed, not-led, behind, still, known-within, reach-within, others-within}
 use Rattle.log_laws.proofs.Kept.Turned.{put_at, put-both, put-here, put-there, turned, turned-later, Turned, turned-holds, fresh-keeps, said-same}
 use Rattle.log_laws.proofs.NewTerms.Taking.{no-line, later-word, popped-other, mine-taken, theirs-taken, tells-taken, foreign-taken, views-taken}
-use Rattle.log_laws.proofs.Plain.Fronts.{front-refl}
+use Rattle.log_laws.proofs.Plain.Prefixes.{prefix-refl}
 
 -- the site as it enters
 abbrev pub entered_site : SiteState → Membership → SiteState
@@ -75,7 +75,7 @@ module _ (S : LogState) (H : Holds S) (h i : ℕ) (l : Letter) (w : Membership) 
   rc = reached_by S i (term_of w)
 
   abbrev T : LogState
-  T = turned S i s ch en S.logs.reign rc
+  T = turned S i s ch en S.logs.leadership rc
 
   abbrev G : Logs
   G = record S.logs { entered = en; reach = rc }
@@ -110,7 +110,7 @@ module _ (S : LogState) (H : Holds S) (h i : ℕ) (l : Letter) (w : Membership) 
   fresh : S.logs.entered i (term_of w) ≡ None
   fresh = not-entered S H i v w up view decided member above
 
-  unled : S.logs.reign (part S i) (term_of w) ≡ None
+  unled : S.logs.leadership (part S i) (term_of w) ≡ None
   unled = not-led S H i v w up view decided member above
 
   entered-here : en i (term_of w) ≡ Some (entering (S.sites i))
@@ -120,7 +120,7 @@ module _ (S : LogState) (H : Holds S) (h i : ℕ) (l : Letter) (w : Membership) 
   reach-here = put-here S.logs.reach (part S i) (term_of w) (max (S.logs.reach (part S i) (term_of w)) (known (entering (S.sites i))))
 
   later : Later S T
-  later = turned-later S i s ch en S.logs.reign rc
+  later = turned-later S i s ch en S.logs.leadership rc
       (record {
         start = refl;
         earlier = refl;
@@ -164,7 +164,7 @@ module _ (S : LogState) (H : Holds S) (h i : ℕ) (l : Letter) (w : Membership) 
             subst (In a) (ap (asked S i c) q ∙ o.took.asks c sl) m
       ]
 
-  turns : Turned S i s ch en S.logs.reign rc new
+  turns : Turned S i s ch en S.logs.leadership rc new
   turns = record {
     later = later;
     mine = mine-taken S H h i l w ls is start up out;
@@ -183,13 +183,13 @@ module _ (S : LogState) (H : Holds S) (h i : ℕ) (l : Letter) (w : Membership) 
     led = λ p t g m. (
       refl,
       put-there S.logs.reach (part S i) (term_of w) (max (S.logs.reach (part S i) (term_of w)) (known (entering (S.sites i)))) p t
-          (λ e f. none-and-some unled (ap (λ z. S.logs.reign z (term_of w)) (sym e) ∙ ap (S.logs.reign p) (sym f) ∙ m)),
+          (λ e f. none-and-some unled (ap (λ z. S.logs.leadership z (term_of w)) (sym e) ∙ ap (S.logs.leadership p) (sym f) ∙ m)),
     );
-    counted = λ c a nj u g _ led k l lead. set-both (λ l z. leader D u (part S c) ≡ Some l → 0 < z.start → z.joining ≡ None → z.view ≡ Some u
-        → (j : Joiner) × In j z.joiners × (j.slot ≡ c) × (j.start ≡ a) × (j.nj ≡ nj)) S.sites i s
-        (λ lead _ _ e. absurd (none-and-some unled (ap (λ z. S.logs.reign z (term_of w)) (leader-copy D u (part S c) i lead).0
-        ∙ ap (λ z. S.logs.reign (part S c) (term_of z)) (same-some e) ∙ led)))
-        (λ l _. k l) l lead;
+    counted = λ c a stream_start u g _ led k l authoritative. set-both (λ l z. leader D u (part S c) ≡ Some l → 0 < z.start → z.joining ≡ None → z.view ≡ Some u
+        → (j : Joiner) × In j z.joiners × (j.slot ≡ c) × (j.start ≡ a) × (j.stream_start ≡ stream_start)) S.sites i s
+        (λ authoritative _ _ e. absurd (none-and-some unled (ap (λ z. S.logs.leadership z (term_of w)) (leader-copy D u (part S c) i authoritative).0
+        ∙ ap (λ z. S.logs.leadership (part S c) (term_of z)) (same-some e) ∙ led)))
+        (λ l _. k l) l authoritative;
     members = λ c u other _ _ _ k. member-keeps S T H later c (still-same (S.sites c) (T.sites c) (there c other)) u k (λ a. line-there a c (start_at S c) (term_of u)) refl;
     lines = λ c a u j other _ _ e. line-there a c (start_at S c) (term_of u) ∙ e;
   }
@@ -210,7 +210,7 @@ module _ (S : LogState) (H : Holds S) (h i : ℕ) (l : Letter) (w : Membership) 
     is_entered = entered-here;
     since = sym own-start;
     earlier = subst (λ z. z.earlier ≤ term_of w) (sym here) (let a = earlier-below S H i v w up view decided member above in let b = above in omega (arith, a, b));
-    grown = subst (λ z. Front (log_at S i) z.log) (sym here) (front-refl (log_at S i));
+    grown = subst (λ z. Prefix (log_at S i) z.log) (sym here) (prefix-refl (log_at S i));
     still = λ _. (ap (λ z. z.log) here, ap (λ z. z.floor) here, ap (λ z. z.firm) here);
     floor = subst (λ z. z.floor ≤ rc (part S i) (term_of w)) (sym here) (let e = reach-here in omega (arith, e));
     firm = subst (λ z. z.firm ≤ rc (part S i) (term_of w)) (sym here) (let e = reach-here in omega (arith, e));
@@ -221,13 +221,13 @@ module _ (S : LogState) (H : Holds S) (h i : ℕ) (l : Letter) (w : Membership) 
 
   own-site : SiteOk T i
   own-site = let k = H.sites i in record {
-    outside = λ e. own-start ∙ k.outside e;
+    environment = λ e. own-start ∙ k.environment e;
     ran = λ _. let r = k.ran up in (r.0, r.1 ∙ ap (λ z. z ∷ r.0) (sym own-start));
     term = subst (λ z. site_term z ≤ z.greatest) (sym here) (omega arith);
     earlier = subst (λ z. z.earlier ≤ z.greatest) (sym here) (let b = k.earlier in omega (arith, b));
     member = λ _ _. (w, ap (λ z. z.view) here, own-member);
     joiner = λ j e. absurd (none-and-some (ap (λ z. z.joining) here) e);
-    keeps = λ _. let o = k.keeps up in fresh-keeps S H i s ch en S.logs.reign rc new turns up refl refl refl refl refl o.on_disk
+    keeps = λ _. let o = k.keeps up in fresh-keeps S H i s ch en S.logs.leadership rc new turns up refl refl refl refl refl o.on_disk
         (all-filter HeldOk _ (S.sites i).held o.held) o;
     stopped = λ e. let z = sym own-start ∙ e in absurd (omega (arith, up, z));
     blank = λ e. let z = sym own-start ∙ e in absurd (omega (arith, up, z));
@@ -259,7 +259,7 @@ module _ (S : LogState) (H : Holds S) (h i : ℕ) (l : Letter) (w : Membership) 
     came = came S H i v w up view decided member above;
     reach = let e = reach-here in omega (arith, e);
     behind = λ u l.
-        let b = behind S H i v w up view decided member above u (record { reign = l.reign; led = l.led; below = l.below; greatest = l.greatest }) in
+        let b = behind S H i v w up view decided member above u (record { leadership = l.leadership; led = l.led; below = l.below; greatest = l.greatest }) in
         (b.0, (let a = later.reach (part S i) u in let n = b.1 in omega (arith, a, n)));
     still = λ u f below then same none. still S H i v w up view decided member above u f below
         (sym (entered-there i u (λ _ e. let a = below in absurd (omega (arith, a, e)))) ∙ then) same none;
@@ -305,7 +305,7 @@ module _ (S : LogState) (H : Holds S) (h i : ℕ) (l : Letter) (w : Membership) 
   entered : (c u : ℕ) (e : Entered) → en c u ≡ Some e → EnteredOk T c u e
   entered = put-both (λ c u x. (e : Entered) → x ≡ Some e → EnteredOk T c u e) S.logs.entered i (term_of w) (Some (entering (S.sites i)))
       (λ e m. subst (EnteredOk T i (term_of w)) (same-some m) own-entered)
-      (λ c u n e m. entered-later S T H later c u e (H.entered c u e m) (same-reigns S.logs T.logs refl) (reach-kept c u e n m)
+      (λ c u n e m. entered-later S T H later c u e (H.entered c u e m) (same-leaderships S.logs T.logs refl) (reach-kept c u e n m)
       (λ x g led below. let r = (H.entered c u e m).since x g led below in let q = (turns.led (part S c) x g led).1 in omega (arith, r, q)))
 
   apart : (c u : ℕ) (x : Streaming) → S.logs.streamed c u ≡ Some x → en c u ≡ None
@@ -314,8 +314,8 @@ module _ (S : LogState) (H : Holds S) (h i : ℕ) (l : Letter) (w : Membership) 
       (λ c u _ x m. (H.streamed c u x m).apart)
 
   -- where nobody leads, what is everywhere is so by one that entered
-  unleds : (q x : ℕ) → S.logs.reign q x ≡ None → UnledOk T q x
-  unleds = put-both (λ q x r. S.logs.reign q x ≡ None → (r ≡ 0) ⊎ ((c : ℕ) × (e : Entered) × (part S c ≡ q) × (en c x ≡ Some e) × (r ≡ known e)))
+  unleds : (q x : ℕ) → S.logs.leadership q x ≡ None → UnledOk T q x
+  unleds = put-both (λ q x r. S.logs.leadership q x ≡ None → (r ≡ 0) ⊎ ((c : ℕ) × (e : Entered) × (part S c ≡ q) × (en c x ≡ Some e) × (r ≡ known e)))
       S.logs.reach (part S i) (term_of w) (max (S.logs.reach (part S i) (term_of w)) (known (entering (S.sites i))))
       (λ m. elim (H.unled (part S i) (term_of w) m) [
         | inl z ↦ inr (i, entering (S.sites i), refl, entered-here, omega (arith, z))
@@ -331,7 +331,7 @@ module _ (S : LogState) (H : Holds S) (h i : ℕ) (l : Letter) (w : Membership) 
 
   -- its report is one that may be under way
   report-ok : (c : ℕ) → leader D w (part S i) ≡ Some c → (c ≡ i → ⊥) → SiteLetterOk T i c (report_letter D (S.sites i) w c)
-  report-ok c lead other = let k = leader-copy D w (part S i) c lead in (
+  report-ok c authoritative other = let k = leader-copy D w (part S i) c authoritative in (
     (subst (λ z. 0 < z) (sym (start-in-view D i s w refl c k.1.0 k.1.1)) (some-start S H w c k.1.0 decided k.1.1), some-term S H w decided),
     record {
       entered = entering (S.sites i);
@@ -342,21 +342,21 @@ module _ (S : LogState) (H : Holds S) (h i : ℕ) (l : Letter) (w : Membership) 
       part_is = sym k.0;
       word = w;
       is_word = record { decided = decided; term_is = refl };
-      follower = λ e. other (same-some (sym lead ∙ ap (leader D w) (sym k.0) ∙ e));
+      follower = λ e. other (same-some (sym authoritative ∙ ap (leader D w) (sym k.0) ∙ e));
     },
   )
 
   -- what holds, holds once it has entered
   pub enters-holds : Holds (after (popped S (Agent h) i) i s out G)
-  enters-holds = turned-holds S H i s ch en S.logs.reign rc new turns
+  enters-holds = turned-holds S H i s ch en S.logs.leadership rc new turns
       (words-after (popped S (Agent h) i) i s out G (words-popped S i (Agent h) H.words))
       own-site
       (views-taken S H h i l w ls is start up out s G later refl refl refl)
       (λ c sl. says-all (SiteLetterOk T i c) c (report-ok c))
       entered
       apart
-      (reigns-later S T H later (same-reigns S.logs T.logs refl)
-      (λ p t g m. let e = (turns.led p t g m).1 in let b = (H.reigns p t g m).within in omega (arith, e, b)))
+      (leaderships-later S T H later (same-leaderships S.logs T.logs refl)
+      (λ p t g m. let e = (turns.led p t g m).1 in let b = (H.leaderships p t g m).within in omega (arith, e, b)))
       unleds
 
   pub enters-turns : Turns (popped S (Agent h) i) i (sending s out)

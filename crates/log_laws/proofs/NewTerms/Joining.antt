@@ -15,10 +15,10 @@ use Rattle.cluster_model.specs.World.{sent}
 use Rattle.word_laws.specs.Histories.{In}
 use Rattle.word_laws.proofs.Lists.{none-and-some, same-some, not-both, all-at, all-filter, in-cases, in-none, in-map-from, in-filter, only-one, set-here, set-there, set-both}
 use Rattle.word_laws.proofs.Steps.{same-true}
-use Rattle.log_laws.specs.Histories.{LogState, Holds, IsSlot, Quiet, Untaken, Wordless, InWord, StreamIn, JoinerOk, SiteOk, ViewIn, SiteLetterOk, WaitingFrom, WaitingOk, AskOk, HeldOk, CountedOk, ForeignOk, line_of, flow_of, end_of, part, start_at, term_at, between, line, flow, ends, ask_in, ask_of, asks_in, wait_of, asks_waiting, asks_kept, asks_of_term, asked, follows, log_at}
+use Rattle.log_laws.specs.Histories.{LogState, Holds, IsSlot, Inert, Untaken, Wordless, InWord, StreamIn, JoinerOk, SiteOk, ViewIn, SiteLetterOk, WaitingFrom, WaitingOk, AskOk, HeldOk, CountedOk, ForeignOk, line_of, flow_of, end_of, part, start_at, term_at, between, line, flow, ends, ask_in, ask_of, asks_in, wait_of, asks_waiting, asks_kept, asks_of_term, asked, follows, log_at}
 use Rattle.log_laws.proofs.Kept.Moves.{after, popped, Later, Turns, NoStreamStart}
 use Rattle.log_laws.proofs.Kept.Grown.{grown-same, enters-same}
-use Rattle.log_laws.proofs.Kept.Laters.{ask-later, stays, entered-later, same-reigns, reigns-later, unleds-later}
+use Rattle.log_laws.proofs.Kept.Laters.{ask-later, stays, entered-later, same-leaderships, leaderships-later, unleds-later}
 use Rattle.log_laws.proofs.Plain.Lines.{flat-in, line-none, line-same, line-plain, flow-none, flow-same, flow-plain, ends-none, ends-same, ends-plain, asks-append, asks-here, if-none}
 use Rattle.log_laws.proofs.Kept.Asked.{AtMost, at-most-both, at-most-same, at-most-none}
 use Rattle.log_laws.proofs.Plain.Copies.{follows-leader, leader-follows, leader-copy, start-in-view, leader-view}
@@ -151,7 +151,7 @@ module _ (S : LogState) (H : Holds S) (h i : ℕ) (l : Letter) (w : Membership) 
   ch = sent (popped S (Agent h) i).words.channel (Site i) out
 
   abbrev T : LogState
-  T = turned S i s ch S.logs.entered S.logs.reign S.logs.reach
+  T = turned S i s ch S.logs.entered S.logs.leadership S.logs.reach
 
   abbrev new : ℕ → List Letter
   new c = out (Site c)
@@ -201,7 +201,7 @@ module _ (S : LogState) (H : Holds S) (h i : ℕ) (l : Letter) (w : Membership) 
   none-asked c t sl low = in-none (asked S i c t) (λ x m. ask-none c t x (asked-ok S H i c t x sl m) low)
 
   later : Later S T
-  later = turned-later S i s ch S.logs.entered S.logs.reign S.logs.reach
+  later = turned-later S i s ch S.logs.entered S.logs.leadership S.logs.reach
       (record {
         start = refl;
         earlier = refl;
@@ -242,7 +242,7 @@ module _ (S : LogState) (H : Holds S) (h i : ℕ) (l : Letter) (w : Membership) 
   fewer : (c t : ℕ) → AtMost (asks_of_term c t (S.sites i)) (asks_of_term c t s)
   fewer c t = subst (AtMost (asks_of_term c t (S.sites i))) (sym (no-asks c t)) (record { shorter = omega arith; within = λ y m. absurd m })
 
-  turns : Turned S i s ch S.logs.entered S.logs.reign S.logs.reach new
+  turns : Turned S i s ch S.logs.entered S.logs.leadership S.logs.reach new
   turns = record {
     later = later;
     mine = mine-taken S H h i l w ls is start up out;
@@ -259,8 +259,8 @@ module _ (S : LogState) (H : Holds S) (h i : ℕ) (l : Letter) (w : Membership) 
     joins = λ c t a slot m. ask-later S T H later (part S c) i t a (λ u j. absurd (none-and-some none j.2));
     entered = λ c t other. refl;
     led = λ p t g m. (refl, refl);
-    counted = λ c a nj u g _ _ k l lead. set-both (λ l z. leader D u (part S c) ≡ Some l → 0 < z.start → z.joining ≡ None → z.view ≡ Some u
-        → (j : Joiner) × In j z.joiners × (j.slot ≡ c) × (j.start ≡ a) × (j.nj ≡ nj)) S.sites i s (λ _ _ e _. absurd (none-and-some e joined.1)) (λ l _. k l) l lead;
+    counted = λ c a stream_start u g _ _ k l authoritative. set-both (λ l z. leader D u (part S c) ≡ Some l → 0 < z.start → z.joining ≡ None → z.view ≡ Some u
+        → (j : Joiner) × In j z.joiners × (j.slot ≡ c) × (j.start ≡ a) × (j.stream_start ≡ stream_start)) S.sites i s (λ _ _ e _. absurd (none-and-some e joined.1)) (λ l _. k l) l authoritative;
     members = λ c u other _ _ _ k. member-keeps S T H later c (still-same (S.sites c) (T.sites c) (there c other)) u k (λ a. line-there a c (start_at S c) (term_of u)) refl;
     lines = λ c a u j other _ _ e. line-there a c (start_at S c) (term_of u) ∙ e;
   }
@@ -291,7 +291,7 @@ module _ (S : LogState) (H : Holds S) (h i : ℕ) (l : Letter) (w : Membership) 
 
   -- the leader was asked once
   asked-once : (c : ℕ) → leader D w (part S i) ≡ Some c → (c ≡ i → ⊥) → IsSlot S c → (S.sites i).earlier < term_of w → asked T i c (term_of w) ≡ start_at S i ∷ []
-  asked-once c lead other sl low =
+  asked-once c authoritative other sl low =
       ap (λ z. asks_in t (ch (Site i) (Site c)) ++ asks_waiting i t z.waiting ++ asks_waiting i t (S.pending c) ++ asks_of_term i t z) (there c other)
       ∙ ap (λ z. asks_in t z ++ asks_waiting i t (S.sites c).waiting ++ asks_waiting i t (S.pending c) ++ asks_of_term i t (S.sites c)) channel
       ∙ ap (λ z. z ++ asks_waiting i t (S.sites c).waiting ++ asks_waiting i t (S.pending c) ++ asks_of_term i t (S.sites c))
@@ -304,7 +304,7 @@ module _ (S : LogState) (H : Holds S) (h i : ℕ) (l : Letter) (w : Membership) 
       channel : ch (Site i) (Site c) ≡ between S i c ++ ask_letter i D s c ∷ []
       channel = mine-taken S H h i l w ls is start up out c ∙ ap (λ z. between S i c ++ z) (elim (asks-cases i D s (leader D w (part S i)) c) [
         | inl k ↦ k.2
-        | inr k ↦ absurd (other (k.0 lead))
+        | inr k ↦ absurd (other (k.0 authoritative))
       ])
 
       empties : (as_ bs cs ds : List ℕ) → as_ ++ bs ++ cs ++ ds ≡ [] → (as_ ++ (start_at S i ∷ [])) ++ bs ++ cs ++ ds ≡ start_at S i ∷ []
@@ -342,12 +342,12 @@ module _ (S : LogState) (H : Holds S) (h i : ℕ) (l : Letter) (w : Membership) 
             absurd (omega (arith, some, t, low, z, b))
       ]
 
-  quiet : (c : ℕ) → follows D w i c ≡ true → (S.sites i).earlier < term_of w → Quiet T i w c
-  quiet c f low = let lead = follows-leader D w i c f in record {
+  inert : (c : ℕ) → follows D w i c ≡ true → (S.sites i).earlier < term_of w → Inert T i w c
+  inert c f low = let authoritative = follows-leader D w i c f in record {
     flow_is = subst (λ z. flow z (term_of w) (ch (Site c) (Site i)) ≡ []) (sym own-start) (flow-there c i (start_at S i) (term_of w) ∙ no-flow S H i (term_of w) slot above c);
     ends_are = subst (λ z. ends z (term_of w) (ch (Site c) (Site i)) ≡ []) (sym own-start) (ends-there c i (start_at S i) (term_of w) ∙ no-end S H i (term_of w) slot above c);
-    uncounted = λ j m q r. uncounted c j (subst (λ z. In j z.joiners) (there c lead.1) m) q (r ∙ own-start);
-    asks = λ sl. inr (asked-once c lead.0 lead.1 sl low ∙ ap (λ z. z ∷ []) (sym own-start));
+    uncounted = λ j m q r. uncounted c j (subst (λ z. In j z.joiners) (there c authoritative.1) m) q (r ∙ own-start);
+    asks = λ sl. inr (asked-once c authoritative.0 authoritative.1 sl low ∙ ap (λ z. z ∷ []) (sym own-start));
   }
 
   untaken : Untaken T i w joined.0
@@ -358,7 +358,7 @@ module _ (S : LogState) (H : Holds S) (h i : ℕ) (l : Letter) (w : Membership) 
     empty = ap (λ z. z.log) here ∙ k.empty;
     floor = ap (λ z. z.floor) here ∙ k.floor;
     never = λ t x m q. k.never t x m (q ∙ own-start);
-    comes = λ c f low. inl (quiet c f (subst (λ z. z < term_of w) own-earlier low));
+    comes = λ c f low. inl (inert c f (subst (λ z. z < term_of w) own-earlier low));
   }
 
   in_word : InWord T i w joined.0
@@ -385,13 +385,13 @@ module _ (S : LogState) (H : Holds S) (h i : ℕ) (l : Letter) (w : Membership) 
 
   own-site : SiteOk T i
   own-site = let k = H.sites i in record {
-    outside = λ e. own-start ∙ k.outside e;
+    environment = λ e. own-start ∙ k.environment e;
     ran = λ _. let r = k.ran up in (r.0, r.1 ∙ ap (λ z. z ∷ r.0) (sym own-start));
     term = subst (λ z. site_term z ≤ z.greatest) (sym here) (omega arith);
     earlier = subst (λ z. z.earlier ≤ z.greatest) (sym here) (let b = k.earlier in omega (arith, b));
     member = λ _ e. absurd (none-and-some (sym (ap (λ z. z.joining) here) ∙ e) joined.1);
     joiner = λ j e. subst (JoinerOk T i) (same-some (sym joined.1 ∙ sym (ap (λ z. z.joining) here) ∙ e)) own-joiner;
-    keeps = λ _. let o = k.keeps up in fresh-keeps S H i s ch S.logs.entered S.logs.reign S.logs.reach new turns up refl refl refl refl refl o.on_disk
+    keeps = λ _. let o = k.keeps up in fresh-keeps S H i s ch S.logs.entered S.logs.leadership S.logs.reach new turns up refl refl refl refl refl o.on_disk
         (all-filter HeldOk _ (S.sites i).held o.held) o;
     stopped = λ e. let z = sym own-start ∙ e in absurd (omega (arith, up, z));
     blank = λ e. let z = sym own-start ∙ e in absurd (omega (arith, up, z));
@@ -399,7 +399,7 @@ module _ (S : LogState) (H : Holds S) (h i : ℕ) (l : Letter) (w : Membership) 
 
   -- its ask is one that may be under way
   asks-ok : (c : ℕ) → leader D w (part S i) ≡ Some c → SiteLetterOk T i c (ask_letter i D s c)
-  asks-ok c lead = let k = leader-copy D w (part S i) c lead in (
+  asks-ok c authoritative = let k = leader-copy D w (part S i) c authoritative in (
     (subst (λ z. 0 < z) (sym (start-in-view D i s w refl c k.1.0 k.1.1)) (some-start S H w c k.1.0 decided k.1.1), some-term S H w decided),
     refl,
     record {
@@ -416,17 +416,17 @@ module _ (S : LogState) (H : Holds S) (h i : ℕ) (l : Letter) (w : Membership) 
 
   -- what holds, holds once it has asked
   pub joins-holds : Holds (after (popped S (Agent h) i) i s out S.logs)
-  joins-holds = turned-holds S H i s ch S.logs.entered S.logs.reign S.logs.reach new turns
+  joins-holds = turned-holds S H i s ch S.logs.entered S.logs.leadership S.logs.reach new turns
       (words-after (popped S (Agent h) i) i s out S.logs (words-popped S i (Agent h) H.words))
       own-site
       (views-taken S H h i l w ls is start up out s S.logs later refl refl refl)
-      (λ c sl. asks-all i D s (SiteLetterOk T i c) (leader D w (part S i)) c (λ lead _. asks-ok c lead))
-      (λ c t e m. entered-later S T H later c t e (H.entered c t e m) (same-reigns S.logs T.logs refl) (λ runs.
+      (λ c sl. asks-all i D s (SiteLetterOk T i c) (leader D w (part S i)) c (λ authoritative _. asks-ok c authoritative))
+      (λ c t e m. entered-later S T H later c t e (H.entered c t e m) (same-leaderships S.logs T.logs refl) (λ runs.
       let k = H.entered c t e m in let y = stays S T H later c e.start k.been.some k.been.ran runs in
       let r = (k.running (sym y.start ∙ runs)).2 in let b = y.log in omega (arith, r, b)) (H.entered c t e m).since)
       (λ c t x m. (H.streamed c t x m).apart)
-      (reigns-later S T H later (same-reigns S.logs T.logs refl) (λ p t g is. (H.reigns p t g is).within))
-      (λ p t m. unleds-later S T H later (same-reigns S.logs T.logs refl) p t refl m)
+      (leaderships-later S T H later (same-leaderships S.logs T.logs refl) (λ p t g is. (H.leaderships p t g is).within))
+      (λ p t m. unleds-later S T H later (same-leaderships S.logs T.logs refl) p t refl m)
 
   -- the turn itself
   pub joins-turns : Turns (popped S (Agent h) i) i (sending s out)

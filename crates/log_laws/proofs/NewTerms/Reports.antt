@@ -19,8 +19,8 @@ use Rattle.log_laws.specs.Histories.{LogState, Holds, IsSlot, ReportOk, AckOk, C
 use Rattle.log_laws.proofs.Kept.Terms.{running-slot}
 use Rattle.log_laws.proofs.Kept.Moves.{Grown, after, Later, JoinsOn, Goes, NoStreamStart}
 use Rattle.log_laws.proofs.Kept.Grown.{grown-same, enters-same}
-use Rattle.log_laws.proofs.Kept.Laters.{ack-later, counted-later, report-later, ask-later, stays, entered-later, same-reigns, reigns-later, unleds-later}
-use Rattle.log_laws.proofs.Plain.Fronts.{front-append, front-length}
+use Rattle.log_laws.proofs.Kept.Laters.{ack-later, counted-later, report-later, ask-later, stays, entered-later, same-leaderships, leaderships-later, unleds-later}
+use Rattle.log_laws.proofs.Plain.Prefixes.{prefix-append, prefix-length}
 use Rattle.log_laws.proofs.Plain.Lines.{repair-all}
 use Rattle.log_laws.proofs.Plain.Appends.{Appended, appends-all}
 use Rattle.log_laws.proofs.Plain.Copies.{leader-view, leader-same, is-leader}
@@ -30,7 +30,7 @@ use Rattle.log_laws.proofs.Kept.Keeps.{Still, still-same, member-keeps, site-kee
 use Rattle.log_laws.proofs.Kept.KeepsViews.{views-keeps-with, leaves-same}
 use Rattle.log_laws.proofs.Entries.Calls.{works-goes}
 use Rattle.log_laws.proofs.Kept.Turned.{turned, turned-later, Turned, turned-holds, waiting-turned, pending-turned}
-use Rattle.log_laws.proofs.NewTerms.Begun.{longest_site, begun_site, begun_reigns, repairs_of, begun-holds, begun-grown}
+use Rattle.log_laws.proofs.NewTerms.Begun.{longest_site, begun_site, begun_leaderships, repairs_of, begun-holds, begun-grown}
 
 -- ---- a leader with all reports
 
@@ -54,17 +54,17 @@ module _ (E : Database) (S : LogState) (i stamp : ℕ) (H : Holds S) (up : 0 < s
       → Goes S i (appends_all E S.words.deployment i (lacks (length (log_at S i)) (longest (length (log_at S i)) None (S.sites i).reports)) (S.sites i)
       ▸ begins S.words.deployment)
   begins-goes all = record {
-    logs = record S.logs { reign = begun_reigns S i (term_of has.1.0) };
+    logs = record S.logs { leadership = begun_leaderships S i (term_of has.1.0) };
     start = ap (λ z. z.start) state;
     view = ap (λ z. z.view) state;
     plain = λ c. subst (AllByRecursion NoStreamStart) (sym (sends c))
         (repair-all D (longest_site (S.sites i) app.scans app.scanning) c NoStreamStart (S.sites i).reports (λ r is q. tt));
-    holds = subst (λ z. Holds (after S i z out (record S.logs { reign = begun_reigns S i (term_of has.1.0) }))) (sym state)
-        (begun-holds S H i has.1.0 up has.0 has.1.1 leading unrepaired all app.scans app.scanning out sends (λ h. ap (λ z. z ++ []) (app.quiet (Agent h) refl)));
-    grown = subst (λ z. Grown D i z S.logs (record S.logs { reign = begun_reigns S i (term_of has.1.0) })) (sym state)
-        (begun-grown S H i has.1.0 up has.0 has.1.1 leading unrepaired all app.scans app.scanning out sends (λ h. ap (λ z. z ++ []) (app.quiet (Agent h) refl)));
-    enters = enters-same i (length (log_at S i)) S.logs (record S.logs { reign = begun_reigns S i (term_of has.1.0) }) refl;
-    longer = subst (λ z. length (log_at S i) ≤ length z.log) (sym state) (front-length (log_at S i) (log_at S i ++ es) (front-append (log_at S i) es));
+    holds = subst (λ z. Holds (after S i z out (record S.logs { leadership = begun_leaderships S i (term_of has.1.0) }))) (sym state)
+        (begun-holds S H i has.1.0 up has.0 has.1.1 leading unrepaired all app.scans app.scanning out sends (λ h. ap (λ z. z ++ []) (app.inert (Agent h) refl)));
+    grown = subst (λ z. Grown D i z S.logs (record S.logs { leadership = begun_leaderships S i (term_of has.1.0) })) (sym state)
+        (begun-grown S H i has.1.0 up has.0 has.1.1 leading unrepaired all app.scans app.scanning out sends (λ h. ap (λ z. z ++ []) (app.inert (Agent h) refl)));
+    enters = enters-same i (length (log_at S i)) S.logs (record S.logs { leadership = begun_leaderships S i (term_of has.1.0) }) refl;
+    longer = subst (λ z. length (log_at S i) ≤ length z.log) (sym state) (prefix-length (log_at S i) (log_at S i ++ es) (prefix-append (log_at S i) es));
   }
     where
       D : Deployment
@@ -83,7 +83,7 @@ module _ (E : Database) (S : LogState) (i stamp : ℕ) (H : Holds S) (up : 0 < s
       state = ap (λ z. (begins D z).state) app.state
 
       sends : (c : ℕ) → out (Site c) ≡ repairs_of S i app.scans app.scanning c
-      sends c = ap (λ z. z ++ (begins D (appends_all E D i es (S.sites i)).state).sends (Site c)) (app.quiet (Site c) refl)
+      sends c = ap (λ z. z ++ (begins D (appends_all E D i es (S.sites i)).state).sends (Site c)) (app.inert (Site c) refl)
           ∙ ap (λ z. (begins D z).sends (Site c)) app.state
 
   -- With all reports it begins its term, and works its queue.
@@ -112,29 +112,29 @@ module _ (S : LogState) (H : Holds S) (i : ℕ) (up : 0 < start_at S i) (rs : Li
   s = record (S.sites i) { reports = rs }
 
   abbrev T : LogState
-  T = turned S i s S.words.channel S.logs.entered S.logs.reign S.logs.reach
+  T = turned S i s S.words.channel S.logs.entered S.logs.leadership S.logs.reach
 
   here : T.sites i ≡ s
   here = set-here S.sites i s
 
   later : Later S T
-  later = turned-later S i s S.words.channel S.logs.entered S.logs.reign S.logs.reach
+  later = turned-later S i s S.words.channel S.logs.entered S.logs.leadership S.logs.reach
       (record { start = refl; earlier = refl; greatest = omega arith; log = omega arith; term = omega arith; member = λ e. e; loaded = λ k e. (k, e, λ l. l) })
       (λ c t e is. is) (λ c t e is. inl is) (λ p t. omega arith)
 
   on : (c : ℕ) → JoinsOn S T c
   on = set-both (λ c z. (u : Membership) → JoinsIn S c u → (j : Joining) × (z.joining ≡ Some j) × (z.view ≡ Some u)) S.sites i s (λ u j. j) (λ c _ u j. j)
 
-  counted : (c a nj : ℕ) (u : Membership) → IsCounted S c a nj u → IsCounted T c a nj u
-  counted c a nj u k l lead = set-both (λ l z. leader S.words.deployment u (part S c) ≡ Some l → 0 < z.start → z.joining ≡ None → z.view ≡ Some u
-      → (j : Joiner) × In j z.joiners × (j.slot ≡ c) × (j.start ≡ a) × (j.nj ≡ nj)) S.sites i s (k i) (λ l _. k l) l lead
+  counted : (c a stream_start : ℕ) (u : Membership) → IsCounted S c a stream_start u → IsCounted T c a stream_start u
+  counted c a stream_start u k l authoritative = set-both (λ l z. leader S.words.deployment u (part S c) ≡ Some l → 0 < z.start → z.joining ≡ None → z.view ≡ Some u
+      → (j : Joiner) × In j z.joiners × (j.slot ≡ c) × (j.start ≡ a) × (j.stream_start ≡ stream_start)) S.sites i s (k i) (λ l _. k l) l authoritative
 
   asks : (c l t : ℕ) → AtMost (asked S c l t) (asked T c l t)
   asks c l t = set-both (λ l z. AtMost (asked S c l t)
       (asks_in t (between S c l) ++ asks_waiting c t z.waiting ++ asks_waiting c t (S.pending l) ++ asks_of_term c t z)) S.sites i s
       (at-most-same (asked S c i t)) (λ l _. at-most-same (asked S c l t)) l
 
-  turns : Turned S i s S.words.channel S.logs.entered S.logs.reign S.logs.reach (λ c. [])
+  turns : Turned S i s S.words.channel S.logs.entered S.logs.leadership S.logs.reach (λ c. [])
   turns = record {
     later = later;
     mine = λ c. sym (append-nil (between S i c));
@@ -151,7 +151,7 @@ module _ (S : LogState) (H : Holds S) (i : ℕ) (up : 0 < start_at S i) (rs : Li
     joins = λ c t a slot is. ask-later S T H later (part S c) i t a (on i);
     entered = λ c t other. refl;
     led = λ p t g is. (refl, refl);
-    counted = λ c a nj u g _ _ k. counted c a nj u k;
+    counted = λ c a stream_start u g _ _ k. counted c a stream_start u k;
     members = λ c u other _ _ _ k. member-keeps S T H later c (still-same (S.sites c) (T.sites c) (set-there S.sites i s c other)) u k (λ l. refl) refl;
     lines = λ c l u j other _ _ e. e;
   }
@@ -183,14 +183,14 @@ module _ (S : LogState) (H : Holds S) (i : ℕ) (up : 0 < start_at S i) (rs : Li
     asks = rw here (all-mono (λ a. AskOk S (part S i) a.slot (term_at S i) a.start) (λ a. AskOk T (part S i) a.slot (term_at S i) a.start)
         (λ a. ask-later S T H later (part S i) a.slot (term_at S i) a.start (on a.slot)) (S.sites i).asks k.asks);
     waiting = subst (λ z. AllByRecursion (WaitingOk T i) z.waiting) (sym here)
-        (waiting-turned S H i s S.words.channel S.logs.entered S.logs.reign S.logs.reach (λ c. []) turns i (running-slot S H i up) still.start k);
-    pending = pending-turned S H i s S.words.channel S.logs.entered S.logs.reign S.logs.reach (λ c. []) turns i (running-slot S H i up) still.start k;
+        (waiting-turned S H i s S.words.channel S.logs.entered S.logs.leadership S.logs.reach (λ c. []) turns i (running-slot S H i up) still.start k);
+    pending = pending-turned S H i s S.words.channel S.logs.entered S.logs.leadership S.logs.reach (λ c. []) turns i (running-slot S H i up) still.start k;
     on_disk = subst (λ z. z.on_disk ≤ length z.log) (sym here) k.on_disk;
     held = rw here k.held;
   }
 
   own-site : SiteOk T i
-  own-site = site-keeps S T H later i still refl (record { entered = λ t e is start. is; streamed = λ t x is start. is }) (record { reign = refl; reach = refl })
+  own-site = site-keeps S T H later i still refl (record { entered = λ t e is start. is; streamed = λ t x is start. is }) (record { leadership = refl; reach = refl })
       (λ _ l. record {
         lines = refl;
         flows = refl;
@@ -198,24 +198,24 @@ module _ (S : LogState) (H : Holds S) (i : ℕ) (up : 0 < start_at S i) (rs : Li
         asks = asks i l (term_at S i);
         uncounted = λ none j is. none j (set-both (λ d z. In j z.joiners → In j (S.sites d).joiners) S.sites i s (λ y. y) (λ d _ y. y) l is);
       })
-      (λ nj u. counted i (start_at S i) nj u)
+      (λ stream_start u. counted i (start_at S i) stream_start u)
       (λ _. own-keeps)
       (λ z. let k = up in absurd (omega (arith, k, z)))
       (H.sites i)
 
   -- what holds, holds once it is noted
   pub noted-holds : Holds (after S i s no_sends S.logs)
-  noted-holds = subst (λ c. Holds (turned S i s c S.logs.entered S.logs.reign S.logs.reach)) (sym (sent-nothing S.words.channel (Site i)))
-      (turned-holds S H i s S.words.channel S.logs.entered S.logs.reign S.logs.reach (λ c. []) turns
+  noted-holds = subst (λ c. Holds (turned S i s c S.logs.entered S.logs.leadership S.logs.reach)) (sym (sent-nothing S.words.channel (Site i)))
+      (turned-holds S H i s S.words.channel S.logs.entered S.logs.leadership S.logs.reach (λ c. []) turns
       H.words own-site
       (views-keeps-with S T H later i still.start still.view refl refl (λ x is. is) (leaves-same (start_at S i) (from_agent S i) (from_agent S i) refl) (H.views i))
       (λ c slot. tt)
-      (λ c t e is. entered-later S T H later c t e (H.entered c t e is) (same-reigns S.logs T.logs refl) (λ runs.
+      (λ c t e is. entered-later S T H later c t e (H.entered c t e is) (same-leaderships S.logs T.logs refl) (λ runs.
       let k = H.entered c t e is in let y = stays S T H later c e.start k.been.some k.been.ran runs in
       let r = (k.running (sym y.start ∙ runs)).2 in let b = y.log in omega (arith, r, b)) (H.entered c t e is).since)
       (λ c t x is. (H.streamed c t x is).apart)
-      (reigns-later S T H later (same-reigns S.logs T.logs refl) (λ p t g is. (H.reigns p t g is).within))
-      (λ p t is. unleds-later S T H later (same-reigns S.logs T.logs refl) p t refl is))
+      (leaderships-later S T H later (same-leaderships S.logs T.logs refl) (λ p t g is. (H.leaderships p t g is).within))
+      (λ p t is. unleds-later S T H later (same-leaderships S.logs T.logs refl) p t refl is))
 
 -- A leader notes a report. Once it has all, it begins its term.
 pub on_report-goes : (E : Database) (S : LogState) → Holds S → (i stamp slot position floor : ℕ) (tail : List Entry) → 0 < start_at S i

@@ -123,10 +123,10 @@ module _ (S : LogState) (H : Holds S) (h i : ℕ) (l : Letter) (w : Membership) 
         if-false (i == a) ((popped S (Agent h) i).words.channel (Site a) (Site c) ++ out (Site c)) ((popped S (Agent h) i).words.channel (Site a) (Site c)) e ∙ popped-sites a c
 
     pub tells-taken : ((g : ℕ) → out (Agent g) ≡ []) → (c g : ℕ) → ch (Site c) (Agent g) ≡ S.words.channel (Site c) (Agent g)
-    tells-taken quiet c g = choice (i == c)
+    tells-taken inert c g = choice (i == c)
       where
         choice : (b : Bool) → (if b then S.words.channel (Site c) (Agent g) ++ out (Agent g) else S.words.channel (Site c) (Agent g)) ≡ S.words.channel (Site c) (Agent g)
-        choice true = rw (quiet g) (append-nil (S.words.channel (Site c) (Agent g)))
+        choice true = rw (inert g) (append-nil (S.words.channel (Site c) (Agent g)))
         choice false = refl
 
     pub foreign-taken : ((c : ℕ) → AllByRecursion (ForeignOk S c (Site i)) (out (Site c))) → (from : Actor) (c : ℕ) → AllByRecursion (ForeignOk S c from) (ch from (Site c))

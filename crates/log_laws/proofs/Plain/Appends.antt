@@ -27,7 +27,7 @@ pub record Appended (i : ℕ) (s : SiteState) (es : List Entry) (t : Turn SiteSt
   pub scans : ℕ
   pub scanning : Option Scanning
   pub state : t.state ≡ grown s es scans scanning
-  pub quiet : (b : Actor) → same (Scanner i) b ≡ false → t.sends b ≡ []
+  pub inert : (b : Actor) → same (Scanner i) b ≡ false → t.sends b ≡ []
 
 pub appends-one : (E : Database) (D : Deployment) (i : ℕ) (e : Entry) (s : SiteState) → Appended i s (e ∷ []) (appends E D i e s)
 appends-one E D i e s = choice (is_snapshot e && is_none s.scanning && not (is_joiner s))
@@ -36,15 +36,15 @@ appends-one E D i e s = choice (is_snapshot e && is_none s.scanning && not (is_j
     b = record s { log = s.log ++ e ∷ [] }
 
     choice : (c : Bool) → Appended i s (e ∷ []) (if c then begins_base E D i b else becomes b)
-    choice true = record { scans = _; scanning = _; state = refl; quiet = λ a q. rw q }
-    choice false = record { scans = _; scanning = _; state = refl; quiet = λ a q. refl }
+    choice true = record { scans = _; scanning = _; state = refl; inert = λ a q. rw q }
+    choice false = record { scans = _; scanning = _; state = refl; inert = λ a q. refl }
 
 pub appends-all : (E : Database) (D : Deployment) (i : ℕ) (es : List Entry) (s : SiteState) → Appended i s es (appends_all E D i es s)
 appends-all E D i [] s = record {
   scans = s.scans;
   scanning = s.scanning;
   state = ap (λ es. record s { log = es }) (sym (append-nil s.log));
-  quiet = λ b q. refl;
+  inert = λ b q. refl;
 }
 appends-all E D i (e ∷ es) s =
     let one = appends-one E D i e s in
@@ -55,7 +55,7 @@ appends-all E D i (e ∷ es) s =
       state = more.state
           ∙ ap (λ x. grown x es more.scans more.scanning) one.state
           ∙ ap (λ log. record s { log = log; scans = more.scans; scanning = more.scanning }) (append_assoc s.log (e ∷ []) es);
-      quiet = λ b q. rw (one.quiet b q, more.quiet b q);
+      inert = λ b q. rw (one.inert b q, more.inert b q);
     }
 
 -- ---- what a leader sends of an entry
@@ -82,8 +82,8 @@ leads-with E D i e s =
       scanning = one.scanning;
       state = one.state;
       passed = record {
-        sites = λ c. ap (λ f. f (Site c)) same ∙ ap (λ ls. ls ++ (passes_on D i e (grown s (e ∷ []) one.scans one.scanning)).sends (Site c)) (one.quiet (Site c) refl);
-        agents = λ h. ap (λ f. f (Agent h)) same ∙ ap (λ ls. ls ++ []) (one.quiet (Agent h) refl);
+        sites = λ c. ap (λ f. f (Site c)) same ∙ ap (λ ls. ls ++ (passes_on D i e (grown s (e ∷ []) one.scans one.scanning)).sends (Site c)) (one.inert (Site c) refl);
+        agents = λ h. ap (λ f. f (Agent h)) same ∙ ap (λ ls. ls ++ []) (one.inert (Agent h) refl);
       };
     }
 

@@ -62,7 +62,7 @@ module _ (D : Deployment) (i : ℕ) (s : SiteState) (n : ℕ) (firm : s.firm ≤
   -- They stay below what the site's own position is below, if that is known.
   pub reach_now-own : ((v : ℕ) → own_ack s ≡ Some v → v ≤ n) → reach_now D i s ≤ n
   reach_now-own f =
-      let p = at_least-below s.firm n (copy_acks D i s ++ map (λ j. Some (max j.nj j.position)) s.joiners) firm (own_ack s) (inl refl) f in
+      let p = at_least-below s.firm n (copy_acks D i s ++ map (λ j. Some (max j.stream_start j.position)) s.joiners) firm (own_ack s) (inl refl) f in
       let q = at_least-below s.floor n (copy_acks D i s ++ map (λ j. Some j.position) s.joiners) floor (own_ack s) (inl refl) f in
       omega (arith, p, q)
 
@@ -70,18 +70,18 @@ module _ (D : Deployment) (i : ℕ) (s : SiteState) (n : ℕ) (firm : s.firm ≤
   pub reach_now-copy : (c : ℕ) → In c (other_copies D i s) → ((v : ℕ) → acked_in s.acks c ≡ Some v → v ≤ n) → reach_now D i s ≤ n
   reach_now-copy c k f =
       let here : In (acked_in s.acks c) (copy_acks D i s) = inr (in-map (acked_in s.acks) c (other_copies D i s) k) in
-      let p = at_least-below s.firm n (copy_acks D i s ++ map (λ j. Some (max j.nj j.position)) s.joiners) firm (acked_in s.acks c)
-      (in-left (acked_in s.acks c) (copy_acks D i s) (map (λ j. Some (max j.nj j.position)) s.joiners) here) f in
+      let p = at_least-below s.firm n (copy_acks D i s ++ map (λ j. Some (max j.stream_start j.position)) s.joiners) firm (acked_in s.acks c)
+      (in-left (acked_in s.acks c) (copy_acks D i s) (map (λ j. Some (max j.stream_start j.position)) s.joiners) here) f in
       let q = at_least-below s.floor n (copy_acks D i s ++ map (λ j. Some j.position) s.joiners) floor (acked_in s.acks c)
       (in-left (acked_in s.acks c) (copy_acks D i s) (map (λ j. Some j.position) s.joiners) here) f in
       omega (arith, p, q)
 
   -- and of that of a joiner, or of where its stream began.
-  pub reach_now-joiner : (j : Joiner) → In j s.joiners → max j.nj j.position ≤ n → reach_now D i s ≤ n
+  pub reach_now-joiner : (j : Joiner) → In j s.joiners → max j.stream_start j.position ≤ n → reach_now D i s ≤ n
   reach_now-joiner j k b =
-      let p = at_least-below s.firm n (copy_acks D i s ++ map (λ j. Some (max j.nj j.position)) s.joiners) firm (Some (max j.nj j.position))
-      (in-right (Some (max j.nj j.position)) (copy_acks D i s) (map (λ j. Some (max j.nj j.position)) s.joiners) (in-map (λ j. Some (max j.nj j.position)) j s.joiners k))
-      (λ v e. let q : max j.nj j.position ≡ v = cc in omega (arith, q, b)) in
+      let p = at_least-below s.firm n (copy_acks D i s ++ map (λ j. Some (max j.stream_start j.position)) s.joiners) firm (Some (max j.stream_start j.position))
+      (in-right (Some (max j.stream_start j.position)) (copy_acks D i s) (map (λ j. Some (max j.stream_start j.position)) s.joiners) (in-map (λ j. Some (max j.stream_start j.position)) j s.joiners k))
+      (λ v e. let q : max j.stream_start j.position ≡ v = cc in omega (arith, q, b)) in
       let q = at_least-below s.floor n (copy_acks D i s ++ map (λ j. Some j.position) s.joiners) floor (Some j.position)
       (in-right (Some j.position) (copy_acks D i s) (map (λ j. Some j.position) s.joiners) (in-map (λ j. Some j.position) j s.joiners k))
       (λ v e. let q : j.position ≡ v = cc in omega (arith, q, b)) in
@@ -89,7 +89,7 @@ module _ (D : Deployment) (i : ℕ) (s : SiteState) (n : ℕ) (firm : s.firm ≤
 
 -- they never fall
 pub firm_now-above : (D : Deployment) (i : ℕ) (s : SiteState) → s.firm ≤ firm_now D i s
-firm_now-above D i s = at_least-above s.firm (least_of (copy_acks D i s ++ map (λ j. Some (max j.nj j.position)) s.joiners))
+firm_now-above D i s = at_least-above s.firm (least_of (copy_acks D i s ++ map (λ j. Some (max j.stream_start j.position)) s.joiners))
 
 pub floor_now-above : (D : Deployment) (i : ℕ) (s : SiteState) → s.floor ≤ floor_now D i s
 floor_now-above D i s = at_least-above s.floor (least_of (copy_acks D i s ++ map (λ j. Some j.position) s.joiners))

@@ -286,12 +286,12 @@ follows-same (e ∷ es) (f ∷ fs) k = let p = follows-first e f (map Follows es
 pub follows-append : (es fs : List Entry) → map Follows (es ++ fs) ≡ map Follows es ++ map Follows fs
 follows-append es fs = map-append Follows es fs
 
-pub begins-not-follows : (past : List Entry) (nj : ℕ) (e : Entry) (r q : List Flow) → Begins past nj ∷ r ≡ Follows e ∷ q → ⊥
-begins-not-follows past nj e r q k = cc
+pub begins-not-follows : (past : List Entry) (stream_start : ℕ) (e : Entry) (r q : List Flow) → Begins past stream_start ∷ r ≡ Follows e ∷ q → ⊥
+begins-not-follows past stream_start e r q k = cc
 
-pub follows-not-begins : (es past : List Entry) (nj : ℕ) (r : List Flow) → map Follows es ≡ Begins past nj ∷ r → ⊥
-follows-not-begins [] past nj r k = cc
-follows-not-begins (e ∷ es) past nj r k = cc
+pub follows-not-begins : (es past : List Entry) (stream_start : ℕ) (r : List Flow) → map Follows es ≡ Begins past stream_start ∷ r → ⊥
+follows-not-begins [] past stream_start r k = cc
+follows-not-begins (e ∷ es) past stream_start r k = cc
 
 pub begins-same : (xs ys : List Entry) (a b : ℕ) (r q : List Flow) → Begins xs a ∷ r ≡ Begins ys b ∷ q → (xs ≡ ys) × (a ≡ b) × (r ≡ q)
 begins-same xs ys a b r q k = (cc, cc, cc)

@@ -22,9 +22,9 @@ use Rattle.word_laws.specs.Histories as word
 use Rattle.word_laws.specs.Histories.{In}
 use Rattle.word_laws.proofs.Lists.{eqb-same, if-true, if-false, none-and-some, same-some, in-one, in-map-from, all-from}
 use Rattle.word_laws.proofs.Epochs.{epoch_state, new_history, new_owner, boot-holds, recovery-holds, start_of-first, first-there}
-use Rattle.log_laws.specs.Histories.{Entered, Streaming, Reign, Logs, LogState, IsSlot, HasBeen, AckOk, EnteredOk, ReignOk, LeadsIn, FollowsIn, MemberOk, KeepsOk, SiteOk, ViewsOk, LoadsOk, ForeignOk, Holds, part, start_at, log_at, term_at, from_agent, between, line, views, sent_term}
+use Rattle.log_laws.specs.Histories.{Entered, Streaming, Leadership, Logs, LogState, IsSlot, HasBeen, AckOk, EnteredOk, LeadershipOk, LeadsIn, FollowsIn, MemberOk, KeepsOk, SiteOk, ViewsOk, LoadsOk, ForeignOk, Holds, part, start_at, log_at, term_at, from_agent, between, line, views, sent_term}
 use Rattle.log_laws.proofs.Plain.Copies.{in-is_in, copy-member}
-use Rattle.log_laws.specs.Copies.{log_state, LeadOk, HasLogs}
+use Rattle.log_laws.specs.Copies.{log_state, AuthoritativeOk, HasLogs}
 
 -- ---- the history with which an epoch begins
 
@@ -38,15 +38,15 @@ first_entry D start log c = record {
 }
 
 -- the leader of each partition has begun the first term with its log
-abbrev pub first_reign : (ℕ → List Entry) → ℕ → Reign
-first_reign log p = record { begun = log p; log = log p }
+abbrev pub first_leadership : (ℕ → List Entry) → ℕ → Leadership
+first_leadership log p = record { begun = log p; log = log p }
 
 abbrev pub new_logs : Deployment → ℕ → ℕ → (ℕ → List Entry) → Logs
 new_logs D base start log = record {
   ran = λ c. if nat_lt c (slots D) then start_from D start c ∷ [] else [];
   entered = λ c t. if nat_lt c (slots D) && t == base then Some (first_entry D start log c) else None;
   streamed = λ c t. None;
-  reign = λ p t. if t == base then Some (first_reign log p) else None;
+  leadership = λ p t. if t == base then Some (first_leadership log p) else None;
   reach = λ p t. if t == base then length (log p) else 0;
 }
 
@@ -76,12 +76,12 @@ pub record SitesBegin (D : Deployment) (base start number : ℕ) (agents : ℕ �
   pub positive : 0 < base
   pub drawn : 0 < start
   pub hosts : (h : ℕ) → is_host D h ≡ true → agents h ≡ member_agent (new_word D base start) number start h
-  pub outside : (h : ℕ) → is_host D h ≡ false → agents h ≡ new_agent 0
+  pub environment : (h : ℕ) → is_host D h ≡ false → agents h ≡ new_agent 0
   pub members : (c : ℕ) → nat_lt c (slots D) ≡ true
       → (x : SiteState) × (sites c ≡ member_site D c x (new_word D base start) (start_from D start c) (log (part_of_slot D c)))
   pub others : (c : ℕ) → nat_lt c (slots D) ≡ false → Rests (sites c)
   pub agreed : (h g : ℕ) → channel (Agent h) (Agent g) ≡ []
-  pub quiet : (from : Actor) → is_of_host from ≡ true → (c : ℕ) → channel from (Site c) ≡ []
+  pub inert : (from : Actor) → is_of_host from ≡ true → (c : ℕ) → channel from (Site c) ≡ []
   pub told : (c h : ℕ) → channel (Site c) (Agent h) ≡ []
   pub foreign : (from : Actor) → is_of_host from ≡ false → (c : ℕ) → AllByRecursion NoStart (channel from (Site c))
 
@@ -165,8 +165,8 @@ module _ (D : Deployment) (base start number next : ℕ) (agents : ℕ → Agent
   same-base : (t : ℕ) → t ≡ base → (t == base) ≡ true
   same-base t e = eq-eqb t base e
 
-  reign-first : (p t : ℕ) → t ≡ base → T.logs.reign p t ≡ Some (first_reign log p)
-  reign-first p t e = if-true (t == base) (Some (first_reign log p)) None (same-base t e)
+  leadership-first : (p t : ℕ) → t ≡ base → T.logs.leadership p t ≡ Some (first_leadership log p)
+  leadership-first p t e = if-true (t == base) (Some (first_leadership log p)) None (same-base t e)
 
   reach-first : (p t : ℕ) → t ≡ base → T.logs.reach p t ≡ length (log p)
   reach-first p t e = if-true (t == base) (length (log p)) 0 (same-base t e)
@@ -195,8 +195,8 @@ module _ (D : Deployment) (base start number next : ℕ) (agents : ℕ → Agent
       let q = and_parts (nat_lt c (slots D)) (t == base) r.0 in
       (q.0, eqb-true t base q.1, r.1)
 
-  reign-is : (p t : ℕ) (g : Reign) → T.logs.reign p t ≡ Some g → (t ≡ base) × (first_reign log p ≡ g)
-  reign-is p t g i = let r = one-if (t == base) (first_reign log p) g i in (eqb-true t base r.0, r.1)
+  leadership-is : (p t : ℕ) (g : Leadership) → T.logs.leadership p t ≡ Some g → (t ≡ base) × (first_leadership log p ≡ g)
+  leadership-is p t g i = let r = one-if (t == base) (first_leadership log p) g i in (eqb-true t base r.0, r.1)
 
   -- ---- sites
 
@@ -208,7 +208,7 @@ module _ (D : Deployment) (base start number next : ℕ) (agents : ℕ → Agent
   member-start c a q e = same-some (sym e ∙ host-start c q)
 
   line-first : (start term i c : ℕ) → line start term (between T i c) ≡ []
-  line-first a t i c = ap (line a t) (k.quiet (Site i) refl c)
+  line-first a t i c = ap (line a t) (k.inert (Site i) refl c)
 
   been-first : (c t : ℕ) → nat_lt c (slots D) ≡ true → t ≡ base → HasBeen T c t (s_of c)
   been-first c t q e = record {
@@ -230,8 +230,8 @@ module _ (D : Deployment) (base start number next : ℕ) (agents : ℕ → Agent
     still = λ e. (log-is c q, ap (λ s. s.floor) (member c q), ap (λ s. s.firm) (member c q));
     floor = omega (arith, ap (λ s. s.floor) (member c q), reach-first (part T c) (term_of W) term-first);
     firm = omega (arith, ap (λ s. s.firm) (member c q), reach-first (part T c) (term_of W) term-first);
-    leading = λ e. subst (LeadsIn (sites c)) (sym (reign-first (part T c) (term_of W) term-first)) (repaired-is c q, log-is c q);
-    following = λ l e. subst (FollowsIn (sites c) (line (start_at T c) (term_of W) (between T l c))) (sym (reign-first (part T c) (term_of W) term-first))
+    leading = λ e. subst (LeadsIn (sites c)) (sym (leadership-first (part T c) (term_of W) term-first)) (repaired-is c q, log-is c q);
+    following = λ l e. subst (FollowsIn (sites c) (line (start_at T c) (term_of W) (between T l c))) (sym (leadership-first (part T c) (term_of W) term-first))
         (inl ([], repaired-is c q, line-first (start_at T c) (term_of W) l c, append-nil (log_at T c) ∙ log-is c q, ([], log-is c q ∙ sym (append-nil (log_of c)))));
     others = λ l e. line-first (start_at T c) (term_of W) l c;
   }
@@ -272,7 +272,7 @@ module _ (D : Deployment) (base start number next : ℕ) (agents : ℕ → Agent
 
   site-ok : (c : ℕ) (x : Bool) → nat_lt c (slots D) ≡ x → SiteOk T c
   site-ok c true q = record {
-    outside = λ e. absurd (cc);
+    environment = λ e. absurd (cc);
     ran = λ up. ([], ran-first c q ∙ ap (λ x. x ∷ []) (sym (start-is c q)));
     term = omega (arith, term-is c q, greatest-is c q);
     earlier = omega (arith, earlier-is c q, greatest-is c q);
@@ -283,7 +283,7 @@ module _ (D : Deployment) (base start number next : ℕ) (agents : ℕ → Agent
     blank = λ e. absurd (omega (arith, e, start-is c q, k.drawn));
   }
   site-ok c false q = let r = k.others c q in record {
-    outside = λ e. r.start;
+    environment = λ e. r.start;
     ran = λ up. absurd (omega (arith, up, r.start));
     term = r.term;
     earlier = r.earlier;
@@ -297,7 +297,7 @@ module _ (D : Deployment) (base start number next : ℕ) (agents : ℕ → Agent
   -- ---- words that agents sent
 
   no-letters : (c : ℕ) → from_agent T c ≡ []
-  no-letters c = k.quiet (Agent (host_of_slot D c)) refl c
+  no-letters c = k.inert (Agent (host_of_slot D c)) refl c
 
   no-starts : (c s : ℕ) → In s (starts_in (from_agent T c)) → ⊥
   no-starts c s i = subst (λ ls. In s (starts_in ls)) (no-letters c) i
@@ -308,7 +308,7 @@ module _ (D : Deployment) (base start number next : ℕ) (agents : ℕ → Agent
   agent-runs : (h : ℕ) → 0 < (agents h).start → agents h ≡ member_agent W number start h
   agent-runs h up = elim (cases_Bool (is_host D h)) [
     | inl q ↦ k.hosts h q
-    | inr q ↦ absurd (omega (arith, up, ap (λ a. a.start) (k.outside h q)))
+    | inr q ↦ absurd (omega (arith, up, ap (λ a. a.start) (k.environment h q)))
   ]
 
   began-first : (c s : ℕ) (x : Bool) → nat_lt c (slots D) ≡ x → In s (if x then s_of c ∷ [] else []) → In s (T.words.history.began (host_of_slot D c))
@@ -337,7 +337,7 @@ module _ (D : Deployment) (base start number next : ℕ) (agents : ℕ → Agent
   -- ---- letters
 
   no-start : (from : Actor) (c : ℕ) → is_of_host from ≡ true → AllByRecursion (ForeignOk T c from) (channel from (Site c))
-  no-start from c e = rw (k.quiet from e c) tt
+  no-start from c e = rw (k.inert from e c) tt
 
   foreign-ok : (from : Actor) (c : ℕ) → AllByRecursion (ForeignOk T c from) (channel from (Site c))
   foreign-ok Director c = k.foreign Director refl c
@@ -349,11 +349,11 @@ module _ (D : Deployment) (base start number next : ℕ) (agents : ℕ → Agent
   -- an agent has nothing that waits, is queued, or has loaded
   loaded-none : (h : ℕ) (x : Bool) → is_host D h ≡ x → (agents h).loaded ≡ []
   loaded-none h true q = ap (λ a. a.loaded) (k.hosts h q)
-  loaded-none h false q = ap (λ a. a.loaded) (k.outside h q)
+  loaded-none h false q = ap (λ a. a.loaded) (k.environment h q)
 
   waiting-none : (h : ℕ) (x : Bool) → is_host D h ≡ x → (agents h).waiting ≡ []
   waiting-none h true q = ap (λ a. a.waiting) (k.hosts h q)
-  waiting-none h false q = ap (λ a. a.waiting) (k.outside h q)
+  waiting-none h false q = ap (λ a. a.waiting) (k.environment h q)
 
   first-queue : (h : ℕ) → (first_initiating h number).queue ≡ []
   first-queue zero = refl
@@ -361,7 +361,7 @@ module _ (D : Deployment) (base start number next : ℕ) (agents : ℕ → Agent
 
   queue-none : (h : ℕ) (x : Bool) → is_host D h ≡ x → (agents h).initiating.queue ≡ []
   queue-none h true q = ap (λ a. a.initiating.queue) (k.hosts h q) ∙ first-queue h
-  queue-none h false q = ap (λ a. a.initiating.queue) (k.outside h q)
+  queue-none h false q = ap (λ a. a.initiating.queue) (k.environment h q)
 
   loads-ok : LoadsOk T
   loads-ok = record {
@@ -386,16 +386,16 @@ module _ (D : Deployment) (base start number next : ℕ) (agents : ℕ → Agent
         been = been-first c t r.0 r.1;
         came = inl (first-there D start (host_of_slot D c) (slot-host D c r.0));
         reach = omega (arith, reach-first (part T c) t r.1);
-        behind = λ v l. absurd (omega (arith, l.below, r.1, (reign-is (part T c) v l.reign l.led).0));
+        behind = λ v l. absurd (omega (arith, l.below, r.1, (leadership-is (part T c) v l.leadership l.led).0));
         still = λ v f l j. absurd (omega (arith, l, r.1, (entered-is c v f j).1));
-        since = λ v g led below. absurd (omega (arith, below, r.1, (reign-is (part T c) v g led).0));
+        since = λ v g led below. absurd (omega (arith, below, r.1, (leadership-is (part T c) v g led).0));
         running = λ u. (joining-is c r.0, omega (arith, term-is c r.0, r.1), omega (arith, reach-first (part T c) t r.1, ap length (log-is c r.0)));
       })
 
-  reign-ok : (p t : ℕ) (g : Reign) → T.logs.reign p t ≡ Some g → ReignOk T p t g
-  reign-ok p t g i =
-      let r = reign-is p t g i in
-      subst (ReignOk T p t) r.1 (record {
+  leadership-ok : (p t : ℕ) (g : Leadership) → T.logs.leadership p t ≡ Some g → LeadershipOk T p t g
+  leadership-ok p t g i =
+      let r = leadership-is p t g i in
+      subst (LeadershipOk T p t) r.1 (record {
         word = W;
         is_word = record { decided = inl refl; term_is = term-first ∙ sym r.0 };
         grown = ([], sym (append-nil (log p)));
@@ -410,15 +410,15 @@ module _ (D : Deployment) (base start number next : ℕ) (agents : ℕ → Agent
     words = words;
     sites = λ c. site-ok c (nat_lt c (slots D)) refl;
     views = views-ok;
-    letters = λ i c q. rw (k.quiet (Site i) refl c) tt;
+    letters = λ i c q. rw (k.inert (Site i) refl c) tt;
     foreign = foreign-ok;
     loads = loads-ok;
     entered = entered-ok;
     streamed = λ c t x e. absurd (none-and-some {A = Streaming} refl e);
-    reigns = reign-ok;
-    unled = λ p t e. inl (reach-later p t (none-if (t == base) (first_reign log p) e));
+    leaderships = leadership-ok;
+    unled = λ p t e. inl (reach-later p t (none-if (t == base) (first_leadership log p) e));
     some = k.positive;
-    first = λ p. (first_reign log p, reign-first p base refl);
+    first = λ p. (first_leadership log p, leadership-first p base refl);
   }
 
 -- ---- the first epoch, and those that a recovery begins
@@ -439,21 +439,21 @@ sites-rest D base start log before others c q r =
     subst Rests (sym (if-false (nat_lt c (slots D)) (member_site D c (before c) (new_word D base start) (start_from D start c) (log (part_of_slot D c))) (others c) q)) r
 
 -- what the history says of the leads
-first-lead : (D : Deployment) (base start : ℕ) (log : ℕ → List Entry) (p : ℕ) → LeadOk (new_logs D base start log) p (record { term = base; log = log p; firm = length (log p) })
-first-lead D base start log p = record {
-  reign = first_reign log p;
+first-authoritative : (D : Deployment) (base start : ℕ) (log : ℕ → List Entry) (p : ℕ) → AuthoritativeOk (new_logs D base start log) p (record { term = base; log = log p; firm = length (log p) })
+first-authoritative D base start log p = record {
+  leadership = first_leadership log p;
   led = led;
   log = refl;
   greatest = λ t g is. only t g (t == base) refl is;
-  firm = (base, first_reign log p, led, rw (eqb-same base) (omega arith));
+  firm = (base, first_leadership log p, led, rw (eqb-same base) (omega arith));
 }
   where
-    led : (if base == base then Some (first_reign log p) else None) ≡ Some (first_reign log p)
+    led : (if base == base then Some (first_leadership log p) else None) ≡ Some (first_leadership log p)
     led = rw (eqb-same base) refl
 
-    only : (t : ℕ) (g : Reign) (b : Bool) → (t == base) ≡ b → (if b then Some (first_reign log p) else None) ≡ Some g → t ≤ base
+    only : (t : ℕ) (g : Leadership) (b : Bool) → (t == base) ≡ b → (if b then Some (first_leadership log p) else None) ≡ Some g → t ≤ base
     only t g true e is = let q = eqb-true t base e in omega (arith, q)
-    only t g false e is = absurd (none-and-some {A = Reign} refl is)
+    only t g false e is = absurd (none-and-some {A = Leadership} refl is)
 
 -- and what those count firm that lead
 first-counted : (D : Deployment) (base start : ℕ) (log : ℕ → List Entry) (before others : ℕ → SiteState) → ((c : ℕ) → nat_lt c (slots D) ≡ false → (others c).start ≡ 0)
@@ -484,16 +484,16 @@ first-logs E I positive =
         positive = positive;
         drawn = omega arith;
         hosts = λ h e. if-true (is_host D h) (member_agent (new_word D I.base 1) number 1 h) (new_agent 0) e;
-        outside = λ h e. if-false (is_host D h) (member_agent (new_word D I.base 1) number 1 h) (new_agent 0) e;
+        environment = λ h e. if-false (is_host D h) (member_agent (new_word D I.base 1) number 1 h) (new_agent 0) e;
         members = sites-begin D I.base 1 (λ p. []) before before;
         others = λ c q. sites-rest D I.base 1 (λ p. []) before before c q (record { start = refl; term = omega arith; earlier = omega arith; joining = refl; view = refl; waiting = refl; asks = refl; joiners = refl });
         agreed = λ h g. refl;
-        quiet = λ from e c. refl;
+        inert = λ from e c. refl;
         told = λ c h. refl;
         foreign = λ from e c. tt;
       });
-      outsiders = λ h e. if-false (is_host D h) (member_agent (new_word D I.base 1) number 1 h) (new_agent 0) e;
-      lead = first-lead D I.base 1 (λ p. []);
+      strangers = λ h e. if-false (is_host D h) (member_agent (new_word D I.base 1) number 1 h) (new_agent 0) e;
+      authoritative = first-authoritative D I.base 1 (λ p. []);
       counted = λ c runs _. first-counted D I.base 1 (λ p. []) before before (λ c _. refl) c runs;
     }
 
@@ -518,13 +518,13 @@ emptied : (D : Deployment) (start : ℕ) (channel : Actor → Actor → List Let
 emptied D start channel from e c = rw e
 
 -- a site of no slot never ran
-outsider-rests : (S : LogState) → Holds S → (c : ℕ) → nat_lt c (slots S.words.deployment) ≡ false → Rests (S.sites c)
-outsider-rests S H c q = let kept = (H.sites c).stopped ((H.sites c).outside q) in record {
-  start = (H.sites c).outside q;
+stranger-rests : (S : LogState) → Holds S → (c : ℕ) → nat_lt c (slots S.words.deployment) ≡ false → Rests (S.sites c)
+stranger-rests S H c q = let kept = (H.sites c).stopped ((H.sites c).environment q) in record {
+  start = (H.sites c).environment q;
   term = (H.sites c).term;
   earlier = (H.sites c).earlier;
   joining = none (S.sites c).joining refl;
-  view = (H.sites c).blank ((H.sites c).outside q);
+  view = (H.sites c).blank ((H.sites c).environment q);
   waiting = kept.0;
   asks = kept.1;
   joiners = kept.2;
@@ -532,7 +532,7 @@ outsider-rests S H c q = let kept = (H.sites c).stopped ((H.sites c).outside q) 
   where
     none : (o : Option Joining) → (S.sites c).joining ≡ o → (S.sites c).joining ≡ None
     none None e = e
-    none (Some j) e = absurd (omega (arith, ((H.sites c).joiner j e).runs, (H.sites c).outside q))
+    none (Some j) e = absurd (omega (arith, ((H.sites c).joiner j e).runs, (H.sites c).environment q))
 
 -- A recovery that works.
 pub anew-logs : (E : Database) (w : World) (shown : List ℕ) → HasLogs w → HasLogs (starts_anew E w shown)
@@ -550,21 +550,21 @@ anew-logs E w shown k =
       history = new_history D (new_word D base start) start;
       logs = new_logs D base start log;
       holds = begun-holds D base start number (start + D.layout.hosts) v.agents v.channel (new_owner start k.owner) log v.sites
-          (recovery-holds S.words base number k.holds.words k.outsiders) (record {
+          (recovery-holds S.words base number k.holds.words k.strangers) (record {
             positive = omega arith;
             drawn = k.holds.words.some;
             hosts = λ h e. if-true (is_host D h) (member_agent (new_word D base start) number start h) (w.agents h) e;
-            outside = λ h e. if-false (is_host D h) (member_agent (new_word D base start) number start h) (w.agents h) e ∙ k.outsiders h e;
+            environment = λ h e. if-false (is_host D h) (member_agent (new_word D base start) number start h) (w.agents h) e ∙ k.strangers h e;
             members = sites-begin D base start log before w.sites;
-            others = λ c q. sites-rest D base start log before w.sites c q (outsider-rests S k.holds c q);
+            others = λ c q. sites-rest D base start log before w.sites c q (stranger-rests S k.holds c q);
             agreed = λ h g. refl;
-            quiet = emptied D start w.channel;
+            inert = emptied D start w.channel;
             told = λ c h. refl;
             foreign = λ from e c. foreign-left D start w.channel from c e (foreign-on S from c e (k.holds.foreign from c));
           });
-      outsiders = λ h e. if-false (is_host D h) (member_agent (new_word D base start) number start h) (w.agents h) e ∙ k.outsiders h e;
-      lead = first-lead D base start log;
-      counted = λ c runs _. first-counted D base start log before w.sites (λ c q. (k.holds.sites c).outside q) c runs;
+      strangers = λ h e. if-false (is_host D h) (member_agent (new_word D base start) number start h) (w.agents h) e ∙ k.strangers h e;
+      authoritative = first-authoritative D base start log;
+      counted = λ c runs _. first-counted D base start log before w.sites (λ c q. (k.holds.sites c).environment q) c runs;
     }
 
 -- ---- their logs

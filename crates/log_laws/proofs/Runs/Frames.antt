@@ -79,7 +79,7 @@ module _ (S : LogState) (next : ℕ) (owner : ℕ → ℕ) (channel : Actor → 
         };
         entered = k.entered;
         streamed = k.streamed;
-        reigns = k.reigns;
+        leaderships = k.leaderships;
         unled = k.unled;
         some = k.some;
         first = k.first;

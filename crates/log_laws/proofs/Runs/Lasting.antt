@@ -1,4 +1,4 @@
--- What is firm in the lead of a partition is never lost, and all that a leader counts firm is firm in it.
+-- What is firm in the authoritative log of a partition is never lost, and all that a leader counts firm is firm in it.
 use Rattle.std.proofs.Common.{◌≡◌, ◌<◌, ◌≤◌, List, length, take, ◌++◌, refl, sym, subst, ap, ◌∙◌, inl, inr, arith}
 use Rattle.std.proofs.lemmas.Bool.{cases_eq, and_parts}
 use Rattle.std.proofs.lemmas.Bool.Decides.{nat_tests}
@@ -6,14 +6,14 @@ use Rattle.std.specs.Prelude.{ℕ, nat_lt, not, Some}
 use Rattle.cluster_model.specs.Engine.{Database}
 use Rattle.cluster_model.specs.Words.{term_of, term_in}
 use Rattle.cluster_model.specs.SiteState.{is_joiner}
-use Rattle.cluster_model.specs.World.{World, Input, Lead, first_world}
+use Rattle.cluster_model.specs.World.{World, Input, AuthoritativeLog, first_world}
 use Rattle.cluster_model.specs.Runs.{Happening, IsRun, run}
 use Rattle.word_laws.specs.Chain.{IsOneEpoch}
 use Rattle.word_laws.proofs.Lists.{same-some}
 use Rattle.word_laws.proofs.Worlds.{run-append, run-first, run-second}
-use Rattle.log_laws.specs.Histories.{LogState, Reign, Front, Holds, part, term_at}
-use Rattle.log_laws.specs.Copies.{Leads, LeadsNext, LeadOk, KeepsFirm, IsInLead, HasLogs, log_state, log_of, lead_for}
-use Rattle.log_laws.proofs.Plain.Fronts.{front-trans, front-length, front-take, take-front, take-grown, take-of-front}
+use Rattle.log_laws.specs.Histories.{LogState, Leadership, Prefix, Holds, part, term_at}
+use Rattle.log_laws.specs.Copies.{Leads, LeadsNext, AuthoritativeOk, KeepsFirm, IsInAuthoritative, HasLogs, log_state, log_of, authoritative_for}
+use Rattle.log_laws.proofs.Plain.Prefixes.{prefix-trans, prefix-length, prefix-take, take-prefix, take-grown, take-of-prefix}
 use Rattle.log_laws.proofs.Runs.Agreeing.{agrees-begun}
 use Rattle.log_laws.proofs.Kept.Moves.{Onward}
 use Rattle.log_laws.proofs.Runs.Leading.{Rises}
@@ -22,58 +22,58 @@ use Rattle.log_laws.proofs.Runs.Worlds.{logs-agree, run-reaches}
 
 -- ---- what is everywhere in a term
 
-module _ (S : LogState) (H : Holds S) (p v n : ℕ) (g : Reign) (led : S.logs.reign p v ≡ Some g) (low : n ≤ S.logs.reach p v) where
-  -- is in its log, and in that of each later one that was led, at its front
-  pub lasting : (t : ℕ) (h : Reign) → S.logs.reign p t ≡ Some h → v ≤ t → (n ≤ length h.log) × Front (take n g.log) h.log
+module _ (S : LogState) (H : Holds S) (p v n : ℕ) (g : Leadership) (led : S.logs.leadership p v ≡ Some g) (low : n ≤ S.logs.reach p v) where
+  -- is in its log, and in that of each later one that was led, at its beginning
+  pub lasting : (t : ℕ) (h : Leadership) → S.logs.leadership p t ≡ Some h → v ≤ t → (n ≤ length h.log) × Prefix (take n g.log) h.log
   lasting t h is upto = elim (cases_eq v t) [
     | inl e ↦
-        let same : g ≡ h = same-some (sym led ∙ ap (S.logs.reign p) e ∙ is) in
-        let b = (H.reigns p v g led).within in
-        subst (λ x. (n ≤ length x.log) × Front (take n g.log) x.log) same (omega (arith, low, b), front-take n g.log)
+        let same : g ≡ h = same-some (sym led ∙ ap (S.logs.leadership p) e ∙ is) in
+        let b = (H.leaderships p v g led).within in
+        subst (λ x. (n ≤ length x.log) × Prefix (take n g.log) x.log) same (omega (arith, low, b), prefix-take n g.log)
     | inr d ↦
         let k = agrees-begun S H p v g led t h is (omega (arith, upto, d)) in
-        let grown = (H.reigns p t h is).grown in
-        let m = front-length h.begun h.log grown in (
+        let grown = (H.leaderships p t h is).grown in
+        let m = prefix-length h.begun h.log grown in (
           omega (arith, low, k.0, m),
-          front-trans (take n g.log) (take (S.logs.reach p v) g.log) h.log (take-front n (S.logs.reach p v) g.log low)
-              (front-trans (take (S.logs.reach p v) g.log) h.begun h.log k.1 grown),
+          prefix-trans (take n g.log) (take (S.logs.reach p v) g.log) h.log (take-prefix n (S.logs.reach p v) g.log low)
+              (prefix-trans (take (S.logs.reach p v) g.log) h.begun h.log k.1 grown),
         )
   ]
 
-  -- so as many of the log of one such term are at the front of that of any other one
-  pub lasting-both : (t u : ℕ) (h k : Reign) → S.logs.reign p t ≡ Some h → S.logs.reign p u ≡ Some k → v ≤ t → v ≤ u → Front (take n h.log) k.log
+  -- so as many of the log of one such term are a prefix of that of any other one
+  pub lasting-both : (t u : ℕ) (h k : Leadership) → S.logs.leadership p t ≡ Some h → S.logs.leadership p u ≡ Some k → v ≤ t → v ≤ u → Prefix (take n h.log) k.log
   lasting-both t u h k led-t led-u low-t low-u =
       let own = (lasting v g led (omega arith)).0 in
-      subst (λ x. Front x k.log) (sym (take-of-front n g.log h.log (lasting t h led-t low-t).1 own)) (lasting u k led-u low-u).1
+      subst (λ x. Prefix x k.log) (sym (take-of-prefix n g.log h.log (lasting t h led-t low-t).1 own)) (lasting u k led-u low-u).1
 
--- ---- the lead of a partition
+-- ---- the authoritative log of a partition
 
--- Of that in a state, and that in a later one: what is firm in it is in its log, and at the front of the later log.
-module _ (S T : LogState) (H : Holds S) (J : Holds T) (f : Onward S.logs T.logs) (p : ℕ) (l m : Lead) (k : LeadOk S.logs p l) (n : LeadOk T.logs p m) where
-  lead-within : l.firm ≤ length l.log
-  lead-within = let q = k.firm in subst (λ x. l.firm ≤ length x) (sym k.log) (lasting S H p q.0 l.firm q.1 q.2 q.3 l.term k.reign k.led (k.greatest q.0 q.1 q.2)).0
+-- Of that in a state, and that in a later one: what is firm in it is in its log, and a prefix of the later log.
+module _ (S T : LogState) (H : Holds S) (J : Holds T) (f : Onward S.logs T.logs) (p : ℕ) (l m : AuthoritativeLog) (k : AuthoritativeOk S.logs p l) (n : AuthoritativeOk T.logs p m) where
+  authoritative-within : l.firm ≤ length l.log
+  authoritative-within = let q = k.firm in subst (λ x. l.firm ≤ length x) (sym k.log) (lasting S H p q.0 l.firm q.1 q.2 q.3 l.term k.leadership k.led (k.greatest q.0 q.1 q.2)).0
 
-  lead-kept : Front (take l.firm l.log) m.log
-  lead-kept =
+  authoritative-kept : Prefix (take l.firm l.log) m.log
+  authoritative-kept =
       let q = k.firm in
       let g = f.kept p q.0 q.1 q.2 in
-      let h = f.kept p l.term k.reign k.led in
+      let h = f.kept p l.term k.leadership k.led in
       let r = f.reach p q.0 in
-      let both = lasting-both T J p q.0 l.firm g.0 g.1 (omega (arith, q.3, r)) l.term m.term h.0 n.reign h.1 n.led (k.greatest q.0 q.1 q.2) (n.greatest q.0 g.0 g.1) in
+      let both = lasting-both T J p q.0 l.firm g.0 g.1 (omega (arith, q.3, r)) l.term m.term h.0 n.leadership h.1 n.led (k.greatest q.0 q.1 q.2) (n.greatest q.0 g.0 g.1) in
       let own : take l.firm h.0.log ≡ take l.firm l.log =
-      take-grown l.firm k.reign.log h.0.log h.3 (subst (λ x. l.firm ≤ length x) k.log lead-within) ∙ ap (take l.firm) (sym k.log) in
-      subst (λ x. Front x m.log) own (subst (Front (take l.firm h.0.log)) (sym n.log) both)
+      take-grown l.firm k.leadership.log h.0.log h.3 (subst (λ x. l.firm ≤ length x) k.log authoritative-within) ∙ ap (take l.firm) (sym k.log) in
+      subst (λ x. Prefix x m.log) own (subst (Prefix (take l.firm h.0.log)) (sym n.log) both)
 
 -- ---- worlds
 
 -- In a later world of one epoch.
-pub keeps-firm : (v w : World) (k : HasLogs v) (n : HasLogs w) → Onward k.logs n.logs → ((p : ℕ) → Rises (v.lead_of p) (w.lead_of p)) → (p : ℕ) → KeepsFirm v w p
+pub keeps-firm : (v w : World) (k : HasLogs v) (n : HasLogs w) → Onward k.logs n.logs → ((p : ℕ) → Rises (v.authoritative p) (w.authoritative p)) → (p : ℕ) → KeepsFirm v w p
 keeps-firm v w k n f rises p =
     let S = log_state v k.owner k.history k.logs in
     let T = log_state w n.owner n.history n.logs in
     record {
-      within = lead-within S T k.holds n.holds f p (v.lead_of p) (w.lead_of p) (k.lead p) (n.lead p);
-      kept = lead-kept S T k.holds n.holds f p (v.lead_of p) (w.lead_of p) (k.lead p) (n.lead p);
+      within = authoritative-within S T k.holds n.holds f p (v.authoritative p) (w.authoritative p) (k.authoritative p) (n.authoritative p);
+      kept = authoritative-kept S T k.holds n.holds f p (v.authoritative p) (w.authoritative p) (k.authoritative p) (n.authoritative p);
       more = (rises p).firm;
       term = (rises p).term;
     }
@@ -93,12 +93,12 @@ leading-in w k l h =
     let up : 0 < (w.sites l).start = grind (arith, nat_tests, p) in
     leading (log_state w k.owner k.history k.logs) l k.holds up h.leads
 
--- What a leader counted firm is at the front of the log of one of a term that isn't lower, in a later world of the epoch.
-pub next-leader : (v w : World) (k : HasLogs v) (n : HasLogs w) → Onward k.logs n.logs → (l m : ℕ) → LeadsNext v w l m → Front (take (v.sites l).firm (log_of v l)) (log_of w m)
+-- What a leader counted firm is a prefix of the log of one of a term that isn't lower, in a later world of the epoch.
+pub next-leader : (v w : World) (k : HasLogs v) (n : HasLogs w) → Onward k.logs n.logs → (l m : ℕ) → LeadsNext v w l m → Prefix (take (v.sites l).firm (log_of v l)) (log_of w m)
 next-leader v w k n f l m h =
-    subst (λ xs. Front (take (v.sites l).firm xs) (log_of w m)) (sym a.log) (subst (Front (take (v.sites l).firm a.reign.log)) (sym b.log)
-    (subst (λ xs. Front xs b.reign.log) (take-grown (v.sites l).firm a.reign.log r.0.log r.3 (omega (arith, a.member.firm, within)))
-    (lasting T n.holds own t (v.sites l).firm r.0 r.1 (let e = f.reach own t in omega (arith, a.member.firm, e)) (term_of b.word) b.reign led up).1))
+    subst (λ xs. Prefix (take (v.sites l).firm xs) (log_of w m)) (sym a.log) (subst (Prefix (take (v.sites l).firm a.leadership.log)) (sym b.log)
+    (subst (λ xs. Prefix xs b.leadership.log) (take-grown (v.sites l).firm a.leadership.log r.0.log r.3 (omega (arith, a.member.firm, within)))
+    (lasting T n.holds own t (v.sites l).firm r.0 r.1 (let e = f.reach own t in omega (arith, a.member.firm, e)) (term_of b.word) b.leadership led up).1))
   where
     S : LogState
     S = log_state v k.owner k.history k.logs
@@ -119,36 +119,36 @@ next-leader v w k n f l m h =
     t = term_of a.word
 
     -- as the term stands in the later world
-    r : (g : Reign) × (T.logs.reign own t ≡ Some g) × (g.begun ≡ a.reign.begun) × Front a.reign.log g.log
-    r = f.kept own t a.reign a.led
+    r : (g : Leadership) × (T.logs.leadership own t ≡ Some g) × (g.begun ≡ a.leadership.begun) × Prefix a.leadership.log g.log
+    r = f.kept own t a.leadership a.led
 
-    within : S.logs.reach own t ≤ length a.reign.log
-    within = (k.holds.reigns own t a.reign a.led).within
+    within : S.logs.reach own t ≤ length a.leadership.log
+    within = (k.holds.leaderships own t a.leadership a.led).within
 
-    led : T.logs.reign own (term_of b.word) ≡ Some b.reign
-    led = ap (λ p. T.logs.reign p (term_of b.word)) h.part ∙ b.led
+    led : T.logs.leadership own (term_of b.word) ≡ Some b.leadership
+    led = ap (λ p. T.logs.leadership p (term_of b.word)) h.part ∙ b.led
 
     up : t ≤ term_of b.word
     up = let x = h.term in let y = ap term_in a.view in let z = ap term_in b.view in omega (arith, x, y, z)
 
 pub next-leads : (E : Database) (input : Input) (es fs : List Happening) (l m : ℕ) → 0 < input.base → IsRun E (es ++ fs) (first_world E input) → IsOneEpoch fs
     → LeadsNext (run E es (first_world E input)) (run E (es ++ fs) (first_world E input)) l m
-    → Front (take ((run E es (first_world E input)).sites l).firm (log_of (run E es (first_world E input)) l)) (log_of (run E (es ++ fs) (first_world E input)) m)
+    → Prefix (take ((run E es (first_world E input)).sites l).firm (log_of (run E es (first_world E input)) l)) (log_of (run E (es ++ fs) (first_world E input)) m)
 next-leads E input es fs l m some r one =
     let v = run E es (first_world E input) in
     let k = logs-agree E input es some (run-first E es fs (first_world E input) r) in
     let n = run-reaches E fs v (run-second E es fs (first_world E input) r) one k in
-    subst (λ w. LeadsNext v w l m → Front (take (v.sites l).firm (log_of v l)) (log_of w m)) (sym (run-append E es fs (first_world E input)))
+    subst (λ w. LeadsNext v w l m → Prefix (take (v.sites l).firm (log_of v l)) (log_of w m)) (sym (run-append E es fs (first_world E input)))
     (next-leader v (run E fs v) k n.next (n.onward refl) l m)
 
 -- Of a site that leads, with its partition's lead.
-pub in-lead : (w : World) (k : HasLogs w) (l : ℕ) → Leads w l → IsInLead w l
-in-lead w k l h = record {
+pub in-authoritative : (w : World) (k : HasLogs w) (l : ℕ) → Leads w l → IsInAuthoritative w l
+in-authoritative w k l h = record {
   term = let e = term in omega (arith, low, e);
-  same = λ e. m.log ∙ ap (λ g. g.log) (same-some (sym m.led ∙ ap (S.logs.reign own) (sym term ∙ e) ∙ lead.led)) ∙ sym lead.log;
+  same = λ e. m.log ∙ ap (λ g. g.log) (same-some (sym m.led ∙ ap (S.logs.leadership own) (sym term ∙ e) ∙ authoritative.led)) ∙ sym authoritative.log;
   counted = k.counted l h.runs h.leads;
-  front = subst (λ xs. Front (take (S.sites l).firm xs) (lead_for w l).log) (sym m.log) (subst (Front (take (S.sites l).firm m.reign.log)) (sym lead.log)
-      (lasting S k.holds own (term_of m.word) (S.sites l).firm m.reign m.led m.member.firm (lead_for w l).term lead.reign lead.led low).1);
+  prefix = subst (λ xs. Prefix (take (S.sites l).firm xs) (authoritative_for w l).log) (sym m.log) (subst (Prefix (take (S.sites l).firm m.leadership.log)) (sym authoritative.log)
+      (lasting S k.holds own (term_of m.word) (S.sites l).firm m.leadership m.led m.member.firm (authoritative_for w l).term authoritative.leadership authoritative.led low).1);
 }
   where
     S : LogState
@@ -157,8 +157,8 @@ in-lead w k l h = record {
     own : ℕ
     own = part S l
 
-    lead : LeadOk k.logs own (lead_for w l)
-    lead = k.lead own
+    authoritative : AuthoritativeOk k.logs own (authoritative_for w l)
+    authoritative = k.authoritative own
 
     m : Leading S l
     m = leading-in w k l h
@@ -166,5 +166,5 @@ in-lead w k l h = record {
     term : term_at S l ≡ term_of m.word
     term = ap term_in m.view
 
-    low : term_of m.word ≤ (lead_for w l).term
-    low = lead.greatest (term_of m.word) m.reign m.led
+    low : term_of m.word ≤ (authoritative_for w l).term
+    low = authoritative.greatest (term_of m.word) m.leadership m.led

@@ -8,10 +8,10 @@ use Rattle.cluster_model.specs.Words.{term_of, term_in}
 use Rattle.cluster_model.specs.SiteState.{SiteState, Joining, Streamed, is_joiner, is_member_site, leads}
 use Rattle.cluster_model.specs.World.{World}
 use Rattle.word_laws.proofs.Lists.{not-both, same-some, none-and-some}
-use Rattle.log_laws.specs.Histories.{Front, Logs, LogState, Line, line, between, Reign, Last, FollowsIn, LeadsIn, MemberOk, StreamIn, ViewIn, Took, Holds, part, start_at, log_at, term_at, base_of}
+use Rattle.log_laws.specs.Histories.{Prefix, Logs, LogState, Line, line, between, Leadership, Last, FollowsIn, LeadsIn, MemberOk, StreamIn, ViewIn, Took, Holds, part, start_at, log_at, term_at, base_of}
 use Rattle.log_laws.proofs.Plain.Copies.{leads-or-follows, leads-parts, is-leader}
-use Rattle.log_laws.proofs.Plain.Fronts.{front-same, front-trans, fronts-compare}
-use Rattle.log_laws.proofs.Kept.Terms.{base-least, reign-entered, last-below, running-slot}
+use Rattle.log_laws.proofs.Plain.Prefixes.{prefix-same, prefix-trans, prefixes-compare}
+use Rattle.log_laws.proofs.Kept.Terms.{base-least, leadership-entered, last-below, running-slot}
 use Rattle.log_laws.specs.Copies.{OfOneTerm, AreCopies, Leads, HasLoaded, Follows, HasLogs, log_state}
 
 -- ---- sites
@@ -26,99 +26,99 @@ runs-member s e = let p = and_parts (nat_lt 0 s.start) (not (is_joiner s)) e in 
 -- of the same partition and term
 abbrev last-at : (G : Logs) (p q v t u : ℕ) → p ≡ q → t ≡ u → Last G p v t → Last G q v u
 last-at G p q v t u e f l = record {
-  reign = l.reign;
+  leadership = l.leadership;
   led = rw e at l.led;
   below = rw f at l.below;
   greatest = λ x g k b. l.greatest x g (rw e k) (rw f b);
 }
 
 module _ (S : LogState) (H : Holds S) where
-  -- A copy in a term that was begun has a front of its leader's log.
-  pub copy-behind : (c : ℕ) (w : Membership) (g : Reign) → 0 < start_at S c → MemberOk S c w → S.logs.reign (part S c) (term_of w) ≡ Some g → Front (log_at S c) g.log
+  -- A copy in a term that was begun has a prefix of its leader's log.
+  pub copy-behind : (c : ℕ) (w : Membership) (g : Leadership) → 0 < start_at S c → MemberOk S c w → S.logs.leadership (part S c) (term_of w) ≡ Some g → Prefix (log_at S c) g.log
   copy-behind c w g up m e = elim (leads-or-follows S.words.deployment w c (start_at S c) m.start_is) [
-    | inl k ↦ front-same (log_at S c) g.log (subst (LeadsIn (S.sites c)) e (m.leading k)).1
+    | inl k ↦ prefix-same (log_at S c) g.log (subst (LeadsIn (S.sites c)) e (m.leading k)).1
     | inr (l, f) ↦ lacks (line (start_at S c) (term_of w) (between S l c)) (subst (FollowsIn (S.sites c) (line (start_at S c) (term_of w) (between S l c))) e (m.following l f))
   ]
     where
-      lacks : (ln : List Line) → FollowsIn (S.sites c) ln (Some g) → Front (log_at S c) g.log
+      lacks : (ln : List Line) → FollowsIn (S.sites c) ln (Some g) → Prefix (log_at S c) g.log
       lacks ln (inl x) = (x.0, sym x.3)
       lacks ln (inr x) =
-          let n = reign-entered S H (part S c) (term_of w) g e w (record { decided = m.decided; term_is = refl }) c (start_at S c) (running-slot S H c up) refl m.start_is in
+          let n = leadership-entered S H (part S c) (term_of w) g e w (record { decided = m.decided; term_is = refl }) c (start_at S c) (running-slot S H c up) refl m.start_is in
           let one : n.0 ≡ m.entered = same-some (sym n.1 ∙ m.is_entered) in
-          front-trans (log_at S c) g.begun g.log
-          (subst (λ l. Front l g.begun) (ap (λ y. y.log) one ∙ sym (m.still x.1).0) n.3)
-          (H.reigns (part S c) (term_of w) g e).grown
+          prefix-trans (log_at S c) g.begun g.log
+          (subst (λ l. Prefix l g.begun) (ap (λ y. y.log) one ∙ sym (m.still x.1).0) n.3)
+          (H.leaderships (part S c) (term_of w) g e).grown
 
   -- Of a copy in a term that wasn't begun: its leader hasn't repaired it, or itself.
-  copy-waits : (c : ℕ) (w : Membership) → MemberOk S c w → S.logs.reign (part S c) (term_of w) ≡ None → (S.sites c).repaired ≡ false
+  copy-waits : (c : ℕ) (w : Membership) → MemberOk S c w → S.logs.leadership (part S c) (term_of w) ≡ None → (S.sites c).repaired ≡ false
   copy-waits c w m e = elim (leads-or-follows S.words.deployment w c (start_at S c) m.start_is) [
     | inl k ↦ subst (LeadsIn (S.sites c)) e (m.leading k)
     | inr (l, f) ↦ (subst (FollowsIn (S.sites c) (line (start_at S c) (term_of w) (between S l c))) e (m.following l f)).0
   ]
 
-  -- its log is the one with which it entered, at the front of the log of the last leader before
-  pub copy-entered : (c : ℕ) (w : Membership) (v : ℕ) → MemberOk S c w → S.logs.reign (part S c) (term_of w) ≡ None
-      → (l : Last S.logs (part S c) v (term_of w)) → Front (log_at S c) l.reign.log
+  -- its log is the one with which it entered, a prefix of the log of the last leader before
+  pub copy-entered : (c : ℕ) (w : Membership) (v : ℕ) → MemberOk S c w → S.logs.leadership (part S c) (term_of w) ≡ None
+      → (l : Last S.logs (part S c) v (term_of w)) → Prefix (log_at S c) l.leadership.log
   copy-entered c w v m e l =
       let k = H.entered c (term_of w) m.entered m.is_entered in
-      subst (λ x. Front x l.reign.log) (sym (m.still (copy-waits c w m e)).0) (k.behind v l).0
+      subst (λ x. Prefix x l.leadership.log) (sym (m.still (copy-waits c w m e)).0) (k.behind v l).0
 
   -- the last term that was led before
-  pub last-before : (c : ℕ) (w : Membership) → MemberOk S c w → S.logs.reign (part S c) (term_of w) ≡ None → (v : ℕ) × Last S.logs (part S c) v (term_of w)
+  pub last-before : (c : ℕ) (w : Membership) → MemberOk S c w → S.logs.leadership (part S c) (term_of w) ≡ None → (v : ℕ) × Last S.logs (part S c) v (term_of w)
   last-before c w m e = let low = base-least S H w m.decided in last-below S H (part S c) (term_of w) (omega (arith, low, unbegun))
     where
       unbegun : base_of S ≡ term_of w → ⊥
-      unbegun b = none-and-some e (subst (λ x. S.logs.reign (part S c) x ≡ Some (H.first (part S c)).0) b (H.first (part S c)).1)
+      unbegun b = none-and-some e (subst (λ x. S.logs.leadership (part S c) x ≡ Some (H.first (part S c)).0) b (H.first (part S c)).1)
 
   -- Two copies in one term.
   copies-meet : (c d : ℕ) (w v : Membership) → 0 < start_at S c → 0 < start_at S d → MemberOk S c w → MemberOk S d v → part S c ≡ part S d → term_of w ≡ term_of v
-      → Front (log_at S c) (log_at S d) ⊎ Front (log_at S d) (log_at S c)
-  copies-meet c d w v up ud m n p t = choice (S.logs.reign (part S c) (term_of w)) refl
+      → Prefix (log_at S c) (log_at S d) ⊎ Prefix (log_at S d) (log_at S c)
+  copies-meet c d w v up ud m n p t = choice (S.logs.leadership (part S c) (term_of w)) refl
     where
-      there : (o : Option Reign) → S.logs.reign (part S c) (term_of w) ≡ o → S.logs.reign (part S d) (term_of v) ≡ o
+      there : (o : Option Leadership) → S.logs.leadership (part S c) (term_of w) ≡ o → S.logs.leadership (part S d) (term_of v) ≡ o
       there o e = rw (← p, ← t) e
 
-      choice : (o : Option Reign) → S.logs.reign (part S c) (term_of w) ≡ o → Front (log_at S c) (log_at S d) ⊎ Front (log_at S d) (log_at S c)
-      choice (Some g) e = fronts-compare (log_at S c) (log_at S d) g.log (copy-behind c w g up m e) (copy-behind d v g ud n (there (Some g) e))
+      choice : (o : Option Leadership) → S.logs.leadership (part S c) (term_of w) ≡ o → Prefix (log_at S c) (log_at S d) ⊎ Prefix (log_at S d) (log_at S c)
+      choice (Some g) e = prefixes-compare (log_at S c) (log_at S d) g.log (copy-behind c w g up m e) (copy-behind d v g ud n (there (Some g) e))
       choice None e =
           let l = last-before c w m e in
-          fronts-compare (log_at S c) (log_at S d) l.1.reign.log
+          prefixes-compare (log_at S c) (log_at S d) l.1.leadership.log
           (copy-entered c w l.0 m e l.1)
           (copy-entered d v l.0 n (there None e) (last-at S.logs (part S c) (part S d) l.0 (term_of w) (term_of v) p t l.1))
 
   -- A leader that has what its term begins with.
-  record Reigning (l : ℕ) : Type 0 where
+  record HeldLeadership (l : ℕ) : Type 0 where
     pub word : Membership
     pub view : (S.sites l).view ≡ Some word
     pub member : MemberOk S l word
-    pub reign : Reign
-    pub led : S.logs.reign (part S l) (term_of word) ≡ Some reign
-    pub log : log_at S l ≡ reign.log
+    pub leadership : Leadership
+    pub led : S.logs.leadership (part S l) (term_of word) ≡ Some leadership
+    pub log : log_at S l ≡ leadership.log
 
-  reigning : (l : ℕ) → is_member_site (S.sites l) ≡ true → leads S.words.deployment l (S.sites l) ≡ true → Reigning l
-  reigning l e f =
+  held-leadership : (l : ℕ) → is_member_site (S.sites l) ≡ true → leads S.words.deployment l (S.sites l) ≡ true → HeldLeadership l
+  held-leadership l e f =
       let r = runs-member (S.sites l) e in
       let m = (H.sites l).member r.0 r.1 in
       let q = leads-parts S.words.deployment l (S.sites l) f in
       let n = (is-leader S.words.deployment l (S.sites l) m.0 m.1 q.0).1 in
-      begun m.0 m.1 m.2 (S.logs.reign (part S l) (term_of m.0)) refl q.1 (m.2.leading n)
+      begun m.0 m.1 m.2 (S.logs.leadership (part S l) (term_of m.0)) refl q.1 (m.2.leading n)
     where
-      begun : (w : Membership) → (S.sites l).view ≡ Some w → MemberOk S l w → (o : Option Reign) → S.logs.reign (part S l) (term_of w) ≡ o → (S.sites l).repaired ≡ true
-          → LeadsIn (S.sites l) (S.logs.reign (part S l) (term_of w)) → Reigning l
+      begun : (w : Membership) → (S.sites l).view ≡ Some w → MemberOk S l w → (o : Option Leadership) → S.logs.leadership (part S l) (term_of w) ≡ o → (S.sites l).repaired ≡ true
+          → LeadsIn (S.sites l) (S.logs.leadership (part S l) (term_of w)) → HeldLeadership l
       begun w v m None i r k = absurd (not-both (S.sites l).repaired r (subst (λ o. LeadsIn (S.sites l) o) i k))
-      begun w v m (Some g) i r k = record { word = w; view = v; member = m; reign = g; led = i; log = (subst (λ o. LeadsIn (S.sites l) o) i k).1 }
+      begun w v m (Some g) i r k = record { word = w; view = v; member = m; leadership = g; led = i; log = (subst (λ o. LeadsIn (S.sites l) o) i k).1 }
 
   view-term : (c : ℕ) (w : Membership) → (S.sites c).view ≡ Some w → term_at S c ≡ term_of w
   view-term c w e = ap (λ o. term_in o) e
 
   -- A copy, and the leader of its term.
-  copy-follows : (c l : ℕ) → is_member_site (S.sites c) ≡ true → Reigning l → part S c ≡ part S l → term_at S c ≡ term_at S l → Front (log_at S c) (log_at S l)
+  copy-follows : (c l : ℕ) → is_member_site (S.sites c) ≡ true → HeldLeadership l → part S c ≡ part S l → term_at S c ≡ term_at S l → Prefix (log_at S c) (log_at S l)
   copy-follows c l e k p t =
       let r = runs-member (S.sites c) e in
       let m = (H.sites c).member r.0 r.1 in
       let u : term_of m.0 ≡ term_of k.word = sym (view-term c m.0 m.1) ∙ t ∙ view-term l k.word k.view in
-      let g : S.logs.reign (part S c) (term_of m.0) ≡ Some k.reign = rw (p, u) k.led in
-      subst (λ x. Front (log_at S c) x) (sym k.log) (copy-behind c m.0 k.reign r.0 m.2 g)
+      let g : S.logs.leadership (part S c) (term_of m.0) ≡ Some k.leadership = rw (p, u) k.led in
+      subst (λ x. Prefix (log_at S c) x) (sym k.log) (copy-behind c m.0 k.leadership r.0 m.2 g)
 
   -- What a copy counts firm is in each copy of its term.
   firm-there : (c d : ℕ) (w v : Membership) → MemberOk S c w → MemberOk S d v → part S c ≡ part S d → term_of w ≡ term_of v → (S.sites d).firm ≤ length (log_at S c)
@@ -132,27 +132,27 @@ module _ (S : LogState) (H : Holds S) where
     pub word : Membership
     pub view : (S.sites c).view ≡ Some word
     pub joining : Joining
-    pub nj : ℕ
-    pub took : Took S c word joining nj
+    pub stream_start : ℕ
+    pub took : Took S c word joining stream_start
 
   has-loaded : (c : ℕ) (j : Joining) → (S.sites c).joining ≡ Some j → j.is_loaded ≡ true → Loaded c
   has-loaded c j e l = seen (S.sites c).view refl ((H.sites c).joiner j e).view
     where
       streamed : (w : Membership) → (S.sites c).view ≡ Some w → (o : Option Streamed) → StreamIn S c w j o → Loaded c
       streamed w v None k = absurd (not-both j.is_loaded l k.loads)
-      streamed w v (Some st) k = record { word = w; view = v; joining = j; nj = st.nj; took = k }
+      streamed w v (Some st) k = record { word = w; view = v; joining = j; stream_start = st.stream_start; took = k }
 
       seen : (o : Option Membership) → (S.sites c).view ≡ o → ViewIn S c j o → Loaded c
       seen None v k = absurd (not-both j.is_loaded l k.loads)
       seen (Some w) v k = streamed w v j.stream k.stream
 
-  joiner-follows : (c l : ℕ) → Loaded c → Reigning l → part S c ≡ part S l → term_at S c ≡ term_at S l
-      → Front (log_at S c) (log_at S l) × ((S.sites l).firm ≤ length (log_at S c))
+  joiner-follows : (c l : ℕ) → Loaded c → HeldLeadership l → part S c ≡ part S l → term_at S c ≡ term_at S l
+      → Prefix (log_at S c) (log_at S l) × ((S.sites l).firm ≤ length (log_at S c))
   joiner-follows c l j k p t =
       let u : term_of j.word ≡ term_of k.word = sym (view-term c j.word j.view) ∙ t ∙ view-term l k.word k.view in
-      let g : S.logs.reign (part S c) (term_of j.word) ≡ Some k.reign = rw (p, u) k.led in
-      let one : j.took.reign ≡ k.reign = same-some (sym j.took.led ∙ g) in
-      let n = ((H.streamed c (term_of j.word) (record { start = start_at S c; nj = j.nj }) j.took.streamed).running refl).2 in
+      let g : S.logs.leadership (part S c) (term_of j.word) ≡ Some k.leadership = rw (p, u) k.led in
+      let one : j.took.leadership ≡ k.leadership = same-some (sym j.took.led ∙ g) in
+      let n = ((H.streamed c (term_of j.word) (record { start = start_at S c; stream_start = j.stream_start }) j.took.streamed).running refl).2 in
       let firm : (S.sites l).firm ≤ S.logs.reach (part S c) (term_of j.word) = rw (p, u) k.member.firm in
       ((j.joining.tasks ++ j.took.more, k.log ∙ ap (λ x. x.log) (sym one) ∙ sym j.took.whole ∙ append_assoc (log_at S c) j.joining.tasks j.took.more), omega (arith, firm, n))
 
@@ -162,8 +162,8 @@ module _ (w : World) (k : HasLogs w) where
   abbrev S : LogState
   S = log_state w k.owner k.history k.logs
 
-  pub leader-ahead : (c l : ℕ) → AreCopies w c l → Leads w l → Front (log_at S c) (log_at S l)
-  leader-ahead c l a b = copy-follows S k.holds c l a.first (reigning S k.holds l b.runs b.leads) a.alike.part a.alike.term
+  pub leader-ahead : (c l : ℕ) → AreCopies w c l → Leads w l → Prefix (log_at S c) (log_at S l)
+  leader-ahead c l a b = copy-follows S k.holds c l a.first (held-leadership S k.holds l b.runs b.leads) a.alike.part a.alike.term
 
   -- the words of two copies
   record Words (c d : ℕ) : Type 0 where
@@ -194,10 +194,10 @@ module _ (w : World) (k : HasLogs w) where
   pub firm-in : (c d : ℕ) → AreCopies w c d → (S.sites d).firm ≤ length (log_at S c)
   firm-in c d a = let x = words-of c d a in firm-there S k.holds c d x.first x.second x.member x.member_too a.alike.part x.term
 
-  pub comparable : (c d : ℕ) → AreCopies w c d → Front (log_at S c) (log_at S d) ⊎ Front (log_at S d) (log_at S c)
+  pub comparable : (c d : ℕ) → AreCopies w c d → Prefix (log_at S c) (log_at S d) ⊎ Prefix (log_at S d) (log_at S c)
   comparable c d a = let x = words-of c d a in copies-meet S k.holds c d x.first x.second x.up x.up_too x.member x.member_too a.alike.part x.term
 
   pub joiner-behind : (c l : ℕ) → HasLoaded w c → Leads w l → OfOneTerm w c l → Follows w c l
   joiner-behind c l h b a =
-      let f = joiner-follows S k.holds c l (has-loaded S k.holds c h.0 h.1 h.2) (reigning S k.holds l b.runs b.leads) a.part a.term in
-      record { front = f.0; firm = f.1 }
+      let f = joiner-follows S k.holds c l (has-loaded S k.holds c h.0 h.1 h.2) (held-leadership S k.holds l b.runs b.leads) a.part a.term in
+      record { prefix = f.0; firm = f.1 }

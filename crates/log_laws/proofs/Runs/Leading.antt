@@ -1,4 +1,4 @@
--- The lead of a partition, which the world keeps: what the history says of it stays so in turns of sites.
+-- The authoritative log of a partition, which the world keeps: what the history says of it stays so in turns of sites.
 use Rattle.std.proofs.Common.{◌≡◌, ◌<◌, ◌≤◌, Bool, true, false, refl, sym, subst, ap, ◌∙◌, inl, inr, arith}
 use Rattle.std.proofs.lemmas.Bool.{cases_eq, cases_lt, and_from, leb-true}
 use Rattle.std.proofs.lemmas.Bool.Decides.{nat_tests}
@@ -6,10 +6,10 @@ use Rattle.std.specs.Prelude.{ℕ, nat_le, max, if◌then◌else◌, Option, Som
 use Rattle.volt_wire.specs.Word.{Membership}
 use Rattle.cluster_model.specs.Words.{Deployment, term_of, term_in, leader}
 use Rattle.cluster_model.specs.SiteState.{SiteState, Joining, site_term, is_leader, leads}
-use Rattle.cluster_model.specs.World.{Lead, lead_after}
+use Rattle.cluster_model.specs.World.{AuthoritativeLog, authoritative_after}
 use Rattle.word_laws.proofs.Lists.{none-and-some, same-some, not-both}
-use Rattle.log_laws.specs.Histories.{LogState, Logs, Reign, Holds, ViewIn, LeadsIn, part, start_at, log_at, term_at}
-use Rattle.log_laws.specs.Copies.{LeadOk}
+use Rattle.log_laws.specs.Histories.{LogState, Logs, Leadership, Holds, ViewIn, LeadsIn, part, start_at, log_at, term_at}
+use Rattle.log_laws.specs.Copies.{AuthoritativeOk}
 use Rattle.log_laws.proofs.Plain.Copies.{leader-is, leader-view, leads-parts}
 use Rattle.log_laws.proofs.Kept.Terms.{took-unnamed}
 use Rattle.log_laws.proofs.Kept.Moves.{Heads, Grown}
@@ -32,8 +32,8 @@ module _ (T : LogState) (H : Holds T) (i : ℕ) where
       runs-with-word v.1.0 v.1.1
 
   -- By its word it leads: once its term has begun, it does so with what that begins with.
-  pub heads-lead : (p t : ℕ) (g : Reign) → Heads T.words.deployment i (T.sites i) p t → T.logs.reign p t ≡ Some g → leads T.words.deployment i (T.sites i) ≡ true
-  heads-lead p t g h led = choice (T.sites i).joining refl
+  pub heads-authoritative : (p t : ℕ) (g : Leadership) → Heads T.words.deployment i (T.sites i) p t → T.logs.leadership p t ≡ Some g → leads T.words.deployment i (T.sites i) ≡ true
+  heads-authoritative p t g h led = choice (T.sites i).joining refl
     where
       up : 0 < start_at T i
       up = runs-with-word h.word h.view
@@ -41,8 +41,8 @@ module _ (T : LogState) (H : Holds T) (i : ℕ) where
       first : leader T.words.deployment h.word (part T i) ≡ Some i
       first = ap (leader T.words.deployment h.word) h.part_is ∙ h.first
 
-      here : T.logs.reign (part T i) (term_of h.word) ≡ Some g
-      here = ap (λ q. T.logs.reign q (term_of h.word)) h.part_is ∙ ap (T.logs.reign p) h.term_is ∙ led
+      here : T.logs.leadership (part T i) (term_of h.word) ≡ Some g
+      here = ap (λ q. T.logs.leadership q (term_of h.word)) h.part_is ∙ ap (T.logs.leadership p) h.term_is ∙ led
 
       -- its start was in the word that it would have taken
       joins : (j : Joining) → ViewIn T i j (Some h.word) → ⊥
@@ -53,29 +53,29 @@ module _ (T : LogState) (H : Holds T) (i : ℕ) where
       choice None e =
           let m = (H.sites i).member up e in
           let same : m.0 ≡ h.word = same-some (sym m.1 ∙ h.view) in
-          let leading : LeadsIn (T.sites i) (T.logs.reign (part T i) (term_of h.word)) =
-          subst (λ w. leader T.words.deployment w (part T i) ≡ Some i → LeadsIn (T.sites i) (T.logs.reign (part T i) (term_of w))) same m.2.leading first in
+          let leading : LeadsIn (T.sites i) (T.logs.leadership (part T i) (term_of h.word)) =
+          subst (λ w. leader T.words.deployment w (part T i) ≡ Some i → LeadsIn (T.sites i) (T.logs.leadership (part T i) (term_of w))) same m.2.leading first in
           and_from (is_leader T.words.deployment i (T.sites i)) (T.sites i).repaired (leader-is T.words.deployment i (T.sites i) h.word h.view e first)
           (subst (LeadsIn (T.sites i)) here leading).0
 
 -- ---- what the history says of a lead
 
-module _ (D : Deployment) (i : ℕ) (s : SiteState) (F G : Logs) (grown : Grown D i s F G) (p : ℕ) (l : Lead) (k : LeadOk F p l) where
+module _ (D : Deployment) (i : ℕ) (s : SiteState) (F G : Logs) (grown : Grown D i s F G) (p : ℕ) (l : AuthoritativeLog) (k : AuthoritativeOk F p l) where
   -- what is firm stays so
-  firm-still : (t : ℕ) × (g : Reign) × (G.reign p t ≡ Some g) × (l.firm ≤ G.reach p t)
+  firm-still : (t : ℕ) × (g : Leadership) × (G.leadership p t ≡ Some g) × (l.firm ≤ G.reach p t)
   firm-still = let f = k.firm in let h = grown.onward.kept p f.0 f.1 f.2 in let r = grown.onward.reach p f.0 in (f.0, h.0, h.1, omega (arith, f.3, r))
 
   -- where its term isn't led in another way, its log is the one of that
-  led-still : ((h : Reign) → G.reign p l.term ≡ Some h → Heads D i s p l.term → ⊥) → G.reign p l.term ≡ Some k.reign
-  led-still none = let h = grown.onward.kept p l.term k.reign k.led in elim (grown.led p l.term h.0 h.1) [
+  led-still : ((h : Leadership) → G.leadership p l.term ≡ Some h → Heads D i s p l.term → ⊥) → G.leadership p l.term ≡ Some k.leadership
+  led-still none = let h = grown.onward.kept p l.term k.leadership k.led in elim (grown.led p l.term h.0 h.1) [
     | inl old ↦ h.1 ∙ ap Some (same-some (sym old ∙ k.led))
     | inr new ↦ absurd (none h.0 h.1 new)
   ]
 
   -- A lead stays, where the turn leads in no term of its partition.
-  pub lead-still : ((t : ℕ) (h : Reign) → G.reign p t ≡ Some h → Heads D i s p t → ⊥) → LeadOk G p l
-  lead-still none = record {
-    reign = k.reign;
+  pub authoritative-still : ((t : ℕ) (h : Leadership) → G.leadership p t ≡ Some h → Heads D i s p t → ⊥) → AuthoritativeOk G p l
+  authoritative-still none = record {
+    leadership = k.leadership;
     led = led-still (none l.term);
     log = k.log;
     greatest = λ t g is. elim (grown.led p t g is) [
@@ -86,7 +86,7 @@ module _ (D : Deployment) (i : ℕ) (s : SiteState) (F G : Logs) (grown : Grown 
   }
 
 -- After a turn of a site that leads, in this term and with this log.
-module _ (T : LogState) (H : Holds T) (F : Logs) (i : ℕ) (grown : Grown T.words.deployment i (T.sites i) F T.logs) (l : Lead) (k : LeadOk F (part T i) l)
+module _ (T : LogState) (H : Holds T) (F : Logs) (i : ℕ) (grown : Grown T.words.deployment i (T.sites i) F T.logs) (l : AuthoritativeLog) (k : AuthoritativeOk F (part T i) l)
     (m : Leading T i) where
   abbrev D : Deployment
   D = T.words.deployment
@@ -104,67 +104,67 @@ module _ (T : LogState) (H : Holds T) (F : Logs) (i : ℕ) (grown : Grown T.word
   abbrev firm_after : ℕ
   firm_after = max l.firm (T.sites i).firm
 
-  greatest-after : (u : ℕ) (g : Reign) → T.logs.reign (part T i) u ≡ Some g → u ≤ max l.term (term_at T i)
+  greatest-after : (u : ℕ) (g : Leadership) → T.logs.leadership (part T i) u ≡ Some g → u ≤ max l.term (term_at T i)
   greatest-after u g is = elim (grown.led (part T i) u g is) [
     | inl old ↦ let b = k.greatest u g old in omega (arith, b)
     | inr new ↦ let e = own-term u new in let f = term-is in omega (arith, e, f)
   ]
 
-  firm-after : (u : ℕ) × (g : Reign) × (T.logs.reign (part T i) u ≡ Some g) × (firm_after ≤ T.logs.reach (part T i) u)
+  firm-after : (u : ℕ) × (g : Leadership) × (T.logs.leadership (part T i) u ≡ Some g) × (firm_after ≤ T.logs.reach (part T i) u)
   firm-after = elim (cases_lt l.firm (T.sites i).firm) [
-    | inl less ↦ (t, m.reign, m.led, let b = m.member.firm in omega (arith, less, b))
+    | inl less ↦ (t, m.leadership, m.led, let b = m.member.firm in omega (arith, less, b))
     | inr more ↦ let f = firm-still D i (T.sites i) F T.logs grown (part T i) l k in (f.0, f.1, f.2, omega (arith, more, f.3))
   ]
 
-  -- It takes the lead, if no greater term was led. What it counts firm is firm in the lead.
+  -- It takes the authoritative log, if no greater term was led. What it counts firm is firm in the authoritative log.
   leads-on : (b : Bool) → nat_le l.term (term_at T i) ≡ b
-      → LeadOk T.logs (part T i) (record { term = max l.term (term_at T i); log = if b then log_at T i else l.log; firm = firm_after })
+      → AuthoritativeOk T.logs (part T i) (record { term = max l.term (term_at T i); log = if b then log_at T i else l.log; firm = firm_after })
   leads-on true e = record {
-    reign = m.reign;
+    leadership = m.leadership;
     led = let low : l.term ≤ term_at T i = leb-true l.term (term_at T i) e in let f = term-is in
-        subst (λ u. T.logs.reign (part T i) u ≡ Some m.reign) (omega (arith, low, f)) m.led;
+        subst (λ u. T.logs.leadership (part T i) u ≡ Some m.leadership) (omega (arith, low, f)) m.led;
     log = m.log;
     greatest = greatest-after;
     firm = firm-after;
   }
   leads-on false e = let above : term_at T i < l.term = grind (arith, nat_tests, e) in record {
-    reign = k.reign;
-    led = subst (λ u. T.logs.reign (part T i) u ≡ Some k.reign) (omega (arith, above))
+    leadership = k.leadership;
+    led = subst (λ u. T.logs.leadership (part T i) u ≡ Some k.leadership) (omega (arith, above))
         (led-still D i (T.sites i) F T.logs grown (part T i) l k (λ h is new. let q = own-term l.term new in let f = term-is in absurd (omega (arith, above, q, f))));
     log = k.log;
     greatest = greatest-after;
     firm = firm-after;
   }
 
--- What the history says of the lead of a site's partition, after a turn of that site.
-pub lead-turned : (T : LogState) → Holds T → (F : Logs) (i : ℕ) → Grown T.words.deployment i (T.sites i) F T.logs → (l : Lead)
-    → LeadOk F (part T i) l → LeadOk T.logs (part T i) (lead_after T.words.deployment i (T.sites i) l)
-lead-turned T H F i grown l k = choice (leads T.words.deployment i (T.sites i)) refl
+-- What the history says of the authoritative log of a site's partition, after a turn of that site.
+pub authoritative-turned : (T : LogState) → Holds T → (F : Logs) (i : ℕ) → Grown T.words.deployment i (T.sites i) F T.logs → (l : AuthoritativeLog)
+    → AuthoritativeOk F (part T i) l → AuthoritativeOk T.logs (part T i) (authoritative_after T.words.deployment i (T.sites i) l)
+authoritative-turned T H F i grown l k = choice (leads T.words.deployment i (T.sites i)) refl
   where
-    choice : (b : Bool) → leads T.words.deployment i (T.sites i) ≡ b → LeadOk T.logs (part T i) (if b then record {
+    choice : (b : Bool) → leads T.words.deployment i (T.sites i) ≡ b → AuthoritativeOk T.logs (part T i) (if b then record {
       term = max l.term (term_at T i);
       log = if nat_le l.term (term_at T i) then log_at T i else l.log;
       firm = max l.firm (T.sites i).firm;
     } else l)
     choice true e = leads-on T H F i grown l k (leading T i H (leads-runs T H i e) e) (nat_le l.term (term_at T i)) refl
-    choice false e = lead-still T.words.deployment i (T.sites i) F T.logs grown (part T i) l k (λ t g is new.
-        not-both (leads T.words.deployment i (T.sites i)) (heads-lead T H i (part T i) t g new is) e)
+    choice false e = authoritative-still T.words.deployment i (T.sites i) F T.logs grown (part T i) l k (λ t g is new.
+        not-both (leads T.words.deployment i (T.sites i)) (heads-authoritative T H i (part T i) t g new is) e)
 
--- ---- the lead only rises
+-- ---- the authoritative log only rises
 
 -- of a lead and a later one
-pub record Rises (l m : Lead) : Type 0 where
+pub record Rises (l m : AuthoritativeLog) : Type 0 where
   pub term : l.term ≤ m.term
   pub firm : l.firm ≤ m.firm
 
-pub rises-same : (l : Lead) → Rises l l
+pub rises-same : (l : AuthoritativeLog) → Rises l l
 rises-same l = record { term = omega arith; firm = omega arith }
 
-pub rises-then : (l m n : Lead) → Rises l m → Rises m n → Rises l n
+pub rises-then : (l m n : AuthoritativeLog) → Rises l m → Rises m n → Rises l n
 rises-then l m n f g = record { term = let a = f.term in let b = g.term in omega (arith, a, b); firm = let a = f.firm in let b = g.firm in omega (arith, a, b) }
 
-pub lead-rises : (D : Deployment) (i : ℕ) (s : SiteState) (l : Lead) → Rises l (lead_after D i s l)
-lead-rises D i s l = choice (leads D i s)
+pub authoritative-rises : (D : Deployment) (i : ℕ) (s : SiteState) (l : AuthoritativeLog) → Rises l (authoritative_after D i s l)
+authoritative-rises D i s l = choice (leads D i s)
   where
     choice : (b : Bool)
         → Rises l (if b then record { term = max l.term (site_term s); log = if nat_le l.term (site_term s) then s.log else l.log; firm = max l.firm s.firm } else l)
@@ -172,5 +172,5 @@ lead-rises D i s l = choice (leads D i s)
     choice false = rises-same l
 
 -- what a site counts firm that leads is firm in it
-pub lead-counted : (D : Deployment) (i : ℕ) (s : SiteState) (l : Lead) → leads D i s ≡ true → s.firm ≤ (lead_after D i s l).firm
-lead-counted D i s l e = rw e (omega arith)
+pub authoritative-counted : (D : Deployment) (i : ℕ) (s : SiteState) (l : AuthoritativeLog) → leads D i s ≡ true → s.firm ≤ (authoritative_after D i s l).firm
+authoritative-counted D i s l e = rw e (omega arith)

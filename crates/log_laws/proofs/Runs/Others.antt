@@ -15,7 +15,7 @@ use Rattle.cluster_model.specs.AgentState.{new_agent, stops_others}
 use Rattle.cluster_model.specs.Client.{ClientState, Due, submits, submit_to, target}
 use Rattle.cluster_model.specs.Director.{DirectorState, stops_host, asks_recovery, does, does_next}
 use Rattle.cluster_model.specs.Scanner.{ScannerState, Scan, scan_block, scans, scan_turn, scanner_turn}
-use Rattle.cluster_model.specs.Outside.{Outside, Fair, DiskFails, NoMemory, DisksShow}
+use Rattle.cluster_model.specs.Environment.{Environment, NoFault, DiskFails, NoMemory, DisksShow}
 use Rattle.cluster_model.specs.World.{World, took, sent, set_at, stop_noted, stamp_of, with_director, with_client, with_scanner}
 use Rattle.cluster_model.specs.Recover.{left_contents, stays_stopped}
 use Rattle.cluster_model.specs.Events.{delivered}
@@ -26,9 +26,9 @@ use Rattle.word_laws.specs.Chain.{state_of}
 use Rattle.word_laws.proofs.Lists.{all-append, all-if, all-mono, set-there}
 use Rattle.word_laws.proofs.Channels.{starts-if, stops_all-starts}
 use Rattle.word_laws.proofs.Steps.{same-true, channel-holds}
-use Rattle.word_laws.proofs.Draws.{director-quiet-holds, draws-holds}
+use Rattle.word_laws.proofs.Draws.{director-inert-holds, draws-holds}
 use Rattle.log_laws.specs.Histories.{LogState, ForeignOk, Holds}
-use Rattle.log_laws.specs.Copies.{log_state, LeadOk, CountedIn, HasLogs}
+use Rattle.log_laws.specs.Copies.{log_state, AuthoritativeOk, CountedIn, HasLogs}
 use Rattle.log_laws.proofs.Runs.Boots.{NoStart}
 use Rattle.log_laws.proofs.Runs.Frames.{Agrees, foreign-plain, frames-holds}
 
@@ -125,33 +125,33 @@ pub record Keeps (w : World) (k : HasLogs w) (v : World) : Type 0 where
   pub next : HasLogs v
   pub history : next.history ≡ k.history
   pub logs : next.logs ≡ k.logs
-  pub lead : v.lead_of ≡ w.lead_of
+  pub authoritative : v.authoritative ≡ w.authoritative
 
 still : (w : World) (k : HasLogs w) → Keeps w k w
-still w k = record { next = k; history = refl; logs = refl; lead = refl }
+still w k = record { next = k; history = refl; logs = refl; authoritative = refl }
 
 -- where the histories stay
-pub keeps : (w v : World) (k : HasLogs w) (owner : ℕ → ℕ) → v.lead_of ≡ w.lead_of → CountedIn v → Holds (log_state v owner k.history k.logs)
+pub keeps : (w v : World) (k : HasLogs w) (owner : ℕ → ℕ) → v.authoritative ≡ w.authoritative → CountedIn v → Holds (log_state v owner k.history k.logs)
     → ((h : ℕ) → is_host v.deployment h ≡ false → v.agents h ≡ new_agent 0) → Keeps w k v
-keeps w v k owner lead counted holds outsiders = record {
+keeps w v k owner authoritative counted holds strangers = record {
   next = record {
     owner = owner;
     history = k.history;
     logs = k.logs;
     holds = holds;
-    outsiders = outsiders;
-    lead = λ p. subst (LeadOk k.logs p) (ap (λ f. f p) (sym lead)) (k.lead p);
+    strangers = strangers;
+    authoritative = λ p. subst (AuthoritativeOk k.logs p) (ap (λ f. f p) (sym authoritative)) (k.authoritative p);
     counted = counted;
   };
   history = refl;
   logs = refl;
-  lead = lead;
+  authoritative = authoritative;
 }
 
 -- ---- one of them takes a message
 
 -- a client takes it and sends nothing
-pub to_client-logs : (E : Database) (w : World) (n : ℕ) (from : Actor) (ls : List Letter) (o : Outside) → (k : HasLogs w) → Keeps w k (delivered E w (Client n) from ls o)
+pub to_client-logs : (E : Database) (w : World) (n : ℕ) (from : Actor) (ls : List Letter) (o : Environment) → (k : HasLogs w) → Keeps w k (delivered E w (Client n) from ls o)
 to_client-logs E w n from [] o k = still w k
 to_client-logs E w n from (l ∷ ls) o k =
     let S = log_state w k.owner k.history k.logs in
@@ -160,10 +160,10 @@ to_client-logs E w n from (l ∷ ls) o k =
     (foreign-turn w k S.words.next k.owner (took w.channel from (Client n)) (Client n) no_sends tt (took-agrees w.channel from (Client n) tt)
     (took-foreign S w.channel from (Client n) tt k.holds.foreign)
     (channel-holds S.words v.channel (λ h g. refl) (λ h. refl) k.holds.words) (λ x l. refl) (λ c. tt))
-    k.outsiders
+    k.strangers
 
 -- so does the director
-pub to_director-logs : (E : Database) (w : World) (from : Actor) (ls : List Letter) (o : Outside) → (k : HasLogs w) → Keeps w k (delivered E w Director from ls o)
+pub to_director-logs : (E : Database) (w : World) (from : Actor) (ls : List Letter) (o : Environment) → (k : HasLogs w) → Keeps w k (delivered E w Director from ls o)
 to_director-logs E w from [] o k = still w k
 to_director-logs E w from (l ∷ ls) o k =
     let S = log_state w k.owner k.history k.logs in
@@ -173,7 +173,7 @@ to_director-logs E w from (l ∷ ls) o k =
     (foreign-turn w k S.words.next k.owner (took w.channel from Director) Director no_sends tt (took-agrees w.channel from Director tt)
     (took-foreign S w.channel from Director tt k.holds.foreign)
     (channel-holds S.words v.channel (λ h g. refl) (λ h. ap starts_in (append-nil (w.channel Director (Agent h)))) k.holds.words) (λ x l. refl) (λ c. tt)))
-    k.outsiders
+    k.strangers
 
 -- A scanner sends no start.
 stops-none : (D : Deployment) (h start c : ℕ) → AllByRecursion NoStart (stops_others D h start (Site c))
@@ -182,9 +182,9 @@ stops-none D h start c = all-if NoStart (is_slot_of D h c) (open_letter (msg.Sto
 only-none : (to : Actor) (l : Letter) (b : Actor) → NoStart l → AllByRecursion NoStart (only to l b)
 only-none to l b k = all-if NoStart (same to b) (l ∷ []) [] (k, tt) tt
 
-scanner_turn-none : (D : Deployment) (i : ℕ) (x : ScannerState) (from : Actor) (l : Letter) (o : Outside) (c : ℕ)
+scanner_turn-none : (D : Deployment) (i : ℕ) (x : ScannerState) (from : Actor) (l : Letter) (o : Environment) (c : ℕ)
     → AllByRecursion NoStart ((scanner_turn D i x from l o).sends (Site c))
-scanner_turn-none D i x from l Fair c = tt
+scanner_turn-none D i x from l NoFault c = tt
 scanner_turn-none D i x from l (DiskFails answered) c = tt
 scanner_turn-none D i x from l (NoMemory answered) c = stops-none D (host_of_slot D i) _ c
 scanner_turn-none D i x from l (DisksShow shown failed) c = tt
@@ -197,13 +197,13 @@ scans-none i x (Some s) c = block s.left
     block [] = only-none (Site i) _ (Site c) tt
     block (b ∷ left) = only-none s.target _ (Site c) tt
 
-scan_turn-none : (D : Deployment) (i : ℕ) (x : ScannerState) (o : Outside) (c : ℕ) → AllByRecursion NoStart ((scan_turn D i x o).sends (Site c))
-scan_turn-none D i x Fair c = scans-none i x x.scan c
+scan_turn-none : (D : Deployment) (i : ℕ) (x : ScannerState) (o : Environment) (c : ℕ) → AllByRecursion NoStart ((scan_turn D i x o).sends (Site c))
+scan_turn-none D i x NoFault c = scans-none i x x.scan c
 scan_turn-none D i x (DiskFails answered) c = scans-none i x x.scan c
 scan_turn-none D i x (NoMemory answered) c = stops-none D (host_of_slot D i) _ c
 scan_turn-none D i x (DisksShow shown failed) c = scans-none i x x.scan c
 
-pub to_scanner-logs : (E : Database) (w : World) (i : ℕ) (from : Actor) (ls : List Letter) (o : Outside) → (k : HasLogs w) → Keeps w k (delivered E w (Scanner i) from ls o)
+pub to_scanner-logs : (E : Database) (w : World) (i : ℕ) (from : Actor) (ls : List Letter) (o : Environment) → (k : HasLogs w) → Keeps w k (delivered E w (Scanner i) from ls o)
 to_scanner-logs E w i from [] o k = still w k
 to_scanner-logs E w i from (l ∷ ls) o k =
     let S = log_state w k.owner k.history k.logs in
@@ -213,7 +213,7 @@ to_scanner-logs E w i from (l ∷ ls) o k =
     (foreign-turn w k S.words.next k.owner (took w.channel from (Scanner i)) (Scanner i) t.sends tt (took-agrees w.channel from (Scanner i) tt)
     (took-foreign S w.channel from (Scanner i) tt k.holds.foreign)
     (channel-holds S.words v.channel (λ h g. refl) (λ h. refl) k.holds.words) (λ x l. refl) (scanner_turn-none w.deployment i (w.scanners i) from l o))
-    k.outsiders
+    k.strangers
 
 -- ---- what they do of themselves
 
@@ -227,14 +227,14 @@ of-itself w v k a out far words none =
     foreign-turn w k S.words.next k.owner w.channel a out far (record { sites = λ i c. refl; told = λ i h. refl; views = λ g c. refl; agreed = λ g h. refl })
     k.holds.foreign words (λ x l. refl) none
 
-pub scan-logs : (w : World) (i : ℕ) (o : Outside) → (k : HasLogs w) → Keeps w k (with_scanner (stop_noted w (Scanner i) o) i (scan_turn w.deployment i (w.scanners i) o))
+pub scan-logs : (w : World) (i : ℕ) (o : Environment) → (k : HasLogs w) → Keeps w k (with_scanner (stop_noted w (Scanner i) o) i (scan_turn w.deployment i (w.scanners i) o))
 scan-logs w i o k =
     let v = with_scanner (stop_noted w (Scanner i) o) i (scan_turn w.deployment i (w.scanners i) o) in
     let out = (scan_turn w.deployment i (w.scanners i) o).sends in
     keeps w v k k.owner refl k.counted
     (of-itself w v k (Scanner i) out tt (channel-holds (state_of w k.owner k.history) v.channel (λ h g. refl) (λ h. refl) k.holds.words)
     (scan_turn-none w.deployment i (w.scanners i) o))
-    k.outsiders
+    k.strangers
 
 submits-none : (D : Deployment) (stamp : ℕ) (c : ClientState) (left : List Due) (n : ℕ) → AllByRecursion NoStart ((submits D stamp c left).sends (Site n))
 submits-none D stamp c [] n = tt
@@ -251,7 +251,7 @@ submit-logs w n k =
     keeps w v k k.owner refl k.counted
     (of-itself w v k (Client n) t.sends tt (channel-holds (state_of w k.owner k.history) v.channel (λ h g. refl) (λ h. refl) k.holds.words)
     (submits-none w.deployment (stamp_of w) (w.clients n) (w.clients n).left))
-    k.outsiders
+    k.strangers
 
 -- ---- the director does an item
 
@@ -261,12 +261,12 @@ stops_host-none D last h c = all-if NoStart (is_slot_of D h c) (open_letter (msg
 -- one in which no start is drawn
 plain-item : (w : World) (t : Turn DirectorState) (k : HasLogs w) → w.director.next_start ≡ t.state.next_start → ((g : ℕ) → starts_in (t.sends (Agent g)) ≡ [])
     → ((c : ℕ) → AllByRecursion NoStart (t.sends (Site c))) → Keeps w k (with_director w t)
-plain-item w t k same none quiet =
+plain-item w t k same none inert =
     let S = log_state w k.owner k.history k.logs in
     keeps w (with_director w t) k k.owner refl k.counted
     (subst (λ n. Holds (record S { words = record S.words { next = n; channel = sent w.channel Director t.sends } })) same
-    (of-itself w (with_director w t) k Director t.sends tt (director-quiet-holds S.words t.sends k.holds.words none) quiet))
-    k.outsiders
+    (of-itself w (with_director w t) k Director t.sends tt (director-inert-holds S.words t.sends k.holds.words none) inert))
+    k.strangers
 
 -- one in which a start is drawn for a host
 draws-item : (w : World) (left : List TimedItem) (host : ℕ) → (k : HasLogs w) → Keeps w k (with_director w (does w.deployment (record w.director { items = left }) (item.Rejoin host)))
@@ -279,7 +279,7 @@ draws-item w left host k =
     (draws-holds S.words host k.holds.words)
     (λ x l. set-there k.owner S.words.next host x (λ e. omega (arith, e, l)))
     (λ c. tt))
-    k.outsiders
+    k.strangers
 
 item-logs : (w : World) (left : List TimedItem) (i : Item) → (k : HasLogs w) → Keeps w k (with_director w (does w.deployment (record w.director { items = left }) i))
 item-logs w left (item.Lose host) k = plain-item w (does w.deployment (record w.director { items = left }) (item.Lose host)) k refl
@@ -317,4 +317,4 @@ stopped-logs E w shown failed k =
     (frames-holds S S.words.next k.owner w.channel (left_contents E w shown failed) k.holds
     (record { sites = λ i c. refl; told = λ i h. refl; views = λ g c. refl; agreed = λ g h. refl })
     k.holds.words (λ x i. refl) k.holds.foreign)
-    k.outsiders
+    k.strangers

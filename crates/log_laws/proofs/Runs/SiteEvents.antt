@@ -12,14 +12,14 @@ use Rattle.cluster_model.specs.Words.{host_of_slot}
 use Rattle.cluster_model.specs.Disk.{after_parts, after_failure}
 use Rattle.cluster_model.specs.Letters.{Blocks, Letter, Turn, becomes, ◌▸◌, arrival, Arrival, Taken, Refused, Waits}
 use Rattle.cluster_model.specs.SiteState.{SiteState}
-use Rattle.cluster_model.specs.Site.{takes_waiting, settles, ordered, site_row, on_start, site_runs, site_takes}
+use Rattle.cluster_model.specs.Site.{takes_waiting, settles, ordered, site_handler, on_start, site_runs, site_takes}
 use Rattle.cluster_model.specs.Sync.{written, after_sync, syncs, parts_of_message, parts_of_sync, start_after, site_turn, sync_turn}
-use Rattle.cluster_model.specs.Outside.{Outside, Fair, DiskFails, NoMemory, DisksShow}
+use Rattle.cluster_model.specs.Environment.{Environment, NoFault, DiskFails, NoMemory, DisksShow}
 use Rattle.log_laws.specs.Histories.{LogState, Holds, IsSlot, ForeignOk, start_at, term_at}
 use Rattle.log_laws.proofs.Kept.Moves.{popped, Goes}
 use Rattle.log_laws.proofs.Kept.Plumbing.{goes-same, goes-turns}
 use Rattle.log_laws.proofs.Messages.Pops.{pops-kind, pops-refused, pops-stopped, waits-goes}
-use Rattle.log_laws.proofs.Kept.QuietTurns.{power-goes}
+use Rattle.log_laws.proofs.Kept.InertTurns.{power-goes}
 use Rattle.log_laws.proofs.Firmness.Syncs.{sync-goes}
 use Rattle.log_laws.proofs.Messages.Stops.{After, stops_so-after, stops_so-message, on_stop-after, on_start-after}
 use Rattle.log_laws.proofs.Runs.SiteTurns.{taken-after, settled-after}
@@ -42,7 +42,7 @@ module _ (E : Database) (stamp : ℕ) (S : LogState) (H : Holds S) (i : ℕ) (sl
       runs = grind (arith, nat_tests, up)
 
       choice : (a : Arrival) → arrival (start_at S i) (term_at S i) l ≡ a → After T i (elim a as (λ _. Turn SiteState) [
-        | Taken ↦ ordered (site_row E S.words.deployment stamp i (S.sites i) from l ▸ takes_waiting E S.words.deployment stamp i ▸ settles E S.words.deployment i)
+        | Taken ↦ ordered (site_handler E S.words.deployment stamp i (S.sites i) from l ▸ takes_waiting E S.words.deployment stamp i ▸ settles E S.words.deployment i)
         | Waits ↦ becomes (record (S.sites i) { waiting = (S.sites i).waiting ++ record { from = from; letter = l } ∷ [] })
         | Refused ↦ becomes (S.sites i)
       ])
@@ -83,9 +83,9 @@ module _ (E : Database) (stamp : ℕ) (S : LogState) (H : Holds S) (i : ℕ) (sl
       ]
 
   -- So it does where its disk fails, or it finds no memory.
-  pub turn-after : (l : Letter) (ls : List Letter) (o : Outside) → S.words.channel from (Site i) ≡ l ∷ ls
+  pub turn-after : (l : Letter) (ls : List Letter) (o : Environment) → S.words.channel from (Site i) ≡ l ∷ ls
       → After (popped S from i) i (site_turn E S.words.deployment stamp i (S.sites i) from l o)
-  turn-after l ls Fair is = takes-after l ls l.body is
+  turn-after l ls NoFault is = takes-after l ls l.body is
   turn-after l ls (DisksShow shown failed) is = takes-after l ls l.body is
   turn-after l ls (DiskFails answered) is =
       stops_so-message S H from i l ls is none S.words.deployment (start_at S i) (after_failure (S.sites i).contents (parts_of_message (S.sites i) l) answered)
@@ -101,8 +101,8 @@ syncs-after E S H i up =
     settled-after E S i t up (goes-turns S i t (sync-goes S H i up b.contents))
 
 -- All holds after a site has written what it owes, or has failed to.
-pub sync-after : (E : Database) (S : LogState) → Holds S → (i : ℕ) → S.pending i ≡ [] → 0 < start_at S i → (o : Outside) → After S i (sync_turn E S.words.deployment i (S.sites i) o)
-sync-after E S H i none up Fair = syncs-after E S H i up
+pub sync-after : (E : Database) (S : LogState) → Holds S → (i : ℕ) → S.pending i ≡ [] → 0 < start_at S i → (o : Environment) → After S i (sync_turn E S.words.deployment i (S.sites i) o)
+sync-after E S H i none up NoFault = syncs-after E S H i up
 sync-after E S H i none up (DisksShow shown failed) = syncs-after E S H i up
 sync-after E S H i none up (DiskFails answered) =
     stops_so-after S H i none S.words.deployment (start_at S i) (after_failure (S.sites i).contents (parts_of_sync (S.sites i) (S.sites i).joining) answered)

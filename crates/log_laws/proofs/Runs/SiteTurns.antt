@@ -1,4 +1,4 @@
--- The turn of a site that takes a message: its row, then what waited for its term, and then what settles.
+-- The turn of a site that takes a message: its handler, then what waited for its term, and then what settles.
 use Rattle.std.proofs.Common.{◌≡◌, ◌<◌, List, [], ◌∷◌, sym, subst, ap, ◌∙◌, inl}
 use Rattle.std.specs.Prelude.{ℕ}
 use Rattle.volt_wire.specs.declared.actor.Actor.{Actor}
@@ -7,7 +7,7 @@ use Rattle.cluster_model.specs.Engine.{Database}
 use Rattle.cluster_model.specs.Letters.{same, Letter, Turn, ◌▸◌, arrival, Taken}
 use Rattle.cluster_model.specs.Words.{Deployment}
 use Rattle.cluster_model.specs.SiteState.{SiteState}
-use Rattle.cluster_model.specs.Site.{site_row, takes_waiting, tells, ends_streams, shows, takes_asks, settles, ordered}
+use Rattle.cluster_model.specs.Site.{site_handler, takes_waiting, tells, ends_streams, shows, takes_asks, settles, ordered}
 use Rattle.log_laws.specs.Histories.{LogState, Holds, start_at, term_at}
 use Rattle.log_laws.proofs.Kept.Moves.{after, popped, left, Turns, Goes}
 use Rattle.log_laws.proofs.Kept.Grown.{grown-on}
@@ -15,11 +15,11 @@ use Rattle.log_laws.proofs.Kept.Plumbing.{here, after-after, goes-then, turns-th
 use Rattle.log_laws.proofs.Kept.Rests.{part-from}
 use Rattle.log_laws.proofs.Messages.Waited.{waited-goes}
 use Rattle.log_laws.proofs.Kept.Order.{ordered-turns, ordered-asks}
-use Rattle.log_laws.proofs.Kept.QuietTurns.{tells-goes, shows-goes}
+use Rattle.log_laws.proofs.Kept.InertTurns.{tells-goes, shows-goes}
 use Rattle.log_laws.proofs.Messages.Stops.{After}
 use Rattle.log_laws.proofs.Joins.Streams.{TakesAsks, takes_asks-holds}
 use Rattle.log_laws.proofs.Firmness.Ends.{ends_streams-goes}
-use Rattle.log_laws.proofs.Runs.SiteRows.{row-turns, left-goes}
+use Rattle.log_laws.proofs.Runs.SiteHandlers.{handler-turns, left-goes}
 use Rattle.word_laws.proofs.Hearings.{then-assoc}
 
 -- ---- what settles, but for asks that are taken up
@@ -63,25 +63,25 @@ settled-after E S i t up k =
     let calm = turns-then-goes S i t (calms E i D) k (part-from S i t.state (calms E i) (λ T K u. calms-goes E i T K u) (subst (λ n. 0 < n) (sym k.start) up)) in
     subst (λ u. After S i (ordered u)) (then-assoc t (calms E i D) (takes_asks E D i)) (asks-after E S i (t ▸ calms E i D) up calm)
 
--- The row of a message that is taken, and all that comes behind it.
+-- The handler of a message that is taken, and all that comes behind it.
 pub taken-after : (E : Database) (stamp : ℕ) (S : LogState) → Holds S → (i : ℕ) → 0 < start_at S i → S.pending i ≡ [] → (from : Actor) (l : Letter) (ls : List Letter)
     → S.words.channel from (Site i) ≡ l ∷ ls → arrival (start_at S i) (term_at S i) l ≡ Taken
-    → After (popped S from i) i (ordered (site_row E S.words.deployment stamp i (S.sites i) from l ▸ takes_waiting E S.words.deployment stamp i ▸ settles E S.words.deployment i))
+    → After (popped S from i) i (ordered (site_handler E S.words.deployment stamp i (S.sites i) from l ▸ takes_waiting E S.words.deployment stamp i ▸ settles E S.words.deployment i))
 taken-after E stamp S H i up none from l ls is take =
     let D = S.words.deployment in
     let T = popped S from i in
-    let t = site_row E D stamp i (S.sites i) from l in
-    let row = row-turns E stamp S H i up from l ls is take in
+    let t = site_handler E D stamp i (S.sites i) from l in
+    let handler = handler-turns E stamp S H i up from l ls is take in
     settled-after E T i (t ▸ takes_waiting E D stamp i) up
-    (turns-then-goes T i t (takes_waiting E D stamp i) row
-    (λ U site same pending K. waits-from U site same pending K row.start))
+    (turns-then-goes T i t (takes_waiting E D stamp i) handler
+    (λ U site same pending K. waits-from U site same pending K handler.start))
   where
-    waits-from : (U : LogState) → U.sites i ≡ (site_row E S.words.deployment stamp i (S.sites i) from l).state → U.words.deployment ≡ S.words.deployment → U.pending ≡ S.pending → Holds U
-        → (site_row E S.words.deployment stamp i (S.sites i) from l).state.start ≡ start_at S i
-        → Goes U i (takes_waiting E S.words.deployment stamp i (site_row E S.words.deployment stamp i (S.sites i) from l).state)
+    waits-from : (U : LogState) → U.sites i ≡ (site_handler E S.words.deployment stamp i (S.sites i) from l).state → U.words.deployment ≡ S.words.deployment → U.pending ≡ S.pending → Holds U
+        → (site_handler E S.words.deployment stamp i (S.sites i) from l).state.start ≡ start_at S i
+        → Goes U i (takes_waiting E S.words.deployment stamp i (site_handler E S.words.deployment stamp i (S.sites i) from l).state)
     waits-from U site same pending K start =
         let up_there : 0 < start_at U i = subst (λ s. 0 < s.start) (sym site) (subst (λ n. 0 < n) (sym start) up) in
         subst (λ s. Goes U i (takes_waiting E S.words.deployment stamp i s)) site
         (waited-goes E S.words.deployment stamp i U
-        (λ V x ws K u d is t w. subst (λ D. Goes (left V i ws) i (site_row E D stamp i (V.sites i) x.from x.letter)) d (left-goes E stamp V K i u x ws is t w))
+        (λ V x ws K u d is t w. subst (λ D. Goes (left V i ws) i (site_handler E D stamp i (V.sites i) x.from x.letter)) d (left-goes E stamp V K i u x ws is t w))
         K up_there same (ap (λ p. p i) pending ∙ none))

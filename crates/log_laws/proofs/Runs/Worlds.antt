@@ -15,8 +15,8 @@ use Rattle.cluster_model.specs.Letters.{same, Letter, Turn}
 use Rattle.cluster_model.specs.SiteState.{SiteState, is_member_site, leads}
 use Rattle.cluster_model.specs.Agent.{agent_turn}
 use Rattle.cluster_model.specs.Sync.{owes_in, may_sync, site_turn, sync_turn}
-use Rattle.cluster_model.specs.Outside.{Outside, Fair, DiskFails, NoMemory, DisksShow}
-use Rattle.cluster_model.specs.World.{World, Lead, Stopped, Input, first_world, stamp_of, took, lead_after, with_site, stops_with}
+use Rattle.cluster_model.specs.Environment.{Environment, NoFault, DiskFails, NoMemory, DisksShow}
+use Rattle.cluster_model.specs.World.{World, AuthoritativeLog, Stopped, Input, first_world, stamp_of, took, authoritative_after, with_site, stops_with}
 use Rattle.cluster_model.specs.Recover.{stays_stopped}
 use Rattle.cluster_model.specs.Events.{is_actor, is_some_letter, can, allows, delivered, recovered_with, may_do, happens, step}
 use Rattle.cluster_model.specs.Runs.{Happening, IsRun, has_failed, may_happen, run}
@@ -24,10 +24,10 @@ use Rattle.word_laws.specs.Chain.{renews_by, renews_at, renews, IsOneEpoch}
 use Rattle.word_laws.proofs.Lists.{if-false, set-here, set-both}
 use Rattle.word_laws.proofs.Worlds.{actor-host, host-apart, memory-runs}
 use Rattle.log_laws.specs.Histories.{Logs, LogState, Holds, start_at}
-use Rattle.log_laws.specs.Copies.{log_state, LeadOk, HasLogs}
+use Rattle.log_laws.specs.Copies.{log_state, AuthoritativeOk, HasLogs}
 use Rattle.log_laws.proofs.Kept.Moves.{Grown, Onward}
 use Rattle.log_laws.proofs.Kept.Grown.{onward-same, onward-then}
-use Rattle.log_laws.proofs.Runs.Leading.{Rises, rises-same, rises-then, lead-still, lead-turned, lead-rises, lead-counted}
+use Rattle.log_laws.proofs.Runs.Leading.{Rises, rises-same, rises-then, authoritative-still, authoritative-turned, authoritative-rises, authoritative-counted}
 use Rattle.log_laws.proofs.Runs.Boots.{first-logs, anew-logs}
 use Rattle.log_laws.proofs.Runs.Others.{Keeps, to_client-logs, to_director-logs, to_scanner-logs, scan-logs, submit-logs, next-logs, stopped-logs}
 use Rattle.log_laws.proofs.Agents.AgentEvents.{agent-event}
@@ -75,23 +75,23 @@ actor-slot D n e =
 pub record Reaches (w : World) (F : Logs) (anew : Bool) (v : World) : Type 0 where
   pub next : HasLogs v
   pub onward : anew ≡ false → Onward F next.logs
-  pub rises : anew ≡ false → (p : ℕ) → Rises (w.lead_of p) (v.lead_of p)
+  pub rises : anew ≡ false → (p : ℕ) → Rises (w.authoritative p) (v.authoritative p)
 
 same-reaches : (w : World) (c : Bool) (k : HasLogs w) → Reaches w k.logs c w
-same-reaches w c k = record { next = k; onward = λ e. onward-same k.logs; rises = λ e p. rises-same (w.lead_of p) }
+same-reaches w c k = record { next = k; onward = λ e. onward-same k.logs; rises = λ e p. rises-same (w.authoritative p) }
 
 -- where the history stays
 keeps-reaches : (w v : World) (c : Bool) (k : HasLogs w) → Keeps w k v → Reaches w k.logs c v
 keeps-reaches w v c k n = record {
   next = n.next;
   onward = λ e. subst (Onward k.logs) (sym n.logs) (onward-same k.logs);
-  rises = λ e p. subst (Rises (w.lead_of p)) (ap (λ f. f p) (sym n.lead)) (rises-same (w.lead_of p));
+  rises = λ e p. subst (Rises (w.authoritative p)) (ap (λ f. f p) (sym n.authoritative)) (rises-same (w.authoritative p));
 }
 
 -- the event is noted in the trace
 noted : (w : World) (F : Logs) (c : Bool) (v : World) (trace : List Event) → Reaches w F c v → Reaches w F c (record v { trace = trace })
 noted w F c v trace r = let n = r.next in record {
-  next = record { owner = n.owner; history = n.history; logs = n.logs; holds = n.holds; outsiders = n.outsiders; lead = n.lead; counted = n.counted };
+  next = record { owner = n.owner; history = n.history; logs = n.logs; holds = n.holds; strangers = n.strangers; authoritative = n.authoritative; counted = n.counted };
   onward = r.onward;
   rises = r.rises;
 }
@@ -108,12 +108,12 @@ site-reaches w c k channel stops i t G H grown = record {
     history = k.history;
     logs = G;
     holds = H;
-    outsiders = k.outsiders;
-    lead = set-both (λ p l. LeadOk G p l) w.lead_of own after own-lead
-        (λ p n. lead-still w.deployment i t.state k.logs G grown p (w.lead_of p) (k.lead p) (λ u h is new. n (sym new.part_is)));
-    counted = set-both (λ c s. is_member_site s ≡ true → leads w.deployment c s ≡ true → s.firm ≤ (v.lead_of (part_of_slot w.deployment c)).firm) w.sites i t.state
-        (λ runs lead. subst (λ l. t.state.firm ≤ l.firm) (sym (set-here w.lead_of own after)) (lead-counted w.deployment i t.state (w.lead_of own) lead))
-        (λ c n runs lead. let a = k.counted c runs lead in let b = (rises (part_of_slot w.deployment c)).firm in omega (arith, a, b));
+    strangers = k.strangers;
+    authoritative = set-both (λ p l. AuthoritativeOk G p l) w.authoritative own after own-authoritative
+        (λ p n. authoritative-still w.deployment i t.state k.logs G grown p (w.authoritative p) (k.authoritative p) (λ u h is new. n (sym new.part_is)));
+    counted = set-both (λ c s. is_member_site s ≡ true → leads w.deployment c s ≡ true → s.firm ≤ (v.authoritative (part_of_slot w.deployment c)).firm) w.sites i t.state
+        (λ runs authoritative. subst (λ l. t.state.firm ≤ l.firm) (sym (set-here w.authoritative own after)) (authoritative-counted w.deployment i t.state (w.authoritative own) authoritative))
+        (λ c n runs authoritative. let a = k.counted c runs authoritative in let b = (rises (part_of_slot w.deployment c)).firm in omega (arith, a, b));
   };
   onward = λ e. grown.onward;
   rises = λ e. rises;
@@ -128,18 +128,18 @@ site-reaches w c k channel stops i t G H grown = record {
     own : ℕ
     own = part_of_slot w.deployment i
 
-    after : Lead
-    after = lead_after w.deployment i t.state (w.lead_of own)
+    after : AuthoritativeLog
+    after = authoritative_after w.deployment i t.state (w.authoritative own)
 
     site : T.sites i ≡ t.state
     site = set-here w.sites i t.state
 
-    own-lead : LeadOk G own after
-    own-lead = subst (λ s. LeadOk G own (lead_after w.deployment i s (w.lead_of own))) site
-        (lead-turned T H k.logs i (subst (λ s. Grown w.deployment i s k.logs G) (sym site) grown) (w.lead_of own) (k.lead own))
+    own-authoritative : AuthoritativeOk G own after
+    own-authoritative = subst (λ s. AuthoritativeOk G own (authoritative_after w.deployment i s (w.authoritative own))) site
+        (authoritative-turned T H k.logs i (subst (λ s. Grown w.deployment i s k.logs G) (sym site) grown) (w.authoritative own) (k.authoritative own))
 
-    rises : (p : ℕ) → Rises (w.lead_of p) (v.lead_of p)
-    rises = set-both (λ p l. Rises (w.lead_of p) l) w.lead_of own after (lead-rises w.deployment i t.state (w.lead_of own)) (λ p n. rises-same (w.lead_of p))
+    rises : (p : ℕ) → Rises (w.authoritative p) (v.authoritative p)
+    rises = set-both (λ p l. Rises (w.authoritative p) l) w.authoritative own after (authoritative-rises w.deployment i t.state (w.authoritative own)) (λ p n. rises-same (w.authoritative p))
 
 -- its history is the one that the turn leaves
 pub site-next : (w : World) (c : Bool) (k : HasLogs w) (channel : Actor → Actor → List Letter) (stops : List Stopped) (i : ℕ) (t : Turn SiteState) (G : Logs)
@@ -148,7 +148,7 @@ pub site-next : (w : World) (c : Bool) (k : HasLogs w) (channel : Actor → Acto
 unfolding site-reaches
 site-next w c k channel stops i t G H grown = (refl, refl, refl)
 
-to_site-reaches : (E : Database) (w : World) (i : ℕ) (from : Actor) (ls : List Letter) (o : Outside) (c : Bool) (k : HasLogs w) → w.channel from (Site i) ≡ ls
+to_site-reaches : (E : Database) (w : World) (i : ℕ) (from : Actor) (ls : List Letter) (o : Environment) (c : Bool) (k : HasLogs w) → w.channel from (Site i) ≡ ls
     → nat_lt i (slots w.deployment) ≡ true → Reaches w k.logs c (delivered E w (Site i) from ls o)
 to_site-reaches E w i from [] o c k is slot = same-reaches w c k
 to_site-reaches E w i from (l ∷ ls) o c k is slot =
@@ -156,7 +156,7 @@ to_site-reaches E w i from (l ∷ ls) o c k is slot =
     let r = turn-after E (stamp_of w) S k.holds i slot refl from l ls o is in
     site-reaches w c k (took w.channel from (Site i)) (stops_with (stamp_of w) w.stops (Site i) o) i (site_turn E w.deployment (stamp_of w) i (w.sites i) from l o) r.0 r.1 r.2
 
-sync-reaches : (E : Database) (w : World) (i : ℕ) (o : Outside) (c : Bool) (k : HasLogs w) → may_sync (w.sites i) ≡ true → Reaches w k.logs c (happens E w (event.Sync i) o)
+sync-reaches : (E : Database) (w : World) (i : ℕ) (o : Environment) (c : Bool) (k : HasLogs w) → may_sync (w.sites i) ≡ true → Reaches w k.logs c (happens E w (event.Sync i) o)
 sync-reaches E w i o c k may =
     let S = log_state w k.owner k.history k.logs in
     let up = (and_parts (nat_lt 0 (w.sites i).start) (owes_in (w.sites i) (w.sites i).joining) may).0 in
@@ -166,7 +166,7 @@ sync-reaches E w i o c k may =
 
 -- ---- events of agents
 
-to_agent-reaches : (E : Database) (w : World) (n : ℕ) (from : Actor) (ls : List Letter) (o : Outside) (c : Bool) (k : HasLogs w) → w.channel from (Agent n) ≡ ls
+to_agent-reaches : (E : Database) (w : World) (n : ℕ) (from : Actor) (ls : List Letter) (o : Environment) (c : Bool) (k : HasLogs w) → w.channel from (Agent n) ≡ ls
     → is_host w.deployment n ≡ true → allows w (event.Deliver (Agent n) from) o ≡ true → Reaches w k.logs c (delivered E w (Agent n) from ls o)
 to_agent-reaches E w n from [] o c k is host may = same-reaches w c k
 to_agent-reaches E w n from (l ∷ ls) o c k is host may =
@@ -178,18 +178,18 @@ to_agent-reaches E w n from (l ∷ ls) o c k is host may =
         history = r.history;
         logs = k.logs;
         holds = r.holds;
-        outsiders = λ h e.
-            if-false (h == n) (agent_turn E w.deployment n (stamp_of w) (w.agents n) from l o).state (w.agents h) (host-apart w.deployment n h host e) ∙ k.outsiders h e;
-        lead = k.lead;
+        strangers = λ h e.
+            if-false (h == n) (agent_turn E w.deployment n (stamp_of w) (w.agents n) from l o).state (w.agents h) (host-apart w.deployment n h host e) ∙ k.strangers h e;
+        authoritative = k.authoritative;
         counted = k.counted;
       };
       onward = λ e. onward-same k.logs;
-      rises = λ e p. rises-same (w.lead_of p);
+      rises = λ e p. rises-same (w.authoritative p);
     }
 
 -- ---- events
 
-delivered-reaches : (E : Database) (w : World) (to from : Actor) (o : Outside) (k : HasLogs w) → is_actor w.deployment to ≡ true → allows w (event.Deliver to from) o ≡ true
+delivered-reaches : (E : Database) (w : World) (to from : Actor) (o : Environment) (k : HasLogs w) → is_actor w.deployment to ≡ true → allows w (event.Deliver to from) o ≡ true
     → Reaches w k.logs false (delivered E w to from (w.channel from to) o)
 delivered-reaches E w Director from o k there may =
     keeps-reaches w (delivered E w Director from (w.channel from Director) o) false k (to_director-logs E w from (w.channel from Director) o k)
@@ -200,23 +200,23 @@ delivered-reaches E w (Site i) from o k there may = to_site-reaches E w i from (
 delivered-reaches E w (Scanner i) from o k there may =
     keeps-reaches w (delivered E w (Scanner i) from (w.channel from (Scanner i)) o) false k (to_scanner-logs E w i from (w.channel from (Scanner i)) o k)
 
-recovery-reaches : (E : Database) (w : World) (o : Outside) (k : HasLogs w) → Reaches w k.logs (renews_by o) (recovered_with E w o)
-recovery-reaches E w Fair k = same-reaches w false k
+recovery-reaches : (E : Database) (w : World) (o : Environment) (k : HasLogs w) → Reaches w k.logs (renews_by o) (recovered_with E w o)
+recovery-reaches E w NoFault k = same-reaches w false k
 recovery-reaches E w (DiskFails answered) k = same-reaches w false k
 recovery-reaches E w (NoMemory answered) k = same-reaches w false k
 recovery-reaches E w (DisksShow shown None) k =
     record { next = anew-logs E w shown k; onward = λ e. absurd (false≢true (sym e)); rises = λ e p. absurd (false≢true (sym e)) }
 recovery-reaches E w (DisksShow shown (Some failed)) k = keeps-reaches w (stays_stopped E w shown failed) false k (stopped-logs E w shown failed k)
 
-happens-reaches : (E : Database) (w : World) (e : Event) (o : Outside) (k : HasLogs w) → can w e ≡ true → allows w e o ≡ true → Reaches w k.logs (renews_at e o) (happens E w e o)
-happens-reaches E w (event.Deliver to from) o k may outside =
-    delivered-reaches E w to from o k (and_parts (is_some_letter (w.channel from to)) (is_actor w.deployment to) may).1 outside
-happens-reaches E w (event.Sync i) o k may outside = sync-reaches E w i o false k (and_parts (nat_lt i (slots w.deployment)) (may_sync (w.sites i)) may).1
-happens-reaches E w (event.Scan i) o k may outside = keeps-reaches w (happens E w (event.Scan i) o) false k (scan-logs w i o k)
-happens-reaches E w event.Recover o k may outside = recovery-reaches E w o k
-happens-reaches E w event.Item o k may outside = keeps-reaches w (happens E w event.Item o) false k (next-logs w (may_do w w.director.items) w.director.items k)
-happens-reaches E w (event.Submit n) o k may outside = keeps-reaches w (happens E w (event.Submit n) o) false k (submit-logs w n k)
-happens-reaches E w (event.Idle a) o k may outside = same-reaches w false k
+happens-reaches : (E : Database) (w : World) (e : Event) (o : Environment) (k : HasLogs w) → can w e ≡ true → allows w e o ≡ true → Reaches w k.logs (renews_at e o) (happens E w e o)
+happens-reaches E w (event.Deliver to from) o k may environment =
+    delivered-reaches E w to from o k (and_parts (is_some_letter (w.channel from to)) (is_actor w.deployment to) may).1 environment
+happens-reaches E w (event.Sync i) o k may environment = sync-reaches E w i o false k (and_parts (nat_lt i (slots w.deployment)) (may_sync (w.sites i)) may).1
+happens-reaches E w (event.Scan i) o k may environment = keeps-reaches w (happens E w (event.Scan i) o) false k (scan-logs w i o k)
+happens-reaches E w event.Recover o k may environment = recovery-reaches E w o k
+happens-reaches E w event.Item o k may environment = keeps-reaches w (happens E w event.Item o) false k (next-logs w (may_do w w.director.items) w.director.items k)
+happens-reaches E w (event.Submit n) o k may environment = keeps-reaches w (happens E w (event.Submit n) o) false k (submit-logs w n k)
+happens-reaches E w (event.Idle a) o k may environment = same-reaches w false k
 
 step-reaches : (E : Database) (w : World) (e : Happening) → may_happen w e ≡ true → (k : HasLogs w) → Reaches w k.logs (renews e) (step E w e)
 step-reaches E w e may k =
@@ -241,7 +241,7 @@ run-reaches E (e ∷ es) w r same k =
     record {
       next = n.next;
       onward = λ f. onward-then k.logs s.next.logs n.next.logs (s.onward same.0) (n.onward f);
-      rises = λ f p. rises-then (w.lead_of p) ((step E w e).lead_of p) ((run E es (step E w e)).lead_of p) (s.rises same.0 p) (n.rises f p);
+      rises = λ f p. rises-then (w.authoritative p) ((step E w e).authoritative p) ((run E es (step E w e)).authoritative p) (s.rises same.0 p) (n.rises f p);
     }
 
 pub logs-agree : (E : Database) (input : Input) (es : List Happening) → 0 < input.base → IsRun E es (first_world E input) → HasLogs (run E es (first_world E input))

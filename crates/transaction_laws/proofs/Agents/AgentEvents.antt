@@ -12,8 +12,8 @@ use Rattle.cluster_model.specs.Engine.{Database}
 use Rattle.cluster_model.specs.Words.{Deployment, slots, is_host, is_slot_of, term_of, term_in, initiator}
 use Rattle.cluster_model.specs.Letters.{Letter, Turn, becomes, open_letter, ◌▸◌, arrival, Arrival, Taken, Refused, Waits}
 use Rattle.cluster_model.specs.AgentState.{AgentState, new_agent, stops, stops_with_host}
-use Rattle.cluster_model.specs.Agent.{may_decide, agent_row, row_and_word, takes_waiting, agent_runs, agent_takes, agent_turn, start_after, on_start}
-use Rattle.cluster_model.specs.Outside.{Outside, Fair, DiskFails, NoMemory, DisksShow}
+use Rattle.cluster_model.specs.Agent.{may_decide, agent_handler, handler_and_word, takes_waiting, agent_runs, agent_takes, agent_turn, start_after, on_start}
+use Rattle.cluster_model.specs.Environment.{Environment, NoFault, DiskFails, NoMemory, DisksShow}
 use Rattle.word_laws.specs.Histories as word
 use Rattle.word_laws.specs.Histories.{In}
 use Rattle.word_laws.proofs.Lists.{all-append, all-if, not-both}
@@ -22,14 +22,14 @@ use Rattle.word_laws.proofs.Agreement.{member-is}
 use Rattle.word_laws.proofs.Moves as word_moves
 use Rattle.word_laws.proofs.Turns.{tells, concludes}
 use Rattle.word_laws.proofs.Arrivals.{Takes, Stops_, Ignores, Runs_, takes-cases, runs-taken, runs-waits, runs-refused, turn-cases, stopped-cases}
-use Rattle.word_laws.proofs.Hearings.{row-grows, agent-there, then-assoc, concludes-none}
-use Rattle.word_laws.proofs.AgentEvents.{row-event, none-waited, comes-first, start-of-body}
+use Rattle.word_laws.proofs.Hearings.{handler-grows, agent-there, then-assoc, concludes-none}
+use Rattle.word_laws.proofs.AgentEvents.{handler-event, none-waited, comes-first, start-of-body}
 use Rattle.log_laws.specs.Histories.{LogState, AskedOk, IsSlot, part, Holds}
 use Rattle.log_laws.proofs.Messages.Pops.{taken-for}
 use Rattle.log_laws.proofs.Agents.Views.{turned}
 use Rattle.log_laws.proofs.Agents.AgentTurns.{Rest, rest-of, holds-of, heard, rest-heard}
 use Rattle.log_laws.proofs.Agents.AgentWords.{concludes-agent}
-use Rattle.log_laws.proofs.Agents.AgentRows.{may-join, first-agent}
+use Rattle.log_laws.proofs.Agents.AgentHandlers.{may-join, first-agent}
 use Rattle.log_laws.proofs.Agents.AgentEvents.{AgentGoes, first-asks, decided-pops, agent-event}
 use Rattle.disk_laws.specs.Disks.{Firm}
 use Rattle.transaction_laws.specs.Transactions.{Transactions, PhaseOk, AnswerOk, WaitingAnswer, CallsHold}
@@ -37,7 +37,7 @@ use Rattle.transaction_laws.proofs.Kept.Moves.{NoOrder}
 use Rattle.transaction_laws.proofs.Initiators.Orders.{LaidOut}
 use Rattle.transaction_laws.proofs.Kept.Later.{books-later}
 use Rattle.transaction_laws.proofs.Kept.Worded.{aligned-later}
-use Rattle.transaction_laws.proofs.Agents.AgentTurns.{Mine, CallsRow, quiet-then, told-row, then-calls, concludes-calls, concludes-settled}
+use Rattle.transaction_laws.proofs.Agents.AgentTurns.{Mine, CallsHandler, inert-then, told-handler, then-calls, concludes-calls, concludes-settled}
 use Rattle.transaction_laws.proofs.Agents.AgentWaits.{phase-same, waited-calls}
 
 -- after more events
@@ -46,7 +46,7 @@ calls-later E S F halted K now stamp l k = record {
   books = books-later E S F K now stamp l k.books;
   to_sites = k.to_sites;
   to_agents = k.to_agents;
-  outside = k.outside;
+  environment = k.environment;
   sites = k.sites;
   agents = k.agents;
   halts = λ e shown s. let a = k.halts e shown s in (a.0, aligned-later E S.words.deployment now stamp l a.0 _ a.1);
@@ -86,7 +86,7 @@ module _ (E : Database) (S : LogState) (F : Firm) (halted : Bool) (K : Transacti
   stays-go b start word part waits r = (
     r,
     K,
-    quiet-then E F halted stamp S H K C (Some from) n (becomes b) r.history r.grows (λ c. tt) (as-is b start word part waits)
+    inert-then E F halted stamp S H K C (Some from) n (becomes b) r.history r.grows (λ c. tt) (as-is b start word part waits)
         (λ w x d init some is before. rw word (before (sym start ∙ is))),
   )
 
@@ -95,7 +95,7 @@ module _ (E : Database) (S : LogState) (F : Firm) (halted : Bool) (K : Transacti
   stops-go t z none r = (
     r,
     K,
-    quiet-then E F halted stamp S H K C (Some from) n t r.history r.grows none (rw z (record { initiating = inl (refl, refl, refl); waiting = tt }))
+    inert-then E F halted stamp S H K C (Some from) n t r.history r.grows none (rw z (record { initiating = inl (refl, refl, refl); waiting = tt }))
         (λ w x d init some is before. let e : t.state.start ≡ 0 = ap (λ y. y.start) z in absurd (omega (arith, some, is, e))),
   )
 
@@ -107,7 +107,7 @@ module _ (E : Database) (S : LogState) (F : Firm) (halted : Bool) (K : Transacti
   starts-go s fresh r = (
     r,
     K,
-    quiet-then E F halted stamp S H K C (Some from) n (on_start S.words.deployment n s) r.history r.grows (λ c. tt) (record { initiating = inl (refl, refl, refl); waiting = tt })
+    inert-then E F halted stamp S H K C (Some from) n (on_start S.words.deployment n s) r.history r.grows (λ c. tt) (record { initiating = inl (refl, refl, refl); waiting = tt })
         (λ w x d init some is before. absurd (fresh (named w x d init is))),
   )
     where
@@ -124,7 +124,7 @@ came-answer : (E : Database) (S : LogState) (F : Firm) (halted : Bool) (K : Tran
     → S.words.channel from (Agent n) ≡ l ∷ ls → (c : ℕ) → from ≡ Site c → IsSlot S c × AnswerOk E S F K (part S c) l
 came-answer E S F halted K stamp n from l ls C is c e = elim (cases_Bool (nat_lt c (slots S.words.deployment))) [
   | inl slot ↦ (slot, (subst (AllByRecursion (AnswerOk E S F K (part S c))) here (C.to_agents c n slot)).0)
-  | inr out ↦ let none = C.outside c n (λ slot. not-both (nat_lt c (slots S.words.deployment)) slot out) in absurd (some-left (sym none ∙ here))
+  | inr out ↦ let none = C.environment c n (λ slot. not-both (nat_lt c (slots S.words.deployment)) slot out) in absurd (some-left (sym none ∙ here))
 ]
   where
     here : S.words.channel (Site c) (Agent n) ≡ l ∷ ls
@@ -152,50 +152,50 @@ module _ (E : Database) (S : LogState) (F : Firm) (halted : Bool) (K : Transacti
   asks : AskedOk P from l
   asks = first-asks S from n l ls (rest-of S H) is
 
-  -- its row, and what the agent says then
+  -- its handler, and what the agent says then
   abbrev told : Turn AgentState
-  told = agent_row E D n stamp agent from l ▸ tells n agent.own
+  told = agent_handler E D n stamp agent from l ▸ tells n agent.own
 
-  told-calls : CallsRow E F halted stamp P K n told
-  told-calls = told-row E F halted stamp S lay H K C (Some from) n from l
-      (first-agent P n left up E stamp from l asks (decided-pops S from n l ls H.words is) (row-event E S.words n stamp from l ls H.words up is take (may-join P n left up from l asks)))
+  told-calls : CallsHandler E F halted stamp P K n told
+  told-calls = told-handler E F halted stamp S lay H K C (Some from) n from l
+      (first-agent P n left up E stamp from l asks (decided-pops S from n l ls H.words is) (handler-event E S.words n stamp from l ls H.words up is take (may-join P n left up from l asks)))
       (taken-for agent.start (term_in agent.decided) l take).1 (came-answer E S F halted K stamp n from l ls C is)
 
   -- the word that it may decide
-  concluded-calls : CallsRow E F halted stamp P K n (told ▸ concludes D n)
+  concluded-calls : CallsHandler E F halted stamp P K n (told ▸ concludes D n)
   concluded-calls = then-calls E F halted stamp P K n told (concludes D n) told-calls (concludes-none D n)
-      (λ k q c u. let T = turned P n told.state told.sends told-calls.row.row.history in
+      (λ k q c u. let T = turned P n told.state told.sends told-calls.handler.handler.history in
       concludes-calls E F halted stamp T (holds-of T k q) told-calls.after c n u (concludes-agent T n k q u))
 
-  -- a row with all that follows, and then those that waited
+  -- a handler with all that follows, and then those that waited
   abbrev whole : Turn AgentState
-  whole = row_and_word E D n stamp agent from l
+  whole = handler_and_word E D n stamp agent from l
 
   whole-is : told ▸ concludes D n ≡ whole
-  whole-is = then-assoc (agent_row E D n stamp agent from l) (tells n agent.own) (concludes D n)
+  whole-is = then-assoc (agent_handler E D n stamp agent from l) (tells n agent.own) (concludes D n)
 
-  whole-calls : CallsRow E F halted stamp P K n whole
-  whole-calls = subst (CallsRow E F halted stamp P K n) whole-is concluded-calls
+  whole-calls : CallsHandler E F halted stamp P K n whole
+  whole-calls = subst (CallsHandler E F halted stamp P K n) whole-is concluded-calls
 
   whole-settled : may_decide n whole.state whole.state.own ≡ false
   whole-settled = subst (λ t. may_decide n t.state t.state.own ≡ false) whole-is (concludes-settled D n told.state)
 
-  taken-calls : CallsRow E F halted stamp P K n (whole ▸ takes_waiting E D n stamp)
+  taken-calls : CallsHandler E F halted stamp P K n (whole ▸ takes_waiting E D n stamp)
   taken-calls = then-calls E F halted stamp P K n whole (takes_waiting E D n stamp) whole-calls (none-waited E D n stamp)
-      (λ k q c u. waited-calls E F halted stamp n (turned P n whole.state whole.sends whole-calls.row.row.history) lay k q whole-calls.after c u
-      (subst (λ b. may_decide n b b.own ≡ false) (sym (agent-there P.words n whole.state whole.sends whole-calls.row.row.history)) whole-settled))
+      (λ k q c u. waited-calls E F halted stamp n (turned P n whole.state whole.sends whole-calls.handler.handler.history) lay k q whole-calls.after c u
+      (subst (λ b. may_decide n b b.own ≡ false) (sym (agent-there P.words n whole.state whole.sends whole-calls.handler.handler.history)) whole-settled))
 
   taken-go : AgentCallsGo E S F halted stamp n from (whole ▸ takes_waiting E D n stamp)
   taken-go = (
     record {
-      history = taken-calls.row.row.history;
-      grows = row-grows taken-calls.row.row;
-      goes = elim taken-calls.row.row.goes [
+      history = taken-calls.handler.handler.history;
+      grows = handler-grows taken-calls.handler.handler;
+      goes = elim taken-calls.handler.handler.goes [
         | inl e ↦ inl e.0
         | inr z ↦ inr (ap (λ b. b.own) z)
       ];
-      by = taken-calls.row.row.by;
-      holds = holds-of (turned P n (whole ▸ takes_waiting E D n stamp).state (whole ▸ takes_waiting E D n stamp).sends taken-calls.row.row.history) taken-calls.row.row.holds taken-calls.row.rest;
+      by = taken-calls.handler.handler.by;
+      holds = holds-of (turned P n (whole ▸ takes_waiting E D n stamp).state (whole ▸ takes_waiting E D n stamp).sends taken-calls.handler.handler.history) taken-calls.handler.handler.holds taken-calls.handler.rest;
     },
     taken-calls.after,
     taken-calls.calls,
@@ -241,7 +241,7 @@ module _ (E : Database) (S : LogState) (F : Firm) (halted : Bool) (K : Transacti
     takes (Ignores e c) r = subst Result (sym e) unchanged r
     takes (Runs_ e c) r = subst Result (sym e) (runs (arrival there.start (term_in there.decided) l) refl) r
 
-    running-go : (o : Outside) → Result (agent_turn E S.words.deployment n stamp there from l o)
+    running-go : (o : Environment) → Result (agent_turn E S.words.deployment n stamp there from l o)
     running-go o r = elim (turn-cases E S.words.deployment n stamp there from l o running) [
       | inl e ↦ subst Result (sym e)
           (stops-go E S F halted K stamp n from lay H C (stops_with_host S.words.deployment n there.start) refl (stops_with_host-plain E S F halted K stamp n from lay H C there.start)) r
@@ -262,16 +262,16 @@ module _ (E : Database) (S : LogState) (F : Firm) (halted : Bool) (K : Transacti
       | inr c ↦ subst Result (sym c.1.2) (starts-go E S F halted K stamp n from lay H C c.1.0 (fresh c.1.0 c.0 c.1.1)) r
     ]
 
-    stopped-go : (o : Outside) → Result (agent_turn E S.words.deployment n stamp there from l o)
-    stopped-go Fair = stopped-takes
+    stopped-go : (o : Environment) → Result (agent_turn E S.words.deployment n stamp there from l o)
+    stopped-go NoFault = stopped-takes
     stopped-go (DiskFails answered) = stopped-takes
     stopped-go (NoMemory answered) =
         stops-go E S F halted K stamp n from lay H C (stops_with_host S.words.deployment n (start_after there from l)) refl
         (stops_with_host-plain E S F halted K stamp n from lay H C (start_after there from l))
     stopped-go (DisksShow shown failed) = stopped-takes
 
--- A message of an agent that is there, with any share of the outside's: what holds of transactions, holds after its turn.
-pub agent-calls : (E : Database) (S : LogState) (F : Firm) (halted : Bool) (K : Transactions) (now n : ℕ) (from : Actor) (l : Letter) (ls : List Letter) (o : Outside)
+-- A message of an agent that is there, with any share of the environment's: what holds of transactions, holds after its turn.
+pub agent-calls : (E : Database) (S : LogState) (F : Firm) (halted : Bool) (K : Transactions) (now n : ℕ) (from : Actor) (l : Letter) (ls : List Letter) (o : Environment)
     → LaidOut S → Holds S → CallsHold E S F halted K now → S.words.channel from (Agent n) ≡ l ∷ ls → is_host S.words.deployment n ≡ true
     → ((answered : ℕ) → o ≡ NoMemory answered → nat_lt 0 (start_after (S.words.agents n) from l) ≡ true)
     → let t = agent_turn E S.words.deployment n (now + 1) (S.words.agents n) from l o in

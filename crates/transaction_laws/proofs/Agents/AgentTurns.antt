@@ -13,7 +13,7 @@ use Rattle.cluster_model.specs.Words.{Deployment, is_slot_of, is_in, term_of, te
 use Rattle.cluster_model.specs.Letters.{same, Letter, Turn, becomes, ◌▸◌, letter_to, Waiting}
 use Rattle.cluster_model.specs.AgentState.{AgentState, Phase, Off, Hears, Closes, Idle, Works, new_agent, is_initiator_in, initiates}
 use Rattle.cluster_model.specs.Initiator.{with_phase}
-use Rattle.cluster_model.specs.Agent.{is_other_word, says, is_word, may_decide, decides_word, agent_row}
+use Rattle.cluster_model.specs.Agent.{is_other_word, says, is_word, may_decide, decides_word, agent_handler}
 use Rattle.cluster_model.specs.World.{took, rest}
 use Rattle.word_laws.specs.Histories as word
 use Rattle.word_laws.specs.Histories.{In, History}
@@ -24,18 +24,18 @@ use Rattle.word_laws.proofs.Channels.{sent-both, took-all}
 use Rattle.word_laws.proofs.Moves.{Grows}
 use Rattle.word_laws.proofs.Turns.{tells, tells-state, concludes, concludes-not, concludes-is, decides-state}
 use Rattle.word_laws.proofs.Steps.{after-after}
-use Rattle.word_laws.proofs.Hearings.{Row, row-grows, agent-there, after-row, then-quiet}
+use Rattle.word_laws.proofs.Hearings.{Handler, handler-grows, agent-there, after-handler, then-inert}
 use Rattle.log_laws.specs.Histories.{LogState, Holds, WordOf, MemberOk, IsSlot, is_for, part, start_at}
 use Rattle.log_laws.proofs.Plain.Lines.{flat-none, if-none, for-false}
 use Rattle.log_laws.proofs.Kept.Terms.{same-word}
 use Rattle.log_laws.proofs.Agents.Views.{turned}
-use Rattle.log_laws.proofs.Agents.AgentTurns.{Rest, MayJoin, AgentRow}
+use Rattle.log_laws.proofs.Agents.AgentTurns.{Rest, MayJoin, AgentHandler}
 use Rattle.disk_laws.specs.Disks.{Firm}
 use Rattle.transaction_laws.specs.Transactions.{Transactions, Books, JobOk, PhaseOk, Initiates, AnswerOk, ToSiteOk, WaitingAnswer, SiteCalls, AgentCalls, CallsHold, orders, order_of}
 use Rattle.transaction_laws.proofs.Kept.Moves.{Onto, NoOrder, SentOrder, InitiatorGoes, OffGoes}
 use Rattle.transaction_laws.proofs.Kept.Later.{answer-on, to_site-on, books-worded}
 use Rattle.transaction_laws.proofs.Initiators.Orders.{LaidOut}
-use Rattle.transaction_laws.proofs.Agents.AgentRows.{row-initiates, row-off}
+use Rattle.transaction_laws.proofs.Agents.AgentHandlers.{handler-initiates, handler-off}
 use Rattle.transaction_laws.proofs.Kept.Worded.{onto-worded, phase-worded, shows-worded}
 use Rattle.transaction_laws.proofs.Initiators.InitiatorWords.{one-initiator, has-decided, before-below, stays-initiator, decides-heard}
 
@@ -179,7 +179,7 @@ module _ (E : Database) (F : Firm) (halted : Bool) (stamp : ℕ) (S : LogState) 
       books = books-worded E S T F L stamp H refl refl refl grows.decided by B;
       to_sites = to_sites-then L heard letters;
       to_agents = to_agents-then L heard;
-      outside = λ c h out. left-none S.words.channel o n (Site c) (Agent h) (C.outside c h out);
+      environment = λ c h out. left-none S.words.channel o n (Site c) (Agent h) (C.environment c h out);
       sites = λ c slot up. let k = C.sites c slot up in site-then L heard c k (due c slot up k);
       agents = λ h. elim (cases_eq h n) [
         | inl e ↦ subst (AgentCalls E T F L) (sym e) (mine-then L heard mine)
@@ -302,8 +302,8 @@ module _ (E : Database) (F : Firm) (halted : Bool) (stamp : ℕ) (S : LogState) 
 
   -- ---- a turn in which no round and no end is sent, and after which all that is due is as it was
 
-  due-quiet : ((c : ℕ) → AllByRecursion NoOrder (t.sends (Site c))) → (c : ℕ) → IsSlot S c → 0 < start_at S c → SiteCalls S K c → DueThen E F halted stamp S H K C o n t G grows K c
-  due-quiet none c slot up k v joins view leads h a init = sent-both (λ ls. orders (start_at S c) (term_of v) ls ≡ K.due (part S c) (term_of v)) (left S.words.channel o n) n t.sends h (Site c)
+  due-inert : ((c : ℕ) → AllByRecursion NoOrder (t.sends (Site c))) → (c : ℕ) → IsSlot S c → 0 < start_at S c → SiteCalls S K c → DueThen E F halted stamp S H K C o n t G grows K c
+  due-inert none c slot up k v joins view leads h a init = sent-both (λ ls. orders (start_at S c) (term_of v) ls ≡ K.due (part S c) (term_of v)) (left S.words.channel o n) n t.sends h (Site c)
       (λ e. orders-append (start_at S c) (term_of v) (left S.words.channel o n (Agent h) (Site c)) (t.sends (Site c))
       ∙ ap (λ xs. orders (start_at S c) (term_of v) (left S.words.channel o n (Agent h) (Site c)) ++ xs) (no-orders (start_at S c) (term_of v) (t.sends (Site c)) (none c))
       ∙ append-nil _ ∙ was)
@@ -312,16 +312,16 @@ module _ (E : Database) (F : Firm) (halted : Bool) (stamp : ℕ) (S : LogState) 
       was : orders (start_at S c) (term_of v) (left S.words.channel o n (Agent h) (Site c)) ≡ K.due (part S c) (term_of v)
       was = ap (orders (start_at S c) (term_of v)) (left-sites S.words.channel o n h c) ∙ k.orders v joins view leads h a init
 
-  pub quiet-then : ((c : ℕ) → AllByRecursion NoOrder (t.sends (Site c))) → Mine E S F K n t.state
+  pub inert-then : ((c : ℕ) → AllByRecursion NoOrder (t.sends (Site c))) → Mine E S F K n t.state
       → ((w : Membership) (a : ℕ) → In w S.words.history.decided → initiator w ≡ Some (n, a) → 0 < a → t.state.start ≡ a
       → ((S.words.agents n).start ≡ a → K.heard ≤ term_in (S.words.agents n).decided) → K.heard ≤ term_in t.state.decided)
       → CallsHold E (turned (base S o n) n t.state t.sends G) F halted K stamp
-  quiet-then none mine own = calls-then E F halted stamp S H K C o n t G grows K C.books (omega arith) own
-      (λ c slot. all-mono _ _ (no-order-letter S n c) (t.sends (Site c)) (none c)) (due-quiet none) mine (λ h d w i k. k)
+  inert-then none mine own = calls-then E F halted stamp S H K C o n t G grows K C.books (omega arith) own
+      (λ c slot. all-mono _ _ (no-order-letter S n c) (t.sends (Site c)) (none c)) (due-inert none) mine (λ h d w i k. k)
 
-  -- the row of one that isn't an initiator
+  -- the handler of one that isn't an initiator
   off-then : OffGoes (S.words.agents n) t → CallsHold E (turned (base S o n) n t.state t.sends G) F halted K stamp
-  off-then g = quiet-then g.sends (record { initiating = inl (g.phase, g.work, g.next); waiting = waits g.kept }) (λ w a d init some is. own g.kept a some is)
+  off-then g = inert-then g.sends (record { initiating = inl (g.phase, g.work, g.next); waiting = waits g.kept }) (λ w a d init some is. own g.kept a some is)
     where
       waits : ((t.state ≡ new_agent 0) ⊎ ((t.state.start ≡ (S.words.agents n).start) × (t.state.decided ≡ (S.words.agents n).decided) × (t.state.waiting ≡ (S.words.agents n).waiting)))
           → AllByRecursion (WaitingAnswer E S F K) t.state.waiting
@@ -384,77 +384,77 @@ off-tells a n t before g = record {
 -- ---- turns that are one
 
 -- A turn of the agent of host n from a state: what holds of words, sites and logs, and of transactions.
-pub record CallsRow (E : Database) (F : Firm) (halted : Bool) (stamp : ℕ) (P : LogState) (K : Transactions) (n : ℕ) (t : Turn AgentState) : Type 0 where
-  pub row : AgentRow P n t
+pub record CallsHandler (E : Database) (F : Firm) (halted : Bool) (stamp : ℕ) (P : LogState) (K : Transactions) (n : ℕ) (t : Turn AgentState) : Type 0 where
+  pub handler : AgentHandler P n t
   pub after : Transactions
   pub heard : K.heard ≤ after.heard
-  pub calls : CallsHold E (turned P n t.state t.sends row.row.history) F halted after stamp
+  pub calls : CallsHold E (turned P n t.state t.sends handler.handler.history) F halted after stamp
 
 -- One turn, and then another one of an agent that goes on. One that has stopped does nothing then.
 pub then-calls : (E : Database) (F : Firm) (halted : Bool) (stamp : ℕ) (P : LogState) (K : Transactions) (n : ℕ) (t : Turn AgentState) (f : AgentState → Turn AgentState)
-    (r : CallsRow E F halted stamp P K n t) → f (new_agent 0) ≡ becomes (new_agent 0)
-    → (let T = turned P n t.state t.sends r.row.row.history in word.Holds T.words → Rest T → CallsHold E T F halted r.after stamp → 0 < word.start_at T.words n
-    → CallsRow E F halted stamp T r.after n (f (T.words.agents n))) → CallsRow E F halted stamp P K n (t ▸ f)
-then-calls E F halted stamp P K n t f r silent g = elim r.row.row.goes [
-  | inl q ↦ both (subst (λ z. CallsRow E F halted stamp T r.after n (f z)) here (g r.row.row.holds r.row.rest r.calls (subst (λ x. 0 < x) (sym (ap (λ x. x.start) here ∙ q.0)) q.1)))
-  | inr z ↦ subst (CallsRow E F halted stamp P K n) (sym (then-quiet t f (ap f z ∙ silent ∙ ap becomes (sym z)))) r
+    (r : CallsHandler E F halted stamp P K n t) → f (new_agent 0) ≡ becomes (new_agent 0)
+    → (let T = turned P n t.state t.sends r.handler.handler.history in word.Holds T.words → Rest T → CallsHold E T F halted r.after stamp → 0 < word.start_at T.words n
+    → CallsHandler E F halted stamp T r.after n (f (T.words.agents n))) → CallsHandler E F halted stamp P K n (t ▸ f)
+then-calls E F halted stamp P K n t f r silent g = elim r.handler.handler.goes [
+  | inl q ↦ both (subst (λ z. CallsHandler E F halted stamp T r.after n (f z)) here (g r.handler.handler.holds r.handler.rest r.calls (subst (λ x. 0 < x) (sym (ap (λ x. x.start) here ∙ q.0)) q.1)))
+  | inr z ↦ subst (CallsHandler E F halted stamp P K n) (sym (then-inert t f (ap f z ∙ silent ∙ ap becomes (sym z)))) r
 ]
   where
     T : LogState
-    T = turned P n t.state t.sends r.row.row.history
+    T = turned P n t.state t.sends r.handler.handler.history
 
     here : T.words.agents n ≡ t.state
-    here = agent-there P.words n t.state t.sends r.row.row.history
+    here = agent-there P.words n t.state t.sends r.handler.handler.history
 
-    both : CallsRow E F halted stamp T r.after n (f t.state) → CallsRow E F halted stamp P K n (t ▸ f)
+    both : CallsHandler E F halted stamp T r.after n (f t.state) → CallsHandler E F halted stamp P K n (t ▸ f)
     both q = record {
-      row = record { row = k.0; rest = subst Rest one q.row.rest };
+      handler = record { handler = k.0; rest = subst Rest one q.handler.rest };
       after = q.after;
       heard = omega (arith, r.heard, q.heard);
       calls = subst (λ x. CallsHold E x F halted q.after stamp) one q.calls;
     }
       where
-        k : (both : Row (MayJoin P) P.words n (t ▸ f)) × (both.history ≡ q.row.row.history)
-        k = after-row P.words n t f r.row.row q.row.row
+        k : (both : Handler (MayJoin P) P.words n (t ▸ f)) × (both.history ≡ q.handler.handler.history)
+        k = after-handler P.words n t f r.handler.handler q.handler.handler
 
-        one : turned T n (f t.state).state (f t.state).sends q.row.row.history ≡ turned P n (f t.state).state (λ b. t.sends b ++ (f t.state).sends b) k.0.history
-        one = ap (λ w. record P { words = w }) (after-after P.words n t.state (f t.state).state t.sends (f t.state).sends r.row.row.history q.row.row.history)
+        one : turned T n (f t.state).state (f t.state).sends q.handler.handler.history ≡ turned P n (f t.state).state (λ b. t.sends b ++ (f t.state).sends b) k.0.history
+        one = ap (λ w. record P { words = w }) (after-after P.words n t.state (f t.state).state t.sends (f t.state).sends r.handler.handler.history q.handler.handler.history)
             ∙ ap (turned P n (f t.state).state (λ b. t.sends b ++ (f t.state).sends b)) (sym k.1)
 
--- ---- the row of a message, and what the agent says of a new word then
+-- ---- the handler of a message, and what the agent says of a new word then
 
-pub told-row : (E : Database) (F : Firm) (halted : Bool) (stamp : ℕ) (S : LogState) → LaidOut S → Holds S → (K : Transactions) → CallsHold E S F halted K stamp
+pub told-handler : (E : Database) (F : Firm) (halted : Bool) (stamp : ℕ) (S : LogState) → LaidOut S → Holds S → (K : Transactions) → CallsHold E S F halted K stamp
     → (o : Option Actor) (n : ℕ) (from : Actor) (l : Letter)
-    → AgentRow (base S o n) n (agent_row E S.words.deployment n stamp (S.words.agents n) from l ▸ tells n (S.words.agents n).own)
+    → AgentHandler (base S o n) n (agent_handler E S.words.deployment n stamp (S.words.agents n) from l ▸ tells n (S.words.agents n).own)
     → ((l.term ≡ 0) ⊎ (l.term ≡ term_in (S.words.agents n).decided)) → ((c : ℕ) → from ≡ Site c → IsSlot S c × AnswerOk E S F K (part S c) l)
-    → CallsRow E F halted stamp (base S o n) K n (agent_row E S.words.deployment n stamp (S.words.agents n) from l ▸ tells n (S.words.agents n).own)
-told-row E F halted stamp S lay H K C o n from l r term answer = elim (C.agents n).initiating [
+    → CallsHandler E F halted stamp (base S o n) K n (agent_handler E S.words.deployment n stamp (S.words.agents n) from l ▸ tells n (S.words.agents n).own)
+told-handler E F halted stamp S lay H K C o n from l r term answer = elim (C.agents n).initiating [
   | inl q ↦ record {
-    row = r;
+    handler = r;
     after = K;
     heard = omega arith;
-    calls = off-then E F halted stamp S H K C o n (t ▸ tells n a.own) r.row.history grows
-        (off-tells a n t a.own (row-off E S.words.deployment n stamp a from l q.0 q.1 q.2));
+    calls = off-then E F halted stamp S H K C o n (t ▸ tells n a.own) r.handler.history grows
+        (off-tells a n t a.own (handler-off E S.words.deployment n stamp a from l q.0 q.1 q.2));
   }
   | inr q ↦ goes q.0 q.1 (initiates-tells E S F K stamp n q.0 a t a.own
-      (row-initiates E S F K stamp stamp n q.0 lay H C.books (omega arith) q.1 q.2 from l (subst (λ d. (l.term ≡ 0) ⊎ (l.term ≡ term_in d)) q.1.has_decided term) answer))
+      (handler-initiates E S F K stamp stamp n q.0 lay H C.books (omega arith) q.1 q.2 from l (subst (λ d. (l.term ≡ 0) ⊎ (l.term ≡ term_in d)) q.1.has_decided term) answer))
 ]
   where
     a : AgentState
     a = S.words.agents n
 
     t : Turn AgentState
-    t = agent_row E S.words.deployment n stamp a from l
+    t = agent_handler E S.words.deployment n stamp a from l
 
-    grows : Grows S.words.history r.row.history
-    grows = row-grows r.row
+    grows : Grows S.words.history r.handler.history
+    grows = handler-grows r.handler
 
-    goes : (w : Membership) → Initiates S n w → InitiatorGoes E S F K stamp n w a (t ▸ tells n a.own) → CallsRow E F halted stamp (base S o n) K n (t ▸ tells n a.own)
+    goes : (w : Membership) → Initiates S n w → InitiatorGoes E S F K stamp n w a (t ▸ tells n a.own) → CallsHandler E F halted stamp (base S o n) K n (t ▸ tells n a.own)
     goes w i g = record {
-      row = r;
+      handler = r;
       after = g.after;
       heard = g.heard;
-      calls = initiates-then E F halted stamp S H K C o n (t ▸ tells n a.own) r.row.history grows w i g;
+      calls = initiates-then E F halted stamp S H K C o n (t ▸ tells n a.own) r.handler.history grows w i g;
     }
 
 -- ---- a word is decided
@@ -475,7 +475,7 @@ module _ (E : Database) (F : Firm) (halted : Bool) (stamp : ℕ) (S : LogState) 
 
   -- it stays as it is
   pub stays-then : (G : History) → Grows S.words.history G → CallsHold E (turned S n a (λ b. []) G) F halted K stamp
-  stays-then G grows = quiet-then E F halted stamp S H K C None n (becomes a) G grows (λ c. tt) (record {
+  stays-then G grows = inert-then E F halted stamp S H K C None n (becomes a) G grows (λ c. tt) (record {
     initiating = elim (C.agents n).initiating [
       | inl q ↦ inl q
       | inr q ↦ inr (q.0, q.1.runs, q.1.has_decided, q.1.initiates, q.2)
@@ -490,7 +490,7 @@ module _ (E : Database) (F : Firm) (halted : Bool) (stamp : ℕ) (S : LogState) 
     | inr q ↦ phase-job E S F K (term_of q.0) a a.initiating.phase q.2
   ]
 
-  module _ (v : Membership) (own : a.own ≡ Some v) (may : may_decide n a (Some v) ≡ true) (r : AgentRow S n (decides_word S.words.deployment n a (Some v))) where
+  module _ (v : Membership) (own : a.own ≡ Some v) (may : may_decide n a (Some v) ≡ true) (r : AgentHandler S n (decides_word S.words.deployment n a (Some v))) where
     abbrev decides : Turn AgentState
     decides = decides_word S.words.deployment n a (Some v)
 
@@ -499,33 +499,33 @@ module _ (E : Database) (F : Firm) (halted : Bool) (stamp : ℕ) (S : LogState) 
     with_word = record a { decided = Some v; pending = filter (λ p. not (is_in p.target v.lost)) a.pending }
 
     abbrev U : LogState
-    U = turned S n decides.state decides.sends r.row.history
+    U = turned S n decides.state decides.sends r.handler.history
 
     is : In v U.words.history.decided
-    is = has-decided U.words r.row.holds n v (ap (λ x. x.decided) (agent-there S.words n decides.state decides.sends r.row.history) ∙ (decides-state S.words.deployment n a v).decided)
+    is = has-decided U.words r.handler.holds n v (ap (λ x. x.decided) (agent-there S.words n decides.state decides.sends r.handler.history) ∙ (decides-state S.words.deployment n a v).decided)
 
     -- nothing that it sends is a round or an end, and its word is above the one before
-    decided-with : (b : AgentState) → b.start ≡ a.start → b.decided ≡ Some v → Mine E S F K n b → CallsHold E (turned S n b decides.sends r.row.history) F halted K stamp
-    decided-with b start word mine = quiet-then E F halted stamp S H K C None n (record { state = b; sends = decides.sends }) r.row.history (row-grows r.row)
+    decided-with : (b : AgentState) → b.start ≡ a.start → b.decided ≡ Some v → Mine E S F K n b → CallsHold E (turned S n b decides.sends r.handler.history) F halted K stamp
+    decided-with b start word mine = inert-then E F halted stamp S H K C None n (record { state = b; sends = decides.sends }) r.handler.history (handler-grows r.handler)
         (λ c. all-if NoOrder (is_slot_of S.words.deployment n c && not (is_down S.words.deployment v)) (letter_to a.start (msg.View v) ∷ []) [] (tt, tt) tt) mine
         (λ w x d init some e before. rw word (above a.decided refl (before (sym start ∙ e))))
       where
         above : (o : Option Membership) → a.decided ≡ o → K.heard ≤ term_in o → K.heard ≤ term_of v
         above None e l = omega (arith, l)
-        above (Some d) e l = omega (arith, l, before-below S U.words H.words r.row.holds n v up own may is r.row.decided r.row.took_word d e)
+        above (Some d) e l = omega (arith, l, before-below S U.words H.words r.handler.holds n v up own may is r.handler.decided r.handler.took_word d e)
 
     decided-then : CallsHold E U F halted K stamp
     decided-then = go (initiates n with_word (Some v)) refl
       where
         go : (c : Bool) → initiates n with_word (Some v) ≡ c
-            → CallsHold E (turned S n (if c then with_phase with_word (Hears []) else with_phase with_word Off) decides.sends r.row.history) F halted K stamp
+            → CallsHold E (turned S n (if c then with_phase with_word (Hears []) else with_phase with_word Off) decides.sends r.handler.history) F halted K stamp
         go true e = let init = initiates-is n with_word v e in decided-with (with_phase with_word (Hears [])) refl refl (record {
           initiating = inr (
             v,
             up,
             refl,
             init,
-            (decides-heard S U.words H.words r.row.holds n v up own may is r.row.decided r.row.took_word E F K stamp H.some C.books.heard init, tt, job.0, job.1),
+            (decides-heard S U.words H.words r.handler.holds n v up own may is r.handler.decided r.handler.took_word E F K stamp H.some C.books.heard init, tt, job.0, job.1),
           );
           waiting = (C.agents n).waiting;
         })
@@ -533,26 +533,26 @@ module _ (E : Database) (F : Firm) (halted : Bool) (stamp : ℕ) (S : LogState) 
           initiating = elim (C.agents n).initiating [
             | inl q ↦ inl (refl, q.1, q.2)
             | inr q ↦ absurd (not-both (initiates n with_word (Some v))
-                (ap (is_initiator_in n a.start) (stays-initiator S U.words H.words r.row.holds n v up own may is r.row.decided r.row.took_word q.0 q.1)
+                (ap (is_initiator_in n a.start) (stays-initiator S U.words H.words r.handler.holds n v up own may is r.handler.decided r.handler.took_word q.0 q.1)
                 ∙ and_from (n == n) (a.start == a.start) (eqb-same n) (eqb-same a.start)) e)
           ];
           waiting = (C.agents n).waiting;
         })
 
   -- It decides its word, or goes on as it was.
-  pub concludes-calls : AgentRow S n (concludes S.words.deployment n a) → CallsRow E F halted stamp S K n (concludes S.words.deployment n a)
+  pub concludes-calls : AgentHandler S n (concludes S.words.deployment n a) → CallsHandler E F halted stamp S K n (concludes S.words.deployment n a)
   concludes-calls r = go a.own refl
     where
-      stays : concludes S.words.deployment n a ≡ becomes a → CallsRow E F halted stamp S K n (concludes S.words.deployment n a)
-      stays q = subst (λ x. AgentRow S n x → CallsRow E F halted stamp S K n x) (sym q)
-          (λ r. record { row = r; after = K; heard = omega arith; calls = stays-then r.row.history (row-grows r.row) }) r
+      stays : concludes S.words.deployment n a ≡ becomes a → CallsHandler E F halted stamp S K n (concludes S.words.deployment n a)
+      stays q = subst (λ x. AgentHandler S n x → CallsHandler E F halted stamp S K n x) (sym q)
+          (λ r. record { handler = r; after = K; heard = omega arith; calls = stays-then r.handler.history (handler-grows r.handler) }) r
 
-      go : (o : Option Membership) → a.own ≡ o → CallsRow E F halted stamp S K n (concludes S.words.deployment n a)
+      go : (o : Option Membership) → a.own ≡ o → CallsHandler E F halted stamp S K n (concludes S.words.deployment n a)
       go None e = stays (concludes-not S.words.deployment n a (ap (may_decide n a) e))
       go (Some v) e = elim (cases_Bool (may_decide n a (Some v))) [
-        | inl m ↦ subst (λ x. AgentRow S n x → CallsRow E F halted stamp S K n x)
+        | inl m ↦ subst (λ x. AgentHandler S n x → CallsHandler E F halted stamp S K n x)
             (sym (concludes-is S.words.deployment n a (ap (may_decide n a) e ∙ m) ∙ ap (decides_word S.words.deployment n a) e))
-            (λ r. record { row = r; after = K; heard = omega arith; calls = decided-then v e m r }) r
+            (λ r. record { handler = r; after = K; heard = omega arith; calls = decided-then v e m r }) r
         | inr m ↦ stays (concludes-not S.words.deployment n a (ap (may_decide n a) e ∙ m))
       ]
 

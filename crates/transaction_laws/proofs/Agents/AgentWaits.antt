@@ -11,7 +11,7 @@ use Rattle.cluster_model.specs.Engine.{Database}
 use Rattle.cluster_model.specs.Words.{Deployment, is_in, admits, start_of, initiator, term_of, term_in, same_word, with_admitted}
 use Rattle.cluster_model.specs.Letters.{Letter, Sends, Turn, becomes, ◌▸◌, Waiting, of_term, above_term}
 use Rattle.cluster_model.specs.AgentState.{AgentState, Phase, Off, Hears, Closes, Idle, Works, Queued, Admission, initiates}
-use Rattle.cluster_model.specs.Agent.{is_word, may_decide, agent_row, unless_stopped, takes_each, takes_waiting}
+use Rattle.cluster_model.specs.Agent.{is_word, may_decide, agent_handler, unless_stopped, takes_each, takes_waiting}
 use Rattle.word_laws.specs.Histories as word
 use Rattle.word_laws.specs.Histories.{In, OnSome, State, GoodWord, SaidBy, OwnOk, CameOk, QueuedOk, WaitingFrom, WaitingOk, names}
 use Rattle.word_laws.proofs.Lists.{all-mono, all-filter, all-from, all-at, in-filter, in-cases, some-here, not-both, set-here}
@@ -19,22 +19,22 @@ use Rattle.word_laws.proofs.Algebra.{same_word-is, names-admits, with_admitted-a
 use Rattle.word_laws.proofs.Members.{members-all, initiates-is}
 use Rattle.word_laws.proofs.Moves.{Calm, AdmitsNow, asked_by}
 use Rattle.word_laws.proofs.Agreement.{said-good, member-of, term-same}
-use Rattle.word_laws.proofs.Turns.{tells, tells-state, concludes, concludes-not, row-calm, may_decide-cases}
+use Rattle.word_laws.proofs.Turns.{tells, tells-state, concludes, concludes-not, handler-calm, may_decide-cases}
 use Rattle.word_laws.proofs.Arrivals.{unless-running, waiting-brings}
 use Rattle.word_laws.proofs.Steps.{waiting-shrinks}
-use Rattle.word_laws.proofs.Hearings.{row-grows, row-plain, agent-there, then-assoc, then-quiet}
+use Rattle.word_laws.proofs.Hearings.{handler-grows, handler-plain, agent-there, then-assoc, then-inert}
 use Rattle.word_laws.proofs.AgentEvents.{calm-event, asked-waiting, none-taken}
 use Rattle.word_laws.proofs.OwnWords.{said_to, spoken}
 use Rattle.word_laws.proofs.Admissions.{not-admitted, admits-holds}
 use Rattle.log_laws.specs.Histories.{LogState, AskedOk, Holds}
 use Rattle.log_laws.proofs.Agents.Views.{turned}
-use Rattle.log_laws.proofs.Agents.AgentTurns.{Rest, holds-of, AgentRow, plain-agent, stay-agent}
-use Rattle.log_laws.proofs.Agents.AgentRows.{may-join, first-agent}
+use Rattle.log_laws.proofs.Agents.AgentTurns.{Rest, holds-of, AgentHandler, plain-agent, stay-agent}
+use Rattle.log_laws.proofs.Agents.AgentHandlers.{may-join, first-agent}
 use Rattle.log_laws.proofs.Agents.AgentEvents.{waits-on, asks-on}
 use Rattle.disk_laws.specs.Disks.{Firm}
 use Rattle.transaction_laws.specs.Transactions.{Transactions, PhaseOk, WaitingAnswer, CallsHold}
 use Rattle.transaction_laws.proofs.Initiators.Orders.{LaidOut}
-use Rattle.transaction_laws.proofs.Agents.AgentTurns.{CallsRow, waits-then, quiet-then, stays-then, told-row, then-calls}
+use Rattle.transaction_laws.proofs.Agents.AgentTurns.{CallsHandler, waits-then, inert-then, stays-then, told-handler, then-calls}
 
 -- ---- a word that an initiator has just made isn't decided at once
 
@@ -108,7 +108,7 @@ module _ (S : State) (H : word.Holds S) (n : ℕ) (W V : Membership) (j h term :
       go None k e = true≢false (sym e)
       go (Some u) k e = unsaid k.0 u k.2 e
 
--- A row that brings no word leaves nothing to decide, where nothing was.
+-- A handler that brings no word leaves nothing to decide, where nothing was.
 calm-settled : (S : State) → word.Holds S → (n : ℕ) (came : List Queued) (t : Turn AgentState) → 0 < word.start_at S n → Calm n (S.agents n) came t
     → ((j h term : ℕ) → In (Admission j h term) came → QueuedOk S n (Admission j h term)) → may_decide n (S.agents n) (S.agents n).own ≡ false → may_decide n t.state t.state.own ≡ false
 calm-settled S H n came t up c new settled = elim c.own [
@@ -136,7 +136,7 @@ calm-settled S H n came t up c new settled = elim c.own [
 
 -- A turn in which the agent takes such a message: it goes on with its word, and has no other one to decide.
 record OneWaited (E : Database) (F : Firm) (halted : Bool) (stamp : ℕ) (S : LogState) (K : Transactions) (n : ℕ) (t : Turn AgentState) : Type 0 where
-  pub row : CallsRow E F halted stamp S K n t
+  pub handler : CallsHandler E F halted stamp S K n t
   pub decided : t.state.decided ≡ (S.words.agents n).decided
   pub settled : may_decide n t.state t.state.own ≡ false
 
@@ -151,9 +151,9 @@ module _ (E : Database) (F : Firm) (halted : Bool) (stamp : ℕ) (S : LogState) 
   a = S.words.agents n
 
   abbrev t : Turn AgentState
-  t = agent_row E D n stamp a from l
+  t = agent_handler E D n stamp a from l
 
-  -- its row, and what the agent says then
+  -- its handler, and what the agent says then
   abbrev told : Turn AgentState
   told = t ▸ tells n a.own
 
@@ -161,24 +161,24 @@ module _ (E : Database) (F : Firm) (halted : Bool) (stamp : ℕ) (S : LogState) 
   running = grind (arith, nat_tests, up)
 
   calm : Calm n a (asked_by from l) t
-  calm = row-calm E D n stamp a from l (waiting-brings S.words n from l w)
+  calm = handler-calm E D n stamp a from l (waiting-brings S.words n from l w)
 
   settled-then : may_decide n told.state told.state.own ≡ false
   settled-then = subst (λ x. may_decide n x x.own ≡ false) (sym (tells-state n a.own t.state))
       (calm-settled S.words h n (asked_by from l) t up calm (asked-waiting S.words n from l w) settled)
 
-  told-turn : AgentRow S n told
+  told-turn : AgentHandler S n told
   told-turn = first-agent S n r up E stamp from l asked (λ b. h)
       (calm-event E S.words n stamp from l h up (waiting-brings S.words n from l w) (asked-waiting S.words n from l w) (may-join S n r up from l asked))
 
   -- nothing else follows
   turn-is : told ≡ unless_stopped E D n stamp a from l
-  turn-is = sym (then-quiet told (concludes D n) (concludes-not D n told.state settled-then))
+  turn-is = sym (then-inert told (concludes D n) (concludes-not D n told.state settled-then))
       ∙ then-assoc t (tells n a.own) (concludes D n) ∙ sym (unless-running E D n stamp a from l running)
 
   waited-one : OneWaited E F halted stamp S K n (unless_stopped E D n stamp a from l)
   waited-one = subst (OneWaited E F halted stamp S K n) turn-is (record {
-    row = told-row E F halted stamp S lay (holds-of S h r) K C None n from l told-turn (inr term) (λ c e. subst (λ f. WaitingAnswer E S F K (record { from = f; letter = l })) e answer);
+    handler = told-handler E F halted stamp S lay (holds-of S h r) K C None n from l told-turn (inr term) (λ c e. subst (λ f. WaitingAnswer E S F K (record { from = f; letter = l })) e answer);
     decided = ap (λ x. x.decided) (tells-state n a.own t.state) ∙ calm.decided;
     settled = settled-then;
   })
@@ -194,29 +194,29 @@ record IsWaited (E : Database) (F : Firm) (S : LogState) (K : Transactions) (n :
 
 -- It is one still after a turn in which the agent's word stays.
 waited-still : (E : Database) (F : Firm) (halted : Bool) (stamp n : ℕ) (S : LogState) → Holds S → (K : Transactions) → CallsHold E S F halted K stamp → (t : Turn AgentState)
-    (r : CallsRow E F halted stamp S K n t) → t.state.decided ≡ (S.words.agents n).decided → (y : Waiting) → IsWaited E F S K n y
-    → IsWaited E F (turned S n t.state t.sends r.row.row.history) r.after n y
+    (r : CallsHandler E F halted stamp S K n t) → t.state.decided ≡ (S.words.agents n).decided → (y : Waiting) → IsWaited E F S K n y
+    → IsWaited E F (turned S n t.state t.sends r.handler.handler.history) r.after n y
 waited-still E F halted stamp n S H K C t r same y k = record {
-  from = (waits-on S n t r.row (y ∷ []) (k.from, tt)).0;
-  asked = (asks-on S n t r.row (y ∷ []) (k.asked, tt)).0;
-  answer = waits-then E F halted stamp S H K C None n t r.row.row.history (row-grows r.row.row) r.after r.heard K r.heard y k.answer;
-  term = k.term ∙ sym (ap (λ b. term_in b.decided) (agent-there S.words n t.state t.sends r.row.row.history) ∙ ap term_in same);
+  from = (waits-on S n t r.handler (y ∷ []) (k.from, tt)).0;
+  asked = (asks-on S n t r.handler (y ∷ []) (k.asked, tt)).0;
+  answer = waits-then E F halted stamp S H K C None n t r.handler.handler.history (handler-grows r.handler.handler) r.after r.heard K r.heard y k.answer;
+  term = k.term ∙ sym (ap (λ b. term_in b.decided) (agent-there S.words n t.state t.sends r.handler.handler.history) ∙ ap term_in same);
 }
 
 waited-each : (E : Database) (F : Firm) (halted : Bool) (stamp n : ℕ) (ws : List Waiting) (S : LogState) → LaidOut S → word.Holds S.words → Rest S → (K : Transactions) → CallsHold E S F halted K stamp
     → 0 < word.start_at S.words n → AllByRecursion (IsWaited E F S K n) ws → may_decide n (S.words.agents n) (S.words.agents n).own ≡ false
-    → CallsRow E F halted stamp S K n (takes_each E S.words.deployment n stamp ws (S.words.agents n))
-waited-each E F halted stamp n [] S lay h r K C up w settled = let row = stay-agent S n h r up in record {
-  row = row;
+    → CallsHandler E F halted stamp S K n (takes_each E S.words.deployment n stamp ws (S.words.agents n))
+waited-each E F halted stamp n [] S lay h r K C up w settled = let handler = stay-agent S n h r up in record {
+  handler = handler;
   after = K;
   heard = omega arith;
-  calls = stays-then E F halted stamp S (holds-of S h r) K C n up row.row.history (row-grows row.row);
+  calls = stays-then E F halted stamp S (holds-of S h r) K C n up handler.handler.history (handler-grows handler.handler);
 }
 waited-each E F halted stamp n (x ∷ ws) S lay h r K C up w settled =
-    then-calls E F halted stamp S K n t (takes_each E S.words.deployment n stamp ws) one.row (none-taken E S.words.deployment n stamp ws)
-    (λ k q c u. waited-each E F halted stamp n ws (turned S n t.state t.sends one.row.row.row.history) lay k q one.row.after c u
-    (all-mono _ _ (waited-still E F halted stamp n S (holds-of S h r) K C t one.row one.decided) ws w.1)
-    (subst (λ b. may_decide n b b.own ≡ false) (sym (agent-there S.words n t.state t.sends one.row.row.row.history)) one.settled))
+    then-calls E F halted stamp S K n t (takes_each E S.words.deployment n stamp ws) one.handler (none-taken E S.words.deployment n stamp ws)
+    (λ k q c u. waited-each E F halted stamp n ws (turned S n t.state t.sends one.handler.handler.handler.history) lay k q one.handler.after c u
+    (all-mono _ _ (waited-still E F halted stamp n S (holds-of S h r) K C t one.handler one.decided) ws w.1)
+    (subst (λ b. may_decide n b b.own ≡ false) (sym (agent-there S.words n t.state t.sends one.handler.handler.handler.history)) one.settled))
   where
     t : Turn AgentState
     t = unless_stopped E S.words.deployment n stamp (S.words.agents n) x.from x.letter
@@ -244,8 +244,8 @@ module _ (E : Database) (F : Firm) (halted : Bool) (stamp n : ℕ) (S : LogState
   abbrev kept : AgentState
   kept = record agent { waiting = above_term here agent.waiting }
 
-  kept-turn : AgentRow S n (becomes kept)
-  kept-turn = plain-agent S n (becomes kept) r (row-plain S.words n (becomes kept) (inl (refl, up)) (waiting-shrinks S.words n (λ w. nat_lt here w.letter.term) h)) (record {
+  kept-turn : AgentHandler S n (becomes kept)
+  kept-turn = plain-agent S n (becomes kept) r (handler-plain S.words n (becomes kept) (inl (refl, up)) (waiting-shrinks S.words n (λ w. nat_lt here w.letter.term) h)) (record {
     start = refl;
     decided = refl;
     taken = refl;
@@ -256,12 +256,12 @@ module _ (E : Database) (F : Firm) (halted : Bool) (stamp n : ℕ) (S : LogState
     queued = r.loads.queued n;
   })
 
-  kept-calls : CallsRow E F halted stamp S K n (becomes kept)
+  kept-calls : CallsHandler E F halted stamp S K n (becomes kept)
   kept-calls = record {
-    row = kept-turn;
+    handler = kept-turn;
     after = K;
     heard = omega arith;
-    calls = quiet-then E F halted stamp S (holds-of S h r) K C None n (becomes kept) kept-turn.row.history (row-grows kept-turn.row) (λ c. tt) (record {
+    calls = inert-then E F halted stamp S (holds-of S h r) K C None n (becomes kept) kept-turn.handler.history (handler-grows kept-turn.handler) (λ c. tt) (record {
       initiating = elim (C.agents n).initiating [
         | inl q ↦ inl q
         | inr q ↦ inr (q.0, q.1.runs, q.1.has_decided, q.1.initiates, phase-same E S F K (term_of q.0) agent kept agent.initiating.phase refl q.2)
@@ -278,11 +278,11 @@ module _ (E : Database) (F : Firm) (halted : Bool) (stamp n : ℕ) (S : LogState
     term = eqb-true x.letter.term here f.1;
   })
 
-  pub waited-calls : may_decide n agent agent.own ≡ false → CallsRow E F halted stamp S K n (takes_waiting E S.words.deployment n stamp agent)
+  pub waited-calls : may_decide n agent agent.own ≡ false → CallsHandler E F halted stamp S K n (takes_waiting E S.words.deployment n stamp agent)
   waited-calls settled = then-calls E F halted stamp S K n (becomes kept) (takes_each E S.words.deployment n stamp ws) kept-calls (none-taken E S.words.deployment n stamp ws)
-      (λ k q c u. waited-each E F halted stamp n ws (turned S n kept (λ b. []) kept-calls.row.row.history) lay k q kept-calls.after c u
+      (λ k q c u. waited-each E F halted stamp n ws (turned S n kept (λ b. []) kept-calls.handler.handler.history) lay k q kept-calls.after c u
       (all-mono _ _ (waited-still E F halted stamp n S (holds-of S h r) K C (becomes kept) kept-calls refl) ws taken)
-      (subst (λ b. may_decide n b b.own ≡ false) (sym (agent-there S.words n kept (λ b. []) kept-calls.row.row.history)) settled))
+      (subst (λ b. may_decide n b b.own ≡ false) (sym (agent-there S.words n kept (λ b. []) kept-calls.handler.handler.history)) settled))
     where
       ws : List Waiting
       ws = of_term here agent.waiting

@@ -17,8 +17,8 @@ use Rattle.cluster_model.specs.Disk.{Shown, chosen, recovered, greatest_open, re
 use Rattle.cluster_model.specs.World.{greatest_done}
 use Rattle.word_laws.specs.Histories.{In}
 use Rattle.word_laws.proofs.Lists.{same-some, none-and-some, eqb-same, if-true, in-left, in-cases, in-map, in-map-from, all-at, all-from, all-append, all-mono, all-behind}
-use Rattle.log_laws.specs.Histories.{Front}
-use Rattle.log_laws.proofs.Plain.Fronts.{front-refl, front-none, front-trans, front-same, fronts-compare, front-drop, drop-behind}
+use Rattle.log_laws.specs.Histories.{Prefix}
+use Rattle.log_laws.proofs.Plain.Prefixes.{prefix-refl, prefix-none, prefix-trans, prefix-same, prefixes-compare, prefix-drop, drop-behind}
 use Rattle.transaction_laws.specs.Machine.{WellFormed, first_stage, stage}
 use Rattle.transaction_laws.specs.Transactions.{Transactions, IsCall, OnlyCalls, OfNumber, NoRound, Aligned, point_in, since}
 use Rattle.transaction_laws.proofs.Kept.Moves.{Under}
@@ -30,63 +30,63 @@ use Rattle.transaction_laws.proofs.Entries.Machine.{stage-append, formed-append,
 -- ---- logs under others
 
 pub under-refl : (xs : List Entry) → Under xs xs
-under-refl xs = record { front = xs; calls = []; is = sym (append-nil xs); stands = front-refl xs; only = tt }
+under-refl xs = record { prefix = xs; calls = []; is = sym (append-nil xs); stands = prefix-refl xs; only = tt }
 
-pub under-front : (xs ys : List Entry) → Front xs ys → Under xs ys
-under-front xs ys f = record { front = xs; calls = []; is = sym (append-nil xs); stands = f; only = tt }
+pub under-prefix : (xs ys : List Entry) → Prefix xs ys → Under xs ys
+under-prefix xs ys f = record { prefix = xs; calls = []; is = sym (append-nil xs); stands = f; only = tt }
 
-all-front : (P : Entry → Type 0) (xs ys : List Entry) → Front xs ys → AllByRecursion P ys → AllByRecursion P xs
-all-front P xs ys (more, e) h = all-first P xs more (subst (AllByRecursion P) e h)
+all-prefix : (P : Entry → Type 0) (xs ys : List Entry) → Prefix xs ys → AllByRecursion P ys → AllByRecursion P xs
+all-prefix P xs ys (more, e) h = all-first P xs more (subst (AllByRecursion P) e h)
 
 all-drop : (P : Entry → Type 0) (n : ℕ) (xs : List Entry) → AllByRecursion P xs → AllByRecursion P (drop n xs)
 all-drop P n xs h = all-behind P (take n xs) (drop n xs) (subst (AllByRecursion P) (sym (take-append-drop n xs)) h)
 
 pub under-trans : (xs ys zs : List Entry) → Under xs ys → Under ys zs → Under xs zs
-under-trans xs ys zs f g = by (fronts-compare f.front g.front ys f.stands (g.calls, g.is))
+under-trans xs ys zs f g = by (prefixes-compare f.prefix g.prefix ys f.stands (g.calls, g.is))
   where
-    by : Front f.front g.front ⊎ Front g.front f.front → Under xs zs
-    by (inl h) = record { front = f.front; calls = f.calls; is = f.is; stands = front-trans f.front g.front zs h g.stands; only = f.only }
+    by : Prefix f.prefix g.prefix ⊎ Prefix g.prefix f.prefix → Under xs zs
+    by (inl h) = record { prefix = f.prefix; calls = f.calls; is = f.is; stands = prefix-trans f.prefix g.prefix zs h g.stands; only = f.only }
     by (inr (part, e)) =
         let rest = f.stands.0 in
-        let is : g.front ++ (part ++ rest) ≡ g.front ++ g.calls =
-        sym (append_assoc g.front part rest) ∙ ap (λ z. z ++ rest) (sym e) ∙ sym f.stands.1 ∙ g.is in
-        let calls = append_cancel_left g.front (part ++ rest) g.calls is in
+        let is : g.prefix ++ (part ++ rest) ≡ g.prefix ++ g.calls =
+        sym (append_assoc g.prefix part rest) ∙ ap (λ z. z ++ rest) (sym e) ∙ sym f.stands.1 ∙ g.is in
+        let calls = append_cancel_left g.prefix (part ++ rest) g.calls is in
         record {
-          front = g.front;
+          prefix = g.prefix;
           calls = part ++ f.calls;
-          is = f.is ∙ ap (λ z. z ++ f.calls) e ∙ append_assoc g.front part f.calls;
+          is = f.is ∙ ap (λ z. z ++ f.calls) e ∙ append_assoc g.prefix part f.calls;
           stands = g.stands;
           only = all-append IsCall part f.calls (all-first IsCall part rest (subst OnlyCalls (sym calls) g.only)) f.only;
         }
 
 pub under-calls : (xs ys es : List Entry) → Under xs ys → OnlyCalls es → Under (xs ++ es) ys
 under-calls xs ys es f o = record {
-  front = f.front;
+  prefix = f.prefix;
   calls = f.calls ++ es;
-  is = ap (λ z. z ++ es) f.is ∙ append_assoc f.front f.calls es;
+  is = ap (λ z. z ++ es) f.is ∙ append_assoc f.prefix f.calls es;
   stands = f.stands;
   only = all-append IsCall f.calls es f.only o;
 }
 
 -- behind a position
 pub under-drop : (n : ℕ) (xs ys : List Entry) → Under xs ys → Under (drop n xs) (drop n ys)
-under-drop n xs ys f = elim (cases_lt (length f.front) n) [
+under-drop n xs ys f = elim (cases_lt (length f.prefix) n) [
   | inl l ↦
-      let e : drop n xs ≡ drop (n - length f.front) f.calls =
-      sym (drop-behind n (length f.front) xs (omega (arith, l)))
-      ∙ ap (λ z. drop (n - length f.front) z) (ap (drop (length f.front)) f.is ∙ drop-append_seam f.front f.calls) in
+      let e : drop n xs ≡ drop (n - length f.prefix) f.calls =
+      sym (drop-behind n (length f.prefix) xs (omega (arith, l)))
+      ∙ ap (λ z. drop (n - length f.prefix) z) (ap (drop (length f.prefix)) f.is ∙ drop-append_seam f.prefix f.calls) in
       record {
-        front = [];
+        prefix = [];
         calls = drop n xs;
         is = refl;
-        stands = front-none (drop n ys);
-        only = subst OnlyCalls (sym e) (all-drop IsCall (n - length f.front) f.calls f.only);
+        stands = prefix-none (drop n ys);
+        only = subst OnlyCalls (sym e) (all-drop IsCall (n - length f.prefix) f.calls f.only);
       }
   | inr l ↦ record {
-    front = drop n f.front;
+    prefix = drop n f.prefix;
     calls = f.calls;
-    is = ap (drop n) f.is ∙ drop-append-le n f.front f.calls l;
-    stands = front-drop f.front ys n f.stands l;
+    is = ap (drop n) f.is ∙ drop-append-le n f.prefix f.calls l;
+    stands = prefix-drop f.prefix ys n f.stands l;
     only = f.only;
   }
 ]
@@ -94,12 +94,12 @@ under-drop n xs ys f = elim (cases_lt (length f.front) n) [
 -- what holds of calls and of all entries of the other log
 all-under : (P : Entry → Type 0) → ((x : Entry) → IsCall x → P x) → (xs ys : List Entry) → Under xs ys → AllByRecursion P ys → AllByRecursion P xs
 all-under P calls xs ys f h =
-    subst (AllByRecursion P) (sym f.is) (all-append P f.front f.calls (all-front P f.front ys f.stands h) (all-mono IsCall P calls f.calls f.only))
+    subst (AllByRecursion P) (sym f.is) (all-append P f.prefix f.calls (all-prefix P f.prefix ys f.stands h) (all-mono IsCall P calls f.calls f.only))
 
 -- what isn't a call stands in the other log too
 in-under : (x : Entry) (xs ys : List Entry) → (IsCall x → ⊥) → Under xs ys → In x xs → In x ys
-in-under x xs ys order f i = elim (in-cases x f.front f.calls (subst (In x) f.is i)) [
-  | inl k ↦ subst (In x) (sym f.stands.1) (in-left x f.front f.stands.0 k)
+in-under x xs ys order f i = elim (in-cases x f.prefix f.calls (subst (In x) f.is i)) [
+  | inl k ↦ subst (In x) (sym f.stands.1) (in-left x f.prefix f.stands.0 k)
   | inr k ↦ absurd (order (all-at IsCall f.calls f.only x k))
 ]
 
@@ -108,13 +108,13 @@ in-under x xs ys order f i = elim (in-cases x f.front f.calls (subst (In x) f.is
 -- fewer entries of them
 pub aligned-under : (E : Database) (D : Deployment) (before now : ℕ) (K : Transactions) (logs fewer : ℕ → List Entry) → before ≤ now → Aligned E D before K logs
     → ((p : ℕ) → nat_lt p (parts D) ≡ true → WellFormed (first_stage E p) (fewer p) × ((stage E p (fewer p)).point ≤ now))
-    → ((p : ℕ) → nat_lt p (parts D) ≡ true → Under (fewer p) (logs p) × Front (K.closed p) (fewer p))
-    → ((p x : ℕ) → nat_lt p (parts D) ≡ true → point_in K.agreed ≡ Some x → Front (K.decided p) (fewer p))
+    → ((p : ℕ) → nat_lt p (parts D) ≡ true → Under (fewer p) (logs p) × Prefix (K.closed p) (fewer p))
+    → ((p x : ℕ) → nat_lt p (parts D) ≡ true → point_in K.agreed ≡ Some x → Prefix (K.decided p) (fewer p))
     → Aligned E D now K fewer
 aligned-under E D before now K logs fewer l k f u d = record {
   formed = λ p part. (f p part).0;
   past = λ p part. (f p part).1;
-  front = λ p part. (u p part).1;
+  prefix = λ p part. (u p part).1;
   over = k.over;
   below = k.below;
   only = λ p part. all-under (OfNumber K.number) (call-number K.number) (since K fewer p) (since K logs p) (under p part) (k.only p part);
@@ -135,8 +135,8 @@ aligned-same : (E : Database) (D : Deployment) (now : ℕ) (K : Transactions) (l
 aligned-same E D now K logs same k is = aligned-under E D now now K logs same (omega arith) k
     (λ p part. let e = sym (is p part) in
     (subst (WellFormed (first_stage E p)) e (k.formed p part), subst (λ z. (stage E p z).point ≤ now) e (k.past p part)))
-    (λ p part. (under-front (same p) (logs p) (front-same (same p) (logs p) (is p part)), subst (Front (K.closed p)) (sym (is p part)) (k.front p part)))
-    (λ p x part e. subst (Front (K.decided p)) (sym (is p part)) (k.decided p x part e).0)
+    (λ p part. (under-prefix (same p) (logs p) (prefix-same (same p) (logs p) (is p part)), subst (Prefix (K.closed p)) (sym (is p part)) (k.prefix p part)))
+    (λ p x part e. subst (Prefix (K.decided p)) (sym (is p part)) (k.decided p x part e).0)
 
 -- ---- the transaction that is open in one of them
 

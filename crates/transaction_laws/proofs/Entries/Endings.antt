@@ -12,8 +12,8 @@ use Rattle.cluster_model.specs.Log.{last_done, outcome_if_last, first_outcome}
 use Rattle.cluster_model.specs.Words.{Deployment, parts}
 use Rattle.word_laws.specs.Histories.{In}
 use Rattle.word_laws.proofs.Lists.{same-some, none-and-some, eqb-same, if-true, in-cases, all-at, all-append}
-use Rattle.log_laws.specs.Histories.{Front}
-use Rattle.log_laws.proofs.Plain.Fronts.{front-grows}
+use Rattle.log_laws.specs.Histories.{Prefix}
+use Rattle.log_laws.proofs.Plain.Prefixes.{prefix-grows}
 use Rattle.transaction_laws.specs.Machine.{WellFormed, EndFits, first_stage, stage, point_after}
 use Rattle.transaction_laws.specs.Transactions.{Transactions, Aligned, OfNumber, point_in, since}
 use Rattle.transaction_laws.proofs.Entries.Machine.{first-sound, stage-sound, stage-append, formed-append, formed-rest, opened-point, last-in, in-last}
@@ -193,8 +193,8 @@ module _ (E : Database) (D : Deployment) (now : ℕ) (K : Transactions) (logs : 
       (λ r e. subst (λ s. s.point ≤ now) (sym (stage-append (first_stage E q) (logs q) (Done K.number o ∷ [])))
       (closing-past E D now K logs k (stage E q (logs q)).point o c (k.past q other)))
 
-  front : (q : ℕ) → nat_lt q (parts D) ≡ true → (xs : List Entry) → Front xs (logs q) → Front xs (after q)
-  front q other xs f = of-log (Front xs) q other f (λ r e. front-grows xs (logs q) (Done K.number o ∷ []) f)
+  prefix : (q : ℕ) → nat_lt q (parts D) ≡ true → (xs : List Entry) → Prefix xs (logs q) → Prefix xs (after q)
+  prefix q other xs f = of-log (Prefix xs) q other f (λ r e. prefix-grows xs (logs q) (Done K.number o ∷ []) f)
 
   ends : (q : ℕ) → nat_lt q (parts D) ≡ true → (a : Outcome) → In (Done K.number a) (since K after q) → o ≡ a
   ends q other a = of-since (λ xs. In (Done K.number a) xs → o ≡ a) q other (closing-ends E D now K logs k o c q other a)
@@ -208,7 +208,7 @@ module _ (E : Database) (D : Deployment) (now : ℕ) (K : Transactions) (logs : 
   aligned-ended = record {
     formed = formed;
     past = past;
-    front = λ q other. front q other (K.closed q) (k.front q other);
+    prefix = λ q other. prefix q other (K.closed q) (k.prefix q other);
     over = k.over;
     below = k.below;
     only = λ q other. of-since (AllByRecursion (OfNumber K.number)) q other (k.only q other)
@@ -216,7 +216,7 @@ module _ (E : Database) (D : Deployment) (now : ℕ) (K : Transactions) (logs : 
     fresh = λ q u other third e. absurd (omega (arith, e, open-below E D now K logs k p r q part at other));
     ends = λ q other a i. ap Some (ends q other a i);
     snapshot = λ q other e. absurd (closing-no-snapshot E D now K logs k o c (same-some e));
-    decided = λ q x other e. let d = k.decided q x other (closing-point E D now K logs k o c x e) in (front q other (K.decided q) d.0, d.1, d.2);
+    decided = λ q x other e. let d = k.decided q x other (closing-point E D now K logs k o c x e) in (prefix q other (K.decided q) d.0, d.1, d.2);
     agreed = λ x e. k.agreed x (closing-point E D now K logs k o c x e);
     even = k.even;
   }

@@ -11,7 +11,7 @@ use Rattle.word_laws.specs.Histories.{In}
 use Rattle.word_laws.proofs.Lists.{same-some, in-left, in-right, in-cases, all-at}
 use Rattle.transaction_laws.specs.Machine.{WellFormed, first_stage, stage}
 use Rattle.transaction_laws.specs.Transactions.{Transactions, Aligned, OfNumber, point_in, since}
-use Rattle.transaction_laws.proofs.Entries.Machine.{first-sound, stage-append, formed-front, formed-rest, open-ends, end-number, one-end}
+use Rattle.transaction_laws.proofs.Entries.Machine.{first-sound, stage-append, formed-prefix, formed-rest, open-ends, end-number, one-end}
 use Rattle.transaction_laws.proofs.Entries.Since.{calls-no-end, log-since, open-number}
 
 -- An end that applies a call in one of these logs stands in all.
@@ -46,7 +46,7 @@ module _ (E : Database) (D : Deployment) (now : ℕ) (K : Transactions) (logs : 
     end-alike q a other j = elim (end-stands q m a other j) [
       | inl c ↦
           let s = first_stage E q in
-          let n = end-number s (K.closed q) m a (first-sound E q) (formed-front s (K.closed q) (logs q) (A.front q other) (A.formed q other)) c in
+          let n = end-number s (K.closed q) m a (first-sound E q) (formed-prefix s (K.closed q) (logs q) (A.prefix q other) (A.formed q other)) c in
           absurd (omega (arith, n, closed-below q other, end-last-number))
       | inr b ↦ same-some (sym (A.ends q other a (subst (λ n. In (Done n a) (since K logs q)) end-last-number b)) ∙ end-agreed)
     ]

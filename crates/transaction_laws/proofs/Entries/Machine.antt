@@ -1,4 +1,4 @@
--- Which entries fit behind which log: what follows for logs and their fronts.
+-- Which entries fit behind which log: what follows for logs and their prefixes.
 use Rattle.std.proofs.Common.{◌≡◌, ◌<◌, List, [], ◌∷◌, ◌++◌, ◌⊎◌, inl, inr, refl, sym, subst, ap, ◌∙◌, append-nil, arith}
 use Rattle.std.specs.Prelude.{ℕ, ◌≤◌, Option, Some, None, option_map}
 use Rattle.std.specs.List.{AllByRecursion}
@@ -10,7 +10,7 @@ use Rattle.cluster_model.specs.Engine.{Database}
 use Rattle.cluster_model.specs.Log.{open_in, open_behind, last_done, done_behind, number_of}
 use Rattle.word_laws.specs.Histories.{In}
 use Rattle.word_laws.proofs.Lists.{same-some, none-and-some}
-use Rattle.log_laws.specs.Histories.{Front}
+use Rattle.log_laws.specs.Histories.{Prefix}
 use Rattle.transaction_laws.specs.Machine.{Stage, first_stage, next_stage, stage_behind, stage, IsOpen, Fits, WellFormed}
 use Rattle.transaction_laws.specs.Transactions.{OnlyCalls, IsOrder, OfNumber}
 use Rattle.transaction_laws.proofs.Kept.Moves.{CallsAt}
@@ -49,8 +49,8 @@ pub formed-rest : (s : Stage) (xs ys : List Entry) → WellFormed s (xs ++ ys) �
 formed-rest s [] ys h = h
 formed-rest s (x ∷ xs) ys h = formed-rest (next_stage s x) xs ys h.1
 
-pub formed-front : (s : Stage) (xs ys : List Entry) → Front xs ys → WellFormed s ys → WellFormed s xs
-formed-front s xs ys (more, e) h = formed-first s xs more (subst (WellFormed s) e h)
+pub formed-prefix : (s : Stage) (xs ys : List Entry) → Prefix xs ys → WellFormed s ys → WellFormed s xs
+formed-prefix s xs ys (more, e) h = formed-first s xs more (subst (WellFormed s) e h)
 
 -- an entry that fits has no lower number and no lower point
 next-number : (s : Stage) (x : Entry) → Sound s → Fits s x → s.number ≤ (next_stage s x).number
@@ -78,12 +78,12 @@ pub point-rises : (s : Stage) (xs : List Entry) → WellFormed s xs → s.point 
 point-rises s [] h = omega arith
 point-rises s (x ∷ xs) h = omega (arith, next-point s x h.0, point-rises (next_stage s x) xs h.1)
 
-pub front-number : (s : Stage) (xs ys : List Entry) → Sound s → Front xs ys → WellFormed s ys → (stage_behind s xs).number ≤ (stage_behind s ys).number
-front-number s xs ys h (more, e) k = subst (λ z. (stage_behind s xs).number ≤ z.number) (sym (stage-append s xs more) ∙ ap (stage_behind s) (sym e))
+pub prefix-number : (s : Stage) (xs ys : List Entry) → Sound s → Prefix xs ys → WellFormed s ys → (stage_behind s xs).number ≤ (stage_behind s ys).number
+prefix-number s xs ys h (more, e) k = subst (λ z. (stage_behind s xs).number ≤ z.number) (sym (stage-append s xs more) ∙ ap (stage_behind s) (sym e))
     (number-rises (stage_behind s xs) more (stage-sound s xs h) (formed-rest s xs more (subst (WellFormed s) e k)))
 
-pub front-point : (s : Stage) (xs ys : List Entry) → Front xs ys → WellFormed s ys → (stage_behind s xs).point ≤ (stage_behind s ys).point
-front-point s xs ys (more, e) k = subst (λ z. (stage_behind s xs).point ≤ z.point) (sym (stage-append s xs more) ∙ ap (stage_behind s) (sym e))
+pub prefix-point : (s : Stage) (xs ys : List Entry) → Prefix xs ys → WellFormed s ys → (stage_behind s xs).point ≤ (stage_behind s ys).point
+prefix-point s xs ys (more, e) k = subst (λ z. (stage_behind s xs).point ≤ z.point) (sym (stage-append s xs more) ∙ ap (stage_behind s) (sym e))
     (point-rises (stage_behind s xs) more (formed-rest s xs more (subst (WellFormed s) e k)))
 
 -- ---- calls on one partition
@@ -275,13 +275,13 @@ round-last s (x ∷ xs) m r h k o e = absurd (past-never (next_stage s x) xs m r
     gone (Done a Snapshot) f = absurd (none-and-some f.0 o)
 
 -- Its last round is the last entry.
-pub frag-last : (s : Stage) (front more : List Entry) (m r : ℕ) (body : List ℕ) → Sound s → WellFormed s (front ++ Frag m r body ∷ more)
-    → (stage_behind s (front ++ Frag m r body ∷ more)).opened ≡ Some (m, r) → more ≡ []
-frag-last s front more m r body h k e =
-    let u = stage_behind s front in
+pub frag-last : (s : Stage) (prefix more : List Entry) (m r : ℕ) (body : List ℕ) → Sound s → WellFormed s (prefix ++ Frag m r body ∷ more)
+    → (stage_behind s (prefix ++ Frag m r body ∷ more)).opened ≡ Some (m, r) → more ≡ []
+frag-last s prefix more m r body h k e =
+    let u = stage_behind s prefix in
     let x = Frag m r body in
-    round-last (next_stage u x) more m r (next-sound u x (stage-sound s front h)) (formed-rest s front (x ∷ more) k).1 refl
-    (ap (λ z. z.opened) (sym (stage-append s front (x ∷ more))) ∙ e)
+    round-last (next_stage u x) more m r (next-sound u x (stage-sound s prefix h)) (formed-rest s prefix (x ∷ more) k).1 refl
+    (ap (λ z. z.opened) (sym (stage-append s prefix (x ∷ more))) ∙ e)
 
 -- Behind where nothing is open stand only calls, if no number is greater in the end.
 over-last : (s : Stage) (more : List Entry) → Sound s → WellFormed s more → s.opened ≡ None → (stage_behind s more).number ≤ s.number → OnlyCalls more
@@ -299,13 +299,13 @@ over-last s (Done a Snapshot ∷ xs) h k o l =
     absurd (omega (arith, k.0.1, l, number-rises (next_stage s x) xs (next-sound s x h) k.1))
 
 -- Behind its end, where no later one has begun, stand only calls.
-pub done-last : (s : Stage) (front more : List Entry) (m : ℕ) (o : Outcome) → Sound s → WellFormed s (front ++ Done m o ∷ more)
-    → (stage_behind s (front ++ Done m o ∷ more)).number ≡ m → OnlyCalls more
-done-last s front more m o h k e =
-    let u = stage_behind s front in
+pub done-last : (s : Stage) (prefix more : List Entry) (m : ℕ) (o : Outcome) → Sound s → WellFormed s (prefix ++ Done m o ∷ more)
+    → (stage_behind s (prefix ++ Done m o ∷ more)).number ≡ m → OnlyCalls more
+done-last s prefix more m o h k e =
+    let u = stage_behind s prefix in
     let x = Done m o in
-    over-last (next_stage u x) more (next-sound u x (stage-sound s front h)) (formed-rest s front (x ∷ more) k).1 refl
-    (omega (arith, ap (λ z. z.number) (stage-append s front (x ∷ more)), e))
+    over-last (next_stage u x) more (next-sound u x (stage-sound s prefix h)) (formed-rest s prefix (x ∷ more) k).1 refl
+    (omega (arith, ap (λ z. z.number) (stage-append s prefix (x ∷ more)), e))
 
 -- An end stands behind what fits before it, and what fits behind it.
 ended : (s : Stage) (es : List Entry) (m r : ℕ) (o : Outcome) → Sound s → WellFormed s es → In (Done m o) es → (stage_behind s es).opened ≡ Some (m, r) → ⊥
@@ -488,11 +488,11 @@ done-number s last (Frag m r body ∷ xs) h k l =
 done-number s last (Done m o ∷ xs) h k l = done-number (next_stage s (Done m o)) (Some (m, o)) xs (next-sound s (Done m o) h) k.1 (omega arith)
 
 -- the last end, where its number is above those before
-pub last-in : (E : Database) (p : ℕ) (front es : List Entry) (n : ℕ) (o : Outcome) → WellFormed (first_stage E p) (front ++ es) → (stage E p front).number < n
-    → last_done E p (front ++ es) ≡ Some (n, o) → In (Done n o) es
-last-in E p front es n o h l e = elim (done-from (last_done E p front) es n o (sym (done-append (E.opening_done p) front es) ∙ e)) [
+pub last-in : (E : Database) (p : ℕ) (prefix es : List Entry) (n : ℕ) (o : Outcome) → WellFormed (first_stage E p) (prefix ++ es) → (stage E p prefix).number < n
+    → last_done E p (prefix ++ es) ≡ Some (n, o) → In (Done n o) es
+last-in E p prefix es n o h l e = elim (done-from (last_done E p prefix) es n o (sym (done-append (E.opening_done p) prefix es) ∙ e)) [
   | inl f ↦
-      let b = done-number (first_stage E p) (E.opening_done p) front (first-sound E p) (formed-first (first_stage E p) front es h) (omega arith) in
+      let b = done-number (first_stage E p) (E.opening_done p) prefix (first-sound E p) (formed-first (first_stage E p) prefix es h) (omega arith) in
       absurd (omega (arith, l, b, ap number_of f))
   | inr i ↦ i
 ]
@@ -529,8 +529,8 @@ in-done s last (Done m b ∷ es) n o h a (inl q) =
     let calls = only-again (next_stage s (Done m b)) es n h.1 a.1 refl (omega (arith, number)) in
     calls-done (Some (m, b)) es calls ∙ ap Some (λ i. (number i, outcome i))
 
-pub in-last : (E : Database) (p : ℕ) (front es : List Entry) (n : ℕ) (o : Outcome) → WellFormed (first_stage E p) (front ++ es) → AllByRecursion (OfNumber n) es
-    → In (Done n o) es → last_done E p (front ++ es) ≡ Some (n, o)
-in-last E p front es n o h a i =
-    done-append (E.opening_done p) front es
-    ∙ in-done (stage E p front) (last_done E p front) es n o (formed-rest (first_stage E p) front es h) a i
+pub in-last : (E : Database) (p : ℕ) (prefix es : List Entry) (n : ℕ) (o : Outcome) → WellFormed (first_stage E p) (prefix ++ es) → AllByRecursion (OfNumber n) es
+    → In (Done n o) es → last_done E p (prefix ++ es) ≡ Some (n, o)
+in-last E p prefix es n o h a i =
+    done-append (E.opening_done p) prefix es
+    ∙ in-done (stage E p prefix) (last_done E p prefix) es n o (formed-rest (first_stage E p) prefix es h) a i

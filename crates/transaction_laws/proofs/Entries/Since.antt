@@ -11,12 +11,12 @@ use Rattle.cluster_model.specs.Engine.{Database}
 use Rattle.cluster_model.specs.Words.{Deployment, parts, all_parts}
 use Rattle.word_laws.specs.Histories.{In}
 use Rattle.word_laws.proofs.Lists.{all-at, all-mono}
-use Rattle.log_laws.specs.Histories.{LogState, Reign}
+use Rattle.log_laws.specs.Histories.{LogState, Leadership}
 use Rattle.log_laws.proofs.Plain.Copies.{range-in, in-range}
-use Rattle.log_laws.proofs.Plain.Fronts.{front-length, front-rest}
+use Rattle.log_laws.proofs.Plain.Prefixes.{prefix-length, prefix-rest}
 use Rattle.transaction_laws.specs.Machine.{Stage, WellFormed, first_stage, stage, stage_behind}
 use Rattle.transaction_laws.specs.Transactions.{Transactions, Aligned, IsCall, OnlyCalls, IsOrder, OfNumber, NoRound, DueOk, since, led_log, whole}
-use Rattle.transaction_laws.proofs.Entries.Machine.{first-sound, stage-append, formed-rest, front-number, calls-opened, calls-number, opened-number, only-number}
+use Rattle.transaction_laws.proofs.Entries.Machine.{first-sound, stage-append, formed-rest, prefix-number, calls-opened, calls-number, opened-number, only-number}
 
 -- ---- lists
 
@@ -67,7 +67,7 @@ due-calls S K p t (inl none) h = none
 due-calls S K p t (inr (e, g, is, order, led, up)) h = absurd (call-no-order e (subst OnlyCalls is h).0 order)
 
 -- the log of a term that is led, where nothing is due
-pub whole-led : (S : LogState) (K : Transactions) (p t : ℕ) (g : Reign) → S.logs.reign p t ≡ Some g → K.due p t ≡ [] → whole S K t p ≡ g.log
+pub whole-led : (S : LogState) (K : Transactions) (p t : ℕ) (g : Leadership) → S.logs.leadership p t ≡ Some g → K.due p t ≡ [] → whole S K t p ≡ g.log
 whole-led S K p t g led none = ap (λ r. led_log r ++ K.due p t) led ∙ ap (λ d. g.log ++ d) none ∙ append-nil g.log
 
 -- where no round is, nothing is opened
@@ -81,7 +81,7 @@ no-round-opened s (Done m o ∷ es) h e = no-round-opened _ es h.1 refl
 
 module _ (E : Database) (D : Deployment) (now : ℕ) (K : Transactions) (logs : ℕ → List Entry) (A : Aligned E D now K logs) (p : ℕ) (part : nat_lt p (parts D) ≡ true) where
   pub log-since : logs p ≡ K.closed p ++ since K logs p
-  log-since = front-rest (K.closed p) (logs p) (A.front p part)
+  log-since = prefix-rest (K.closed p) (logs p) (A.prefix p part)
 
   pub stage-since : stage E p (logs p) ≡ stage_behind (stage E p (K.closed p)) (since K logs p)
   stage-since = ap (stage E p) log-since ∙ stage-append (first_stage E p) (K.closed p) (since K logs p)
@@ -91,12 +91,12 @@ module _ (E : Database) (D : Deployment) (now : ℕ) (K : Transactions) (logs : 
 
   -- with more entries behind it
   pub since-more : (es : List Entry) → drop (length (K.closed p)) (logs p ++ es) ≡ since K logs p ++ es
-  since-more es = drop-append-le (length (K.closed p)) (logs p) es (front-length (K.closed p) (logs p) (A.front p part))
+  since-more es = drop-append-le (length (K.closed p)) (logs p) es (prefix-length (K.closed p) (logs p) (A.prefix p part))
 
   -- ---- numbers
 
   pub closed-number : (stage E p (K.closed p)).number ≤ (stage E p (logs p)).number
-  closed-number = front-number (first_stage E p) (K.closed p) (logs p) (first-sound E p) (A.front p part) (A.formed p part)
+  closed-number = prefix-number (first_stage E p) (K.closed p) (logs p) (first-sound E p) (A.prefix p part) (A.formed p part)
 
   -- Its number is the last one, unless all are calls.
   pub number-since : OnlyCalls (since K logs p) ⊎ ((stage E p (logs p)).number ≡ K.number)

@@ -16,8 +16,8 @@ use Rattle.cluster_model.specs.AgentState.{AgentState, Job, RunCall, TakeSnapsho
 use Rattle.cluster_model.specs.Initiator.{to_all_leaders, new_work, begins, body_of_round}
 use Rattle.word_laws.specs.Histories.{In}
 use Rattle.word_laws.proofs.Lists.{in-cases, all-append, same-some, none-and-some}
-use Rattle.log_laws.specs.Histories.{LogState, Holds, Front}
-use Rattle.log_laws.proofs.Plain.Fronts.{front-grows}
+use Rattle.log_laws.specs.Histories.{LogState, Holds, Prefix}
+use Rattle.log_laws.proofs.Plain.Prefixes.{prefix-grows}
 use Rattle.disk_laws.specs.Disks.{Firm}
 use Rattle.transaction_laws.specs.Machine.{Stage, Fits, WellFormed, first_stage, next_stage, stage}
 use Rattle.transaction_laws.specs.Transactions.{Transactions, Books, HeardPart, Aligned, Initiates, IsPart, IsOrder, OnlyCalls, OfNumber, NoRound, point_in, order_in, since, led_log, whole}
@@ -31,14 +31,14 @@ use Rattle.transaction_laws.proofs.Entries.Since.{calls-of, calls-no-round, call
 
 -- behind the log of a partition to which it goes, the entry too
 pub whole-to : (S : LogState) (K : Transactions) (to : ℕ → Bool) (e : Entry) (p : ℕ) → IsPart S p → to p ≡ true
-    → led_log (S.logs.reign p K.heard) ++ due_with S K to e p K.heard ≡ whole S K K.heard p ++ e ∷ []
+    → led_log (S.logs.leadership p K.heard) ++ due_with S K to e p K.heard ≡ whole S K K.heard p ++ e ∷ []
 whole-to S K to e p part t =
-    ap (λ es. led_log (S.logs.reign p K.heard) ++ es) (due-more S K to e p K.heard part t refl) ∙ sym (append_assoc (led_log (S.logs.reign p K.heard)) (K.due p K.heard) (e ∷ []))
+    ap (λ es. led_log (S.logs.leadership p K.heard) ++ es) (due-more S K to e p K.heard part t refl) ∙ sym (append_assoc (led_log (S.logs.leadership p K.heard)) (K.due p K.heard) (e ∷ []))
 
 -- behind that of another one, what was
 pub whole-else : (S : LogState) (K : Transactions) (to : ℕ → Bool) (e : Entry) (p : ℕ) → to p ≡ false
-    → led_log (S.logs.reign p K.heard) ++ due_with S K to e p K.heard ≡ whole S K K.heard p
-whole-else S K to e p t = ap (λ es. led_log (S.logs.reign p K.heard) ++ es) (due-kept S K to e p K.heard t)
+    → led_log (S.logs.leadership p K.heard) ++ due_with S K to e p K.heard ≡ whole S K K.heard p
+whole-else S K to e p t = ap (λ es. led_log (S.logs.leadership p K.heard) ++ es) (due-kept S K to e p K.heard t)
 
 -- ---- how a transaction begins
 
@@ -104,11 +104,11 @@ module _ (E : Database) (S : LogState) (F : Firm) (K : Transactions) (now : ℕ)
   since-is : (p : ℕ) → IsPart S p → since after (whole S after after.heard) p ≡ since K log p ++ e ∷ []
   since-is p part = ap (drop (length (K.closed p))) (whole-is p part) ∙ since-more E S.words.deployment now K log A p part (e ∷ [])
 
-  quiet : (p : ℕ) → IsPart S p → ((stage E p (log p)).opened ≡ None) × ((stage E p (log p)).number ≡ (stage E p (K.closed p)).number)
-  quiet p part = calls-since E S.words.deployment now K log A p part (rest p part).1
+  inert : (p : ℕ) → IsPart S p → ((stage E p (log p)).opened ≡ None) × ((stage E p (log p)).number ≡ (stage E p (K.closed p)).number)
+  inert p part = calls-since E S.words.deployment now K log A p part (rest p part).1
 
   fits : (p : ℕ) → IsPart S p → Fits (stage E p (log p)) e
-  fits p part = let q = quiet p part in let b = A.below p part in k.fits (stage E p (log p)) q.0 (omega (arith, q.1, b, next))
+  fits p part = let q = inert p part in let b = A.below p part in k.fits (stage E p (log p)) q.0 (omega (arith, q.1, b, next))
 
   formed : (p : ℕ) → IsPart S p → WellFormed (first_stage E p) (whole S after after.heard p)
   formed p part = subst (WellFormed (first_stage E p)) (sym (whole-is p part))
@@ -125,7 +125,7 @@ module _ (E : Database) (S : LogState) (F : Firm) (K : Transactions) (now : ℕ)
   aligned = record {
     formed = formed;
     past = λ p part. let x = A.past p part in let y = ap (λ s. s.point) (stage-is p part) in let z = k.point (stage E p (log p)) in omega (arith, x, y, z);
-    front = λ p part. subst (Front (K.closed p)) (sym (whole-is p part)) (front-grows (K.closed p) (log p) (e ∷ []) (A.front p part));
+    prefix = λ p part. subst (Prefix (K.closed p)) (sym (whole-is p part)) (prefix-grows (K.closed p) (log p) (e ∷ []) (A.prefix p part));
     over = A.over;
     below = λ p part. let x = A.below p part in omega (arith, x, next);
     only = λ p part. subst (AllByRecursion (OfNumber m)) (sym (since-is p part))
@@ -141,7 +141,7 @@ module _ (E : Database) (S : LogState) (F : Firm) (K : Transactions) (now : ℕ)
 
   each : (p : ℕ) → IsPart S p → HeardPart S F after p
   each p part = let h = B.heard.each p part in record {
-    reign = h.reign;
+    leadership = h.leadership;
     led = h.led;
     inside = h.inside;
     closed = h.closed;

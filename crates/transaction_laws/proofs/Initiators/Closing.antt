@@ -55,7 +55,7 @@ module _ (E : Database) (S : LogState) (F : Firm) (K : Transactions) (now : ℕ)
   aligned = let A = aligned-ended E S.words.deployment now K log B.heard.aligned p r part at o c (whole S after after.heard) either in record {
     formed = A.formed;
     past = A.past;
-    front = A.front;
+    prefix = A.prefix;
     over = A.over;
     below = A.below;
     only = A.only;
@@ -69,7 +69,7 @@ module _ (E : Database) (S : LogState) (F : Firm) (K : Transactions) (now : ℕ)
 
   each : (q : ℕ) → IsPart S q → HeardPart S F after q
   each q other = let h = B.heard.each q other in record {
-    reign = h.reign;
+    leadership = h.leadership;
     led = h.led;
     inside = h.inside;
     closed = h.closed;
@@ -88,9 +88,9 @@ module _ (E : Database) (S : LogState) (F : Firm) (K : Transactions) (now : ℕ)
   still-settled : (q : ℕ) → to q ≡ false → Settled E S F K q → Settled E S F after q
   still-settled q n s = record {
     none = due-kept S K to e q K.heard n ∙ s.none;
-    reign = s.reign;
+    leadership = s.leadership;
     led = s.led;
-    front = s.front;
+    prefix = s.prefix;
     stands = s.stands;
     calls = s.calls;
     everywhere = s.everywhere;
@@ -102,13 +102,13 @@ module _ (E : Database) (S : LogState) (F : Firm) (K : Transactions) (now : ℕ)
 -- the partitions that told it open
 in-open : (m : ℕ) (told : List Heard) (p : ℕ) → is_in p (open_parts m told) ≡ true → (x : Heard) × In x told × (x.is_open ≡ true) × (x.part ≡ p)
 in-open m told p is =
-    let r = in-map-from (λ t. t.part) p (filter (λ t. t.is_open && t.m == m) told) (is_in-in p (open_parts m told) is) in
-    let k = in-filter (λ t. t.is_open && t.m == m) r.0 told r.1 in
-    (r.0, k.0, (and_parts r.0.is_open (r.0.m == m) k.1).0, r.2)
+    let r = in-map-from (λ t. t.part) p (filter (λ t. t.is_open && t.transaction == m) told) (is_in-in p (open_parts m told) is) in
+    let k = in-filter (λ t. t.is_open && t.transaction == m) r.0 told r.1 in
+    (r.0, k.0, (and_parts r.0.is_open (r.0.transaction == m) k.1).0, r.2)
 
-open-in : (m : ℕ) (told : List Heard) (x : Heard) → In x told → x.is_open ≡ true → x.m ≡ m → is_in x.part (open_parts m told) ≡ true
+open-in : (m : ℕ) (told : List Heard) (x : Heard) → In x told → x.is_open ≡ true → x.transaction ≡ m → is_in x.part (open_parts m told) ≡ true
 open-in m told x i is q = in-is_in x.part (open_parts m told)
-    (in-map (λ t. t.part) x (filter (λ t. t.is_open && t.m == m) told) (filter-in (λ t. t.is_open && t.m == m) x told i (and_from x.is_open (x.m == m) is (eq-eqb x.m m q))))
+    (in-map (λ t. t.part) x (filter (λ t. t.is_open && t.transaction == m) told) (filter-in (λ t. t.is_open && t.transaction == m) x told i (and_from x.is_open (x.transaction == m) is (eq-eqb x.transaction m q))))
 
 -- `a` is the agent as the turn has it by then. It has heard of all partitions.
 module _ (E : Database) (S : LogState) (F : Firm) (K : Transactions) (now stamp n : ℕ) (w : Membership) (lay : LaidOut S) (H : Holds S) (B : Books E S F K now) (l : now ≤ stamp)

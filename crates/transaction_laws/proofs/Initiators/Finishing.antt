@@ -33,34 +33,34 @@ module _ (E : Database) (S : LogState) (F : Firm) (K : Transactions) (now : ℕ)
   abbrev due : List Entry
   due = K.due p K.heard
 
-  abbrev front : List Entry
-  front = d.stands.front
+  abbrev prefix : List Entry
+  prefix = d.stands.prefix
 
   abbrev more : List Entry
   more = d.stands.stands.0
 
-  whole-is : whole S K K.heard p ≡ front ++ Done K.number o ∷ (more ++ due)
+  whole-is : whole S K K.heard p ≡ prefix ++ Done K.number o ∷ (more ++ due)
   whole-is =
       ap (λ r. led_log r ++ due) d.led ∙ ap (λ xs. xs ++ due) d.stands.stands.1
-      ∙ append_assoc (front ++ Done K.number o ∷ []) more due ∙ append_assoc front (Done K.number o ∷ []) (more ++ due)
+      ∙ append_assoc (prefix ++ Done K.number o ∷ []) more due ∙ append_assoc prefix (Done K.number o ∷ []) (more ++ due)
 
   -- behind it stand only calls
   behind : OnlyCalls (more ++ due)
-  behind = done-last (first_stage E p) front (more ++ due) K.number o (first-sound E p)
+  behind = done-last (first_stage E p) prefix (more ++ due) K.number o (first-sound E p)
       (subst (WellFormed (first_stage E p)) whole-is (B.heard.aligned.formed p part)) (ap (λ xs. (stage E p xs).number) (sym whole-is) ∙ e.1)
 
   -- All is settled there.
   ended-settled : Settled E S F K p
   ended-settled = record {
     none = due-calls S K p K.heard (B.due p K.heard) (all-behind IsCall more due behind);
-    reign = d.reign;
+    leadership = d.leadership;
     led = d.led;
-    front = front ++ Done K.number o ∷ [];
+    prefix = prefix ++ Done K.number o ∷ [];
     stands = d.stands.stands;
-    calls = subst OnlyCalls (sym (front_rest d.reign.log (front ++ Done K.number o ∷ []) more d.stands.stands.1))
+    calls = subst OnlyCalls (sym (front_rest d.leadership.log (prefix ++ Done K.number o ∷ []) more d.stands.stands.1))
         (all-first IsCall more due behind);
-    everywhere = subst (Everywhere S F p K.heard) (sym (length_push front (Done K.number o) ∙ d.stands.at)) d.everywhere;
-    over = ap (λ s. s.opened) (stage-append (first_stage E p) front (Done K.number o ∷ []));
+    everywhere = subst (Everywhere S F p K.heard) (sym (length_push prefix (Done K.number o) ∙ d.stands.at)) d.everywhere;
+    over = ap (λ s. s.opened) (stage-append (first_stage E p) prefix (Done K.number o ∷ []));
   }
 
 -- with one partition more in which it is finished
@@ -150,18 +150,18 @@ module _ (E : Database) (S : LogState) (F : Firm) (K : Transactions) (now stamp 
     )
 
     done-goes : InitiatorGoes E S F K stamp n w a (
-        if x.m == m
+        if x.transaction == m
         then (if all_finished (all_parts S.words.deployment) (p ∷ x.finished) then ends_job E S.words.deployment n (with_work a done) x.job d.end else becomes (with_work a done))
         else becomes a
         )
-    done-goes = choice (x.m == m) refl
+    done-goes = choice (x.transaction == m) refl
       where
-        choice : (b : Bool) → (x.m == m) ≡ b → InitiatorGoes E S F K stamp n w a (
+        choice : (b : Bool) → (x.transaction == m) ≡ b → InitiatorGoes E S F K stamp n w a (
             if b
             then (if all_finished (all_parts S.words.deployment) (p ∷ x.finished) then ends_job E S.words.deployment n (with_work a done) x.job d.end else becomes (with_work a done))
             else becomes a
             )
-        choice true is = all-done (sym (eqb-true x.m m is) ∙ job.0) (all_finished (all_parts S.words.deployment) (p ∷ x.finished)) refl
+        choice true is = all-done (sym (eqb-true x.transaction m is) ∙ job.0) (all_finished (all_parts S.words.deployment) (p ∷ x.finished)) refl
         choice false is = still
 
   works-goes : (x : Work) → K.heard ≡ term_of w → K.number < a.initiating.next → JobOk K (Some x) → AtHand E S F K x x.decision
@@ -171,7 +171,7 @@ module _ (E : Database) (S : LogState) (F : Firm) (K : Transactions) (now stamp 
       choice : (o : Option Decision) → x.decision ≡ o → AtHand E S F K x o → InitiatorGoes E S F K stamp n w a (elim o as (λ _. Turn AgentState) [
         | None ↦ becomes a
         | Some d ↦
-            if x.m == m
+            if x.transaction == m
             then (if all_finished (all_parts S.words.deployment) (p ∷ x.finished) then ends_job E S.words.deployment n (with_work a (more_done p x)) x.job d.end else becomes (with_work a (more_done p x)))
             else becomes a
       ])

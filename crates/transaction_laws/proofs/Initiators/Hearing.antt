@@ -13,44 +13,44 @@ use Rattle.cluster_model.specs.AgentState.{AgentState, Phase, Off, Hears, Closes
 use Rattle.cluster_model.specs.Initiator.{with_phase, greatest_told, open_told, has_told, first_number, closes_open, hears, on_mp_state}
 use Rattle.word_laws.specs.Histories.{In}
 use Rattle.word_laws.proofs.Lists.{same-some, all-append, all-at}
-use Rattle.log_laws.specs.Histories.{LogState, Holds, Front}
-use Rattle.log_laws.proofs.Plain.Fronts.{front-trans, front-append}
+use Rattle.log_laws.specs.Histories.{LogState, Holds, Prefix}
+use Rattle.log_laws.proofs.Plain.Prefixes.{prefix-trans, prefix-append}
 use Rattle.disk_laws.specs.Disks.{Firm}
 use Rattle.transaction_laws.specs.Machine.{WellFormed, first_stage, stage}
 use Rattle.transaction_laws.specs.Transactions.{Transactions, Books, HeardPart, DueOk, Aligned, Initiates, IsPart, OnlyCalls, Everywhere, StateOk, JobOk, PhaseOk, point_in, since, led_log, whole}
 use Rattle.transaction_laws.proofs.Kept.Moves.{InitiatorGoes, Under}
-use Rattle.transaction_laws.proofs.Entries.Aligned.{under-front, under-trans, aligned-under}
-use Rattle.transaction_laws.proofs.Kept.Later.{quiet-reign}
+use Rattle.transaction_laws.proofs.Entries.Aligned.{under-prefix, under-trans, aligned-under}
+use Rattle.transaction_laws.proofs.Kept.Later.{inert-leadership}
 use Rattle.transaction_laws.proofs.Initiators.Orders.{LaidOut, decided-word}
 use Rattle.transaction_laws.proofs.Initiators.Turns.{goes-still, goes-from}
 use Rattle.transaction_laws.proofs.Entries.Since.{whole-led, number-since, number-within, closed-number}
 use Rattle.transaction_laws.proofs.Initiators.Resting.{OverAt, resting-books}
-use Rattle.transaction_laws.proofs.Initiators.Told.{ToldIs, heard_with, told-is, told-none, told-front, told-number, greatest-above, greatest-below, told-by}
+use Rattle.transaction_laws.proofs.Initiators.Told.{ToldIs, heard_with, told-is, told-none, told-prefix, told-number, greatest-above, greatest-below, told-by}
 use Rattle.transaction_laws.proofs.Initiators.Closing.{closes_open-goes}
 
 -- ---- the history once all partitions have told
 
 -- Of one that told.
 module _ (E : Database) (S : LogState) (F : Firm) (K : Transactions) (now : ℕ) (H : Holds S) (B : Books E S F K now) (t : ℕ) (up : K.heard < t)
-    (x : Heard) (k : StateOk E S F x.part t x.m x.is_open x.outcome) where
+    (x : Heard) (k : StateOk E S F x.part t x.transaction x.is_open x.outcome) where
   abbrev before : HeardPart S F K x.part
   before = B.heard.each x.part k.part
 
-  whole-is : whole S K t x.part ≡ k.reign.log
-  whole-is = whole-led S K x.part t k.reign k.led (told-none E S F K now H B t up x k)
+  whole-is : whole S K t x.part ≡ k.leadership.log
+  whole-is = whole-led S K x.part t k.leadership k.led (told-none E S F K now H B t up x k)
 
-  grown : Front k.reign.begun k.reign.log
-  grown = (H.reigns x.part t k.reign k.led).grown
+  grown : Prefix k.leadership.begun k.leadership.log
+  grown = (H.leaderships x.part t k.leadership k.led).grown
 
   -- What was firm in the term before is in this term's log.
-  kept : (xs : List Entry) → Front xs before.reign.log → Everywhere S F x.part K.heard (length xs) → Front xs k.reign.log × Everywhere S F x.part t (length xs)
+  kept : (xs : List Entry) → Prefix xs before.leadership.log → Everywhere S F x.part K.heard (length xs) → Prefix xs k.leadership.log × Everywhere S F x.part t (length xs)
   kept xs f e =
-      let (at, everywhere) = told-front E S F K now H B t up x k before.reign before.led xs f e in
-      (front-trans xs k.reign.begun k.reign.log at grown, everywhere)
+      let (at, everywhere) = told-prefix E S F K now H B t up x k before.leadership before.led xs f e in
+      (prefix-trans xs k.leadership.begun k.leadership.log at grown, everywhere)
 
   heard-part : HeardPart S F (heard_with K t K.number K.agreed) x.part
   heard-part = record {
-    reign = k.reign;
+    leadership = k.leadership;
     led = k.led;
     inside = (kept (K.closed x.part) before.inside before.closed).0;
     closed = (kept (K.closed x.part) before.inside before.closed).1;
@@ -60,24 +60,24 @@ module _ (E : Database) (S : LogState) (F : Firm) (K : Transactions) (now : ℕ)
 
   -- Its log is under that of the term before, and fits.
   fits-still : WellFormed (first_stage E x.part) (whole S K t x.part) × ((stage E x.part (whole S K t x.part)).point ≤ now)
-  fits-still = let r = B.reigns x.part t k.reign k.part k.led in
+  fits-still = let r = B.leaderships x.part t k.leadership k.part k.led in
       subst (λ o. WellFormed (first_stage E x.part) (led_log o ++ K.due x.part t) × ((stage E x.part (led_log o ++ K.due x.part t)).point ≤ now)) (sym k.led) (r.formed, r.past)
 
-  under-before : Under (whole S K t x.part) (whole S K K.heard x.part) × Front (K.closed x.part) (whole S K t x.part)
+  under-before : Under (whole S K t x.part) (whole S K K.heard x.part) × Prefix (K.closed x.part) (whole S K t x.part)
   under-before = (
     subst (λ xs. Under xs (whole S K K.heard x.part)) (sym whole-is)
-        (subst (λ o. Under k.reign.log (led_log o ++ K.due x.part K.heard)) (sym before.led)
-        (under-trans k.reign.log before.reign.log (before.reign.log ++ K.due x.part K.heard)
-        (quiet-reign E S F K now H B x.part t before.reign k.reign k.part before.led k.led (omega (arith, up)))
-        (under-front before.reign.log (before.reign.log ++ K.due x.part K.heard) (front-append before.reign.log (K.due x.part K.heard))))),
-    subst (Front (K.closed x.part)) (sym whole-is) (kept (K.closed x.part) before.inside before.closed).0,
+        (subst (λ o. Under k.leadership.log (led_log o ++ K.due x.part K.heard)) (sym before.led)
+        (under-trans k.leadership.log before.leadership.log (before.leadership.log ++ K.due x.part K.heard)
+        (inert-leadership E S F K now H B x.part t before.leadership k.leadership k.part before.led k.led (omega (arith, up)))
+        (under-prefix before.leadership.log (before.leadership.log ++ K.due x.part K.heard) (prefix-append before.leadership.log (K.due x.part K.heard))))),
+    subst (Prefix (K.closed x.part)) (sym whole-is) (kept (K.closed x.part) before.inside before.closed).0,
   )
 
-  decided-still : (y : ℕ) → point_in K.agreed ≡ Some y → Front (K.decided x.part) (whole S K t x.part)
-  decided-still y is = subst (Front (K.decided x.part)) (sym whole-is) (kept (K.decided x.part) (before.decided y is).0 (before.decided y is).1).0
+  decided-still : (y : ℕ) → point_in K.agreed ≡ Some y → Prefix (K.decided x.part) (whole S K t x.part)
+  decided-still y is = subst (Prefix (K.decided x.part)) (sym whole-is) (kept (K.decided x.part) (before.decided y is).0 (before.decided y is).1).0
 
 module _ (E : Database) (S : LogState) (F : Firm) (K : Transactions) (now n : ℕ) (w : Membership) (H : Holds S) (B : Books E S F K now) (i : Initiates S n w) (up : K.heard < term_of w)
-    (tells : (p : ℕ) → IsPart S p → (x : Heard) × (x.part ≡ p) × StateOk E S F x.part (term_of w) x.m x.is_open x.outcome) where
+    (tells : (p : ℕ) → IsPart S p → (x : Heard) × (x.part ≡ p) × StateOk E S F x.part (term_of w) x.transaction x.is_open x.outcome) where
   abbrev t : ℕ
   t = term_of w
 
@@ -85,20 +85,20 @@ module _ (E : Database) (S : LogState) (F : Firm) (K : Transactions) (now n : �
   after = heard_with K t K.number K.agreed
 
   -- what holds of each that told, holds of each
-  of-told : (P : ℕ → Type 0) → ((x : Heard) → StateOk E S F x.part t x.m x.is_open x.outcome → P x.part) → (p : ℕ) → IsPart S p → P p
+  of-told : (P : ℕ → Type 0) → ((x : Heard) → StateOk E S F x.part t x.transaction x.is_open x.outcome → P x.part) → (p : ℕ) → IsPart S p → P p
   of-told P h p part = let (x, at, k) = tells p part in subst P at (h x k)
 
   still-aligned : Aligned E S.words.deployment now K (whole S K t)
   still-aligned = aligned-under E S.words.deployment now now K (whole S K K.heard) (whole S K t) (omega arith) B.heard.aligned
       (of-told (λ p. WellFormed (first_stage E p) (whole S K t p) × ((stage E p (whole S K t p)).point ≤ now)) (fits-still E S F K now H B t up))
-      (of-told (λ p. Under (whole S K t p) (whole S K K.heard p) × Front (K.closed p) (whole S K t p)) (under-before E S F K now H B t up))
-      (λ p y part. of-told (λ p. point_in K.agreed ≡ Some y → Front (K.decided p) (whole S K t p)) (λ x k is. decided-still E S F K now H B t up x k y is) p part)
+      (of-told (λ p. Under (whole S K t p) (whole S K K.heard p) × Prefix (K.closed p) (whole S K t p)) (under-before E S F K now H B t up))
+      (λ p y part. of-told (λ p. point_in K.agreed ≡ Some y → Prefix (K.decided p) (whole S K t p)) (λ x k is. decided-still E S F K now H B t up x k y is) p part)
 
   heard-aligned : Aligned E S.words.deployment now after (whole S after t)
   heard-aligned = let A = still-aligned in record {
     formed = A.formed;
     past = A.past;
-    front = A.front;
+    prefix = A.prefix;
     over = A.over;
     below = A.below;
     only = A.only;
@@ -124,7 +124,7 @@ module _ (E : Database) (S : LogState) (F : Firm) (K : Transactions) (now n : �
   heard-books : Books E S F after now
   heard-books = record {
     due = heard-due;
-    reigns = λ p u g part led. let r = B.reigns p u g part led in record { formed = r.formed; past = r.past; unheard = λ later. r.unheard (omega (arith, up, later)) };
+    leaderships = λ p u g part led. let r = B.leaderships p u g part led in record { formed = r.formed; past = r.past; unheard = λ later. r.unheard (omega (arith, up, later)) };
     heard = record {
       word = w;
       is_word = record { decided = decided-word S H n w i.has_decided; term_is = refl };
@@ -137,10 +137,10 @@ module _ (E : Database) (S : LogState) (F : Firm) (K : Transactions) (now n : �
 -- ---- the number that a new initiator goes on from
 
 module _ (E : Database) (S : LogState) (F : Firm) (K : Transactions) (now n : ℕ) (w : Membership) (H : Holds S) (B : Books E S F K now) (i : Initiates S n w) (up : K.heard < term_of w)
-    (told : List Heard) (states : AllByRecursion (λ x. StateOk E S F x.part (term_of w) x.m x.is_open x.outcome) told)
+    (told : List Heard) (states : AllByRecursion (λ x. StateOk E S F x.part (term_of w) x.transaction x.is_open x.outcome) told)
     (tells : (p : ℕ) → IsPart S p → (x : Heard) × In x told × (x.part ≡ p)) where
-  state-of : (x : Heard) → In x told → StateOk E S F x.part (term_of w) x.m x.is_open x.outcome
-  state-of x j = all-at (λ x. StateOk E S F x.part (term_of w) x.m x.is_open x.outcome) told states x j
+  state-of : (x : Heard) → In x told → StateOk E S F x.part (term_of w) x.transaction x.is_open x.outcome
+  state-of x j = all-at (λ x. StateOk E S F x.part (term_of w) x.transaction x.is_open x.outcome) told states x j
 
   stand : (number : ℕ) (agreed : Option Outcome) (x : Heard) → In x told → ToldIs E S F (heard_with K (term_of w) number agreed) x
   stand number agreed x j = told-is E S F K now H B (term_of w) up x (state-of x j) number agreed
@@ -157,7 +157,7 @@ module _ (E : Database) (S : LogState) (F : Firm) (K : Transactions) (now n : �
   A : Aligned E S.words.deployment now heard log
   A = with-heard.heard.aligned
 
-  number-of-log : (x : Heard) → In x told → (stage E x.part (log x.part)).number ≡ x.m
+  number-of-log : (x : Heard) → In x told → (stage E x.part (log x.part)).number ≡ x.transaction
   number-of-log x j = told-number E S F heard x (stand K.number K.agreed x j)
 
   -- where it isn't that of the last transaction, no log has an entry of that
@@ -178,8 +178,8 @@ module _ (E : Database) (S : LogState) (F : Firm) (K : Transactions) (now n : �
 
     over-at : (p : ℕ) → IsPart S p → OverAt E S F heard p (K.closed p)
     over-at p part = let h = with-heard.heard.each p part in record {
-      stands = A.front p part;
-      led = (h.reign, h.led, h.inside);
+      stands = A.prefix p part;
+      led = (h.leadership, h.led, h.inside);
       calls = only-calls p part;
       everywhere = h.closed;
       over = A.over p part;
@@ -261,11 +261,11 @@ module _ (E : Database) (S : LogState) (F : Firm) (K : Transactions) (now stamp 
     hears-goes told h = choice (has_told told p)
       where
         choice : (b : Bool) → InitiatorGoes E S F K stamp n w a
-            (if b then becomes a else hears E S.words.deployment n a (told ++ record { part = p; m = m; is_open = is_open; outcome = outcome } ∷ []))
+            (if b then becomes a else hears E S.words.deployment n a (told ++ record { part = p; transaction = m; is_open = is_open; outcome = outcome } ∷ []))
         choice true = still
-        choice false = hears-all (told ++ record { part = p; m = m; is_open = is_open; outcome = outcome } ∷ []) (
+        choice false = hears-all (told ++ record { part = p; transaction = m; is_open = is_open; outcome = outcome } ∷ []) (
           h.0,
-          all-append (λ x. StateOk E S F x.part (term_of w) x.m x.is_open x.outcome) told (record { part = p; m = m; is_open = is_open; outcome = outcome } ∷ []) h.1 (state h.0, tt),
+          all-append (λ x. StateOk E S F x.part (term_of w) x.transaction x.is_open x.outcome) told (record { part = p; transaction = m; is_open = is_open; outcome = outcome } ∷ []) h.1 (state h.0, tt),
           h.2,
           h.3,
         )

@@ -16,11 +16,11 @@ use Rattle.cluster_model.specs.Initiator.{to_leader, to_leaders}
 use Rattle.word_laws.specs.Histories.{In, names}
 use Rattle.word_laws.proofs.Lists.{eqb-same, if-true, if-false, some-here}
 use Rattle.word_laws.proofs.Members.{is_some_of-is}
-use Rattle.log_laws.specs.Histories.{LogState, Holds, Reign, IsSlot, part}
+use Rattle.log_laws.specs.Histories.{LogState, Holds, Leadership, IsSlot, part}
 use Rattle.log_laws.proofs.Kept.Terms.{some-term, some-start}
 use Rattle.disk_laws.specs.Disks.{Firm}
 use Rattle.transaction_laws.specs.Worlds.{IsLaidOut}
-use Rattle.transaction_laws.specs.Transactions.{Transactions, Books, HeardPart, HeardOk, ReignFits, DueOk, Aligned, Initiates, IsPart, IsOrder, OrderOk, led_log, whole, order_in, order_of, orders}
+use Rattle.transaction_laws.specs.Transactions.{Transactions, Books, HeardPart, HeardOk, LeadershipFits, DueOk, Aligned, Initiates, IsPart, IsOrder, OrderOk, led_log, whole, order_in, order_of, orders}
 use Rattle.transaction_laws.proofs.Kept.Moves.{SendsDue, SentOrder}
 
 -- the layout is one that isn't refused
@@ -107,8 +107,8 @@ orders-sent E S F K L now n w lay H B i heard m e is to due = record { letters =
       initiates = i.initiates;
       leads = leads;
       start_is = start;
-      reign = (B.heard.each (part S c) (slot-part S lay c slot)).reign;
-      led = ap (S.logs.reign (part S c)) (sym heard) ∙ (B.heard.each (part S c) (slot-part S lay c slot)).led;
+      leadership = (B.heard.each (part S c) (slot-part S lay c slot)).leadership;
+      led = ap (S.logs.leadership (part S c)) (sym heard) ∙ (B.heard.each (part S c) (slot-part S lay c slot)).led;
     }
 
     letters : (c : ℕ) → IsSlot S c → AllByRecursion (SentOrder S n w c) (to_leaders S.words.deployment w to m (Site c))
@@ -149,7 +149,7 @@ pub orders-books : (E : Database) (S : LogState) (F : Firm) (K L : Transactions)
     → ((p : ℕ) → IsPart S p → HeardPart S F L p)
     → Aligned E S.words.deployment stamp L (whole S L L.heard)
     → Books E S F L stamp
-orders-books E S F K L now stamp e to B l order heard due none each aligned = record { due = dues; reigns = fits; heard = ok }
+orders-books E S F K L now stamp e to B l order heard due none each aligned = record { due = dues; leaderships = fits; heard = ok }
   where
     due-at : (p t : ℕ) → L.due p t ≡ due_with S K to e p t
     due-at p t = ap (λ f. f p t) due
@@ -169,18 +169,18 @@ orders-books E S F K L now stamp e to B l order heard due none each aligned = re
             let at : t ≡ K.heard = eqb-true t K.heard here in
             inr (
               e,
-              (each p part).reign,
+              (each p part).leadership,
               due-at p t ∙ due-more S K to e p t part goes at ∙ ap (λ xs. xs ++ e ∷ []) (ap (K.due p) at ∙ none p part goes),
               order,
-              ap (S.logs.reign p) (at ∙ sym heard) ∙ (each p part).led,
+              ap (S.logs.leadership p) (at ∙ sym heard) ∙ (each p part).led,
               omega (arith, at, heard),
             )
         choice false q = as-before (due-at p t ∙ due-none S K to e p t q) (B.due p t)
 
-    fits : (p t : ℕ) (g : Reign) → IsPart S p → S.logs.reign p t ≡ Some g → ReignFits E S L stamp p t g
+    fits : (p t : ℕ) (g : Leadership) → IsPart S p → S.logs.leadership p t ≡ Some g → LeadershipFits E S L stamp p t g
     fits p t g part led = elim (cases_eq t L.heard) [
       | inl q ↦
-          let same : whole S L L.heard p ≡ g.log ++ L.due p t = ap (λ o. led_log o ++ L.due p L.heard) (ap (S.logs.reign p) (sym q) ∙ led) ∙ ap (λ u. g.log ++ L.due p u) (sym q) in
+          let same : whole S L L.heard p ≡ g.log ++ L.due p t = ap (λ o. led_log o ++ L.due p L.heard) (ap (S.logs.leadership p) (sym q) ∙ led) ∙ ap (λ u. g.log ++ L.due p u) (sym q) in
           record {
             formed = rw same at (aligned.formed p part);
             past = rw same at (aligned.past p part);
@@ -188,7 +188,7 @@ orders-books E S F K L now stamp e to B l order heard due none each aligned = re
           }
       | inr d ↦
           let same : L.due p t ≡ K.due p t = due-at p t ∙ due-other S K to e p t (λ q. d (q ∙ sym heard)) in
-          let k = B.reigns p t g part led in
+          let k = B.leaderships p t g part led in
           record {
             formed = rw same k.formed;
             past = rw same (omega (arith, l, k.past));

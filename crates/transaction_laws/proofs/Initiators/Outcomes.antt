@@ -30,11 +30,11 @@ module _ (E : Database) (S : LogState) (F : Firm) (K : Transactions) (now : ℕ)
   A = B.heard.aligned
 
   -- It is the last one.
-  pub open-at : (x : Heard) → In x told → x.is_open ≡ true → (x.m ≡ K.number) × ((r : ℕ) × OpenAt E K log x.part r)
+  pub open-at : (x : Heard) → In x told → x.is_open ≡ true → (x.transaction ≡ K.number) × ((r : ℕ) × OpenAt E K log x.part r)
   open-at x i is = elim (stand x i).state [
     | inl o ↦
         let e = told-opened E S F K x (stand x i) ∙ o.1.1 in
-        let q = open-number E S.words.deployment now K log A x.part (stand x i).part x.m o.1.0 e in
+        let q = open-number E S.words.deployment now K log A x.part (stand x i).part x.transaction o.1.0 e in
         (q, (o.1.0, subst (λ m. (stage E x.part (log x.part)).opened ≡ Some (m, o.1.0)) q e))
     | inr o ↦ absurd (not-both x.is_open is o.0)
   ]
@@ -69,7 +69,7 @@ module _ (E : Database) (S : LogState) (F : Firm) (K : Transactions) (now : ℕ)
   -- ---- the outcome with which it closes
 
   own-is : (x : Work) → JobOk K (Some x) → own_decision K.number (Some x) ≡ x.decision
-  own-is x job = if-true (x.m == K.number) x.decision None (eq-eqb x.m K.number job.0)
+  own-is x job = if-true (x.transaction == K.number) x.decision None (eq-eqb x.transaction K.number job.0)
 
   pub closing-ends : (work : Option Work) → JobOk K work → Closing S.words.deployment K log (closing_outcome K.number told (own_decision K.number work))
   closing-ends None job = told-closing

@@ -3,20 +3,20 @@ use Rattle.std.proofs.Common.{◌≡◌, ◌≤◌, List, length, drop}
 use Rattle.std.specs.Prelude.{ℕ, Some, None}
 use Rattle.volt_base.specs.declared.entry.Entry.{Entry}
 use Rattle.cluster_model.specs.Engine.{Database}
-use Rattle.log_laws.specs.Histories.{LogState, Front, Reign}
+use Rattle.log_laws.specs.Histories.{LogState, Prefix, Leadership}
 use Rattle.disk_laws.specs.Disks.{Firm}
 use Rattle.transaction_laws.specs.Machine.{stage}
 use Rattle.transaction_laws.specs.Transactions.{Transactions, Books, HeardPart, Aligned, IsPart, OnlyCalls, Everywhere, since, whole}
 use Rattle.transaction_laws.proofs.Entries.Since.{calls-of, calls-no-end}
 use Rattle.transaction_laws.proofs.Entries.Even.{AppliedInAll}
 
--- Of a partition: this front of its log is over and firm, and calls on one partition alone stand behind it.
-pub record OverAt (E : Database) (S : LogState) (F : Firm) (K : Transactions) (p : ℕ) (front : List Entry) : Type 0 where
-  pub stands : Front front (whole S K K.heard p)
-  pub led : (g : Reign) × (S.logs.reign p K.heard ≡ Some g) × Front front g.log
-  pub calls : OnlyCalls (drop (length front) (whole S K K.heard p))
-  pub everywhere : Everywhere S F p K.heard (length front)
-  pub over : (stage E p front).opened ≡ None
+-- Of a partition: this prefix of its log is over and firm, and calls on one partition alone stand behind it.
+pub record OverAt (E : Database) (S : LogState) (F : Firm) (K : Transactions) (p : ℕ) (prefix : List Entry) : Type 0 where
+  pub stands : Prefix prefix (whole S K K.heard p)
+  pub led : (g : Leadership) × (S.logs.leadership p K.heard ≡ Some g) × Prefix prefix g.log
+  pub calls : OnlyCalls (drop (length prefix) (whole S K K.heard p))
+  pub everywhere : Everywhere S F p K.heard (length prefix)
+  pub over : (stage E p prefix).opened ≡ None
 
 abbrev pub resting : Transactions → (ℕ → List Entry) → ℕ → Transactions
 resting K closed number = record K { number = number; closed = closed; agreed = None }
@@ -28,7 +28,7 @@ module _ (E : Database) (S : LogState) (F : Firm) (K : Transactions) (now : ℕ)
   aligned = record {
     formed = B.heard.aligned.formed;
     past = B.heard.aligned.past;
-    front = λ p part. (over p part).stands;
+    prefix = λ p part. (over p part).stands;
     over = λ p part. (over p part).over;
     below = low;
     only = λ p part. calls-of number (since (resting K closed number) (whole S K K.heard) p) (over p part).calls;
@@ -42,7 +42,7 @@ module _ (E : Database) (S : LogState) (F : Firm) (K : Transactions) (now : ℕ)
 
   each : (p : ℕ) → IsPart S p → HeardPart S F (resting K closed number) p
   each p part = record {
-    reign = (over p part).led.0;
+    leadership = (over p part).led.0;
     led = (over p part).led.1;
     inside = (over p part).led.2;
     closed = (over p part).everywhere;
@@ -53,7 +53,7 @@ module _ (E : Database) (S : LogState) (F : Firm) (K : Transactions) (now : ℕ)
   pub resting-books : Books E S F (resting K closed number) now
   resting-books = record {
     due = B.due;
-    reigns = λ p t g part led. let r = B.reigns p t g part led in record { formed = r.formed; past = r.past; unheard = r.unheard };
+    leaderships = λ p t g part led. let r = B.leaderships p t g part led in record { formed = r.formed; past = r.past; unheard = r.unheard };
     heard = record {
       word = B.heard.word;
       is_word = B.heard.is_word;

@@ -18,9 +18,9 @@ use Rattle.cluster_model.specs.AgentState.{AgentState, Phase, Off, Hears, Closes
 use Rattle.cluster_model.specs.Initiator.{to_all_leaders, with_work, has_part, in_order, outcome_of, decides, goes_on, feeds, ends_round, gathers, on_frag_done}
 use Rattle.word_laws.specs.Histories.{In}
 use Rattle.word_laws.proofs.Lists.{or-false, is_none-none, same-some, list_all-at, all-append, in-cases, none-and-some}
-use Rattle.log_laws.specs.Histories.{LogState, Holds, Front}
+use Rattle.log_laws.specs.Histories.{LogState, Holds, Prefix}
 use Rattle.log_laws.proofs.Plain.Lines.{both-empty}
-use Rattle.log_laws.proofs.Plain.Fronts.{front-refl, front-same, front-grows}
+use Rattle.log_laws.proofs.Plain.Prefixes.{prefix-refl, prefix-same, prefix-grows}
 use Rattle.disk_laws.specs.Disks.{Firm}
 use Rattle.transaction_laws.specs.Machine.{Stage, IsOpen, WellFormed, Fits, EndFits, point_after, first_stage, next_stage, stage_behind, stage}
 use Rattle.transaction_laws.specs.Transactions.{Transactions, Books, Initiates, IsPart, IsOrder, HeardPart, Stood, Fed, Ended, Settled, AtHand, JobOk, PhaseOk, Aligned, led_log, whole, OfNumber, since, point_in, order_in}
@@ -74,8 +74,8 @@ module _ (E : Database) (D : Deployment) (now : ℕ) (K : Transactions) (logs ne
   stage-more : (p : ℕ) → nat_lt p (parts D) ≡ true → stage E p (next p) ≡ next_stage (stage E p (logs p)) e
   stage-more p part = ap (stage E p) (more p part) ∙ stage-append (first_stage E p) (logs p) (e ∷ [])
 
-  front-more : (p : ℕ) → nat_lt p (parts D) ≡ true → (xs : List Entry) → Front xs (logs p) → Front xs (next p)
-  front-more p part xs f = subst (Front xs) (sym (more p part)) (front-grows xs (logs p) (e ∷ []) f)
+  prefix-more : (p : ℕ) → nat_lt p (parts D) ≡ true → (xs : List Entry) → Prefix xs (logs p) → Prefix xs (next p)
+  prefix-more p part xs f = subst (Prefix xs) (sym (more p part)) (prefix-grows xs (logs p) (e ∷ []) f)
 
   since-next : (p : ℕ) → nat_lt p (parts D) ≡ true → since K next p ≡ since K logs p ++ e ∷ []
   since-next p part = ap (drop (length (K.closed p))) (more p part) ∙ since-more E D now K logs k p part (e ∷ [])
@@ -99,14 +99,14 @@ aligned-round : (E : Database) (D : Deployment) (now stamp : ℕ) → now ≤ st
 aligned-round E D now stamp low K logs next round body k opened more due = record {
   formed = λ p part. formed-more E D now K logs next round e k opened more p part (inr (round, opened p part, refl));
   past = λ p part. rw (stage-more E D now K logs next round e k opened more p part) (omega (arith, low, k.past p part));
-  front = λ p part. front-more E D now K logs next round e k opened more p part (K.closed p) (k.front p part);
+  prefix = λ p part. prefix-more E D now K logs next round e k opened more p part (K.closed p) (k.prefix p part);
   over = k.over;
   below = k.below;
   only = λ p part. only-more E D now K logs next round e k opened more p part refl;
   fresh = λ p q part other same. absurd (new-number E D now K logs round k opened p part same);
   ends = λ p part o i. absurd (no-frag (last-end E D now K logs next round e k opened more p part o i));
   snapshot = λ p part same. absurd (no-snapshot E D now K logs round k opened p part same);
-  decided = λ p x part is. let d = k.decided p x part is in (front-more E D now K logs next round e k opened more p part (K.decided p) d.0, d.1, d.2);
+  decided = λ p x part is. let d = k.decided p x part is in (prefix-more E D now K logs next round e k opened more p part (K.decided p) d.0, d.1, d.2);
   agreed = λ x is. omega (arith, low, k.agreed x is);
   even = k.even;
 }
@@ -127,7 +127,7 @@ aligned-end E D now stamp low K logs next round o k opened more point decided sa
   formed = λ p part. formed-more E D now K logs next round e k opened more p part
       (end-fits (stage E p (logs p)) K.number stamp o point (round, opened p part) (omega (arith, low, k.past p part)));
   past = λ p part. rw (stage-more E D now K logs next round e k opened more p part) (omega (arith, end-point (stage E p (logs p)).point stamp o point));
-  front = λ p part. front-more E D now K logs next round e k opened more p part (K.closed p) (k.front p part);
+  prefix = λ p part. prefix-more E D now K logs next round e k opened more p part (K.closed p) (k.prefix p part);
   over = k.over;
   below = k.below;
   only = λ p part. only-more E D now K logs next round e k opened more p part refl;
@@ -135,7 +135,7 @@ aligned-end E D now stamp low K logs next round o k opened more point decided sa
   ends = λ p part other i. ap Some (same-end (last-end E D now K logs next round e k opened more p part other i));
   snapshot = λ p part is. absurd (none-and-some (ap point_in is) point);
   decided = λ p x part is. rw (same p part) (
-    front-more E D now K logs next round e k opened more p part (logs p) (front-refl (logs p)),
+    prefix-more E D now K logs next round e k opened more p part (logs p) (prefix-refl (logs p)),
     (round, opened p part),
     omega (arith, low, k.past p part, same-some (sym point ∙ is)),
   );
@@ -163,19 +163,19 @@ frag-fed E S F K now B p round body part opened k = record { none = none.1; ever
     behind : List Entry
     behind = k.stands.stands.0
 
-    log-is : k.reign.log ≡ k.stands.front ++ e ∷ behind
-    log-is = k.stands.stands.1 ∙ append_assoc k.stands.front (e ∷ []) behind
+    log-is : k.leadership.log ≡ k.stands.prefix ++ e ∷ behind
+    log-is = k.stands.stands.1 ∙ append_assoc k.stands.prefix (e ∷ []) behind
 
-    whole-is : whole S K K.heard p ≡ k.stands.front ++ e ∷ (behind ++ K.due p K.heard)
-    whole-is = ap (λ o. led_log o ++ K.due p K.heard) k.led ∙ ap (λ xs. xs ++ K.due p K.heard) log-is ∙ append_assoc k.stands.front (e ∷ behind) (K.due p K.heard)
+    whole-is : whole S K K.heard p ≡ k.stands.prefix ++ e ∷ (behind ++ K.due p K.heard)
+    whole-is = ap (λ o. led_log o ++ K.due p K.heard) k.led ∙ ap (λ xs. xs ++ K.due p K.heard) log-is ∙ append_assoc k.stands.prefix (e ∷ behind) (K.due p K.heard)
 
     none : (behind ≡ []) × (K.due p K.heard ≡ [])
     none = both-empty behind (K.due p K.heard)
-        (frag-last (first_stage E p) k.stands.front (behind ++ K.due p K.heard) K.number round body (first-sound E p)
+        (frag-last (first_stage E p) k.stands.prefix (behind ++ K.due p K.heard) K.number round body (first-sound E p)
         (subst (WellFormed (first_stage E p)) whole-is (B.heard.aligned.formed p part)) (ap (λ xs. (stage E p xs).opened) (sym whole-is) ∙ opened))
 
-    long : length k.reign.log ≡ k.position
-    long = ap length (log-is ∙ ap (λ xs. k.stands.front ++ e ∷ xs) none.0) ∙ length-append k.stands.front (e ∷ []) ∙ k.stands.at
+    long : length k.leadership.log ≡ k.position
+    long = ap length (log-is ∙ ap (λ xs. k.stands.prefix ++ e ∷ xs) none.0) ∙ length-append k.stands.prefix (e ∷ []) ∙ k.stands.at
 
 -- the point of a call that is decided
 call-point : (keep : Bool) (call host start : ℕ) (body : List ℕ) (point : ℕ) → point_in (Some (outcome_of keep (RunCall call host start body) point)) ≡ Some point
@@ -184,7 +184,7 @@ call-point false call host start body point = refl
 
 -- Of the job at hand: it isn't decided, and its round is firm everywhere.
 record RoundDone (E : Database) (S : LogState) (F : Firm) (K : Transactions) (v : Work) : Type 0 where
-  pub m : v.m ≡ K.number
+  pub transaction : v.transaction ≡ K.number
   pub decision : v.decision ≡ None
   pub finished : v.finished ≡ []
   pub opened : (p : ℕ) → IsPart S p → (stage E p (whole S K K.heard p)).opened ≡ Some (K.number, v.round)
@@ -225,19 +225,19 @@ module _ (E : Database) (S : LogState) (F : Firm) (K : Transactions) (now stamp 
   -- the next round goes out
   module _ (v : Work) (k : RoundDone E S F K v) (body : List ℕ) where
     abbrev round_sent : Transactions
-    round_sent = with_due K (due_with S K (λ p. true) (Frag v.m (v.round + 1) body))
+    round_sent = with_due K (due_with S K (λ p. true) (Frag v.transaction (v.round + 1) body))
 
     abbrev fresh_round : Work
     fresh_round = record v { round = v.round + 1; gathered = [] }
 
     round-more : (p : ℕ) → IsPart S p → whole S round_sent K.heard p ≡ whole S K K.heard p ++ Frag K.number (v.round + 1) body ∷ []
-    round-more p part = whole-to S K (λ p. true) (Frag v.m (v.round + 1) body) p part refl ∙ ap (λ m. whole S K K.heard p ++ Frag m (v.round + 1) body ∷ []) k.m
+    round-more p part = whole-to S K (λ p. true) (Frag v.transaction (v.round + 1) body) p part refl ∙ ap (λ m. whole S K K.heard p ++ Frag m (v.round + 1) body ∷ []) k.transaction
 
     round-aligned : Aligned E S.words.deployment stamp round_sent (whole S round_sent K.heard)
     round-aligned = aligned-round E S.words.deployment now stamp low K (whole S K K.heard) (whole S round_sent K.heard) v.round body B.heard.aligned k.opened round-more round_sent.due
 
     round-part : (p : ℕ) → IsPart S p → HeardPart S F round_sent p
-    round-part p part = let h = B.heard.each p part in record { reign = h.reign; led = h.led; inside = h.inside; closed = h.closed; decided = h.decided; top = h.top }
+    round-part p part = let h = B.heard.each p part in record { leadership = h.leadership; led = h.led; inside = h.inside; closed = h.closed; decided = h.decided; top = h.top }
 
     round-at-hand : AtHand E S F round_sent fresh_round None
     round-at-hand = (
@@ -249,21 +249,21 @@ module _ (E : Database) (S : LogState) (F : Firm) (K : Transactions) (now stamp 
     )
 
     round-goes : InitiatorGoes E S F K stamp n w a (goes_on S.words.deployment stamp a v (Round body))
-    round-goes = sends-goes round_sent (with_work a fresh_round) (msg.Frag v.m (v.round + 1) body) (Frag v.m (v.round + 1) body) refl tt refl refl
+    round-goes = sends-goes round_sent (with_work a fresh_round) (msg.Frag v.transaction (v.round + 1) body) (Frag v.transaction (v.round + 1) body) refl tt refl refl
         (λ p part. (k.fed p part).none) round-part round-aligned refl refl refl
-        (heard, next, (fresh_round, refl, (k.m, λ d is. absurd (none-and-some k.decision is)), subst (AtHand E S F round_sent fresh_round) (sym k.decision) round-at-hand))
+        (heard, next, (fresh_round, refl, (k.transaction, λ d is. absurd (none-and-some k.decision is)), subst (AtHand E S F round_sent fresh_round) (sym k.decision) round-at-hand))
 
   -- or the decision
   module _ (v : Work) (k : RoundDone E S F K v) (o : Outcome) (point : point_in (Some o) ≡ Some stamp) where
     -- the logs, all of which is firm
     abbrev led : ℕ → List Entry
-    led p = led_log (S.logs.reign p K.heard)
+    led p = led_log (S.logs.leadership p K.heard)
 
     abbrev end_sent : Transactions
-    end_sent = record K { agreed = Some o; decided = led; due = due_with S K (λ p. true) (Done v.m o) }
+    end_sent = record K { agreed = Some o; decided = led; due = due_with S K (λ p. true) (Done v.transaction o) }
 
     end-more : (p : ℕ) → IsPart S p → whole S end_sent K.heard p ≡ whole S K K.heard p ++ Done K.number o ∷ []
-    end-more p part = whole-to S K (λ p. true) (Done v.m o) p part refl ∙ ap (λ m. whole S K K.heard p ++ Done m o ∷ []) k.m
+    end-more p part = whole-to S K (λ p. true) (Done v.transaction o) p part refl ∙ ap (λ m. whole S K K.heard p ++ Done m o ∷ []) k.transaction
 
     end-aligned : Aligned E S.words.deployment stamp end_sent (whole S end_sent K.heard)
     end-aligned = aligned-end E S.words.deployment now stamp low K (whole S K K.heard) (whole S end_sent K.heard) v.round o B.heard.aligned k.opened end-more point led
@@ -271,11 +271,11 @@ module _ (E : Database) (S : LogState) (F : Firm) (K : Transactions) (now stamp 
 
     end-part : (p : ℕ) → IsPart S p → HeardPart S F end_sent p
     end-part p part = let h = B.heard.each p part in record {
-      reign = h.reign;
+      leadership = h.leadership;
       led = h.led;
       inside = h.inside;
       closed = h.closed;
-      decided = λ x is. (front-same (led p) h.reign.log (ap led_log h.led), (k.fed p part).everywhere);
+      decided = λ x is. (prefix-same (led p) h.leadership.log (ap led_log h.led), (k.fed p part).everywhere);
       top = h.top;
     }
 
@@ -290,9 +290,9 @@ module _ (E : Database) (S : LogState) (F : Firm) (K : Transactions) (now stamp 
       → InitiatorGoes E S F K stamp n w a (decides S.words.deployment stamp a v keep reply)
   decision-goes v k keep reply point =
       let o = outcome_of keep v.job stamp in
-      sends-goes (end_sent v k o point) (decides S.words.deployment stamp a v keep reply).state (msg.Done v.m o) (Done v.m o) refl tt refl refl
+      sends-goes (end_sent v k o point) (decides S.words.deployment stamp a v keep reply).state (msg.Done v.transaction o) (Done v.transaction o) refl tt refl refl
       (λ p part. (k.fed p part).none) (end-part v k o point) (end-aligned v k o point) refl refl refl
-      (heard, next, (_, refl, (k.m, λ d is. ap (λ x. Some x.outcome) (same-some is)), end-at-hand v k o point))
+      (heard, next, (_, refl, (k.transaction, λ d is. ap (λ x. Some x.outcome) (same-some is)), end-at-hand v k o point))
 
   -- what the call asks for next
   goes_on-goes : (v : Work) → RoundDone E S F K v → ((keep : Bool) → point_in (Some (outcome_of keep v.job stamp)) ≡ Some stamp) → (step : CoordStep)
@@ -305,7 +305,7 @@ module _ (E : Database) (S : LogState) (F : Firm) (K : Transactions) (now stamp 
   feeds-goes v k point body (Finish keep reply) = decision-goes v k keep reply (point keep)
   feeds-goes v k point body (Round asked) =
       let fed = v.fed ++ in_order S.words.deployment v.gathered ∷ [] in
-      goes_on-goes (record v { fed = fed }) (record { m = k.m; decision = k.decision; finished = k.finished; opened = k.opened; fed = k.fed }) point (E.asks body fed)
+      goes_on-goes (record v { fed = fed }) (record { transaction = k.transaction; decision = k.decision; finished = k.finished; opened = k.opened; fed = k.fed }) point (E.asks body fed)
 
   -- where all that holds of the agent's phase, holds as it is
   module _ (phase : PhaseOk E S F K (term_of w) a a.initiating.phase) where
@@ -318,13 +318,13 @@ module _ (E : Database) (S : LogState) (F : Firm) (K : Transactions) (now stamp 
     ends_round-goes v k TakeSnapshot is = stays
 
     -- one part more
-    gathers-goes : (v : Work) → v.m ≡ K.number → v.decision ≡ None → AtHand E S F K v None → InitiatorGoes E S F K stamp n w a (gathers E S.words.deployment stamp a v)
+    gathers-goes : (v : Work) → v.transaction ≡ K.number → v.decision ≡ None → AtHand E S F K v None → InitiatorGoes E S F K stamp n w a (gathers E S.words.deployment stamp a v)
     gathers-goes v m none k = choice (list_all (has_part v.gathered) (all_parts S.words.deployment)) refl
       where
         choice : (b : Bool) → list_all (has_part v.gathered) (all_parts S.words.deployment) ≡ b
             → InitiatorGoes E S F K stamp n w a (if b then ends_round E S.words.deployment stamp a v v.job else becomes (with_work a v))
         choice true all = ends_round-goes v (record {
-          m = m;
+          transaction = m;
           decision = none;
           finished = k.0;
           opened = λ p part. (k.1 p part).0;
@@ -345,19 +345,19 @@ frag_done-goes E S F K now stamp n w lay H B low i a start word ok p m round par
 
     one : (v : Work) → K.heard ≡ term_of w → K.number < a.initiating.next → JobOk K (Some v) → AtHand E S F K v v.decision
         → InitiatorGoes E S F K stamp n w a (on_frag_done E S.words.deployment stamp a Works (Some v) p m round partial)
-    one v heard next job k = choice (v.m == m && v.round == round && is_none v.decision && not (has_part v.gathered p)) refl
+    one v heard next job k = choice (v.transaction == m && v.round == round && is_none v.decision && not (has_part v.gathered p)) refl
       where
-        stood-here : v.m ≡ m → v.round ≡ round → Stood S F p K.heard (Frag K.number v.round body)
+        stood-here : v.transaction ≡ m → v.round ≡ round → Stood S F p K.heard (Frag K.number v.round body)
         stood-here e f = subst (λ t. Stood S F p t (Frag K.number v.round body)) (sym heard) (rw (f, sym job.0 ∙ e) stood)
 
-        choice : (b : Bool) → (v.m == m && v.round == round && is_none v.decision && not (has_part v.gathered p)) ≡ b
+        choice : (b : Bool) → (v.transaction == m && v.round == round && is_none v.decision && not (has_part v.gathered p)) ≡ b
             → InitiatorGoes E S F K stamp n w a (if b then gathers E S.words.deployment stamp a (record v { gathered = v.gathered ++ (p, partial) ∷ [] }) else becomes a)
         choice true q =
-            let (rest, fresh) = and_parts (v.m == m && v.round == round && is_none v.decision) (not (has_part v.gathered p)) q in
-            let (same, undecided) = and_parts (v.m == m && v.round == round) (is_none v.decision) rest in
-            let (number, at) = and_parts (v.m == m) (v.round == round) same in
+            let (rest, fresh) = and_parts (v.transaction == m && v.round == round && is_none v.decision) (not (has_part v.gathered p)) q in
+            let (same, undecided) = and_parts (v.transaction == m && v.round == round) (is_none v.decision) rest in
+            let (number, at) = and_parts (v.transaction == m) (v.round == round) same in
             gathers-goes E S F K now stamp n w lay H B low i a word heard next ok (record v { gathered = v.gathered ++ (p, partial) ∷ [] }) job.0 (is_none-none v.decision undecided)
-            (with-part E S F K now B v p partial body part (subst (AtHand E S F K v) (is_none-none v.decision undecided) k) (stood-here (eqb-true v.m m number) (eqb-true v.round round at)))
+            (with-part E S F K now B v p partial body part (subst (AtHand E S F K v) (is_none-none v.decision undecided) k) (stood-here (eqb-true v.transaction m number) (eqb-true v.round round at)))
         choice false q = stay
 
     go : (phase : Phase) (work : Option Work) → a.initiating.phase ≡ phase → a.initiating.work ≡ work → PhaseOk E S F K (term_of w) a phase

@@ -15,13 +15,13 @@ use Rattle.cluster_model.specs.AgentState.{AgentState, Work, Job, RunCall, TakeS
 use Rattle.cluster_model.specs.Initiator.{begins, admitting, works_queue, answers, no_work, rests, ends_job, settles}
 use Rattle.word_laws.specs.Histories.{In}
 use Rattle.word_laws.proofs.Lists.{in-left, in-cases}
-use Rattle.log_laws.specs.Histories.{LogState, Holds, Front}
-use Rattle.log_laws.proofs.Plain.Fronts.{front-rest}
+use Rattle.log_laws.specs.Histories.{LogState, Holds, Prefix}
+use Rattle.log_laws.proofs.Plain.Prefixes.{prefix-rest}
 use Rattle.disk_laws.specs.Disks.{Firm}
 use Rattle.transaction_laws.specs.Machine.{first_stage, stage}
 use Rattle.transaction_laws.specs.Transactions.{Transactions, Books, Initiates, IsPart, OnlyCalls, Settled, PhaseOk, whole}
 use Rattle.transaction_laws.proofs.Kept.Moves.{InitiatorGoes}
-use Rattle.transaction_laws.proofs.Entries.Machine.{first-sound, front-number, stage-append, calls-opened}
+use Rattle.transaction_laws.proofs.Entries.Machine.{first-sound, prefix-number, stage-append, calls-opened}
 use Rattle.transaction_laws.proofs.Initiators.Orders.{LaidOut}
 use Rattle.transaction_laws.proofs.Initiators.Turns.{Aside, goes-still, goes-from, goes-then}
 use Rattle.transaction_laws.proofs.Entries.Since.{whole-led, number-within, calls-no-end}
@@ -34,38 +34,38 @@ use Rattle.transaction_laws.proofs.Initiators.Resting.{OverAt, resting, resting-
 module _ (E : Database) (S : LogState) (F : Firm) (K : Transactions) (now : ℕ) (B : Books E S F K now) (all : (p : ℕ) → IsPart S p → Settled E S F K p) where
   -- all that is settled is over
   abbrev over-in : (p : ℕ) (b : Bool) → nat_lt p (parts S.words.deployment) ≡ b → List Entry
-  over-in p true is = (all p is).front
+  over-in p true is = (all p is).prefix
   over-in p false is = K.closed p
 
   abbrev settled : Transactions
   settled = resting K (λ p. over-in p (nat_lt p (parts S.words.deployment)) refl) K.number
 
-  over-is : (p : ℕ) → IsPart S p → (s : Settled E S F K p) × (s.front ≡ settled.closed p)
+  over-is : (p : ℕ) → IsPart S p → (s : Settled E S F K p) × (s.prefix ≡ settled.closed p)
   over-is p part = choice (nat_lt p (parts S.words.deployment)) refl part
     where
-      choice : (b : Bool) (e : nat_lt p (parts S.words.deployment) ≡ b) → b ≡ true → (s : Settled E S F K p) × (s.front ≡ over-in p b e)
+      choice : (b : Bool) (e : nat_lt p (parts S.words.deployment) ≡ b) → b ≡ true → (s : Settled E S F K p) × (s.prefix ≡ over-in p b e)
       choice true e t = (all p e, refl)
       choice false e t = absurd (true≢false (sym t))
 
   over-at : (p : ℕ) → IsPart S p → OverAt E S F K p (settled.closed p)
-  over-at p part = let (s, is) = over-is p part in let e = sym (whole-led S K p K.heard s.reign s.led s.none) in subst (OverAt E S F K p) is (record {
-    stands = subst (Front s.front) e s.stands;
-    led = (s.reign, s.led, s.stands);
-    calls = subst (λ xs. OnlyCalls (drop (length s.front) xs)) e s.calls;
+  over-at p part = let (s, is) = over-is p part in let e = sym (whole-led S K p K.heard s.leadership s.led s.none) in subst (OverAt E S F K p) is (record {
+    stands = subst (Prefix s.prefix) e s.stands;
+    led = (s.leadership, s.led, s.stands);
+    calls = subst (λ xs. OnlyCalls (drop (length s.prefix) xs)) e s.calls;
     everywhere = s.everywhere;
     over = s.over;
   })
 
   closed-below : (p : ℕ) → IsPart S p → (stage E p (settled.closed p)).number ≤ K.number
   closed-below p part =
-      let f = front-number (first_stage E p) (settled.closed p) (whole S K K.heard p) (first-sound E p) (over-at p part).stands (B.heard.aligned.formed p part) in
+      let f = prefix-number (first_stage E p) (settled.closed p) (whole S K K.heard p) (first-sound E p) (over-at p part).stands (B.heard.aligned.formed p part) in
       let b = number-within E S.words.deployment now K (whole S K K.heard) B.heard.aligned p part in
       omega (arith, f, b)
 
   -- ---- its ends
 
   whole-over : (p : ℕ) → IsPart S p → whole S K K.heard p ≡ settled.closed p ++ drop (length (settled.closed p)) (whole S K K.heard p)
-  whole-over p part = front-rest (settled.closed p) (whole S K K.heard p) (over-at p part).stands
+  whole-over p part = prefix-rest (settled.closed p) (whole S K K.heard p) (over-at p part).stands
 
   -- Behind what is over stand only calls on one partition: nothing is open,
   none-open : (p : ℕ) → IsPart S p → (stage E p (whole S K K.heard p)).opened ≡ None

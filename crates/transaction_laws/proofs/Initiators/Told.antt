@@ -14,25 +14,25 @@ use Rattle.cluster_model.specs.Initiator.{greatest_told, open_told, has_told, la
 use Rattle.cluster_model.specs.Site.{standing}
 use Rattle.word_laws.specs.Histories.{In}
 use Rattle.word_laws.proofs.Lists.{same-some, list_all-at, list_any-from, not-both, if-false}
-use Rattle.log_laws.specs.Histories.{LogState, Holds, Reign, Front}
-use Rattle.log_laws.proofs.Plain.Fronts.{front-rest, front-grows, front-length}
+use Rattle.log_laws.specs.Histories.{LogState, Holds, Leadership, Prefix}
+use Rattle.log_laws.proofs.Plain.Prefixes.{prefix-rest, prefix-grows, prefix-length}
 use Rattle.disk_laws.specs.Disks.{Firm}
 use Rattle.transaction_laws.specs.Machine.{WellFormed, first_stage, stage, stage_behind}
-use Rattle.transaction_laws.specs.Transactions.{Transactions, Books, ReignFits, IsPart, OnlyCalls, Everywhere, StateOk, Settled, whole}
-use Rattle.transaction_laws.proofs.Entries.Machine.{first-sound, stage-sound, stage-append, formed-front, calls-opened, calls-number, open_in-stage, last-number, done-append, calls-done}
-use Rattle.transaction_laws.proofs.Kept.Later.{everywhere-front}
+use Rattle.transaction_laws.specs.Transactions.{Transactions, Books, LeadershipFits, IsPart, OnlyCalls, Everywhere, StateOk, Settled, whole}
+use Rattle.transaction_laws.proofs.Entries.Machine.{first-sound, stage-sound, stage-append, formed-prefix, calls-opened, calls-number, open_in-stage, last-number, done-append, calls-done}
+use Rattle.transaction_laws.proofs.Kept.Later.{everywhere-prefix}
 use Rattle.transaction_laws.proofs.Entries.Since.{whole-led, part-in}
 
 -- ---- lists of what was told
 
 -- no number that was told is above the greatest
-pub greatest-above : (told : List Heard) (x : Heard) → In x told → x.m ≤ greatest_told told
+pub greatest-above : (told : List Heard) (x : Heard) → In x told → x.transaction ≤ greatest_told told
 greatest-above [] x i = absurd i
-greatest-above (y ∷ told) x (inl e) = let q = ap (λ z. z.m) e in omega (arith, q)
+greatest-above (y ∷ told) x (inl e) = let q = ap (λ z. z.transaction) e in omega (arith, q)
 greatest-above (y ∷ told) x (inr i) = let q = greatest-above told x i in omega (arith, q)
 
 -- nor above what none is above
-pub greatest-below : (told : List Heard) (n : ℕ) → ((x : Heard) → In x told → x.m ≤ n) → greatest_told told ≤ n
+pub greatest-below : (told : List Heard) (n : ℕ) → ((x : Heard) → In x told → x.transaction ≤ n) → greatest_told told ≤ n
 greatest-below [] n h = omega arith
 greatest-below (y ∷ told) n h = let a = h y (inl refl) in let b = greatest-below told n (λ x i. h x (inr i)) in omega (arith, a, b)
 
@@ -48,14 +48,14 @@ greater-none a None e = absurd (cc)
 greater-none a (Some c) e = absurd (cc)
 
 -- one that was told open is the greatest of those
-pub open-some : (told : List Heard) (m : ℕ) → open_told told ≡ Some m → (x : Heard) × In x told × (x.is_open ≡ true) × (x.m ≡ m)
+pub open-some : (told : List Heard) (m : ℕ) → open_told told ≡ Some m → (x : Heard) × In x told × (x.is_open ≡ true) × (x.transaction ≡ m)
 open-some [] m e = absurd (cc)
 open-some (y ∷ told) m e = choice y.is_open refl e (λ k. open-some told m k)
   where
-    choice : (b : Bool) → y.is_open ≡ b → (if b then greater (Some y.m) (open_told told) else open_told told) ≡ Some m
-        → (open_told told ≡ Some m → (x : Heard) × In x told × (x.is_open ≡ true) × (x.m ≡ m))
-        → (x : Heard) × In x (y ∷ told) × (x.is_open ≡ true) × (x.m ≡ m)
-    choice true is k f = elim (greater-some y.m (open_told told) m k) [
+    choice : (b : Bool) → y.is_open ≡ b → (if b then greater (Some y.transaction) (open_told told) else open_told told) ≡ Some m
+        → (open_told told ≡ Some m → (x : Heard) × In x told × (x.is_open ≡ true) × (x.transaction ≡ m))
+        → (x : Heard) × In x (y ∷ told) × (x.is_open ≡ true) × (x.transaction ≡ m)
+    choice true is k f = elim (greater-some y.transaction (open_told told) m k) [
       | inl q ↦ (y, inl refl, is, q)
       | inr q ↦ let r = f q in (r.0, inr r.1, r.2, r.3)
     ]
@@ -66,9 +66,9 @@ pub open-none : (told : List Heard) → open_told told ≡ None → (x : Heard) 
 open-none [] e x i = absurd i
 open-none (y ∷ told) e x i = choice y.is_open refl e i (λ k j. open-none told k x j)
   where
-    choice : (b : Bool) → y.is_open ≡ b → (if b then greater (Some y.m) (open_told told) else open_told told) ≡ None → In x (y ∷ told)
+    choice : (b : Bool) → y.is_open ≡ b → (if b then greater (Some y.transaction) (open_told told) else open_told told) ≡ None → In x (y ∷ told)
         → (open_told told ≡ None → In x told → x.is_open ≡ false) → x.is_open ≡ false
-    choice true is k j f = absurd (greater-none y.m (open_told told) k)
+    choice true is k j f = absurd (greater-none y.transaction (open_told told) k)
     choice false is k (inl q) f = ap (λ z. z.is_open) (sym q) ∙ is
     choice false is k (inr j) f = f k j
 
@@ -95,7 +95,7 @@ same-last (Some x) m e = λ i. Some (sym e i, x.1)
 pub last-shut : (x : Heard) (e : ℕ × Outcome) → last_told x ≡ Some e → x.is_open ≡ false
 last-shut x e is = choice x.is_open refl is
   where
-    choice : (b : Bool) → x.is_open ≡ b → (if b then None else option_map (λ o. (x.m, o)) x.outcome) ≡ Some e → x.is_open ≡ false
+    choice : (b : Bool) → x.is_open ≡ b → (if b then None else option_map (λ o. (x.transaction, o)) x.outcome) ≡ Some e → x.is_open ≡ false
     choice true at k = absurd (cc)
     choice false at k = at
 
@@ -109,37 +109,37 @@ mapped-none (Some x) e = absurd (cc)
 
 -- of the log with which its term began, as it was told
 abbrev pub OpenTold : Database → List Entry → Heard → Type 0
-OpenTold E begun x = (x.is_open ≡ true) × ((r : ℕ) × ((stage E x.part begun).opened ≡ Some (x.m, r)))
+OpenTold E begun x = (x.is_open ≡ true) × ((r : ℕ) × ((stage E x.part begun).opened ≡ Some (x.transaction, r)))
 
 abbrev pub OverTold : Database → List Entry → Heard → Type 0
 OverTold E begun x =
     (x.is_open ≡ false) × ((stage E x.part begun).opened ≡ None)
-    × (number_of (last_done E x.part begun) ≡ x.m) × (x.outcome ≡ option_map (λ last. last.1) (last_done E x.part begun))
+    × (number_of (last_done E x.part begun) ≡ x.transaction) × (x.outcome ≡ option_map (λ last. last.1) (last_done E x.part begun))
 
 -- Of a partition that told of the term that is heard: nothing is due to it, and behind what its term began with stand only calls.
 pub record ToldIs (E : Database) (S : LogState) (F : Firm) (K : Transactions) (x : Heard) : Type 0 where
   pub part : IsPart S x.part
-  pub reign : Reign
-  pub led : S.logs.reign x.part K.heard ≡ Some reign
+  pub leadership : Leadership
+  pub led : S.logs.leadership x.part K.heard ≡ Some leadership
   pub none : K.due x.part K.heard ≡ []
-  pub grown : Front reign.begun reign.log
-  pub calls : OnlyCalls (drop (length reign.begun) reign.log)
-  pub formed : WellFormed (first_stage E x.part) reign.begun
-  pub everywhere : Everywhere S F x.part K.heard (length reign.begun)
-  pub number : (stage E x.part reign.begun).number ≡ x.m
-  pub state : OpenTold E reign.begun x ⊎ OverTold E reign.begun x
+  pub grown : Prefix leadership.begun leadership.log
+  pub calls : OnlyCalls (drop (length leadership.begun) leadership.log)
+  pub formed : WellFormed (first_stage E x.part) leadership.begun
+  pub everywhere : Everywhere S F x.part K.heard (length leadership.begun)
+  pub number : (stage E x.part leadership.begun).number ≡ x.transaction
+  pub state : OpenTold E leadership.begun x ⊎ OverTold E leadership.begun x
 
 -- the history once this term is heard, with the number and the outcome of the last transaction
 abbrev pub heard_with : Transactions → ℕ → ℕ → Option Outcome → Transactions
 heard_with K t number agreed = record K { heard = t; number = number; agreed = agreed }
 
 module _ (E : Database) (S : LogState) (F : Firm) (K : Transactions) (now : ℕ) (H : Holds S) (B : Books E S F K now) (t : ℕ) (up : K.heard < t)
-    (x : Heard) (k : StateOk E S F x.part t x.m x.is_open x.outcome) where
+    (x : Heard) (k : StateOk E S F x.part t x.transaction x.is_open x.outcome) where
   abbrev begun : List Entry
-  begun = k.reign.begun
+  begun = k.leadership.begun
 
-  fits : ReignFits E S K now x.part t k.reign
-  fits = B.reigns x.part t k.reign k.part k.led
+  fits : LeadershipFits E S K now x.part t k.leadership
+  fits = B.leaderships x.part t k.leadership k.part k.led
 
   pub told-none : K.due x.part t ≡ []
   told-none = elim (B.due x.part t) [
@@ -147,25 +147,25 @@ module _ (E : Database) (S : LogState) (F : Firm) (K : Transactions) (now : ℕ)
     | inr d ↦ absurd (omega (arith, up, d.5))
   ]
 
-  grown : Front begun k.reign.log
-  grown = (H.reigns x.part t k.reign k.led).grown
+  grown : Prefix begun k.leadership.log
+  grown = (H.leaderships x.part t k.leadership k.led).grown
 
   formed : WellFormed (first_stage E x.part) begun
-  formed = formed-front (first_stage E x.part) begun (k.reign.log ++ K.due x.part t) (front-grows begun k.reign.log (K.due x.part t) grown) fits.formed
+  formed = formed-prefix (first_stage E x.part) begun (k.leadership.log ++ K.due x.part t) (prefix-grows begun k.leadership.log (K.due x.part t) grown) fits.formed
 
   -- What is firm in the term that was heard before is in it too.
-  pub told-front : (h : Reign) → S.logs.reign x.part K.heard ≡ Some h → (xs : List Entry) → Front xs h.log → Everywhere S F x.part K.heard (length xs)
-      → Front xs begun × Everywhere S F x.part t (length xs)
-  told-front h led xs f e = let at = everywhere-front S F H x.part K.heard t h k.reign xs led k.led up f e in let short = front-length xs begun at in (
+  pub told-prefix : (h : Leadership) → S.logs.leadership x.part K.heard ≡ Some h → (xs : List Entry) → Prefix xs h.log → Everywhere S F x.part K.heard (length xs)
+      → Prefix xs begun × Everywhere S F x.part t (length xs)
+  told-prefix h led xs f e = let at = everywhere-prefix S F H x.part K.heard t h k.leadership xs led k.led up f e in let short = prefix-length xs begun at in (
     at,
     record { reach = le_trans short k.everywhere.reach; firm = e.firm },
   )
 
-  stands : (OpenTold E begun x ⊎ OverTold E begun x) × ((stage E x.part begun).number ≡ x.m)
-  stands = elim (standing-cases (open_in begun) (last_done E x.part begun) x.m x.is_open x.outcome k.told) [
+  stands : (OpenTold E begun x ⊎ OverTold E begun x) × ((stage E x.part begun).number ≡ x.transaction)
+  stands = elim (standing-cases (open_in begun) (last_done E x.part begun) x.transaction x.is_open x.outcome k.told) [
     | inl (now, is) ↦
-        let r = mapped-some (stage E x.part begun).opened x.m (sym (open_in-stage E x.part begun) ∙ now) in
-        (inl (is, r), stage-sound (first_stage E x.part) begun (first-sound E x.part) x.m r.0 r.1)
+        let r = mapped-some (stage E x.part begun).opened x.transaction (sym (open_in-stage E x.part begun) ∙ now) in
+        (inl (is, r), stage-sound (first_stage E x.part) begun (first-sound E x.part) x.transaction r.0 r.1)
     | inr (now, is, number, outcome) ↦
         let none = mapped-none (stage E x.part begun).opened (sym (open_in-stage E x.part begun) ∙ now) in
         (inr (is, none, number, outcome), sym (last-number E x.part begun formed none) ∙ number)
@@ -174,7 +174,7 @@ module _ (E : Database) (S : LogState) (F : Firm) (K : Transactions) (now : ℕ)
   pub told-is : (number : ℕ) (agreed : Option Outcome) → ToldIs E S F (heard_with K t number agreed) x
   told-is number agreed = record {
     part = k.part;
-    reign = k.reign;
+    leadership = k.leadership;
     led = k.led;
     none = told-none;
     grown = grown;
@@ -190,37 +190,37 @@ module _ (E : Database) (S : LogState) (F : Firm) (K : Transactions) (now : ℕ)
 module _ (E : Database) (S : LogState) (F : Firm) (K : Transactions) (x : Heard) (k : ToldIs E S F K x) where
   -- the calls behind it
   abbrev told_calls : List Entry
-  told_calls = drop (length k.reign.begun) k.reign.log
+  told_calls = drop (length k.leadership.begun) k.leadership.log
 
-  told-whole : whole S K K.heard x.part ≡ k.reign.begun ++ told_calls
-  told-whole = whole-led S K x.part K.heard k.reign k.led k.none ∙ front-rest k.reign.begun k.reign.log k.grown
+  told-whole : whole S K K.heard x.part ≡ k.leadership.begun ++ told_calls
+  told-whole = whole-led S K x.part K.heard k.leadership k.led k.none ∙ prefix-rest k.leadership.begun k.leadership.log k.grown
 
-  stage-is : stage E x.part (whole S K K.heard x.part) ≡ stage_behind (stage E x.part k.reign.begun) told_calls
-  stage-is = ap (stage E x.part) told-whole ∙ stage-append (first_stage E x.part) k.reign.begun told_calls
+  stage-is : stage E x.part (whole S K K.heard x.part) ≡ stage_behind (stage E x.part k.leadership.begun) told_calls
+  stage-is = ap (stage E x.part) told-whole ∙ stage-append (first_stage E x.part) k.leadership.begun told_calls
 
-  pub told-opened : (stage E x.part (whole S K K.heard x.part)).opened ≡ (stage E x.part k.reign.begun).opened
-  told-opened = ap (λ s. s.opened) stage-is ∙ calls-opened (stage E x.part k.reign.begun) told_calls k.calls
+  pub told-opened : (stage E x.part (whole S K K.heard x.part)).opened ≡ (stage E x.part k.leadership.begun).opened
+  told-opened = ap (λ s. s.opened) stage-is ∙ calls-opened (stage E x.part k.leadership.begun) told_calls k.calls
 
-  pub told-number : (stage E x.part (whole S K K.heard x.part)).number ≡ x.m
-  told-number = ap (λ s. s.number) stage-is ∙ calls-number (stage E x.part k.reign.begun) told_calls k.calls ∙ k.number
+  pub told-number : (stage E x.part (whole S K K.heard x.part)).number ≡ x.transaction
+  told-number = ap (λ s. s.number) stage-is ∙ calls-number (stage E x.part k.leadership.begun) told_calls k.calls ∙ k.number
 
   -- its last end, where nothing is open
   pub told-last : x.is_open ≡ false → last_told x ≡ last_done E x.part (whole S K K.heard x.part)
   told-last shut = elim k.state [
     | inl o ↦ absurd (not-both x.is_open o.0 shut)
     | inr o ↦
-        let same = ap (last_done E x.part) told-whole ∙ done-append (E.opening_done x.part) k.reign.begun told_calls
-        ∙ calls-done (last_done E x.part k.reign.begun) told_calls k.calls in
-        if-false x.is_open None (option_map (λ q. (x.m, q)) x.outcome) shut
-        ∙ ap (option_map (λ q. (x.m, q))) o.3 ∙ same-last (last_done E x.part k.reign.begun) x.m o.2 ∙ sym same
+        let same = ap (last_done E x.part) told-whole ∙ done-append (E.opening_done x.part) k.leadership.begun told_calls
+        ∙ calls-done (last_done E x.part k.leadership.begun) told_calls k.calls in
+        if-false x.is_open None (option_map (λ q. (x.transaction, q)) x.outcome) shut
+        ∙ ap (option_map (λ q. (x.transaction, q))) o.3 ∙ same-last (last_done E x.part k.leadership.begun) x.transaction o.2 ∙ sym same
   ]
 
   pub told-settled : x.is_open ≡ false → Settled E S F K x.part
   told-settled shut = record {
     none = k.none;
-    reign = k.reign;
+    leadership = k.leadership;
     led = k.led;
-    front = k.reign.begun;
+    prefix = k.leadership.begun;
     stands = k.grown;
     calls = k.calls;
     everywhere = k.everywhere;

@@ -20,17 +20,17 @@ use Rattle.word_laws.specs.Histories.{In}
 use Rattle.word_laws.proofs.Lists.{same-some, none-and-some, not-both, in-left, in-right, in-cases, all-at, all-append, all-mono, all-behind}
 use Rattle.word_laws.proofs.Agreement.{member-is}
 use Rattle.word_laws.proofs.Members.{initiator-member}
-use Rattle.log_laws.specs.Histories.{LogState, Logs, Reign, Front, Last, Holds, known, base_of, part}
-use Rattle.log_laws.proofs.Plain.Fronts.{front-refl, front-append, front-trans, front-grows, front-length, fronts-order, front-take, front-rest}
+use Rattle.log_laws.specs.Histories.{LogState, Logs, Leadership, Prefix, Last, Holds, known, base_of, part}
+use Rattle.log_laws.proofs.Plain.Prefixes.{prefix-refl, prefix-append, prefix-trans, prefix-grows, prefix-length, prefixes-order, prefix-take, prefix-rest}
 use Rattle.log_laws.proofs.Kept.Terms.{base-least, last-below}
 use Rattle.log_laws.proofs.Runs.Agreeing.{agrees-begun}
 use Rattle.disk_laws.specs.Disks.{Firm, Top, AtLeast}
 use Rattle.transaction_laws.specs.Machine.{Stage, WellFormed, first_stage, stage_behind, stage}
-use Rattle.transaction_laws.specs.Transactions.{Transactions, Books, ReignFits, HeardPart, HeardOk, DueOk, Aligned, IsPart, IsCall, OnlyCalls, OfNumber, NoRound, Everywhere, Stood, StateOk, OrderOk, AnswerOk, ToSiteOk, Settled, Fed, Ended, AtHand, PhaseOk, led_log, whole, since}
+use Rattle.transaction_laws.specs.Transactions.{Transactions, Books, LeadershipFits, HeardPart, HeardOk, DueOk, Aligned, IsPart, IsCall, OnlyCalls, OfNumber, NoRound, Everywhere, Stood, StateOk, OrderOk, AnswerOk, ToSiteOk, Settled, Fed, Ended, AtHand, PhaseOk, led_log, whole, since}
 use Rattle.transaction_laws.proofs.Kept.Moves.{Onto, Begins, Goes, Moved, with_due, Under, CallsAt}
-use Rattle.transaction_laws.proofs.Entries.Machine.{AtMostOne, formed-append, formed-front, front-point, calls-only, calls-formed, calls-point, due-formed, due-opened, due-number, due-point, stage-append}
+use Rattle.transaction_laws.proofs.Entries.Machine.{AtMostOne, formed-append, formed-prefix, prefix-point, calls-only, calls-formed, calls-point, due-formed, due-opened, due-number, due-point, stage-append}
 use Rattle.transaction_laws.proofs.Entries.Since.{all-first, call-number, call-round}
-use Rattle.transaction_laws.proofs.Entries.Aligned.{under-refl, under-front, under-trans, under-calls, aligned-under}
+use Rattle.transaction_laws.proofs.Entries.Aligned.{under-refl, under-prefix, under-trans, under-calls, aligned-under}
 
 -- ---- what only grows
 
@@ -38,13 +38,13 @@ pub everywhere-on : (S T : LogState) (F M : Firm) → Onto S T F M → (p t n : 
 everywhere-on S T F M o p t n k = record { reach = omega (arith, k.reach, o.onward.reach p t); firm = omega (arith, k.firm, o.firm p) }
 
 pub stood-on : (S T : LogState) (F M : Firm) → Onto S T F M → (p t : ℕ) (e : Entry) → Stood S F p t e → Stood T M p t e
-stood-on S T F M o p t e k = let h = o.onward.kept p t k.reign k.led in record {
-  reign = h.0;
+stood-on S T F M o p t e k = let h = o.onward.kept p t k.leadership k.led in record {
+  leadership = h.0;
   led = h.1;
   position = k.position;
   stands = record {
-    front = k.stands.front;
-    stands = front-trans (k.stands.front ++ e ∷ []) k.reign.log h.0.log k.stands.stands h.3;
+    prefix = k.stands.prefix;
+    stands = prefix-trans (k.stands.prefix ++ e ∷ []) k.leadership.log h.0.log k.stands.stands h.3;
     at = k.stands.at;
   };
   everywhere = everywhere-on S T F M o p t k.position k.everywhere;
@@ -52,12 +52,12 @@ stood-on S T F M o p t e k = let h = o.onward.kept p t k.reign k.led in record {
 
 pub state-on : (E : Database) (S T : LogState) (F M : Firm) → Onto S T F M → (p t m : ℕ) (is_open : Bool) (outcome : Option Outcome) → StateOk E S F p t m is_open outcome
     → StateOk E T M p t m is_open outcome
-state-on E S T F M o p t m is_open outcome k = let h = o.onward.kept p t k.reign k.led in record {
+state-on E S T F M o p t m is_open outcome k = let h = o.onward.kept p t k.leadership k.led in record {
   part = subst (λ D. nat_lt p (parts D) ≡ true) (sym o.deployment) k.part;
-  reign = h.0;
+  leadership = h.0;
   led = h.1;
   told = ap (λ b. standing (open_in b) (last_done E p b)) h.2 ∙ k.told;
-  everywhere = subst (λ b. Everywhere T M p t (length b)) (sym h.2) (everywhere-on S T F M o p t (length k.reign.begun) k.everywhere);
+  everywhere = subst (λ b. Everywhere T M p t (length b)) (sym h.2) (everywhere-on S T F M o p t (length k.leadership.begun) k.everywhere);
   top = o.tops p t 0 k.top;
 }
 
@@ -70,7 +70,7 @@ answer-on E S T F M o K L h p l k = elim l.body as (λ m. AnswerOk E S F K p (re
 ] k
 
 order-on : (S T : LogState) (F M : Firm) → Onto S T F M → (h c : ℕ) (l : Letter) → OrderOk S h c l → OrderOk T h c l
-order-on S T F M o h c l k = let r = o.onward.kept (part S c) l.term k.reign k.led in record {
+order-on S T F M o h c l k = let r = o.onward.kept (part S c) l.term k.leadership k.led in record {
   addressed = k.addressed;
   word = k.word;
   is_word = record { decided = o.decided k.word k.is_word.decided; term_is = k.is_word.term_is };
@@ -78,8 +78,8 @@ order-on S T F M o h c l k = let r = o.onward.kept (part S c) l.term k.reign k.l
   initiates = k.initiates;
   leads = subst (λ D. leader D k.word (part_of_slot D c) ≡ Some c) (sym o.deployment) k.leads;
   start_is = subst (λ D. start_of_slot D k.word c ≡ Some l.start) (sym o.deployment) k.start_is;
-  reign = r.0;
-  led = subst (λ D. T.logs.reign (part_of_slot D c) l.term ≡ Some r.0) (sym o.deployment) r.1;
+  leadership = r.0;
+  led = subst (λ D. T.logs.leadership (part_of_slot D c) l.term ≡ Some r.0) (sym o.deployment) r.1;
 }
 
 pub to_site-on : (S T : LogState) (F M : Firm) → Onto S T F M → (h c : ℕ) (l : Letter) → ToSiteOk S h c l → ToSiteOk T h c l
@@ -91,39 +91,39 @@ to_site-on S T F M o h c l k = elim l.body as (λ m. ToSiteOk S h c (record l { 
 
 -- what is said of a partition in the term that was heard
 heard-part : (S T : LogState) (F M : Firm) → Onto S T F M → (K : Transactions) (due : ℕ → ℕ → List Entry) (p : ℕ) → HeardPart S F K p → HeardPart T M (with_due K due) p
-heard-part S T F M o K due p k = let h = o.onward.kept p K.heard k.reign k.led in record {
-  reign = h.0;
+heard-part S T F M o K due p k = let h = o.onward.kept p K.heard k.leadership k.led in record {
+  leadership = h.0;
   led = h.1;
-  inside = front-trans (K.closed p) k.reign.log h.0.log k.inside h.3;
+  inside = prefix-trans (K.closed p) k.leadership.log h.0.log k.inside h.3;
   closed = everywhere-on S T F M o p K.heard (length (K.closed p)) k.closed;
   decided = λ x e. let d = k.decided x e in
-      (front-trans (K.decided p) k.reign.log h.0.log d.0 h.3, everywhere-on S T F M o p K.heard (length (K.decided p)) d.1);
+      (prefix-trans (K.decided p) k.leadership.log h.0.log d.0 h.3, everywhere-on S T F M o p K.heard (length (K.decided p)) d.1);
   top = o.tops p K.heard 0 k.top;
 }
 
 -- ---- terms that were led and whose initiator hasn't heard of all
 
--- What a term begins with is at the front of the log of the last one before that was led.
-begun-behind : (S : LogState) → Holds S → (p t : ℕ) (g : Reign) → S.logs.reign p t ≡ Some g → base_of S < t → (v : ℕ) × (l : Last S.logs p v t) × Front g.begun l.reign.log
+-- What a term begins with is a prefix of the log of the last one before that was led.
+begun-behind : (S : LogState) → Holds S → (p t : ℕ) (g : Leadership) → S.logs.leadership p t ≡ Some g → base_of S < t → (v : ℕ) × (l : Last S.logs p v t) × Prefix g.begun l.leadership.log
 begun-behind S H p t g is above =
-    let r = (H.reigns p t g is).begun_by above in
+    let r = (H.leaderships p t g is).begun_by above in
     let entered = H.entered r.0 t r.1 r.4 in
     let l = last-below S H p t above in
-    let behind = (subst (λ q. (x : Last S.logs q l.0 t) → Front r.1.log x.reign.log × (known r.1 ≤ S.logs.reach q l.0)) r.3 (entered.behind l.0) l.1).0 in
-    (l.0, l.1, subst (λ z. Front z l.1.reign.log) r.5 behind)
+    let behind = (subst (λ q. (x : Last S.logs q l.0 t) → Prefix r.1.log x.leadership.log × (known r.1 ≤ S.logs.reach q l.0)) r.3 (entered.behind l.0) l.1).0 in
+    (l.0, l.1, subst (λ z. Prefix z l.1.leadership.log) r.5 behind)
 
 -- In such a term the leader's log has no round and no end that isn't in that of the term that was heard, in its place.
-pub quiet-reign : (E : Database) (S : LogState) (F : Firm) (K : Transactions) (now : ℕ) → Holds S → Books E S F K now → (p t : ℕ) (g h : Reign) → IsPart S p
-    → S.logs.reign p K.heard ≡ Some g → S.logs.reign p t ≡ Some h → K.heard ≤ t → Under h.log g.log
-quiet-reign E S F K now H B p t g h part led is up = upwards (t + 1) t h (omega arith) is up
+pub inert-leadership : (E : Database) (S : LogState) (F : Firm) (K : Transactions) (now : ℕ) → Holds S → Books E S F K now → (p t : ℕ) (g h : Leadership) → IsPart S p
+    → S.logs.leadership p K.heard ≡ Some g → S.logs.leadership p t ≡ Some h → K.heard ≤ t → Under h.log g.log
+inert-leadership E S F K now H B p t g h part led is up = upwards (t + 1) t h (omega arith) is up
   where
     above-base : (t : ℕ) → K.heard < t → base_of S < t
-    above-base t above = let k = H.reigns p K.heard g led in omega (arith, base-least S H k.word k.is_word.decided, k.is_word.term_is, above)
+    above-base t above = let k = H.leaderships p K.heard g led in omega (arith, base-least S H k.word k.is_word.decided, k.is_word.term_is, above)
 
-    same : (t : ℕ) (h : Reign) → S.logs.reign p t ≡ Some h → t ≡ K.heard → Under h.log g.log
-    same t h is e = subst (λ x. Under x.log g.log) (same-some (sym led ∙ ap (S.logs.reign p) (sym e) ∙ is)) (under-refl g.log)
+    same : (t : ℕ) (h : Leadership) → S.logs.leadership p t ≡ Some h → t ≡ K.heard → Under h.log g.log
+    same t h is e = subst (λ x. Under x.log g.log) (same-some (sym led ∙ ap (S.logs.leadership p) (sym e) ∙ is)) (under-refl g.log)
 
-    upwards : (m t : ℕ) (h : Reign) → t < m → S.logs.reign p t ≡ Some h → K.heard ≤ t → Under h.log g.log
+    upwards : (m t : ℕ) (h : Leadership) → t < m → S.logs.leadership p t ≡ Some h → K.heard ≤ t → Under h.log g.log
     upwards zero t h small is up = absurd (omega (arith, small))
     upwards (suc m) t h small is up = elim (cases_eq t K.heard) [
       | inl e ↦ same t h is e
@@ -131,20 +131,20 @@ quiet-reign E S F K now H B p t g h part led is up = upwards (t + 1) t h (omega 
           let above : K.heard < t = omega (arith, up, d) in
           let b = begun-behind S H p t h is (above-base t above) in
           let low = b.1.greatest K.heard g led above in
-          let begun = under-trans h.begun b.1.reign.log g.log (under-front h.begun b.1.reign.log b.2)
-          (upwards m b.0 b.1.reign (omega (arith, b.1.below, small)) b.1.led low) in
-          subst (λ z. Under z g.log) (sym (front-rest h.begun h.log (H.reigns p t h is).grown))
-          (under-calls h.begun g.log (drop (length h.begun) h.log) begun ((B.reigns p t h part is).unheard above))
+          let begun = under-trans h.begun b.1.leadership.log g.log (under-prefix h.begun b.1.leadership.log b.2)
+          (upwards m b.0 b.1.leadership (omega (arith, b.1.below, small)) b.1.led low) in
+          subst (λ z. Under z g.log) (sym (prefix-rest h.begun h.log (H.leaderships p t h is).grown))
+          (under-calls h.begun g.log (drop (length h.begun) h.log) begun ((B.leaderships p t h part is).unheard above))
     ]
 
--- What is everywhere in a term is at the front of the log of a later one, from its beginning on.
-pub everywhere-front : (S : LogState) (F : Firm) → Holds S → (p t u : ℕ) (g h : Reign) (xs : List Entry) → S.logs.reign p t ≡ Some g → S.logs.reign p u ≡ Some h → t < u
-    → Front xs g.log → Everywhere S F p t (length xs) → Front xs h.begun
-everywhere-front S F H p t u g h xs led is l f k =
+-- What is everywhere in a term is a prefix of the log of a later one, from its beginning on.
+pub everywhere-prefix : (S : LogState) (F : Firm) → Holds S → (p t u : ℕ) (g h : Leadership) (xs : List Entry) → S.logs.leadership p t ≡ Some g → S.logs.leadership p u ≡ Some h → t < u
+    → Prefix xs g.log → Everywhere S F p t (length xs) → Prefix xs h.begun
+everywhere-prefix S F H p t u g h xs led is l f k =
     let a = agrees-begun S H p t g led u h is l in
     let n = S.logs.reach p t in
-    front-trans xs (take n g.log) h.begun
-    (fronts-order xs (take n g.log) g.log f (front-take n g.log) (omega (arith, length-take n g.log, (H.reigns p t g led).within, k.reach))) a.1
+    prefix-trans xs (take n g.log) h.begun
+    (prefixes-order xs (take n g.log) g.log f (prefix-take n g.log) (omega (arith, length-take n g.log, (H.leaderships p t g led).within, k.reach))) a.1
 
 -- ---- calls that run between a log and what is due behind it
 
@@ -168,7 +168,7 @@ module _ (E : Database) (p stamp : ℕ) (xs ys : List Entry) (b : Between E p st
   between-number = ap (λ z. (stage E p z).number) b.is ∙ due-number (first_stage E p) b.log b.calls b.due stamp b.at ∙ ap (λ z. (stage E p z).number) (sym b.was)
 
   between-low : WellFormed (first_stage E p) xs → (stage E p xs).point ≤ stamp → (stage E p b.log).point ≤ stamp
-  between-low h l = omega (arith, front-point (first_stage E p) b.log xs (b.due, b.was) h, l)
+  between-low h l = omega (arith, prefix-point (first_stage E p) b.log xs (b.due, b.was) h, l)
 
   between-formed : WellFormed (first_stage E p) xs → (stage E p xs).point ≤ stamp → WellFormed (first_stage E p) ys
   between-formed h l = subst (WellFormed (first_stage E p)) (sym b.is)
@@ -200,8 +200,8 @@ module _ (E : Database) (p stamp : ℕ) (xs ys : List Entry) (b : Between E p st
     ]
   ])
 
-  between-front : (zs : List Entry) → Front zs b.log → Front zs ys
-  between-front zs f = subst (Front zs) (sym b.is) (front-grows zs (b.log ++ b.calls) b.due (front-grows zs b.log b.calls f))
+  between-prefix : (zs : List Entry) → Prefix zs b.log → Prefix zs ys
+  between-prefix zs f = subst (Prefix zs) (sym b.is) (prefix-grows zs (b.log ++ b.calls) b.due (prefix-grows zs b.log b.calls f))
 
 -- ---- what was due, and what is left of it
 
@@ -240,9 +240,9 @@ between-goes E F G due next stamp p t k one = record {
 }
 
 -- where nothing was due, only calls were added
-goes-quiet : (E : Database) (F G : Logs) (due next : List Entry) (stamp p t : ℕ) (k : Goes E F G due next stamp p t) → due ≡ []
+goes-inert : (E : Database) (F G : Logs) (due next : List Entry) (stamp p t : ℕ) (k : Goes E F G due next stamp p t) → due ≡ []
     → (next ≡ []) × (k.new.log ≡ k.old.log ++ k.runs.calls) × (k.old.log ++ k.taken ≡ k.old.log)
-goes-quiet E F G due next stamp p t k none =
+goes-inert E F G due next stamp p t k none =
     let r = rest-none k.taken next (sym k.due_is ∙ none) in
     let log = ap (λ z. k.old.log ++ z) r.0 ∙ append-nil k.old.log in
     (r.1, k.runs.is ∙ ap (λ z. z ++ k.runs.calls) log, log)
@@ -259,7 +259,7 @@ module _ (E : Database) (S T : LogState) (F M : Firm) (K : Transactions) (now : 
   Went p t = Goes E S.logs T.logs (K.due p t) (due p t) (now + 1) p t
 
   -- a term that was led goes on
-  goes-at : (p t : ℕ) (g : Reign) → IsPart S p → S.logs.reign p t ≡ Some g → (k : Went p t) × (k.old ≡ g)
+  goes-at : (p t : ℕ) (g : Leadership) → IsPart S p → S.logs.leadership p t ≡ Some g → (k : Went p t) × (k.old ≡ g)
   goes-at p t g part led = from (moved p t part)
     where
       from : Moved E S.logs T.logs K.due due (now + 1) p t → (k : Went p t) × (k.old ≡ g)
@@ -314,21 +314,21 @@ module _ (E : Database) (S T : LogState) (F M : Firm) (K : Transactions) (now : 
   ]
 
   -- where the term was led before
-  fits-led : (p t : ℕ) → IsPart S p → (k : Went p t) → ReignFits E T L (now + 1) p t k.new
+  fits-led : (p t : ℕ) → IsPart S p → (k : Went p t) → LeadershipFits E T L (now + 1) p t k.new
   fits-led p t part k = record {
     formed = between-formed E p (now + 1) (k.old.log ++ K.due p t) (k.new.log ++ due p t) b f.formed (omega (arith, f.past));
     past = between-point E p (now + 1) (k.old.log ++ K.due p t) (k.new.log ++ due p t) b f.formed (omega (arith, f.past));
     unheard = λ above.
-        let q = goes-quiet E S.logs T.logs (K.due p t) (due p t) (now + 1) p t k (unheard-none p t above) in
+        let q = goes-inert E S.logs T.logs (K.due p t) (due p t) (now + 1) p t k (unheard-none p t above) in
         let n = length k.old.begun in
         let e : drop n k.new.log ≡ drop n k.old.log ++ k.runs.calls =
-        ap (drop n) q.1 ∙ drop-append-le n k.old.log k.runs.calls (front-length k.old.begun k.old.log (H.reigns p t k.old k.was).grown) in
+        ap (drop n) q.1 ∙ drop-append-le n k.old.log k.runs.calls (prefix-length k.old.begun k.old.log (H.leaderships p t k.old k.was).grown) in
         subst (λ z. OnlyCalls (drop (length z) k.new.log)) (sym k.begun) (subst OnlyCalls (sym e)
         (all-append IsCall (drop n k.old.log) k.runs.calls (f.unheard above) (calls-only (now + 1) k.runs.calls k.runs.at)));
   }
     where
-      f : ReignFits E S K now p t k.old
-      f = B.reigns p t k.old part k.was
+      f : LeadershipFits E S K now p t k.old
+      f = B.leaderships p t k.old part k.was
 
       b : Between E p (now + 1) (k.old.log ++ K.due p t) (k.new.log ++ due p t)
       b = between-goes E S.logs T.logs (K.due p t) (due p t) (now + 1) p t k (due-one S K p t (B.due p t))
@@ -337,62 +337,62 @@ module _ (E : Database) (S T : LogState) (F M : Firm) (K : Transactions) (now : 
   same-base : base_of T ≡ base_of S
   same-base = sym (J.words.history.decided_good S.words.history.first (o.decided S.words.history.first H.words.history.first_decided)).base
 
-  abbrev Fits : ℕ → ℕ → Reign → Type 0
-  Fits p t g = ReignFits E T L (now + 1) p t g
+  abbrev Fits : ℕ → ℕ → Leadership → Type 0
+  Fits p t g = LeadershipFits E T L (now + 1) p t g
 
   abbrev Starts : ℕ → ℕ → Type 0
   Starts p t = Begins E S.logs T.logs (K.due p t) (due p t) (now + 1) p t
 
   -- what a new term begins with fits, if the logs of those before do
-  begun-fits : (p t : ℕ) (k : Starts p t) → ((v : ℕ) (g : Reign) → v < t → T.logs.reign p v ≡ Some g → Fits p v g)
-      → WellFormed (first_stage E p) k.reign.begun × ((stage E p k.reign.begun).point ≤ now + 1)
+  begun-fits : (p t : ℕ) (k : Starts p t) → ((v : ℕ) (g : Leadership) → v < t → T.logs.leadership p v ≡ Some g → Fits p v g)
+      → WellFormed (first_stage E p) k.leadership.begun × ((stage E p k.leadership.begun).point ≤ now + 1)
   begun-fits p t k earlier = (
-    formed-front (first_stage E p) k.reign.begun (b.1.reign.log ++ due p b.0) whole f.formed,
-    omega (arith, front-point (first_stage E p) k.reign.begun (b.1.reign.log ++ due p b.0) whole f.formed, f.past),
+    formed-prefix (first_stage E p) k.leadership.begun (b.1.leadership.log ++ due p b.0) whole f.formed,
+    omega (arith, prefix-point (first_stage E p) k.leadership.begun (b.1.leadership.log ++ due p b.0) whole f.formed, f.past),
   )
     where
       above : base_of T < t
-      above = let r = J.reigns p t k.reign k.led in elim (cases_eq t (base_of T)) [
-        | inl e ↦ let f = H.first p in absurd (none-and-some k.none (ap (S.logs.reign p) (e ∙ same-base) ∙ f.1))
+      above = let r = J.leaderships p t k.leadership k.led in elim (cases_eq t (base_of T)) [
+        | inl e ↦ let f = H.first p in absurd (none-and-some k.none (ap (S.logs.leadership p) (e ∙ same-base) ∙ f.1))
         | inr d ↦ omega (arith, base-least T J r.word r.is_word.decided, r.is_word.term_is, d)
       ]
 
-      b : (v : ℕ) × (l : Last T.logs p v t) × Front k.reign.begun l.reign.log
-      b = begun-behind T J p t k.reign k.led above
+      b : (v : ℕ) × (l : Last T.logs p v t) × Prefix k.leadership.begun l.leadership.log
+      b = begun-behind T J p t k.leadership k.led above
 
-      f : Fits p b.0 b.1.reign
-      f = earlier b.0 b.1.reign b.1.below b.1.led
+      f : Fits p b.0 b.1.leadership
+      f = earlier b.0 b.1.leadership b.1.below b.1.led
 
-      whole : Front k.reign.begun (b.1.reign.log ++ due p b.0)
-      whole = front-grows k.reign.begun b.1.reign.log (due p b.0) b.2
+      whole : Prefix k.leadership.begun (b.1.leadership.log ++ due p b.0)
+      whole = prefix-grows k.leadership.begun b.1.leadership.log (due p b.0) b.2
 
   -- and so does its log
-  fits-begun : (p t : ℕ) (k : Starts p t) → WellFormed (first_stage E p) k.reign.begun → (stage E p k.reign.begun).point ≤ now + 1 → Fits p t k.reign
+  fits-begun : (p t : ℕ) (k : Starts p t) → WellFormed (first_stage E p) k.leadership.begun → (stage E p k.leadership.begun).point ≤ now + 1 → Fits p t k.leadership
   fits-begun p t k formed low = record {
-    formed = subst (WellFormed s) (sym log) (formed-append s k.reign.begun k.runs.calls formed (calls k.runs.room));
+    formed = subst (WellFormed s) (sym log) (formed-append s k.leadership.begun k.runs.calls formed (calls k.runs.room));
     past = subst (λ z. (stage_behind s z).point ≤ now + 1) (sym log)
-        (subst (λ z. z.point ≤ now + 1) (sym (stage-append s k.reign.begun k.runs.calls))
-        (calls-point (stage E p k.reign.begun) (now + 1) k.runs.calls k.runs.at low));
-    unheard = λ above. subst OnlyCalls (sym (ap (drop (length k.reign.begun)) k.runs.is ∙ drop-append_seam k.reign.begun k.runs.calls))
+        (subst (λ z. z.point ≤ now + 1) (sym (stage-append s k.leadership.begun k.runs.calls))
+        (calls-point (stage E p k.leadership.begun) (now + 1) k.runs.calls k.runs.at low));
+    unheard = λ above. subst OnlyCalls (sym (ap (drop (length k.leadership.begun)) k.runs.is ∙ drop-append_seam k.leadership.begun k.runs.calls))
         (calls-only (now + 1) k.runs.calls k.runs.at);
   }
     where
       s : Stage
       s = first_stage E p
 
-      log : k.reign.log ++ due p t ≡ k.reign.begun ++ k.runs.calls
-      log = ap (λ z. k.reign.log ++ z) k.after ∙ append-nil k.reign.log ∙ k.runs.is
+      log : k.leadership.log ++ due p t ≡ k.leadership.begun ++ k.runs.calls
+      log = ap (λ z. k.leadership.log ++ z) k.after ∙ append-nil k.leadership.log ∙ k.runs.is
 
-      calls : (k.runs.calls ≡ []) ⊎ ((stage E p k.reign.begun).opened ≡ None) → WellFormed (stage E p k.reign.begun) k.runs.calls
-      calls (inl none) = subst (WellFormed (stage E p k.reign.begun)) (sym none) tt
-      calls (inr e) = calls-formed (stage E p k.reign.begun) (now + 1) k.runs.calls k.runs.at e low
+      calls : (k.runs.calls ≡ []) ⊎ ((stage E p k.leadership.begun).opened ≡ None) → WellFormed (stage E p k.leadership.begun) k.runs.calls
+      calls (inl none) = subst (WellFormed (stage E p k.leadership.begun)) (sym none) tt
+      calls (inr e) = calls-formed (stage E p k.leadership.begun) (now + 1) k.runs.calls k.runs.at e low
 
   -- all that are led fit
-  fits-up : (m p t : ℕ) (g : Reign) → IsPart S p → t < m → T.logs.reign p t ≡ Some g → ReignFits E T L (now + 1) p t g
+  fits-up : (m p t : ℕ) (g : Leadership) → IsPart S p → t < m → T.logs.leadership p t ≡ Some g → LeadershipFits E T L (now + 1) p t g
   fits-up zero p t g part small led = absurd (omega (arith, small))
-  fits-up (suc m) p t g part small led = from (λ v h low is. fits-up m p v h part (omega (arith, low, small)) is) (S.logs.reign p t) refl (moved p t part)
+  fits-up (suc m) p t g part small led = from (λ v h low is. fits-up m p v h part (omega (arith, low, small)) is) (S.logs.leadership p t) refl (moved p t part)
     where
-      from : ((v : ℕ) (h : Reign) → v < t → T.logs.reign p v ≡ Some h → Fits p v h) → (x : Option Reign) → S.logs.reign p t ≡ x
+      from : ((v : ℕ) (h : Leadership) → v < t → T.logs.leadership p v ≡ Some h → Fits p v h) → (x : Option Leadership) → S.logs.leadership p t ≡ x
           → Moved E S.logs T.logs K.due due (now + 1) p t → Fits p t g
       from earlier (Some h) e x = let k = (goes-at p t h part e).0 in subst (Fits p t) (same-some (sym k.is ∙ led)) (fits-led p t part k)
       from earlier None e (inl (same, next)) = absurd (none-and-some e (sym same ∙ led))
@@ -408,27 +408,27 @@ module _ (E : Database) (S T : LogState) (F M : Firm) (K : Transactions) (now : 
   abbrev after : ℕ → List Entry
   after = whole T L K.heard
 
-  heard-between : (p : ℕ) (part : IsPart S p) → (b : Between E p (now + 1) (before p) (after p)) × Front (B.heard.each p part).reign.log b.log
+  heard-between : (p : ℕ) (part : IsPart S p) → (b : Between E p (now + 1) (before p) (after p)) × Prefix (B.heard.each p part).leadership.log b.log
   heard-between p part =
       let h = B.heard.each p part in
-      let r = goes-at p K.heard h.reign part h.led in
+      let r = goes-at p K.heard h.leadership part h.led in
       let k = r.0 in
       let b = between-goes E S.logs T.logs (K.due p K.heard) (due p K.heard) (now + 1) p K.heard k (due-one S K p K.heard (B.due p K.heard)) in
       let was : before p ≡ k.old.log ++ K.due p K.heard = ap (λ z. led_log z ++ K.due p K.heard) k.was in
       let is : after p ≡ k.new.log ++ due p K.heard = ap (λ z. led_log z ++ due p K.heard) k.is in (
         record { log = b.log; calls = b.calls; due = b.due; was = was ∙ b.was; is = is ∙ b.is; at = b.at; one = b.one; room = b.room },
-        subst (λ z. Front z.log b.log) r.1 (front-append k.old.log k.taken),
+        subst (λ z. Prefix z.log b.log) r.1 (prefix-append k.old.log k.taken),
       )
 
   abbrev between : (p : ℕ) → IsPart S p → Between E p (now + 1) (before p) (after p)
   between p part = (heard-between p part).0
 
   -- what its log had when the last transaction was begun
-  closed : (p : ℕ) (part : IsPart S p) → Front (K.closed p) (between p part).log
-  closed p part = front-trans (K.closed p) (B.heard.each p part).reign.log (between p part).log (B.heard.each p part).inside (heard-between p part).1
+  closed : (p : ℕ) (part : IsPart S p) → Prefix (K.closed p) (between p part).log
+  closed p part = prefix-trans (K.closed p) (B.heard.each p part).leadership.log (between p part).log (B.heard.each p part).inside (heard-between p part).1
 
   short : (p : ℕ) (part : IsPart S p) → length (K.closed p) ≤ length (between p part).log
-  short p part = front-length (K.closed p) (between p part).log (closed p part)
+  short p part = prefix-length (K.closed p) (between p part).log (closed p part)
 
   -- a partition of the later state is one of the earlier
   on-part : (p : ℕ) → IsPart T p → IsPart S p
@@ -439,7 +439,7 @@ module _ (E : Database) (S T : LogState) (F M : Firm) (K : Transactions) (now : 
   heard-aligned = record {
     formed = λ p part. between-formed E p (now + 1) (before p) (after p) (between p part) (k.formed p part) (late p part);
     past = λ p part. between-point E p (now + 1) (before p) (after p) (between p part) (k.formed p part) (late p part);
-    front = λ p part. between-front E p (now + 1) (before p) (after p) (between p part) (K.closed p) (closed p part);
+    prefix = λ p part. between-prefix E p (now + 1) (before p) (after p) (between p part) (K.closed p) (closed p part);
     over = k.over;
     below = k.below;
     only = λ p part. between-all E p (now + 1) (before p) (after p) (between p part) (OfNumber K.number) (call-number K.number) (length (K.closed p)) (short p part) (k.only p part);
@@ -448,8 +448,8 @@ module _ (E : Database) (S T : LogState) (F M : Firm) (K : Transactions) (now : 
     snapshot = λ p part e. between-all E p (now + 1) (before p) (after p) (between p part) NoRound call-round (length (K.closed p)) (short p part) (k.snapshot p part e);
     decided = λ p x part e.
         let d = k.decided p x part e in
-        let front = front-trans (K.decided p) (B.heard.each p part).reign.log (between p part).log ((B.heard.each p part).decided x e).0 (heard-between p part).1 in
-        (between-front E p (now + 1) (before p) (after p) (between p part) (K.decided p) front, d.1, d.2);
+        let prefix = prefix-trans (K.decided p) (B.heard.each p part).leadership.log (between p part).log ((B.heard.each p part).decided x e).0 (heard-between p part).1 in
+        (between-prefix E p (now + 1) (before p) (after p) (between p part) (K.decided p) prefix, d.1, d.2);
     agreed = λ x e. omega (arith, k.agreed x e);
     even = k.even;
   }
@@ -475,33 +475,33 @@ module _ (E : Database) (S T : LogState) (F M : Firm) (K : Transactions) (now : 
   settled-on : (p : ℕ) → IsPart S p → Settled E S F K p → Settled E T M L p
   settled-on p part u = record {
     none = q.0;
-    reign = k.new;
+    leadership = k.new;
     led = k.is;
-    front = u.front;
-    stands = front-trans u.front k.old.log k.new.log stands (k.runs.calls, q.1);
+    prefix = u.prefix;
+    stands = prefix-trans u.prefix k.old.log k.new.log stands (k.runs.calls, q.1);
     calls = subst OnlyCalls (sym behind) (all-append IsCall (drop n k.old.log) k.runs.calls
         (subst (λ z. OnlyCalls (drop n z.log)) (sym r.1) u.calls) (calls-only (now + 1) k.runs.calls k.runs.at));
     everywhere = everywhere-on S T F M o p K.heard n u.everywhere;
     over = u.over;
   }
     where
-      r : (k : Went p K.heard) × (k.old ≡ u.reign)
-      r = goes-at p K.heard u.reign part u.led
+      r : (k : Went p K.heard) × (k.old ≡ u.leadership)
+      r = goes-at p K.heard u.leadership part u.led
 
       k : Went p K.heard
       k = r.0
 
       n : ℕ
-      n = length u.front
+      n = length u.prefix
 
       q : (due p K.heard ≡ []) × (k.new.log ≡ k.old.log ++ k.runs.calls) × (k.old.log ++ k.taken ≡ k.old.log)
-      q = goes-quiet E S.logs T.logs (K.due p K.heard) (due p K.heard) (now + 1) p K.heard k u.none
+      q = goes-inert E S.logs T.logs (K.due p K.heard) (due p K.heard) (now + 1) p K.heard k u.none
 
-      stands : Front u.front k.old.log
-      stands = subst (λ z. Front u.front z.log) (sym r.1) u.stands
+      stands : Prefix u.prefix k.old.log
+      stands = subst (λ z. Prefix u.prefix z.log) (sym r.1) u.stands
 
       behind : drop n k.new.log ≡ drop n k.old.log ++ k.runs.calls
-      behind = ap (drop n) q.1 ∙ drop-append-le n k.old.log k.runs.calls (front-length u.front k.old.log stands)
+      behind = ap (drop n) q.1 ∙ drop-append-le n k.old.log k.runs.calls (prefix-length u.prefix k.old.log stands)
 
   -- Where the last transaction ended, it has ended.
   ended-on : (p : ℕ) → IsPart S p → Ended E S K p → Ended E T L p
@@ -511,17 +511,17 @@ module _ (E : Database) (S T : LogState) (F M : Firm) (K : Transactions) (now : 
   fed-on : (p : ℕ) (x : ℕ × ℕ) → IsPart S p → (stage E p (before p)).opened ≡ Some x → Fed S F K p → Fed T M L p
   fed-on p x part e f = record {
     none = q.0;
-    everywhere = subst (λ z. Everywhere T M p K.heard (length z)) (sym same) (everywhere-on S T F M o p K.heard (length (led_log (S.logs.reign p K.heard))) f.everywhere);
+    everywhere = subst (λ z. Everywhere T M p K.heard (length z)) (sym same) (everywhere-on S T F M o p K.heard (length (led_log (S.logs.leadership p K.heard))) f.everywhere);
   }
     where
       k : Went p K.heard
-      k = (goes-at p K.heard (B.heard.each p part).reign part (B.heard.each p part).led).0
+      k = (goes-at p K.heard (B.heard.each p part).leadership part (B.heard.each p part).led).0
 
       q : (due p K.heard ≡ []) × (k.new.log ≡ k.old.log ++ k.runs.calls) × (k.old.log ++ k.taken ≡ k.old.log)
-      q = goes-quiet E S.logs T.logs (K.due p K.heard) (due p K.heard) (now + 1) p K.heard k f.none
+      q = goes-inert E S.logs T.logs (K.due p K.heard) (due p K.heard) (now + 1) p K.heard k f.none
 
       log : before p ≡ k.old.log
-      log = ap (λ z. led_log (S.logs.reign p K.heard) ++ z) f.none ∙ append-nil (led_log (S.logs.reign p K.heard)) ∙ ap led_log k.was
+      log = ap (λ z. led_log (S.logs.leadership p K.heard) ++ z) f.none ∙ append-nil (led_log (S.logs.leadership p K.heard)) ∙ ap led_log k.was
 
       no_calls : k.runs.calls ≡ []
       no_calls = elim k.runs.room [
@@ -529,7 +529,7 @@ module _ (E : Database) (S T : LogState) (F M : Firm) (K : Transactions) (now : 
         | inr none ↦ absurd (none-and-some none (ap (λ z. (stage E p z).opened) (q.2 ∙ sym log) ∙ e))
       ]
 
-      same : led_log (T.logs.reign p K.heard) ≡ led_log (S.logs.reign p K.heard)
+      same : led_log (T.logs.leadership p K.heard) ≡ led_log (S.logs.leadership p K.heard)
       same = ap led_log k.is ∙ q.1 ∙ ap (λ z. k.old.log ++ z) no_calls ∙ append-nil k.old.log ∙ ap led_log (sym k.was)
 
   -- how far the job at hand is
@@ -557,7 +557,7 @@ pub books-moved : (E : Database) (S T : LogState) (F M : Firm) (K : Transactions
     → Books E S F K now → Books E T M (with_due K due) (now + 1)
 books-moved E S T F M K now due H J o agents moved others B = record {
   due = due-at E S T F M K now due H J o moved B others;
-  reigns = λ p t g part led. fits-up E S T F M K now due H J o moved B (t + 1) p t g (on-part E S T F M K now due H J o moved B p part) (omega arith) led;
+  leaderships = λ p t g part led. fits-up E S T F M K now due H J o moved B (t + 1) p t g (on-part E S T F M K now due H J o moved B p part) (omega arith) led;
   heard = heard-on E S T F M K now due H J o moved B agents;
 }
 
@@ -567,8 +567,8 @@ pub phase-moved : (E : Database) (S T : LogState) (F M : Firm) (K : Transactions
 phase-moved E S T F M K now due H J o moved B t a Off k = k
 phase-moved E S T F M K now due H J o moved B t a (Hears told) k = (
   k.0,
-  all-mono (λ x. StateOk E S F x.part t x.m x.is_open x.outcome) (λ x. StateOk E T M x.part t x.m x.is_open x.outcome)
-      (λ x y. state-on E S T F M o x.part t x.m x.is_open x.outcome y) told k.1,
+  all-mono (λ x. StateOk E S F x.part t x.transaction x.is_open x.outcome) (λ x. StateOk E T M x.part t x.transaction x.is_open x.outcome)
+      (λ x y. state-on E S T F M o x.part t x.transaction x.is_open x.outcome y) told k.1,
   k.2,
   k.3,
 )
@@ -598,14 +598,14 @@ phase-moved E S T F M K now due H J o moved B t a Works k =
 pub books-later : (E : Database) (S : LogState) (F : Firm) (K : Transactions) (now stamp : ℕ) → now ≤ stamp → Books E S F K now → Books E S F K stamp
 books-later E S F K now stamp l B = record {
   due = B.due;
-  reigns = λ p t g part led. let f = B.reigns p t g part led in record { formed = f.formed; past = omega (arith, f.past, l); unheard = f.unheard };
+  leaderships = λ p t g part led. let f = B.leaderships p t g part led in record { formed = f.formed; past = omega (arith, f.past, l); unheard = f.unheard };
   heard = record {
     word = B.heard.word;
     is_word = B.heard.is_word;
     by = B.heard.by;
     each = B.heard.each;
     aligned = aligned-under E S.words.deployment now stamp K logs logs l k (λ p part. (k.formed p part, omega (arith, k.past p part, l)))
-        (λ p part. (under-refl (logs p), k.front p part)) (λ p x part e. (k.decided p x part e).0);
+        (λ p part. (under-refl (logs p), k.prefix p part)) (λ p x part e. (k.decided p x part e).0);
   };
 }
   where
@@ -623,7 +623,7 @@ pub books-worded : (E : Database) (S T : LogState) (F : Firm) (K : Transactions)
     → Books E S F K now → Books E T F K now
 books-worded E S T F K now H deployment logs sites decided by B = record {
   due = λ p t. owed p t (B.due p t);
-  reigns = λ p t g part led. let f = B.reigns p t g (here p part) (ap (λ G. G.reign p t) (sym logs) ∙ led) in
+  leaderships = λ p t g part led. let f = B.leaderships p t g (here p part) (ap (λ G. G.leadership p t) (sym logs) ∙ led) in
       record { formed = f.formed; past = f.past; unheard = f.unheard };
   heard = record {
     word = word;
@@ -631,7 +631,7 @@ books-worded E S T F K now H deployment logs sites decided by B = record {
     by = λ h a first start. by word h a B.heard.is_word.decided first (some h a first) start (B.heard.by h a first);
     each = λ p part. heard-part S T F F onto K K.due p (B.heard.each p (here p part));
     aligned = subst (λ D. Aligned E D now K (whole T K K.heard)) (sym deployment)
-        (subst (λ G. Aligned E S.words.deployment now K (λ p. led_log (G.reign p K.heard) ++ K.due p K.heard)) (sym logs) B.heard.aligned);
+        (subst (λ G. Aligned E S.words.deployment now K (λ p. led_log (G.leadership p K.heard) ++ K.due p K.heard)) (sym logs) B.heard.aligned);
   };
 }
   where
@@ -654,7 +654,7 @@ books-worded E S T F K now H deployment logs sites decided by B = record {
       deployment = deployment;
       decided = decided;
       onward = record {
-        kept = λ p t g led. (g, ap (λ G. G.reign p t) logs ∙ led, refl, front-refl g.log);
+        kept = λ p t g led. (g, ap (λ G. G.leadership p t) logs ∙ led, refl, prefix-refl g.log);
         reach = λ p t. omega (arith, ap (λ G. G.reach p t) logs);
       };
       firm = λ p. omega arith;
@@ -663,7 +663,7 @@ books-worded E S T F K now H deployment logs sites decided by B = record {
 
     owed : (p t : ℕ) → DueOk S K p t → DueOk T K p t
     owed p t (inl none) = inl none
-    owed p t (inr (x, g, is, order, led, l)) = inr (x, g, is, order, ap (λ G. G.reign p t) logs ∙ led, l)
+    owed p t (inr (x, g, is, order, led, l)) = inr (x, g, is, order, ap (λ G. G.leadership p t) logs ∙ led, l)
 
     -- an initiator has begun
     some : (h a : ℕ) → initiator word ≡ Some (h, a) → 0 < a

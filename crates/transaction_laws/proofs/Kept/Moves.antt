@@ -12,7 +12,7 @@ use Rattle.cluster_model.specs.Words.{term_of, leader, start_of_slot}
 use Rattle.cluster_model.specs.Letters.{Letter, Sends, Turn}
 use Rattle.cluster_model.specs.AgentState.{AgentState, Off, new_agent}
 use Rattle.word_laws.specs.Histories.{In}
-use Rattle.log_laws.specs.Histories.{LogState, Logs, Reign, Front, IsSlot, part}
+use Rattle.log_laws.specs.Histories.{LogState, Logs, Leadership, Prefix, IsSlot, part}
 use Rattle.log_laws.proofs.Kept.Moves.{Onward}
 use Rattle.disk_laws.specs.Disks.{Firm, Top}
 use Rattle.transaction_laws.specs.Machine.{stage}
@@ -29,12 +29,12 @@ IsCallAt stamp (Done m o) = ⊥
 abbrev pub CallsAt : ℕ → List Entry → Type 0
 CallsAt stamp es = AllByRecursion (IsCallAt stamp) es
 
--- A log is at the front of another one, but for calls on one partition at its end.
+-- A log is a prefix of another one, but for calls on one partition at its end.
 pub record Under (xs ys : List Entry) : Type 0 where
-  pub front : List Entry
+  pub prefix : List Entry
   pub calls : List Entry
-  pub is : xs ≡ front ++ calls
-  pub stands : Front front ys
+  pub is : xs ≡ prefix ++ calls
+  pub stands : Prefix prefix ys
   pub only : OnlyCalls calls
 
 -- ---- what only grows
@@ -58,18 +58,18 @@ pub record Runs (E : Database) (p stamp : ℕ) (log after : List Entry) : Type 0
 
 -- The term stays as it was, or it begins, or its leader takes what was due to it and runs calls.
 pub record Begins (E : Database) (F G : Logs) (due next : List Entry) (stamp p t : ℕ) : Type 0 where
-  pub none : F.reign p t ≡ None
-  pub reign : Reign
-  pub led : G.reign p t ≡ Some reign
+  pub none : F.leadership p t ≡ None
+  pub leadership : Leadership
+  pub led : G.leadership p t ≡ Some leadership
   pub before : due ≡ []
   pub after : next ≡ []
-  pub runs : Runs E p stamp reign.begun reign.log
+  pub runs : Runs E p stamp leadership.begun leadership.log
 
 pub record Goes (E : Database) (F G : Logs) (due next : List Entry) (stamp p t : ℕ) : Type 0 where
-  pub old : Reign
-  pub was : F.reign p t ≡ Some old
-  pub new : Reign
-  pub is : G.reign p t ≡ Some new
+  pub old : Leadership
+  pub was : F.leadership p t ≡ Some old
+  pub new : Leadership
+  pub is : G.leadership p t ≡ Some new
   pub begun : new.begun ≡ old.begun
   pub taken : List Entry
   pub due_is : due ≡ taken ++ next
@@ -77,7 +77,7 @@ pub record Goes (E : Database) (F G : Logs) (due next : List Entry) (stamp p t :
 
 abbrev pub Moved : Database → Logs → Logs → (ℕ → ℕ → List Entry) → (ℕ → ℕ → List Entry) → ℕ → ℕ → ℕ → Type 0
 Moved E F G due next stamp p t =
-    ((G.reign p t ≡ F.reign p t) × (next p t ≡ due p t))
+    ((G.leadership p t ≡ F.leadership p t) × (next p t ≡ due p t))
     ⊎ Begins E F G (due p t) (next p t) stamp p t
     ⊎ Goes E F G (due p t) (next p t) stamp p t
 

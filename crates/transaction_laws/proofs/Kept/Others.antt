@@ -73,7 +73,7 @@ module _ (E : Database) (S : LogState) (F : Firm) (halted : Bool) (K : Transacti
       to_agents = λ c h slot. subst (AllByRecursion (AnswerOk E T F L (part S c))) (sym (up c h))
           (all-mono (AnswerOk E S F K (part S c)) (AnswerOk E T F L (part S c)) (λ l. answer-on E S T F F onto K L (omega arith) (part S c) l)
           (S.words.channel (Site c) (Agent h)) (k.to_agents c h slot));
-      outside = λ c h out. up c h ∙ k.outside c h out;
+      environment = λ c h out. up c h ∙ k.environment c h out;
       sites = λ c slot runs. site-kept c (k.sites c slot runs);
       agents = λ h. let a = k.agents h in record {
         initiating = agent-kept h a.initiating;

@@ -12,7 +12,7 @@ use Rattle.cluster_model.specs.Disk.{Shown}
 use Rattle.word_laws.specs.Histories.{In, History}
 use Rattle.word_laws.proofs.Lists.{all-mono}
 use Rattle.log_laws.specs.Histories.{LogState}
-use Rattle.log_laws.proofs.Plain.Fronts.{front-refl}
+use Rattle.log_laws.proofs.Plain.Prefixes.{prefix-refl}
 use Rattle.log_laws.proofs.Agents.Views.{worded}
 use Rattle.disk_laws.specs.Disks.{Firm, Shows}
 use Rattle.transaction_laws.specs.Transactions.{Transactions, Settled, Fed, AtHand, PhaseOk, Aligned}
@@ -28,7 +28,7 @@ module _ (S : LogState) (agents : ℕ → AgentState) (channel : Actor → Actor
   onto-worded F = record {
     deployment = refl;
     decided = decided;
-    onward = record { kept = λ p t g e. (g, e, refl, front-refl g.log); reach = λ p t. omega arith };
+    onward = record { kept = λ p t g e. (g, e, refl, prefix-refl g.log); reach = λ p t. omega arith };
     firm = λ p. omega arith;
     tops = λ p m n k. record { slot = k.slot; is_slot = k.is_slot; part_is = k.part_is; all = k.all };
   }
@@ -39,9 +39,9 @@ module _ (S : LogState) (agents : ℕ → AgentState) (channel : Actor → Actor
     settled-worded : (p : ℕ) → Settled E S F K p → Settled E T F K p
     settled-worded p k = record {
       none = k.none;
-      reign = k.reign;
+      leadership = k.leadership;
       led = k.led;
-      front = k.front;
+      prefix = k.prefix;
       stands = k.stands;
       calls = k.calls;
       everywhere = everywhere-on S T F F (onto-worded F) p K.heard _ k.everywhere;
@@ -57,7 +57,7 @@ module _ (S : LogState) (agents : ℕ → AgentState) (channel : Actor → Actor
 
     pub phase-worded : (t : ℕ) (a : AgentState) (phase : Phase) → PhaseOk E S F K t a phase → PhaseOk E T F K t a phase
     phase-worded t a Off k = k
-    phase-worded t a (Hears told) k = (k.0, all-mono _ _ (λ x. state-on E S T F F (onto-worded F) x.part t x.m x.is_open x.outcome) told k.1, k.2, k.3)
+    phase-worded t a (Hears told) k = (k.0, all-mono _ _ (λ x. state-on E S T F F (onto-worded F) x.part t x.transaction x.is_open x.outcome) told k.1, k.2, k.3)
     phase-worded t a (Closes m parts finished) k = (k.0, k.1, k.2, k.3, λ p q. let r = k.4 p q in (r.0, λ c. settled-worded p (r.1 c)))
     phase-worded t a Idle k = k
     phase-worded t a Works k = (k.0, k.1, (k.2.0, k.2.1, k.2.2, at_hand-worded k.2.0 k.2.0.decision k.2.3))
@@ -72,7 +72,7 @@ pub aligned-later : (E : Database) (D : Deployment) (now stamp : ℕ) → now �
 aligned-later E D now stamp l L logs k = record {
   formed = k.formed;
   past = λ p part. omega (arith, l, k.past p part);
-  front = k.front;
+  prefix = k.prefix;
   over = k.over;
   below = k.below;
   only = k.only;

@@ -12,13 +12,13 @@ use Rattle.cluster_model.specs.Engine.{Database}
 use Rattle.cluster_model.specs.Words.{Deployment}
 use Rattle.cluster_model.specs.Letters.{Letter, Turn, becomes, sending, only, open_letter, arrival, Arrival, Taken, Refused, Waits, ◌▸◌}
 use Rattle.cluster_model.specs.SiteState.{SiteState, Joining, site_term, new_joiner, stopped_site}
-use Rattle.cluster_model.specs.Site.{may_stream, site_row, takes_waiting, settles, ordered, on_start, on_stop, on_stream_start, site_runs, site_takes}
+use Rattle.cluster_model.specs.Site.{may_stream, site_handler, takes_waiting, settles, ordered, on_start, on_stop, on_stream_start, site_runs, site_takes}
 use Rattle.cluster_model.specs.Sync.{syncs, after_sync, written, joiner_written, site_turn, sync_turn, parts_of_sync}
 use Rattle.cluster_model.specs.Disk.{after_parts}
 use Rattle.cluster_model.specs.SiteState.{Streamed}
-use Rattle.cluster_model.specs.Outside.{Outside, Fair, DiskFails, NoMemory, DisksShow}
-use Rattle.disk_laws.proofs.Rows.{DiskRow, PlainWaiting, row-then}
-use Rattle.disk_laws.proofs.SiteRows.{stays_joiner, after_sync-row, settles-row, ordered-row, site_runs-row, site_runs-refused, site_runs-stream, site_runs-joins, site_runs-enters}
+use Rattle.cluster_model.specs.Environment.{Environment, NoFault, DiskFails, NoMemory, DisksShow}
+use Rattle.disk_laws.proofs.Handlers.{DiskHandler, PlainWaiting, handler-then}
+use Rattle.disk_laws.proofs.SiteHandlers.{stays_joiner, after_sync-handler, settles-handler, ordered-handler, site_runs-handler, site_runs-refused, site_runs-stream, site_runs-joins, site_runs-enters}
 
 abbrev pub Blank : SiteState → Type 0
 Blank s = s.start ≡ 0 → s.log ≡ []
@@ -36,9 +36,9 @@ module _ (E : Database) (D : Deployment) (stamp i : ℕ) (s : SiteState) (waits 
   stream-start (Some j) l head = choice (may_stream s j l)
     where
       choice : (b : Bool) → (if b then record s {
-        joining = Some (record j { stream = Some (record { nj = head.nj; mark = head.mark }) });
+        joining = Some (record j { stream = Some (record { stream_start = head.stream_start; mark = head.mark }) });
         log = l.past;
-        floor = head.nj;
+        floor = head.stream_start;
         contents = None ∷ [];
       } else s).start ≡ s.start
       choice true = refl
@@ -47,7 +47,7 @@ module _ (E : Database) (D : Deployment) (stamp i : ℕ) (s : SiteState) (waits 
   -- one that waits stays too
   waits-start : (from : Actor) (l : Letter) → arrival s.start (site_term s) l ≡ Waits → (site_runs E D stamp i s from l).state.start ≡ s.start
   waits-start from l a = subst (λ x. (elim x as (λ _. Turn SiteState) [
-    | Taken ↦ ordered (site_row E D stamp i s from l ▸ takes_waiting E D stamp i ▸ settles E D i)
+    | Taken ↦ ordered (site_handler E D stamp i s from l ▸ takes_waiting E D stamp i ▸ settles E D i)
     | Waits ↦ becomes (record s { waiting = s.waiting ++ record { from = from; letter = l } ∷ [] })
     | Refused ↦ becomes s
   ]).state.start ≡ s.start) (sym a) refl
@@ -68,15 +68,15 @@ module _ (E : Database) (D : Deployment) (stamp i : ℕ) (s : SiteState) (waits 
   pub runs-start : (from : Actor) (l : Letter) → (site_runs E D stamp i s from l).state.start ≡ s.start
   runs-start (Agent h) l = elim l.body as (λ m. (site_runs E D stamp i s (Agent h) (record l { body = m })).state.start ≡ s.start) [
     | msg.View w ↦ let k = record l { body = msg.View w } in word-start h k w refl (arrival s.start (site_term s) k) refl
-    | m ↦ (site_runs-row E D stamp i s (Agent h) (record l { body = m }) tt waits).at.start
+    | m ↦ (site_runs-handler E D stamp i s (Agent h) (record l { body = m }) tt waits).at.start
   ]
   runs-start (Site slot) l = elim l.body as (λ m. (site_runs E D stamp i s (Site slot) (record l { body = m })).state.start ≡ s.start) [
     | msg.StreamStart head ↦ let k = record l { body = msg.StreamStart head } in begun-start slot k head refl (arrival s.start (site_term s) k) refl
-    | m ↦ (site_runs-row E D stamp i s (Site slot) (record l { body = m }) tt waits).at.start
+    | m ↦ (site_runs-handler E D stamp i s (Site slot) (record l { body = m }) tt waits).at.start
   ]
-  runs-start Director l = (site_runs-row E D stamp i s Director l tt waits).at.start
-  runs-start (Client n) l = (site_runs-row E D stamp i s (Client n) l tt waits).at.start
-  runs-start (Scanner x) l = (site_runs-row E D stamp i s (Scanner x) l tt waits).at.start
+  runs-start Director l = (site_runs-handler E D stamp i s Director l tt waits).at.start
+  runs-start (Client n) l = (site_runs-handler E D stamp i s (Client n) l tt waits).at.start
+  runs-start (Scanner x) l = (site_runs-handler E D stamp i s (Scanner x) l tt waits).at.start
 
 -- ---- turns
 
@@ -111,8 +111,8 @@ module _ (E : Database) (D : Deployment) (stamp i : ℕ) (s : SiteState) (blank 
   ]
 
   -- So it is after each turn.
-  pub turn-blank : (from : Actor) (l : Letter) (o : Outside) → Blank (site_turn E D stamp i s from l o).state
-  turn-blank from l Fair = taken-blank from l
+  pub turn-blank : (from : Actor) (l : Letter) (o : Environment) → Blank (site_turn E D stamp i s from l o).state
+  turn-blank from l NoFault = taken-blank from l
   turn-blank from l (DiskFails answered) = λ e. refl
   turn-blank from l (NoMemory answered) = λ e. refl
   turn-blank from l (DisksShow shown failed) = taken-blank from l
@@ -128,7 +128,7 @@ module _ (E : Database) (D : Deployment) (i : ℕ) (s : SiteState) (up : 0 < s.s
         joining = Some (record j { written = j.blocks; is_based = true });
         on_disk = length s.log;
         mark = st.mark;
-        base = st.nj;
+        base = st.stream_start;
       } else record s { joining = Some (record j { written = j.blocks }) }).start ≡ s.start
       choice true = refl
       choice false = refl
@@ -141,13 +141,13 @@ module _ (E : Database) (D : Deployment) (i : ℕ) (s : SiteState) (up : 0 < s.s
   syncs-blank z =
       let b = record (written s s.joining) { contents = after_parts s.contents (parts_of_sync s s.joining) } in
       let t = after_sync D i b b.joining in
-      let row : DiskRow D i b (ordered (t ▸ settles E D i)) = ordered-row D i b (t ▸ settles E D i) (row-then D i b t (settles E D i) (after_sync-row D i b) (settles-row E D i t.state)) in
-      let k = row.at.start in
+      let handler : DiskHandler D i b (ordered (t ▸ settles E D i)) = ordered-handler D i b (t ▸ settles E D i) (handler-then D i b t (settles E D i) (after_sync-handler D i b) (settles-handler E D i t.state)) in
+      let k = handler.at.start in
       let e = written-start s.joining in
       absurd (omega (arith, up, k, e, z))
 
-  pub sync-blank : (o : Outside) → Blank (sync_turn E D i s o).state
-  sync-blank Fair = syncs-blank
+  pub sync-blank : (o : Environment) → Blank (sync_turn E D i s o).state
+  sync-blank NoFault = syncs-blank
   sync-blank (DiskFails answered) = λ e. refl
   sync-blank (NoMemory answered) = λ e. refl
   sync-blank (DisksShow shown failed) = syncs-blank

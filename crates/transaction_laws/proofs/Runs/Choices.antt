@@ -6,18 +6,18 @@ use Rattle.volt_base.specs.declared.entry.Entry.{Entry}
 use Rattle.cluster_model.specs.Engine.{Database}
 use Rattle.cluster_model.specs.Disk.{Shown, chosen}
 use Rattle.word_laws.proofs.Lists.{all-at}
-use Rattle.log_laws.specs.Histories.{LogState, Holds, Front, Reign, part}
-use Rattle.log_laws.proofs.Plain.Fronts.{front-trans, front-append, front-take, fronts-order, take-grown}
+use Rattle.log_laws.specs.Histories.{LogState, Holds, Prefix, Leadership, part}
+use Rattle.log_laws.proofs.Plain.Prefixes.{prefix-trans, prefix-append, prefix-take, prefixes-order, take-grown}
 use Rattle.disk_laws.specs.Disks.{Written, Firm, ContentOk, DisksHold, Shows, shown_at}
 use Rattle.disk_laws.proofs.Order.{Chosen, top-chosen, at_least-mark}
-use Rattle.disk_laws.proofs.Contents.{firm-within, firm-front}
+use Rattle.disk_laws.proofs.Contents.{firm-within, firm-prefix}
 use Rattle.disk_laws.proofs.Choices.{shows-slot, chosen-firm}
 use Rattle.transaction_laws.specs.Machine.{WellFormed, first_stage, stage}
-use Rattle.transaction_laws.specs.Transactions.{Transactions, Books, ReignFits, HeardPart, Aligned, Everywhere, IsPart, led_log, whole}
+use Rattle.transaction_laws.specs.Transactions.{Transactions, Books, LeadershipFits, HeardPart, Aligned, Everywhere, IsPart, led_log, whole}
 use Rattle.transaction_laws.proofs.Kept.Moves.{Under}
-use Rattle.transaction_laws.proofs.Entries.Machine.{formed-front, front-point}
-use Rattle.transaction_laws.proofs.Entries.Aligned.{under-front, under-trans, aligned-under}
-use Rattle.transaction_laws.proofs.Kept.Later.{quiet-reign}
+use Rattle.transaction_laws.proofs.Entries.Machine.{formed-prefix, prefix-point}
+use Rattle.transaction_laws.proofs.Entries.Aligned.{under-prefix, under-trans, aligned-under}
+use Rattle.transaction_laws.proofs.Kept.Later.{inert-leadership}
 
 module _ (E : Database) (S : LogState) (F : Firm) (K : Transactions) (now : ℕ) (H : Holds S) (disks : DisksHold S F false) (B : Books E S F K now) (shown : ℕ → Shown)
     (shows : Shows S shown) (p : ℕ) (is_part : IsPart S p) where
@@ -32,7 +32,7 @@ module _ (E : Database) (S : LogState) (F : Firm) (K : Transactions) (now : ℕ)
   c : Chosen S.words.deployment shown p K.heard 0
   c = top-chosen S shown shows.one p K.heard 0 h.top
 
-  -- it was written, at the front of the log of a term that isn't before the one that was heard
+  -- it was written, a prefix of the log of a term that isn't before the one that was heard
   w : Written S p c.content
   w =
       let q = shows-slot S shown shows c.slot c.content c.shows in
@@ -43,56 +43,56 @@ module _ (E : Database) (S : LogState) (F : Firm) (K : Transactions) (now : ℕ)
   later : K.heard ≤ w.term
   later = let a = at_least-mark K.heard 0 (Some c.content) c.good in let b = w.above in omega (arith, a, b)
 
-  front : Front log w.later.log
-  front = subst (λ l. Front l w.later.log) (sym c.log_is) w.front
+  prefix : Prefix log w.later.log
+  prefix = subst (λ l. Prefix l w.later.log) (sym c.log_is) w.prefix
 
   -- ---- so it fits
 
-  fits : ReignFits E S K now p w.term w.later
-  fits = B.reigns p w.term w.later is_part w.later_led
+  fits : LeadershipFits E S K now p w.term w.later
+  fits = B.leaderships p w.term w.later is_part w.later_led
 
-  with-due : Front log (w.later.log ++ K.due p w.term)
-  with-due = front-trans log w.later.log (w.later.log ++ K.due p w.term) front (front-append w.later.log (K.due p w.term))
+  with-due : Prefix log (w.later.log ++ K.due p w.term)
+  with-due = prefix-trans log w.later.log (w.later.log ++ K.due p w.term) prefix (prefix-append w.later.log (K.due p w.term))
 
   chosen-formed : WellFormed (first_stage E p) log × ((stage E p log).point ≤ now)
   chosen-formed = (
-    formed-front (first_stage E p) log (w.later.log ++ K.due p w.term) with-due fits.formed,
-    (let a = front-point (first_stage E p) log (w.later.log ++ K.due p w.term) with-due fits.formed in let b = fits.past in omega (arith, a, b)),
+    formed-prefix (first_stage E p) log (w.later.log ++ K.due p w.term) with-due fits.formed,
+    (let a = prefix-point (first_stage E p) log (w.later.log ++ K.due p w.term) with-due fits.formed in let b = fits.past in omega (arith, a, b)),
   )
 
-  whole-is : whole S K K.heard p ≡ h.reign.log ++ K.due p K.heard
+  whole-is : whole S K K.heard p ≡ h.leadership.log ++ K.due p K.heard
   whole-is = ap (λ r. led_log r ++ K.due p K.heard) h.led
 
   chosen-under : Under log (whole S K K.heard p)
-  chosen-under = subst (Under log) (sym whole-is) (under-trans log h.reign.log (h.reign.log ++ K.due p K.heard)
-      (under-trans log w.later.log h.reign.log (under-front log w.later.log front)
-      (quiet-reign E S F K now H B p w.term h.reign w.later is_part h.led w.later_led later))
-      (under-front h.reign.log (h.reign.log ++ K.due p K.heard) (front-append h.reign.log (K.due p K.heard))))
+  chosen-under = subst (Under log) (sym whole-is) (under-trans log h.leadership.log (h.leadership.log ++ K.due p K.heard)
+      (under-trans log w.later.log h.leadership.log (under-prefix log w.later.log prefix)
+      (inert-leadership E S F K now H B p w.term h.leadership w.later is_part h.led w.later_led later))
+      (under-prefix h.leadership.log (h.leadership.log ++ K.due p K.heard) (prefix-append h.leadership.log (K.due p K.heard))))
 
   -- ---- what is firm in the term that was heard is there
 
   -- all that was counted firm, in the term of its witness
-  module _ (v : ℕ) (g : Reign) (led : S.logs.reign p v ≡ Some g) (reach : F p ≤ S.logs.reach p v) (xs : List Entry) (inside : Front xs h.reign.log)
+  module _ (v : ℕ) (g : Leadership) (led : S.logs.leadership p v ≡ Some g) (reach : F p ≤ S.logs.reach p v) (xs : List Entry) (inside : Prefix xs h.leadership.log)
       (firm : Everywhere S F p K.heard (length xs)) where
-    -- It has these entries: both are at the front of the log of the later one of the two terms.
-    counted-has : Front xs (take (F p) g.log)
+    -- It has these entries: both are a prefix of the log of the later one of the two terms.
+    counted-has : Prefix xs (take (F p) g.log)
     counted-has = elim (cases_lt v K.heard) [
-      | inl l ↦ fronts-order xs (take (F p) g.log) h.reign.log inside (firm-front S H p v K.heard (F p) g h.reign led h.led reach (omega (arith, l))) short
-      | inr l ↦ fronts-order xs (take (F p) g.log) g.log
-          (subst (λ ys. Front ys g.log) own (firm-front S H p K.heard v (length xs) h.reign g h.led led firm.reach l)) (front-take (F p) g.log) short
+      | inl l ↦ prefixes-order xs (take (F p) g.log) h.leadership.log inside (firm-prefix S H p v K.heard (F p) g h.leadership led h.led reach (omega (arith, l))) short
+      | inr l ↦ prefixes-order xs (take (F p) g.log) g.log
+          (subst (λ ys. Prefix ys g.log) own (firm-prefix S H p K.heard v (length xs) h.leadership g h.led led firm.reach l)) (prefix-take (F p) g.log) short
     ]
       where
         short : length xs ≤ length (take (F p) g.log)
         short = let a = firm-within S H p v (F p) g led reach in let b = firm.firm in let n = length-take (F p) g.log in omega (arith, a, b, n)
 
-        own : take (length xs) h.reign.log ≡ xs
-        own = take-grown (length xs) xs h.reign.log inside (omega arith) ∙ take_all (length xs) xs (omega arith)
+        own : take (length xs) h.leadership.log ≡ xs
+        own = take-grown (length xs) xs h.leadership.log inside (omega arith) ∙ take_all (length xs) xs (omega arith)
 
-  chosen-has : (xs : List Entry) → Front xs h.reign.log → Everywhere S F p K.heard (length xs) → Front xs log
+  chosen-has : (xs : List Entry) → Prefix xs h.leadership.log → Everywhere S F p K.heard (length xs) → Prefix xs log
   chosen-has xs inside firm =
       let f = disks.firm p in
-      front-trans xs (take (F p) f.reign.log) log (counted-has f.term f.reign f.led f.reach xs inside firm)
-      (chosen-firm S H F false disks shown shows p f.term f.reign f.led f.reach)
+      prefix-trans xs (take (F p) f.leadership.log) log (counted-has f.term f.leadership f.led f.reach xs inside firm)
+      (chosen-firm S H F false disks shown shows p f.term f.leadership f.led f.reach)
 
 -- Whatever the disks show.
 pub choice-aligned : (E : Database) (S : LogState) (F : Firm) (K : Transactions) (now : ℕ) → Holds S → DisksHold S F false → Books E S F K now → (shown : ℕ → Shown) → Shows S shown

@@ -17,7 +17,7 @@ use Rattle.cluster_model.specs.Log.{last_done, number_of}
 use Rattle.cluster_model.specs.Words.{Deployment, slots, parts, part_of_slot, is_host, term_of, term_in, initiator}
 use Rattle.cluster_model.specs.Disk.{Shown, best_of, chosen, mark_of, recovered}
 use Rattle.cluster_model.specs.Letters.{Waiting}
-use Rattle.cluster_model.specs.Outside.{DisksShow}
+use Rattle.cluster_model.specs.Environment.{DisksShow}
 use Rattle.cluster_model.specs.AgentState.{AgentState, Off, Idle, new_agent}
 use Rattle.cluster_model.specs.SiteState.{SiteState, no_site, stopped_site, member_site, other_copies}
 use Rattle.cluster_model.specs.Site.{acked_in, own_ack, least, lesser}
@@ -27,18 +27,18 @@ use Rattle.cluster_model.specs.Events.{is_stopped, may_recover, is_shown, is_slo
 use Rattle.word_laws.specs.Histories.{In, names}
 use Rattle.word_laws.proofs.Lists.{all-mono, eqb-same, if-true, if-false, some-here, same-some, none-and-some, not-both}
 use Rattle.word_laws.proofs.Epochs.{initiator-first}
-use Rattle.log_laws.specs.Histories.{LogState, Holds, IsSlot, Reign, part, start_at}
+use Rattle.log_laws.specs.Histories.{LogState, Holds, IsSlot, Leadership, part, start_at}
 use Rattle.log_laws.specs.Copies.{log_state, HasLogs}
 use Rattle.log_laws.proofs.Plain.Copies.{slots-part}
-use Rattle.log_laws.proofs.Plain.Fronts.{front-refl}
+use Rattle.log_laws.proofs.Plain.Prefixes.{prefix-refl}
 use Rattle.log_laws.proofs.Kept.Grown.{onward-same}
-use Rattle.log_laws.proofs.Runs.Boots.{first_reign, new_logs, first-logs, anew-logs, first-logs-are, anew-logs-are}
+use Rattle.log_laws.proofs.Runs.Boots.{first_leadership, new_logs, first-logs, anew-logs, first-logs-are, anew-logs-are}
 use Rattle.disk_laws.specs.Disks.{AtLeast, Top, Firm, DisksHold, Shows}
 use Rattle.disk_laws.proofs.Boots.{firm_in}
 use Rattle.disk_laws.proofs.Choices.{shows-slot, get-none, disk-shows, world-shows}
 use Rattle.disk_laws.proofs.Order.{at_least-mark, best-chosen}
 use Rattle.disk_laws.proofs.Recoveries.{new-above, left-top, agent-stopped, site-stopped}
-use Rattle.transaction_laws.specs.Transactions.{Transactions, Everywhere, Aligned, Books, HeardPart, HeardOk, ReignFits, IsPart, SiteCalls, InitiatingOk, PhaseOk, AnswerOk, ToSiteOk, WaitingAnswer, CallsHold, acknowledged, since, whole, led_log, orders}
+use Rattle.transaction_laws.specs.Transactions.{Transactions, Everywhere, Aligned, Books, HeardPart, HeardOk, LeadershipFits, IsPart, SiteCalls, InitiatingOk, PhaseOk, AnswerOk, ToSiteOk, WaitingAnswer, CallsHold, acknowledged, since, whole, led_log, orders}
 use Rattle.transaction_laws.proofs.Kept.Moves.{Onto}
 use Rattle.transaction_laws.proofs.Entries.Aligned.{Recovered, aligned-recovered, aligned-again, recovered-even}
 use Rattle.transaction_laws.proofs.Entries.Even.{AppliedInAll}
@@ -121,21 +121,21 @@ module _ (E : Database) (S : LogState) (H : Holds S) (base start now : ℕ) (log
 
   -- ---- the history
 
-  first-led : (p : ℕ) → S.logs.reign p base ≡ Some (first_reign log p)
-  first-led p = ap (λ G. G.reign p base) k.logs ∙ if-true (base == base) (Some (first_reign log p)) None (eqb-same base)
+  first-led : (p : ℕ) → S.logs.leadership p base ≡ Some (first_leadership log p)
+  first-led p = ap (λ G. G.leadership p base) k.logs ∙ if-true (base == base) (Some (first_leadership log p)) None (eqb-same base)
 
   first-reach : (p : ℕ) → S.logs.reach p base ≡ length (log p)
   first-reach p = ap (λ G. G.reach p base) k.logs ∙ if-true (base == base) (length (log p)) 0 (eqb-same base)
 
   -- no other term was led
-  one-led : (p t : ℕ) (g : Reign) → S.logs.reign p t ≡ Some g → (t ≡ base) × (first_reign log p ≡ g)
+  one-led : (p t : ℕ) (g : Leadership) → S.logs.leadership p t ≡ Some g → (t ≡ base) × (first_leadership log p ≡ g)
   one-led p t g led = elim (cases_Bool (t == base)) [
-    | inl e ↦ (eqb-true t base e, same-some (sym (if-true (t == base) (Some (first_reign log p)) None e) ∙ there))
-    | inr e ↦ absurd (none-and-some (if-false (t == base) (Some (first_reign log p)) None e) there)
+    | inl e ↦ (eqb-true t base e, same-some (sym (if-true (t == base) (Some (first_leadership log p)) None e) ∙ there))
+    | inr e ↦ absurd (none-and-some (if-false (t == base) (Some (first_leadership log p)) None e) there)
   ]
     where
-      there : (if t == base then Some (first_reign log p) else None) ≡ Some g
-      there = ap (λ G. G.reign p t) (sym k.logs) ∙ led
+      there : (if t == base then Some (first_leadership log p) else None) ≡ Some g
+      there = ap (λ G. G.leadership p t) (sym k.logs) ∙ led
 
   whole-is : (p : ℕ) → whole S K base p ≡ log p
   whole-is p = ap (λ r. led_log r ++ []) (first-led p) ∙ append-nil (log p)
@@ -161,7 +161,7 @@ module _ (E : Database) (S : LogState) (H : Holds S) (base start now : ℕ) (log
   aligned-begins = record {
     formed = λ p q. rw (whole-is p) (k.over p q).formed;
     past = λ p q. rw (whole-is p) (k.over p q).past;
-    front = λ p q. rw (whole-is p) (front-refl (log p));
+    prefix = λ p q. rw (whole-is p) (prefix-refl (log p));
     over = λ p q. (k.over p q).over;
     below = λ p q. (k.over p q).number;
     only = λ p q. rw (since-none p) tt;
@@ -175,9 +175,9 @@ module _ (E : Database) (S : LogState) (H : Holds S) (base start now : ℕ) (log
 
   heard-part : (p : ℕ) → IsPart S p → HeardPart S all_firm K p
   heard-part p q = record {
-    reign = first_reign log p;
+    leadership = first_leadership log p;
     led = first-led p;
-    inside = front-refl (log p);
+    inside = prefix-refl (log p);
     closed = everywhere p;
     decided = λ x e. absurd (none-and-some refl e);
     top = top-begins p q;
@@ -213,7 +213,7 @@ module _ (E : Database) (S : LogState) (H : Holds S) (base start now : ℕ) (log
   books-begin : Books E S all_firm K now
   books-begin = record {
     due = λ p t. inl refl;
-    reigns = λ p t g q led. let r = one-led p t g led in subst (ReignFits E S K now p t) r.1 (record {
+    leaderships = λ p t g q led. let r = one-led p t g led in subst (LeadershipFits E S K now p t) r.1 (record {
       formed = rw (append-nil (log p)) (k.over p q).formed;
       past = rw (append-nil (log p)) (k.over p q).past;
       unheard = λ l. absurd (omega (arith, l, r.0));
@@ -288,7 +288,7 @@ module _ (E : Database) (S : LogState) (H : Holds S) (base start now : ℕ) (log
     books = books-begin;
     to_sites = λ h c q. rw (k.orders h c) tt;
     to_agents = λ c h q. rw (k.answers c h) tt;
-    outside = λ c h out. k.answers c h;
+    environment = λ c h out. k.answers c h;
     sites = λ c q up. site-begins c q;
     agents = λ h. record { initiating = initiating-begins h; waiting = rw (waiting-begins h) tt };
     halts = λ e. absurd (false≢true e);
@@ -362,7 +362,7 @@ anew-calls E w shown k F halted disks K now stamp calls l e lay =
       some_host = host-there D lay;
       logs = anew-logs-are E w shown k;
       hosts = λ h q. if-true (is_host D h) (agent h) (w.agents h) q;
-      others = λ h q. if-false (is_host D h) (agent h) (w.agents h) q ∙ k.outsiders h q;
+      others = λ h q. if-false (is_host D h) (agent h) (w.agents h) q ∙ k.strangers h q;
       members = λ c q. (
         stopped_site (w.sites c),
         if-true (nat_lt c (slots D)) (member_site D c (stopped_site (w.sites c)) word (start_from D start c) (log (part_of_slot D c))) (w.sites c) q,
@@ -421,7 +421,7 @@ module _ (E : Database) (w : World) (k : HasLogs w) (F : Firm) (halted : Bool) (
         ]
         slot false q =
             let out : IsSlot old c → ⊥ = λ y. not-both (nat_lt c (slots w.deployment)) y q in
-            inl (h.none c out ∙ sym (get-none (w.sites c).contents (slice_index shown c) (disks.outside c out)))
+            inl (h.none c out ∙ sym (get-none (w.sites c).contents (slice_index shown c) (disks.environment c out)))
 
     -- of several slots, all or not
     all-or-one : (cs : List ℕ) → (map s cs ≡ map (shown_of w shown) cs) ⊎ ((c : ℕ) × In c cs × (s c ≡ new_content E w shown c))
@@ -481,7 +481,7 @@ module _ (E : Database) (w : World) (k : HasLogs w) (F : Firm) (halted : Bool) (
 
     heard-left : (p : ℕ) → HeardPart old F K p → HeardPart (left b) F K p
     heard-left p q = record {
-      reign = q.reign;
+      leadership = q.leadership;
       led = q.led;
       inside = q.inside;
       closed = everywhere-on old (left b) F F onto p K.heard (length (K.closed p)) q.closed;
@@ -492,7 +492,7 @@ module _ (E : Database) (w : World) (k : HasLogs w) (F : Firm) (halted : Bool) (
     books-left : Books E (left b) F K stamp
     books-left = record {
       due = books.due;
-      reigns = λ p t g q led. let r = books.reigns p t g q led in record { formed = r.formed; past = r.past; unheard = r.unheard };
+      leaderships = λ p t g q led. let r = books.leaderships p t g q led in record { formed = r.formed; past = r.past; unheard = r.unheard };
       heard = record {
         word = books.heard.word;
         is_word = record { decided = books.heard.is_word.decided; term_is = books.heard.is_word.term_is };
@@ -521,7 +521,7 @@ module _ (E : Database) (w : World) (k : HasLogs w) (F : Firm) (halted : Bool) (
       to_sites = λ h c q. all-mono (ToSiteOk old h c) (ToSiteOk (left b) h c) (to_site-on old (left b) F F onto h c) (w.channel (Agent h) (Site c)) (calls.to_sites h c q);
       to_agents = λ c h q. all-mono (AnswerOk E old F K (part old c)) (AnswerOk E (left b) F K (part old c))
           (answer-on E old (left b) F F onto K K (omega arith) (part old c)) (w.channel (Site c) (Agent h)) (calls.to_agents c h q);
-      outside = calls.outside;
+      environment = calls.environment;
       sites = λ c q up. let down = site-stopped E w k F halted disks shown f owner k.history stopped c in absurd (omega (arith, up, down));
       agents = λ h. record {
         initiating = initiating-left h (calls.agents h).initiating;

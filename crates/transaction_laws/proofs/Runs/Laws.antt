@@ -11,16 +11,16 @@ use Rattle.cluster_model.specs.Recover.{shown_of}
 use Rattle.cluster_model.specs.Runs.{Happening, IsRun, run}
 use Rattle.cluster_model.specs.Words.{part_of_slot}
 use Rattle.cluster_model.specs.World.{World, Input, first_world}
-use Rattle.log_laws.specs.Histories.{LogState, Front}
+use Rattle.log_laws.specs.Histories.{LogState, Prefix}
 use Rattle.log_laws.specs.Copies.{log_state, log_of}
-use Rattle.log_laws.proofs.Plain.Fronts.{front-append, front-trans}
+use Rattle.log_laws.proofs.Plain.Prefixes.{prefix-append, prefix-trans}
 use Rattle.disk_laws.specs.Survival.{MayShow}
 use Rattle.disk_laws.proofs.Boots.{firm_in}
 use Rattle.disk_laws.proofs.Choices.{world-shows}
 use Rattle.transaction_laws.specs.Machine.{WellFormed, RiseWithin, first_stage, stage, points}
 use Rattle.transaction_laws.specs.Transactions.{Transactions, Aligned, point_in}
 use Rattle.transaction_laws.specs.Worlds.{IsLaidOut, IsSlotOf, IsPartOf, IsInitiator, GoesOnClosed, IsApplied, GoesOnAlike, EndsAlike, StandsOrIsOpen}
-use Rattle.transaction_laws.proofs.Entries.Machine.{formed-front, front-point, open_in-stage}
+use Rattle.transaction_laws.proofs.Entries.Machine.{formed-prefix, prefix-point, open_in-stage}
 use Rattle.transaction_laws.proofs.Entries.Aligned.{Recovered, aligned-recovered, recovered-even}
 use Rattle.transaction_laws.proofs.Entries.Even.{one-way, stands-or-open}
 use Rattle.transaction_laws.proofs.Runs.Leads.{leads-aligned}
@@ -33,7 +33,7 @@ use Rattle.transaction_laws.proofs.Runs.Worlds.{HasCalls, calls-agree}
 
 -- ---- the log of a site
 
--- At the front of the log of its partition's leader it is well formed, and its last point isn't later than now.
+-- At the prefix of the log of its partition's leader it is well formed, and its last point isn't later than now.
 module _ (E : Database) (now : ℕ) (w : World) (d : HasCalls E now w) (i : ℕ) (slot : IsSlotOf w i) where
   abbrev S : LogState
   S = log_state w d.logs.owner d.logs.history d.logs.logs
@@ -45,19 +45,19 @@ module _ (E : Database) (now : ℕ) (w : World) (d : HasCalls E now w) (i : ℕ)
   led = log-led S d.logs.holds i (d.blank i)
 
   abbrev whole_log : List Entry
-  whole_log = led.reign.log ++ d.transactions.due p led.term
+  whole_log = led.leadership.log ++ d.transactions.due p led.term
 
-  within : Front (log_of w i) whole_log
-  within = front-trans (log_of w i) led.reign.log whole_log led.front (front-append led.reign.log (d.transactions.due p led.term))
+  within : Prefix (log_of w i) whole_log
+  within = prefix-trans (log_of w i) led.leadership.log whole_log led.prefix (prefix-append led.leadership.log (d.transactions.due p led.term))
 
   pub site-formed : WellFormed (first_stage E p) (log_of w i)
-  site-formed = formed-front (first_stage E p) (log_of w i) whole_log within
-      (d.calls.books.reigns p led.term led.reign (slot-part S d.laid i slot) led.is_led).formed
+  site-formed = formed-prefix (first_stage E p) (log_of w i) whole_log within
+      (d.calls.books.leaderships p led.term led.leadership (slot-part S d.laid i slot) led.is_led).formed
 
   pub site-points : RiseWithin 0 now (points (log_of w i))
   site-points =
-      let k = d.calls.books.reigns p led.term led.reign (slot-part S d.laid i slot) led.is_led in
-      let low = front-point (first_stage E p) (log_of w i) whole_log within k.formed in
+      let k = d.calls.books.leaderships p led.term led.leadership (slot-part S d.laid i slot) led.is_led in
+      let low = prefix-point (first_stage E p) (log_of w i) whole_log within k.formed in
       let past = k.past in
       points-rise (first_stage E p) now (log_of w i) site-formed (omega (arith, low, past))
 
@@ -94,18 +94,18 @@ module _ (E : Database) (w : World) (now : ℕ) (d : HasCalls E now w) (shown : 
 ends-alike : (E : Database) (w : World) (now : ℕ) → HasCalls E now w → (p q : ℕ) → IsPartOf w p → IsPartOf w q → EndsAlike w p q
 ends-alike E w now d p q part other m o a applied =
     let k = d.logs in
-    let A = leads-aligned E (log_state w k.owner k.history k.logs) (firm_in w) d.transactions now k.holds d.calls.books w.lead_of k.lead in
+    let A = leads-aligned E (log_state w k.owner k.history k.logs) (firm_in w) d.transactions now k.holds d.calls.books w.authoritative k.authoritative in
     let at = applied-point o applied in
-    one-way E w.deployment now d.transactions (λ x. (w.lead_of x).log) A p q m at.0 o a part other at.1
+    one-way E w.deployment now d.transactions (λ x. (w.authoritative x).log) A p q m at.0 o a part other at.1
 
 stands-or-is-open : (E : Database) (w : World) (now : ℕ) → HasCalls E now w → (p q : ℕ) → IsPartOf w p → IsPartOf w q → StandsOrIsOpen w p q
 stands-or-is-open E w now d p q part other m o applied i =
     let k = d.logs in
-    let A = leads-aligned E (log_state w k.owner k.history k.logs) (firm_in w) d.transactions now k.holds d.calls.books w.lead_of k.lead in
+    let A = leads-aligned E (log_state w k.owner k.history k.logs) (firm_in w) d.transactions now k.holds d.calls.books w.authoritative k.authoritative in
     let at = applied-point o applied in
-    elim (stands-or-open E w.deployment now d.transactions (λ x. (w.lead_of x).log) A p q m at.0 o part other at.1 i) [
+    elim (stands-or-open E w.deployment now d.transactions (λ x. (w.authoritative x).log) A p q m at.0 o part other at.1 i) [
       | inl there ↦ inl there
-      | inr is ↦ inr (open_in-stage E q (w.lead_of q).log ∙ ap (option_map (λ x. x.0)) is.1)
+      | inr is ↦ inr (open_in-stage E q (w.authoritative q).log ∙ ap (option_map (λ x. x.0)) is.1)
     ]
 
 -- ---- the laws

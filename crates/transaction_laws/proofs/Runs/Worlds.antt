@@ -13,7 +13,7 @@ use Rattle.cluster_model.specs.Letters.{Letter, Turn}
 use Rattle.cluster_model.specs.SiteState.{SiteState, no_site, member_site}
 use Rattle.cluster_model.specs.Agent.{agent_turn}
 use Rattle.cluster_model.specs.Sync.{may_sync, site_turn, sync_turn}
-use Rattle.cluster_model.specs.Outside.{Outside, Fair, DiskFails, NoMemory, DisksShow}
+use Rattle.cluster_model.specs.Environment.{Environment, NoFault, DiskFails, NoMemory, DisksShow}
 use Rattle.cluster_model.specs.World.{World, Stopped, Input, first_world, stamp_of, took, with_site, stops_with, new_word, start_from}
 use Rattle.cluster_model.specs.Recover.{new_base, new_log, new_site, starts_anew, stays_stopped}
 use Rattle.cluster_model.specs.Events.{is_actor, is_some_letter, is_shown, is_slot_or_none, may_recover, can, allows, delivered, recovered_with, may_do, happens, step}
@@ -29,12 +29,12 @@ use Rattle.log_laws.proofs.Runs.Others.{Keeps, to_client-logs, to_director-logs,
 use Rattle.log_laws.proofs.Runs.SiteEvents.{turn-after, sync-after}
 use Rattle.log_laws.proofs.Runs.Worlds.{actor-slot, site-reaches, site-next}
 use Rattle.disk_laws.specs.Disks.{Firm, DisksHold}
-use Rattle.disk_laws.proofs.SiteDisks.{lead-raised}
+use Rattle.disk_laws.proofs.SiteDisks.{authoritative-raised}
 use Rattle.disk_laws.proofs.Syncs.{sync-disks, sync-runs}
 use Rattle.disk_laws.proofs.Recoveries.{stopped-hold}
 use Rattle.disk_laws.proofs.Boots.{firm_in, first-disks, anew-disks}
 use Rattle.disk_laws.proofs.Others.{disks-plain, disks-agent}
-use Rattle.disk_laws.proofs.Rows.{PlainWaiting, waiting-plain}
+use Rattle.disk_laws.proofs.Handlers.{PlainWaiting, waiting-plain}
 use Rattle.disk_laws.proofs.SiteTurns.{site_turn-kept}
 use Rattle.transaction_laws.specs.Transactions.{Transactions, CallsHold}
 use Rattle.transaction_laws.specs.Worlds.{IsLaidOut}
@@ -109,7 +109,7 @@ keeps-calls E now w v k n halted laid blank known = known-has E now v halted lai
     blank
 
 module _ (E : Database) (now : ℕ) (w : World) (d : HasCalls E now w) where
-  to_client-calls : (n : ℕ) (from : Actor) (ls : List Letter) (o : Outside) → HasCalls E (now + 1) (delivered E w (Client n) from ls o)
+  to_client-calls : (n : ℕ) (from : Actor) (ls : List Letter) (o : Environment) → HasCalls E (now + 1) (delivered E w (Client n) from ls o)
   to_client-calls n from [] o = same-calls E now w d
   to_client-calls n from (l ∷ ls) o =
       let v = delivered E w (Client n) from (l ∷ ls) o in
@@ -117,7 +117,7 @@ module _ (E : Database) (now : ℕ) (w : World) (d : HasCalls E now w) where
       keeps-calls E (now + 1) w v d.logs k d.halted d.laid d.blank
       (plain-known E now w d v.director.next_start v.channel k.next.owner (λ i c. refl) (λ h c. refl) (λ c h. refl) (kept-holds w v d.logs k))
 
-  to_director-calls : (from : Actor) (ls : List Letter) (o : Outside) → HasCalls E (now + 1) (delivered E w Director from ls o)
+  to_director-calls : (from : Actor) (ls : List Letter) (o : Environment) → HasCalls E (now + 1) (delivered E w Director from ls o)
   to_director-calls from [] o = same-calls E now w d
   to_director-calls from (l ∷ ls) o =
       let v = delivered E w Director from (l ∷ ls) o in
@@ -125,7 +125,7 @@ module _ (E : Database) (now : ℕ) (w : World) (d : HasCalls E now w) where
       keeps-calls E (now + 1) w v d.logs k d.halted d.laid d.blank
       (plain-known E now w d v.director.next_start v.channel k.next.owner (λ i c. refl) (λ h c. refl) (λ c h. refl) (kept-holds w v d.logs k))
 
-  to_scanner-calls : (i : ℕ) (from : Actor) (ls : List Letter) (o : Outside) → HasCalls E (now + 1) (delivered E w (Scanner i) from ls o)
+  to_scanner-calls : (i : ℕ) (from : Actor) (ls : List Letter) (o : Environment) → HasCalls E (now + 1) (delivered E w (Scanner i) from ls o)
   to_scanner-calls i from [] o = same-calls E now w d
   to_scanner-calls i from (l ∷ ls) o =
       let v = delivered E w (Scanner i) from (l ∷ ls) o in
@@ -134,21 +134,21 @@ module _ (E : Database) (now : ℕ) (w : World) (d : HasCalls E now w) where
       (plain-known E now w d v.director.next_start v.channel k.next.owner (λ i c. refl) (λ h c. refl) (λ c h. refl) (kept-holds w v d.logs k))
 
   -- what they do of themselves
-  scan-calls : (i : ℕ) (o : Outside) → HasCalls E (now + 1) (happens E w (event.Scan i) o)
+  scan-calls : (i : ℕ) (o : Environment) → HasCalls E (now + 1) (happens E w (event.Scan i) o)
   scan-calls i o =
       let v = happens E w (event.Scan i) o in
       let k = scan-logs w i o d.logs in
       keeps-calls E (now + 1) w v d.logs k d.halted d.laid d.blank
       (plain-known E now w d v.director.next_start v.channel k.next.owner (λ i c. refl) (λ h c. refl) (λ c h. refl) (kept-holds w v d.logs k))
 
-  submit-calls : (n : ℕ) (o : Outside) → HasCalls E (now + 1) (happens E w (event.Submit n) o)
+  submit-calls : (n : ℕ) (o : Environment) → HasCalls E (now + 1) (happens E w (event.Submit n) o)
   submit-calls n o =
       let v = happens E w (event.Submit n) o in
       let k = submit-logs w n d.logs in
       keeps-calls E (now + 1) w v d.logs k d.halted d.laid d.blank
       (plain-known E now w d v.director.next_start v.channel k.next.owner (λ i c. refl) (λ h c. refl) (λ c h. refl) (kept-holds w v d.logs k))
 
-  item-calls : (o : Outside) → HasCalls E (now + 1) (happens E w event.Item o)
+  item-calls : (o : Environment) → HasCalls E (now + 1) (happens E w event.Item o)
   item-calls o =
       let v = happens E w event.Item o in
       let k = next-logs w (may_do w w.director.items) w.director.items d.logs in
@@ -157,7 +157,7 @@ module _ (E : Database) (now : ℕ) (w : World) (d : HasCalls E now w) where
 
 -- ---- events of agents
 
-to_agent-calls : (E : Database) (w : World) (n : ℕ) (from : Actor) (ls : List Letter) (o : Outside) → (d : HasCalls E (length w.trace) w) → w.channel from (Agent n) ≡ ls
+to_agent-calls : (E : Database) (w : World) (n : ℕ) (from : Actor) (ls : List Letter) (o : Environment) → (d : HasCalls E (length w.trace) w) → w.channel from (Agent n) ≡ ls
     → is_host w.deployment n ≡ true → allows w (event.Deliver (Agent n) from) o ≡ true → HasCalls E (length w.trace + 1) (delivered E w (Agent n) from ls o)
 to_agent-calls E w n from [] o d is host may = same-calls E (length w.trace) w d
 to_agent-calls E w n from (l ∷ ls) o d is host may =
@@ -173,8 +173,8 @@ to_agent-calls E w n from (l ∷ ls) o d is host may =
         history = r.0.history;
         logs = k.logs;
         holds = r.0.holds;
-        outsiders = λ h e. if-false (h == n) t.state (w.agents h) (host-apart w.deployment n h host e) ∙ k.outsiders h e;
-        lead = k.lead;
+        strangers = λ h e. if-false (h == n) t.state (w.agents h) (host-apart w.deployment n h host e) ∙ k.strangers h e;
+        authoritative = k.authoritative;
         counted = k.counted;
       };
       halted = d.halted;
@@ -208,7 +208,7 @@ waits-plain w k i up =
     let S = log_state w k.owner k.history k.logs in
     all-mono (WaitingOk S i) PlainWaiting (waiting-plain S i) (w.sites i).waiting ((k.holds.sites i).keeps up).waiting
 
-to_site-calls : (E : Database) (w : World) (i : ℕ) (from : Actor) (ls : List Letter) (o : Outside) → HasCalls E (length w.trace) w → w.channel from (Site i) ≡ ls
+to_site-calls : (E : Database) (w : World) (i : ℕ) (from : Actor) (ls : List Letter) (o : Environment) → HasCalls E (length w.trace) w → w.channel from (Site i) ≡ ls
     → nat_lt i (slots w.deployment) ≡ true → HasCalls E (length w.trace + 1) (delivered E w (Site i) from ls o)
 to_site-calls E w i from [] o d is slot = same-calls E (length w.trace) w d
 to_site-calls E w i from (l ∷ ls) o d is slot =
@@ -219,13 +219,13 @@ to_site-calls E w i from (l ∷ ls) o d is slot =
     let channel = took w.channel from (Site i) in
     let stops = stops_with (stamp_of w) w.stops (Site i) o in
     let M = firm_in (after-turn E w d channel stops i t) in
-    let raised = lead-raised w.deployment i t.state w.lead_of in
+    let raised = authoritative-raised w.deployment i t.state w.authoritative in
     let go = site_turn-kept S k.holds (firm_in w) d.halted d.disks i slot E (stamp_of w) from l ls o is M r.0 r.1 r.2 raised in
     let c = site-calls E S k.holds (firm_in w) d.halted d.transactions (length w.trace) d.calls d.laid i slot d.disks from l ls is o r.0 M r.1 r.2 r.3 r.4 go raised in
     site-known E w d channel stops i t r.0 r.1 r.2 (record { disks = go.disks; transactions = _; calls = c.1 })
     (turn-blank E w.deployment (stamp_of w) i (w.sites i) (d.blank i) (waits-plain w k i) from l o)
 
-site-syncs : (E : Database) (w : World) (i : ℕ) (o : Outside) → HasCalls E (length w.trace) w → nat_lt i (slots w.deployment) ≡ true → may_sync (w.sites i) ≡ true
+site-syncs : (E : Database) (w : World) (i : ℕ) (o : Environment) → HasCalls E (length w.trace) w → nat_lt i (slots w.deployment) ≡ true → may_sync (w.sites i) ≡ true
     → HasCalls E (length w.trace + 1) (happens E w (event.Sync i) o)
 site-syncs E w i o d slot may =
     let k = d.logs in
@@ -235,7 +235,7 @@ site-syncs E w i o d slot may =
     let t = sync_turn E w.deployment i (w.sites i) o in
     let stops = stops_with (stamp_of w) w.stops (Site i) o in
     let M = firm_in (after-turn E w d w.channel stops i t) in
-    let raised = lead-raised w.deployment i t.state w.lead_of in
+    let raised = authoritative-raised w.deployment i t.state w.authoritative in
     let go = sync-disks E S k.holds (firm_in w) d.halted d.disks i slot may o M r.0 r.1 r.2 raised in
     let c = sync-calls E S k.holds (firm_in w) d.halted d.transactions (length w.trace) d.calls d.laid i slot d.disks up o r.0 M r.1 r.2 r.3 r.4 go raised in
     site-known E w d w.channel stops i t r.0 r.1 r.2 (record { disks = go.disks; transactions = _; calls = c.1 }) (sync-blank E w.deployment i (w.sites i) up o)
@@ -254,13 +254,13 @@ anew-blank E w shown some blank i = choice (nat_lt i (slots w.deployment))
     choice true z = absurd (omega (arith, some, z))
     choice false z = blank i z
 
-recovery-calls : (E : Database) (w : World) (o : Outside) → HasCalls E (length w.trace) w → may_recover w ≡ true → allows w event.Recover o ≡ true
+recovery-calls : (E : Database) (w : World) (o : Environment) → HasCalls E (length w.trace) w → may_recover w ≡ true → allows w event.Recover o ≡ true
     → HasCalls E (length w.trace + 1) (recovered_with E w o)
-recovery-calls E w Fair d may outside = same-calls E (length w.trace) w d
-recovery-calls E w (DiskFails answered) d may outside = same-calls E (length w.trace) w d
-recovery-calls E w (NoMemory answered) d may outside = same-calls E (length w.trace) w d
-recovery-calls E w (DisksShow shown None) d may outside =
-    let e = (and_parts (is_shown w shown None) (is_slot_or_none w.deployment None) outside).0 in
+recovery-calls E w NoFault d may environment = same-calls E (length w.trace) w d
+recovery-calls E w (DiskFails answered) d may environment = same-calls E (length w.trace) w d
+recovery-calls E w (NoMemory answered) d may environment = same-calls E (length w.trace) w d
+recovery-calls E w (DisksShow shown None) d may environment =
+    let e = (and_parts (is_shown w shown None) (is_slot_or_none w.deployment None) environment).0 in
     record {
       laid = d.laid;
       logs = anew-logs E w shown d.logs;
@@ -270,22 +270,22 @@ recovery-calls E w (DisksShow shown None) d may outside =
       calls = anew-calls E w shown d.logs (firm_in w) d.halted d.disks d.transactions (length w.trace) (length w.trace + 1) d.calls (omega arith) e d.laid;
       blank = anew-blank E w shown d.logs.holds.words.some d.blank;
     }
-recovery-calls E w (DisksShow shown (Some failed)) d may outside =
+recovery-calls E w (DisksShow shown (Some failed)) d may environment =
     let v = stays_stopped E w shown failed in
     let n = stopped-logs E w shown failed d.logs in
     record {
       laid = d.laid;
       logs = n.next;
       halted = true;
-      disks = stopped-hold E w d.logs (firm_in w) d.halted d.disks shown failed may outside n.next n.logs;
+      disks = stopped-hold E w d.logs (firm_in w) d.halted d.disks shown failed may environment n.next n.logs;
       transactions = d.transactions;
-      calls = stopped-calls E w d.logs (firm_in w) d.halted d.disks d.transactions (length w.trace) (length w.trace + 1) d.calls (omega arith) shown failed may outside n.next n.history n.logs;
+      calls = stopped-calls E w d.logs (firm_in w) d.halted d.disks d.transactions (length w.trace) (length w.trace + 1) d.calls (omega arith) shown failed may environment n.next n.history n.logs;
       blank = d.blank;
     }
 
 -- ---- events
 
-delivered-calls : (E : Database) (w : World) (to from : Actor) (o : Outside) → HasCalls E (length w.trace) w → is_actor w.deployment to ≡ true
+delivered-calls : (E : Database) (w : World) (to from : Actor) (o : Environment) → HasCalls E (length w.trace) w → is_actor w.deployment to ≡ true
     → allows w (event.Deliver to from) o ≡ true → HasCalls E (length w.trace + 1) (delivered E w to from (w.channel from to) o)
 delivered-calls E w Director from o d there may = to_director-calls E (length w.trace) w d from (w.channel from Director) o
 delivered-calls E w (Client n) from o d there may = to_client-calls E (length w.trace) w d n from (w.channel from (Client n)) o
@@ -293,22 +293,22 @@ delivered-calls E w (Agent n) from o d there may = to_agent-calls E w n from (w.
 delivered-calls E w (Site i) from o d there may = to_site-calls E w i from (w.channel from (Site i)) o d refl (actor-slot w.deployment i there)
 delivered-calls E w (Scanner i) from o d there may = to_scanner-calls E (length w.trace) w d i from (w.channel from (Scanner i)) o
 
-happens-calls : (E : Database) (w : World) (e : Event) (o : Outside) → HasCalls E (length w.trace) w → can w e ≡ true → allows w e o ≡ true
+happens-calls : (E : Database) (w : World) (e : Event) (o : Environment) → HasCalls E (length w.trace) w → can w e ≡ true → allows w e o ≡ true
     → HasCalls E (length w.trace + 1) (happens E w e o)
-happens-calls E w (event.Deliver to from) o d may outside =
-    delivered-calls E w to from o d (and_parts (is_some_letter (w.channel from to)) (is_actor w.deployment to) may).1 outside
-happens-calls E w (event.Sync i) o d may outside = let p = and_parts (nat_lt i (slots w.deployment)) (may_sync (w.sites i)) may in site-syncs E w i o d p.0 p.1
-happens-calls E w (event.Scan i) o d may outside = scan-calls E (length w.trace) w d i o
-happens-calls E w event.Recover o d may outside = recovery-calls E w o d may outside
-happens-calls E w event.Item o d may outside = item-calls E (length w.trace) w d o
-happens-calls E w (event.Submit n) o d may outside = submit-calls E (length w.trace) w d n o
-happens-calls E w (event.Idle a) o d may outside = same-calls E (length w.trace) w d
+happens-calls E w (event.Deliver to from) o d may environment =
+    delivered-calls E w to from o d (and_parts (is_some_letter (w.channel from to)) (is_actor w.deployment to) may).1 environment
+happens-calls E w (event.Sync i) o d may environment = let p = and_parts (nat_lt i (slots w.deployment)) (may_sync (w.sites i)) may in site-syncs E w i o d p.0 p.1
+happens-calls E w (event.Scan i) o d may environment = scan-calls E (length w.trace) w d i o
+happens-calls E w event.Recover o d may environment = recovery-calls E w o d may environment
+happens-calls E w event.Item o d may environment = item-calls E (length w.trace) w d o
+happens-calls E w (event.Submit n) o d may environment = submit-calls E (length w.trace) w d n o
+happens-calls E w (event.Idle a) o d may environment = same-calls E (length w.trace) w d
 
 -- the event is noted in the trace
 noted : (E : Database) (now : ℕ) (w : World) (trace : List Event) → HasCalls E now w → HasCalls E now (record w { trace = trace })
 noted E now w trace d = let n = d.logs in record {
   laid = d.laid;
-  logs = record { owner = n.owner; history = n.history; logs = n.logs; holds = n.holds; outsiders = n.outsiders; lead = n.lead; counted = n.counted };
+  logs = record { owner = n.owner; history = n.history; logs = n.logs; holds = n.holds; strangers = n.strangers; authoritative = n.authoritative; counted = n.counted };
   halted = d.halted;
   disks = d.disks;
   transactions = d.transactions;
@@ -317,7 +317,7 @@ noted E now w trace d = let n = d.logs in record {
 }
 
 -- it isn't noted before
-delivered-trace : (E : Database) (w : World) (to from : Actor) (ls : List Letter) (o : Outside) → (delivered E w to from ls o).trace ≡ w.trace
+delivered-trace : (E : Database) (w : World) (to from : Actor) (ls : List Letter) (o : Environment) → (delivered E w to from ls o).trace ≡ w.trace
 delivered-trace E w to from [] o = refl
 delivered-trace E w Director from (l ∷ ls) o = refl
 delivered-trace E w (Client n) from (l ∷ ls) o = refl
@@ -325,14 +325,14 @@ delivered-trace E w (Agent h) from (l ∷ ls) o = refl
 delivered-trace E w (Site i) from (l ∷ ls) o = refl
 delivered-trace E w (Scanner i) from (l ∷ ls) o = refl
 
-recovered-trace : (E : Database) (w : World) (o : Outside) → (recovered_with E w o).trace ≡ w.trace
-recovered-trace E w Fair = refl
+recovered-trace : (E : Database) (w : World) (o : Environment) → (recovered_with E w o).trace ≡ w.trace
+recovered-trace E w NoFault = refl
 recovered-trace E w (DiskFails answered) = refl
 recovered-trace E w (NoMemory answered) = refl
 recovered-trace E w (DisksShow shown None) = refl
 recovered-trace E w (DisksShow shown (Some failed)) = refl
 
-happens-trace : (E : Database) (w : World) (e : Event) (o : Outside) → (happens E w e o).trace ≡ w.trace
+happens-trace : (E : Database) (w : World) (e : Event) (o : Environment) → (happens E w e o).trace ≡ w.trace
 happens-trace E w (event.Deliver to from) o = delivered-trace E w to from (w.channel from to) o
 happens-trace E w (event.Sync i) o = refl
 happens-trace E w (event.Scan i) o = refl

@@ -16,8 +16,8 @@ use Rattle.cluster_model.specs.SiteState.{SiteState, Held, site_term, leads}
 use Rattle.cluster_model.specs.Site.{standing, is_first_term, has_all_on_disk}
 use Rattle.word_laws.specs.Histories.{In}
 use Rattle.word_laws.proofs.Lists.{all-append, all-mono}
-use Rattle.log_laws.specs.Histories.{Front}
-use Rattle.log_laws.proofs.Plain.Fronts.{front-refl, front-trans}
+use Rattle.log_laws.specs.Histories.{Prefix}
+use Rattle.log_laws.proofs.Plain.Prefixes.{prefix-refl, prefix-trans}
 use Rattle.transaction_laws.specs.Transactions.{StandsAt, HeldAnswer, WaitsPlain}
 
 -- ---- what is said of a site
@@ -66,10 +66,10 @@ pub record TurnAnswers (E : Database) (D : Deployment) (i : ℕ) (t : Turn SiteS
 -- ---- a log that grows
 
 -- an entry stands where it stood
-pub stands-on : (xs ys : List Entry) → Front xs ys → (position : ℕ) (e : Entry) → StandsAt xs position e → StandsAt ys position e
-stands-on xs ys f position e k = record { front = k.front; stands = front-trans (k.front ++ e ∷ []) xs ys k.stands f; at = k.at }
+pub stands-on : (xs ys : List Entry) → Prefix xs ys → (position : ℕ) (e : Entry) → StandsAt xs position e → StandsAt ys position e
+stands-on xs ys f position e k = record { prefix = k.prefix; stands = prefix-trans (k.prefix ++ e ∷ []) xs ys k.stands f; at = k.at }
 
-held-on : (s u : SiteState) → Front s.log u.log → (term : ℕ) (d : Held) → HeldAnswer s term d → HeldAnswer u term d
+held-on : (s u : SiteState) → Prefix s.log u.log → (term : ℕ) (d : Held) → HeldAnswer s term d → HeldAnswer u term d
 held-on s u f term d = go d.letter.body
   where
     go : (m : Msg Blocks) → let x = record d { letter = record d.letter { body = m } } in HeldAnswer s term x → HeldAnswer u term x
@@ -80,7 +80,7 @@ held-on s u f term d = go d.letter.body
       | b ↦ λ k. tt
     ]
 
-pub all-held-on : (s u : SiteState) → Front s.log u.log → (term : ℕ) (ds : List Held) → AllByRecursion (HeldAnswer s term) ds → AllByRecursion (HeldAnswer u term) ds
+pub all-held-on : (s u : SiteState) → Prefix s.log u.log → (term : ℕ) (ds : List Held) → AllByRecursion (HeldAnswer s term) ds → AllByRecursion (HeldAnswer u term) ds
 all-held-on s u f term = all-mono (HeldAnswer s term) (HeldAnswer u term) (held-on s u f term)
 
 -- ---- a turn, but for what it tells an initiator at its end
@@ -106,26 +106,26 @@ firm-sent E D i u l = elim l.body as (λ m. SentFirm D i u (record l { body = m 
 pub record AnswersAt (D : Deployment) (i : ℕ) (s u : SiteState) : Type 0 where
   pub start : u.start ≡ s.start
   pub term : site_term u ≡ site_term s
-  pub log : Front s.log u.log
+  pub log : Prefix s.log u.log
   pub leads : leads D i s ≡ true → leads D i u ≡ true
   pub firm : s.firm ≤ u.firm
   pub held : HoldsAnswers s → HoldsAnswers u
   pub waiting : (x : Waiting) → In x u.waiting → In x s.waiting
 
 -- A turn of it from s on.
-pub record AnswersRow (D : Deployment) (i : ℕ) (s : SiteState) (t : Turn SiteState) : Type 0 where
+pub record AnswersHandler (D : Deployment) (i : ℕ) (s : SiteState) (t : Turn SiteState) : Type 0 where
   pub at : AnswersAt D i s t.state
   pub sends : 0 < s.start → HoldsAnswers s → (h : ℕ) → AllByRecursion (SentFirm D i t.state) (t.sends (Agent h))
 
 module _ (D : Deployment) (i : ℕ) where
   pub at-first : (s : SiteState) → AnswersAt D i s s
-  at-first s = record { start = refl; term = refl; log = front-refl s.log; leads = λ e. e; firm = omega arith; held = λ k. k; waiting = λ x k. k }
+  at-first s = record { start = refl; term = refl; log = prefix-refl s.log; leads = λ e. e; firm = omega arith; held = λ k. k; waiting = λ x k. k }
 
   at-then : (s m u : SiteState) → AnswersAt D i s m → AnswersAt D i m u → AnswersAt D i s u
   at-then s m u h k = record {
     start = k.start ∙ h.start;
     term = k.term ∙ h.term;
-    log = front-trans s.log m.log u.log h.log k.log;
+    log = prefix-trans s.log m.log u.log h.log k.log;
     leads = λ e. k.leads (h.leads e);
     firm = omega (arith, h.firm, k.firm);
     held = λ x. k.held (h.held x);
@@ -153,8 +153,8 @@ module _ (D : Deployment) (i : ℕ) where
     | b ↦ λ x. tt
   ]
 
-  pub row-then : (s : SiteState) (t : Turn SiteState) (f : SiteState → Turn SiteState) → AnswersRow D i s t → AnswersRow D i t.state (f t.state) → AnswersRow D i s (t ▸ f)
-  row-then s t f h k = record {
+  pub handler-then : (s : SiteState) (t : Turn SiteState) (f : SiteState → Turn SiteState) → AnswersHandler D i s t → AnswersHandler D i t.state (f t.state) → AnswersHandler D i s (t ▸ f)
+  handler-then s t f h k = record {
     at = at-then s t.state (f t.state).state h.at k.at;
     sends = λ up x a. all-append (SentFirm D i (f t.state).state) (t.sends (Agent a)) ((f t.state).sends (Agent a))
         (all-mono (SentFirm D i t.state) (SentFirm D i (f t.state).state) (sent-on t.state (f t.state).state k.at) (t.sends (Agent a)) (h.sends up x a))
@@ -162,26 +162,26 @@ module _ (D : Deployment) (i : ℕ) where
   }
 
   -- from a state on the way
-  pub row-behind : (s m : SiteState) (t : Turn SiteState) → AnswersAt D i s m → AnswersRow D i m t → AnswersRow D i s t
-  row-behind s m t h k = record {
+  pub handler-behind : (s m : SiteState) (t : Turn SiteState) → AnswersAt D i s m → AnswersHandler D i m t → AnswersHandler D i s t
+  handler-behind s m t h k = record {
     at = at-then s m t.state h k.at;
     sends = λ up x. k.sends (let e = h.start in omega (arith, up, e)) (h.held x);
   }
 
   -- a turn that sends no answer, and one that sends nothing
-  pub row-quiet : (s : SiteState) (t : Turn SiteState) → AnswersAt D i s t.state → ((h : ℕ) → AllByRecursion (SentFirm D i t.state) (t.sends (Agent h))) → AnswersRow D i s t
-  row-quiet s t h k = record { at = h; sends = λ up x. k }
+  pub handler-inert : (s : SiteState) (t : Turn SiteState) → AnswersAt D i s t.state → ((h : ℕ) → AllByRecursion (SentFirm D i t.state) (t.sends (Agent h))) → AnswersHandler D i s t
+  handler-inert s t h k = record { at = h; sends = λ up x. k }
 
-  pub row-becomes : (s u : SiteState) → AnswersAt D i s u → AnswersRow D i s (becomes u)
-  row-becomes s u h = record { at = h; sends = λ up x a. tt }
+  pub handler-becomes : (s u : SiteState) → AnswersAt D i s u → AnswersHandler D i s (becomes u)
+  handler-becomes s u h = record { at = h; sends = λ up x a. tt }
 
-  pub row-nothing : (s : SiteState) → AnswersRow D i s (becomes s)
-  row-nothing s = row-becomes s s (at-first s)
+  pub handler-nothing : (s : SiteState) → AnswersHandler D i s (becomes s)
+  handler-nothing s = handler-becomes s s (at-first s)
 
   -- the one turn or the other
-  pub row-if : (s : SiteState) (c : Bool) (x y : Turn SiteState) → (c ≡ true → AnswersRow D i s x) → (c ≡ false → AnswersRow D i s y) → AnswersRow D i s (if c then x else y)
-  row-if s true x y p q = p refl
-  row-if s false x y p q = q refl
+  pub handler-if : (s : SiteState) (c : Bool) (x y : Turn SiteState) → (c ≡ true → AnswersHandler D i s x) → (c ≡ false → AnswersHandler D i s y) → AnswersHandler D i s (if c then x else y)
+  handler-if s true x y p q = p refl
+  handler-if s false x y p q = q refl
 
   pub at-if : (s : SiteState) (c : Bool) (x y : SiteState) → (c ≡ true → AnswersAt D i s x) → (c ≡ false → AnswersAt D i s y) → AnswersAt D i s (if c then x else y)
   at-if s true x y p q = p refl

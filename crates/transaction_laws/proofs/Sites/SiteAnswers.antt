@@ -18,20 +18,20 @@ use Rattle.cluster_model.specs.Log.{nothing_open, open_in, last_done}
 use Rattle.cluster_model.specs.Words.{Deployment, part_of_slot, host_of_slot}
 use Rattle.cluster_model.specs.Letters.{same, Letter, Waiting, Turn, becomes, sending, ◌▸◌, open_letter, letter_in, only, arrival, Arrival, Taken, Refused, Waits, of_term, above_term}
 use Rattle.cluster_model.specs.SiteState.{SiteState, new_joiner, stopped_site, Streamed, Joining, Ask, leads, site_term}
-use Rattle.cluster_model.specs.Site.{initiator_in, on_view, can_take, takes_first_ask, takes_asks, ends_streams, may_stream, on_stream_start, standing, tells, tells_initiator, has_all_on_disk, is_first_term, shows, settles, ordered, site_row, takes_each, takes_waiting, on_start, on_stop, site_runs, site_takes}
-use Rattle.cluster_model.specs.Outside.{Outside, Fair, DiskFails, NoMemory, DisksShow}
+use Rattle.cluster_model.specs.Site.{initiator_in, on_view, can_take, takes_first_ask, takes_asks, ends_streams, may_stream, on_stream_start, standing, tells, tells_initiator, has_all_on_disk, is_first_term, shows, settles, ordered, site_handler, takes_each, takes_waiting, on_start, on_stop, site_runs, site_takes}
+use Rattle.cluster_model.specs.Environment.{Environment, NoFault, DiskFails, NoMemory, DisksShow}
 use Rattle.cluster_model.specs.Sync.{written, joiner_written, after_sync, syncs, parts_of_sync, parts_of_message, start_after, stops_so, site_turn, sync_turn}
 use Rattle.word_laws.proofs.Lists.{all-append, all-filter, all-mono, all-if, all-one, all-at, all-from, in-filter, is_none-none}
-use Rattle.log_laws.specs.Histories.{Front}
-use Rattle.log_laws.proofs.Plain.Fronts.{front-refl, front-none}
+use Rattle.log_laws.specs.Histories.{Prefix}
+use Rattle.log_laws.proofs.Plain.Prefixes.{prefix-refl, prefix-none}
 use Rattle.log_laws.proofs.Plain.Lines.{all-order}
-use Rattle.disk_laws.proofs.Rows.{Plain, PlainWaiting}
-use Rattle.disk_laws.proofs.SiteRows.{stays_joiner, as_joiner, as_entered}
+use Rattle.disk_laws.proofs.Handlers.{Plain, PlainWaiting}
+use Rattle.disk_laws.proofs.SiteHandlers.{stays_joiner, as_joiner, as_entered}
 use Rattle.transaction_laws.specs.Transactions.{WaitsPlain}
-use Rattle.transaction_laws.proofs.Sites.Answers.{HoldsAnswers, NoOrderWaits, SentAnswer, TurnAnswers, SentFirm, AnswersFirm, AnswersAt, AnswersRow, all-held-on, firm-sent, row-then, row-behind, row-nothing}
-use Rattle.transaction_laws.proofs.Sites.AnswerRows.{after_sync-row, joins-row, enters-row, entered-held, plain-answers}
+use Rattle.transaction_laws.proofs.Sites.Answers.{HoldsAnswers, NoOrderWaits, SentAnswer, TurnAnswers, SentFirm, AnswersFirm, AnswersAt, AnswersHandler, all-held-on, firm-sent, handler-then, handler-behind, handler-nothing}
+use Rattle.transaction_laws.proofs.Sites.AnswerHandlers.{after_sync-handler, joins-handler, enters-handler, entered-held, plain-answers}
 
--- ---- what follows a row
+-- ---- what follows a handler
 
 -- the first site with what may change then, of the second one
 abbrev with_shown : SiteState → SiteState → SiteState
@@ -45,7 +45,7 @@ with_shown s u = record s {
 }
 
 -- A turn of a site that changes nothing else: what it sends to agents is well.
-record SettlesRow (E : Database) (D : Deployment) (i : ℕ) (s : SiteState) (t : Turn SiteState) : Type 0 where
+record SettlesHandler (E : Database) (D : Deployment) (i : ℕ) (s : SiteState) (t : Turn SiteState) : Type 0 where
   still : t.state ≡ with_shown s t.state
   sends : 0 < s.start → (h : ℕ) → AllByRecursion (SentAnswer E D i t.state) (t.sends (Agent h))
 
@@ -65,7 +65,7 @@ module _ (E : Database) (D : Deployment) (i : ℕ) where
   still-sent : (s u : SiteState) → u ≡ with_shown s u → (l : Letter) → SentAnswer E D i s l → SentAnswer E D i u l
   still-sent s u e l k = subst (λ x. SentAnswer E D i x l) (sym e) (shown-sent s u l k)
 
-  settles-then : (s : SiteState) (t : Turn SiteState) (f : SiteState → Turn SiteState) → SettlesRow E D i s t → SettlesRow E D i t.state (f t.state) → SettlesRow E D i s (t ▸ f)
+  settles-then : (s : SiteState) (t : Turn SiteState) (f : SiteState → Turn SiteState) → SettlesHandler E D i s t → SettlesHandler E D i t.state (f t.state) → SettlesHandler E D i s (t ▸ f)
   settles-then s t f h k = let u = (f t.state).state in record {
     still = k.still ∙ ap (λ x. with_shown x u) h.still;
     sends = λ up a. all-append (SentAnswer E D i u) (t.sends (Agent a)) ((f t.state).sends (Agent a))
@@ -73,10 +73,10 @@ module _ (E : Database) (D : Deployment) (i : ℕ) where
         (k.sends (subst (λ x. 0 < x.start) (sym h.still) up) a);
   }
 
-  settles-nothing : (s : SiteState) → SettlesRow E D i s (becomes s)
+  settles-nothing : (s : SiteState) → SettlesHandler E D i s (becomes s)
   settles-nothing s = record { still = refl; sends = λ up a. tt }
 
-  settles-if : (s : SiteState) (c : Bool) (x y : Turn SiteState) → (c ≡ true → SettlesRow E D i s x) → (c ≡ false → SettlesRow E D i s y) → SettlesRow E D i s (if c then x else y)
+  settles-if : (s : SiteState) (c : Bool) (x y : Turn SiteState) → (c ≡ true → SettlesHandler E D i s x) → (c ≡ false → SettlesHandler E D i s y) → SettlesHandler E D i s (if c then x else y)
   settles-if s true x y p q = p refl
   settles-if s false x y p q = q refl
 
@@ -100,9 +100,9 @@ module _ (E : Database) (D : Deployment) (i : ℕ) where
   tells-standing s start may up None None e = record { leads = may.leads; runs = up; term_is = refl; later = may.later; on_disk = may.on_disk; told = e }
   tells-standing s start may up None (Some last) e = record { leads = may.leads; runs = up; term_is = refl; later = may.later; on_disk = may.on_disk; told = e }
 
-  tells_initiator-row : (s : SiteState) (first : Option (ℕ × ℕ)) → MayTell s → SettlesRow E D i s (tells_initiator E D i s first)
-  tells_initiator-row s None may = settles-nothing s
-  tells_initiator-row s (Some first) may =
+  tells_initiator-handler : (s : SiteState) (first : Option (ℕ × ℕ)) → MayTell s → SettlesHandler E D i s (tells_initiator E D i s first)
+  tells_initiator-handler s None may = settles-nothing s
+  tells_initiator-handler s (Some first) may =
       let u = record s { has_told = true } in
       let o = open_in s.log in let last = last_done E (part_of_slot D i) s.log in
       record {
@@ -111,28 +111,28 @@ module _ (E : Database) (D : Deployment) (i : ℕ) where
             (tells-standing s first.1 may up o last refl, tt) tt;
       }
 
-  tells-row : (s : SiteState) → SettlesRow E D i s (tells E D i s)
-  tells-row s = settles-if s (leads D i s && not s.has_told && not (is_first_term s.view) && has_all_on_disk D i s) (tells_initiator E D i s (initiator_in s.view)) (becomes s)
-      (λ e. tells_initiator-row s (initiator_in s.view) (may-tell s e)) (λ _. settles-nothing s)
+  tells-handler : (s : SiteState) → SettlesHandler E D i s (tells E D i s)
+  tells-handler s = settles-if s (leads D i s && not s.has_told && not (is_first_term s.view) && has_all_on_disk D i s) (tells_initiator E D i s (initiator_in s.view)) (becomes s)
+      (λ e. tells_initiator-handler s (initiator_in s.view) (may-tell s e)) (λ _. settles-nothing s)
 
-  shows-row : (s : SiteState) → SettlesRow E D i s (shows E D i s)
-  shows-row s = settles-if s (nat_lt 0 s.looks && nothing_open s.log) _ (becomes s) (λ _. record { still = refl; sends = λ up h. tt }) (λ _. settles-nothing s)
+  shows-handler : (s : SiteState) → SettlesHandler E D i s (shows E D i s)
+  shows-handler s = settles-if s (nat_lt 0 s.looks && nothing_open s.log) _ (becomes s) (λ _. record { still = refl; sends = λ up h. tt }) (λ _. settles-nothing s)
 
-  takes_asks-row : (s : SiteState) → SettlesRow E D i s (takes_asks E D i s)
-  takes_asks-row s = go (find (can_take D i s) s.asks)
+  takes_asks-handler : (s : SiteState) → SettlesHandler E D i s (takes_asks E D i s)
+  takes_asks-handler s = go (find (can_take D i s) s.asks)
     where
-      go : (o : Option Ask) → SettlesRow E D i s (takes_first_ask E D i s o)
+      go : (o : Option Ask) → SettlesHandler E D i s (takes_first_ask E D i s o)
       go None = settles-nothing s
       go (Some a) = record { still = refl; sends = λ up h. tt }
 
-  settles-row : (s : SiteState) → SettlesRow E D i s (settles E D i s)
-  settles-row s =
+  settles-handler : (s : SiteState) → SettlesHandler E D i s (settles E D i s)
+  settles-handler s =
       let t = tells E D i s in let u = t ▸ ends_streams in let v = u ▸ shows E D i in
       settles-then s v (takes_asks E D i) (settles-then s u (shows E D i)
-      (settles-then s t ends_streams (tells-row s) (record { still = refl; sends = λ up h. tt })) (shows-row u.state)) (takes_asks-row v.state)
+      (settles-then s t ends_streams (tells-handler s) (record { still = refl; sends = λ up h. tt })) (shows-handler u.state)) (takes_asks-handler v.state)
 
   -- A turn from s on, and what follows it.
-  settled : (s : SiteState) (t : Turn SiteState) → AnswersRow D i s t → 0 < s.start → HoldsAnswers s → NoOrderWaits t.state → TurnAnswers E D i (ordered (t ▸ settles E D i))
+  settled : (s : SiteState) (t : Turn SiteState) → AnswersHandler D i s t → 0 < s.start → HoldsAnswers s → NoOrderWaits t.state → TurnAnswers E D i (ordered (t ▸ settles E D i))
   settled s t h up held waiting = record {
     held = λ _. subst HoldsAnswers (sym k.still) (h.at.held held);
     waiting = λ _. subst NoOrderWaits (sym k.still) waiting;
@@ -144,8 +144,8 @@ module _ (E : Database) (D : Deployment) (i : ℕ) where
       u : SiteState
       u = (settles E D i t.state).state
 
-      k : SettlesRow E D i t.state (settles E D i t.state)
-      k = settles-row t.state
+      k : SettlesHandler E D i t.state (settles E D i t.state)
+      k = settles-handler t.state
 
 -- ---- a whole turn
 
@@ -158,18 +158,18 @@ still-waits : (D : Deployment) (i : ℕ) (s u : SiteState) → AnswersAt D i s u
 still-waits D i s u h P k = all-from P u.waiting (λ x e. all-at P s.waiting k x (h.waiting x e))
 
 module _ (E : Database) (D : Deployment) (stamp i : ℕ) where
-  takes_each-answers : (ws : List Waiting) (s : SiteState) → AllByRecursion PlainWaiting ws → AnswersRow D i s (takes_each E D stamp i ws s)
-  takes_each-answers [] s p = row-nothing D i s
-  takes_each-answers (w ∷ ws) s p = row-then D i s (site_row E D stamp i s w.from w.letter) (takes_each E D stamp i ws) (plain-answers E D stamp i s w.from w.letter p.0)
-      (takes_each-answers ws (site_row E D stamp i s w.from w.letter).state p.1)
+  takes_each-answers : (ws : List Waiting) (s : SiteState) → AllByRecursion PlainWaiting ws → AnswersHandler D i s (takes_each E D stamp i ws s)
+  takes_each-answers [] s p = handler-nothing D i s
+  takes_each-answers (w ∷ ws) s p = handler-then D i s (site_handler E D stamp i s w.from w.letter) (takes_each E D stamp i ws) (plain-answers E D stamp i s w.from w.letter p.0)
+      (takes_each-answers ws (site_handler E D stamp i s w.from w.letter).state p.1)
 
-  takes_waiting-answers : (s : SiteState) → AllByRecursion PlainWaiting s.waiting → AnswersRow D i s (takes_waiting E D stamp i s)
+  takes_waiting-answers : (s : SiteState) → AllByRecursion PlainWaiting s.waiting → AnswersHandler D i s (takes_waiting E D stamp i s)
   takes_waiting-answers s p =
       let u = record s { waiting = above_term (site_term s) s.waiting } in
-      row-behind D i s u (takes_waiting E D stamp i s) (record {
+      handler-behind D i s u (takes_waiting E D stamp i s) (record {
         start = refl;
         term = refl;
-        log = front-refl s.log;
+        log = prefix-refl s.log;
         leads = λ e. e;
         firm = omega arith;
         held = λ k. k;
@@ -177,12 +177,12 @@ module _ (E : Database) (D : Deployment) (stamp i : ℕ) where
       })
       (takes_each-answers (of_term (site_term s) s.waiting) u (all-filter PlainWaiting (λ w. w.letter.term == site_term s) s.waiting p))
 
-  -- A turn whose first row is from s on. (Where a stream is taken or a term begins, s is the site with that.)
-  turn-answers : (s : SiteState) (t : Turn SiteState) → AnswersRow D i s t → 0 < s.start → AllByRecursion PlainWaiting s.waiting → NoOrderWaits s → HoldsAnswers s
+  -- A turn whose first handler is from s on. (Where a stream is taken or a term begins, s is the site with that.)
+  turn-answers : (s : SiteState) (t : Turn SiteState) → AnswersHandler D i s t → 0 < s.start → AllByRecursion PlainWaiting s.waiting → NoOrderWaits s → HoldsAnswers s
       → TurnAnswers E D i (ordered (t ▸ takes_waiting E D stamp i ▸ settles E D i))
   turn-answers s t h up plain waiting held =
       let u = t ▸ takes_waiting E D stamp i in
-      let k = row-then D i s t (takes_waiting E D stamp i) h (takes_waiting-answers t.state (still-waits D i s t.state h.at PlainWaiting plain)) in
+      let k = handler-then D i s t (takes_waiting E D stamp i) h (takes_waiting-answers t.state (still-waits D i s t.state h.at PlainWaiting plain)) in
       settled E D i s u k up held (still-waits D i s u.state k.at (λ x. WaitsPlain x.from x.letter) waiting)
 
   -- ---- one that runs
@@ -190,12 +190,12 @@ module _ (E : Database) (D : Deployment) (stamp i : ℕ) where
   module _ (s : SiteState) (up : 0 < s.start) (plain : AllByRecursion PlainWaiting s.waiting) (none : NoLog s) (waiting : NoOrderWaits s) (held : HoldsAnswers s) where
     -- Nothing is held or sent but in a turn that takes the message.
     runs-answers : (from : Actor) (l : Letter) → (arrival s.start (site_term s) l ≡ Waits → WaitsPlain from l)
-        → TurnAnswers E D i (ordered (site_row E D stamp i s from l ▸ takes_waiting E D stamp i ▸ settles E D i))
+        → TurnAnswers E D i (ordered (site_handler E D stamp i s from l ▸ takes_waiting E D stamp i ▸ settles E D i))
         → TurnAnswers E D i (site_runs E D stamp i s from l)
     runs-answers from l comes k = go (arrival s.start (site_term s) l) comes
       where
         go : (a : Arrival) → (a ≡ Waits → WaitsPlain from l) → TurnAnswers E D i (elim a as (λ _. Turn SiteState) [
-          | Taken ↦ ordered (site_row E D stamp i s from l ▸ takes_waiting E D stamp i ▸ settles E D i)
+          | Taken ↦ ordered (site_handler E D stamp i s from l ▸ takes_waiting E D stamp i ▸ settles E D i)
           | Waits ↦ becomes (record s { waiting = s.waiting ++ record { from = from; letter = l } ∷ [] })
           | Refused ↦ becomes s
         ])
@@ -210,14 +210,14 @@ module _ (E : Database) (D : Deployment) (stamp i : ℕ) where
     -- that of a plain message
     plain-turn : (from : Actor) (l : Letter) → Plain from l → (arrival s.start (site_term s) l ≡ Waits → WaitsPlain from l) → TurnAnswers E D i (site_runs E D stamp i s from l)
     plain-turn from l p comes = runs-answers from l comes
-        (turn-answers s (site_row E D stamp i s from l) (plain-answers E D stamp i s from l p) up plain waiting held)
+        (turn-answers s (site_handler E D stamp i s from l) (plain-answers E D stamp i s from l p) up plain waiting held)
 
     -- that of StreamStart
     stream-turn : (l : Letter) (head : StreamHead) → TurnAnswers E D i (ordered (becomes (on_stream_start s s.joining l head) ▸ takes_waiting E D stamp i ▸ settles E D i))
     stream-turn l head = go s.joining refl
       where
         with : (b : SiteState) → b.start ≡ s.start → b.waiting ≡ s.waiting → HoldsAnswers b → TurnAnswers E D i (ordered (becomes b ▸ takes_waiting E D stamp i ▸ settles E D i))
-        with b e f k = turn-answers b (becomes b) (row-nothing D i b) (omega (arith, up, e)) (subst (AllByRecursion PlainWaiting) (sym f) plain)
+        with b e f k = turn-answers b (becomes b) (handler-nothing D i b) (omega (arith, up, e)) (subst (AllByRecursion PlainWaiting) (sym f) plain)
             (subst (AllByRecursion (λ x. WaitsPlain x.from x.letter)) (sym f) waiting) k
 
         go : (o : Option Joining) → s.joining ≡ o → TurnAnswers E D i (ordered (becomes (on_stream_start s o l head) ▸ takes_waiting E D stamp i ▸ settles E D i))
@@ -226,14 +226,14 @@ module _ (E : Database) (D : Deployment) (stamp i : ℕ) where
           where
             b : SiteState
             b = record s {
-              joining = Some (record j { stream = Some (record { nj = head.nj; mark = head.mark }) });
+              joining = Some (record j { stream = Some (record { stream_start = head.stream_start; mark = head.mark }) });
               log = l.past;
-              floor = head.nj;
+              floor = head.stream_start;
               contents = None ∷ [];
             }
 
-            past : may_stream s j l ≡ true → Front s.log l.past
-            past e = subst (λ xs. Front xs l.past) (sym (none j is (is_none-none j.stream (and_parts (is_none j.stream) (nat_lt s.earlier l.term) e).0))) (front-none l.past)
+            past : may_stream s j l ≡ true → Prefix s.log l.past
+            past e = subst (λ xs. Prefix xs l.past) (sym (none j is (is_none-none j.stream (and_parts (is_none j.stream) (nat_lt s.earlier l.term) e).0))) (prefix-none l.past)
 
             choice : (x : Bool) → may_stream s j l ≡ x → TurnAnswers E D i (ordered (becomes (if x then b else s) ▸ takes_waiting E D stamp i ▸ settles E D i))
             choice true e = with b refl refl (all-held-on s b (past e) (site_term s) s.held held)
@@ -247,8 +247,8 @@ module _ (E : Database) (D : Deployment) (stamp i : ℕ) where
         t = on_view E D i stamp s w
 
         go : (c : Bool) → stays_joiner D i s w ≡ c → TurnAnswers E D i (ordered (t ▸ takes_waiting E D stamp i ▸ settles E D i))
-        go true e = turn-answers (as_joiner s w) t (joins-row E D i stamp s w e) up plain waiting (entered-held E D i s w)
-        go false e = turn-answers (as_entered s w) t (enters-row E D i stamp s w e) up plain waiting (entered-held E D i s w)
+        go true e = turn-answers (as_joiner s w) t (joins-handler E D i stamp s w e) up plain waiting (entered-held E D i s w)
+        go false e = turn-answers (as_entered s w) t (enters-handler E D i stamp s w e) up plain waiting (entered-held E D i s w)
 
     -- that of any message
     agent-turn : (h : ℕ) (l : Letter) → (arrival s.start (site_term s) l ≡ Waits → WaitsPlain (Agent h) l) → TurnAnswers E D i (site_runs E D stamp i s (Agent h) l)
@@ -317,10 +317,10 @@ module _ (E : Database) (D : Deployment) (stamp i : ℕ) where
         ]
 
 -- What a message makes of it. It isn't a round or an end that waits for a term.
-pub site_turn-answers : (E : Database) (D : Deployment) (stamp i : ℕ) (s : SiteState) (from : Actor) (l : Letter) (o : Outside)
+pub site_turn-answers : (E : Database) (D : Deployment) (stamp i : ℕ) (s : SiteState) (from : Actor) (l : Letter) (o : Environment)
     → (0 < s.start → AllByRecursion PlainWaiting s.waiting) → NoLog s → (0 < s.start → arrival s.start (site_term s) l ≡ Waits → WaitsPlain from l)
     → (0 < s.start → NoOrderWaits s) → (0 < s.start → HoldsAnswers s) → TurnAnswers E D i (site_turn E D stamp i s from l o)
-site_turn-answers E D stamp i s from l Fair plain none comes waiting held = site_takes-answers E D stamp i s from plain none waiting held l comes
+site_turn-answers E D stamp i s from l NoFault plain none comes waiting held = site_takes-answers E D stamp i s from plain none waiting held l comes
 site_turn-answers E D stamp i s from l (DisksShow shown failed) plain none comes waiting held = site_takes-answers E D stamp i s from plain none waiting held l comes
 site_turn-answers E D stamp i s from l (DiskFails answered) plain none comes waiting held =
     stops_so-answers E D stamp i s s.start (after_failure s.contents (parts_of_message s l) answered)
@@ -345,7 +345,7 @@ module _ (E : Database) (D : Deployment) (i : ℕ) (s : SiteState) (up : 0 < s.s
       stream (Some st) = go j.is_loaded
         where
           go : (c : Bool) → Wrote (if c
-              then record s { joining = Some (record j { written = j.blocks; is_based = true }); on_disk = length s.log; mark = st.mark; base = st.nj }
+              then record s { joining = Some (record j { written = j.blocks; is_based = true }); on_disk = length s.log; mark = st.mark; base = st.stream_start }
               else record s { joining = Some (record j { written = j.blocks }) })
           go true = record { runs = up; waits = waiting; holds = held }
           go false = record { runs = up; waits = waiting; holds = held }
@@ -359,15 +359,15 @@ module _ (E : Database) (D : Deployment) (i : ℕ) (s : SiteState) (up : 0 < s.s
       says : Turn SiteState
       says = after_sync D i b b.joining
 
-      k : AnswersRow D i b says
-      k = after_sync-row E D i b
+      k : AnswersHandler D i b says
+      k = after_sync-handler E D i b
 
       w : Wrote (written s s.joining)
       w = wrote s.joining
 
 -- What a Sync makes of it.
-pub sync_turn-answers : (E : Database) (D : Deployment) (i : ℕ) (s : SiteState) (o : Outside) → 0 < s.start → NoOrderWaits s → HoldsAnswers s → TurnAnswers E D i (sync_turn E D i s o)
-sync_turn-answers E D i s Fair up waiting held = syncs-answers E D i s up waiting held
+pub sync_turn-answers : (E : Database) (D : Deployment) (i : ℕ) (s : SiteState) (o : Environment) → 0 < s.start → NoOrderWaits s → HoldsAnswers s → TurnAnswers E D i (sync_turn E D i s o)
+sync_turn-answers E D i s NoFault up waiting held = syncs-answers E D i s up waiting held
 sync_turn-answers E D i s (DisksShow shown failed) up waiting held = syncs-answers E D i s up waiting held
 sync_turn-answers E D i s (DiskFails answered) up waiting held = stops_so-answers E D 0 i s s.start (after_failure s.contents (parts_of_sync s s.joining) answered)
 sync_turn-answers E D i s (NoMemory answered) up waiting held = stops_so-answers E D 0 i s s.start (after_parts s.contents (take answered (parts_of_sync s s.joining)))

@@ -13,13 +13,13 @@ use Rattle.cluster_model.specs.Words.{Deployment, term_of}
 use Rattle.cluster_model.specs.Letters.{Letter, becomes, arrival, Taken}
 use Rattle.cluster_model.specs.SiteState.{SiteState, Joining, Joiner, is_leader, leads, other_copies, site_term}
 use Rattle.cluster_model.specs.Site.{acked_in, own_ack, copy_acks, lesser, least, least_of, firm_now, floor_now, sends_firm, counts, takes_asks, in_new_term}
-use Rattle.cluster_model.specs.Outside.{Outside, Fair, DiskFails, NoMemory, DisksShow}
+use Rattle.cluster_model.specs.Environment.{Environment, NoFault, DiskFails, NoMemory, DisksShow}
 use Rattle.cluster_model.specs.Disk.{after_parts}
 use Rattle.cluster_model.specs.Sync.{after_sync, parts_of_sync, site_turn, syncs, sync_turn}
 use Rattle.word_laws.proofs.Lists.{if-true, all-append, not-both, none-and-some, same-some}
 use Rattle.log_laws.proofs.Plain.Copies.{leader-view, leads-parts, leads-from}
 use Rattle.log_laws.proofs.Plain.Least.{least_of-below}
-use Rattle.disk_laws.proofs.SiteRows.{stays_joiner}
+use Rattle.disk_laws.proofs.SiteHandlers.{stays_joiner}
 use Rattle.transaction_laws.specs.Transactions.{acknowledged}
 use Rattle.transaction_laws.proofs.Sites.SiteWalk.{Comes, WaitsQuietly, with_rest, begins_at, Settles, Steps, AnyReport, any-report, any-reports, settled, settled-walk, after_sync-walk}
 use Rattle.transaction_laws.proofs.Sites.SiteWalked.{takes-asks, asks-view, Walked, Ends, Same, Stays, Views, walked, Wrote, wrote, written_site}
@@ -65,7 +65,7 @@ unmarked-counted : (D : Deployment) (i : ℕ) (s : SiteState) → (s.mark ≡ si
 unmarked-counted D i s unmarked n e = own (s.mark == site_term s) refl (q.1)
   where
     q : (v : ℕ) × (own_ack s ≡ Some v) × (n ≤ v)
-    q = least_of-below (copy_acks D i s ++ map (λ j. Some (max j.nj j.position)) s.joiners) n e (own_ack s) (inl refl)
+    q = least_of-below (copy_acks D i s ++ map (λ j. Some (max j.stream_start j.position)) s.joiners) n e (own_ack s) (inl refl)
 
     own : (b : Bool) → (s.mark == site_term s) ≡ b → (if b then Some s.on_disk else None) ≡ Some q.0 → n ≤ s.firm
     own true m k = absurd (unmarked (eqb-true s.mark (site_term s) m))
@@ -76,7 +76,7 @@ counted-now : (D : Deployment) (i : ℕ) (s : SiteState) → Counted D i (record
 counted-now D i s n e = rw e (omega arith)
 
 counts-counted : (D : Deployment) (i : ℕ) (s : SiteState) → leads D i s ≡ true → Counted D i (counts D i s).state
-counts-counted D i s lead = choice (leads D i s) lead
+counts-counted D i s authoritative = choice (leads D i s) authoritative
   where
     n : SiteState
     n = record s { firm = firm_now D i s; floor = floor_now D i s }
@@ -107,16 +107,16 @@ module _ (D : Deployment) (i : ℕ) where
     view = k.view ∙ h.view;
     joiners = k.joiners ∙ h.joiners;
     repaired = λ e. h.repaired (k.repaired e);
-    marked = λ lead x. k.marked (h.same ∙ lead) (h.marked lead x);
-    counted = λ lead x c. k.counted (h.same ∙ lead) (h.marked lead x) (h.counted lead x c);
+    marked = λ authoritative x. k.marked (h.same ∙ authoritative) (h.marked authoritative x);
+    counted = λ authoritative x c. k.counted (h.same ∙ authoritative) (h.marked authoritative x) (h.counted authoritative x c);
   }
 
   reckons-rest : (s u : SiteState) → Reckons D i s (with_rest s u)
-  reckons-rest s u = record { same = refl; view = refl; joiners = refl; repaired = λ e. e; marked = λ lead x. x; counted = λ lead x c. c }
+  reckons-rest s u = record { same = refl; view = refl; joiners = refl; repaired = λ e. e; marked = λ authoritative x. x; counted = λ authoritative x c. c }
 
   -- the same positions of joiners
-  same-positions : (f : Joiner → Joiner) → ((j : Joiner) → (f j).nj ≡ j.nj) → ((j : Joiner) → (f j).position ≡ j.position) → (js : List Joiner)
-      → (begins_at (map f js) ≡ begins_at js) × (map (λ j. Some (max j.nj j.position)) (map f js) ≡ map (λ j. Some (max j.nj j.position)) js)
+  same-positions : (f : Joiner → Joiner) → ((j : Joiner) → (f j).stream_start ≡ j.stream_start) → ((j : Joiner) → (f j).position ≡ j.position) → (js : List Joiner)
+      → (begins_at (map f js) ≡ begins_at js) × (map (λ j. Some (max j.stream_start j.position)) (map f js) ≡ map (λ j. Some (max j.stream_start j.position)) js)
   same-positions f n p [] = (refl, refl)
   same-positions f n p (j ∷ js) = let r = same-positions f n p js in (rw (n j, r.0), rw (n j, p j, r.1))
 
@@ -130,10 +130,10 @@ module _ (D : Deployment) (i : ℕ) where
       view = a.view;
       joiners = ap begins_at a.joiners;
       repaired = a.repaired;
-      marked = λ lead x. absurd (not-both (is_leader D i s) lead a.before);
-      counted = λ lead x c. absurd (not-both (is_leader D i s) lead a.before);
+      marked = λ authoritative x. absurd (not-both (is_leader D i s) authoritative a.before);
+      counted = λ authoritative x c. absurd (not-both (is_leader D i s) authoritative a.before);
     };
-    counted = λ s lead acks joiners e. record {
+    counted = λ s authoritative acks joiners e. record {
       same = refl;
       view = refl;
       joiners = e;
@@ -146,16 +146,16 @@ module _ (D : Deployment) (i : ℕ) where
       view = refl;
       joiners = r.0;
       repaired = λ e. e;
-      marked = λ lead x. x;
-      counted = λ lead x c n. subst (λ ps. least_of (copy_acks D i s ++ ps) ≡ Some n → n ≤ s.firm) (sym r.1) (c n);
+      marked = λ authoritative x. x;
+      counted = λ authoritative x c n. subst (λ ps. least_of (copy_acks D i s ++ ps) ≡ Some n → n ≤ s.firm) (sym r.1) (c n);
     };
   }
 
   reckons-steps : (stamp : ℕ) → Steps D stamp i AnyReport (Reckons D i)
   reckons-steps stamp = record {
     settles = reckons-settles;
-    called = λ s lead clear call body. record { same = refl; view = refl; joiners = refl; repaired = λ e. e; marked = λ _ x. x; counted = λ _ x c. c };
-    begun = λ s lead un all. record { same = refl; view = refl; joiners = refl; repaired = λ e. un; marked = λ _ x m. refl; counted = λ _ x c. c };
+    called = λ s authoritative clear call body. record { same = refl; view = refl; joiners = refl; repaired = λ e. e; marked = λ _ x. x; counted = λ _ x c. c };
+    begun = λ s authoritative un all. record { same = refl; view = refl; joiners = refl; repaired = λ e. un; marked = λ _ x m. refl; counted = λ _ x c. c };
     reported = λ s r p. record { same = refl; view = refl; joiners = refl; repaired = λ e. e; marked = λ _ x. x; counted = λ _ x c. c };
     noted = λ s idle acks joiners e. record {
       same = refl;
@@ -163,21 +163,21 @@ module _ (D : Deployment) (i : ℕ) where
       joiners = e;
       repaired = λ r. r;
       marked = λ _ x. x;
-      counted = λ lead x c. unmarked-counted D i (record s { acks = acks; joiners = joiners }) (λ m. not-both (leads D i s) (leads-from D i s lead (x m)) idle);
+      counted = λ authoritative x c. unmarked-counted D i (record s { acks = acks; joiners = joiners }) (λ m. not-both (leads D i s) (leads-from D i s authoritative (x m)) idle);
     };
   }
 
 -- ---- joiners and where their streams began
 
-begins-to : (P : ℕ → Type 0) (js : List Joiner) → AllByRecursion (λ j. P j.nj) js → AllByRecursion P (begins_at js)
+begins-to : (P : ℕ → Type 0) (js : List Joiner) → AllByRecursion (λ j. P j.stream_start) js → AllByRecursion P (begins_at js)
 begins-to P [] h = tt
 begins-to P (j ∷ js) h = (h.0, begins-to P js h.1)
 
-begins-from : (P : ℕ → Type 0) (js : List Joiner) → AllByRecursion P (begins_at js) → AllByRecursion (λ j. P j.nj) js
+begins-from : (P : ℕ → Type 0) (js : List Joiner) → AllByRecursion P (begins_at js) → AllByRecursion (λ j. P j.stream_start) js
 begins-from P [] h = tt
 begins-from P (j ∷ js) h = (h.0, begins-from P js h.1)
 
-same-begins : (low : ℕ) (xs ys : List Joiner) → begins_at xs ≡ begins_at ys → AllByRecursion (λ j. low ≤ j.nj) ys → AllByRecursion (λ j. low ≤ j.nj) xs
+same-begins : (low : ℕ) (xs ys : List Joiner) → begins_at xs ≡ begins_at ys → AllByRecursion (λ j. low ≤ j.stream_start) ys → AllByRecursion (λ j. low ≤ j.stream_start) xs
 same-begins low xs ys e h = begins-from (λ n. low ≤ n) xs (subst (AllByRecursion (λ n. low ≤ n)) (sym e) (begins-to (λ n. low ≤ n) ys h))
 
 none-begins : (js : List Joiner) → begins_at js ≡ [] → js ≡ []
@@ -199,7 +199,7 @@ module _ (E : Database) (D : Deployment) (i : ℕ) (v : SiteState) where
   -- with a joiner more the least is no greater
   more-counted : (new : Joiner) → Counted D i v → Counted D i (record v { joiners = v.joiners ++ new ∷ [] })
   more-counted new c n e =
-      let f : Joiner → Option ℕ = λ j. Some (max j.nj j.position) in
+      let f : Joiner → Option ℕ = λ j. Some (max j.stream_start j.position) in
       let bs : List (Option ℕ) = map (acked_in v.acks) (other_copies D i v) in
       let split : map f (v.joiners ++ new ∷ []) ≡ map f v.joiners ++ f new ∷ [] = map-append f v.joiners (new ∷ []) in
       let same : bs ++ map f (v.joiners ++ new ∷ []) ≡ (bs ++ map f v.joiners) ++ f new ∷ [] =
@@ -215,14 +215,14 @@ module _ (E : Database) (D : Deployment) (i : ℕ) (v : SiteState) where
     | inr k ↦ subst (Counted D i) (sym k.is) (more-counted k.new c)
   ]
 
-  asks-joined : (low : ℕ) → low ≤ length last.log → AllByRecursion (λ j. low ≤ j.nj) v.joiners → AllByRecursion (λ j. low ≤ j.nj) last.joiners
+  asks-joined : (low : ℕ) → low ≤ length last.log → AllByRecursion (λ j. low ≤ j.stream_start) v.joiners → AllByRecursion (λ j. low ≤ j.stream_start) last.joiners
   asks-joined low long h = elim (takes-asks E D i v) [
-    | inl e ↦ subst (λ s. AllByRecursion (λ j. low ≤ j.nj) s.joiners) (sym e) h
+    | inl e ↦ subst (λ s. AllByRecursion (λ j. low ≤ j.stream_start) s.joiners) (sym e) h
     | inr k ↦
         let same : length last.log ≡ length v.log = ap (λ s. length s.log) k.is in
-        let nj = k.nj in
-        subst (λ s. AllByRecursion (λ j. low ≤ j.nj) s.joiners) (sym k.is)
-        (all-append (λ j. low ≤ j.nj) v.joiners (k.new ∷ []) h (omega (arith, long, same, nj), tt))
+        let stream_start = k.stream_start in
+        subst (λ s. AllByRecursion (λ j. low ≤ j.stream_start) s.joiners) (sym k.is)
+        (all-append (λ j. low ≤ j.stream_start) v.joiners (k.new ∷ []) h (omega (arith, long, same, stream_start), tt))
   ]
 
   asks-unrepaired : Unrepaired v → Unrepaired last
@@ -239,22 +239,22 @@ above-mark D i s from l h w e b c = subst (λ m. AboveMark D i s (Agent h) (reco
 
 -- a leader that isn't repaired, or has counted all
 leader-counted : (D : Deployment) (i : ℕ) (s : SiteState) → is_leader D i s ≡ true → (leads D i s ≡ true → Counted D i s) → Marked s → Counted D i s
-leader-counted D i s lead counted marked = choice s.repaired refl
+leader-counted D i s authoritative counted marked = choice s.repaired refl
   where
     choice : (b : Bool) → s.repaired ≡ b → Counted D i s
-    choice true e = counted (leads-from D i s lead e)
+    choice true e = counted (leads-from D i s authoritative e)
     choice false e = unmarked-counted D i s (λ m. not-both s.repaired (marked m) e)
 
 -- one that isn't repaired, or knows where its joiners' streams began
-leader-joined : (D : Deployment) (i : ℕ) (s : SiteState) (low : ℕ) → is_leader D i s ≡ true → (leads D i s ≡ true → AllByRecursion (λ j. low ≤ j.nj) s.joiners)
-    → Unrepaired s → AllByRecursion (λ j. low ≤ j.nj) s.joiners
-leader-joined D i s low lead held un = choice s.repaired refl
+leader-joined : (D : Deployment) (i : ℕ) (s : SiteState) (low : ℕ) → is_leader D i s ≡ true → (leads D i s ≡ true → AllByRecursion (λ j. low ≤ j.stream_start) s.joiners)
+    → Unrepaired s → AllByRecursion (λ j. low ≤ j.stream_start) s.joiners
+leader-joined D i s low authoritative held un = choice s.repaired refl
   where
-    choice : (b : Bool) → s.repaired ≡ b → AllByRecursion (λ j. low ≤ j.nj) s.joiners
-    choice true e = held (leads-from D i s lead e)
-    choice false e = subst (AllByRecursion (λ j. low ≤ j.nj)) (sym (un e)) tt
+    choice : (b : Bool) → s.repaired ≡ b → AllByRecursion (λ j. low ≤ j.stream_start) s.joiners
+    choice true e = held (leads-from D i s authoritative e)
+    choice false e = subst (AllByRecursion (λ j. low ≤ j.stream_start)) (sym (un e)) tt
 
-module _ (E : Database) (D : Deployment) (stamp i : ℕ) (s : SiteState) (from : Actor) (l : Letter) (o : Outside) where
+module _ (E : Database) (D : Deployment) (stamp i : ℕ) (s : SiteState) (from : Actor) (l : Letter) (o : Environment) where
   abbrev u : SiteState
   u = (site_turn E D stamp i s from l o).state
 
@@ -274,38 +274,38 @@ module _ (E : Database) (D : Deployment) (stamp i : ℕ) (s : SiteState) (from :
     where
       -- from the state before its walk
       from-state : (b v : SiteState) → Reckons D i b v → u ≡ (takes_asks E D i v).state → is_leader D i b ≡ true → Marked b → Counted D i b → Counted D i u
-      from-state b v k is lead m c = subst (Counted D i) (sym is) (asks-counted E D i v (k.counted lead m c))
+      from-state b v k is authoritative m c = subst (Counted D i) (sym is) (asks-counted E D i v (k.counted authoritative m c))
 
       go : Walked E D i (Reckons D i) s from l u → Counted D i u
       go (Ends view joiners) = absurd (stopped-not-leads D i u view led)
       go (Same none is) = subst (Counted D i) (sym is) (counted (sym (ap (leads D i) is) ∙ led))
       go (Stays a log leading other v view k is) =
           let b = record s { log = log } in
-          let lead : is_leader D i s ≡ true = led-before b v k is led in
-          let m : Marked s = marked (leader-view D i s lead).0 in
-          from-state b v k is lead m (leader-counted D i s lead counted m)
+          let authoritative : is_leader D i s ≡ true = led-before b v k is led in
+          let m : Marked s = marked (leader-view D i s authoritative).0 in
+          from-state b v k is authoritative m (leader-counted D i s authoritative counted m)
       go (Views a h w sender body joining enters v view k is) =
           let b = record (in_new_term s w) { joining = joining } in
-          let lead : is_leader D i b ≡ true = led-before b v k is led in
-          let low : s.mark < term_of w = above-mark D i s from l h w sender body (above a) (enters (leader-view D i b lead).0) in
-          from-state b v k is lead (λ e. absurd (omega (arith, low, e))) (unmarked-counted D i b (λ e. omega (arith, low, e)))
+          let authoritative : is_leader D i b ≡ true = led-before b v k is led in
+          let low : s.mark < term_of w = above-mark D i s from l h w sender body (above a) (enters (leader-view D i b authoritative).0) in
+          from-state b v k is authoritative (λ e. absurd (omega (arith, low, e))) (unmarked-counted D i b (λ e. omega (arith, low, e)))
 
   pub site-joined : (low : ℕ) → 0 < s.start → (arrival s.start (site_term s) l ≡ Taken → Comes D i s from l) → AllByRecursion WaitsQuietly s.waiting
-      → (leads D i s ≡ true → u.view ≡ s.view → AllByRecursion (λ j. low ≤ j.nj) s.joiners) → Unrepaired s → leads D i u ≡ true → low ≤ length u.log
-      → AllByRecursion (λ j. low ≤ j.nj) u.joiners
+      → (leads D i s ≡ true → u.view ≡ s.view → AllByRecursion (λ j. low ≤ j.stream_start) s.joiners) → Unrepaired s → leads D i u ≡ true → low ≤ length u.log
+      → AllByRecursion (λ j. low ≤ j.stream_start) u.joiners
   site-joined low up comes waiting held unrepaired led long = go (goes comes waiting)
     where
-      from-state : (b v : SiteState) → Reckons D i b v → u ≡ (takes_asks E D i v).state → AllByRecursion (λ j. low ≤ j.nj) b.joiners → AllByRecursion (λ j. low ≤ j.nj) u.joiners
-      from-state b v k is h = subst (λ x. AllByRecursion (λ j. low ≤ j.nj) x.joiners) (sym is)
+      from-state : (b v : SiteState) → Reckons D i b v → u ≡ (takes_asks E D i v).state → AllByRecursion (λ j. low ≤ j.stream_start) b.joiners → AllByRecursion (λ j. low ≤ j.stream_start) u.joiners
+      from-state b v k is h = subst (λ x. AllByRecursion (λ j. low ≤ j.stream_start) x.joiners) (sym is)
           (asks-joined E D i v low (subst (λ x. low ≤ length x.log) is long) (same-begins low v.joiners b.joiners k.joiners h))
 
-      go : Walked E D i (Reckons D i) s from l u → AllByRecursion (λ j. low ≤ j.nj) u.joiners
+      go : Walked E D i (Reckons D i) s from l u → AllByRecursion (λ j. low ≤ j.stream_start) u.joiners
       go (Ends view joiners) = absurd (stopped-not-leads D i u view led)
-      go (Same none is) = subst (λ x. AllByRecursion (λ j. low ≤ j.nj) x.joiners) (sym is) (held (sym (ap (leads D i) is) ∙ led) (ap (λ x. x.view) is))
+      go (Same none is) = subst (λ x. AllByRecursion (λ j. low ≤ j.stream_start) x.joiners) (sym is) (held (sym (ap (leads D i) is) ∙ led) (ap (λ x. x.view) is))
       go (Stays a log leading other v view k is) =
           let b = record s { log = log } in
           from-state b v k is (leader-joined D i s low (led-before b v k is led)
-          (λ lead. held lead (ap (λ x. x.view) is ∙ asks-view E D i v ∙ view)) unrepaired)
+          (λ authoritative. held authoritative (ap (λ x. x.view) is ∙ asks-view E D i v ∙ view)) unrepaired)
       go (Views a h w sender body joining enters v view k is) = from-state (record (in_new_term s w) { joining = joining }) v k is tt
 
   pub site-unrepaired : (arrival s.start (site_term s) l ≡ Taken → Comes D i s from l) → AllByRecursion WaitsQuietly s.waiting → Unrepaired s → Unrepaired u
@@ -344,42 +344,42 @@ module _ (E : Database) (D : Deployment) (i : ℕ) (s : SiteState) where
 
   -- A leader counts.
   says-counted : (j : Option Joining) → b.joining ≡ j → leads D i b ≡ true → Counted D i (after_sync D i b j).state
-  says-counted (Some j) e lead = absurd (none-and-some (leader-view D i b (leads-parts D i b lead).0).0 e)
-  says-counted None e lead = subst (λ t. Counted D i t.state) (sym (if-true (is_leader D i b) (counts D i b) _ (leads-parts D i b lead).0)) (counts-counted D i b lead)
+  says-counted (Some j) e authoritative = absurd (none-and-some (leader-view D i b (leads-parts D i b authoritative).0).0 e)
+  says-counted None e authoritative = subst (λ t. Counted D i t.state) (sym (if-true (is_leader D i b) (counts D i b) _ (leads-parts D i b authoritative).0)) (counts-counted D i b authoritative)
 
   syncs-counted : leads D i (syncs E D i s).state ≡ true → Counted D i (syncs E D i s).state
   syncs-counted led =
-      let lead : is_leader D i b ≡ true = sym said.same ∙ sym then.same ∙ sym (asks-leader E D i v) ∙ (leads-parts D i (syncs E D i s).state led).0 in
-      let p = leads-parts D i s (sync-steady E D i s Fair led).2 in
+      let authoritative : is_leader D i b ≡ true = sym said.same ∙ sym then.same ∙ sym (asks-leader E D i v) ∙ (leads-parts D i (syncs E D i s).state led).0 in
+      let p = leads-parts D i s (sync-steady E D i s NoFault led).2 in
       let repaired : b.repaired ≡ true = is-written.repaired ∙ p.1 in
-      asks-counted E D i v (then.counted (said.same ∙ lead) (said.marked lead (λ _. repaired)) (says-counted b.joining refl (leads-from D i b lead repaired)))
+      asks-counted E D i v (then.counted (said.same ∙ authoritative) (said.marked authoritative (λ _. repaired)) (says-counted b.joining refl (leads-from D i b authoritative repaired)))
 
-  syncs-joined : (low : ℕ) → (leads D i s ≡ true → AllByRecursion (λ j. low ≤ j.nj) s.joiners) → leads D i (syncs E D i s).state ≡ true
-      → low ≤ length (syncs E D i s).state.log → AllByRecursion (λ j. low ≤ j.nj) (syncs E D i s).state.joiners
+  syncs-joined : (low : ℕ) → (leads D i s ≡ true → AllByRecursion (λ j. low ≤ j.stream_start) s.joiners) → leads D i (syncs E D i s).state ≡ true
+      → low ≤ length (syncs E D i s).state.log → AllByRecursion (λ j. low ≤ j.stream_start) (syncs E D i s).state.joiners
   syncs-joined low held led long =
-      asks-joined E D i v low long (same-begins low v.joiners s.joiners (then.joiners ∙ said.joiners ∙ ap begins_at is-written.joiners) (held (sync-steady E D i s Fair led).2))
+      asks-joined E D i v low long (same-begins low v.joiners s.joiners (then.joiners ∙ said.joiners ∙ ap begins_at is-written.joiners) (held (sync-steady E D i s NoFault led).2))
 
   syncs-unrepaired : Unrepaired s → Unrepaired (syncs E D i s).state
   syncs-unrepaired h = asks-unrepaired E D i v (λ un. none-begins v.joiners (then.joiners ∙ said.joiners
       ∙ ap begins_at (is-written.joiners ∙ h (sym is-written.repaired ∙ said.repaired (then.repaired un)))))
 
-pub sync-counted : (E : Database) (D : Deployment) (i : ℕ) (s : SiteState) (o : Outside) → leads D i (sync_turn E D i s o).state ≡ true
+pub sync-counted : (E : Database) (D : Deployment) (i : ℕ) (s : SiteState) (o : Environment) → leads D i (sync_turn E D i s o).state ≡ true
     → Counted D i (sync_turn E D i s o).state
-sync-counted E D i s Fair led = syncs-counted E D i s led
+sync-counted E D i s NoFault led = syncs-counted E D i s led
 sync-counted E D i s (DisksShow shown failed) led = syncs-counted E D i s led
 sync-counted E D i s (DiskFails answered) led = absurd (stopped-not-leads D i (sync_turn E D i s (DiskFails answered)).state refl led)
 sync-counted E D i s (NoMemory answered) led = absurd (stopped-not-leads D i (sync_turn E D i s (NoMemory answered)).state refl led)
 
-pub sync-joined : (E : Database) (D : Deployment) (i : ℕ) (s : SiteState) (o : Outside) (low : ℕ) → (leads D i s ≡ true → AllByRecursion (λ j. low ≤ j.nj) s.joiners)
+pub sync-joined : (E : Database) (D : Deployment) (i : ℕ) (s : SiteState) (o : Environment) (low : ℕ) → (leads D i s ≡ true → AllByRecursion (λ j. low ≤ j.stream_start) s.joiners)
     → leads D i (sync_turn E D i s o).state ≡ true → low ≤ length (sync_turn E D i s o).state.log
-    → AllByRecursion (λ j. low ≤ j.nj) (sync_turn E D i s o).state.joiners
-sync-joined E D i s Fair low held led long = syncs-joined E D i s low held led long
+    → AllByRecursion (λ j. low ≤ j.stream_start) (sync_turn E D i s o).state.joiners
+sync-joined E D i s NoFault low held led long = syncs-joined E D i s low held led long
 sync-joined E D i s (DisksShow shown failed) low held led long = syncs-joined E D i s low held led long
 sync-joined E D i s (DiskFails answered) low held led long = tt
 sync-joined E D i s (NoMemory answered) low held led long = tt
 
-pub sync-unrepaired : (E : Database) (D : Deployment) (i : ℕ) (s : SiteState) (o : Outside) → Unrepaired s → Unrepaired (sync_turn E D i s o).state
-sync-unrepaired E D i s Fair h = syncs-unrepaired E D i s h
+pub sync-unrepaired : (E : Database) (D : Deployment) (i : ℕ) (s : SiteState) (o : Environment) → Unrepaired s → Unrepaired (sync_turn E D i s o).state
+sync-unrepaired E D i s NoFault h = syncs-unrepaired E D i s h
 sync-unrepaired E D i s (DisksShow shown failed) h = syncs-unrepaired E D i s h
 sync-unrepaired E D i s (DiskFails answered) h = λ un. refl
 sync-unrepaired E D i s (NoMemory answered) h = λ un. refl

@@ -8,7 +8,7 @@ use Rattle.volt_wire.specs.declared.actor.Actor.{Actor}
 use Rattle.volt_wire.specs.declared.actor.Actor.TheVariants.{Agent, Site}
 use Rattle.cluster_model.specs.Engine.{Database}
 use Rattle.cluster_model.specs.Letters.{Letter}
-use Rattle.cluster_model.specs.Outside.{Outside}
+use Rattle.cluster_model.specs.Environment.{Environment}
 use Rattle.cluster_model.specs.SiteState.{SiteState, leads}
 use Rattle.cluster_model.specs.Sync.{site_turn, sync_turn}
 use Rattle.word_laws.proofs.Lists.{all-mono}
@@ -17,13 +17,13 @@ use Rattle.log_laws.proofs.Kept.Moves.{Enters, Grown, after, popped}
 use Rattle.log_laws.proofs.Kept.Terms.{some-start}
 use Rattle.log_laws.proofs.Entries.Leads.{Leading, leading}
 use Rattle.disk_laws.specs.Disks.{DisksHold, Firm}
-use Rattle.disk_laws.proofs.Rows.{PlainWaiting, waiting-plain}
+use Rattle.disk_laws.proofs.Handlers.{PlainWaiting, waiting-plain}
 use Rattle.disk_laws.proofs.SiteDisks.{Raised}
 use Rattle.disk_laws.proofs.Turning.{DisksGo, fewer}
 use Rattle.transaction_laws.specs.Transactions.{Transactions, CallsHold, SiteCalls, ToSiteOk}
 use Rattle.transaction_laws.proofs.Kept.Moves.{with_due}
 use Rattle.transaction_laws.proofs.Initiators.Orders.{LaidOut}
-use Rattle.transaction_laws.proofs.Sites.Reigns.{OwnTurn, due_after, runs}
+use Rattle.transaction_laws.proofs.Sites.Leaderships.{OwnTurn, due_after, runs}
 use Rattle.transaction_laws.proofs.Sites.SiteAnswers.{NoLog, site_turn-answers, sync_turn-answers}
 use Rattle.transaction_laws.proofs.Sites.SiteCounts.{sync-counted, sync-joined, sync-unrepaired}
 use Rattle.transaction_laws.proofs.Sites.SiteGiven.{given-counted, given-joined, given-starts, given-steady, given-unrepaired}
@@ -55,7 +55,7 @@ module _ (E : Database) (S : LogState) (H : Holds S) (F : Firm) (halted : Bool) 
 
   -- ---- it takes a message
 
-  module _ (from : Actor) (l : Letter) (ls : List Letter) (is : S.words.channel from (Site i) ≡ l ∷ ls) (o : Outside) (G : Logs) (M : Firm) where
+  module _ (from : Actor) (l : Letter) (ls : List Letter) (is : S.words.channel from (Site i) ≡ l ∷ ls) (o : Environment) (G : Logs) (M : Firm) where
     abbrev u : SiteState
     u = (site_turn E S.words.deployment (now + 1) i (S.sites i) from l o).state
 
@@ -75,9 +75,9 @@ module _ (E : Database) (S : LogState) (H : Holds S) (F : Firm) (halted : Bool) 
 
       own : OwnTurn E S H K C.books.due (now + 1) i ch u out G J grown enters on taken
       own = record {
-        steady = λ was lead view. let up = runs S H i ch u out G J enters on lead in given-steady E (now + 1) S H i slot up from l ls is (before up).waiting o was lead view;
-        starts = λ lead anew. let up = runs S H i ch u out G J enters on lead in given-starts E (now + 1) S H i slot up from l ls is (before up).waiting o lead anew;
-        was_due = λ was lead view. let up = runs S H i ch u out G J enters on lead in
+        steady = λ was authoritative view. let up = runs S H i ch u out G J enters on authoritative in given-steady E (now + 1) S H i slot up from l ls is (before up).waiting o was authoritative view;
+        starts = λ authoritative anew. let up = runs S H i ch u out G J enters on authoritative in given-starts E (now + 1) S H i slot up from l ls is (before up).waiting o authoritative anew;
+        was_due = λ was authoritative view. let up = runs S H i ch u out G J enters on authoritative in
             taken-due S H K C.books.due i slot under-way (before up) (leading S i H up was) from l ls is;
       }
 
@@ -89,10 +89,10 @@ module _ (E : Database) (S : LogState) (H : Holds S) (F : Firm) (halted : Bool) 
             (no-log S H i)
             (λ up. waits-none S H i slot from l (head-ok S i under-way from l ls is))
             (λ up. (before up).waiting) (λ up. (before up).held);
-        counted = λ lead. let up = runs S H i ch u out G J enters on lead in
-            given-counted E (now + 1) S H i slot up from l ls is (before up).waiting o F halted disks (λ was. ((before up).counts was).counted) lead;
-        joined = λ low old lead. let up = runs S H i ch u out G J enters on lead in
-            given-joined E (now + 1) S H i slot up from l ls is (before up).waiting o low old (before up).unrepaired lead;
+        counted = λ authoritative. let up = runs S H i ch u out G J enters on authoritative in
+            given-counted E (now + 1) S H i slot up from l ls is (before up).waiting o F halted disks (λ was. ((before up).counts was).counted) authoritative;
+        joined = λ low old authoritative. let up = runs S H i ch u out G J enters on authoritative in
+            given-joined E (now + 1) S H i slot up from l ls is (before up).waiting o low old (before up).unrepaired authoritative;
         unrepaired = λ up. given-unrepaired E (now + 1) S H i slot up from l ls is (before up).waiting o (before up).unrepaired;
         left = λ k h a init. left-orders S H K C.books.due i slot under-way (before (leading-runs k)) k from l ls is h a init;
         less = fewer S from i;
@@ -108,7 +108,7 @@ module _ (E : Database) (S : LogState) (H : Holds S) (F : Firm) (halted : Bool) 
 
   -- ---- it syncs
 
-  module _ (up : 0 < start_at S i) (o : Outside) (G : Logs) (M : Firm) where
+  module _ (up : 0 < start_at S i) (o : Environment) (G : Logs) (M : Firm) where
     abbrev synced : SiteState
     synced = (sync_turn E S.words.deployment i (S.sites i) o).state
 
@@ -125,14 +125,14 @@ module _ (E : Database) (S : LogState) (H : Holds S) (F : Firm) (halted : Bool) 
 
       sync-own : OwnTurn E S H K C.books.due (now + 1) i S.words.channel synced says G J grown enters on []
       sync-own = record {
-        steady = λ was lead view. record {
+        steady = λ was authoritative view. record {
           more = [];
-          log_is = (still-leads lead).0 ∙ sym (append-nil (log_at S i ++ []) ∙ append-nil (log_at S i));
+          log_is = (still-leads authoritative).0 ∙ sym (append-nil (log_at S i ++ []) ∙ append-nil (log_at S i));
           at = tt;
           room = inl refl;
         };
-        starts = λ lead anew. let s = still-leads lead in absurd (anew s.2 s.1);
-        was_due = λ was lead view. inl refl;
+        starts = λ authoritative anew. let s = still-leads authoritative in absurd (anew s.2 s.1);
+        was_due = λ was authoritative view. inl refl;
       }
 
       sync-facts : OwnFacts E S H F M halted K now C lay i slot S.words.channel synced says G J grown enters on go.disks raised go.tops []
@@ -140,7 +140,7 @@ module _ (E : Database) (S : LogState) (H : Holds S) (F : Firm) (halted : Bool) 
         own = sync-own;
         answers = sync_turn-answers E S.words.deployment i (S.sites i) o up (before up).waiting (before up).held;
         counted = sync-counted E S.words.deployment i (S.sites i) o;
-        joined = λ low old lead. sync-joined E S.words.deployment i (S.sites i) o low (λ was. old was (still-leads lead).1) lead;
+        joined = λ low old authoritative. sync-joined E S.words.deployment i (S.sites i) o low (λ was. old was (still-leads authoritative).1) authoritative;
         unrepaired = λ _. sync-unrepaired E S.words.deployment i (S.sites i) o (before up).unrepaired;
         left = λ k h a init. own-orders S H K C.books.due i slot under-way (before up) k h a init;
         less = λ a b l m. m;

@@ -12,7 +12,7 @@ use Rattle.cluster_model.specs.Engine.{Database}
 use Rattle.cluster_model.specs.Words.{slots, host_of_slot, is_member, term_of, term_in}
 use Rattle.cluster_model.specs.Letters.{Blocks, Letter, Waiting, arrival, Taken}
 use Rattle.cluster_model.specs.SiteState.{SiteState, Joining, Streamed, Reported, is_joiner, is_leader, leads, site_term}
-use Rattle.cluster_model.specs.Outside.{Outside}
+use Rattle.cluster_model.specs.Environment.{Environment}
 use Rattle.cluster_model.specs.Sync.{site_turn}
 use Rattle.word_laws.specs.Histories.{In}
 use Rattle.word_laws.proofs.Lists.{not-both, all-both, all-mono, none-and-some, same-some}
@@ -25,9 +25,9 @@ use Rattle.log_laws.proofs.Messages.Pops.{taken-for}
 use Rattle.log_laws.proofs.NewTerms.Entering.{took-admitted, ran-owner, running-ran}
 use Rattle.log_laws.proofs.NewTerms.Taking.{first-word, later-word}
 use Rattle.log_laws.proofs.Kept.Terms.{some-term, took-decided, took-unnamed}
-use Rattle.log_laws.proofs.Runs.SiteRows.{taken-here}
+use Rattle.log_laws.proofs.Runs.SiteHandlers.{taken-here}
 use Rattle.disk_laws.specs.Disks.{Firm, StreamDisk, DisksHold}
-use Rattle.disk_laws.proofs.SiteRows.{stays_joiner}
+use Rattle.disk_laws.proofs.SiteHandlers.{stays_joiner}
 use Rattle.transaction_laws.specs.Transactions.{WaitsPlain}
 use Rattle.transaction_laws.proofs.Sites.SiteWalk.{Comes, WaitsQuietly, ReportOf, waits-quietly, taken_by, AnyReport, any-report, any-reports, SameView, view-steps}
 use Rattle.transaction_laws.proofs.Sites.SiteWalked.{asks-view, Walked, Ends, Same, Stays, Views, walked}
@@ -83,17 +83,17 @@ module _ (S : LogState) (H : Holds S) (i : ℕ) (slot : IsSlot S i) (up : 0 < st
 
   -- nothing is for it to append
   no-line : is_leader S.words.deployment i s ≡ true → (c : ℕ) → line (start_at S i) (term_at S i) (between S c i) ≡ []
-  no-line lead c =
-      let m = (H.sites i).member up (leader-view S.words.deployment i s lead).0 in
-      let first = (is-leader S.words.deployment i s m.0 m.1 lead).1 in
+  no-line authoritative c =
+      let m = (H.sites i).member up (leader-view S.words.deployment i s authoritative).0 in
+      let first = (is-leader S.words.deployment i s m.0 m.1 authoritative).1 in
       ap (λ o. line (start_at S i) (term_in o) (between S c i)) m.1 ∙ m.2.others c (leader-follows-none S.words.deployment m.0 i c first)
 
   -- so no message that it takes is
   module _ (c : ℕ) (l : Letter) (ls : List Letter) (is : between S c i ≡ l ∷ ls) (take : arrival (start_at S i) (term_at S i) l ≡ Taken) where
     lines : is_leader S.words.deployment i s ≡ true → (0 < l.start) × (0 < l.term) → line_in l.body ≡ []
-    lines lead some =
+    lines authoritative some =
         let a = taken-here (start_at S i) (term_at S i) l take some.0 some.1 in
-        let here = line-empty (start_at S i) (term_at S i) (between S c i) (no-line lead c) l (subst (In l) (sym is) (inl refl)) in
+        let here = line-empty (start_at S i) (term_at S i) (between S c i) (no-line authoritative c) l (subst (In l) (sym is) (inl refl)) in
         rw (for-true (start_at S i) (term_at S i) l a.0 a.1) at here
 
     letter : SiteLetterOk S c i l
@@ -102,8 +102,8 @@ module _ (S : LogState) (H : Holds S) (i : ℕ) (slot : IsSlot S i) (up : 0 < st
     site-from : Comes S.words.deployment i s (Site c) l
     site-from = (elim l.body as (λ b. SiteLetterOk S c i (record l { body = b }) → (is_leader S.words.deployment i s ≡ true → (0 < l.start) × (0 < l.term) → line_in b ≡ [])
         → Comes S.words.deployment i s (Site c) (record l { body = b })) [
-          | msg.Put position e floor ↦ λ k none lead. let r = none lead k.0.0 in absurd (cc)
-          | msg.Repair from entries ↦ λ k none lead. let r = none lead k.0 in absurd (cc)
+          | msg.Put position e floor ↦ λ k none authoritative. let r = none authoritative k.0.0 in absurd (cc)
+          | msg.Repair from entries ↦ λ k none authoritative. let r = none authoritative k.0 in absurd (cc)
           | b ↦ λ k none. tt
         ]) letter lines
 
@@ -247,7 +247,7 @@ module _ (S : LogState) (H : Holds S) (i : ℕ) (slot : IsSlot S i) (up : 0 < st
 -- ---- the turn
 
 module _ (E : Database) (stamp : ℕ) (S : LogState) (H : Holds S) (i : ℕ) (slot : IsSlot S i) (up : 0 < start_at S i) (from : Actor) (l : Letter) (ls : List Letter)
-    (is : S.words.channel from (Site i) ≡ l ∷ ls) (plain : AllByRecursion (λ x. WaitsPlain x.from x.letter) (S.sites i).waiting) (o : Outside) where
+    (is : S.words.channel from (Site i) ≡ l ∷ ls) (plain : AllByRecursion (λ x. WaitsPlain x.from x.letter) (S.sites i).waiting) (o : Environment) where
   -- the site behind it
   abbrev u : SiteState
   u = (site_turn E S.words.deployment stamp i (S.sites i) from l o).state
@@ -297,8 +297,8 @@ module _ (E : Database) (stamp : ℕ) (S : LogState) (H : Holds S) (i : ℕ) (sl
   given-counted F halted K counted = site-counted E S.words.deployment stamp i (S.sites i) from l o up comes (λ take. site-above S H i slot up from l ls is take F halted K) waits
       counted (site-marked S F halted K i slot up)
 
-  pub given-joined : (low : ℕ) → (leads S.words.deployment i (S.sites i) ≡ true → u.view ≡ (S.sites i).view → AllByRecursion (λ j. low ≤ j.nj) (S.sites i).joiners)
-      → Unrepaired (S.sites i) → leads S.words.deployment i u ≡ true → low ≤ length u.log → AllByRecursion (λ j. low ≤ j.nj) u.joiners
+  pub given-joined : (low : ℕ) → (leads S.words.deployment i (S.sites i) ≡ true → u.view ≡ (S.sites i).view → AllByRecursion (λ j. low ≤ j.stream_start) (S.sites i).joiners)
+      → Unrepaired (S.sites i) → leads S.words.deployment i u ≡ true → low ≤ length u.log → AllByRecursion (λ j. low ≤ j.stream_start) u.joiners
   given-joined low = site-joined E S.words.deployment stamp i (S.sites i) from l o low up comes waits
 
   pub given-unrepaired : Unrepaired (S.sites i) → Unrepaired u

@@ -11,7 +11,7 @@ use Rattle.cluster_model.specs.Words.{Deployment, term_of, term_in}
 use Rattle.cluster_model.specs.Letters.{Letter, arrival, Taken}
 use Rattle.cluster_model.specs.SiteState.{SiteState, Reported, is_leader, leads, other_copies, site_term}
 use Rattle.cluster_model.specs.Site.{longest, lacks, takes_asks, in_new_term}
-use Rattle.cluster_model.specs.Outside.{Outside, Fair, DiskFails, NoMemory, DisksShow}
+use Rattle.cluster_model.specs.Environment.{Environment, NoFault, DiskFails, NoMemory, DisksShow}
 use Rattle.cluster_model.specs.Sync.{after_sync, parts_of_sync, site_turn, syncs, sync_turn}
 use Rattle.cluster_model.specs.Disk.{after_parts}
 use Rattle.word_laws.proofs.Lists.{all-append, not-both, none-and-some}
@@ -109,18 +109,18 @@ module _ (D : Deployment) (stamp i : ℕ) (P : Reported → Type 0) where
   logs-same s u same view repaired log reports = record {
     same = same;
     view = view;
-    steady = λ lead ready. (repaired ∙ ready, subst (Runs stamp s.log) (sym log) (none-runs stamp s.log));
-    begins = λ lead un ok. inl (repaired ∙ un, log, subst (AllByRecursion P) (sym reports) ok);
+    steady = λ authoritative ready. (repaired ∙ ready, subst (Runs stamp s.log) (sym log) (none-runs stamp s.log));
+    begins = λ authoritative un ok. inl (repaired ∙ un, log, subst (AllByRecursion P) (sym reports) ok);
   }
 
   logs-then : (s m u : SiteState) → Logs D stamp i P s m → Logs D stamp i P m u → Logs D stamp i P s u
   logs-then s m u h k = record {
     same = k.same ∙ h.same;
     view = k.view ∙ h.view;
-    steady = λ lead ready. let a = h.steady lead ready in let b = k.steady (h.same ∙ lead) a.0 in (b.0, runs-then stamp s.log m.log u.log a.1 b.1);
-    begins = λ lead un ok. elim (h.begins lead un ok) [
-      | inr a ↦ let b = k.steady (h.same ∙ lead) a.0 in inr (b.0, started-then D stamp i s m u P a.1 k.view b.1)
-      | inl a ↦ elim (k.begins (h.same ∙ lead) a.0 a.2) [
+    steady = λ authoritative ready. let a = h.steady authoritative ready in let b = k.steady (h.same ∙ authoritative) a.0 in (b.0, runs-then stamp s.log m.log u.log a.1 b.1);
+    begins = λ authoritative un ok. elim (h.begins authoritative un ok) [
+      | inr a ↦ let b = k.steady (h.same ∙ authoritative) a.0 in inr (b.0, started-then D stamp i s m u P a.1 k.view b.1)
+      | inl a ↦ elim (k.begins (h.same ∙ authoritative) a.0 a.2) [
         | inl b ↦ inl (b.0, b.1 ∙ a.1, b.2)
         | inr b ↦ inr (b.0, started-from D stamp i s m u P a.1 b.1)
       ]
@@ -135,23 +135,23 @@ module _ (D : Deployment) (stamp i : ℕ) (P : Reported → Type 0) where
     apart = λ s u a. record {
       same = a.after ∙ sym a.before;
       view = a.view;
-      steady = λ lead ready. absurd (not-both (is_leader D i s) lead a.before);
-      begins = λ lead un ok. absurd (not-both (is_leader D i s) lead a.before);
+      steady = λ authoritative ready. absurd (not-both (is_leader D i s) authoritative a.before);
+      begins = λ authoritative un ok. absurd (not-both (is_leader D i s) authoritative a.before);
     };
-    counted = λ s lead acks joiners e. logs-same s _ refl refl refl refl refl;
+    counted = λ s authoritative acks joiners e. logs-same s _ refl refl refl refl refl;
     joiners = λ s f n p. logs-same s _ refl refl refl refl refl;
   }
 
   logs-steps : Steps D stamp i P (Logs D stamp i P)
   logs-steps = record {
     settles = logs-settles;
-    called = λ s lead clear call body. record {
+    called = λ s authoritative clear call body. record {
       same = refl;
       view = refl;
       steady = λ _ ready. (ready, record { more = _; is = refl; at = (refl, tt); room = inr clear });
-      begins = λ _ un ok. absurd (not-both s.repaired (leads-parts D i s lead).1 un);
+      begins = λ _ un ok. absurd (not-both s.repaired (leads-parts D i s authoritative).1 un);
     };
-    begun = λ s lead un all. record {
+    begun = λ s authoritative un all. record {
       same = refl;
       view = refl;
       steady = λ _ ready. absurd (not-both s.repaired ready un);
@@ -174,7 +174,7 @@ module _ (D : Deployment) (stamp i : ℕ) (P : Reported → Type 0) where
       steady = λ _ ready. (ready, none-runs stamp s.log);
       begins = λ _ un ok. inl (un, refl, all-append P s.reports (r ∷ []) ok (p, tt));
     };
-    noted = λ s lead acks joiners e. logs-same s _ refl refl refl refl refl;
+    noted = λ s authoritative acks joiners e. logs-same s _ refl refl refl refl refl;
   }
 
   -- a joiner that is taken changes no log
@@ -188,7 +188,7 @@ module _ (D : Deployment) (stamp i : ℕ) (P : Reported → Type 0) where
 
 -- one without a word doesn't lead: neither one that is stopped, nor one that has just begun
 pub stopped-not-leads : (D : Deployment) (i : ℕ) (s : SiteState) → s.view ≡ None → leads D i s ≡ true → ⊥
-stopped-not-leads D i s e lead = none-and-some e (leader-view D i s (leads-parts D i s lead).0).1.1
+stopped-not-leads D i s e authoritative = none-and-some e (leader-view D i s (leads-parts D i s authoritative).0).1.1
 
 -- where no call runs
 steady-none : (stamp : ℕ) (s u : SiteState) (taken : List Entry) → taken ≡ [] → u.log ≡ s.log → Steady stamp s u taken
@@ -207,18 +207,18 @@ steady-runs stamp s u taken log is k = record {
   room = subst (λ x. (k.more ≡ []) ⊎ (nothing_open x ≡ true)) is k.room;
 }
 
-module _ (E : Database) (D : Deployment) (stamp i : ℕ) (s : SiteState) (from : Actor) (l : Letter) (o : Outside) where
+module _ (E : Database) (D : Deployment) (stamp i : ℕ) (s : SiteState) (from : Actor) (l : Letter) (o : Environment) where
   abbrev u : SiteState
   u = (site_turn E D stamp i s from l o).state
 
   pub site-steady : 0 < s.start → (arrival s.start (site_term s) l ≡ Taken → Comes D i s from l) → AllByRecursion WaitsQuietly s.waiting
       → leads D i s ≡ true → leads D i u ≡ true → u.view ≡ s.view → Steady stamp s u (taken_by s from l)
-  site-steady up comes waiting lead led same =
+  site-steady up comes waiting authoritative led same =
       go (walked E D stamp i AnyReport (Logs D stamp i AnyReport) (logs-steps D stamp i AnyReport) (λ s ws. logs-same D stamp i AnyReport s _ refl refl refl refl refl) s waiting from l o
       comes (λ _. any-report from l) (any-reports (site_term u) s.waiting))
     where
       parts : (is_leader D i s ≡ true) × (s.repaired ≡ true)
-      parts = leads-parts D i s lead
+      parts = leads-parts D i s authoritative
 
       go : Walked E D i (Logs D stamp i AnyReport) s from l u → Steady stamp s u (taken_by s from l)
       go (Ends view joiners) = absurd (stopped-not-leads D i u view led)
@@ -226,7 +226,7 @@ module _ (E : Database) (D : Deployment) (stamp i : ℕ) (s : SiteState) (from :
       go (Stays a log leading other v view k is) =
           let b = record s { log = log } in
           let r = (logs-then D stamp i AnyReport b v (takes_asks E D i v).state k (asks-logs D stamp i AnyReport E v)).steady parts.0 parts.1 in
-          steady-runs stamp s u (taken_by s from l) log (leading lead ∙ ap (λ x. s.log ++ taken_at x from l) (sym a)) (subst (λ x. Runs stamp log x.log) (sym is) r.1)
+          steady-runs stamp s u (taken_by s from l) log (leading authoritative ∙ ap (λ x. s.log ++ taken_at x from l) (sym a)) (subst (λ x. Runs stamp log x.log) (sym is) r.1)
       go (Views a h w sender body joining enters v view k is) =
           let later : site_term s < term_of w = comes-view D i s from l h w sender body (comes a) in
           let here : s.view ≡ Some w = sym same ∙ ap (λ x. x.view) is ∙ asks-view E D i v ∙ view in
@@ -256,7 +256,7 @@ module _ (E : Database) (D : Deployment) (stamp i : ℕ) (s : SiteState) (from :
 
         -- in its word it was a leader that hadn't begun
         unrepaired : is_leader D i s ≡ true → leads D i s ≡ false → s.repaired ≡ false
-        unrepaired lead idle = false_from_ne_true s.repaired (λ r. not-both (leads D i s) (leads-from D i s lead r) idle)
+        unrepaired authoritative idle = false_from_ne_true s.repaired (λ r. not-both (leads D i s) (leads-from D i s authoritative r) idle)
 
         stays : (c : Bool) → leads D i s ≡ c → (log : List Entry) → (leads D i s ≡ false → log ≡ s.log) → Logs D stamp i P (record s { log = log }) u → Started D stamp i s u P
         stays true e log other k = absurd (anew e k.view)
@@ -285,11 +285,11 @@ still-settles D i = record {
   next = λ s m u h k. record {
     same = k.same ∙ h.same;
     view = k.view ∙ h.view;
-    leads = λ lead. let a = h.leads lead in let b = k.leads (h.same ∙ lead) in (b.0 ∙ a.0, b.1 ∙ a.1);
+    leads = λ authoritative. let a = h.leads authoritative in let b = k.leads (h.same ∙ authoritative) in (b.0 ∙ a.0, b.1 ∙ a.1);
   };
   rest = λ s u. record { same = refl; view = refl; leads = λ _. (refl, refl) };
-  apart = λ s u a. record { same = a.after ∙ sym a.before; view = a.view; leads = λ lead. absurd (not-both (is_leader D i s) lead a.before) };
-  counted = λ s lead acks joiners e. record { same = refl; view = refl; leads = λ _. (refl, refl) };
+  apart = λ s u a. record { same = a.after ∙ sym a.before; view = a.view; leads = λ authoritative. absurd (not-both (is_leader D i s) authoritative a.before) };
+  counted = λ s authoritative acks joiners e. record { same = refl; view = refl; leads = λ _. (refl, refl) };
   joiners = λ s f n p. record { same = refl; view = refl; leads = λ _. (refl, refl) };
 }
 
@@ -314,13 +314,13 @@ syncs-steady E D i s led =
     let k = syncs-still E D i s in
     let w = wrote D i s (after_parts s.contents (parts_of_sync s s.joining)) in
     let p = leads-parts D i (syncs E D i s).state led in
-    let lead : is_leader D i (written_site s) ≡ true = sym k.same ∙ p.0 in
-    let r = k.leads lead in
-    (r.1 ∙ w.log, k.view ∙ w.view, leads-from D i s (wrote-leader D i s (written_site s) w lead) (sym w.repaired ∙ sym r.0 ∙ p.1))
+    let authoritative : is_leader D i (written_site s) ≡ true = sym k.same ∙ p.0 in
+    let r = k.leads authoritative in
+    (r.1 ∙ w.log, k.view ∙ w.view, leads-from D i s (wrote-leader D i s (written_site s) w authoritative) (sym w.repaired ∙ sym r.0 ∙ p.1))
 
-pub sync-steady : (E : Database) (D : Deployment) (i : ℕ) (s : SiteState) (o : Outside) → leads D i (sync_turn E D i s o).state ≡ true
+pub sync-steady : (E : Database) (D : Deployment) (i : ℕ) (s : SiteState) (o : Environment) → leads D i (sync_turn E D i s o).state ≡ true
     → ((sync_turn E D i s o).state.log ≡ s.log) × ((sync_turn E D i s o).state.view ≡ s.view) × (leads D i s ≡ true)
-sync-steady E D i s Fair led = syncs-steady E D i s led
+sync-steady E D i s NoFault led = syncs-steady E D i s led
 sync-steady E D i s (DisksShow shown failed) led = syncs-steady E D i s led
 sync-steady E D i s (DiskFails answered) led = absurd (stopped-not-leads D i (sync_turn E D i s (DiskFails answered)).state refl led)
 sync-steady E D i s (NoMemory answered) led = absurd (stopped-not-leads D i (sync_turn E D i s (NoMemory answered)).state refl led)

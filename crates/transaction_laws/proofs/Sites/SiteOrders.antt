@@ -19,10 +19,10 @@ use Rattle.word_laws.proofs.Steps as word_steps
 use Rattle.log_laws.specs.Histories.{LogState, Holds, IsSlot, is_for, part, start_at, term_at}
 use Rattle.log_laws.proofs.Plain.Lines.{both-empty, flat-none, for-false, for-true, if-none, true-for}
 use Rattle.log_laws.proofs.Messages.Pops.{refused-for, waits-for}
-use Rattle.log_laws.proofs.Runs.SiteRows.{taken-here}
+use Rattle.log_laws.proofs.Runs.SiteHandlers.{taken-here}
 use Rattle.log_laws.proofs.Kept.Moves.{popped}
 use Rattle.log_laws.proofs.Kept.Plumbing.{popped-here}
-use Rattle.log_laws.proofs.Kept.Terms.{reign-entered, same-word}
+use Rattle.log_laws.proofs.Kept.Terms.{leadership-entered, same-word}
 use Rattle.log_laws.proofs.Entries.Leads.{Leading}
 use Rattle.transaction_laws.specs.Transactions.{Transactions, DueOk, OrderOk, SiteCalls, ToSiteOk, WaitsPlain, order_in, order_of, orders}
 use Rattle.transaction_laws.proofs.Sites.SiteWalk.{taken_by}
@@ -59,13 +59,13 @@ own-ordered : (start term : ℕ) (l : Letter) → l.start ≡ start → l.term �
 own-ordered start term l s t = if-true (is_for start term l) (order_in l.body) [] (for-true start term l s t)
 
 -- In a term that isn't led none is under way.
-pub none-under-way : (S : LogState) (h c start term : ℕ) → S.logs.reign (part S c) term ≡ None → (ls : List Letter) → AllByRecursion (ToSiteOk S h c) ls → orders start term ls ≡ []
+pub none-under-way : (S : LogState) (h c start term : ℕ) → S.logs.leadership (part S c) term ≡ None → (ls : List Letter) → AllByRecursion (ToSiteOk S h c) ls → orders start term ls ≡ []
 none-under-way S h c start term none ls all = flat-none (order_of start term) ls (all-mono (ToSiteOk S h c) (λ l. order_of start term l ≡ []) each ls all)
   where
     each : (l : Letter) → ToSiteOk S h c l → order_of start term l ≡ []
     each l k = elim (order-one S h c l k) [
       | inl e ↦ none-ordered start term l e
-      | inr (o, _) ↦ other-ordered start term l (λ _ t. none-and-some none (ap (S.logs.reign (part S c)) (sym t) ∙ o.led))
+      | inr (o, _) ↦ other-ordered start term l (λ _ t. none-and-some none (ap (S.logs.leadership (part S c)) (sym t) ∙ o.led))
     ]
 
 -- of the head of a channel from an agent
@@ -80,7 +80,7 @@ module _ (S : LogState) (H : Holds S) (i : ℕ) (slot : IsSlot S i) where
   -- The receiver has been in the term of one that is for it.
   order-below : (h : ℕ) (l : Letter) → OrderOk S h i l → l.start ≡ start_at S i → l.term ≤ term_at S i
   order-below h l k own =
-      let e = reign-entered S H (part S i) l.term k.reign k.led k.word k.is_word i l.start slot refl k.start_is in
+      let e = leadership-entered S H (part S i) l.term k.leadership k.led k.word k.is_word i l.start slot refl k.start_is in
       ((H.entered i l.term e.0 e.1).running (sym own ∙ sym e.2)).1
 
   -- So it takes it, or drops it.

@@ -15,8 +15,8 @@ use Rattle.cluster_model.specs.SiteState.{SiteState, Joiner, site_term, leads, o
 use Rattle.cluster_model.specs.Site.{acked_in, copy_acks, has_all_on_disk, least, lesser, own_ack, standing}
 use Rattle.word_laws.proofs.Lists.{all-append, none-and-some}
 use Rattle.word_laws.proofs.Members.{is_some_of-is}
-use Rattle.log_laws.specs.Histories.{LogState, Front, Holds, IsSlot, part, start_at}
-use Rattle.log_laws.proofs.Plain.Fronts.{front-length, front-rest}
+use Rattle.log_laws.specs.Histories.{LogState, Prefix, Holds, IsSlot, part, start_at}
+use Rattle.log_laws.proofs.Plain.Prefixes.{prefix-length, prefix-rest}
 use Rattle.log_laws.proofs.Kept.Terms.{some-term}
 use Rattle.log_laws.proofs.Entries.Leads.{Leading, leading}
 use Rattle.log_laws.proofs.Runs.Leading.{leads-runs}
@@ -54,30 +54,30 @@ acks-low low end (x ∷ xs) l e =
     (subst (IsLow low) (sym (is_some_of-is x end p.0)) l, acks-low low end xs l p.1)
 
 -- no stream began before that
-joined-low : (low : ℕ) (js : List Joiner) → AllByRecursion (λ j. low ≤ j.nj) js → AllByRecursion (IsLow low) (map (λ j. Some (max j.nj j.position)) js)
+joined-low : (low : ℕ) (js : List Joiner) → AllByRecursion (λ j. low ≤ j.stream_start) js → AllByRecursion (IsLow low) (map (λ j. Some (max j.stream_start j.position)) js)
 joined-low low [] h = tt
 joined-low low (j ∷ js) h = (omega (arith, h.0), joined-low low js h.1)
 
 -- ---- calls
 
 -- How a log stands doesn't change by calls behind it.
-standing-calls : (E : Database) (p : ℕ) (front log : List Entry) → Front front log → OnlyCalls (drop (length front) log)
-    → standing (open_in front) (last_done E p front) ≡ standing (open_in log) (last_done E p log)
-standing-calls E p front log f calls = ap (λ o. standing o (last_done E p front)) opened ∙ ap (standing (open_in log)) done
+standing-calls : (E : Database) (p : ℕ) (prefix log : List Entry) → Prefix prefix log → OnlyCalls (drop (length prefix) log)
+    → standing (open_in prefix) (last_done E p prefix) ≡ standing (open_in log) (last_done E p log)
+standing-calls E p prefix log f calls = ap (λ o. standing o (last_done E p prefix)) opened ∙ ap (standing (open_in log)) done
   where
     rest : List Entry
-    rest = drop (length front) log
+    rest = drop (length prefix) log
 
-    is : log ≡ front ++ rest
-    is = front-rest front log f
+    is : log ≡ prefix ++ rest
+    is = prefix-rest prefix log f
 
-    opened : open_in front ≡ open_in log
-    opened = open_in-stage E p front
-        ∙ ap (option_map (λ x. x.0)) (sym (calls-opened (stage E p front) rest calls) ∙ ap (λ x. x.opened) (sym (stage-append (first_stage E p) front rest)) ∙ ap (λ xs. (stage E p xs).opened) (sym is))
+    opened : open_in prefix ≡ open_in log
+    opened = open_in-stage E p prefix
+        ∙ ap (option_map (λ x. x.0)) (sym (calls-opened (stage E p prefix) rest calls) ∙ ap (λ x. x.opened) (sym (stage-append (first_stage E p) prefix rest)) ∙ ap (λ xs. (stage E p xs).opened) (sym is))
         ∙ sym (open_in-stage E p log)
 
-    done : last_done E p front ≡ last_done E p log
-    done = sym (calls-done (last_done E p front) rest calls) ∙ sym (done-append (E.opening_done p) front rest) ∙ ap (last_done E p) (sym is)
+    done : last_done E p prefix ≡ last_done E p log
+    done = sym (calls-done (last_done E p prefix) rest calls) ∙ sym (done-append (E.opening_done p) prefix rest) ∙ ap (last_done E p) (sym is)
 
 -- ---- a site that leads
 
@@ -89,12 +89,12 @@ module _ (E : Database) (T : LogState) (J : Holds T) (M : Firm) (halted : Bool) 
   abbrev s : SiteState
   s = T.sites i
 
-  module _ (lead : leads D i s ≡ true) where
+  module _ (authoritative : leads D i s ≡ true) where
     up : 0 < start_at T i
-    up = leads-runs T J i lead
+    up = leads-runs T J i authoritative
 
     abbrev k : Leading T i
-    k = leading T i J up lead
+    k = leading T i J up authoritative
 
     disk : MemberDisk T M i
     disk = (disks.disks i slot).member up k.joins
@@ -117,7 +117,7 @@ module _ (E : Database) (T : LogState) (J : Holds T) (M : Firm) (halted : Bool) 
     answer-stood term e a = (
       some term a.term_is,
       subst (λ t. Stood T M (part T i) t e) (sym (a.term_is ∙ term-is)) (record {
-        reign = k.reign;
+        leadership = k.leadership;
         led = k.led;
         position = a.position;
         stands = subst (λ xs. StandsAt xs a.position e) k.log a.stands;
@@ -128,20 +128,20 @@ module _ (E : Database) (T : LogState) (J : Holds T) (M : Firm) (halted : Bool) 
     -- ---- how its partition stands
 
     module _ (all : has_all_on_disk D i s ≡ true) where
-      begun-short : length k.reign.begun ≤ length s.log
-      begun-short = let a = front-length k.reign.begun k.reign.log (J.reigns (part T i) (term_of k.word) k.reign k.led).grown in let b = ap length k.log in omega (arith, a, b)
+      begun-short : length k.leadership.begun ≤ length s.log
+      begun-short = let a = prefix-length k.leadership.begun k.leadership.log (J.leaderships (part T i) (term_of k.word) k.leadership k.led).grown in let b = ap length k.log in omega (arith, a, b)
 
       -- what its term began with is acknowledged by all, and no joiner's stream began before
-      begun-firm : length k.reign.begun ≤ s.firm
+      begun-firm : length k.leadership.begun ≤ s.firm
       begun-firm =
-          let low = length k.reign.begun in
+          let low = length k.leadership.begun in
           let acks = acks-low low (length s.log) (copy_acks D i s) begun-short all in
-          let led = ap (T.logs.reign (part T i)) term-is ∙ k.led in
-          let joiners : AllByRecursion (IsLow low) (map (λ j. Some (max j.nj j.position)) s.joiners) =
-          joined-low low s.joiners ((counts lead).joined k.reign led) in
-          let n = some-low low (acknowledged D i s) (least-low low (own_ack s) (map (acked_in s.acks) (other_copies D i s) ++ map (λ j. Some (max j.nj j.position)) s.joiners) acks.0
-          (all-append (IsLow low) (map (acked_in s.acks) (other_copies D i s)) (map (λ j. Some (max j.nj j.position)) s.joiners) acks.1 joiners)) in
-          let l = (counts lead).counted n.0 n.1 in omega (arith, l, n.2)
+          let led = ap (T.logs.leadership (part T i)) term-is ∙ k.led in
+          let joiners : AllByRecursion (IsLow low) (map (λ j. Some (max j.stream_start j.position)) s.joiners) =
+          joined-low low s.joiners ((counts authoritative).joined k.leadership led) in
+          let n = some-low low (acknowledged D i s) (least-low low (own_ack s) (map (acked_in s.acks) (other_copies D i s) ++ map (λ j. Some (max j.stream_start j.position)) s.joiners) acks.0
+          (all-append (IsLow low) (map (acked_in s.acks) (other_copies D i s)) (map (λ j. Some (max j.stream_start j.position)) s.joiners) acks.1 joiners)) in
+          let l = (counts authoritative).counted n.0 n.1 in omega (arith, l, n.2)
 
       -- its own disk has the mark of the term
       own-mark : s.mark ≡ site_term s
@@ -163,12 +163,12 @@ module _ (E : Database) (T : LogState) (J : Holds T) (M : Firm) (halted : Bool) 
           → L.heard < term_of k.word → StateOk E T M (part T i) (term_of k.word) m is_open outcome
       told-state m is_open outcome told above = record {
         part = inside;
-        reign = k.reign;
+        leadership = k.leadership;
         led = k.led;
-        told = standing-calls E (part T i) k.reign.begun k.reign.log (J.reigns (part T i) (term_of k.word) k.reign k.led).grown
-            ((books.reigns (part T i) (term_of k.word) k.reign inside k.led).unheard above)
+        told = standing-calls E (part T i) k.leadership.begun k.leadership.log (J.leaderships (part T i) (term_of k.word) k.leadership k.led).grown
+            ((books.leaderships (part T i) (term_of k.word) k.leadership inside k.led).unheard above)
             ∙ ap (λ xs. standing (open_in xs) (last_done E (part T i) xs)) (sym k.log) ∙ told;
-        everywhere = everywhere (length k.reign.begun) begun-firm;
+        everywhere = everywhere (length k.leadership.begun) begun-firm;
         top = own-top;
       }
 

@@ -14,9 +14,9 @@ use Rattle.cluster_model.specs.Letters.{Letter, Sends, Waiting}
 use Rattle.cluster_model.specs.SiteState.{SiteState, site_term, leads}
 use Rattle.word_laws.specs.Histories.{In}
 use Rattle.word_laws.proofs.Lists.{all-append, all-at, all-from, all-mono, in-none, none-and-some, same-some}
-use Rattle.log_laws.specs.Histories.{LogState, Logs, LeadsIn, Reign, Holds, IsSlot, part, start_at, log_at, term_at}
+use Rattle.log_laws.specs.Histories.{LogState, Logs, LeadsIn, Leadership, Holds, IsSlot, part, start_at, log_at, term_at}
 use Rattle.log_laws.proofs.Plain.Copies.{leader-is, leader-view, leads-from}
-use Rattle.log_laws.proofs.Plain.Fronts.{front-length}
+use Rattle.log_laws.proofs.Plain.Prefixes.{prefix-length}
 use Rattle.log_laws.proofs.Kept.Moves.{Enters, Grown}
 use Rattle.log_laws.proofs.Kept.Plumbing.{here, sent-either, there}
 use Rattle.log_laws.proofs.Kept.Terms.{same-word}
@@ -31,7 +31,7 @@ use Rattle.transaction_laws.proofs.Kept.Later.{answer-on, books-moved, phase-mov
 use Rattle.transaction_laws.proofs.Initiators.Orders.{LaidOut, slot-part}
 use Rattle.transaction_laws.proofs.Sites.Answers.{SentAnswer, TurnAnswers}
 use Rattle.transaction_laws.proofs.Sites.SiteSends.{answers-ok}
-use Rattle.transaction_laws.proofs.Sites.Reigns.{OwnTurn, all-moved, due-here, due-none, due-unless, due_after, heads-own, lead-on, led-before, next, runs, start, unled-due}
+use Rattle.transaction_laws.proofs.Sites.Leaderships.{OwnTurn, all-moved, due-here, due-none, due-unless, due_after, heads-own, authoritative-on, led-before, next, runs, start, unled-due}
 use Rattle.transaction_laws.proofs.Sites.SiteOrders.{none-under-way}
 use Rattle.transaction_laws.proofs.Sites.SiteCounts.{Counted, Unrepaired}
 
@@ -50,8 +50,8 @@ module _ (E : Database) (S : LogState) (H : Holds S) (F M : Firm) (halted : Bool
     pub own : OwnTurn E S H K C.books.due (now + 1) i ch u out G J grown enters on taken
     pub answers : TurnAnswers E D i (record { state = u; sends = out })
     pub counted : leads D i u ≡ true → Counted D i u
-    pub joined : (low : ℕ) → (leads D i (S.sites i) ≡ true → u.view ≡ (S.sites i).view → AllByRecursion (λ j. low ≤ j.nj) (S.sites i).joiners) → leads D i u ≡ true
-        → low ≤ length u.log → AllByRecursion (λ j. low ≤ j.nj) u.joiners
+    pub joined : (low : ℕ) → (leads D i (S.sites i) ≡ true → u.view ≡ (S.sites i).view → AllByRecursion (λ j. low ≤ j.stream_start) (S.sites i).joiners) → leads D i u ≡ true
+        → low ≤ length u.log → AllByRecursion (λ j. low ≤ j.stream_start) u.joiners
     pub unrepaired : 0 < start_at S i → Unrepaired u
     -- what is due to it then is under way
     pub left : (k : Leading S i) (h a : ℕ) → initiator k.word ≡ Some (h, a)
@@ -126,17 +126,17 @@ module _ (E : Database) (S : LogState) (H : Holds S) (F M : Firm) (halted : Bool
     to_agents-kept c h is = all-from (AnswerOk E T M L (part S c)) (ch (Site c) (Agent h)) (λ l m. answer-kept (part S c) l
         (all-at (AnswerOk E S F K (part S c)) (S.words.channel (Site c) (Agent h)) (C.to_agents c h is) l (facts.less (Site c) (Agent h) l m)))
 
-    outside : (c h : ℕ) → (IsSlot S c → ⊥) → T.words.channel (Site c) (Agent h) ≡ []
-    outside c h = sent-either (record S { words = record S.words { channel = ch } }) i u out G (λ j ls. (IsSlot S j → ⊥) → ls ≡ []) (Agent h) (λ n. absurd (n slot))
-        (λ j _ n. in-none (ch (Site j) (Agent h)) (λ l m. subst (In l) (C.outside j h n) (facts.less (Site j) (Agent h) l m))) c
+    environment : (c h : ℕ) → (IsSlot S c → ⊥) → T.words.channel (Site c) (Agent h) ≡ []
+    environment c h = sent-either (record S { words = record S.words { channel = ch } }) i u out G (λ j ls. (IsSlot S j → ⊥) → ls ≡ []) (Agent h) (λ n. absurd (n slot))
+        (λ j _ n. in-none (ch (Site j) (Agent h)) (λ l m. subst (In l) (C.environment j h n) (facts.less (Site j) (Agent h) l m))) c
 
     -- ---- other sites
 
     -- The word of a site that leads isn't that of another leader of its partition.
-    not-both-lead : (c : ℕ) → (c ≡ i → ⊥) → (w : Membership) → In w S.words.history.decided → leader D w (part S c) ≡ Some c → part S c ≡ part S i → (lead : leads D i u ≡ true)
+    not-both-lead : (c : ℕ) → (c ≡ i → ⊥) → (w : Membership) → In w S.words.history.decided → leader D w (part S c) ≡ Some c → part S c ≡ part S i → (authoritative : leads D i u ≡ true)
         → term_of w ≡ site_term u → ⊥
-    not-both-lead c n w decided first p lead t =
-        let k = lead-on S H i ch u out G J enters on lead in
+    not-both-lead c n w decided first p authoritative t =
+        let k = authoritative-on S H i ch u out G J enters on authoritative in
         let site = here (record S { words = record S.words { channel = ch } }) i u out G in
         let e = ap site_term (sym site) ∙ ap term_in k.view in
         let same : w ≡ k.word = same-word S H (term_of k.word) w k.word (record { decided = decided; term_is = t ∙ e }) (record { decided = k.member.decided; term_is = refl }) in
@@ -144,9 +144,9 @@ module _ (E : Database) (S : LogState) (H : Holds S) (F M : Firm) (halted : Bool
 
     module _ (c : ℕ) (n : c ≡ i → ⊥) (w : Membership) (decided : In w S.words.history.decided) (first : leader D w (part S c) ≡ Some c) where
       due-other : due (part S c) (term_of w) ≡ K.due (part S c) (term_of w)
-      due-other = due-unless S K i u taken (part S c) (term_of w) (λ p t lead on. not-both-lead c n w decided first p lead (t ∙ sym on))
+      due-other = due-unless S K i u taken (part S c) (term_of w) (λ p t authoritative on. not-both-lead c n w decided first p authoritative (t ∙ sym on))
 
-      led-other : (g : Reign) → G.reign (part S c) (term_of w) ≡ Some g → S.logs.reign (part S c) (term_of w) ≡ Some g
+      led-other : (g : Leadership) → G.leadership (part S c) (term_of w) ≡ Some g → S.logs.leadership (part S c) (term_of w) ≡ Some g
       led-other g is = elim (grown.led (part S c) (term_of w) g is) [
         | inl old ↦ old
         | inr heads ↦ let r = heads-own S H i ch u out G J (part S c) (term_of w) g is heads in absurd (not-both-lead c n w decided first r.1 r.0 r.2)
@@ -163,7 +163,7 @@ module _ (E : Database) (S : LogState) (H : Holds S) (F M : Firm) (halted : Bool
           ∙ ap (orders (start_at S c) (term_of w)) (facts.there h c n)
           ∙ k.orders w joined viewed first h a init
           ∙ sym (due-other c n w (decided-at w joined viewed) first);
-      counts = λ lead. counts-kept (leading S c H up (ap (leads D c) (sym same) ∙ lead)) (k.counts (ap (leads D c) (sym same) ∙ lead));
+      counts = λ authoritative. counts-kept (leading S c H up (ap (leads D c) (sym same) ∙ authoritative)) (k.counts (ap (leads D c) (sym same) ∙ authoritative));
       unrepaired = rw same k.unrepaired;
     }
       where
@@ -178,8 +178,8 @@ module _ (E : Database) (S : LogState) (H : Holds S) (F M : Firm) (halted : Bool
           counted = subst (Counted D c) (sym same) o.counted;
           joined = λ g is.
               let t : term_at T c ≡ term_of m.word = ap site_term same ∙ ap term_in m.view in
-              let old = led-other c n m.word m.member.decided m.first g (ap (G.reign (part S c)) (sym t) ∙ is) in
-              subst (λ x. AllByRecursion (λ j. length g.begun ≤ j.nj) x.joiners) (sym same) (o.joined g (ap (λ x. S.logs.reign (part S c) (term_in x)) m.view ∙ old));
+              let old = led-other c n m.word m.member.decided m.first g (ap (G.leadership (part S c)) (sym t) ∙ is) in
+              subst (λ x. AllByRecursion (λ j. length g.begun ≤ j.stream_start) x.joiners) (sym same) (o.joined g (ap (λ x. S.logs.leadership (part S c) (term_in x)) m.view ∙ old));
         }
 
     -- ---- the site itself
@@ -189,56 +189,56 @@ module _ (E : Database) (S : LogState) (H : Holds S) (F M : Firm) (halted : Bool
 
     module _ (calls : 0 < start_at S i → SiteCalls S K i) where
       -- as the leader of a term
-      module _ (lead : leads D i u ≡ true) where
+      module _ (authoritative : leads D i u ≡ true) where
         abbrev k : Leading T i
-        k = lead-on S H i ch u out G J enters on lead
+        k = authoritative-on S H i ch u out G J enters on authoritative
 
         term-is : site_term u ≡ term_of k.word
         term-is = ap site_term (sym mine) ∙ ap term_in k.view
 
         up : 0 < start_at S i
-        up = runs S H i ch u out G J enters on lead
+        up = runs S H i ch u out G J enters on authoritative
 
         -- no stream began before what its term began with
-        joined-here : (g : Reign) → T.logs.reign (part S i) (site_term u) ≡ Some g → AllByRecursion (λ j. length g.begun ≤ j.nj) u.joiners
-        joined-here g is = facts.joined (length g.begun) before lead low
+        joined-here : (g : Leadership) → T.logs.leadership (part S i) (site_term u) ≡ Some g → AllByRecursion (λ j. length g.begun ≤ j.stream_start) u.joiners
+        joined-here g is = facts.joined (length g.begun) before authoritative low
           where
-            same : g ≡ k.reign
-            same = same-some (sym is ∙ ap (G.reign (part S i)) term-is ∙ k.led)
+            same : g ≡ k.leadership
+            same = same-some (sym is ∙ ap (G.leadership (part S i)) term-is ∙ k.led)
 
             low : length g.begun ≤ length u.log
-            low = let f = front-length g.begun g.log (J.reigns (part S i) (site_term u) g is).grown in
+            low = let f = prefix-length g.begun g.log (J.leaderships (part S i) (site_term u) g is).grown in
                 let e = ap (λ x. length x.log) mine in let b = ap length k.log in let q = ap (λ x. length x.log) same in omega (arith, f, e, b, q)
 
-            before : leads D i (S.sites i) ≡ true → u.view ≡ (S.sites i).view → AllByRecursion (λ j. length g.begun ≤ j.nj) (S.sites i).joiners
+            before : leads D i (S.sites i) ≡ true → u.view ≡ (S.sites i).view → AllByRecursion (λ j. length g.begun ≤ j.stream_start) (S.sites i).joiners
             before was view =
                 let b = leading S i H up was in
                 let t : term_at S i ≡ term_of b.word = ap term_in b.view in
-                let led = ap (S.logs.reign (part S i)) t ∙ b.led in
-                let r = grown.onward.kept (part S i) (term_at S i) b.reign led in
-                let q = ap (λ x. length x.begun) (same-some (sym r.1 ∙ ap (G.reign (part S i)) (ap term_in (sym view)) ∙ is)) in
+                let led = ap (S.logs.leadership (part S i)) t ∙ b.led in
+                let r = grown.onward.kept (part S i) (term_at S i) b.leadership led in
+                let q = ap (λ x. length x.begun) (same-some (sym r.1 ∙ ap (G.leadership (part S i)) (ap term_in (sym view)) ∙ is)) in
                 let e = ap length r.2 in
-                subst (λ m. AllByRecursion (λ j. m ≤ j.nj) (S.sites i).joiners) (omega (arith, q, e)) (((calls up).counts was).joined b.reign led)
+                subst (λ m. AllByRecursion (λ j. m ≤ j.stream_start) (S.sites i).joiners) (omega (arith, q, e)) (((calls up).counts was).joined b.leadership led)
 
       -- what is due to it then is under way
       orders-here : (w : Membership) → u.joining ≡ None → u.view ≡ Some w → leader D w (part S i) ≡ Some i → 0 < u.start → (h a : ℕ) → initiator w ≡ Some (h, a)
           → orders u.start (term_of w) (ch (Agent h) (Site i)) ≡ due (part S i) (term_of w)
-      orders-here w joins view first some h a init = go (S.logs.reign (part S i) (term_of w)) refl
+      orders-here w joins view first some h a init = go (S.logs.leadership (part S i) (term_of w)) refl
         where
           -- where the term was led, it led it and leads it still
-          lead : (g : Reign) → S.logs.reign (part S i) (term_of w) ≡ Some g → leads D i u ≡ true
-          lead g e =
+          authoritative : (g : Leadership) → S.logs.leadership (part S i) (term_of w) ≡ Some g → leads D i u ≡ true
+          authoritative g e =
               let m = (J.sites i).member (subst (λ x. 0 < x.start) (sym mine) some) (ap (λ x. x.joining) mine ∙ joins) in
               let same = same-some (sym m.1 ∙ ap (λ x. x.view) mine ∙ view) in
               let r = (grown.onward.kept (part S i) (term_of w) g e) in
-              let l = subst (LeadsIn (T.sites i)) (ap (λ v. G.reign (part S i) (term_of v)) same ∙ r.1) (m.2.leading (ap (λ v. leader D v (part S i)) same ∙ first)) in
+              let l = subst (LeadsIn (T.sites i)) (ap (λ v. G.leadership (part S i) (term_of v)) same ∙ r.1) (m.2.leading (ap (λ v. leader D v (part S i)) same ∙ first)) in
               leads-from D i u (leader-is D i u w view joins first) (ap (λ x. x.repaired) (sym mine) ∙ l.0)
 
-          led : (g : Reign) → S.logs.reign (part S i) (term_of w) ≡ Some g → orders u.start (term_of w) (ch (Agent h) (Site i)) ≡ due (part S i) (term_of w)
+          led : (g : Leadership) → S.logs.leadership (part S i) (term_of w) ≡ Some g → orders u.start (term_of w) (ch (Agent h) (Site i)) ≡ due (part S i) (term_of w)
           led g e =
-              let y = lead g e in
+              let y = authoritative g e in
               let same = same-some (sym view ∙ ap (λ x. x.view) (sym mine) ∙ (k y).view) in
-              let b = led-before S H i ch u out G J enters on y g (ap (λ v. S.logs.reign (part S i) (term_of v)) (sym same) ∙ e) in
+              let b = led-before S H i ch u out G J enters on y g (ap (λ v. S.logs.leadership (part S i) (term_of v)) (sym same) ∙ e) in
               let m = leading S i H (up y) b.0 in
               let t : term_at S i ≡ term_of w = ap term_in b.1 ∙ ap term_of (sym same) in
               let v = same-some (sym m.view ∙ b.1 ∙ ap Some (sym same)) in
@@ -246,7 +246,7 @@ module _ (E : Database) (S : LogState) (H : Holds S) (F M : Firm) (halted : Bool
               ∙ subst (λ n. orders (start_at S i) n (ch (Agent h) (Site i)) ≡ due (part S i) n) t
               (facts.left m h a (ap initiator v ∙ init) ∙ sym (due-here S K i u taken y (ap term_in view ∙ sym t)))
 
-          go : (o : Option Reign) → S.logs.reign (part S i) (term_of w) ≡ o → orders u.start (term_of w) (ch (Agent h) (Site i)) ≡ due (part S i) (term_of w)
+          go : (o : Option Leadership) → S.logs.leadership (part S i) (term_of w) ≡ o → orders u.start (term_of w) (ch (Agent h) (Site i)) ≡ due (part S i) (term_of w)
           go None e = none-under-way S h i u.start (term_of w) e (ch (Agent h) (Site i)) (all-from (ToSiteOk S h i) (ch (Agent h) (Site i)) (λ l m.
               all-at (ToSiteOk S h i) (S.words.channel (Agent h) (Site i)) (C.to_sites h i slot) l (facts.less (Agent h) (Site i) l m)))
               ∙ sym (due-none S K i u taken (part S i) (term_of w) (unled-due S K (part S i) (term_of w) (C.books.due (part S i) (term_of w)) e))
@@ -257,7 +257,7 @@ module _ (E : Database) (S : LogState) (H : Holds S) (F M : Firm) (halted : Bool
       unrepaired-here some (inl e) = facts.unrepaired (omega (arith, some, e))
       unrepaired-here some (inr none) = λ _. elim ((J.sites i).keeps (subst (λ x. 0 < x.start) (sym mine) some)).leads [
         | inl e ↦ ap (λ x. x.joiners) (sym mine) ∙ e
-        | inr lead ↦ absurd (none-and-some (ap (λ x. x.view) mine ∙ none) (leader-view D i (T.sites i) lead).1.1)
+        | inr authoritative ↦ absurd (none-and-some (ap (λ x. x.view) mine ∙ none) (leader-view D i (T.sites i) authoritative).1.1)
       ]
 
       own-site : 0 < u.start → SiteCalls T L i
@@ -267,9 +267,9 @@ module _ (E : Database) (S : LogState) (H : Holds S) (F M : Firm) (halted : Bool
         orders = λ w joins view first h a init.
             ap (λ x. orders x.start (term_of w) (ch (Agent h) (Site i))) mine
             ∙ orders-here w (ap (λ x. x.joining) (sym mine) ∙ joins) (ap (λ x. x.view) (sym mine) ∙ view) first some h a init;
-        counts = λ lead. let y = ap (leads D i) (sym mine) ∙ lead in record {
+        counts = λ authoritative. let y = ap (leads D i) (sym mine) ∙ authoritative in record {
           counted = subst (Counted D i) (sym mine) (facts.counted y);
-          joined = λ g is. subst (λ x. AllByRecursion (λ j. length g.begun ≤ j.nj) x.joiners) (sym mine) (joined-here y g (ap (λ x. G.reign (part S i) (site_term x)) (sym mine) ∙ is));
+          joined = λ g is. subst (λ x. AllByRecursion (λ j. length g.begun ≤ j.stream_start) x.joiners) (sym mine) (joined-here y g (ap (λ x. G.leadership (part S i) (site_term x)) (sym mine) ∙ is));
         };
         unrepaired = subst Unrepaired (sym mine) (unrepaired-here some on);
       }
@@ -285,7 +285,7 @@ module _ (E : Database) (S : LogState) (H : Holds S) (F M : Firm) (halted : Bool
       ]
 
       counts-here : leads D i (T.sites i) ≡ true → CountsOk T i
-      counts-here lead = (own-site (subst (λ x. 0 < x.start) mine (leads-runs T J i lead))).counts lead
+      counts-here authoritative = (own-site (subst (λ x. 0 < x.start) mine (leads-runs T J i authoritative))).counts authoritative
 
       said : (h : ℕ) → AllByRecursion (AnswerOk E T M L (part S i)) (out (Agent h))
       said h = all-mono (SentAnswer E D i u) (AnswerOk E T M L (part S i)) (λ l a.
@@ -311,7 +311,7 @@ module _ (E : Database) (S : LogState) (H : Holds S) (F M : Firm) (halted : Bool
           books = books;
           to_sites = to_sites;
           to_agents = to_agents;
-          outside = outside;
+          environment = environment;
           sites = sites;
           agents = agents;
           halts = choices;

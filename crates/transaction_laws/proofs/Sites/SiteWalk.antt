@@ -16,7 +16,7 @@ use Rattle.cluster_model.specs.Log.{answer_behind, nothing_open, open_behind}
 use Rattle.cluster_model.specs.Words.{Deployment, part_of_slot, is_some_of, term_of}
 use Rattle.cluster_model.specs.Letters.{Blocks, Letter, Waiting, Turn, becomes, sending, ◌▸◌, letter_to, arrival, Arrival, Taken, Refused, Waits, of_term, above_term}
 use Rattle.cluster_model.specs.SiteState.{SiteState, Joining, Reported, Joiner, AskedCall, Scanning, ForJoiner, ForBase, is_joiner, is_leader, leads, leader_in, other_copies, site_term}
-use Rattle.cluster_model.specs.Site.{appends_all, leads_with, holds, runs_calls, works_calls, on_sp_call, holds_for, initiator_in, on_frag, on_done, firm_now, floor_now, counts, with_position, noted, on_ack, is_repaired, longest, lacks, repairs, on_report, reports_to, as_member, on_put, on_repair, on_join_ask, is_sent, without_count, ends_streams, with_count, on_scan_end, may_finish, may_stream, on_stream_start, finishes_load, on_chunk, on_stream_end, on_task, tells, tells_initiator, has_all_on_disk, is_first_term, shows, from_agent, from_site, from_scanner, from_director, site_row, takes_each, takes_waiting}
+use Rattle.cluster_model.specs.Site.{appends_all, leads_with, holds, runs_calls, works_calls, on_sp_call, holds_for, initiator_in, on_frag, on_done, firm_now, floor_now, counts, with_position, noted, on_ack, is_repaired, longest, lacks, repairs, on_report, reports_to, as_member, on_put, on_repair, on_join_ask, is_sent, without_count, ends_streams, with_count, on_scan_end, may_finish, may_stream, on_stream_start, finishes_load, on_chunk, on_stream_end, on_task, tells, tells_initiator, has_all_on_disk, is_first_term, shows, from_agent, from_site, from_scanner, from_director, site_handler, takes_each, takes_waiting}
 use Rattle.cluster_model.specs.Initiator.{end_of_reply}
 use Rattle.cluster_model.specs.Sync.{acknowledges, says_loaded, after_sync}
 use Rattle.word_laws.proofs.Lists.{not-both, all-filter, all-from}
@@ -40,35 +40,35 @@ Comes D i s (Agent h) l = elim l.body as (λ _. Type 0) [
 Comes D i s from l = Unit {0}
 
 -- Nothing of these kinds waits for a term.
-abbrev pub QuietKind : Actor → Letter → Type 0
-QuietKind (Site slot) l = elim l.body as (λ _. Type 0) [
+abbrev pub InertKind : Actor → Letter → Type 0
+InertKind (Site slot) l = elim l.body as (λ _. Type 0) [
   | msg.Put position e floor ↦ ⊥
   | msg.Repair from entries ↦ ⊥
   | msg.StreamStart head ↦ ⊥
   | _ ↦ Unit {0}
 ]
-QuietKind (Agent h) l = elim l.body as (λ _. Type 0) [
+InertKind (Agent h) l = elim l.body as (λ _. Type 0) [
   | msg.View w ↦ ⊥
   | msg.Frag m round body ↦ ⊥
   | msg.Done m o ↦ ⊥
   | _ ↦ Unit {0}
 ]
-QuietKind from l = Unit {0}
+InertKind from l = Unit {0}
 
 abbrev pub WaitsQuietly : Waiting → Type 0
-WaitsQuietly x = QuietKind x.from x.letter
+WaitsQuietly x = InertKind x.from x.letter
 
 pub waits-quietly : (S : LogState) (c : ℕ) (x : Waiting) → WaitingOk S c x → WaitsPlain x.from x.letter → WaitsQuietly x
 waits-quietly S c x k p = go x.from x.letter k.1 p
   where
-    go : (from : Actor) (l : Letter) → WaitingFrom S c from l → WaitsPlain from l → QuietKind from l
-    go (Site j) l = elim l.body as (λ b. WaitingFrom S c (Site j) (record l { body = b }) → WaitsPlain (Site j) (record l { body = b }) → QuietKind (Site j) (record l { body = b })) [
+    go : (from : Actor) (l : Letter) → WaitingFrom S c from l → WaitsPlain from l → InertKind from l
+    go (Site j) l = elim l.body as (λ b. WaitingFrom S c (Site j) (record l { body = b }) → WaitsPlain (Site j) (record l { body = b }) → InertKind (Site j) (record l { body = b })) [
       | msg.Put position e floor ↦ λ k p. k
       | msg.Repair from entries ↦ λ k p. k
       | msg.StreamStart head ↦ λ k p. k
       | b ↦ λ k p. tt
     ]
-    go (Agent h) l = elim l.body as (λ b. WaitingFrom S c (Agent h) (record l { body = b }) → WaitsPlain (Agent h) (record l { body = b }) → QuietKind (Agent h) (record l { body = b })) [
+    go (Agent h) l = elim l.body as (λ b. WaitingFrom S c (Agent h) (record l { body = b }) → WaitsPlain (Agent h) (record l { body = b }) → InertKind (Agent h) (record l { body = b })) [
       | msg.View w ↦ λ k p. k
       | msg.Frag m round body ↦ λ k p. p
       | msg.Done m o ↦ λ k p. p
@@ -147,9 +147,9 @@ pub record Apart (D : Deployment) (i : ℕ) (s u : SiteState) : Type 0 where
 
 -- where its joiners' streams began
 abbrev pub begins_at : List Joiner → List ℕ
-begins_at js = map (λ j. j.nj) js
+begins_at js = map (λ j. j.stream_start) js
 
--- R goes on over the steps that follow the row of a message.
+-- R goes on over the steps that follow the handler of a message.
 pub record Settles (D : Deployment) (i : ℕ) (R : SiteState → SiteState → Type 0) : Type 0 where
   pub first : (s : SiteState) → R s s
   pub next : (s m u : SiteState) → R s m → R m u → R s u
@@ -158,10 +158,10 @@ pub record Settles (D : Deployment) (i : ℕ) (R : SiteState → SiteState → T
   -- a leader counts, with these acknowledgements
   pub counted : (s : SiteState) → leads D i s ≡ true → (acks : List (ℕ × ℕ)) (joiners : List Joiner) → begins_at joiners ≡ begins_at s.joiners
       → R s (let m = record s { acks = acks; joiners = joiners } in record m { firm = firm_now D i m })
-  pub joiners : (s : SiteState) (f : Joiner → Joiner) → ((j : Joiner) → (f j).nj ≡ j.nj) → ((j : Joiner) → (f j).position ≡ j.position)
+  pub joiners : (s : SiteState) (f : Joiner → Joiner) → ((j : Joiner) → (f j).stream_start ≡ j.stream_start) → ((j : Joiner) → (f j).position ≡ j.position)
       → R s (record s { joiners = map f s.joiners })
 
--- So it does over those of a row, with P of each report that comes.
+-- So it does over those of a handler, with P of each report that comes.
 pub record Steps (D : Deployment) (stamp i : ℕ) (P : Reported → Type 0) (R : SiteState → SiteState → Type 0) : Type 0 where
   pub settles : Settles D i R
   -- a call runs
@@ -181,14 +181,14 @@ pub joiner-apart : (D : Deployment) (i : ℕ) (s : SiteState) (j : Joining) → 
 joiner-apart D i s j e = ap (λ o. not (is_some o) && is_some_of (leader_in D s.view (part_of_slot D i)) i) e
 
 -- joiners whose streams began where they did
-map-begins : (f : Joiner → Joiner) → ((j : Joiner) → (f j).nj ≡ j.nj) → (js : List Joiner) → begins_at (map f js) ≡ begins_at js
+map-begins : (f : Joiner → Joiner) → ((j : Joiner) → (f j).stream_start ≡ j.stream_start) → (js : List Joiner) → begins_at (map f js) ≡ begins_at js
 map-begins f e [] = refl
 map-begins f e (j ∷ js) = rw (e j, map-begins f e js)
 
-position-begins : (slot position : ℕ) (j : Joiner) → (with_position slot position j).nj ≡ j.nj
+position-begins : (slot position : ℕ) (j : Joiner) → (with_position slot position j).stream_start ≡ j.stream_start
 position-begins slot position j = choice (j.slot == slot)
   where
-    choice : (b : Bool) → (if b then record j { position = position } else j).nj ≡ j.nj
+    choice : (b : Bool) → (if b then record j { position = position } else j).stream_start ≡ j.stream_start
     choice true = refl
     choice false = refl
 
@@ -199,9 +199,9 @@ call-opens now (Sp c p b ∷ log) call point body = call-opens now log call poin
 call-opens now (Frag m round b ∷ log) call point body = call-opens (Some m) log call point body
 call-opens now (Done m o ∷ log) call point body = call-opens None log call point body
 
--- ---- the walk behind a row
+-- ---- the walk behind a handler
 
--- the state behind all that follows a row, but that a joiner is taken
+-- the state behind all that follows a handler, but that a joiner is taken
 abbrev pub settled : Database → Deployment → ℕ → SiteState → SiteState
 settled E D i s = (tells E D i s ▸ ends_streams ▸ shows E D i).state
 
@@ -224,11 +224,11 @@ module _ (E : Database) (D : Deployment) (i : ℕ) (R : SiteState → SiteState 
 
   counts-with : (s : SiteState) (acks : List (ℕ × ℕ)) (joiners : List Joiner) → begins_at joiners ≡ begins_at s.joiners → leads D i s ≡ true
       → R s (counts D i (record s { acks = acks; joiners = joiners })).state
-  counts-with s acks joiners e lead =
+  counts-with s acks joiners e authoritative =
       let m = record s { acks = acks; joiners = joiners } in
       let n = record m { firm = firm_now D i m } in
       let u = record n { floor = floor_now D i m; held = filter (λ d. nat_lt n.firm d.position) s.held } in
-      rw lead (W.next s n u (W.counted s lead acks joiners e) (W.rest n u))
+      rw authoritative (W.next s n u (W.counted s authoritative acks joiners e) (W.rest n u))
 
   pub counts-walk : (s : SiteState) → R s (counts D i s).state
   counts-walk s = choice (leads D i s) refl
@@ -237,7 +237,7 @@ module _ (E : Database) (D : Deployment) (i : ℕ) (R : SiteState → SiteState 
       choice true e = counts-with s s.acks s.joiners refl e
       choice false e = rw e (W.first s)
 
-  -- ---- what follows a row, and a Sync
+  -- ---- what follows a handler, and a Sync
 
   tells-walk : (s : SiteState) → R s (tells E D i s).state
   tells-walk s = walk-if s (leads D i s && not s.has_told && not (is_first_term s.view) && has_all_on_disk D i s) (tells_initiator E D i s (initiator_in s.view)) (becomes s)
@@ -248,11 +248,11 @@ module _ (E : Database) (D : Deployment) (i : ℕ) (R : SiteState → SiteState 
       told (Some first) = W.rest s (record s { has_told = true })
 
   ends_streams-walk : (s : SiteState) → R s (ends_streams s).state
-  ends_streams-walk s = W.joiners s (without_count s) (λ j. nj (is_sent s j) j) (λ j. position (is_sent s j) j)
+  ends_streams-walk s = W.joiners s (without_count s) (λ j. stream_start (is_sent s j) j) (λ j. position (is_sent s j) j)
     where
-      nj : (b : Bool) (j : Joiner) → (if b then record j { count = None } else j).nj ≡ j.nj
-      nj true j = refl
-      nj false j = refl
+      stream_start : (b : Bool) (j : Joiner) → (if b then record j { count = None } else j).stream_start ≡ j.stream_start
+      stream_start true j = refl
+      stream_start false j = refl
 
       position : (b : Bool) (j : Joiner) → (if b then record j { count = None } else j).position ≡ j.position
       position true j = refl
@@ -288,7 +288,7 @@ module _ (E : Database) (D : Deployment) (i : ℕ) (R : SiteState → SiteState 
       go (Some j) e = walk-if s j.is_based (acknowledges D i s to ▸ (λ b. says_loaded D i b j)) (becomes s)
           (λ _. subst (λ b. R s (says_loaded D i b j).state) (sym (same to)) (loaded j e)) (λ _. W.first s)
 
--- ---- that of a row
+-- ---- that of a handler
 
 module _ (E : Database) (D : Deployment) (stamp i : ℕ) (P : Reported → Type 0) (R : SiteState → SiteState → Type 0) (W : Steps D stamp i P R) where
   abbrev S : Settles D i R
@@ -306,14 +306,14 @@ module _ (E : Database) (D : Deployment) (stamp i : ℕ) (P : Reported → Type 
   -- ---- calls
 
   runs_calls-walk : (cs : List AskedCall) (s : SiteState) → leads D i s ≡ true → nothing_open s.log ≡ true → R s (runs_calls E D i stamp cs s).state
-  runs_calls-walk [] s lead clear = S.first s
-  runs_calls-walk (c ∷ cs) s lead clear =
+  runs_calls-walk [] s authoritative clear = S.first s
+  runs_calls-walk (c ∷ cs) s authoritative clear =
       let e = Sp c.call stamp c.body in
       let l = letter_to c.start (msg.Reply c.call c.start (end_of_reply (answer_behind E (part_of_slot D i) s.log e))) in
       let h = holds s (Agent c.host) l in
       let m = record h { log = s.log ++ e ∷ [] } in
-      S.next s m (runs_calls E D i stamp (c ∷ cs) s).state (S.next s h m (S.rest s h) (W.called h lead clear c.call c.body))
-      (runs_calls-walk cs m lead (ap is_none (call-opens None s.log c.call stamp c.body) ∙ clear))
+      S.next s m (runs_calls E D i stamp (c ∷ cs) s).state (S.next s h m (S.rest s h) (W.called h authoritative clear c.call c.body))
+      (runs_calls-walk cs m authoritative (ap is_none (call-opens None s.log c.call stamp c.body) ∙ clear))
 
   works_calls-walk : (s : SiteState) → R s (works_calls E D i stamp s).state
   works_calls-walk s =
@@ -334,16 +334,16 @@ module _ (E : Database) (D : Deployment) (stamp i : ℕ) (P : Reported → Type 
   holds_for-rest s (Some first) m = refl
 
   on_frag-walk : (s : SiteState) (m round : ℕ) (body : List ℕ) → leads D i s ≡ true → R (record s { log = s.log ++ Frag m round body ∷ [] }) (on_frag E D i s m round body).state
-  on_frag-walk s m round body lead =
+  on_frag-walk s m round body authoritative =
       let partial = answer_behind E (part_of_slot D i) s.log (Frag m round body) in
       let h = holds_for s (initiator_in s.view) (msg.FragDone m round partial) in
-      rw lead (entry-walk s h (Frag m round body) (holds_for-rest s (initiator_in s.view) (msg.FragDone m round partial)))
+      rw authoritative (entry-walk s h (Frag m round body) (holds_for-rest s (initiator_in s.view) (msg.FragDone m round partial)))
 
   on_done-walk : (s : SiteState) (m : ℕ) (o : Outcome) → leads D i s ≡ true → R (record s { log = s.log ++ Done m o ∷ [] }) (on_done E D i stamp s m o).state
-  on_done-walk s m o lead =
+  on_done-walk s m o authoritative =
       let h = holds_for s (initiator_in s.view) (msg.Finished m) in
       let x = (leads_with E D i (Done m o) h).state in
-      rw lead (S.next (record s { log = s.log ++ Done m o ∷ [] }) x (works_calls E D i stamp x).state
+      rw authoritative (S.next (record s { log = s.log ++ Done m o ∷ [] }) x (works_calls E D i stamp x).state
       (entry-walk s h (Done m o) (holds_for-rest s (initiator_in s.view) (msg.Finished m))) (works_calls-walk x))
 
   -- ---- acknowledgements
@@ -364,10 +364,10 @@ module _ (E : Database) (D : Deployment) (stamp i : ℕ) (P : Reported → Type 
   -- ---- a new term
 
   repairs-walk : (s : SiteState) → is_leader D i s ≡ true → s.repaired ≡ false → R s (repairs E D i stamp s).state
-  repairs-walk s lead un =
+  repairs-walk s authoritative un =
       walk-if E D i R S s (list_all (λ c. list_any (λ r. r.slot == c) s.reports) (other_copies D i s)) (appends_all E D i es s ▸ is_repaired E D i stamp) (becomes s)
       (λ all. subst (λ x. R s (is_repaired E D i stamp x).state) (sym one.state)
-      (S.next s m (works_calls E D i stamp n).state (W.begun s lead un all) (S.next m n (works_calls E D i stamp n).state (S.rest m n) (works_calls-walk n))))
+      (S.next s m (works_calls E D i stamp n).state (W.begun s authoritative un all) (S.next m n (works_calls E D i stamp n).state (S.rest m n) (works_calls-walk n))))
       (λ _. S.first s)
     where
       es : List Entry
@@ -419,12 +419,12 @@ module _ (E : Database) (D : Deployment) (stamp i : ℕ) (P : Reported → Type 
   on_scan_end-walk s (Some (ForJoiner own slot)) id count =
       let m = record s { joiners = map (with_count slot count) s.joiners } in
       let u = record m { scanning = None } in
-      state-if E D i R S s (own == id) u s (λ _. S.next s m u (S.joiners s (with_count slot count) (λ j. nj (j.slot == slot) j) (λ j. position (j.slot == slot) j)) (S.rest m u))
+      state-if E D i R S s (own == id) u s (λ _. S.next s m u (S.joiners s (with_count slot count) (λ j. stream_start (j.slot == slot) j) (λ j. position (j.slot == slot) j)) (S.rest m u))
       (λ _. S.first s)
     where
-      nj : (b : Bool) (j : Joiner) → (if b then record j { count = Some count } else j).nj ≡ j.nj
-      nj true j = refl
-      nj false j = refl
+      stream_start : (b : Bool) (j : Joiner) → (if b then record j { count = Some count } else j).stream_start ≡ j.stream_start
+      stream_start true j = refl
+      stream_start false j = refl
 
       position : (b : Bool) (j : Joiner) → (if b then record j { count = Some count } else j).position ≡ j.position
       position true j = refl
@@ -449,9 +449,9 @@ module _ (E : Database) (D : Deployment) (stamp i : ℕ) (P : Reported → Type 
   on_stream_start-walk : (s : SiteState) (o : Option Joining) (l : Letter) (head : StreamHead) → s.joining ≡ o → R s (on_stream_start s o l head)
   on_stream_start-walk s None l head is = S.first s
   on_stream_start-walk s (Some j) l head is =
-      let k = record j { stream = Some (record { nj = head.nj; mark = head.mark }) } in
+      let k = record j { stream = Some (record { stream_start = head.stream_start; mark = head.mark }) } in
       let m = record s { joining = Some k; log = l.past } in
-      let u = record m { floor = head.nj; contents = None ∷ [] } in
+      let u = record m { floor = head.stream_start; contents = None ∷ [] } in
       state-if E D i R S s (may_stream s j l) u s (λ _. S.next s m u (as-joiner E D i R S s j k l.past is) (S.rest m u)) (λ _. S.first s)
 
   on_stream_end-walk : (s : SiteState) (o : Option Joining) (count : ℕ) → s.joining ≡ o → R s (on_stream_end s o count)
@@ -471,7 +471,7 @@ module _ (E : Database) (D : Deployment) (stamp i : ℕ) (P : Reported → Type 
       (λ _. as-joiner E D i R S s j (record j { tasks = j.tasks ++ e ∷ [] }) s.log is))
       (λ _. S.first s)
 
--- ---- a row of any message but a word, a round and an end
+-- ---- a handler of any message but a word, a round and an end
 
 -- where nobody is a leader, no leader is
 no-leader : (D : Deployment) (i : ℕ) (s : SiteState) → (is_leader D i s ≡ true → ⊥) → is_leader D i s ≡ false
@@ -514,39 +514,39 @@ module _ (E : Database) (D : Deployment) (stamp i : ℕ) (P : Reported → Type 
     | b ↦ W.settles.first s
   ]
 
-  row-walk : (from : Actor) (l : Letter) → Plainly from l → Comes D i s from l → ReportOf P from l → R s (site_row E D stamp i s from l).state
-  row-walk (Agent h) l k c p = agent-walk h l k
-  row-walk (Site slot) l k c p = from_site-walk slot l c p
-  row-walk (Scanner x) l k c p = scanner-walk l
-  row-walk Director l k c p = director-walk l
-  row-walk (Client n) l k c p = W.settles.first s
+  handler-walk : (from : Actor) (l : Letter) → Plainly from l → Comes D i s from l → ReportOf P from l → R s (site_handler E D stamp i s from l).state
+  handler-walk (Agent h) l k c p = agent-walk h l k
+  handler-walk (Site slot) l k c p = from_site-walk slot l c p
+  handler-walk (Scanner x) l k c p = scanner-walk l
+  handler-walk Director l k c p = director-walk l
+  handler-walk (Client n) l k c p = W.settles.first s
 
 -- of one that waited
-quiet-plain : (from : Actor) (l : Letter) → QuietKind from l → Plainly from l
-quiet-plain (Site slot) l = λ k. tt
-quiet-plain (Agent h) l = elim l.body as (λ b. QuietKind (Agent h) (record l { body = b }) → Plainly (Agent h) (record l { body = b })) [
+inert-plain : (from : Actor) (l : Letter) → InertKind from l → Plainly from l
+inert-plain (Site slot) l = λ k. tt
+inert-plain (Agent h) l = elim l.body as (λ b. InertKind (Agent h) (record l { body = b }) → Plainly (Agent h) (record l { body = b })) [
   | msg.View w ↦ λ k. k
   | msg.Frag m round body ↦ λ k. k
   | msg.Done m o ↦ λ k. k
   | b ↦ λ k. tt
 ]
-quiet-plain Director l = λ k. tt
-quiet-plain (Client n) l = λ k. tt
-quiet-plain (Scanner x) l = λ k. tt
+inert-plain Director l = λ k. tt
+inert-plain (Client n) l = λ k. tt
+inert-plain (Scanner x) l = λ k. tt
 
-quiet-comes : (D : Deployment) (i : ℕ) (s : SiteState) (from : Actor) (l : Letter) → QuietKind from l → Comes D i s from l
-quiet-comes D i s (Site slot) l = elim l.body as (λ b. QuietKind (Site slot) (record l { body = b }) → Comes D i s (Site slot) (record l { body = b })) [
+inert-comes : (D : Deployment) (i : ℕ) (s : SiteState) (from : Actor) (l : Letter) → InertKind from l → Comes D i s from l
+inert-comes D i s (Site slot) l = elim l.body as (λ b. InertKind (Site slot) (record l { body = b }) → Comes D i s (Site slot) (record l { body = b })) [
   | msg.Put position e floor ↦ λ k _. k
   | msg.Repair from entries ↦ λ k _. k
   | b ↦ λ k. tt
 ]
-quiet-comes D i s (Agent h) l = elim l.body as (λ b. QuietKind (Agent h) (record l { body = b }) → Comes D i s (Agent h) (record l { body = b })) [
+inert-comes D i s (Agent h) l = elim l.body as (λ b. InertKind (Agent h) (record l { body = b }) → Comes D i s (Agent h) (record l { body = b })) [
   | msg.View w ↦ λ k. absurd k
   | b ↦ λ k. tt
 ]
-quiet-comes D i s Director l = λ k. tt
-quiet-comes D i s (Client n) l = λ k. tt
-quiet-comes D i s (Scanner x) l = λ k. tt
+inert-comes D i s Director l = λ k. tt
+inert-comes D i s (Client n) l = λ k. tt
+inert-comes D i s (Scanner x) l = λ k. tt
 
 -- ---- a whole turn
 
@@ -572,25 +572,25 @@ module _ (E : Database) (D : Deployment) (stamp i : ℕ) (P : Reported → Type 
       → R s (takes_each E D stamp i ws s).state
   takes_each-walk [] s q p = W.settles.first s
   takes_each-walk (w ∷ ws) s q p =
-      let m = (site_row E D stamp i s w.from w.letter).state in
+      let m = (site_handler E D stamp i s w.from w.letter).state in
       W.settles.next s m (takes_each E D stamp i ws m).state
-      (row-walk E D stamp i P R W s w.from w.letter (quiet-plain w.from w.letter q.0) (quiet-comes D i s w.from w.letter q.0) p.0)
+      (handler-walk E D stamp i P R W s w.from w.letter (inert-plain w.from w.letter q.0) (inert-comes D i s w.from w.letter q.0) p.0)
       (takes_each-walk ws m q.1 p.1)
 
-  -- from a state on, from which the row goes on
+  -- from a state on, from which the handler goes on
   pub worked-walk : OnWaiting R → (b : SiteState) (t : Turn SiteState) → R b t.state → AllByRecursion WaitsQuietly t.state.waiting
       → AllByRecursion (WaitsReport P (site_term t.state)) t.state.waiting → R b (worked E D stamp i t)
-  worked-walk left b t row q p =
+  worked-walk left b t handler q p =
       let s = t.state in
       let ws = of_term (site_term s) s.waiting in
       let m = record s { waiting = above_term (site_term s) s.waiting } in
       let n = (takes_each E D stamp i ws m).state in
       let r : R m n = takes_each-walk ws m (all-filter WaitsQuietly (λ w. w.letter.term == site_term s) s.waiting q)
       (all-of-term (λ x. ReportOf P x.from x.letter) (site_term s) s.waiting p) in
-      W.settles.next b n (settled E D i n) (W.settles.next b s n row (W.settles.next s m n (left s (above_term (site_term s) s.waiting)) r))
+      W.settles.next b n (settled E D i n) (W.settles.next b s n handler (W.settles.next s m n (left s (above_term (site_term s) s.waiting)) r))
       (settled-walk E D i R W.settles n)
 
--- ---- what a row leaves of the word and of what waits
+-- ---- what a handler leaves of the word and of what waits
 
 abbrev pub Alike : SiteState → SiteState → Type 0
 Alike s u = (u.view ≡ s.view) × (u.waiting ≡ s.waiting)
@@ -618,13 +618,13 @@ alike-steps D stamp i = record {
     next = λ s m u h k. (k.0 ∙ h.0, k.1 ∙ h.1);
     rest = λ s u. (refl, refl);
     apart = λ s u a. (a.view, a.waiting);
-    counted = λ s lead acks joiners e. (refl, refl);
+    counted = λ s authoritative acks joiners e. (refl, refl);
     joiners = λ s f n p. (refl, refl);
   };
-  called = λ s lead clear call body. (refl, refl);
-  begun = λ s lead un all. (refl, refl);
+  called = λ s authoritative clear call body. (refl, refl);
+  begun = λ s authoritative un all. (refl, refl);
   reported = λ s r p. (refl, refl);
-  noted = λ s lead acks joiners e. (refl, refl);
+  noted = λ s authoritative acks joiners e. (refl, refl);
 }
 
 abbrev pub SameView : SiteState → SiteState → Type 0
@@ -637,16 +637,16 @@ view-steps D stamp i = record {
     next = λ s m u h k. k ∙ h;
     rest = λ s u. refl;
     apart = λ s u a. a.view;
-    counted = λ s lead acks joiners e. refl;
+    counted = λ s authoritative acks joiners e. refl;
     joiners = λ s f n p. refl;
   };
-  called = λ s lead clear call body. refl;
-  begun = λ s lead un all. refl;
+  called = λ s authoritative clear call body. refl;
+  begun = λ s authoritative un all. refl;
   reported = λ s r p. refl;
-  noted = λ s lead acks joiners e. refl;
+  noted = λ s authoritative acks joiners e. refl;
 }
 
--- ---- the row of a message that is taken
+-- ---- the handler of a message that is taken
 
 -- no word
 abbrev pub NoWord : Actor → Letter → Type 0
@@ -657,39 +657,39 @@ NoWord (Agent h) l = elim l.body as (λ _. Type 0) [
 NoWord from l = Unit {0}
 
 -- It goes on from the site with the round or end that a leader takes.
-pub record TakenRow (D : Deployment) (i : ℕ) (R : SiteState → SiteState → Type 0) (s : SiteState) (taken : List Entry) (u : SiteState) : Type 0 where
+pub record TakenHandler (D : Deployment) (i : ℕ) (R : SiteState → SiteState → Type 0) (s : SiteState) (taken : List Entry) (u : SiteState) : Type 0 where
   pub log : List Entry
   pub leading : leads D i s ≡ true → log ≡ s.log ++ taken
   pub other : leads D i s ≡ false → log ≡ s.log
-  pub row : R (record s { log = log }) u
+  pub handler : R (record s { log = log }) u
 
 module _ (E : Database) (D : Deployment) (stamp i : ℕ) (P : Reported → Type 0) (R : SiteState → SiteState → Type 0) (W : Steps D stamp i P R) (s : SiteState) where
   -- an entry that a leader takes
-  order-row : (e : Entry) (x : SiteState) → (leads D i s ≡ true → R (record s { log = s.log ++ e ∷ [] }) x) → (leads D i s ≡ false → x ≡ s) → TakenRow D i R s (e ∷ []) x
-  order-row e x led idle = choice (leads D i s) refl
+  order-handler : (e : Entry) (x : SiteState) → (leads D i s ≡ true → R (record s { log = s.log ++ e ∷ [] }) x) → (leads D i s ≡ false → x ≡ s) → TakenHandler D i R s (e ∷ []) x
+  order-handler e x led idle = choice (leads D i s) refl
     where
-      choice : (b : Bool) → leads D i s ≡ b → TakenRow D i R s (e ∷ []) x
-      choice true q = record { log = s.log ++ e ∷ []; leading = λ _. refl; other = λ n. absurd (not-both (leads D i s) q n); row = led q }
-      choice false q = record { log = s.log; leading = λ y. absurd (not-both (leads D i s) y q); other = λ _. refl; row = subst (R s) (sym (idle q)) (W.settles.first s) }
+      choice : (b : Bool) → leads D i s ≡ b → TakenHandler D i R s (e ∷ []) x
+      choice true q = record { log = s.log ++ e ∷ []; leading = λ _. refl; other = λ n. absurd (not-both (leads D i s) q n); handler = led q }
+      choice false q = record { log = s.log; leading = λ y. absurd (not-both (leads D i s) y q); other = λ _. refl; handler = subst (R s) (sym (idle q)) (W.settles.first s) }
 
   -- none
-  plain-row : (x : SiteState) → R s x → TakenRow D i R s [] x
-  plain-row x r = record { log = s.log; leading = λ _. sym (append-nil s.log); other = λ _. refl; row = r }
+  plain-handler : (x : SiteState) → R s x → TakenHandler D i R s [] x
+  plain-handler x r = record { log = s.log; leading = λ _. sym (append-nil s.log); other = λ _. refl; handler = r }
 
-  agent-taken : (h : ℕ) (l : Letter) → NoWord (Agent h) l → TakenRow D i R s (taken_from (Agent h) l) (from_agent E D stamp i s h l).state
+  agent-taken : (h : ℕ) (l : Letter) → NoWord (Agent h) l → TakenHandler D i R s (taken_from (Agent h) l) (from_agent E D stamp i s h l).state
   agent-taken h l = elim l.body as (λ b. NoWord (Agent h) (record l { body = b })
-      → TakenRow D i R s (taken_from (Agent h) (record l { body = b })) (from_agent E D stamp i s h (record l { body = b })).state) [
-        | msg.SpCall call start body ↦ λ n. plain-row _ (on_sp_call-walk E D stamp i P R W s h call start body)
+      → TakenHandler D i R s (taken_from (Agent h) (record l { body = b })) (from_agent E D stamp i s h (record l { body = b })).state) [
+        | msg.SpCall call start body ↦ λ n. plain-handler _ (on_sp_call-walk E D stamp i P R W s h call start body)
         | msg.View w ↦ λ n. absurd n
-        | msg.Frag m round body ↦ λ n. order-row (Frag m round body) (on_frag E D i s m round body).state (on_frag-walk E D stamp i P R W s m round body) (λ q. rw q)
-        | msg.Done m o ↦ λ n. order-row (Done m o) (on_done E D i stamp s m o).state (on_done-walk E D stamp i P R W s m o) (λ q. rw q)
-        | b ↦ λ n. plain-row s (W.settles.first s)
+        | msg.Frag m round body ↦ λ n. order-handler (Frag m round body) (on_frag E D i s m round body).state (on_frag-walk E D stamp i P R W s m round body) (λ q. rw q)
+        | msg.Done m o ↦ λ n. order-handler (Done m o) (on_done E D i stamp s m o).state (on_done-walk E D stamp i P R W s m o) (λ q. rw q)
+        | b ↦ λ n. plain-handler s (W.settles.first s)
       ]
 
-  pub taken-row : (from : Actor) (l : Letter) → NoWord from l → Comes D i s from l → ReportOf P from l
-      → TakenRow D i R s (taken_from from l) (site_row E D stamp i s from l).state
-  taken-row (Agent h) l n c p = agent-taken h l n
-  taken-row (Site slot) l n c p = plain-row _ (from_site-walk E D stamp i P R W s slot l c p)
-  taken-row (Scanner x) l n c p = plain-row _ (scanner-walk E D stamp i P R W s l)
-  taken-row Director l n c p = plain-row _ (director-walk E D stamp i P R W s l)
-  taken-row (Client x) l n c p = plain-row s (W.settles.first s)
+  pub taken-handler : (from : Actor) (l : Letter) → NoWord from l → Comes D i s from l → ReportOf P from l
+      → TakenHandler D i R s (taken_from from l) (site_handler E D stamp i s from l).state
+  taken-handler (Agent h) l n c p = agent-taken h l n
+  taken-handler (Site slot) l n c p = plain-handler _ (from_site-walk E D stamp i P R W s slot l c p)
+  taken-handler (Scanner x) l n c p = plain-handler _ (scanner-walk E D stamp i P R W s l)
+  taken-handler Director l n c p = plain-handler _ (director-walk E D stamp i P R W s l)
+  taken-handler (Client x) l n c p = plain-handler s (W.settles.first s)

@@ -13,15 +13,15 @@ use Rattle.cluster_model.specs.Log.{nothing_open}
 use Rattle.cluster_model.specs.Words.{Deployment, host_of_slot, is_member, term_of}
 use Rattle.cluster_model.specs.Letters.{Letter, Turn, becomes, sending, ◌▸◌, open_letter, only, arrival, Arrival, Taken, Refused, Waits}
 use Rattle.cluster_model.specs.SiteState.{SiteState, new_joiner, stopped_site, Joining, Streamed, Reported, Joiner, Ask, is_leader, leads, site_term}
-use Rattle.cluster_model.specs.Site.{in_new_term, on_view, is_lost_in, can_take, takes_first_ask, takes_asks, settles, ordered, site_row, takes_waiting, on_start, on_stop, site_runs, site_takes}
-use Rattle.cluster_model.specs.Outside.{Outside, Fair, DiskFails, NoMemory, DisksShow}
+use Rattle.cluster_model.specs.Site.{in_new_term, on_view, is_lost_in, can_take, takes_first_ask, takes_asks, settles, ordered, site_handler, takes_waiting, on_start, on_stop, site_runs, site_takes}
+use Rattle.cluster_model.specs.Environment.{Environment, NoFault, DiskFails, NoMemory, DisksShow}
 use Rattle.cluster_model.specs.Sync.{written, joiner_written, parts_of_sync, site_turn}
 use Rattle.cluster_model.specs.Disk.{Shown, after_parts}
 use Rattle.word_laws.proofs.Lists.{not-both, same-some}
 use Rattle.log_laws.proofs.Plain.Copies.{leader-same}
-use Rattle.disk_laws.proofs.SiteRows.{stays_joiner, as_joiner, as_entered}
+use Rattle.disk_laws.proofs.SiteHandlers.{stays_joiner, as_joiner, as_entered}
 use Rattle.transaction_laws.specs.Transactions.{order_in}
-use Rattle.transaction_laws.proofs.Sites.SiteWalk.{Comes, WaitsQuietly, ReportOf, WaitsReport, taken_from, taken_at, taken_by, with_rest, joiner-apart, Steps, OnWaiting, worked, worked-walk, Alike, AnyReport, any-report, any-reports, alike-steps, SameView, view-steps, NoWord, taken-row, as_member-walk}
+use Rattle.transaction_laws.proofs.Sites.SiteWalk.{Comes, WaitsQuietly, ReportOf, WaitsReport, taken_from, taken_at, taken_by, with_rest, joiner-apart, Steps, OnWaiting, worked, worked-walk, Alike, AnyReport, any-report, any-reports, alike-steps, SameView, view-steps, NoWord, taken-handler, as_member-walk}
 
 -- ---- the last step: a joiner that asked is taken
 
@@ -29,7 +29,7 @@ use Rattle.transaction_laws.proofs.Sites.SiteWalk.{Comes, WaitsQuietly, ReportOf
 pub record Takes (D : Deployment) (i : ℕ) (v u : SiteState) : Type 0 where
   pub leads : leads D i v ≡ true
   pub new : Joiner
-  pub nj : new.nj ≡ length v.log
+  pub stream_start : new.stream_start ≡ length v.log
   pub position : new.position ≡ length v.log
   pub is : u ≡ record (with_rest v u) { joiners = v.joiners ++ new ∷ [] }
 
@@ -61,8 +61,8 @@ module _ (E : Database) (D : Deployment) (i : ℕ) (v : SiteState) where
       go None e = inl refl
       go (Some a) e = inr (record {
         leads = can-leads a (found-can v.asks a e);
-        new = record { slot = a.slot; start = a.start; nj = length v.log; position = length v.log; count = None };
-        nj = refl;
+        new = record { slot = a.slot; start = a.start; stream_start = length v.log; position = length v.log; count = None };
+        stream_start = refl;
         position = refl;
         is = refl;
       })
@@ -92,7 +92,7 @@ module _ (E : Database) (D : Deployment) (stamp i : ℕ) (P : Reported → Type 
   abbrev whole : Turn SiteState → SiteState
   whole t = (ordered (t ▸ takes_waiting E D stamp i ▸ settles E D i)).state
 
-  -- its word is that behind its row
+  -- its word is that behind its handler
   whole-view : (t : Turn SiteState) → AllByRecursion WaitsQuietly t.state.waiting → (worked E D stamp i t).view ≡ t.state.view
   whole-view t q = worked-walk E D stamp i AnyReport SameView (view-steps D stamp i) (λ s ws. refl) t.state t refl q (any-reports (site_term t.state) t.state.waiting)
 
@@ -102,9 +102,9 @@ module _ (E : Database) (D : Deployment) (stamp i : ℕ) (P : Reported → Type 
   -- with what waits as it was, R goes on to the end
   on-walk : (b : SiteState) (t : Turn SiteState) → t.state.waiting ≡ s.waiting → AllByRecursion (WaitsReport P (site_term (whole t))) s.waiting → R b t.state
       → R b (worked E D stamp i t)
-  on-walk b t same reports row =
+  on-walk b t same reports handler =
       let q : AllByRecursion WaitsQuietly t.state.waiting = subst (AllByRecursion WaitsQuietly) (sym same) waiting in
-      worked-walk E D stamp i P R W left b t row q
+      worked-walk E D stamp i P R W left b t handler q
       (subst (λ ws. AllByRecursion (WaitsReport P (site_term t.state)) ws) (sym same) (subst (λ n. AllByRecursion (WaitsReport P n) s.waiting) (whole-term t q) reports))
 
   -- ---- one that is taken
@@ -114,20 +114,20 @@ module _ (E : Database) (D : Deployment) (stamp i : ℕ) (P : Reported → Type 
 
   -- no word
   stays : (from : Actor) (l : Letter) → arrival s.start (site_term s) l ≡ Taken → NoWord from l → Comes D i s from l → ReportOf P from l
-      → AllByRecursion (WaitsReport P (site_term (whole (site_row E D stamp i s from l)))) s.waiting → Result from l (whole (site_row E D stamp i s from l))
+      → AllByRecursion (WaitsReport P (site_term (whole (site_handler E D stamp i s from l)))) s.waiting → Result from l (whole (site_handler E D stamp i s from l))
   stays from l a n c p reports =
-      let t = site_row E D stamp i s from l in
-      let k = taken-row E D stamp i P R W s from l n c p in
-      let same = taken-row E D stamp i AnyReport Alike (alike-steps D stamp i) s from l n c (any-report from l) in
-      let q : AllByRecursion WaitsQuietly t.state.waiting = subst (AllByRecursion WaitsQuietly) (sym same.row.1) waiting in
-      Stays a k.log k.leading k.other (worked E D stamp i t) (whole-view t q ∙ same.row.0)
-      (on-walk (record s { log = k.log }) t same.row.1 reports k.row) refl
+      let t = site_handler E D stamp i s from l in
+      let k = taken-handler E D stamp i P R W s from l n c p in
+      let same = taken-handler E D stamp i AnyReport Alike (alike-steps D stamp i) s from l n c (any-report from l) in
+      let q : AllByRecursion WaitsQuietly t.state.waiting = subst (AllByRecursion WaitsQuietly) (sym same.handler.1) waiting in
+      Stays a k.log k.leading k.other (worked E D stamp i t) (whole-view t q ∙ same.handler.0)
+      (on-walk (record s { log = k.log }) t same.handler.1 reports k.handler) refl
 
-  -- a word: the row of it, for a joiner that stays one, and for a member
-  view-row : (w : Membership) (c : Bool) → stays_joiner D i s w ≡ c → let b = if c then as_joiner s w else as_entered s w in
+  -- a word: the handler of it, for a joiner that stays one, and for a member
+  view-handler : (w : Membership) (c : Bool) → stays_joiner D i s w ≡ c → let b = if c then as_joiner s w else as_entered s w in
       R b (on_view E D i stamp s w).state × Alike b (on_view E D i stamp s w).state
-  view-row w true e = rw e (W.settles.first (as_joiner s w), (refl, refl))
-  view-row w false e = rw e (
+  view-handler w true e = rw e (W.settles.first (as_joiner s w), (refl, refl))
+  view-handler w false e = rw e (
     as_member-walk E D stamp i P R W (as_entered s w) refl,
     as_member-walk E D stamp i AnyReport Alike (alike-steps D stamp i) (as_entered s w) refl,
   )
@@ -147,13 +147,13 @@ module _ (E : Database) (D : Deployment) (stamp i : ℕ) (P : Reported → Type 
           (on-walk (record (in_new_term s w) { joining = joining }) t k.1.1 reports k.0) refl
 
       choice : (c : Bool) → stays_joiner D i s w ≡ c → Result (Agent h) l (whole t)
-      choice true e = with s.joining (λ none. ap (λ o. is_some o && not (is_member w (host_of_slot D i) s.start)) none) (view-row w true e)
-      choice false e = with None (λ _. e) (view-row w false e)
+      choice true e = with s.joining (λ none. ap (λ o. is_some o && not (is_member w (host_of_slot D i) s.start)) none) (view-handler w true e)
+      choice false e = with None (λ _. e) (view-handler w false e)
 
   taken : (from : Actor) (l : Letter) → arrival s.start (site_term s) l ≡ Taken → Comes D i s from l → ReportOf P from l
-      → AllByRecursion (WaitsReport P (site_term (whole (site_row E D stamp i s from l)))) s.waiting → Result from l (whole (site_row E D stamp i s from l))
+      → AllByRecursion (WaitsReport P (site_term (whole (site_handler E D stamp i s from l)))) s.waiting → Result from l (whole (site_handler E D stamp i s from l))
   taken (Agent h) l a = elim l.body as (λ m. let x = record l { body = m } in Comes D i s (Agent h) x → ReportOf P (Agent h) x
-      → AllByRecursion (WaitsReport P (site_term (whole (site_row E D stamp i s (Agent h) x)))) s.waiting → Result (Agent h) x (whole (site_row E D stamp i s (Agent h) x))) [
+      → AllByRecursion (WaitsReport P (site_term (whole (site_handler E D stamp i s (Agent h) x)))) s.waiting → Result (Agent h) x (whole (site_handler E D stamp i s (Agent h) x))) [
         | msg.View w ↦ λ c p r. views h (record l { body = msg.View w }) w refl a r
         | m ↦ λ c p r. stays (Agent h) (record l { body = m }) a tt c p r
       ]
@@ -180,7 +180,7 @@ module _ (E : Database) (D : Deployment) (stamp i : ℕ) (P : Reported → Type 
 
   abbrev arrived : Actor → Letter → Arrival → Turn SiteState
   arrived from l a = elim a as (λ _. Turn SiteState) [
-    | Taken ↦ ordered (site_row E D stamp i s from l ▸ takes_waiting E D stamp i ▸ settles E D i)
+    | Taken ↦ ordered (site_handler E D stamp i s from l ▸ takes_waiting E D stamp i ▸ settles E D i)
     | Waits ↦ becomes (record s { waiting = s.waiting ++ record { from = from; letter = l } ∷ [] })
     | Refused ↦ becomes s
   ]
@@ -226,8 +226,8 @@ module _ (E : Database) (D : Deployment) (stamp i : ℕ) (P : Reported → Type 
     | m ↦ running from (record l { body = m })
   ]
 
-  pub walked : (from : Actor) (l : Letter) (o : Outside) → Given from l (site_turn E D stamp i s from l o).state
-  walked from l Fair = takes from l
+  pub walked : (from : Actor) (l : Letter) (o : Environment) → Given from l (site_turn E D stamp i s from l o).state
+  walked from l NoFault = takes from l
   walked from l (DisksShow shown failed) = takes from l
   walked from l (DiskFails answered) = λ c p r. Ends refl refl
   walked from l (NoMemory answered) = λ c p r. Ends refl refl
@@ -251,7 +251,7 @@ pub wrote : (D : Deployment) (i : ℕ) (s : SiteState) (contents : List Shown) �
 wrote D i s contents = go s.joining refl
   where
     joins : (j k : Joining) (b : SiteState) → b.joining ≡ Some k → is_leader D i b ≡ true → (s.joining ≡ None) × (b.joining ≡ None)
-    joins j k b e lead = absurd (not-both (is_leader D i b) lead (joiner-apart D i b k e))
+    joins j k b e authoritative = absurd (not-both (is_leader D i b) authoritative (joiner-apart D i b k e))
 
     streams : (j : Joining) → s.joining ≡ Some j → (o : Option Streamed) → Wrote D i s (record (joiner_written s j o) { contents = contents })
     streams j e None = record { view = refl; log = refl; repaired = refl; joiners = refl; member = joins j j (record s { contents = contents }) e }
@@ -262,7 +262,7 @@ wrote D i s contents = go s.joining refl
           joining = Some (record j { written = j.blocks; is_based = true });
           on_disk = length s.log;
           mark = st.mark;
-          base = st.nj;
+          base = st.stream_start;
         }
 
         y : SiteState
@@ -285,12 +285,12 @@ wrote D i s contents = go s.joining refl
         }
 
     go : (o : Option Joining) → s.joining ≡ o → Wrote D i s (record (written s o) { contents = contents })
-    go None e = record { view = refl; log = refl; repaired = refl; joiners = refl; member = λ lead. (e, e) }
+    go None e = record { view = refl; log = refl; repaired = refl; joiners = refl; member = λ authoritative. (e, e) }
     go (Some j) e = streams j e j.stream
 
 -- so who leads then led before
 pub wrote-leader : (D : Deployment) (i : ℕ) (s b : SiteState) → Wrote D i s b → is_leader D i b ≡ true → is_leader D i s ≡ true
-wrote-leader D i s b k lead = let m = k.member lead in leader-same D i b s (sym k.view) (m.0 ∙ sym m.1) ∙ lead
+wrote-leader D i s b k authoritative = let m = k.member authoritative in leader-same D i b s (sym k.view) (m.0 ∙ sym m.1) ∙ authoritative
 
 -- the state behind a Sync
 abbrev pub written_site : SiteState → SiteState

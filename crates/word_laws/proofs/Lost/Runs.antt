@@ -16,7 +16,7 @@ use Rattle.cluster_model.specs.Engine.{Database}
 use Rattle.cluster_model.specs.Words.{Deployment, is_host, is_client, parts}
 use Rattle.cluster_model.specs.Letters.{same, Letter, Sends, Turn, becomes, open_letter, only}
 use Rattle.cluster_model.specs.Director.{does, does_next, director_takes, stops_host, stops_all, snaps}
-use Rattle.cluster_model.specs.Outside.{Outside, Fair, DiskFails, NoMemory, DisksShow}
+use Rattle.cluster_model.specs.Environment.{Environment, NoFault, DiskFails, NoMemory, DisksShow}
 use Rattle.cluster_model.specs.Client.{submits}
 use Rattle.cluster_model.specs.Sync.{sync_turn}
 use Rattle.cluster_model.specs.Scanner.{scan_turn}
@@ -32,7 +32,7 @@ use Rattle.cluster_model.proofs.Starts.{takes-next}
 use Rattle.word_laws.specs.Lost.{OfLetter, OfLetterFrom, OfAgent, LostAreStopped}
 use Rattle.word_laws.proofs.Lists.{all-append, all-mono, all-if, rise-append, set-here, set-there}
 use Rattle.word_laws.proofs.Channels.{starts-append, starts-if, stops_all-starts, took-all}
-use Rattle.word_laws.proofs.Lost.Rows.{StopsWith, Kept, takes-kept, stops_with_host-with}
+use Rattle.word_laws.proofs.Lost.Handlers.{StopsWith, Kept, takes-kept, stops_with_host-with}
 use Rattle.word_laws.proofs.Lost.Starts.{letter-mono, agent-mono, new_agent-ok, Owned, HostOk, Agents, Channels, starts_of, letters_of, DeadIn, HoldsOf, Holds, DeadOf, holds-lost, to_site-holds, to_client-holds, to_scanner-holds, dead-make, agents_after, channels_after, kept-holds, stays-holds, start-runs, start-stops}
 
 -- ---- an agent takes a message
@@ -45,8 +45,8 @@ letter-first P ch (Client c) n l ls h is = tt
 letter-first P ch (Site s) n l ls h is = tt
 letter-first P ch (Scanner x) n l ls h is = tt
 
-runs-turn : (P : ℕ → Type 0) (E : Database) (D : Deployment) (n stamp : ℕ) (a : AgentState) (from : Actor) (l : Letter) (o : Outside) → (a.start == 0) ≡ false → OfLetterFrom P from l → OfAgent P a → Kept P a.start (agent_turn E D n stamp a from l o)
-runs-turn P E D n stamp a from l Fair runs p h = takes-kept P E D n stamp a from l runs p h
+runs-turn : (P : ℕ → Type 0) (E : Database) (D : Deployment) (n stamp : ℕ) (a : AgentState) (from : Actor) (l : Letter) (o : Environment) → (a.start == 0) ≡ false → OfLetterFrom P from l → OfAgent P a → Kept P a.start (agent_turn E D n stamp a from l o)
+runs-turn P E D n stamp a from l NoFault runs p h = takes-kept P E D n stamp a from l runs p h
 runs-turn P E D n stamp a from l (DiskFails answered) runs p h = takes-kept P E D n stamp a from l runs p h
 runs-turn P E D n stamp a from l (NoMemory answered) runs p h =
     inr (subst (λ k. StopsWith P a.start (stops_with_host D n k)) (sym (start_after-same a from l runs)) (stops_with_host-with P D n a.start))
@@ -109,16 +109,16 @@ stopped-memory w n from l ls h is z up = elim l.body as (λ m. w.channel from (A
       | m ↦ λ e u. absurd (no-start (w.agents n).start z u)
     ] is up
 
-stopped-turn : (E : Database) (w : World) (n stamp : ℕ) (from : Actor) (l : Letter) (ls : List Letter) (o : Outside) (h : Holds w) → w.channel from (Agent n) ≡ l ∷ ls → ((w.agents n).start == 0) ≡ true
+stopped-turn : (E : Database) (w : World) (n stamp : ℕ) (from : Actor) (l : Letter) (ls : List Letter) (o : Environment) (h : Holds w) → w.channel from (Agent n) ≡ l ∷ ls → ((w.agents n).start == 0) ≡ true
     → allows w (event.Deliver (Agent n) from) o ≡ true → After w from n (agent_turn E w.deployment n stamp (w.agents n) from l o)
-stopped-turn E w n stamp from l ls Fair h is z may = stopped-takes E w n stamp from l ls h is z
+stopped-turn E w n stamp from l ls NoFault h is z may = stopped-takes E w n stamp from l ls h is z
 stopped-turn E w n stamp from l ls (DiskFails answered) h is z may = stopped-takes E w n stamp from l ls h is z
 stopped-turn E w n stamp from l ls (NoMemory answered) h is z may =
     let some : (nat_lt 0 (start_after (w.agents n) from l) && nat_le answered 0) ≡ true = rw is at may in
     stopped-memory w n from l ls h is z (and_parts (nat_lt 0 (start_after (w.agents n) from l)) (nat_le answered 0) some).0
 stopped-turn E w n stamp from l ls (DisksShow shown failed) h is z may = stopped-takes E w n stamp from l ls h is z
 
-to_agent-after : (E : Database) (w : World) (n : ℕ) (from : Actor) (l : Letter) (ls : List Letter) (o : Outside) (h : Holds w) → w.channel from (Agent n) ≡ l ∷ ls
+to_agent-after : (E : Database) (w : World) (n : ℕ) (from : Actor) (l : Letter) (ls : List Letter) (o : Environment) (h : Holds w) → w.channel from (Agent n) ≡ l ∷ ls
     → allows w (event.Deliver (Agent n) from) o ≡ true → After w from n (agent_turn E w.deployment n (stamp_of w) (w.agents n) from l o)
 to_agent-after E w n from l ls o h is may = elim (cases_Bool ((w.agents n).start == 0)) [
   | inl z ↦ stopped-turn E w n (stamp_of w) from l ls o h is z may
@@ -127,7 +127,7 @@ to_agent-after E w n from l ls o h is may = elim (cases_Bool ((w.agents n).start
       (runs-turn (DeadOf w h) E w.deployment n (stamp_of w) (w.agents n) from l o r (letter-first (DeadOf w h) w.channel from n l ls h.travelling is) (h.held n))
 ]
 
-to_agent-holds : (E : Database) (w : World) (n : ℕ) (from : Actor) (ls : List Letter) (o : Outside) → w.channel from (Agent n) ≡ ls
+to_agent-holds : (E : Database) (w : World) (n : ℕ) (from : Actor) (ls : List Letter) (o : Environment) → w.channel from (Agent n) ≡ ls
     → allows w (event.Deliver (Agent n) from) o ≡ true → Holds w → Holds (delivered E w (Agent n) from ls o)
 to_agent-holds E w n from [] o is may h = h
 to_agent-holds E w n from (l ∷ ls) o is may h = to_agent-after E w n from l ls o h is may
@@ -166,13 +166,13 @@ taken-holds w from to h same = record {
     dead s d = dead-make h.owner h.owner w.director.next_start w.director.next_start (starts_of w.agents) (starts_of w.agents) (letters_of w.channel) (letters_of (took w.channel from to)) s d refl (omega arith)
         d.not_run (subst (λ x. AllByRecursion (λ y. y ≡ s → ⊥) x) (sym (same (h.owner s))) d.not_sent)
 
-to_director-holds : (E : Database) (w : World) (from : Actor) (ls : List Letter) (o : Outside) → Holds w → Holds (delivered E w Director from ls o)
+to_director-holds : (E : Database) (w : World) (from : Actor) (ls : List Letter) (o : Environment) → Holds w → Holds (delivered E w Director from ls o)
 to_director-holds E w from [] o h = h
 to_director-holds E w from (l ∷ ls) o h =
     same-holds w.director.next_start (director_takes w.director from l).next_start w.agents (took w.channel from Director) (sent (took w.channel from Director) Director (λ b. []))
     (taken-holds w from Director h (λ g. refl)) (takes-next w.director from l) (λ g. ap starts_in (append-nil (w.channel Director (Agent g)))) (λ g b. refl)
 
-delivered-holds : (E : Database) (w : World) (to from : Actor) (o : Outside) → allows w (event.Deliver to from) o ≡ true → Holds w → Holds (delivered E w to from (w.channel from to) o)
+delivered-holds : (E : Database) (w : World) (to from : Actor) (o : Environment) → allows w (event.Deliver to from) o ≡ true → Holds w → Holds (delivered E w to from (w.channel from to) o)
 delivered-holds E w Director from o may h = to_director-holds E w from (w.channel from Director) o h
 delivered-holds E w (Client c) from o may h = to_client-holds E w c from (w.channel from (Client c)) o h
 delivered-holds E w (Agent n) from o may h = to_agent-holds E w n from (w.channel from (Agent n)) o refl may h
@@ -375,8 +375,8 @@ recovers-holds : (E : Database) (w : World) (shown : List ℕ) (failed : Option 
 recovers-holds E w shown None h = anew-holds E w shown h
 recovers-holds E w shown (Some failed) h = h
 
-recovery-holds : (E : Database) (w : World) (o : Outside) → Holds w → Holds (recovered_with E w o)
-recovery-holds E w Fair h = h
+recovery-holds : (E : Database) (w : World) (o : Environment) → Holds w → Holds (recovered_with E w o)
+recovery-holds E w NoFault h = h
 recovery-holds E w (DiskFails answered) h = h
 recovery-holds E w (NoMemory answered) h = h
 recovery-holds E w (DisksShow shown failed) h = recovers-holds E w shown failed h
@@ -388,7 +388,7 @@ others-hold : (w : World) (from : Actor) (sends : Sends) (h : Holds w) → ((g :
     → ((g : ℕ) → letters_of (sent w.channel from sends) g ≡ letters_of w.channel g) → HoldsOf w.director.next_start w.agents (sent w.channel from sends)
 others-hold w from sends h stays same = same-holds w.director.next_start w.director.next_start w.agents w.channel (sent w.channel from sends) h refl same stays
 
-step-holds : (E : Database) (w : World) (e : Event) (o : Outside) → allows w e o ≡ true → Holds w → Holds (step E w (e, o))
+step-holds : (E : Database) (w : World) (e : Event) (o : Environment) → allows w e o ≡ true → Holds w → Holds (step E w (e, o))
 step-holds E w (event.Deliver to from) o may h = delivered-holds E w to from o may h
 step-holds E w (event.Sync i) o may h = others-hold w (Site i) (sync_turn E w.deployment i (w.sites i) o).sends h (λ g b. refl) (λ g. refl)
 step-holds E w (event.Scan i) o may h = others-hold w (Scanner i) (scan_turn w.deployment i (w.scanners i) o).sends h (λ g b. refl) (λ g. refl)

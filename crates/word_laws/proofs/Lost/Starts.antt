@@ -10,7 +10,7 @@ use Rattle.volt_wire.specs.declared.actor.Actor.TheVariants.{Director, Client, A
 use Rattle.volt_wire.specs.declared.message.Msg.TheVariants as msg
 use Rattle.cluster_model.specs.Engine.{Database}
 use Rattle.cluster_model.specs.Letters.{same, Letter, Turn}
-use Rattle.cluster_model.specs.Outside.{Outside}
+use Rattle.cluster_model.specs.Environment.{Environment}
 use Rattle.cluster_model.specs.AgentState.{AgentState, new_agent}
 use Rattle.cluster_model.specs.World.{World, took, sent, set_at}
 use Rattle.cluster_model.specs.Events.{delivered}
@@ -19,7 +19,7 @@ use Rattle.cluster_model.specs.Laws.{RiseFrom, start_in_letter, starts_in}
 use Rattle.word_laws.specs.Lost.{OfLost, OfLetter, OfLetterFrom, OfAgent, IsStopped, LostAreStopped}
 use Rattle.word_laws.proofs.Lists.{all-append, all-mono, rise-lower}
 use Rattle.word_laws.proofs.Channels.{took-all, starts-all, starts-rise}
-use Rattle.word_laws.proofs.Lost.Rows.{OrOwn, StopsWith, Kept}
+use Rattle.word_laws.proofs.Lost.Handlers.{OrOwn, StopsWith, Kept}
 
 -- ---- what is monotone
 
@@ -122,7 +122,7 @@ holds-lost w h = record {
 
 -- ---- messages to others than agents
 
-pub to_site-holds : (E : Database) (w : World) (i : ℕ) (from : Actor) (ls : List Letter) (o : Outside) → Holds w → Holds (delivered E w (Site i) from ls o)
+pub to_site-holds : (E : Database) (w : World) (i : ℕ) (from : Actor) (ls : List Letter) (o : Environment) → Holds w → Holds (delivered E w (Site i) from ls o)
 to_site-holds E w i from [] o h = h
 to_site-holds E w i from (l ∷ ls) o h = record {
   owner = h.owner;
@@ -132,7 +132,7 @@ to_site-holds E w i from (l ∷ ls) o h = record {
   travelling = λ n b. took-all (OfLetter (DeadOf w h)) w.channel from (Site i) (Agent n) b (h.travelling n b);
 }
 
-pub to_client-holds : (E : Database) (w : World) (i : ℕ) (from : Actor) (ls : List Letter) (o : Outside) → Holds w → Holds (delivered E w (Client i) from ls o)
+pub to_client-holds : (E : Database) (w : World) (i : ℕ) (from : Actor) (ls : List Letter) (o : Environment) → Holds w → Holds (delivered E w (Client i) from ls o)
 to_client-holds E w i from [] o h = h
 to_client-holds E w i from (l ∷ ls) o h = record {
   owner = h.owner;
@@ -142,7 +142,7 @@ to_client-holds E w i from (l ∷ ls) o h = record {
   travelling = λ n b. took-all (OfLetter (DeadOf w h)) w.channel from (Client i) (Agent n) b (h.travelling n b);
 }
 
-pub to_scanner-holds : (E : Database) (w : World) (i : ℕ) (from : Actor) (ls : List Letter) (o : Outside) → Holds w → Holds (delivered E w (Scanner i) from ls o)
+pub to_scanner-holds : (E : Database) (w : World) (i : ℕ) (from : Actor) (ls : List Letter) (o : Environment) → Holds w → Holds (delivered E w (Scanner i) from ls o)
 to_scanner-holds E w i from [] o h = h
 to_scanner-holds E w i from (l ∷ ls) o h = record {
   owner = h.owner;
@@ -295,13 +295,13 @@ kept-holds next agents ch from n t h up (inr s) =
 -- it stays as it was, and says nothing
 pub stays-holds : (next : ℕ) (agents : Agents) (ch : Channels) (from : Actor) (n : ℕ) (t : Turn AgentState) (h : HoldsOf next agents ch)
     → t.state ≡ agents n → ((b : Actor) → t.sends b ≡ []) → HoldsOf next (agents_after agents n t) (channels_after ch from n t)
-stays-holds next agents ch from n t h same quiet =
+stays-holds next agents ch from n t h same inert =
     let e = inl (ap (λ x. x.start) same) in
     let f = dead-after h.owner next agents ch from n t e in
     turn-holds next agents ch from n t h e
     (subst (λ x. OfAgent (DeadIn h.owner next (agents_after agents n t) (channels_after ch from n t)) x) (sym same)
     (agent-mono (DeadIn h.owner next agents ch) (DeadIn h.owner next (agents_after agents n t) (channels_after ch from n t)) f (agents n) (h.held n)))
-    (λ b. subst (λ x. AllByRecursion (OfLetter (DeadIn h.owner next (agents_after agents n t) (channels_after ch from n t))) x) (sym (quiet b)) tt)
+    (λ b. subst (λ x. AllByRecursion (OfLetter (DeadIn h.owner next (agents_after agents n t) (channels_after ch from n t))) x) (sym (inert b)) tt)
 
 -- numbers that rise behind one are none of them that one
 pub rise-apart : (low s : ℕ) (xs : List ℕ) → s < low → RiseFrom low xs → AllByRecursion (λ x. x ≡ s → ⊥) xs

@@ -11,4 +11,4 @@ returns c =
     let ts = c.args.tokens.now in
     let size : c.saturating_sub.result ≡ length (take max_tokens c.args.tokens.now) - length c.level-read.new.tokens = cc in
     cut (level c.args.depth Whole) (level-ok c.args.depth Whole) max_tokens ts c.level-read.new.tokens c.advance.new.self c.level-read.result
-    (rw c.front-front.ensures at c.level-read.ensures) (c.advance.ensures ∙ ap (λ n. drop n ts) size)
+    (rw c.prefix-prefix.ensures at c.level-read.ensures) (c.advance.ensures ∙ ap (λ n. drop n ts) size)

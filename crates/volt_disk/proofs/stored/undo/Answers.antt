@@ -1,5 +1,5 @@
 use Rattle.std.proofs.Common.{sym, ◌∙◌}
-use Rattle.volt_disk.proofs.StoredLemmas.{AreWithin-front, AreWithin-last, undone-push}
+use Rattle.volt_disk.proofs.StoredLemmas.{AreWithin-prefix, AreWithin-last, undone-push}
 use Rattle.volt_disk.proofs.stored.undo.Goals as goal
 
 pub put_back-requires : goal.put_back-requires
@@ -11,7 +11,7 @@ loop-last-preserved c =
     let within = rw c.in-Some.ensures.items at c.loop-last.invariant.within in
     let same = rw c.in-Some.ensures.items at c.loop-last.invariant.same in
     record {
-      within = rw c.put_back.ensures.len (AreWithin-front _ c.pop.new.self.items c.in-Some.last within);
+      within = rw c.put_back.ensures.len (AreWithin-prefix _ c.pop.new.self.items c.in-Some.last within);
       len = c.put_back.ensures.len ∙ c.loop-last.invariant.len;
       same = rw c.put_back.ensures.after (sym (undone-push c.pop.new.self.items c.in-Some.last c.loop-last.bytes.items) ∙ same);
     }

@@ -4,7 +4,7 @@ use Rattle.std.proofs.lemmas.List.{at_drop_all}
 use Rattle.std.specs.Str.{all_ascii_digits}
 use Rattle.std.specs.Str.Parse.{digits_value_after, digits_value}
 use Rattle.volt_form.specs.Form.{greatest}
-use Rattle.volt_form.proofs.Numbers.{no_magnitude-empty, no_magnitude-other, no_magnitude-front, no_magnitude-large, magnitude_is, digit_value_is}
+use Rattle.volt_form.proofs.Numbers.{no_magnitude-empty, no_magnitude-other, no_magnitude-prefix, no_magnitude-large, magnitude_is, digit_value_is}
 use Rattle.volt_form.proofs.number.read_magnitude.Goals as goal
 
 pub returns-then-is_empty-clause-value : goal.returns-then-is_empty-clause-value
@@ -16,12 +16,12 @@ returns-then-not-is_ascii_digit-clause-value c =
 
 pub returns-in_err-checked_mul-clause-value : goal.returns-in_err-checked_mul-clause-value
 returns-in_err-checked_mul-clause-value c =
-    let large = no_magnitude-front c.args.digits.now c.loop-digit.digit-index c.loop-digit.value c.loop-digit-test.true c.loop-digit.invariant.value_so_far (omega (arith, c.in_err-checked_mul.ensures)) in
+    let large = no_magnitude-prefix c.args.digits.now c.loop-digit.digit-index c.loop-digit.value c.loop-digit-test.true c.loop-digit.invariant.value_so_far (omega (arith, c.in_err-checked_mul.ensures)) in
     rw large c.from_residual.ensures
 
 pub returns-in_err-value-clause-value : goal.returns-in_err-value-clause-value
 returns-in_err-value-clause-value c =
-    let large = no_magnitude-front c.args.digits.now c.loop-digit.digit-index c.loop-digit.value c.loop-digit-test.true c.loop-digit.invariant.value_so_far (omega (arith, c.in_err-value.ensures, digit_value_is (get_or c.args.digits.now c.loop-digit.digit-index 0) cc)) in
+    let large = no_magnitude-prefix c.args.digits.now c.loop-digit.digit-index c.loop-digit.value c.loop-digit-test.true c.loop-digit.invariant.value_so_far (omega (arith, c.in_err-value.ensures, digit_value_is (get_or c.args.digits.now c.loop-digit.digit-index 0) cc)) in
     rw large c.from_residual-in_err-value.ensures
 
 pub returns-then-value-le-GREATEST-clause-value : goal.returns-then-value-le-GREATEST-clause-value

@@ -1,12 +1,12 @@
 use Rattle.std.proofs.Common.{arith, length-drop, length-take}
 use Rattle.std.proofs.lemmas.Result.{err_from_is_err_and}
-use Rattle.volt_io.proofs.ToldLemmas.{Appends-more, AppendsFrontOf-kept}
+use Rattle.volt_io.proofs.ToldLemmas.{Appends-more, AppendsPrefixOf-kept}
 use Rattle.volt_io.proofs.transfer.write_all.Goals as goal
 
 pub returns-in_err-at-clause-partly : goal.returns-in_err-at-clause-partly
 returns-in_err-at-clause-partly g c =
     let p = err_from_is_err_and c.from_residual.result c.from_residual.ensures.1 in
-    rw p.1 (AppendsFrontOf-kept _ _ _ _ c.loop-at.at c.loop-at.invariant.1 c.in_err-at.ensures.kept)
+    rw p.1 (AppendsPrefixOf-kept _ _ _ _ c.loop-at.at c.loop-at.invariant.1 c.in_err-at.ensures.kept)
 
 pub loop-at-preserved : goal.loop-at-preserved
 loop-at-preserved g c = (

@@ -4,6 +4,6 @@ use Rattle.volt_text.proofs.lexer.lex.Goals as goal
 
 pub loop-at-preserved : goal.loop-at-preserved
 loop-at-preserved c =
-    let front = c.in-Ok.front in
+    let piece = c.in-Ok.piece in
     let found = rw c.split_at.ensures.back at c.in-Ok.ensures in
-    read_more _ c.loop-at.at front.len front.kind c.loop-at.tokens.items _ c.loop-at.invariant (omega arith) found.1 found.2 c.in_ok-note-in-Ok.ensures
+    read_more _ c.loop-at.at piece.len piece.kind c.loop-at.tokens.items _ c.loop-at.invariant (omega arith) found.1 found.2 c.in_ok-note-in-Ok.ensures

@@ -11,8 +11,8 @@ use Rattle.account_engine.proofs.accounts.AccountsEngine.dump.Goals as goal
 
 -- the text of one row more
 one_more : (text next all : List ℕ) (row : ℤ × ℤ) (left rest : Rows) → left ≡ row ∷ rest → next ≡ text ++ table_line (row_line row) → text ++ flat_map table_line (row_lines left) ≡ all → next ++ flat_map table_line (row_lines rest) ≡ all
-one_more text next all row left rest front is so_far =
-    ap (λ (t : List ℕ). t ++ flat_map table_line (row_lines rest)) is ∙ append_assoc text (table_line (row_line row)) (flat_map table_line (row_lines rest)) ∙ ap (λ (l : Rows). text ++ flat_map table_line (row_lines l)) (sym front) ∙ so_far
+one_more text next all row left rest prefix is so_far =
+    ap (λ (t : List ℕ). t ++ flat_map table_line (row_lines rest)) is ∙ append_assoc text (table_line (row_line row)) (flat_map table_line (row_lines rest)) ∙ ap (λ (l : Rows). text ++ flat_map table_line (row_lines l)) (sym prefix) ∙ so_far
 
 pub loop-id-preserved : goal.loop-id-preserved
 loop-id-preserved c =

@@ -1,0 +1,65 @@
+-- A call on all partitions whose initiator is lost before it decides.
+use Rattle.std.specs.Prelude.{true, List, [], ◌∷◌, ◌++◌}
+use Rattle.volt_wire.specs.declared.actor.Actor.TheVariants.{Director, Client, Agent, Site, Scanner}
+use Rattle.volt_wire.specs.declared.end.End.TheVariants as end
+use Rattle.volt_wire.specs.declared.event.Event.{Event}
+use Rattle.volt_wire.specs.declared.event.Event.TheVariants.{Deliver, Sync, Submit, Item}
+use Rattle.volt_wire.specs.declared.item.Item.TheVariants as item
+use Rattle.cluster_model.specs.World.{World}
+use Rattle.cluster_model.specs.Runs.{run, no_fault, Happening}
+use Rattle.cluster_model.specs.Toy.{toy, put, move, gives}
+use Rattle.cluster_model.specs.Scenarios.{Stampless, deployed, begins, calls_on, calls_all, shows, after_calls}
+
+-- Three hosts, three partitions with two copies each. Account 1 lies in partition 1, account 2 in partition 2.
+abbrev pub start : World
+start =
+    begins (deployed 3 2 1 2)
+    (calls_on 2 1 (put 1 10) ∷ calls_on 2 2 (put 2 5) ∷ calls_all 2 (move 1 2 4) ∷ [])
+    (after_calls 3 (item.Lose 0) ∷ [])
+
+-- both accounts are put
+abbrev pub puts : List Event
+puts =
+    Submit 2 ∷ Deliver Director (Client 2) ∷ Deliver (Agent 1) (Client 2) ∷ Deliver (Site 3) (Agent 1)
+    ∷ Deliver (Site 2) (Site 3) ∷ Sync 2 ∷ Deliver (Site 3) (Site 2) ∷ Sync 3 ∷ Deliver (Agent 1) (Site 3)
+    ∷ Deliver (Client 2) (Agent 1) ∷ Submit 2 ∷ Deliver Director (Client 2) ∷ Deliver (Agent 1) (Client 2)
+    ∷ Deliver (Site 4) (Agent 1) ∷ Deliver (Site 5) (Site 4) ∷ Sync 4 ∷ Sync 5 ∷ Deliver (Site 4) (Site 5)
+    ∷ Deliver (Agent 1) (Site 4) ∷ Deliver (Client 2) (Agent 1) ∷ []
+
+-- the call begins; its first round is under way, and reaches slot 4
+abbrev pub begun : List Event
+begun =
+    Submit 2 ∷ Deliver Director (Client 2) ∷ Deliver (Agent 1) (Client 2) ∷ Deliver (Agent 0) (Agent 1)
+    ∷ Deliver (Site 4) (Agent 0) ∷ []
+
+-- the initiator is lost, and the others go on without it
+abbrev pub lost : List Event
+lost =
+    Item ∷ Deliver (Agent 0) Director ∷ Deliver (Client 1) (Agent 0) ∷ Deliver (Client 2) (Agent 0)
+    ∷ Deliver (Agent 1) (Agent 0) ∷ Deliver (Agent 2) (Agent 0) ∷ Deliver (Agent 1) (Agent 2)
+    ∷ Deliver (Client 2) (Agent 1) ∷ Deliver (Agent 0) (Agent 1) ∷ Deliver (Agent 2) (Agent 1)
+    ∷ Deliver (Agent 0) (Agent 2) ∷ Deliver (Site 0) Director ∷ Deliver (Site 0) (Agent 0)
+    ∷ Deliver (Site 1) (Agent 1) ∷ Deliver (Site 2) (Agent 2) ∷ Deliver (Site 3) Director
+    ∷ Deliver (Site 3) (Agent 0) ∷ Deliver (Site 4) (Agent 1) ∷ Deliver (Site 5) (Agent 2)
+    ∷ Deliver (Site 4) (Site 5) ∷ Deliver (Site 5) (Site 4) ∷ Deliver (Site 5) (Site 4)
+    ∷ Deliver (Scanner 0) Director ∷ Deliver (Scanner 3) Director ∷ Sync 1 ∷ Deliver (Agent 1) (Site 1)
+    ∷ Sync 2 ∷ Deliver (Agent 1) (Site 2) ∷ Sync 4 ∷ Sync 5 ∷ Deliver (Site 4) (Site 5)
+    ∷ Deliver (Agent 1) (Site 4) ∷ Deliver (Site 4) (Agent 1) ∷ Deliver (Site 5) (Site 4) ∷ Sync 4 ∷ Sync 5
+    ∷ Deliver (Site 4) (Site 5) ∷ Deliver (Agent 1) (Site 4) ∷ []
+
+abbrev pub events : List Happening
+events = no_fault (puts ++ begun ++ lost)
+
+abbrev pub last : World
+last = run toy events start
+
+abbrev pub shown : Stampless
+shown =
+    record {
+      ends = (1, end.Ok (gives 1)) ∷ (2, end.Ok (gives 1)) ∷ (3, end.Unknown 1 2) ∷ [];
+      serial = 1 ∷ 2 ∷ [];
+      copies = shows 1 0 [] ∷ shows 2 1 (1 ∷ 10 ∷ []) ∷ shows 4 1 (2 ∷ 5 ∷ []) ∷ shows 5 1 (2 ∷ 5 ∷ []) ∷ [];
+      looks = [];
+      enabled = [];
+      serves = true;
+    }

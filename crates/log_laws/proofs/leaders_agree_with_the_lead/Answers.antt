@@ -1,7 +1,0 @@
-use Rattle.log_laws.proofs.Runs.Lasting.{in-lead}
-use Rattle.log_laws.proofs.Runs.Worlds.{logs-agree}
-use Rattle.log_laws.proofs.leaders_agree_with_the_lead.Goals as goal
-
--- src/lib.rt:86:1
-pub returns : goal.returns
-returns g c = λ input es l some r h. in-lead _ (logs-agree g.B.AnyDatabase.database input es some r) l h

@@ -1,5 +1,0 @@
-use Rattle.soundness.proofs.Enabled.{nothing_enabled_is_quiet}
-use Rattle.soundness.proofs.quiet_where_nothing_is_enabled.Goals as goal
-
-pub returns : goal.returns
-returns g c = let C = g.C.Carried in nothing_enabled_is_quiet C.semantics C.meaning C.carries
