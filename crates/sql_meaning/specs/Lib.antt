@@ -1,0 +1,11 @@
+pub mod Judged
+pub mod Values
+pub mod Expressions
+pub mod Tables
+pub mod Database
+pub mod Maps
+pub mod Changes
+pub mod Groups
+pub mod Selects
+pub mod Statements
+pub mod WellFormed
