@@ -9,3 +9,7 @@ pub mod Groups
 pub mod Selects
 pub mod Statements
 pub mod WellFormed
+pub mod Programs
+pub mod Replies
+pub mod Calls
+pub mod Parts
