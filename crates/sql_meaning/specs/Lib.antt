@@ -13,3 +13,5 @@ pub mod Programs
 pub mod Replies
 pub mod Calls
 pub mod Parts
+pub mod Starter
+pub mod Scenarios

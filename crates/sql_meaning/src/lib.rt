@@ -1,2 +1,2 @@
-//! What SQL means: statements, programs and calls on plain tables, and the laws of them.
+//! What SQL means: statements, programs and calls on plain tables.
 #![tactic(auto)]
