@@ -1,2 +1,6 @@
 pub mod Folds
 pub mod Maps
+pub mod Faults
+pub mod Totals
+pub mod Judgements
+pub mod Rows

@@ -91,11 +91,14 @@ part_of_action parts catalog part scope (Update update) args db = part_of_change
 part_of_action parts catalog part scope (Delete delete) args db = part_of_change catalog delete.table (deleted delete) args db
 part_of_action parts catalog part scope (Select select) args db = with (part_by_shape select select.shape args db) (λ part. Ok (db, part))
 
--- what a statement means on the share of a partition
+-- what a statement means on the share of a partition: its share changed, and its part
 abbrev pub part_means : ℕ → Contents → ℕ → Prepared → Cells → Database → Result (Database × Partial) Fault
 part_means parts catalog part statement args db = part_of_action parts catalog part statement.scope statement.action args db
 
 -- ---- all parts put together
+
+abbrev pub all_parts : ℕ → List ℕ
+all_parts parts = range_with_len 0 parts
 
 abbrev pub count_in : Partial → ℕ
 count_in (partial.Count n) = n

@@ -21,7 +21,7 @@ use Rattle.sql_meaning.specs.Values.{at}
 
 -- ---- the tables of a catalog
 
-abbrev no_table : Table
+abbrev pub no_table : Table
 no_table = record { name = []; columns = []; key = []; part = None }
 
 -- the table of a number; where there is none, one without columns
