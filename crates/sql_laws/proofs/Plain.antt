@@ -4,3 +4,4 @@ pub mod Faults
 pub mod Totals
 pub mod Judgements
 pub mod Rows
+pub mod Orders
