@@ -5,3 +5,4 @@ pub mod Totals
 pub mod Judgements
 pub mod Rows
 pub mod Orders
+pub mod Parts

@@ -120,6 +120,11 @@ is_home-one parts catalog select has p q row e f =
     one_home p q (part_by parts (left_table catalog select).part row) (part_by parts (right_part catalog select) row)
         ((λ i. is_some_part parts (left_table catalog select).part row i || is_some_part parts (right_part catalog select) row i) ∙ has) e f
 
+-- a place behind the left table's columns
+pub behind : (w m : ℕ) (o : Option ℕ) → option_map (λ n. w + n) o ≡ Some m → (r : ℕ) × (o ≡ Some r) × (w + r ≡ m)
+behind w m None e = absurd (cc)
+behind w m (Some r) e = (r, refl, let f : Some (w + r) ≡ Some m = e in cc)
+
 -- ---- rows that lie in no partition
 
 any_at : (f : ℕ → Bool) (h : ℕ) (ps : List ℕ) → list_any (λ q. h == q) ps ≡ true → f h ≡ true → list_any f ps ≡ true
@@ -243,10 +248,6 @@ module _ (parts : ℕ) (some : 0 < parts) (catalog : Contents) (rules : IsCatalo
         (eq-eqb (part_of_value parts (at row m)) (part_of_value parts (at row m)) refl)
         none)
   in_two None None row K has none two = absurd (cc)
-
-  behind : (w m : ℕ) (o : Option ℕ) → option_map (λ n. w + n) o ≡ Some m → (r : ℕ) × (o ≡ Some r) × (w + r ≡ m)
-  behind w m None e = absurd (cc)
-  behind w m (Some r) e = (r, refl, let f : Some (w + r) ≡ Some m = e in cc)
 
   abbrev columns : Option JoinPlan → Cells → Option ℕ × Option ℕ
   columns right row = ((table_at catalog select.left).part, right_column catalog (length (table_at catalog select.left).columns) right)
