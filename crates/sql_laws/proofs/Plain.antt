@@ -6,3 +6,4 @@ pub mod Judgements
 pub mod Rows
 pub mod Orders
 pub mod Parts
+pub mod Gathering
