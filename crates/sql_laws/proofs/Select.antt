@@ -1,3 +1,5 @@
 pub mod Homes
 pub mod Kept
 pub mod Ordered
+pub mod Grouped
+pub mod Whole

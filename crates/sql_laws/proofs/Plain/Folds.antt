@@ -107,3 +107,8 @@ range-has a (suc n) p low high =
       | inr other ↦ or_right (p == a) (list_any (λ q. p == q) (range_with_len (a + 1) n))
           (range-has (a + 1) n p (let apart = eqb-false p a other in omega arith) (omega arith))
     ]
+
+-- the first part, and all others
+pub range-cons : (n : ℕ) → 0 < n → (ps : List ℕ) × (range_with_len 0 n ≡ 0 ∷ ps)
+range-cons zero h = absurd (omega arith)
+range-cons (suc n) h = (range_with_len 1 n, refl)
