@@ -2,3 +2,4 @@ pub mod Plain
 pub mod Trees
 pub mod Fits
 pub mod Select
+pub mod Change
