@@ -64,39 +64,40 @@ any_and h false ps here = any_same (λ p. (h == p) && false) (λ p. false) (λ p
     and_false true = refl
     and_false false = refl
 
+-- the partition of a row by a column
+abbrev pub home : ℕ → ℕ → Cells → ℕ
+home parts c row = part_of_value parts (at row c)
+
+abbrev pub in_part : ℕ → ℕ → ℕ → Cells → Bool
+in_part parts c p row = home parts c row == p
+
 module _ (parts : ℕ) (some : 0 < parts) (c : ℕ) where
-  abbrev home : Cells → ℕ
-  home row = part_of_value parts (at row c)
-
-  abbrev in_part : ℕ → Cells → Bool
-  in_part p row = home row == p
-
   -- those that agree with a row lie in its partition
-  agree_home : (key : List ℕ) → list_any (λ k. k == c) key ≡ true → (row : Cells) (rows : List Cells) → list_any (agree key row) (filter (in_part (home row)) rows) ≡ list_any (agree key row) rows
+  agree_home : (key : List ℕ) → list_any (λ k. k == c) key ≡ true → (row : Cells) (rows : List Cells) → list_any (agree key row) (filter (in_part parts c (home parts c row)) rows) ≡ list_any (agree key row) rows
   agree_home key here row [] = refl
   agree_home key here row (x ∷ rows) =
-      elim (cases_Bool (in_part (home row) x)) [
+      elim (cases_Bool (in_part parts c (home parts c row) x)) [
         | inl same ↦ rw same (ap (λ b. agree key row x || b) (agree_home key here row rows))
         | inr other ↦ rw (other, agree_home key here row rows) (sym (ap (λ b. b || list_any (agree key row) rows) (apart x other)))
       ]
     where
-      apart : (x : Cells) → in_part (home row) x ≡ false → agree key row x ≡ false
-      apart x other = false_from_ne_true (agree key row x) (λ e. eqb-false (home x) (home row) other (ap (part_of_value parts) (sym (agree_at key row x c e here))))
+      apart : (x : Cells) → in_part parts c (home parts c row) x ≡ false → agree key row x ≡ false
+      apart x other = false_from_ne_true (agree key row x) (λ e. eqb-false (home parts c x) (home parts c row) other (ap (part_of_value parts) (sym (agree_at key row x c e here))))
 
   twins_step : (key : List ℕ) → list_any (λ k. k == c) key ≡ true → (row : Cells) (rows : List Cells) (p : ℕ)
-      → has_twins key (filter (in_part p) (row ∷ rows)) ≡ (((home row == p) && list_any (agree key row) rows) || has_twins key (filter (in_part p) rows))
+      → has_twins key (filter (in_part parts c p) (row ∷ rows)) ≡ (((home parts c row == p) && list_any (agree key row) rows) || has_twins key (filter (in_part parts c p) rows))
   twins_step key here row rows p =
-      elim (cases_Bool (home row == p)) [
-        | inl same ↦ rw same (ap (λ b. b || has_twins key (filter (in_part p) rows)) (subst (λ q. list_any (agree key row) (filter (in_part q) rows) ≡ list_any (agree key row) rows) (eqb-true (home row) p same) (agree_home key here row rows)))
+      elim (cases_Bool (home parts c row == p)) [
+        | inl same ↦ rw same (ap (λ b. b || has_twins key (filter (in_part parts c p) rows)) (subst (λ q. list_any (agree key row) (filter (in_part parts c q) rows) ≡ list_any (agree key row) rows) (eqb-true (home parts c row) p same) (agree_home key here row rows)))
         | inr other ↦ rw other
       ]
 
-  pub twins_parts : (key : List ℕ) → list_any (λ k. k == c) key ≡ true → (rows : List Cells) → list_any (λ p. has_twins key (filter (in_part p) rows)) (all_parts parts) ≡ has_twins key rows
+  pub twins_parts : (key : List ℕ) → list_any (λ k. k == c) key ≡ true → (rows : List Cells) → list_any (λ p. has_twins key (filter (in_part parts c p) rows)) (all_parts parts) ≡ has_twins key rows
   twins_parts key here [] = any_none (all_parts parts)
   twins_parts key here (row ∷ rows) =
-      any_same (λ p. has_twins key (filter (in_part p) (row ∷ rows))) (λ p. ((home row == p) && list_any (agree key row) rows) || has_twins key (filter (in_part p) rows)) (twins_step key here row rows) (all_parts parts)
-      ∙ any_or (λ p. (home row == p) && list_any (agree key row) rows) (λ p. has_twins key (filter (in_part p) rows)) (all_parts parts)
-      ∙ (λ i. any_and (home row) (list_any (agree key row) rows) (all_parts parts) (range-has 0 parts (home row) (omega arith) (let b = part_of_value-within parts (at row c) some in omega arith)) i || twins_parts key here rows i)
+      any_same (λ p. has_twins key (filter (in_part parts c p) (row ∷ rows))) (λ p. ((home parts c row == p) && list_any (agree key row) rows) || has_twins key (filter (in_part parts c p) rows)) (twins_step key here row rows) (all_parts parts)
+      ∙ any_or (λ p. (home parts c row == p) && list_any (agree key row) rows) (λ p. has_twins key (filter (in_part parts c p) rows)) (all_parts parts)
+      ∙ (λ i. any_and (home parts c row) (list_any (agree key row) rows) (all_parts parts) (range-has 0 parts (home parts c row) (omega arith) (let b = part_of_value-within parts (at row c) some in omega arith)) i || twins_parts key here rows i)
 
   -- the same for many keys
   any_any : {K : Type 0} (f : K → ℕ → Bool) (ks : List K) (ps : List ℕ) → list_any (λ k. list_any (f k) ps) ks ≡ list_any (λ p. list_any (λ k. f k p) ks) ps
@@ -104,15 +105,15 @@ module _ (parts : ℕ) (some : 0 < parts) (c : ℕ) where
   any_any f (k ∷ ks) ps = ap (λ b. list_any (f k) ps || b) (any_any f ks ps) ∙ sym (any_or (f k) (λ p. list_any (λ k. f k p) ks) ps)
 
   each_key : (keys : List (List ℕ)) → list_all (λ key. list_any (λ k. k == c) key) keys ≡ true → (rows : List Cells)
-      → list_any (λ key. has_twins key rows) keys ≡ list_any (λ key. list_any (λ p. has_twins key (filter (in_part p) rows)) (all_parts parts)) keys
+      → list_any (λ key. has_twins key rows) keys ≡ list_any (λ key. list_any (λ p. has_twins key (filter (in_part parts c p) rows)) (all_parts parts)) keys
   each_key [] e rows = refl
   each_key (key ∷ keys) e rows =
       let two = and_parts (list_any (λ k. k == c) key) (list_all (λ key. list_any (λ k. k == c) key) keys) e in
       λ i. sym (twins_parts key two.0 rows) i || each_key keys two.1 rows i
 
   pub keys_parts : (keys : List (List ℕ)) → list_all (λ key. list_any (λ k. k == c) key) keys ≡ true → (rows : List Cells)
-      → list_any (λ key. has_twins key rows) keys ≡ list_any (λ p. list_any (λ key. has_twins key (filter (in_part p) rows)) keys) (all_parts parts)
-  keys_parts keys e rows = each_key keys e rows ∙ any_any (λ key p. has_twins key (filter (in_part p) rows)) keys (all_parts parts)
+      → list_any (λ key. has_twins key rows) keys ≡ list_any (λ p. list_any (λ key. has_twins key (filter (in_part parts c p) rows)) keys) (all_parts parts)
+  keys_parts keys e rows = each_key keys e rows ∙ any_any (λ key p. has_twins key (filter (in_part parts c p) rows)) keys (all_parts parts)
 
 -- ---- each unique key has the partitioning column
 
@@ -165,7 +166,7 @@ without_twins-is catalog n rows = by (has_any_twins catalog n rows)
     by false = refl
 
 pub twins_of_parts : (parts : ℕ) (some : 0 < parts) (catalog : Contents) (rules : IsCatalog catalog) (n c : ℕ) → (table_at catalog n).part ≡ Some c → (rows : List Cells)
-    → has_any_twins catalog n rows ≡ list_any (λ p. has_any_twins catalog n (filter (in_part parts some c p) rows)) (all_parts parts)
+    → has_any_twins catalog n rows ≡ list_any (λ p. has_any_twins catalog n (filter (in_part parts c p) rows)) (all_parts parts)
 twins_of_parts parts some catalog rules n c e rows = keys_parts parts some c (unique_keys catalog n) (unique_keys-have catalog rules n c e) rows
 
 -- ---- a row put among others

@@ -29,7 +29,7 @@ module _ {M : Type 0} (op : M → M → M) (unit : M) where
       abbrev step : M → X → M
       step s x = op s (h x)
 
-      fold_is : (s : M) (xs : List X) → fold step s xs ≡ op s (total h xs)
+      pub fold_is : (s : M) (xs : List X) → fold step s xs ≡ op s (total h xs)
       fold_is s [] = sym (right s)
       fold_is s (x ∷ xs) = fold_is (op s (h x)) xs ∙ assoc s (h x) (total h xs)
 
