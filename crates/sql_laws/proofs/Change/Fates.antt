@@ -56,7 +56,7 @@ module _ (fate : Reads Fate) (args : Cells) where
 
 -- ---- a fault of a row comes before Duplicate
 
-small_least : (a b : Option Fault) → small a ≡ true → small b ≡ true → small (least a b) ≡ true
+pub small_least : (a b : Option Fault) → small a ≡ true → small b ≡ true → small (least a b) ≡ true
 small_least None b e f = f
 small_least (Some x) None e f = e
 small_least (Some x) (Some y) e f = by (nat_le (code_of x) (code_of y))
