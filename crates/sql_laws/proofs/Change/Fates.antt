@@ -77,7 +77,7 @@ first-least None b e = refl
 first-least (Some f) true e = ap (λ x. Some x) (sym (lesser_small f e))
 first-least (Some f) false e = refl
 
-duplicates : {P : Type 0} (f : P → Bool) (ps : List P) → all_least (λ p. if f p then Some Duplicate else None) ps ≡ (if list_any f ps then Some Duplicate else None)
+pub duplicates : {P : Type 0} (f : P → Bool) (ps : List P) → all_least (λ p. if f p then Some Duplicate else None) ps ≡ (if list_any f ps then Some Duplicate else None)
 duplicates f [] = refl
 duplicates f (p ∷ ps) = ap (least (if f p then Some Duplicate else None)) (duplicates f ps) ∙ by (f p) (list_any f ps)
   where
