@@ -3,3 +3,4 @@ pub mod Kept
 pub mod Ordered
 pub mod Grouped
 pub mod Whole
+pub mod One

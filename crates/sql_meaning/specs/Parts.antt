@@ -170,3 +170,9 @@ parts_that_count _ parts = parts
 -- the rows of a statement: a sum that is out of range, or too many rows or groups, is judged here
 abbrev pub merged : Prepared → List Partial → Result (List Cells) Fault
 merged statement parts = merged_action statement.action (parts_that_count statement.scope parts)
+
+-- the rows that a statement gives where each partition makes its part on its own database
+abbrev pub given_by_parts : ℕ → Contents → Prepared → Cells → (ℕ → Database) → Result (List Cells) Fault
+given_by_parts parts catalog statement args own =
+    with (collected (map (λ part. with (part_means parts catalog part statement args (own part)) (λ made. Ok made.1)) (all_parts parts)))
+        (merged statement)

@@ -91,7 +91,7 @@ module _ {A : Type 0} (select : SelectPlan) (gives : Reads A) (args : Cells) whe
 
 -- ---- the parts put together
 
-keyed_back : (rows : List (List Directed × Cells)) → map (λ (r : KeyedRow). (r.key, r.row)) (map keyed_row rows) ≡ rows
+pub keyed_back : (rows : List (List Directed × Cells)) → map (λ (r : KeyedRow). (r.key, r.row)) (map keyed_row rows) ≡ rows
 keyed_back rows = map-map (λ (r : KeyedRow). (r.key, r.row)) keyed_row rows ∙ map-id rows
 
 flat-map : {X Y Z : Type 0} (f : Y → List Z) (g : X → Y) (xs : List X) → flat_map f (map g xs) ≡ flat_map (λ x. f (g x)) xs
