@@ -3,3 +3,4 @@ pub mod Trees
 pub mod Fits
 pub mod Select
 pub mod Change
+pub mod Statements
