@@ -1,0 +1,4 @@
+pub mod Twins
+pub mod Fates
+pub mod Rows
+pub mod Inserts

@@ -1,0 +1,6 @@
+pub mod Plain
+pub mod Trees
+pub mod Fits
+pub mod Select
+pub mod Change
+pub mod Statements

@@ -1,0 +1,17 @@
+pub mod Judged
+pub mod Values
+pub mod Expressions
+pub mod Tables
+pub mod Database
+pub mod Maps
+pub mod Changes
+pub mod Groups
+pub mod Selects
+pub mod Statements
+pub mod WellFormed
+pub mod Programs
+pub mod Replies
+pub mod Calls
+pub mod Parts
+pub mod Starter
+pub mod Scenarios

@@ -1,0 +1,2 @@
+//! What SQL means: statements, programs and calls on plain tables.
+#![tactic(auto)]
