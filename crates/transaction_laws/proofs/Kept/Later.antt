@@ -337,14 +337,14 @@ module _ (E : Database) (S T : LogState) (F M : Firm) (K : Transactions) (now : 
   same-base : epoch_base T ≡ epoch_base S
   same-base = sym (J.words.history.decided_good S.words.history.first (o.decided S.words.history.first H.words.history.first_decided)).base
 
-  abbrev Fits : ℕ → ℕ → Leadership → Type 0
-  Fits p t g = LeadershipFits E T L (now + 1) p t g
+  abbrev FitsThen : ℕ → ℕ → Leadership → Type 0
+  FitsThen p t g = LeadershipFits E T L (now + 1) p t g
 
   abbrev Starts : ℕ → ℕ → Type 0
   Starts p t = BeginsTerm E S.logs T.logs (K.due p t) (due p t) (now + 1) p t
 
   -- what a new term begins with fits, if the logs of those before do
-  begun-fits : (p t : ℕ) (k : Starts p t) → ((v : ℕ) (g : Leadership) → v < t → T.logs.leadership p v ≡ Some g → Fits p v g)
+  begun-fits : (p t : ℕ) (k : Starts p t) → ((v : ℕ) (g : Leadership) → v < t → T.logs.leadership p v ≡ Some g → FitsThen p v g)
       → WellFormed (first_stage E p) k.leadership.begun × ((stage E p k.leadership.begun).point ≤ now + 1)
   begun-fits p t k earlier = (
     formed-prefix (first_stage E p) k.leadership.begun (b.1.leadership.log ++ due p b.0) whole f.formed,
@@ -360,14 +360,14 @@ module _ (E : Database) (S T : LogState) (F M : Firm) (K : Transactions) (now : 
       b : (v : ℕ) × (l : Last T.logs p v t) × Prefix k.leadership.begun l.leadership.log
       b = begun-behind T J p t k.leadership k.led above
 
-      f : Fits p b.0 b.1.leadership
+      f : FitsThen p b.0 b.1.leadership
       f = earlier b.0 b.1.leadership b.1.below b.1.led
 
       whole : Prefix k.leadership.begun (b.1.leadership.log ++ due p b.0)
       whole = prefix-grows k.leadership.begun b.1.leadership.log (due p b.0) b.2
 
   -- and so does its log
-  fits-begun : (p t : ℕ) (k : Starts p t) → WellFormed (first_stage E p) k.leadership.begun → (stage E p k.leadership.begun).point ≤ now + 1 → Fits p t k.leadership
+  fits-begun : (p t : ℕ) (k : Starts p t) → WellFormed (first_stage E p) k.leadership.begun → (stage E p k.leadership.begun).point ≤ now + 1 → FitsThen p t k.leadership
   fits-begun p t k formed low = record {
     formed = subst (WellFormed s) (sym log) (formed-append s k.leadership.begun k.runs.calls formed (calls k.runs.room));
     past = subst (λ z. (stage_behind s z).point ≤ now + 1) (sym log)
@@ -392,12 +392,12 @@ module _ (E : Database) (S T : LogState) (F M : Firm) (K : Transactions) (now : 
   fits-up zero p t g part small led = absurd (omega (arith, small))
   fits-up (suc m) p t g part small led = from (λ v h low is. fits-up m p v h part (omega (arith, low, small)) is) (S.logs.leadership p t) refl (moved p t part)
     where
-      from : ((v : ℕ) (h : Leadership) → v < t → T.logs.leadership p v ≡ Some h → Fits p v h) → (x : Option Leadership) → S.logs.leadership p t ≡ x
-          → Moved E S.logs T.logs K.due due (now + 1) p t → Fits p t g
-      from earlier (Some h) e x = let k = (goes-at p t h part e).0 in subst (Fits p t) (same-some (sym k.is ∙ led)) (fits-led p t part k)
+      from : ((v : ℕ) (h : Leadership) → v < t → T.logs.leadership p v ≡ Some h → FitsThen p v h) → (x : Option Leadership) → S.logs.leadership p t ≡ x
+          → Moved E S.logs T.logs K.due due (now + 1) p t → FitsThen p t g
+      from earlier (Some h) e x = let k = (goes-at p t h part e).0 in subst (FitsThen p t) (same-some (sym k.is ∙ led)) (fits-led p t part k)
       from earlier None e (inl (same, next)) = absurd (none-and-some e (sym same ∙ led))
       from earlier None e (inr (inr k)) = absurd (none-and-some e k.was)
-      from earlier None e (inr (inl k)) = let f = begun-fits p t k earlier in subst (Fits p t) (same-some (sym k.led ∙ led)) (fits-begun p t k f.0 f.1)
+      from earlier None e (inr (inl k)) = let f = begun-fits p t k earlier in subst (FitsThen p t) (same-some (sym k.led ∙ led)) (fits-begun p t k f.0 f.1)
 
   -- ---- the term that was heard
 
