@@ -8,7 +8,7 @@ use Rattle.std.proofs.lemmas.Bool.{cases_Bool, and_parts, and_from, or_cases, or
 use Rattle.volt_value.specs.declared.value.Value.{Value}
 use Rattle.volt_catalog.specs.declared.table.Table.{Table}
 use Rattle.volt_catalog.specs.declared.table.IndexDef.{IndexDef}
-use Rattle.volt_catalog.specs.Rules.{Contents, lack_part, part_of, is_table_with}
+use Rattle.volt_catalog.specs.Rules.{Contents, lack_part, part_column_of, is_table_with}
 use Rattle.volt_catalog.specs.Catalog.{IsCatalog, is_index}
 use Rattle.sql_plan.specs.declared.fault.Fault.{Fault}
 use Rattle.sql_plan.specs.declared.fault.Fault.TheVariants.{Duplicate}
@@ -122,13 +122,13 @@ index_key : (catalog : Contents) (n c : ℕ) (index : IndexDef) → (table_at ca
 index_key catalog n c index e rule is =
     let two = and_parts index.unique (index.table == n) is in
     let same : index.table ≡ n = eqb-true index.table n two.1 in
-    let parts = and_parts (is_table_with index.columns (slice_get catalog.tables index.table)) (not (index.unique && lack_part index.columns (part_of (slice_get catalog.tables index.table)))) rule in
-    let lacks : (index.unique && lack_part index.columns (part_of (slice_get catalog.tables index.table))) ≡ false = not-true (index.unique && lack_part index.columns (part_of (slice_get catalog.tables index.table))) parts.1 in
-    let there : part_of (slice_get catalog.tables index.table) ≡ Some c = ap (λ k. part_of (slice_get catalog.tables k)) same ∙ part_is (slice_get catalog.tables n) e in
-    let f : lack_part index.columns (Some c) ≡ false = subst (λ o. lack_part index.columns o ≡ false) there (second index.unique (lack_part index.columns (part_of (slice_get catalog.tables index.table))) two.0 lacks) in
+    let parts = and_parts (is_table_with index.columns (slice_get catalog.tables index.table)) (not (index.unique && lack_part index.columns (part_column_of (slice_get catalog.tables index.table)))) rule in
+    let lacks : (index.unique && lack_part index.columns (part_column_of (slice_get catalog.tables index.table))) ≡ false = not-true (index.unique && lack_part index.columns (part_column_of (slice_get catalog.tables index.table))) parts.1 in
+    let there : part_column_of (slice_get catalog.tables index.table) ≡ Some c = ap (λ k. part_column_of (slice_get catalog.tables k)) same ∙ part_is (slice_get catalog.tables n) e in
+    let f : lack_part index.columns (Some c) ≡ false = subst (λ o. lack_part index.columns o ≡ false) there (second index.unique (lack_part index.columns (part_column_of (slice_get catalog.tables index.table))) two.0 lacks) in
     not-false (list_any (λ k. k == c) index.columns) f
   where
-    part_is : (o : Option Table) → (unwrap_or o no_table).part ≡ Some c → part_of o ≡ Some c
+    part_is : (o : Option Table) → (unwrap_or o no_table).part ≡ Some c → part_column_of o ≡ Some c
     part_is None e = e
     part_is (Some t) e = e
     second : (a b : Bool) → a ≡ true → (a && b) ≡ false → b ≡ false
