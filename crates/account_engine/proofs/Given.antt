@@ -14,15 +14,16 @@ use Rattle.soundness.specs.Meaning.{Script}
 use Rattle.soundness.specs.Sound.{call_at, next, reply_in}
 use Rattle.account_engine.specs.declared.call.AccountCall.{AccountCall}
 use Rattle.account_engine.specs.declared.call.AccountCall.TheVariants.{Put, Get}
-use Rattle.account_engine.specs.Calls.{is_value, is_valid, ValidCall}
+use Rattle.volt_value.specs.Values.{is_bigint}
+use Rattle.account_engine.specs.Calls.{is_valid, ValidCall}
 use Rattle.account_engine.specs.Answers.{is_given}
 use Rattle.account_engine.specs.Accounts.{Rows, balance_of, with_row, rows_after, duplicate, one_integer, found, reply, accounts}
 
 -- each balance is a value
 abbrev AreValues : Rows → Type 0
-AreValues rows = AllByRecursion (λ row. is_value row.1 ≡ true) rows
+AreValues rows = AllByRecursion (λ row. is_bigint row.1 ≡ true) rows
 
-AreValues-with_row : (rows : Rows) (id balance : ℤ) → is_value balance ≡ true → AreValues rows → AreValues (with_row rows id balance)
+AreValues-with_row : (rows : Rows) (id balance : ℤ) → is_bigint balance ≡ true → AreValues rows → AreValues (with_row rows id balance)
 AreValues-with_row [] id balance new old = (new, tt)
 AreValues-with_row (row ∷ rows) id balance new old =
     elim (int_cmp id row.0) as (λ o. AreValues (match_ordering o ((id, balance) ∷ row ∷ rows) ((row.0, balance) ∷ rows) (row ∷ with_row rows id balance))) [
@@ -37,7 +38,7 @@ AreValues-put false rows added old new = new
 
 AreValues-after : (rows : Rows) (c : AccountCall) → is_valid c ≡ true → AreValues rows → AreValues (rows_after rows c)
 AreValues-after rows (Put id balance) valid old =
-    AreValues-put (is_some (balance_of rows id)) rows (with_row rows id balance) old (AreValues-with_row rows id balance (and_parts (is_value id) (is_value balance) valid).1 old)
+    AreValues-put (is_some (balance_of rows id)) rows (with_row rows id balance) old (AreValues-with_row rows id balance (and_parts (is_bigint id) (is_bigint balance) valid).1 old)
 AreValues-after rows (Get id) valid old = old
 
 is_given-found : (test : ℤ → Bool) (rows : Rows) → AreValues rows → is_given (found (lookup test rows)) ≡ true

@@ -12,7 +12,8 @@ use Rattle.volt_base.proofs.Fields.{bind_some}
 use Rattle.volt_value.specs.declared.value.Value.TheVariants.{Int}
 use Rattle.account_engine.specs.declared.call.AccountCall.{AccountCall}
 use Rattle.account_engine.specs.declared.call.AccountCall.TheVariants.{Put, Get}
-use Rattle.account_engine.specs.Calls.{is_value, is_valid}
+use Rattle.volt_value.specs.Values.{is_bigint}
+use Rattle.account_engine.specs.Calls.{is_valid}
 use Rattle.volt_value.specs.Spelling.{value_bytes}
 use Rattle.account_engine.specs.Spelling.{body_of}
 use Rattle.account_engine.specs.Again.{call_again}
@@ -61,23 +62,23 @@ pub record Takes (bytes text rest : List ℕ) : Type 0 where
 abbrev integer_bytes : ℤ → List ℕ
 integer_bytes z = to_be_bytes w64 (cast_unsigned w64 z)
 
-integer_takes : (bytes : List ℕ) (x : ℤ × List ℕ) → IsBytes bytes → integer_then_rest bytes ≡ Some x → Takes bytes (integer_bytes x.0) x.1 × (is_value x.0 ≡ true)
+integer_takes : (bytes : List ℕ) (x : ℤ × List ℕ) → IsBytes bytes → integer_then_rest bytes ≡ Some x → Takes bytes (integer_bytes x.0) x.1 × (is_bigint x.0 ≡ true)
 integer_takes bytes x fits e =
     let n : ℕ = from_be_bytes w64 (take 8 bytes) in
     let z : ℤ = cast_signed w64 n in
     let long = not_then (ltb (length bytes) 8) (if_value z (drop 8 bytes)) x e in
-    let held = cond_some (is_value z) (z, drop 8 bytes) x long.1 in
+    let held = cond_some (is_bigint z) (z, drop 8 bytes) x long.1 in
     let prefix : 8 ≤ length bytes = ltb-false _ _ long.0 in
     let few : IsBytes (take 8 bytes) = IsBytes-take 8 bytes fits in
     let small : n < 2 ^ 64 = omega (arith, few 0, few 1, few 2, few 3, few 4, few 5, few 6, few 7) in
     let same : integer_bytes z ≡ take 8 bytes = ap (to_be_bytes w64) (of_z-to_z w64 n small) ∙ be_bytes_8 (take 8 bytes) n (omega (arith, length-take 8 bytes)) few refl in
     let made : ℤ × List ℕ = (z, drop 8 bytes) in
     let parts : bytes ≡ integer_bytes z ++ drop 8 bytes = sym (take-append-drop 8 bytes) ∙ ap (λ (prefix : List ℕ). prefix ++ drop 8 bytes) (sym same) in
-    subst (λ (y : ℤ × List ℕ). Takes bytes (integer_bytes y.0) y.1 × (is_value y.0 ≡ true)) held.1 (record { parts = parts; rest_fits = IsBytes-drop 8 bytes fits }, held.0)
+    subst (λ (y : ℤ × List ℕ). Takes bytes (integer_bytes y.0) y.1 × (is_bigint y.0 ≡ true)) held.1 (record { parts = parts; rest_fits = IsBytes-drop 8 bytes fits }, held.0)
 
 -- ---- values
 
-value_takes : (bytes : List ℕ) (x : ℤ × List ℕ) → IsBytes bytes → value_then_rest bytes ≡ Some x → Takes bytes (value_bytes (Int x.0)) x.1 × (is_value x.0 ≡ true)
+value_takes : (bytes : List ℕ) (x : ℤ × List ℕ) → IsBytes bytes → value_then_rest bytes ≡ Some x → Takes bytes (value_bytes (Int x.0)) x.1 × (is_bigint x.0 ≡ true)
 value_takes [] x fits e = absurd cc
 value_takes (kind ∷ bytes) x fits e =
     let is = not_else (eqb kind 1) (integer_then_rest bytes) x e in

@@ -6,7 +6,7 @@ use Rattle.volt_report.specs.Report as report
 use Rattle.volt_report.specs.Report.{ReportEnd}
 use Rattle.account_engine.specs.declared.reply.Answer.{Answer}
 use Rattle.account_engine.specs.declared.reply.Answer.TheVariants.{Nothing, Integer, Fault}
-use Rattle.account_engine.specs.Calls.{is_value}
+use Rattle.volt_value.specs.Values.{is_bigint}
 use Rattle.account_engine.specs.Reading.{value_then_rest}
 use Rattle.account_engine.specs.Accounts.{one_integer}
 
@@ -19,7 +19,7 @@ end_of_answer (Fault code) = report.Fault code
 -- the ends of calls: no row, one row of one integer, or a fault
 abbrev pub is_given : ReportEnd → Bool
 is_given (report.Kept []) = true
-is_given (report.Kept ((Int z ∷ []) ∷ [])) = is_value z
+is_given (report.Kept ((Int z ∷ []) ∷ [])) = is_bigint z
 is_given (report.Fault code) = nat_lt code 256
 is_given _ = false
 

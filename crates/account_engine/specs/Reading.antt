@@ -4,11 +4,11 @@ use Rattle.std.specs.Int.{w16, w64, from_be_bytes, cast_signed}
 use Rattle.volt_base.specs.Reading.{◌>>=◌}
 use Rattle.account_engine.specs.declared.call.AccountCall.{AccountCall}
 use Rattle.account_engine.specs.declared.call.AccountCall.TheVariants.{Put, Get}
-use Rattle.account_engine.specs.Calls.{is_value}
+use Rattle.volt_value.specs.Values.{is_bigint}
 
 -- an integer with the bytes behind it, if it is a value
 abbrev pub if_value : ℤ → List ℕ → Option (ℤ × List ℕ)
-if_value z rest = if is_value z then Some (z, rest) else None
+if_value z rest = if is_bigint z then Some (z, rest) else None
 
 -- the integer of the first 8 bytes, and the bytes behind them
 abbrev pub integer_then_rest : List ℕ → Option (ℤ × List ℕ)

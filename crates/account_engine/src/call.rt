@@ -7,6 +7,7 @@ ghost use Rattle.volt_value.specs.declared.value.Value.TheVariants.{Int};
 ghost use Rattle.account_engine.specs.declared.call.AccountCall.{AccountCall};
 ghost use Rattle.account_engine.specs.Calls as calls;
 ghost use Rattle.volt_value.specs.Spelling.{value_bytes};
+ghost use Rattle.volt_value.specs.Values.{is_bigint};
 ghost use Rattle.account_engine.specs.Spelling.{body_of};
 ghost use Rattle.account_engine.specs.Reading as reading;
 
@@ -80,7 +81,7 @@ impl AccountCall {
 
 /// Whether an integer is a value.
 pub fn is_value(integer: i64) -> bool
-    ensures { result ≡ calls.is_value integer }
+    ensures { result ≡ is_bigint integer }
 {
     integer != i64::MIN
 }

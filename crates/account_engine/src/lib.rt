@@ -1,6 +1,6 @@
 //! The engine of one table of accounts, `acct (id BIGINT NOT NULL, bal BIGINT NOT NULL, PRIMARY KEY
 //! (id))`, and of two procedures: Put, which is `INSERT INTO acct VALUES (?, ?)`, and Get, which is
-//! `SELECT bal FROM acct WHERE id = ?`.
+//! `SELECT bal FROM acct WHERE id = ?`. Begin with `Accounts`; `specs/Accounts.antt` has what they mean.
 #![tactic(auto)]
 
 mod accounts;

@@ -10,7 +10,7 @@ use Rattle.volt_wire.specs.declared.event.Event.{Event}
 use Rattle.volt_wire.specs.declared.event.Event.TheVariants.{Deliver, Sync, Submit}
 use Rattle.one_host_model.specs.Actors.{same}
 use Rattle.one_host_model.specs.World.{World, can, is_some_message}
-use Rattle.one_host_model.specs.Runs.{is_one_of_them, enabled, head}
+use Rattle.one_host_model.specs.Runs.{is_one_of_them, enabled, first_of_events}
 use Rattle.cluster_core.specs.declared.route.Route.{Route}
 use Rattle.cluster_core.specs.Channels.{queue_of, routes, delivery, AreAllRoutes, IsInOrder}
 use Rattle.cluster_core.specs.World.{HasThemAlone, if_it_may}
@@ -58,7 +58,7 @@ first_of None true may = Some (Sync 0)
 first_of None false true = Some (Submit 1)
 first_of None false false = None
 
-head_listed : (rs : List Route) (a b : Bool) → head (map delivery rs ++ if_it_may a (Sync 0) ++ if_it_may b (Submit 1)) ≡ first_of (slice_get rs 0) a b
+head_listed : (rs : List Route) (a b : Bool) → first_of_events (map delivery rs ++ if_it_may a (Sync 0) ++ if_it_may b (Submit 1)) ≡ first_of (slice_get rs 0) a b
 head_listed [] true b = refl
 head_listed [] false true = refl
 head_listed [] false false = refl
@@ -81,5 +81,5 @@ module _ (v : List (Route × List Msg)) (w : World) (channels : (from to : Actor
       ∙ ap (λ (es : List Event). map delivery (routes v) ++ es) own_events
       ∙ sym (append_assoc (map delivery (routes v)) (if_it_may owes (Sync 0)) (if_it_may may (Submit 1)))
 
-  pub first_listed : head (enabled w) ≡ first_of (slice_get (routes v) 0) owes may
-  first_listed = ap head enabled_listed ∙ head_listed (routes v) owes may
+  pub first_listed : first_of_events (enabled w) ≡ first_of (slice_get (routes v) 0) owes may
+  first_listed = ap first_of_events enabled_listed ∙ head_listed (routes v) owes may

@@ -1,4 +1,5 @@
-//! The world: its actors, the messages under way, and one event after another.
+//! The world of one host as code: its actors, the messages under way, and one event after another.
+//! Begin with `World`; `specs/World.antt` says when it stands for a world of `one_host_model`.
 #![tactic(auto)]
 
 mod agent;

@@ -1,7 +1,7 @@
 ghost use Rattle.std.specs.Prelude.{◌≡◌, ◌++◌, true, false, [], OnOk, IfOk, All};
 ghost use Rattle.volt_wire.specs.declared.actor.Actor.{Actor};
 ghost use Rattle.one_host_model.specs.World as model;
-ghost use Rattle.one_host_model.specs.Runs.{is_one_of_them, is_event_of_them, enabled, head};
+ghost use Rattle.one_host_model.specs.Runs.{is_one_of_them, is_event_of_them, enabled, first_of_events};
 ghost use Rattle.cluster_core.specs.Channels.{queue_of};
 ghost use Rattle.cluster_core.specs.Outbox.{sent_to};
 ghost use Rattle.cluster_core.specs.World.{StandsFor, HasThemAlone, if_it_may};
@@ -96,7 +96,7 @@ impl<M: MakeEngine> World<M> {
     /// The first of the events that may happen.
     pub fn first(&self) -> Option<Event>
         ensures { (w : model.World) → StandsFor M.E.meaning M.E.state self.now w
-            → HasThemAlone w → result ≡ head (enabled w) }
+            → HasThemAlone w → result ≡ first_of_events (enabled w) }
     {
         if let Some(route) = self.channels.first() {
             return Some(Event::Deliver {

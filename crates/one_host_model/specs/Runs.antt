@@ -49,13 +49,13 @@ abbrev pub enabled : World → List Event
 enabled w = filter (can w) events
 
 -- the schedule `first`: each event is the first of those that may happen
-abbrev pub head : List Event → Option Event
-head [] = None
-head (e ∷ es) = Some e
+abbrev pub first_of_events : List Event → Option Event
+first_of_events [] = None
+first_of_events (e ∷ es) = Some e
 
 abbrev pub TakesFirst : (S : Semantics) → List Event → World → Type 0
 TakesFirst S [] w = Unit {0}
-TakesFirst S (e ∷ es) w = (head (enabled w) ≡ Some e) × TakesFirst S es (step S w e)
+TakesFirst S (e ∷ es) w = (first_of_events (enabled w) ≡ Some e) × TakesFirst S es (step S w e)
 
 -- no event may happen
 abbrev pub IsQuiescent : World → Type 0

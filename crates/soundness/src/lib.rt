@@ -1,5 +1,5 @@
 //! When a report is sound, and when it is tied to a run; and the law that a run which ends quiescent has
-//! a report that is both.
+//! a report that is both. Begin with `specs/Sound.antt`, and then `quiescent_runs_are_sound`.
 #![tactic(auto)]
 
 ghost use Rattle.std.specs.Prelude.{◌≡◌, ◌*◌, ◌≤◌, true, List, [], length, map};

@@ -1,5 +1,5 @@
 //! The catalog: tables, their columns and indexes, by the rules that the statements which define them
-//! must meet.
+//! must meet. Begin with `Catalog`; `specs/Rules.antt` has the rules.
 #![tactic(auto)]
 
 mod catalog;

@@ -6,7 +6,7 @@ use Rattle.std.specs.Fmt.{signed_decimal, digits, digits_onto, digit_glyph}
 use Rattle.std.proofs.lemmas.Bool.{ne_eqb}
 use Rattle.std.proofs.lemmas.List.Sums.{sum_by-append, sum_by-cons}
 use Rattle.volt_report.specs.Spelling.{table_line, newline}
-use Rattle.account_engine.specs.Accounts.{row_line, row_lines}
+use Rattle.account_engine.specs.Accounts.{line_of_row, row_lines}
 use Rattle.volt_cmd.specs.Prints.{AreLines}
 
 -- how many lines a text ends
@@ -54,7 +54,7 @@ ends-signed (pos n) = ends-decimal n
 ends-signed (negsuc n) = ends-decimal (suc n)
 
 -- a row's line ends one
-ends-row : (row : ℤ × ℤ) → ends (table_line (row_line row)) ≡ 1
+ends-row : (row : ℤ × ℤ) → ends (table_line (line_of_row row)) ≡ 1
 ends-row row =
     let id : List ℕ = signed_decimal row.0 in
     let balance : List ℕ = signed_decimal row.1 in
@@ -69,8 +69,8 @@ ends-row row =
 pub AreLines-rows : (rows : List (ℤ × ℤ)) → AreLines (row_lines rows)
 AreLines-rows [] = refl
 AreLines-rows (row ∷ rows) =
-    let whole : ends (table_line (row_line row) ++ flat_map table_line (row_lines rows)) ≡ ends (table_line (row_line row)) + ends (flat_map table_line (row_lines rows)) = ends-append (table_line (row_line row)) (flat_map table_line (row_lines rows)) in
-    let here : ends (table_line (row_line row)) ≡ 1 = ends-row row in
+    let whole : ends (table_line (line_of_row row) ++ flat_map table_line (row_lines rows)) ≡ ends (table_line (line_of_row row)) + ends (flat_map table_line (row_lines rows)) = ends-append (table_line (line_of_row row)) (flat_map table_line (row_lines rows)) in
+    let here : ends (table_line (line_of_row row)) ≡ 1 = ends-row row in
     let later : ends (flat_map table_line (row_lines rows)) ≡ length (row_lines rows) = AreLines-rows rows in
-    let total : ends (table_line (row_line row) ++ flat_map table_line (row_lines rows)) ≡ suc (length (row_lines rows)) = omega arith in
+    let total : ends (table_line (line_of_row row) ++ flat_map table_line (row_lines rows)) ≡ suc (length (row_lines rows)) = omega arith in
     total

@@ -12,7 +12,8 @@ use Rattle.volt_form.specs.Form.{longest_input, most_calls, IsBigint, HasBigints
 use Rattle.one_host_model.specs.declared.input.WorldCall.{WorldCall}
 use Rattle.account_engine.specs.declared.call.AccountCall.{AccountCall}
 use Rattle.account_engine.specs.declared.call.AccountCall.TheVariants as account
-use Rattle.account_engine.specs.Calls.{ValidCall, is_value, is_valid}
+use Rattle.volt_value.specs.Values.{is_bigint}
+use Rattle.account_engine.specs.Calls.{ValidCall, is_valid}
 use Rattle.account_engine.specs.Spelling.{body_of}
 use Rattle.volt_cmd.specs.Script.{Asks, IsAsked, given_calls, script_call}
 use Rattle.volt_cmd.specs.Headline.{ReadsAll, IsWrongAt}
@@ -112,7 +113,7 @@ both : (a b : Bool) → a ≡ true → b ≡ true → (a && b) ≡ true
 both a b p q = rw (p, q) refl
 
 -- a BIGINT is a value
-bigint_is_value : (z : ℤ) → IsBigint z → is_value z ≡ true
+bigint_is_value : (z : ℤ) → IsBigint z → is_bigint z ≡ true
 bigint_is_value (pos n) h = grind (arith, ints, nat_tests)
 bigint_is_value (negsuc n) h = grind (arith, ints, nat_tests)
 

@@ -6,7 +6,7 @@ use Rattle.volt_base.specs.Semantics.{Semantics}
 use Rattle.volt_wire.specs.declared.event.Event.{Event}
 use Rattle.one_host_model.specs.declared.input.WorldCall.{WorldCall}
 use Rattle.one_host_model.specs.World.{World, can, step}
-use Rattle.one_host_model.specs.Runs.{run, IsRun, TakesFirst, events, enabled, head}
+use Rattle.one_host_model.specs.Runs.{run, IsRun, TakesFirst, events, enabled, first_of_events}
 use Rattle.soundness.proofs.Enabled.{event_is_of_them, nothing_enabled_is_quiescent}
 use Rattle.soundness.proofs.Law.{run_is_short}
 use Rattle.account_engine.specs.Calls.{ValidCall}
@@ -25,12 +25,12 @@ IsRun-push : (S : Semantics) (es : List Event) (e : Event) (w : World) → IsRun
 IsRun-push S [] e w h c = (c, tt)
 IsRun-push S (x ∷ es) e w h c = (h.0, IsRun-push S es e (step S w x) h.1 c)
 
-TakesFirst-push : (S : Semantics) (es : List Event) (e : Event) (w : World) → TakesFirst S es w → head (enabled (run S es w)) ≡ Some e → TakesFirst S (es ++ e ∷ []) w
+TakesFirst-push : (S : Semantics) (es : List Event) (e : Event) (w : World) → TakesFirst S es w → first_of_events (enabled (run S es w)) ≡ Some e → TakesFirst S (es ++ e ∷ []) w
 TakesFirst-push S [] e w h c = (c, tt)
 TakesFirst-push S (x ∷ es) e w h c = (h.0, TakesFirst-push S es e (step S w x) h.1 c)
 
 -- the first of those that pass a test passes it
-head_passes : (test : Event → Bool) (es : List Event) (e : Event) → head (filter test es) ≡ Some e → test e ≡ true
+head_passes : (test : Event → Bool) (es : List Event) (e : Event) → first_of_events (filter test es) ≡ Some e → test e ≡ true
 head_passes test [] e h = absurd cc
 head_passes test (x ∷ es) e h =
     elim (cases_Bool (test x)) [
@@ -39,11 +39,11 @@ head_passes test (x ∷ es) e h =
     ]
 
 -- the first event that may happen may happen
-pub first_may : (w : World) (e : Event) → head (enabled w) ≡ Some e → can w e ≡ true
+pub first_may : (w : World) (e : Event) → first_of_events (enabled w) ≡ Some e → can w e ≡ true
 first_may w e h = head_passes (can w) events e h
 
 -- where there is no first one, none may
-no_head : (es : List Event) → head es ≡ None → es ≡ []
+no_head : (es : List Event) → first_of_events es ≡ None → es ≡ []
 no_head [] h = refl
 no_head (e ∷ es) h = absurd cc
 
@@ -59,7 +59,7 @@ module _ {M E : Type 0} (state : E → AccountsState) (calls : List ValidCall) w
   -- after the first event that may happen
   pub reached_next : (world next : code.World M E) (e : Event) (r : FollowsSchedule state calls world) (n : ℕ)
       → length r.events ≡ n
-      → head (enabled (run accounts_semantics r.events (start calls))) ≡ Some e
+      → first_of_events (enabled (run accounts_semantics r.events (start calls))) ≡ Some e
       → StandsFor accounts_semantics state next (step accounts_semantics (run accounts_semantics r.events (start calls)) e)
       → (s : FollowsSchedule state calls next) × (length s.events ≡ n + 1)
   reached_next world next e r n count first h =
@@ -74,7 +74,7 @@ module _ {M E : Type 0} (state : E → AccountsState) (calls : List ValidCall) w
       )
 
   -- where no event may happen
-  pub ended : (world : code.World M E) (r : FollowsSchedule state calls world) → head (enabled (run accounts_semantics r.events (start calls))) ≡ None → EndsQuiescent state calls world
+  pub ended : (world : code.World M E) (r : FollowsSchedule state calls world) → first_of_events (enabled (run accounts_semantics r.events (start calls))) ≡ None → EndsQuiescent state calls world
   ended world r none = record {
     reached = r;
     quiescent = nothing_enabled_is_quiescent accounts_semantics accounts carried calls r.events r.is_run (no_head (enabled (run accounts_semantics r.events (start calls))) none);

@@ -1,4 +1,5 @@
-//! The top call of the product.
+//! The top call of the product: words, a source and a sink go in, and a status comes out. Begin with
+//! `volt` in `top`; `specs/Headline.antt` has the words of its contract.
 #![tactic(auto)]
 
 mod input;

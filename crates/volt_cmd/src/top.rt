@@ -136,7 +136,7 @@ fn report_of(alloc: Global, calls: Vec<ScriptCall>) -> Result<Printed, AllocErro
 fn write_fault<K: Sink>(sink: &mut K, status: Status) -> Result<(), WriteFailed>
     ensures whole { OnOk result (SinkTakes (K.state sink.old) (K.state sink.new) (fault_line status)) }
     ensures prefix { SinkTakesPrefixOf (K.state sink.old) (K.state sink.new) (fault_line status) }
-    ensures rises { OnErr result (Increased (K.state sink.old).faults (K.state sink.new).faults) }
+    ensures increases { OnErr result (Increased (K.state sink.old).faults (K.state sink.new).faults) }
 {
     match status {
         Status::BadUse => write_all(sink, b"fault BadUse\n"),
@@ -149,7 +149,7 @@ fn write_fault<K: Sink>(sink: &mut K, status: Status) -> Result<(), WriteFailed>
 fn write_not_built<K: Sink>(sink: &mut K, line: u32) -> Result<(), WriteFailed>
     ensures whole { OnOk result (SinkTakes (K.state sink.old) (K.state sink.new) (fault_line (Status.NotBuilt line))) }
     ensures prefix { SinkTakesPrefixOf (K.state sink.old) (K.state sink.new) (fault_line (Status.NotBuilt line)) }
-    ensures rises { OnErr result (Increased (K.state sink.old).faults (K.state sink.new).faults) }
+    ensures increases { OnErr result (Increased (K.state sink.old).faults (K.state sink.new).faults) }
 {
     write_all(sink, b"fault NotBuilt ")?;
     write_number(sink, line)?;
@@ -160,7 +160,7 @@ fn write_not_built<K: Sink>(sink: &mut K, line: u32) -> Result<(), WriteFailed>
 fn write_number<K: Sink>(sink: &mut K, number: u32) -> Result<(), WriteFailed>
     ensures written { OnOk result (SinkTakes (K.state sink.old) (K.state sink.new) (decimal number)) }
     ensures partly { OnErr result (SinkTakesPrefixOf (K.state sink.old) (K.state sink.new) (decimal number)) }
-    ensures rises { OnErr result (Increased (K.state sink.old).faults (K.state sink.new).faults) }
+    ensures increases { OnErr result (Increased (K.state sink.old).faults (K.state sink.new).faults) }
     ensures never_falls { (K.state sink.old).faults ≤ (K.state sink.new).faults }
 {
     let mut buffer = Buffer::new();

@@ -16,7 +16,7 @@ use volt_wire::Event;
 pub fn write_report<K: Sink>(sink: &mut K, report: Printed) -> Result<(), WriteFailed>
     ensures written { OnOk result (SinkTakes (K.state sink.old) (K.state sink.new) (printed_text report)) }
     ensures partly { OnErr result (SinkTakesPrefixOf (K.state sink.old) (K.state sink.new) (printed_text report)) }
-    ensures rises { OnErr result (Increased (K.state sink.old).faults (K.state sink.new).faults) }
+    ensures increases { OnErr result (Increased (K.state sink.old).faults (K.state sink.new).faults) }
     ensures never_falls { (K.state sink.old).faults ≤ (K.state sink.new).faults }
 {
     let Printed { prefix, trace } = report;
@@ -29,7 +29,7 @@ pub fn write_report<K: Sink>(sink: &mut K, report: Printed) -> Result<(), WriteF
 fn write_last_lines<K: Sink>(sink: &mut K, trace: &[Event]) -> Result<(), WriteFailed>
     ensures written { OnOk result (SinkTakes (K.state sink.old) (K.state sink.new) (last_lines trace.now)) }
     ensures partly { OnErr result (SinkTakesPrefixOf (K.state sink.old) (K.state sink.new) (last_lines trace.now)) }
-    ensures rises { OnErr result (Increased (K.state sink.old).faults (K.state sink.new).faults) }
+    ensures increases { OnErr result (Increased (K.state sink.old).faults (K.state sink.new).faults) }
     ensures never_falls { (K.state sink.old).faults ≤ (K.state sink.new).faults }
 {
     let mut buffer = WriteBuffer::new();

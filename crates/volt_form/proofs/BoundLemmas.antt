@@ -9,7 +9,8 @@ use Rattle.std.specs.Option.{option_or}
 use Rattle.volt_base.specs.Reading.{◌>>=◌}
 use Rattle.volt_form.specs.declared.call.ScriptCall.{ScriptCall}
 use Rattle.volt_form.specs.declared.call.ScriptCall.TheVariants.{Put, Get}
-use Rattle.volt_form.specs.Form.{Lines, greatest, IsBigint, HasBigints, magnitude_of, number_of_word, put_of_numbers, get_of_number, after_prefix, call_of_line, calls_of_lines, most_calls, head, lines_of, after_lines, calls_in, calls_of_text}
+use Rattle.volt_value.specs.Values.{greatest}
+use Rattle.volt_form.specs.Form.{Lines, IsBigint, HasBigints, magnitude_of, number_of_word, put_of_numbers, get_of_number, after_prefix, call_of_line, calls_of_lines, most_calls, head, lines_of, after_lines, calls_in, calls_of_text}
 
 -- what holds of the value of each of two options holds of the value of the one that is chosen
 chosen : {A : Type 0} (b : Bool) (x y : Option A) (P : A → Type 0) → (b ≡ true → IfSome x P) → IfSome y P → IfSome (cond b x y) P

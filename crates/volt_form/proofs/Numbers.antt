@@ -5,7 +5,8 @@ use Rattle.std.proofs.lemmas.List.{at_drop_more}
 use Rattle.std.specs.Char.{digit_value, is_ascii_digit}
 use Rattle.std.specs.Str.{all_ascii_digits}
 use Rattle.std.specs.Str.Parse.{digits_value_after, digits_value}
-use Rattle.volt_form.specs.Form.{magnitude_of, greatest, after_prefix, number_of_word}
+use Rattle.volt_value.specs.Values.{greatest}
+use Rattle.volt_form.specs.Form.{magnitude_of, after_prefix, number_of_word}
 
 -- more digits never make a smaller number
 pub value_grows : (n : ℕ) (ds : List ℕ) → n ≤ digits_value_after 10 n ds

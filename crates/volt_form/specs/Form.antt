@@ -5,6 +5,7 @@ use Rattle.std.specs.Option.{option_or}
 use Rattle.std.specs.Str.{all_ascii_digits, byte}
 use Rattle.std.specs.Str.Parse.{digits_value}
 use Rattle.volt_base.specs.Reading.{◌>>=◌}
+use Rattle.volt_value.specs.Values.{greatest}
 use Rattle.volt_form.specs.declared.call.ScriptCall.{ScriptCall}
 use Rattle.volt_form.specs.declared.call.ScriptCall.TheVariants.{Put, Get}
 
@@ -31,10 +32,6 @@ abbrev pub after_prefix : List ℕ → List ℕ → Option (List ℕ)
 after_prefix prefix text = if bytes_eq (take (length prefix) text) prefix then Some (drop (length prefix) text) else None
 
 -- Numbers and calls
-
--- the greatest BIGINT
-abbrev pub greatest : ℕ
-greatest = 9223372036854775807
 
 -- the number that digits write: one or more of them, with a value that isn't above the greatest
 unfoldable pub magnitude_of : List ℕ → Option ℕ

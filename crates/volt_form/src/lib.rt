@@ -1,8 +1,6 @@
-//! Reads the text of an input.
-//!
-//! One form of input is known: a deployment of one site, the starter catalog, and a script of calls
-//! of its procedures `Put` and `Get`. Any other text is refused, with the number of its first line
-//! that isn't of the form.
+//! Reads the text of an input: a deployment of one site, the starter catalog, and a script of calls of
+//! `Put` and `Get`. Any other text is refused, with the number of its first line that isn't of this
+//! form. Begin with `read_form`; `specs/Form.antt` has the form.
 #![tactic(auto)]
 
 mod call;

@@ -1,7 +1,8 @@
 //! Numbers as a script writes them.
 
 ghost use Rattle.std.specs.Prelude.{◌≡◌, ◌≤◌, IfSome};
-ghost use Rattle.volt_form.specs.Form.{greatest, magnitude_of, number_of_word};
+ghost use Rattle.volt_value.specs.Values.{greatest};
+ghost use Rattle.volt_form.specs.Form.{magnitude_of, number_of_word};
 
 use crate::lines::after;
 

@@ -34,10 +34,6 @@ pub SinkTakesPrefixOf-longer : (a b : SinkState) (x y : List ℕ) → SinkTakesP
 SinkTakesPrefixOf-longer a b x y p =
     (p.0, (p.1.0 ++ y, ap (λ l. l ++ y) p.1.1 ∙ append_assoc p.0 p.1.0 y), p.2)
 
--- all is written, and nothing is left
-pub SinkTakesAllBut-none : (a b : SinkState) (text : List ℕ) → SinkTakes a b text → SinkTakesAllBut a b text []
-SinkTakesAllBut-none a b text p = (text, sym (append-nil text), p)
-
 -- of what was left, the next bytes but the last ones are written
 pub SinkTakesAllBut-then : (a b c : SinkState) (text left next last others : List ℕ) → SinkTakesAllBut a b text left → left ≡ next ++ others → SinkTakesAllBut b c next last → SinkTakesAllBut a c text (last ++ others)
 SinkTakesAllBut-then a b c text left next last others p split q = (

@@ -57,7 +57,7 @@ impl WriteBuffer {
         ensures lost { OnErr result (self.new ≡ []) }
 
         // The sink's faults.
-        ensures rises { OnErr result (Increased (K.state sink.old).faults (K.state sink.new).faults) }
+        ensures increases { OnErr result (Increased (K.state sink.old).faults (K.state sink.new).faults) }
         ensures never_falls { (K.state sink.old).faults ≤ (K.state sink.new).faults }
     {
         if self.held.try_extend_from_slice(text).is_ok() {
@@ -79,7 +79,7 @@ impl WriteBuffer {
         ensures empty { self.new ≡ [] }
 
         // The sink's faults.
-        ensures rises { OnErr result (Increased (K.state sink.old).faults (K.state sink.new).faults) }
+        ensures increases { OnErr result (Increased (K.state sink.old).faults (K.state sink.new).faults) }
         ensures never_falls { (K.state sink.old).faults ≤ (K.state sink.new).faults }
     {
         let written = write_all(sink, self.held.as_slice());

@@ -86,7 +86,7 @@ impl Source for MemSource {
 
         // As each source.
         ensures ends { IfOk result (λ n. (n ≡ 0) ↔ (self.old.left ≡ [])) }
-        ensures rises { OnErr result (Increased self.old.faults self.new.faults) }
+        ensures increases { OnErr result (Increased self.old.faults self.new.faults) }
         ensures never_falls { self.old.faults ≤ self.new.faults }
     {
         let fails = self.fail.contains(&self.call);
@@ -195,7 +195,7 @@ impl Sink for MemSink {
 
         // As each sink.
         ensures some { IfOk result (λ n. 0 < n) }
-        ensures rises { OnErr result (Increased self.old.faults self.new.faults) }
+        ensures increases { OnErr result (Increased self.old.faults self.new.faults) }
         ensures kept { OnErr result (self.new.written ≡ self.old.written) }
         ensures never_falls { self.old.faults ≤ self.new.faults }
     {

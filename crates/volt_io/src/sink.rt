@@ -40,7 +40,7 @@ pub trait Sink {
 
         // A failure.
         ensures kept { OnErr result ((state self.new).taken ≡ (state self.old).taken) }
-        ensures rises { OnErr result (Increased (state self.old).faults (state self.new).faults) }
+        ensures increases { OnErr result (Increased (state self.old).faults (state self.new).faults) }
         ensures never_falls { (state self.old).faults ≤ (state self.new).faults };
 
     /// How many faults there were so far.

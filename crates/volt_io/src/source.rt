@@ -44,7 +44,7 @@ pub trait Source {
 
         // A failure.
         ensures kept { OnErr result (SourceGives (state self.old) (state self.new) []) }
-        ensures rises { OnErr result (Increased (state self.old).faults (state self.new).faults) }
+        ensures increases { OnErr result (Increased (state self.old).faults (state self.new).faults) }
         ensures never_falls { (state self.old).faults ≤ (state self.new).faults };
 
     /// How many faults there were so far.

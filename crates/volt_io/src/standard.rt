@@ -61,7 +61,7 @@ impl<R: Read + Drop> Source for StdSource<R> {
         ensures gives { IfOk result (λ n. SourceGives (as_source self.old) (as_source self.new) (take n into.new)) }
         ensures ends { IfOk result (λ n. self.new.passed.ended ≡ (n == 0)) }
         ensures kept { OnErr result (SourceGives (as_source self.old) (as_source self.new) []) }
-        ensures rises { OnErr result (Increased self.old.faults self.new.faults) }
+        ensures increases { OnErr result (Increased self.old.faults self.new.faults) }
         ensures never_falls { self.old.faults ≤ self.new.faults }
     {
         match read_some(&mut self.reader, into) {
@@ -144,7 +144,7 @@ impl<W: Write + Drop> Sink for StdSink<W> {
         ensures some { IfOk result (λ n. 0 < n) }
         ensures within { IfOk result (λ n. n ≤ length piece.now) }
         ensures takes { IfOk result (λ n. SinkTakes (as_sink self.old) (as_sink self.new) (take n piece.now)) }
-        ensures rises { OnErr result (Increased self.old.faults self.new.faults) }
+        ensures increases { OnErr result (Increased self.old.faults self.new.faults) }
         ensures never_falls { self.old.faults ≤ self.new.faults }
     {
         match write_some(&mut self.writer, piece) {

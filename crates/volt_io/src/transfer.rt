@@ -84,7 +84,7 @@ pub fn read_to_end<S: Source>(
 
     // A failure.
     ensures loses { OnErr result (SourceGivesAtMost (S.state source.old) (S.state source.new) (limit + 1)) }
-    ensures rises { result ≡ Err ReadFault.Failed
+    ensures increases { result ≡ Err ReadFault.Failed
         → Increased (S.state source.old).faults (S.state source.new).faults }
     ensures never_falls { (S.state source.old).faults ≤ (S.state source.new).faults }
 {
@@ -116,7 +116,7 @@ fn read_piece<S: Source>(
     ensures same { IfOk result (λ n. n ≡ 0 → bytes.new.items ≡ bytes.old.items) }
 
     ensures loses { OnErr result (SourceGivesAtMost (S.state source.old) (S.state source.new) (length piece.old)) }
-    ensures rises { result ≡ Err ReadFault.Failed
+    ensures increases { result ≡ Err ReadFault.Failed
         → Increased (S.state source.old).faults (S.state source.new).faults }
     ensures never_falls { (S.state source.old).faults ≤ (S.state source.new).faults }
 {
@@ -141,7 +141,7 @@ pub fn write_all<K: Sink>(sink: &mut K, text: &[u8]) -> Result<(), WriteFailed>
     ensures partly { OnErr result (SinkTakesPrefixOf (K.state sink.old) (K.state sink.new) text.now) }
 
     // The sink's faults.
-    ensures rises { OnErr result (Increased (K.state sink.old).faults (K.state sink.new).faults) }
+    ensures increases { OnErr result (Increased (K.state sink.old).faults (K.state sink.new).faults) }
     ensures never_falls { (K.state sink.old).faults ≤ (K.state sink.new).faults }
 {
     let mut at = 0;

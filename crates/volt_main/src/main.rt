@@ -1,5 +1,5 @@
-//! The program: the top call over standard input and standard output. `main` is one call of `run`,
-//! which says how the program ends: begin there.
+//! The program: the top call over standard input and standard output. Begin with `run`, which says how
+//! the program ends; `main` is one call of it.
 #![tactic(auto)]
 
 ghost use Rattle.std.specs.Prelude.{◌≡◌, drop, map, string_bytes, IfOk, OnErr};

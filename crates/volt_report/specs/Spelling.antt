@@ -3,6 +3,7 @@ use Rattle.std.specs.Prelude.{ℕ, ◌==◌, if◌then◌else◌, List, [], ◌�
 use Rattle.std.specs.List.{flat_map}
 use Rattle.std.specs.Fmt.{signed_decimal}
 use Rattle.volt_base.specs.declared.entry.Applied.{Applied}
+use Rattle.volt_text.specs.Tokens.{quoted}
 use Rattle.volt_value.specs.declared.value.Value.{Value}
 use Rattle.volt_value.specs.declared.value.Value.TheVariants as value
 use Rattle.volt_wire.specs.declared.actor.Actor.{Actor}
@@ -19,13 +20,7 @@ then_number n = 32 ∷ decimal n
 abbrev pub newline : List ℕ
 newline = 10 ∷ []
 
--- a text in single quotes, each quote in it doubled
-abbrev pub doubled : ℕ → List ℕ
-doubled b = if b == 39 then 39 ∷ 39 ∷ [] else b ∷ []
-
-abbrev pub quoted : List ℕ → List ℕ
-quoted text = 39 ∷ flat_map doubled text ++ 39 ∷ []
-
+-- a value: a text stands in single quotes, each quote in it doubled
 abbrev pub value_text : Value → List ℕ
 value_text value.Null = codes "NULL"
 value_text (value.Int z) = signed_decimal z

@@ -1,4 +1,5 @@
-//! The report of a run: what it says, and how it is written.
+//! The report of a run: what it says (`specs/Report.antt`), and how it is written
+//! (`specs/Spelling.antt`). Begin there; `examples` has small reports.
 //!
 //! A report is printed part by part: each function adds one part at the end of the bytes. After
 //! running out of memory nothing is said of what stands there. The line of an event is a value of its own,

@@ -3,7 +3,8 @@ use Rattle.std.proofs.lemmas.Bool.Decides.{nat_tests}
 use Rattle.std.proofs.lemmas.List.{at_drop_all}
 use Rattle.std.specs.Str.{all_ascii_digits}
 use Rattle.std.specs.Str.Parse.{digits_value_after, digits_value}
-use Rattle.volt_form.specs.Form.{greatest}
+use Rattle.volt_value.specs.Values.{greatest}
+use Rattle.volt_form.specs.Form.{}
 use Rattle.volt_form.proofs.Numbers.{no_magnitude-empty, no_magnitude-other, no_magnitude-prefix, no_magnitude-large, magnitude_is, digit_value_is}
 use Rattle.volt_form.proofs.number.read_magnitude.Goals as goal
 
