@@ -120,10 +120,12 @@ impl Pane {
         Places::of(&self.cow)
     }
 
-    /// Puts a tuple of the pane's width at a place that was free. It takes constant time, but for
-    /// blocks that are added or copied, averaged over all calls of `add` and `compact`. A block is added
-    /// only where at most one place in 64 is free, and never beyond 2^22 blocks: one more is answered
-    /// as out of memory. Out of memory, the rows are as before.
+    /// Puts a tuple of the pane's width at a place that was free. A block is added only where at most
+    /// one place in 64 is free, and never beyond 2^22 blocks: one more is answered as out of memory. Out
+    /// of memory, the rows are as before.
+    ///
+    /// It takes constant time, averaged over all calls of `add` and `compact`, but for blocks that are
+    /// added or copied. Where there are 2^22 blocks, a call may look through all of them.
     pub fn add(&mut self, tuple: &[u8]) -> Result<Place, AllocError>
         requires { length tuple.now ≡ self.old.width }
         ensures free { IfOk result (λ p. row_at self.old p ≡ None) }
