@@ -3,7 +3,7 @@ ghost use Rattle.std.specs.Prelude.{◌≡◌, ◌≢◌, ◌+◌, ◌<◌, ◌�
 ghost use Rattle.volt_disk.specs.File.{seen, settled};
 ghost use Rattle.volt_disk.specs.Effects.{lengthened, overwritten, write_asked, after_write, synced, FailsAs};
 ghost use Rattle.volt_base.specs.Spelling.{body_bytes};
-ghost use Rattle.gate_log.specs.Batches.{batches, open_gate};
+ghost use Rattle.gate_log.specs.Batches.{batches};
 ghost use Rattle.gate_log.specs.Log.{IsReady, EachImage, HoldsAlways, HoldsWithOrWithout, KeepsPrefix};
 ghost use Rattle.gate_log.specs.Calls.{MakesCalls};
 ghost use Rattle.volt_disk.specs.declared.listing.Listing.TheVariants.{Kept};

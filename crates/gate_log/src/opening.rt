@@ -1,7 +1,7 @@
 //! Opening a log and reading its batches.
-ghost use Rattle.std.specs.Prelude.{◌≡◌, ◌≢◌, ◌+◌, ◌-◌, ◌<◌, ◌≤◌, ℕ, [], ◌∷◌, IsTrue, length, replicate, slice_index, vec_len, IfOk, OnOk, OnErr};
+ghost use Rattle.std.specs.Prelude.{◌≡◌, ◌≢◌, ◌+◌, ◌-◌, ◌<◌, ℕ, [], ◌∷◌, IsTrue, length, replicate, slice_index, vec_len, IfOk, OnOk, OnErr};
 ghost use Rattle.volt_disk.specs.File.{seen, settled};
-ghost use Rattle.volt_disk.specs.Effects.{overwritten, write_asked, after_write, synced, FailsAs};
+ghost use Rattle.volt_disk.specs.Effects.{overwritten, synced};
 ghost use Rattle.volt_disk.specs.declared.disk.LogFault.{LogFault};
 ghost use Rattle.volt_disk.specs.declared.listing.Listing.TheVariants.{Kept};
 ghost use Rattle.gate_log.specs.Batches.{batches, open_gate};

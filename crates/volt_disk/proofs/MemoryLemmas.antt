@@ -7,7 +7,7 @@ use Rattle.volt_disk.specs.declared.memory.Turn.TheVariants.{Done, Numbered, Los
 use Rattle.volt_disk.specs.Effects.{asked, made, synced, names_synced, FailsAs}
 use Rattle.volt_disk.specs.Power.{has_power}
 use Rattle.volt_disk.specs.Stored.{changed, stored_at, with_file, with_synced, all_names_synced}
-use Rattle.volt_disk.specs.Memory.{Memory, told_of, turn_of, answer_in, settled_in, changed_in, starved, IsChange}
+use Rattle.volt_disk.specs.Memory.{Memory, told_of, turn_of, answer_in, leaves_in, changed_in, starved, IsChange}
 use Rattle.volt_disk.proofs.PowerLemmas.{dark_without_power}
 use Rattle.volt_disk.proofs.FileLemmas.{stored_at-put, stored_at-put_other, stored_at-synced, stored_at-synced_other, stored_at-names_synced}
 
@@ -61,7 +61,7 @@ pub record TellsSync (n : ℕ) (result : Result (Unit {0}) DiskFailed) (before n
   pub failed : OnErr result (told_of now n ≡ told_of before n)
   pub others : (m : ℕ) → m ≢ n → told_of now m ≡ told_of before m
 
-pub tells_sync : (t : Turn) (n : ℕ) (m : Memory) → TellsSync n (answer_in t tt) m (settled_in t (with_synced n m.files) m)
+pub tells_sync : (t : Turn) (n : ℕ) (m : Memory) → TellsSync n (answer_in t tt) m (leaves_in t (with_synced n m.files) m)
 tells_sync Done n m = record {
   done = stored_at-synced n m.files;
   failed = tt;
@@ -76,7 +76,7 @@ pub record TellsNames (result : Result (Unit {0}) DiskFailed) (before now : Memo
   pub done : OnOk result ((m : ℕ) → told_of now m ≡ names_synced (told_of before m))
   pub failed : OnErr result ((m : ℕ) → told_of now m ≡ told_of before m)
 
-pub tells_names : (t : Turn) (m : Memory) → TellsNames (answer_in t tt) m (settled_in t (all_names_synced m.files) m)
+pub tells_names : (t : Turn) (m : Memory) → TellsNames (answer_in t tt) m (leaves_in t (all_names_synced m.files) m)
 tells_names Done m = record { done = λ k. stored_at-names_synced k m.files; failed = tt }
 tells_names Numbered m = record { done = tt; failed = λ k. refl }
 tells_names Lost m = record { done = tt; failed = λ k. refl }

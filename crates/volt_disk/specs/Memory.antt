@@ -39,20 +39,24 @@ turn_by Works numbered = if numbered then Numbered else Done
 turn_by Cut numbered = Lost
 turn_by Dark numbered = Off
 
--- what the next call meets: want of power first, then a planned loss, then its number
+-- what the next call meets: no power first, then a planned loss, then its number
 abbrev pub turn_of : Memory → Turn
 turn_of m = turn_by (fate m.power) (list_any (λ n. n == m.call) m.fail)
 
--- what a call answers where it doesn't run out of memory: it fails in each turn but the first kind
+-- a call that meets nothing works, and any other fails
 abbrev pub answer_in : {T : Type 0} → Turn → T → Result T DiskFailed
 answer_in Done value = Ok value
 answer_in _ value = Err (record {})
+
+-- what a call answers, where it works with this value and takes no memory
+abbrev pub answer_of : {T : Type 0} → Memory → T → Result T DiskFailed
+answer_of m value = answer_in (turn_of m) value
 
 -- after a call was counted
 abbrev pub called : Memory → Memory
 called m = record m { call = one_more m.call; power = after_call m.power }
 
--- after a call that failed
+-- after a call that failed and changed no file
 abbrev pub failed : Memory → Memory
 failed m = record (called m) { faults = one_more m.faults }
 
@@ -60,32 +64,27 @@ failed m = record (called m) { faults = one_more m.faults }
 abbrev pub starved : Memory → Memory
 starved m = record (failed m) { starved = one_more m.starved }
 
--- after a call that changes no file
-abbrev pub counted_in : Turn → Memory → Memory
-counted_in Done m = called m
-counted_in _ m = failed m
+-- after a call that leaves these files where it works, and else the files that were there
+abbrev pub leaves_in : Turn → List (ℕ × Stored) → Memory → Memory
+leaves_in Done files m = record (called m) { files = files }
+leaves_in _ files m = failed m
 
-abbrev pub counted : Memory → Memory
-counted m = counted_in (turn_of m) m
+abbrev pub leaves : List (ℕ × Stored) → Memory → Memory
+leaves files m = leaves_in (turn_of m) files m
 
--- after a call that changes the files where it works, and else leaves them
-abbrev pub settled_in : Turn → List (ℕ × Stored) → Memory → Memory
-settled_in Done files m = record (called m) { files = files }
-settled_in _ files m = failed m
-
--- after a call that changes a file where it works; at a planned loss it has taken its effect, failed by its number it was
--- asked for, and without power nothing of it was begun
+-- After a call that changes a file. It takes its effect where it works, and at a planned loss. Where it fails by its
+-- number it was asked for, and without power nothing of it was begun.
 abbrev pub changed_in : Turn → Change → ℕ → Memory → Memory
 changed_in Done change n m = record (called m) { files = with_file n (changed true change (stored_at n m.files)) m.files }
 changed_in Lost change n m = record (failed m) { files = with_file n (changed true change (stored_at n m.files)) m.files }
 changed_in Numbered change n m = record (failed m) { files = with_file n (changed false change (stored_at n m.files)) m.files }
 changed_in Off change n m = failed m
 
--- A call that changes a file: it answers by its turn and leaves what that says. Or it runs out of memory, which it can
--- only with power: then it fails and changes no file.
+-- A call that changes a file answers by its turn, and leaves what that says. Or it runs out of memory, which it can only
+-- with power: then it fails and changes no file.
 abbrev pub IsChange : Change → ℕ → Result (Unit {0}) DiskFailed → Memory → Memory → Type 0
 IsChange change n result before now =
-    ((result ≡ answer_in (turn_of before) tt) × (now ≡ changed_in (turn_of before) change n before))
+    ((result ≡ answer_of before tt) × (now ≡ changed_in (turn_of before) change n before))
     ⊎ ((result ≡ Err (record {})) × (turn_of before ≢ Off) × (now ≡ starved before))
 
 -- the choice of a loss of power; where none came true it is 1

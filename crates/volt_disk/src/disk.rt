@@ -66,8 +66,8 @@ impl From<AllocError> for LogFault {
 /// A crash is a loss of power at any moment, or a power cycle. It leaves an image of each file
 /// (`IsImage` of the file as it is told).
 ///
-/// Each disk counts its faults, and a call fails only where that count increased. A count that stands at
-/// the greatest `u64` is taken as risen, since it can't rise further.
+/// Each disk counts its faults, and a call fails only where that count increased. A count that
+/// stands at the greatest `u64` is taken as increased, since it can't increase further.
 pub trait Disk {
     /// Such a disk tells its bytes.
     ghost tells: { Bool };

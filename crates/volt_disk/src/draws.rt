@@ -1,5 +1,5 @@
 //! Draws: numbers that look random and follow from where they began.
-ghost use Rattle.std.specs.Prelude.{◌≡◌, ◌<◌, ◌^◌};
+ghost use Rattle.std.specs.Prelude.{◌≡◌};
 ghost use Rattle.volt_disk.specs.Draws.{next_state, draw_of};
 
 /// The state after `x`.

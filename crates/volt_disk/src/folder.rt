@@ -1,6 +1,6 @@
 //! A disk over real files, all in one folder. It is the edge to the environment: it tells no bytes,
 //! and no clause says what a file gives or takes.
-ghost use Rattle.std.specs.Prelude.{◌≡◌, ◌≤◌, ℕ, false, is_ok};
+ghost use Rattle.std.specs.Prelude.{◌≡◌, ◌≤◌, false, is_ok};
 ghost use Rattle.volt_base.specs.Faults.{Increased};
 ghost use Rattle.volt_disk.specs.File.{no_file};
 ghost use Rattle.volt_disk.specs.Folder.{new_folder, faulted_folder, called_folder};

@@ -1,10 +1,10 @@
 //! A disk in memory. It tells its bytes, fails as it is told to, and loses power as planned.
-ghost use Rattle.std.specs.Prelude.{◌≡◌, ◌≢◌, ◌+◌, ◌≤◌, ℕ, true, false, IsTrue, length, slice_range, IfOk, OnOk, OnErr};
+ghost use Rattle.std.specs.Prelude.{◌≡◌, ◌+◌, ◌≤◌, ℕ, true, length, slice_range, OnOk};
 ghost use Rattle.volt_disk.specs.File.{IsImage, seen};
-ghost use Rattle.volt_disk.specs.Effects.{CanChange, growth_asked, grown, write_asked, after_write, synced, removed, removal_asked, names_synced, asked, made, FailsAs, CyclesTo};
-ghost use Rattle.volt_disk.specs.Power.{has_power, planned, cycled, IsCounted};
+ghost use Rattle.volt_disk.specs.Effects.{CanChange, CyclesTo};
+ghost use Rattle.volt_disk.specs.Power.{planned, IsCounted};
 ghost use Rattle.volt_disk.specs.Stored.{with_synced, all_names_synced};
-ghost use Rattle.volt_disk.specs.Memory.{Memory, empty_memory, told_of, turn_by, turn_of, answer_in, called, failed, counted, settled_in, IsChange, power_cycled};
+ghost use Rattle.volt_disk.specs.Memory.{Memory, empty_memory, told_of, turn_by, turn_of, answer_of, called, leaves, IsChange, power_cycled};
 ghost use Rattle.volt_base.specs.Faults.{Increased, one_more};
 ghost use Rattle.volt_disk.specs.declared.listing.Listing.TheVariants.{Kept};
 
@@ -122,10 +122,10 @@ impl MemDisk {
         DiskFailed
     }
 
-    // A counted call that changes no file but where it works.
+    // A counted call that works or not by its turn alone.
     fn count(&mut self) -> Result<(), DiskFailed>
-        ensures answer { result ≡ answer_in (turn_of self.old) tt }
-        ensures after { self.new ≡ counted self.old }
+        ensures answer { result ≡ answer_of self.old tt }
+        ensures after { self.new ≡ leaves self.old.files self.old }
         ensures counted { IsCounted result self.old.power self.new.power self.old.faults self.new.faults }
     {
         match self.begin() {
@@ -166,8 +166,8 @@ impl Disk for MemDisk {
     ghost count = { λ d. d.faults };
 
     fn size(&mut self, file: u64) -> Result<u64, DiskFailed>
-        ensures answer { result ≡ answer_in (turn_of self.old) (length (seen (told_of self.old file))) }
-        ensures after { self.new ≡ counted self.old }
+        ensures answer { result ≡ answer_of self.old (length (seen (told_of self.old file))) }
+        ensures after { self.new ≡ leaves self.old.files self.old }
         ensures counted { IsCounted result self.old.power self.new.power self.old.faults self.new.faults }
     {
         self.count()?;
@@ -177,9 +177,9 @@ impl Disk for MemDisk {
     fn read_at(&mut self, file: u64, at: u64, into: &mut [u8]) -> Result<(), DiskFailed>
         requires { at + length into.old ≤ length (seen (told_of self.old file)) }
 
-        ensures answer { result ≡ answer_in (turn_of self.old) tt }
+        ensures answer { result ≡ answer_of self.old tt }
         ensures bytes { OnOk result (into.new ≡ slice_range (seen (told_of self.old file)) at (at + length into.old)) }
-        ensures after { self.new ≡ counted self.old }
+        ensures after { self.new ≡ leaves self.old.files self.old }
         ensures counted { IsCounted result self.old.power self.new.power self.old.faults self.new.faults }
     {
         self.count()?;
@@ -209,8 +209,8 @@ impl Disk for MemDisk {
     }
 
     fn sync(&mut self, file: u64) -> Result<(), DiskFailed>
-        ensures answer { result ≡ answer_in (turn_of self.old) tt }
-        ensures after { self.new ≡ settled_in (turn_of self.old) (with_synced file self.old.files) self.old }
+        ensures answer { result ≡ answer_of self.old tt }
+        ensures after { self.new ≡ leaves (with_synced file self.old.files) self.old }
         ensures image { OnOk result (IsImage (told_of self.old file) (seen (told_of self.old file))) }
         ensures counted { IsCounted result self.old.power self.new.power self.old.faults self.new.faults }
     {
@@ -227,8 +227,8 @@ impl Disk for MemDisk {
     }
 
     fn sync_names(&mut self) -> Result<(), DiskFailed>
-        ensures answer { result ≡ answer_in (turn_of self.old) tt }
-        ensures after { self.new ≡ settled_in (turn_of self.old) (all_names_synced self.old.files) self.old }
+        ensures answer { result ≡ answer_of self.old tt }
+        ensures after { self.new ≡ leaves (all_names_synced self.old.files) self.old }
         ensures counted { IsCounted result self.old.power self.new.power self.old.faults self.new.faults }
     {
         self.count()?;

@@ -1,6 +1,6 @@
 //! A file of the disk in memory, with what stood in it before each write since its last sync.
-ghost use Rattle.std.specs.Prelude.{◌≡◌, ◌+◌, ◌-◌, ◌≤◌, [], length, slice_set, ◌^◌, ◌%◌, IsTrue, true, OnOk, OnErr};
-ghost use Rattle.volt_disk.specs.File.{File, IsImage, seen};
+ghost use Rattle.std.specs.Prelude.{◌≡◌, ◌+◌, ◌-◌, ◌≤◌, [], length, slice_set, ◌^◌, ◌%◌, OnOk, OnErr};
+ghost use Rattle.volt_disk.specs.File.{IsImage, seen};
 ghost use Rattle.volt_disk.specs.Effects.{CanChange, lengthened, overwritten};
 ghost use Rattle.volt_disk.specs.Stored.{Stored, not_stored, with_only, changed, stored_synced, stored_names_synced, cut_to, scattered, scattered_all, drawn, lost};
 ghost use Rattle.volt_disk.specs.Undo.{AreWithin, undone, ranges};
