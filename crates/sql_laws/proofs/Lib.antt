@@ -4,3 +4,4 @@ pub mod Fits
 pub mod Select
 pub mod Change
 pub mod Statements
+pub mod Keep

@@ -1,0 +1,124 @@
+-- A statement leaves a database, and in a procedure on one partition all its rows stay in the partition.
+use Rattle.std.proofs.Common.{◌≡◌, ℕ, zero, suc, ◌+◌, ◌<◌, ◌≤◌, Bool, true, false, not, cond, if◌then◌else◌, ◌==◌, ◌&&◌, ◌||◌, nat_lt, List, [], ◌∷◌, map, filter, length, slice_get, Option, Some, None, option_map, unwrap_or, is_some, Result, Ok, Err, is_ok, sym, refl, ap, ◌∙◌, subst, inl, inr, arith, ◌⊎◌}
+use Rattle.std.specs.List.{list_any, list_all, zip, enumerate_from, filter_map, cons_option}
+use Rattle.std.proofs.lemmas.Bool.{cases_Bool, and_parts, and_from, or_parts, eqb-true, eq-eqb, both_ways, cases_eq, ltb-true}
+use Rattle.volt_value.specs.declared.value.Value.{Value}
+use Rattle.volt_value.specs.declared.column.Class.{Class}
+use Rattle.volt_value.specs.Columns.{class_of}
+use Rattle.std.specs.Ordering.{is_lt}
+use Rattle.volt_catalog.specs.declared.column.Column.{Column}
+use Rattle.volt_catalog.specs.declared.table.Table.{Table}
+use Rattle.volt_catalog.specs.Names.{differ}
+use Rattle.volt_catalog.specs.Rules.{Contents, has_columns, within_limits}
+use Rattle.volt_catalog.specs.Catalog.{IsCatalog, is_table, has_part_in_key}
+use Rattle.sql_plan.specs.declared.fault.Fault.{Fault}
+use Rattle.sql_plan.specs.declared.fault.Fault.TheVariants.{Duplicate, WrongPartition}
+use Rattle.sql_plan.specs.declared.expression.Scalar.{Scalar}
+use Rattle.sql_plan.specs.declared.prepared.Action.{Action}
+use Rattle.sql_plan.specs.declared.prepared.Action.TheVariants.{Insert, Update, Delete, Select}
+use Rattle.sql_plan.specs.declared.prepared.InsertPlan.{InsertPlan}
+use Rattle.sql_plan.specs.declared.prepared.UpdatePlan.{UpdatePlan}
+use Rattle.sql_plan.specs.declared.prepared.DeletePlan.{DeletePlan}
+use Rattle.sql_plan.specs.declared.prepared.Prepared.{Prepared}
+use Rattle.sql_plan.specs.Rows.{Cells, row_cmp}
+use Rattle.sql_meaning.specs.Judged.{with, fault_in, value_in, least_fault, unless, collected}
+use Rattle.sql_meaning.specs.Values.{at}
+use Rattle.sql_meaning.specs.Expressions.{Reads, scalar_of, holds}
+use Rattle.sql_meaning.specs.Tables.{no_table, table_at, taken, in_columns, new_row, is_row, picked, agree, has_twins, unique_keys, without_twins, comes_before, with_row, rise, part_of_value, part_of_row, is_part, lies_in}
+use Rattle.sql_meaning.specs.Database.{Database, rows_of, set_rows, AreRows, IsDatabase}
+use Rattle.sql_meaning.specs.Changes.{values_of, inserted_row, inserted, Fate, Stays, Becomes, Goes, updated, deleted, left_of, is_change, changed, counted}
+use Rattle.sql_meaning.specs.Selects.{selected}
+use Rattle.sql_meaning.specs.Statements.{is_here, insert_means, change_means, action_means, means}
+use Rattle.sql_meaning.specs.WellFormed.{give_each, is_that_column, keep, IsInsert, IsUpdate, IsDelete, IsAction, IsPrepared}
+use Rattle.sql_laws.proofs.Plain.Orders.{map-among}
+use Rattle.sql_laws.proofs.Plain.Judgements.{first_of}
+use Rattle.sql_laws.proofs.Fits.{IsPartColumn, part_column, table_rules}
+use Rattle.sql_laws.proofs.Change.Twins.{has_any_twins, duplicate, without_twins-is}
+use Rattle.sql_laws.proofs.Change.Fates.{fates, fate_faults, rows_left, changes, changed_is, left_in, left_values, ok_unless}
+use Rattle.sql_laws.proofs.Change.Rows.{cell, ok_first, ok_rest, ok_none, with_ok, taken_same, new_row-value, value_at_column}
+use Rattle.sql_laws.proofs.Keep.Databases.{rows_of-set, rows_of-set_other, database-set, all-with_row, rise-with_row, apart-with_row}
+
+-- ---- a new row is one that the table may have
+
+ok_again : (table : Table) (n : ℕ) (column : Column) (x y : Value) → taken table n column x ≡ Ok y → is_ok (taken table n column y) ≡ true
+ok_again table n column x y e =
+    let same = taken_same table n column x y e in
+    let f : taken table n column y ≡ Ok y = subst (λ z. taken table n column z ≡ Ok y) same e in
+    rw f
+
+cells_are : (table : Table) (a : ℕ) (columns : List Column) (values : List (Result Value Fault)) (new : Cells) → length values ≡ length columns
+    → collected (map (cell table) (zip (enumerate_from a columns) values)) ≡ Ok new
+    → (length new ≡ length columns) × (list_all (λ c. is_ok (taken table c.0.0 c.0.1 c.1)) (zip (enumerate_from a columns) new) ≡ true)
+cells_are table a [] [] [] same e = (refl, refl)
+cells_are table a [] [] (y ∷ new) same e = absurd (cc)
+cells_are table a [] (v ∷ values) new same e = absurd (omega arith)
+cells_are table a (column ∷ columns) [] new same e = absurd (omega arith)
+cells_are table a (column ∷ columns) (v ∷ values) [] same e = absurd (ok_none (cell table ((a, column), v)) (map (cell table) (zip (enumerate_from (a + 1) columns) values)) e)
+cells_are table a (column ∷ columns) (v ∷ values) (y ∷ new) same e =
+    let first = with_ok v (taken table a column) y (ok_first (cell table ((a, column), v)) (map (cell table) (zip (enumerate_from (a + 1) columns) values)) y new e) in
+    let rest = cells_are table (a + 1) columns values new (omega arith) (ok_rest (cell table ((a, column), v)) (map (cell table) (zip (enumerate_from (a + 1) columns) values)) y new e) in
+    (ap (λ (k : ℕ). suc k) rest.0,
+      and_from (is_ok (taken table a column y)) (list_all (λ c. is_ok (taken table c.0.0 c.0.1 c.1)) (zip (enumerate_from (a + 1) columns) new)) (ok_again table a column first.0 y first.2) rest.1)
+
+pub new_row-is : (table : Table) (values : List (Result Value Fault)) (new : Cells) → length values ≡ length table.columns → new_row table values ≡ Ok new → is_row table new ≡ true
+new_row-is table values new same e =
+    let are = cells_are table 0 table.columns values new same e in
+    and_from (length new == length table.columns) (list_all (λ c. is_ok (taken table c.0.0 c.0.1 c.1)) (in_columns table new)) (eq-eqb (length new) (length table.columns) are.0) are.1
+
+give_each-length : (columns params : List Class) (es : List Scalar) (cs : List Class) → give_each columns params es cs ≡ true → length es ≡ length cs
+give_each-length columns params [] [] e = refl
+give_each-length columns params [] (c ∷ cs) e = absurd (cc)
+give_each-length columns params (x ∷ es) [] e = absurd (cc)
+give_each-length columns params (x ∷ es) (c ∷ cs) e = ap (λ (k : ℕ). suc k) (give_each-length columns params es cs (and_parts _ (give_each columns params es cs) e).1)
+
+length-map : {A B : Type 0} (f : A → B) (xs : List A) → length (map f xs) ≡ length xs
+length-map f [] = refl
+length-map f (x ∷ xs) = ap (λ (k : ℕ). suc k) (length-map f xs)
+
+values_long : (columns params : List Class) (es : List Scalar) (table : Table) (row args : Cells) → give_each columns params es (map (λ column. class_of column.kind) table.columns) ≡ true → length (values_of es row args) ≡ length table.columns
+values_long columns params es table row args e = length-map (λ x. scalar_of x row args) es ∙ give_each-length columns params es (map (λ column. class_of column.kind) table.columns) e ∙ length-map (λ (column : Column). class_of column.kind) table.columns
+
+-- ---- rows that a change leaves
+
+-- what a row becomes is a row of the table with the same key
+abbrev pub KeepsKeys : Table → Reads Fate → Cells → Type 0
+KeepsKeys table fate args = (row : Cells) (f : Fate) (new : Cells) → is_row table row ≡ true → fate row args ≡ Ok f → left_of f ≡ Some new → (is_row table new ≡ true) × (picked table.key new ≡ picked table.key row)
+
+module _ (table : Table) (fate : Reads Fate) (args : Cells) (keeps : KeepsKeys table fate args) where
+  abbrev left : Cells → Option Cells
+  left row = left_in (fate row args)
+
+  kept : (row new : Cells) → is_row table row ≡ true → left row ≡ Some new → (is_row table new ≡ true) × (picked table.key new ≡ picked table.key row)
+  kept row new is l = by (fate row args) refl l
+    where
+      by : (r : Result Fate Fault) → fate row args ≡ r → left_in r ≡ Some new → (is_row table new ≡ true) × (picked table.key new ≡ picked table.key row)
+      by (Ok f) same l = keeps row f new is same l
+      by (Err e) same l = absurd (cc)
+
+  pub all_left : (f g : Cells → Bool) → ((row new : Cells) → is_row table row ≡ true → f row ≡ true → left row ≡ Some new → g new ≡ true) → (rows : List Cells) → list_all (is_row table) rows ≡ true → list_all f rows ≡ true → list_all g (filter_map left rows) ≡ true
+  all_left f g keep_it [] are all = refl
+  all_left f g keep_it (row ∷ rows) are all =
+      let is = and_parts (is_row table row) (list_all (is_row table) rows) are in
+      let two = and_parts (f row) (list_all f rows) all in
+      by (left row) refl (all_left f g keep_it rows is.1 two.1) is.0 two.0
+    where
+      by : (o : Option Cells) → left row ≡ o → list_all g (filter_map left rows) ≡ true → is_row table row ≡ true → f row ≡ true → list_all g (cons_option o (filter_map left rows)) ≡ true
+      by None same rest is e = rest
+      by (Some new) same rest is e = and_from (g new) (list_all g (filter_map left rows)) (keep_it row new is e same) rest
+
+  before_same : (a b c d : Cells) → picked table.key a ≡ picked table.key b → picked table.key c ≡ picked table.key d → comes_before table b d ≡ true → comes_before table a c ≡ true
+  before_same a b c d e f h = (λ i. is_lt (row_cmp (e i) (f i))) ∙ h
+
+  rise_left : (rows : List Cells) → list_all (is_row table) rows ≡ true → rise table rows ≡ true → rise table (filter_map left rows) ≡ true
+  rise_left [] are up = refl
+  rise_left (row ∷ rows) are up =
+      let is = and_parts (is_row table row) (list_all (is_row table) rows) are in
+      let two = and_parts (list_all (comes_before table row) rows) (rise table rows) up in
+      by (left row) refl (rise_left rows is.1 two.1) is.0 is.1 two.0
+    where
+      by : (o : Option Cells) → left row ≡ o → rise table (filter_map left rows) ≡ true → is_row table row ≡ true → list_all (is_row table) rows ≡ true → list_all (comes_before table row) rows ≡ true → rise table (cons_option o (filter_map left rows)) ≡ true
+      by None same rest is are all = rest
+      by (Some new) same rest is are all =
+          and_from (list_all (comes_before table new) (filter_map left rows)) (rise table (filter_map left rows))
+            (all_left (comes_before table row) (comes_before table new) (λ r n ir e l. before_same new row n r (kept row new is same).1 (kept r n ir l).1 e) rows are all)
+            rest
