@@ -35,7 +35,7 @@ use Rattle.sql_laws.proofs.Plain.Judgements.{first_of}
 use Rattle.sql_laws.proofs.Fits.{IsPartColumn, part_column, table_rules}
 use Rattle.sql_laws.proofs.Change.Twins.{has_any_twins, duplicate, without_twins-is}
 use Rattle.sql_laws.proofs.Change.Fates.{fates, fate_faults, rows_left, changes, changed_is, left_in, left_values, ok_unless}
-use Rattle.sql_laws.proofs.Change.Rows.{cell, ok_first, ok_rest, ok_none, with_ok, taken_same, new_row-value, value_at_column}
+use Rattle.sql_laws.proofs.Change.Rows.{deleted-stays, cell, ok_first, ok_rest, ok_none, with_ok, taken_same, new_row-value, value_at_column}
 use Rattle.sql_laws.proofs.Keep.Databases.{rows_of-set, rows_of-set_other, database-set, all-with_row, rise-with_row, apart-with_row}
 
 -- ---- a new row is one that the table may have
@@ -122,3 +122,117 @@ module _ (table : Table) (fate : Reads Fate) (args : Cells) (keeps : KeepsKeys t
           and_from (list_all (comes_before table new) (filter_map left rows)) (rise table (filter_map left rows))
             (all_left (comes_before table row) (comes_before table new) (λ r n ir e l. before_same new row n r (kept row new is same).1 (kept r n ir l).1 e) rows are all)
             rest
+
+-- ---- the table after a change
+
+none_of_first : (a b : Option Fault) → first_of a b ≡ None → b ≡ None
+none_of_first None b e = e
+none_of_first (Some f) b e = absurd (cc)
+
+no_duplicate : (catalog : Contents) (n : ℕ) (rows : List Cells) → duplicate catalog n rows ≡ None → has_any_twins catalog n rows ≡ false
+no_duplicate catalog n rows e = by (has_any_twins catalog n rows) e
+  where
+    by : (b : Bool) → (if b then Some Duplicate else None) ≡ None → b ≡ false
+    by true e = absurd (cc)
+    by false e = refl
+
+-- rows that agree on the key lie in one partition
+same_lies : (parts part : ℕ) (catalog : Contents) (rules : IsCatalog catalog) (n : ℕ) (a b : Cells) → picked (table_at catalog n).key a ≡ picked (table_at catalog n).key b
+    → lies_in parts part (table_at catalog n) a ≡ lies_in parts part (table_at catalog n) b
+same_lies parts part catalog rules n a b e = by (table_at catalog n).part refl
+  where
+    by : (o : Option ℕ) → (table_at catalog n).part ≡ o → lies_in parts part (table_at catalog n) a ≡ lies_in parts part (table_at catalog n) b
+    by None same = (λ i. is_part part (option_map (λ column. part_of_value parts (at a column)) (same i))) ∙ sym (λ i. is_part part (option_map (λ column. part_of_value parts (at b column)) (same i)))
+    by (Some c) same =
+        let at_c : at a c ≡ at b c = map-among (at a) (at b) c (table_at catalog n).key e (part_column catalog n c rules same).in_key in
+        (λ i. is_part part (option_map (λ column. part_of_value parts (at a column)) (same i)))
+        ∙ ap (λ x. part_of_value parts x == part) at_c
+        ∙ sym (λ i. is_part part (option_map (λ column. part_of_value parts (at b column)) (same i)))
+
+pub record Kept (parts part : ℕ) (catalog : Contents) (n : ℕ) (rows new : List Cells) : Type 0 where
+  pub are : AreRows catalog n rows → AreRows catalog n new
+  pub here : list_all (is_row (table_at catalog n)) rows ≡ true → list_all (lies_in parts part (table_at catalog n)) rows ≡ true → list_all (lies_in parts part (table_at catalog n)) new ≡ true
+
+changed_kept : (parts part : ℕ) (catalog : Contents) (rules : IsCatalog catalog) (n : ℕ) (fate : Reads Fate) (args : Cells) → KeepsKeys (table_at catalog n) fate args
+    → (rows : List Cells) (made : List Cells × ℕ) → changed catalog n fate args rows ≡ Ok made → Kept parts part catalog n rows made.0
+changed_kept parts part catalog rules n fate args keeps rows made e =
+    let done = ok_unless (first_of (fate_faults fate args rows) (duplicate catalog n (rows_left fate args rows))) (rows_left fate args rows, changes fate args rows) made (sym (changed_is fate args catalog n rows) ∙ e) in
+    let same : rows_left fate args rows ≡ made.0 = ap (λ (m : List Cells × ℕ). m.0) done.1 in
+    let none : has_any_twins catalog n (rows_left fate args rows) ≡ false = no_duplicate catalog n (rows_left fate args rows) (none_of_first (fate_faults fate args rows) (duplicate catalog n (rows_left fate args rows)) done.0) in
+    let is_left : rows_left fate args rows ≡ filter_map (λ row. left_in (fate row args)) rows = left_values (λ row. fate row args) rows in
+    record {
+      are = λ are. subst (AreRows catalog n) same (record {
+          fit = subst (λ (xs : List Cells). list_all (is_row (table_at catalog n)) xs ≡ true) (sym is_left)
+            (all_left (table_at catalog n) fate args keeps (is_row (table_at catalog n)) (is_row (table_at catalog n)) (λ r m ir e l. (kept (table_at catalog n) fate args keeps r m ir l).0) rows are.fit are.fit);
+          ordered = subst (λ (xs : List Cells). rise (table_at catalog n) xs ≡ true) (sym is_left) (rise_left (table_at catalog n) fate args keeps rows are.fit are.ordered);
+          unique = none;
+        });
+      here = λ fit here. subst (λ (xs : List Cells). list_all (lies_in parts part (table_at catalog n)) xs ≡ true) (sym is_left ∙ same)
+          (all_left (table_at catalog n) fate args keeps (lies_in parts part (table_at catalog n)) (lies_in parts part (table_at catalog n))
+            (λ r m ir h l. same_lies parts part catalog rules n m r (kept (table_at catalog n) fate args keeps r m ir l).1 ∙ h) rows fit here);
+    }
+
+-- ---- UPDATE and DELETE keep keys
+
+key_rules : (table : Table) → is_table table ≡ true → has_columns table.columns table.key ≡ true
+key_rules table e =
+    let last = and_parts (differ (map (λ column. column.name) table.columns) && has_columns table.columns table.key && not (length table.key == 0) && within_limits table.columns) (has_part_in_key table) e in
+    let fourth = and_parts (differ (map (λ column. column.name) table.columns) && has_columns table.columns table.key && not (length table.key == 0)) (within_limits table.columns) last.0 in
+    let third = and_parts (differ (map (λ column. column.name) table.columns) && has_columns table.columns table.key) (not (length table.key == 0)) fourth.0 in
+    (and_parts (differ (map (λ column. column.name) table.columns)) (has_columns table.columns table.key) third.0).1
+
+key_columns : (catalog : Contents) (rules : IsCatalog catalog) (n : ℕ) → has_columns (table_at catalog n).columns (table_at catalog n).key ≡ true
+key_columns catalog rules n =
+    elim (table_rules catalog.tables n rules.tables) [
+      | inl known ↦ key_rules (table_at catalog n) known
+      | inr none ↦ subst (λ (t : Table). has_columns t.columns t.key ≡ true) (sym none) refl
+    ]
+
+picked_kept : (columns : List Column) (values : List Scalar) (row args new : Cells) → ((k : ℕ) → k < length columns → (x : Value) → slice_get (values_of values row args) k ≡ Some (Ok x) → at new k ≡ x)
+    → (key : List ℕ) → has_columns columns key ≡ true → keep values key ≡ true → picked key new ≡ picked key row
+picked_kept columns values row args new each [] has kept = refl
+picked_kept columns values row args new each (k ∷ key) has kept =
+    let two = and_parts (nat_lt k (length columns)) (has_columns columns key) has in
+    let here = and_parts (is_that_column k (slice_get values k)) (keep values key) kept in
+    λ i. each k (ltb-true k (length columns) two.0) (at row k) (value_at_column values k k row args here.0) i ∷ picked_kept columns values row args new each key two.1 here.1 i
+
+pub updated-keeps : (catalog : Contents) (rules : IsCatalog catalog) (params : List Class) (update : UpdatePlan) → IsUpdate catalog params update → (args : Cells) → KeepsKeys (table_at catalog update.table) (updated catalog update) args
+updated-keeps catalog rules params update fits args row f new is e l = by (holds update.filter row args) e
+  where
+    becomes : (r : Result Cells Fault) → new_row (table_at catalog update.table) (values_of update.values row args) ≡ r → with r (λ new. Ok (Becomes new)) ≡ Ok f → (is_row (table_at catalog update.table) new ≡ true) × (picked (table_at catalog update.table).key new ≡ picked (table_at catalog update.table).key row)
+    becomes (Ok y) made e =
+        let is_new : y ≡ new = let g : Ok (Becomes y) ≡ Ok f = e in let h : f ≡ Becomes y = cc in let i : Some y ≡ Some new = sym (ap left_of h) ∙ l in cc in
+        let is_it : new_row (table_at catalog update.table) (values_of update.values row args) ≡ Ok new = made ∙ ap (λ r. Ok r) is_new in
+        (new_row-is (table_at catalog update.table) (values_of update.values row args) new (values_long _ params update.values (table_at catalog update.table) row args fits.values) is_it,
+          picked_kept (table_at catalog update.table).columns update.values row args new (λ k below x here. new_row-value (table_at catalog update.table) (values_of update.values row args) new is_it k below x here)
+            (table_at catalog update.table).key (key_columns catalog rules update.table) fits.key)
+    becomes (Err g) made e = absurd (cc)
+    by : (r : Result Bool Fault) → with r (λ m. if m then with (new_row (table_at catalog update.table) (values_of update.values row args)) (λ new. Ok (Becomes new)) else Ok (Stays row)) ≡ Ok f
+        → (is_row (table_at catalog update.table) new ≡ true) × (picked (table_at catalog update.table).key new ≡ picked (table_at catalog update.table).key row)
+    by (Ok true) e = becomes (new_row (table_at catalog update.table) (values_of update.values row args)) refl e
+    by (Ok false) e =
+        let g : Ok (Stays row) ≡ Ok f = e in let h : f ≡ Stays row = cc in let i : Some row ≡ Some new = sym (ap left_of h) ∙ l in let j : new ≡ row = cc in
+        (subst (λ (r : Cells). is_row (table_at catalog update.table) r ≡ true) (sym j) is, ap (picked (table_at catalog update.table).key) j)
+    by (Err g) e = absurd (cc)
+
+pub deleted-keeps : (catalog : Contents) (n : ℕ) (delete : DeletePlan) (args : Cells) → KeepsKeys (table_at catalog n) (deleted delete) args
+deleted-keeps catalog n delete args row f new is e l =
+    let j : new ≡ row = deleted-stays delete args row f new e l in
+    (subst (λ (r : Cells). is_row (table_at catalog n) r ≡ true) (sym j) is, ap (picked (table_at catalog n).key) j)
+
+-- ---- INSERT
+
+inserted_kept : (parts part : ℕ) (catalog : Contents) (n : ℕ) (rows : List Cells) (row : Cells) (new : List Cells) → inserted catalog n rows row ≡ Ok new
+    → is_row (table_at catalog n) row ≡ true → AreRows catalog n rows
+    → AreRows catalog n new × (lies_in parts part (table_at catalog n) row ≡ true → list_all (lies_in parts part (table_at catalog n)) rows ≡ true → list_all (lies_in parts part (table_at catalog n)) new ≡ true)
+inserted_kept parts part catalog n rows row new e is are =
+    let table = table_at catalog n in
+    let done = ok_unless (duplicate catalog n (with_row table row rows)) (with_row table row rows) new (sym (without_twins-is catalog n (with_row table row rows)) ∙ e) in
+    let none : has_any_twins catalog n (with_row table row rows) ≡ false = no_duplicate catalog n (with_row table row rows) done.0 in
+    let key_none : has_twins table.key (with_row table row rows) ≡ false = (or_parts (has_twins table.key (with_row table row rows)) _ none).0 in
+    (subst (AreRows catalog n) done.1 (record {
+        fit = all-with_row (is_row table) table row rows is are.fit;
+        ordered = rise-with_row table row rows are.ordered (apart-with_row table.key table row rows key_none);
+        unique = none;
+      }),
+      λ lies here. subst (λ (xs : List Cells). list_all (lies_in parts part table) xs ≡ true) done.1 (all-with_row (lies_in parts part table) table row rows lies here))
