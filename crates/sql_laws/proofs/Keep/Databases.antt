@@ -79,7 +79,7 @@ rows_of-set [] n rows below = absurd (omega arith)
 rows_of-set (x ∷ db) zero rows below = refl
 rows_of-set (x ∷ db) (suc n) rows below = rows_of-set db n rows (omega arith)
 
-rows_of-set_past : (db : Database) (n : ℕ) (rows : List Cells) → length db ≤ n → set_rows db n rows ≡ db
+pub rows_of-set_past : (db : Database) (n : ℕ) (rows : List Cells) → length db ≤ n → set_rows db n rows ≡ db
 rows_of-set_past [] n rows past = refl
 rows_of-set_past (x ∷ db) zero rows past = absurd (omega arith)
 rows_of-set_past (x ∷ db) (suc n) rows past = ap (λ (rest : Database). x ∷ rest) (rows_of-set_past db n rows (omega arith))

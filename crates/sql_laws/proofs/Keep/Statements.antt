@@ -1,7 +1,7 @@
 -- A statement leaves a database, and in a procedure on one partition all its rows stay in the partition.
 use Rattle.std.proofs.Common.{◌≡◌, ℕ, zero, suc, ◌+◌, ◌<◌, ◌≤◌, Bool, true, false, not, cond, if◌then◌else◌, ◌==◌, ◌&&◌, ◌||◌, nat_lt, List, [], ◌∷◌, map, filter, length, slice_get, Option, Some, None, option_map, unwrap_or, is_some, Result, Ok, Err, is_ok, sym, refl, ap, ◌∙◌, subst, inl, inr, arith, ◌⊎◌}
 use Rattle.std.specs.List.{list_any, list_all, zip, enumerate_from, filter_map, cons_option}
-use Rattle.std.proofs.lemmas.Bool.{cases_Bool, and_parts, and_from, or_parts, eqb-true, eq-eqb, both_ways, cases_eq, ltb-true}
+use Rattle.std.proofs.lemmas.Bool.{cases_Bool, and_parts, and_from, or_parts, eqb-true, eq-eqb, both_ways, cases_eq, cases_lt, ltb-true}
 use Rattle.volt_value.specs.declared.value.Value.{Value}
 use Rattle.volt_value.specs.declared.column.Class.{Class}
 use Rattle.volt_value.specs.Columns.{class_of}
@@ -20,6 +20,7 @@ use Rattle.sql_plan.specs.declared.prepared.InsertPlan.{InsertPlan}
 use Rattle.sql_plan.specs.declared.prepared.UpdatePlan.{UpdatePlan}
 use Rattle.sql_plan.specs.declared.prepared.DeletePlan.{DeletePlan}
 use Rattle.sql_plan.specs.declared.prepared.Prepared.{Prepared}
+use Rattle.sql_plan.specs.Prepared.{written_by}
 use Rattle.sql_plan.specs.Rows.{Cells, row_cmp}
 use Rattle.sql_meaning.specs.Judged.{with, fault_in, value_in, least_fault, unless, collected}
 use Rattle.sql_meaning.specs.Values.{at}
@@ -36,7 +37,7 @@ use Rattle.sql_laws.proofs.Fits.{IsPartColumn, part_column, table_rules}
 use Rattle.sql_laws.proofs.Change.Twins.{has_any_twins, duplicate, without_twins-is}
 use Rattle.sql_laws.proofs.Change.Fates.{fates, fate_faults, rows_left, changes, changed_is, left_in, left_values, ok_unless}
 use Rattle.sql_laws.proofs.Change.Rows.{deleted-stays, cell, ok_first, ok_rest, ok_none, with_ok, taken_same, new_row-value, value_at_column}
-use Rattle.sql_laws.proofs.Keep.Databases.{rows_of-set, rows_of-set_other, database-set, all-with_row, rise-with_row, apart-with_row}
+use Rattle.sql_laws.proofs.Keep.Databases.{rows_of-set, rows_of-set_past, rows_of-set_other, database-set, all-with_row, rise-with_row, apart-with_row}
 
 -- ---- a new row is one that the table may have
 
@@ -236,3 +237,128 @@ inserted_kept parts part catalog n rows row new e is are =
         unique = none;
       }),
       λ lies here. subst (λ (xs : List Cells). list_all (lies_in parts part table) xs ≡ true) done.1 (all-with_row (lies_in parts part table) table row rows lies here))
+
+-- ---- what holds of a partition's share while a procedure runs on it
+
+-- all rows lie in the partition, and the tables that all partitions have are as at the start
+pub record Own (parts part : ℕ) (catalog : Contents) (start db : Database) : Type 0 where
+  pub database : IsDatabase catalog db
+  pub here : (n : ℕ) → list_all (lies_in parts part (table_at catalog n)) (rows_of db n) ≡ true
+  pub others : (n : ℕ) → (table_at catalog n).part ≡ None → rows_of db n ≡ rows_of start n
+
+own_set : (parts part : ℕ) (catalog : Contents) (start db : Database) (n : ℕ) (rows : List Cells) → Own parts part catalog start db → AreRows catalog n rows
+    → list_all (lies_in parts part (table_at catalog n)) rows ≡ true → is_some (table_at catalog n).part ≡ true → Own parts part catalog start (set_rows db n rows)
+own_set parts part catalog start db n rows own are lies some =
+    record {
+      database = database-set catalog db n rows own.database are;
+      here = λ m. elim (cases_eq m n) [
+          | inl same ↦ subst (λ k. list_all (lies_in parts part (table_at catalog k)) (rows_of (set_rows db n rows) k) ≡ true) (sym same) (at_n (cases_lt n (length db)))
+          | inr other ↦ ap (list_all (lies_in parts part (table_at catalog m))) (rows_of-set_other db n m rows other) ∙ own.here m
+        ];
+      others = λ m none. elim (cases_eq m n) [
+          | inl same ↦ absurd (both_ways (is_some (table_at catalog n).part) (ap is_some (subst (λ k. (table_at catalog k).part ≡ None) same none)) some)
+          | inr other ↦ rows_of-set_other db n m rows other ∙ own.others m none
+        ];
+    }
+  where
+    at_n : (n < length db) ⊎ (length db ≤ n) → list_all (lies_in parts part (table_at catalog n)) (rows_of (set_rows db n rows) n) ≡ true
+    at_n (inl below) = ap (list_all (lies_in parts part (table_at catalog n))) (rows_of-set db n rows below) ∙ lies
+    at_n (inr past) = ap (λ (d : Database). list_all (lies_in parts part (table_at catalog n)) (rows_of d n)) (rows_of-set_past db n rows past) ∙ own.here n
+
+-- ---- statements
+
+if_ok : {A : Type 0} (b : Bool) (x : Result A Fault) (f : Fault) (y : A) → (if b then x else Err f) ≡ Ok y → (b ≡ true) × (x ≡ Ok y)
+if_ok true x f y e = (refl, e)
+if_ok false x f y e = absurd (cc)
+
+-- what an INSERT has made
+pub record InsertMade (parts : ℕ) (catalog : Contents) (here : Option ℕ) (insert : InsertPlan) (args : Cells) (db : Database) (new : Database) : Type 0 where
+  pub row : Cells
+  pub rows : List Cells
+  pub is_row : is_row (table_at catalog insert.table) row ≡ true
+  pub in_it : is_here parts catalog here insert.table row ≡ true
+  pub put : inserted catalog insert.table (rows_of db insert.table) row ≡ Ok rows
+  pub is : new ≡ set_rows db insert.table rows
+
+insert_made : (parts : ℕ) (catalog : Contents) (here : Option ℕ) (params : List Class) (insert : InsertPlan) → IsInsert catalog params insert → (args : Cells) (db : Database) (whole : Database × List Cells)
+    → insert_means parts catalog here insert args db ≡ Ok whole → InsertMade parts catalog here insert args db whole.0
+insert_made parts catalog here params insert fits args db whole e =
+    let first = with_ok (inserted_row catalog insert args) (λ row. if is_here parts catalog here insert.table row then with (inserted catalog insert.table (rows_of db insert.table) row) (λ rows. Ok (made rows)) else Err WrongPartition) whole e in
+    let second = if_ok (is_here parts catalog here insert.table first.0) (with (inserted catalog insert.table (rows_of db insert.table) first.0) (λ rows. Ok (made rows))) WrongPartition whole first.2 in
+    let third = with_ok (inserted catalog insert.table (rows_of db insert.table) first.0) (λ rows. Ok (made rows)) whole second.1 in
+    record {
+      row = first.0;
+      rows = third.0;
+      is_row = new_row-is (table_at catalog insert.table) (values_of insert.values [] args) first.0 (values_long [] params insert.values (table_at catalog insert.table) [] args fits.values) first.1;
+      in_it = second.0;
+      put = third.1;
+      is = one_made (made third.0) whole third.2;
+    }
+  where
+    made : List Cells → Database × List Cells
+    made rows = (set_rows db insert.table rows, counted 1)
+    one_made : (a b : Database × List Cells) → ◌≡◌ {A = Result (Database × List Cells) Fault} (Ok a) (Ok b) → b.0 ≡ a.0
+    one_made a b e = let f : a ≡ b = cc in ap (λ (w : Database × List Cells). w.0) (sym f)
+
+-- what an UPDATE or a DELETE has made
+change_made : (catalog : Contents) (n : ℕ) (fate : Reads Fate) (args : Cells) (db : Database) (whole : Database × List Cells) → change_means catalog n fate args db ≡ Ok whole
+    → (made : List Cells × ℕ) × (changed catalog n fate args (rows_of db n) ≡ Ok made) × (whole.0 ≡ set_rows db n made.0)
+change_made catalog n fate args db whole e =
+    let first = with_ok (changed catalog n fate args (rows_of db n)) (λ m. Ok (made m)) whole e in
+    (first.0, first.1, one_made (made first.0) whole first.2)
+  where
+    made : List Cells × ℕ → Database × List Cells
+    made m = (set_rows db n m.0, counted m.1)
+    one_made : (a b : Database × List Cells) → ◌≡◌ {A = Result (Database × List Cells) Fault} (Ok a) (Ok b) → b.0 ≡ a.0
+    one_made a b e = let f : a ≡ b = cc in ap (λ (w : Database × List Cells). w.0) (sym f)
+
+select_made : (select_rows : Result (List Cells) Fault) (db : Database) (whole : Database × List Cells) → with {B = Database × List Cells} select_rows (λ rows. Ok (db, rows)) ≡ Ok whole → whole.0 ≡ db
+select_made (Ok rows) db whole e = let f : ◌≡◌ {A = Database × List Cells} (db, rows) whole = cc in ap (λ (w : Database × List Cells). w.0) (sym f)
+select_made (Err f) db whole e = absurd (cc)
+
+module _ (parts : ℕ) (catalog : Contents) (rules : IsCatalog catalog) where
+  action_keeps : (here : Option ℕ) (action : Action) (params : List Class) (columns : List (List ℕ × Class)) → IsAction catalog params columns action → (args : Cells) (db : Database) (whole : Database × List Cells)
+      → action_means parts catalog here action args db ≡ Ok whole → IsDatabase catalog db → IsDatabase catalog whole.0
+  action_keeps here (Insert insert) params columns fits args db whole e is =
+      let made = insert_made parts catalog here params insert fits.0 args db whole e in
+      subst (IsDatabase catalog) (sym made.is) (database-set catalog db insert.table made.rows is
+        (inserted_kept parts 0 catalog insert.table (rows_of db insert.table) made.row made.rows made.put made.is_row (is.each insert.table)).0)
+  action_keeps here (Update update) params columns fits args db whole e is =
+      let made = change_made catalog update.table (updated catalog update) args db whole e in
+      subst (IsDatabase catalog) (sym made.2) (database-set catalog db update.table made.0.0 is
+        ((changed_kept parts 0 catalog rules update.table (updated catalog update) args (updated-keeps catalog rules params update fits.0 args) (rows_of db update.table) made.0 made.1).are (is.each update.table)))
+  action_keeps here (Delete delete) params columns fits args db whole e is =
+      let made = change_made catalog delete.table (deleted delete) args db whole e in
+      subst (IsDatabase catalog) (sym made.2) (database-set catalog db delete.table made.0.0 is
+        ((changed_kept parts 0 catalog rules delete.table (deleted delete) args (deleted-keeps catalog delete.table delete args) (rows_of db delete.table) made.0 made.1).are (is.each delete.table)))
+  action_keeps here (Select select) params columns fits args db whole e is = subst (IsDatabase catalog) (sym (select_made (selected select args db) db whole e)) is
+
+  -- a statement leaves a database
+  pub means-database : (here : Option ℕ) (statement : Prepared) → IsPrepared catalog statement → (args : Cells) (db : Database) (whole : Database × List Cells)
+      → means parts catalog here statement args db ≡ Ok whole → IsDatabase catalog db → IsDatabase catalog whole.0
+  means-database here statement prepared args db whole e is = action_keeps here statement.action statement.params statement.columns prepared.action args db whole e is
+
+  action_own : (part : ℕ) (action : Action) (params : List Class) (columns : List (List ℕ × Class)) → IsAction catalog params columns action
+      → ((n : ℕ) → written_by action ≡ Some n → is_some (table_at catalog n).part ≡ true) → (args : Cells) (start db : Database) (whole : Database × List Cells)
+      → action_means parts catalog (Some part) action args db ≡ Ok whole → Own parts part catalog start db → Own parts part catalog start whole.0
+  action_own part (Insert insert) params columns fits writes args start db whole e own =
+      let made = insert_made parts catalog (Some part) params insert fits.0 args db whole e in
+      let kept_rows = inserted_kept parts part catalog insert.table (rows_of db insert.table) made.row made.rows made.put made.is_row (own.database.each insert.table) in
+      subst (Own parts part catalog start) (sym made.is) (own_set parts part catalog start db insert.table made.rows own kept_rows.0 (kept_rows.1 made.in_it (own.here insert.table)) (writes insert.table refl))
+  action_own part (Update update) params columns fits writes args start db whole e own =
+      let made = change_made catalog update.table (updated catalog update) args db whole e in
+      let kept_rows = changed_kept parts part catalog rules update.table (updated catalog update) args (updated-keeps catalog rules params update fits.0 args) (rows_of db update.table) made.0 made.1 in
+      subst (Own parts part catalog start) (sym made.2) (own_set parts part catalog start db update.table made.0.0 own (kept_rows.are (own.database.each update.table))
+        (kept_rows.here (own.database.each update.table).fit (own.here update.table)) (writes update.table refl))
+  action_own part (Delete delete) params columns fits writes args start db whole e own =
+      let made = change_made catalog delete.table (deleted delete) args db whole e in
+      let kept_rows = changed_kept parts part catalog rules delete.table (deleted delete) args (deleted-keeps catalog delete.table delete args) (rows_of db delete.table) made.0 made.1 in
+      subst (Own parts part catalog start) (sym made.2) (own_set parts part catalog start db delete.table made.0.0 own (kept_rows.are (own.database.each delete.table))
+        (kept_rows.here (own.database.each delete.table).fit (own.here delete.table)) (writes delete.table refl))
+  action_own part (Select select) params columns fits writes args start db whole e own = subst (Own parts part catalog start) (sym (select_made (selected select args db) db whole e)) own
+
+  -- in a procedure on one partition a statement leaves the partition's share
+  pub means-own : (part : ℕ) (statement : Prepared) → IsPrepared catalog statement → ((n : ℕ) → written_by statement.action ≡ Some n → is_some (table_at catalog n).part ≡ true)
+      → (args : Cells) (start db : Database) (whole : Database × List Cells)
+      → means parts catalog (Some part) statement args db ≡ Ok whole → Own parts part catalog start db → Own parts part catalog start whole.0
+  means-own part statement prepared writes args start db whole e own = action_own part statement.action statement.params statement.columns prepared.action writes args start db whole e own
