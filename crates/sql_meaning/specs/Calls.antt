@@ -66,22 +66,24 @@ abbrev pub kept : Database → Database → ProcReply → Database × ProcReply
 kept old new (reply.Ok rows) = (new, reply.Ok rows)
 kept old new (reply.Abort cause) = (old, reply.Abort cause)
 
--- a call on one partition runs on its share, whose changes are put back; any other runs on the whole database
+-- a call that runs on one database
+abbrev pub run_call : Plan → Option ℕ → Program → Cells → Database → Database × ProcReply
+run_call plan here program args db =
+    let end = ran plan.parts plan.catalog here program args db in kept db end.0 (sized end.1)
+
+-- a call on one partition runs on its share, whose changes are put back
 abbrev pub on_part : Plan → Program → Cells → Database → ℕ → Database × ProcReply
 on_part plan program args db part =
-    let end = ran plan.parts plan.catalog (Some part) program args (share plan.parts plan.catalog part db) in
-    kept db (put_back plan.parts plan.catalog part db end.0) (sized end.1)
-
-abbrev pub on_all : Plan → Program → Cells → Database → Database × ProcReply
-on_all plan program args db =
-    let end = ran plan.parts plan.catalog None program args db in kept db end.0 (sized end.1)
+    let end = run_call plan (Some part) program args (share plan.parts plan.catalog part db) in
+    kept db (put_back plan.parts plan.catalog part db end.0) end.1
 
 -- the partition that a call's arguments choose, where its procedure runs on one
 abbrev pub part_of_args : ℕ → ProcDef → Cells → Option ℕ
 part_of_args parts def args = option_map (λ place. part_of_value parts (at args place.2)) def.part
 
+-- any other call runs on the whole database
 abbrev pub run_on : Plan → Program → Cells → Database → Option ℕ → Database × ProcReply
-run_on plan program args db None = on_all plan program args db
+run_on plan program args db None = run_call plan None program args db
 run_on plan program args db (Some part) = on_part plan program args db part
 
 -- a procedure that isn't there changes nothing and gives no rows

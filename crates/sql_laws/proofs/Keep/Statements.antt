@@ -138,7 +138,7 @@ no_duplicate catalog n rows e = by (has_any_twins catalog n rows) e
     by false e = refl
 
 -- rows that agree on the key lie in one partition
-same_lies : (parts part : ℕ) (catalog : Contents) (rules : IsCatalog catalog) (n : ℕ) (a b : Cells) → picked (table_at catalog n).key a ≡ picked (table_at catalog n).key b
+pub same_lies : (parts part : ℕ) (catalog : Contents) (rules : IsCatalog catalog) (n : ℕ) (a b : Cells) → picked (table_at catalog n).key a ≡ picked (table_at catalog n).key b
     → lies_in parts part (table_at catalog n) a ≡ lies_in parts part (table_at catalog n) b
 same_lies parts part catalog rules n a b e = by (table_at catalog n).part refl
   where
