@@ -5,3 +5,4 @@ pub mod Select
 pub mod Change
 pub mod Statements
 pub mod Keep
+pub mod Calls

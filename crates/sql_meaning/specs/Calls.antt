@@ -1,5 +1,5 @@
 -- What a call means: a database and a reply. And what many calls mean, one after another.
-use Rattle.std.specs.Prelude.{ℕ, Bool, true, false, not, List, [], ◌∷◌, map, zip, filter, slice_get, Option, Some, None, option_map, Result, Ok, Err}
+use Rattle.std.specs.Prelude.{ℕ, Bool, true, false, not, List, [], ◌∷◌, map, zip, filter, slice_get, Option, Some, None, option_map, option_and_then, Result, Ok, Err}
 use Rattle.volt_catalog.specs.declared.procedure.ProcDef.{ProcDef}
 use Rattle.volt_catalog.specs.declared.table.Table.{Table}
 use Rattle.volt_catalog.specs.Rules.{Contents}
@@ -93,6 +93,20 @@ call_of plan args db (Some proc) = run_on plan proc.1 args db (part_of_args plan
 
 abbrev pub call : Plan → Database → Call → Database × ProcReply
 call plan db c = call_of plan c.args db (slice_get plan.procs c.proc)
+
+-- ---- a call on one partition, seen by the partition alone
+
+-- the partition of a call whose procedure runs on one
+abbrev pub part_of_call : Plan → Call → Option ℕ
+part_of_call plan c = option_and_then (λ (proc : ProcDef × Program). part_of_args plan.parts proc.0 c.args) (slice_get plan.procs c.proc)
+
+abbrev pub own_call_of : Plan → ℕ → Cells → Database → Option (ProcDef × Program) → Database × ProcReply
+own_call_of plan part args own None = (own, reply.Ok (record { rows = [] }))
+own_call_of plan part args own (Some proc) = run_call plan (Some part) proc.1 args own
+
+-- what it makes of the partition's share, and its reply
+abbrev pub own_call : Plan → ℕ → Database → Call → Database × ProcReply
+own_call plan part own c = own_call_of plan part c.args own (slice_get plan.procs c.proc)
 
 -- ---- calls one after another
 

@@ -16,3 +16,4 @@ pub mod Parts
 pub mod Starter
 pub mod Scenarios
 pub mod Plans
+pub mod Rounds
