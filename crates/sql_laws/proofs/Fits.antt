@@ -27,7 +27,7 @@ part_of_value-within parts x some =
 
 -- ---- tables of a catalog
 
-table_rules : (tables : List Table) (n : ℕ) → list_all is_table tables ≡ true → (is_table (unwrap_or (slice_get tables n) no_table) ≡ true) ⊎ (unwrap_or (slice_get tables n) no_table ≡ no_table)
+pub table_rules : (tables : List Table) (n : ℕ) → list_all is_table tables ≡ true → (is_table (unwrap_or (slice_get tables n) no_table) ≡ true) ⊎ (unwrap_or (slice_get tables n) no_table ≡ no_table)
 table_rules [] n e = inr refl
 table_rules (t ∷ tables) zero e = inl (and_parts (is_table t) (list_all is_table tables) e).0
 table_rules (t ∷ tables) (suc n) e = table_rules tables n (and_parts (is_table t) (list_all is_table tables) e).1

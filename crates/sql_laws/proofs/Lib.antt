@@ -4,3 +4,5 @@ pub mod Fits
 pub mod Select
 pub mod Change
 pub mod Statements
+pub mod Keep
+pub mod Calls

@@ -1,7 +1,8 @@
 -- A statement on the whole database is its parts on the partitions, put together.
-use Rattle.std.proofs.Common.{◌≡◌, ℕ, zero, suc, ◌+◌, ◌<◌, ◌≤◌, Bool, true, false, not, cond, if◌then◌else◌, ◌||◌, List, [], ◌∷◌, ◌++◌, map, filter, take, sum_by, Option, Some, None, option_map, is_some, Result, Ok, Err, sym, refl, ap, ◌∙◌, subst, inl, inr, arith, zero-add, ◌⊎◌}
+use Rattle.std.proofs.Common.{◌≡◌, ℕ, zero, suc, ◌+◌, ◌<◌, ◌≤◌, Bool, true, false, not, cond, if◌then◌else◌, ◌||◌, ◌==◌, length, List, [], ◌∷◌, ◌++◌, map, filter, take, sum_by, Option, Some, None, option_map, is_some, Result, Ok, Err, sym, refl, ap, ◌∙◌, subst, inl, inr, arith, zero-add, ◌⊎◌}
 use Rattle.std.specs.List.{list_any, filter_map}
 use Rattle.std.proofs.lemmas.Bool.{or_parts, or_cases, both_ways, not-true}
+use Rattle.volt_value.specs.declared.column.Class.{Class}
 use Rattle.volt_catalog.specs.declared.table.Table.{Table}
 use Rattle.volt_catalog.specs.Rules.{Contents}
 use Rattle.volt_catalog.specs.Catalog.{IsCatalog}
@@ -20,7 +21,7 @@ use Rattle.sql_plan.specs.declared.select.SelectPlan.{SelectPlan}
 use Rattle.sql_plan.specs.declared.select.Shape.{Shape}
 use Rattle.sql_plan.specs.declared.select.Shape.TheVariants as shape
 use Rattle.sql_plan.specs.Rows.{Cells}
-use Rattle.sql_meaning.specs.Judged.{with, least, both, collected, unless}
+use Rattle.sql_meaning.specs.Judged.{with, least, both, fault_in, value_in, least_fault, collected, unless}
 use Rattle.sql_meaning.specs.Values.{at}
 use Rattle.sql_meaning.specs.Expressions.{Reads}
 use Rattle.sql_meaning.specs.Tables.{table_at, part_of_value, is_part, lies_in}
@@ -30,16 +31,16 @@ use Rattle.sql_meaning.specs.Groups.{arguments_of, all_gathered_of, by_key}
 use Rattle.sql_meaning.specs.Selects.{product, joined_with, from_rows, if_kept, all_kept, limit_of, output_row, group_entry, selected, selected_by}
 use Rattle.sql_meaning.specs.Statements.{insert_means, change_means, action_means, means}
 use Rattle.sql_meaning.specs.Parts.{keyed_row, group_of, elsewhere, part_of_insert, part_of_change, part_by_shape, part_of_action, part_means, count_in, merged_by, merged_action, parts_that_count, merged, all_parts, given_by_parts}
-use Rattle.sql_meaning.specs.WellFormed.{names_partitioned, tables_of, joined_table, is_scope, IsShape, IsSelect, IsAction, IsPrepared}
-use Rattle.sql_laws.proofs.Plain.Folds.{filter_all, range-cons}
+use Rattle.sql_meaning.specs.WellFormed.{from_classes, from_key, distributes, names_partitioned, tables_of, joined_table, is_scope, IsShape, IsSelect, IsAction, IsPrepared}
+use Rattle.sql_laws.proofs.Plain.Folds.{filter_all, range-cons, range-has}
 use Rattle.sql_laws.proofs.Plain.Faults.{least-same}
-use Rattle.sql_laws.proofs.Plain.Judgements.{with_with, with_same, collected_unless, all_least}
+use Rattle.sql_laws.proofs.Plain.Judgements.{with_with, with_same, collected_unless, all_least, least_fault-map}
 use Rattle.sql_laws.proofs.Plain.Rows.{rows_of-share, share-set_rows}
 use Rattle.sql_laws.proofs.Fits.{part_column}
 use Rattle.sql_laws.proofs.Select.Homes.{has_home, right_column}
 use Rattle.sql_laws.proofs.Select.One.{one_part}
 use Rattle.sql_laws.proofs.Select.Whole.{rows_whole, total_whole, groups_whole}
-use Rattle.sql_laws.proofs.Change.Fates.{change_answers, change_shares}
+use Rattle.sql_laws.proofs.Change.Fates.{change_answers, change_shares, ok_unless, none_among}
 use Rattle.sql_laws.proofs.Change.Inserts.{insert_answers, insert_shares}
 use Rattle.sql_laws.proofs.Change.Rows.{updated-small, deleted-small, updated-stays, deleted-stays}
 
@@ -216,3 +217,180 @@ module _ (parts : ℕ) (some : 0 < parts) (catalog : Contents) (db : Database) (
       ∙ sym (with_with (core statement.action args db) (λ x. Ok (map (λ p. x) (all_parts parts))) (merged statement))
       ∙ ap (λ r. with r (merged statement)) (sym (all_same (core statement.action args db)))
       ∙ (λ i. with (collected (map (λ p. sym (action_core p statement.scope statement.action args (share parts catalog p db) none ∙ core_same p statement.action args none) i) (all_parts parts))) (merged statement))
+
+-- ---- on tables of which each partition has its rows
+
+some_of : {A : Type 0} (o : Option A) → is_some o ≡ true → (x : A) × (o ≡ Some x)
+some_of None e = absurd (cc)
+some_of (Some x) e = (x, refl)
+
+or_false : (b : Bool) → (b || false) ≡ b
+or_false true = refl
+or_false false = refl
+
+home_by : (catalog : Contents) (w : ℕ) (right : Option JoinPlan) → list_any (λ n. is_some (table_at catalog n).part) (joined_table right) ≡ is_some (right_column catalog w right)
+home_by catalog w None = refl
+home_by catalog w (Some join) = or_false (is_some (table_at catalog join.table).part) ∙ by (table_at catalog join.table).part
+  where
+    by : (o : Option ℕ) → is_some o ≡ is_some (option_map (λ n. w + n) o)
+    by None = refl
+    by (Some n) = refl
+
+pub home_of : (catalog : Contents) (select : SelectPlan) → names_partitioned catalog (Select select) ≡ true → has_home catalog select ≡ true
+home_of catalog select e = ap (λ b. is_some (table_at catalog select.left).part || b) (sym (home_by catalog (length (table_at catalog select.left).columns) select.right)) ∙ e
+
+-- the rows alone
+rows_alone : {A : Type 0} (r : Result A Fault) (db : Database) → with (with r (λ x. Ok (db, x))) (λ (p : Database × A). Ok p.1) ≡ r
+rows_alone (Ok x) db = refl
+rows_alone (Err f) db = refl
+
+ok_when : {A : Type 0} (r : Result A Fault) → fault_in r ≡ None → (x : A) × (r ≡ Ok x)
+ok_when (Ok x) e = (x, refl)
+ok_when (Err g) e = absurd (cc)
+
+-- one of judgements that are all without a fault
+collected_ok : {A : Type 0} (f : ℕ → Result A Fault) (ps : List ℕ) (xs : List A) → collected (map f ps) ≡ Ok xs → (p : ℕ) → list_any (λ q. p == q) ps ≡ true → (x : A) × (f p ≡ Ok x)
+collected_ok f ps xs e p here =
+    let none : least_fault (map f ps) ≡ None = (ok_unless (least_fault (map f ps)) (filter_map value_in (map f ps)) xs e).0 in
+    let each : fault_in (f p) ≡ None = none_among (λ p. fault_in (f p)) ps p (sym (least_fault-map f ps) ∙ none) here in
+    ok_when (f p) each
+
+one_database : (db : Database) (rows : List Cells) (whole : Database × List Cells) → ◌≡◌ {A = Result (Database × List Cells) Fault} (Ok (db, rows)) (Ok whole) → db ≡ whole.0
+one_database db rows whole e = let g : ◌≡◌ {A = Database × List Cells} (db, rows) whole = cc in ap (λ (w : Database × List Cells). w.0) g
+
+module _ (parts : ℕ) (some : 0 < parts) (catalog : Contents) (rules : IsCatalog catalog) (db : Database) (is : IsDatabase catalog db) where
+  shape_parts : (select : SelectPlan) (s : Shape) (params : List Class) (given : List Class) → IsShape (from_classes catalog select) params (from_key catalog select) s given → has_home catalog select ≡ true → distributes catalog select select.right ≡ true → (args : Cells)
+      → selected_by select s args db ≡ with (collected (map (λ p. part_by_shape select s args (share parts catalog p db)) (all_parts parts))) (merged_by s)
+  shape_parts select (shape.Rows outputs order) params given fits has told args = rows_whole parts some catalog rules select has told args db is outputs order (length outputs) (length (from_classes catalog select)) fits.ordered
+  shape_parts select (shape.Total gs) params given fits has told args = total_whole parts some catalog rules select has told args db is gs
+  shape_parts select (shape.Groups columns gs outputs order) params given fits has told args = groups_whole parts some catalog rules select has told args db is columns gs outputs order
+
+  partitioned : (action : Action) (params : List Class) (columns : List (List ℕ × Class)) → IsAction catalog params columns action → names_partitioned catalog action ≡ true → (args : Cells)
+      → with (action_means parts catalog None action args db) (λ r. Ok r.1)
+      ≡ with (collected (map (λ p. with (part_of_action parts catalog p AllPartitions action args (share parts catalog p db)) (λ r. Ok r.1)) (all_parts parts))) (merged_action action)
+  partitioned (Insert insert) params columns fits named args =
+      let part = some_of (table_at catalog insert.table).part (sym (or_false (is_some (table_at catalog insert.table).part)) ∙ named) in
+      insert_answers parts some catalog rules insert part.0 part.1 AllPartitions (λ d. refl) args db is
+  partitioned (Update update) params columns fits named args =
+      let part = some_of (table_at catalog update.table).part (sym (or_false (is_some (table_at catalog update.table).part)) ∙ named) in
+      change_answers parts some catalog rules update.table part.0 part.1 (updated catalog update) args (λ row. updated-small catalog update row args)
+        (λ row f new e l. updated-stays catalog update part.0 fits.0.key (part_column catalog update.table part.0 rules part.1) args row f new e l) db is
+  partitioned (Delete delete) params columns fits named args =
+      let part = some_of (table_at catalog delete.table).part (sym (or_false (is_some (table_at catalog delete.table).part)) ∙ named) in
+      change_answers parts some catalog rules delete.table part.0 part.1 (deleted delete) args (λ row. deleted-small delete row args)
+        (λ row f new e l. ap (λ r. at r part.0) (deleted-stays delete args row f new e l)) db is
+  partitioned (Select select) params columns fits named args =
+      rows_alone (selected select args db) db
+      ∙ shape_parts select select.shape params (map (λ column. column.1) columns) fits.shape (home_of catalog select named) fits.distributes args
+      ∙ (λ i. with (collected (map (λ p. sym (rows_alone (part_by_shape select select.shape args (share parts catalog p db)) (share parts catalog p db)) i) (all_parts parts))) (merged_by select.shape))
+
+  pub in_parts : (statement : Prepared) → IsPrepared catalog statement → (statement.scope ≡ OnePartition → ⊥) → (args : Cells)
+      → with (means parts catalog None statement args db) (λ r. Ok r.1) ≡ given_by_parts parts catalog statement args (λ p. share parts catalog p db)
+  in_parts statement prepared many args = by statement.scope refl prepared.scope
+    where
+      by : (s : Scope) → statement.scope ≡ s → is_scope s (names_partitioned catalog statement.action) ≡ true
+          → with (means parts catalog None statement args db) (λ r. Ok r.1) ≡ given_by_parts parts catalog statement args (λ p. share parts catalog p db)
+      by OnePartition e named = absurd (many e)
+      by AllPartitions e named =
+          partitioned statement.action statement.params statement.columns prepared.action named args
+          ∙ (λ i. with (collected (map (λ p. with (part_of_action parts catalog p (sym e i) statement.action args (share parts catalog p db)) (λ r. Ok r.1)) (all_parts parts))) (λ ps. merged_action statement.action (parts_that_count (sym e i) ps)))
+      by Replicated e named = replicated parts some catalog db is statement args e (not-true (names_partitioned catalog statement.action) named)
+
+  -- ---- the shares afterwards
+
+  all_rows : (p n : ℕ) → (table_at catalog n).part ≡ None → (rows : List Cells) → set_rows (share parts catalog p db) n rows ≡ share parts catalog p (set_rows db n rows)
+  all_rows p n e rows =
+      ap (set_rows (share parts catalog p db) n) (sym (filter_all (lies_in parts p (table_at catalog n)) (λ row. no_part parts p (table_at catalog n) row e) rows))
+      ∙ sym (share-set_rows parts catalog p db n rows)
+
+  change_replicated : (p n : ℕ) → (table_at catalog n).part ≡ None → (fate : Reads Fate) (args : Cells) (whole : Database × List Cells) → change_means catalog n fate args db ≡ Ok whole
+      → (x : Partial) × (part_of_change catalog n fate args (share parts catalog p db) ≡ Ok (share parts catalog p whole.0, x))
+  change_replicated p n e fate args whole done = by (changed catalog n fate args (rows_of db n)) refl done
+    where
+      by : (r : Result (List Cells × ℕ) Fault) → changed catalog n fate args (rows_of db n) ≡ r → with r (λ made. Ok (whole_made db n made.1 made.0)) ≡ Ok whole
+          → (x : Partial) × (part_of_change catalog n fate args (share parts catalog p db) ≡ Ok (share parts catalog p whole.0, x))
+      by (Ok made) same done =
+          let was : whole_made db n made.1 made.0 ≡ whole = let f : Ok (whole_made db n made.1 made.0) ≡ Ok whole = done in cc in
+          (partial.Count made.1,
+            ap (λ (rows : List Cells). with (changed catalog n fate args rows) (λ made. Ok (part_made (share parts catalog p db) n made.1 made.0))) (same_rows parts some catalog db is p n e)
+            ∙ ap (λ r. with r (λ made. Ok (part_made (share parts catalog p db) n made.1 made.0))) same
+            ∙ (λ i. Ok ((all_rows p n e made.0 ∙ ap (λ (w : Database × List Cells). share parts catalog p w.0) was) i, partial.Count made.1)))
+      by (Err f) same done = absurd (cc)
+
+  insert_replicated : (p : ℕ) (scope : Scope) (insert : InsertPlan) → (table_at catalog insert.table).part ≡ None → (args : Cells) (whole : Database × List Cells) → insert_means parts catalog None insert args db ≡ Ok whole
+      → (x : Partial) × (part_of_insert parts catalog p scope insert args (share parts catalog p db) ≡ Ok (share parts catalog p whole.0, x))
+  insert_replicated p scope insert e args whole done = by (inserted_row catalog insert args) done
+    where
+      n : ℕ
+      n = insert.table
+      by_rows : (row : Cells) (rs : Result (List Cells) Fault) → inserted catalog insert.table (rows_of db insert.table) row ≡ rs → with rs (λ rows. Ok (whole_made db insert.table 1 rows)) ≡ Ok whole
+          → (x : Partial) × (with (inserted catalog insert.table (rows_of (share parts catalog p db) insert.table) row) (λ rows. Ok (part_made (share parts catalog p db) insert.table 1 rows)) ≡ Ok (share parts catalog p whole.0, x))
+      by_rows row (Ok rows) same done =
+          let was : whole_made db insert.table 1 rows ≡ whole = let f : Ok (whole_made db insert.table 1 rows) ≡ Ok whole = done in cc in
+          (partial.Count 1,
+            ap (λ (rs : List Cells). with (inserted catalog insert.table rs row) (λ rows. Ok (part_made (share parts catalog p db) insert.table 1 rows))) (same_rows parts some catalog db is p insert.table e)
+            ∙ ap (λ r. with r (λ rows. Ok (part_made (share parts catalog p db) insert.table 1 rows))) same
+            ∙ (λ i. Ok ((all_rows p insert.table e rows ∙ ap (λ (w : Database × List Cells). share parts catalog p w.0) was) i, partial.Count 1)))
+      by_rows row (Err f) same done = absurd (cc)
+      by : (r : Result Cells Fault) → with r (λ row. with (inserted catalog insert.table (rows_of db insert.table) row) (λ rows. Ok (whole_made db insert.table 1 rows))) ≡ Ok whole
+          → (x : Partial) × (with r (λ row. if lies_in parts p (table_at catalog insert.table) row then with (inserted catalog insert.table (rows_of (share parts catalog p db) insert.table) row) (λ rows. Ok (part_made (share parts catalog p db) insert.table 1 rows)) else elsewhere scope (share parts catalog p db))
+              ≡ Ok (share parts catalog p whole.0, x))
+      by (Ok row) done =
+          let made = by_rows row (inserted catalog insert.table (rows_of db insert.table) row) refl done in
+          (made.0,
+            ap (λ b. if b then with (inserted catalog insert.table (rows_of (share parts catalog p db) insert.table) row) (λ rows. Ok (part_made (share parts catalog p db) insert.table 1 rows)) else elsewhere scope (share parts catalog p db)) (no_part parts p (table_at catalog insert.table) row e)
+            ∙ made.1)
+      by (Err f) done = absurd (cc)
+
+  select_share : (p : ℕ) → p < parts → (select : SelectPlan) (args : Cells) (whole : Database × List Cells) (merge : List Partial → Result (List Cells) Fault)
+      → selected select args db ≡ with (collected (map (λ p. part_by_shape select select.shape args (share parts catalog p db)) (all_parts parts))) merge
+      → with {B = Database × List Cells} (selected select args db) (λ rows. Ok (db, rows)) ≡ Ok whole
+      → (x : Partial) × (with {B = Database × Partial} (part_by_shape select select.shape args (share parts catalog p db)) (λ part. Ok (share parts catalog p db, part)) ≡ Ok (share parts catalog p whole.0, x))
+  select_share p within select args whole merge law done =
+      let rows = selected_ok (selected select args db) done in
+      let parts_ok = collected_some (collected (map (λ p. part_by_shape select select.shape args (share parts catalog p db)) (all_parts parts))) (sym law ∙ rows.1) in
+      let mine = collected_ok (λ p. part_by_shape select select.shape args (share parts catalog p db)) (all_parts parts) parts_ok.0 parts_ok.1 p (range-has 0 parts p (omega arith) (omega arith)) in
+      (mine.0, ap (λ r. with {B = Database × Partial} r (λ part. Ok (share parts catalog p db, part))) mine.1 ∙ ap (λ (d : Database). Ok (share parts catalog p d, mine.0)) (rows.2))
+    where
+      selected_ok : (r : Result (List Cells) Fault) → with {B = Database × List Cells} r (λ rows. Ok (db, rows)) ≡ Ok whole → (rows : List Cells) × (r ≡ Ok rows) × (db ≡ whole.0)
+      selected_ok (Ok rows) e = (rows, refl, one_database db rows whole e)
+      selected_ok (Err f) e = absurd (cc)
+      collected_some : (r : Result (List Partial) Fault) → {rows : List Cells} → with r merge ≡ Ok rows → (ps : List Partial) × (r ≡ Ok ps)
+      collected_some (Ok ps) e = (ps, refl)
+      collected_some (Err f) e = absurd (cc)
+
+  pub shares_after : (statement : Prepared) → IsPrepared catalog statement → (statement.scope ≡ OnePartition → ⊥) → (args : Cells) (p : ℕ) → p < parts → (whole : Database × List Cells)
+      → means parts catalog None statement args db ≡ Ok whole → (x : Partial) × (part_means parts catalog p statement args (share parts catalog p db) ≡ Ok (share parts catalog p whole.0, x))
+  shares_after statement prepared many args p within whole done = by statement.scope refl prepared.scope
+    where
+      action : (s : Scope) (a : Action) → IsAction catalog statement.params statement.columns a → is_scope s (names_partitioned catalog a) ≡ true → (s ≡ OnePartition → ⊥)
+          → with (action_means parts catalog None a args db) (λ r. Ok r.1) ≡ with (collected (map (λ p. with (part_of_action parts catalog p s a args (share parts catalog p db)) (λ r. Ok r.1)) (all_parts parts))) (λ ps. merged_action a (parts_that_count s ps))
+          → action_means parts catalog None a args db ≡ Ok whole → (x : Partial) × (part_of_action parts catalog p s a args (share parts catalog p db) ≡ Ok (share parts catalog p whole.0, x))
+      action OnePartition a fits named many law done = absurd (many refl)
+      action AllPartitions (Insert insert) fits named many law done =
+          let part = some_of (table_at catalog insert.table).part (sym (or_false (is_some (table_at catalog insert.table).part)) ∙ named) in
+          let made = insert_shares parts some catalog rules insert part.0 part.1 AllPartitions (λ d. refl) args db is p within whole done in (partial.Count made.0, made.1)
+      action AllPartitions (Update update) fits named many law done =
+          let part = some_of (table_at catalog update.table).part (sym (or_false (is_some (table_at catalog update.table).part)) ∙ named) in
+          (_, change_shares parts some catalog rules update.table part.0 part.1 (updated catalog update) args (λ row. updated-small catalog update row args)
+            (λ row f new e l. updated-stays catalog update part.0 fits.0.key (part_column catalog update.table part.0 rules part.1) args row f new e l) db is p within whole done)
+      action AllPartitions (Delete delete) fits named many law done =
+          let part = some_of (table_at catalog delete.table).part (sym (or_false (is_some (table_at catalog delete.table).part)) ∙ named) in
+          (_, change_shares parts some catalog rules delete.table part.0 part.1 (deleted delete) args (λ row. deleted-small delete row args)
+            (λ row f new e l. ap (λ r. at r part.0) (deleted-stays delete args row f new e l)) db is p within whole done)
+      action Replicated (Insert insert) fits named many law done =
+          insert_replicated p Replicated insert (none_when (table_at catalog insert.table).part (or_parts (is_some (table_at catalog insert.table).part) false (not-true (names_partitioned catalog (Insert insert)) named)).0) args whole done
+      action Replicated (Update update) fits named many law done =
+          change_replicated p update.table (none_when (table_at catalog update.table).part (or_parts (is_some (table_at catalog update.table).part) false (not-true (names_partitioned catalog (Update update)) named)).0) (updated catalog update) args whole done
+      action Replicated (Delete delete) fits named many law done =
+          change_replicated p delete.table (none_when (table_at catalog delete.table).part (or_parts (is_some (table_at catalog delete.table).part) false (not-true (names_partitioned catalog (Delete delete)) named)).0) (deleted delete) args whole done
+      action s (Select select) fits named many law done =
+          select_share p within select args whole (λ ps. merged_by select.shape (parts_that_count s ps))
+            (sym (rows_alone (selected select args db) db) ∙ law ∙ (λ i. with (collected (map (λ p. rows_alone (part_by_shape select select.shape args (share parts catalog p db)) (share parts catalog p db) i) (all_parts parts))) (λ ps. merged_by select.shape (parts_that_count s ps))))
+            done
+      by : (s : Scope) → statement.scope ≡ s → is_scope s (names_partitioned catalog statement.action) ≡ true → (x : Partial) × (part_means parts catalog p statement args (share parts catalog p db) ≡ Ok (share parts catalog p whole.0, x))
+      by s e named =
+          let made = action s statement.action prepared.action named (λ one. many (e ∙ one))
+            (in_parts statement prepared many args ∙ (λ i. with (collected (map (λ p. with (part_of_action parts catalog p (e i) statement.action args (share parts catalog p db)) (λ r. Ok r.1)) (all_parts parts))) (λ ps. merged_action statement.action (parts_that_count (e i) ps))))
+            done in
+          (made.0, ap (λ s. part_of_action parts catalog p s statement.action args (share parts catalog p db)) e ∙ made.1)

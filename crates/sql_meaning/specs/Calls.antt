@@ -1,5 +1,5 @@
 -- What a call means: a database and a reply. And what many calls mean, one after another.
-use Rattle.std.specs.Prelude.{ℕ, Bool, true, false, not, List, [], ◌∷◌, map, zip, filter, slice_get, Option, Some, None, option_map, Result, Ok, Err}
+use Rattle.std.specs.Prelude.{ℕ, Bool, true, false, not, List, [], ◌∷◌, map, zip, filter, slice_get, Option, Some, None, option_map, option_and_then, Result, Ok, Err}
 use Rattle.volt_catalog.specs.declared.procedure.ProcDef.{ProcDef}
 use Rattle.volt_catalog.specs.declared.table.Table.{Table}
 use Rattle.volt_catalog.specs.Rules.{Contents}
@@ -66,22 +66,24 @@ abbrev pub kept : Database → Database → ProcReply → Database × ProcReply
 kept old new (reply.Ok rows) = (new, reply.Ok rows)
 kept old new (reply.Abort cause) = (old, reply.Abort cause)
 
--- a call on one partition runs on its share, whose changes are put back; any other runs on the whole database
+-- a call that runs on one database
+abbrev pub run_call : Plan → Option ℕ → Program → Cells → Database → Database × ProcReply
+run_call plan here program args db =
+    let end = ran plan.parts plan.catalog here program args db in kept db end.0 (sized end.1)
+
+-- a call on one partition runs on its share, whose changes are put back
 abbrev pub on_part : Plan → Program → Cells → Database → ℕ → Database × ProcReply
 on_part plan program args db part =
-    let end = ran plan.parts plan.catalog (Some part) program args (share plan.parts plan.catalog part db) in
-    kept db (put_back plan.parts plan.catalog part db end.0) (sized end.1)
-
-abbrev pub on_all : Plan → Program → Cells → Database → Database × ProcReply
-on_all plan program args db =
-    let end = ran plan.parts plan.catalog None program args db in kept db end.0 (sized end.1)
+    let end = run_call plan (Some part) program args (share plan.parts plan.catalog part db) in
+    kept db (put_back plan.parts plan.catalog part db end.0) end.1
 
 -- the partition that a call's arguments choose, where its procedure runs on one
 abbrev pub part_of_args : ℕ → ProcDef → Cells → Option ℕ
 part_of_args parts def args = option_map (λ place. part_of_value parts (at args place.2)) def.part
 
+-- any other call runs on the whole database
 abbrev pub run_on : Plan → Program → Cells → Database → Option ℕ → Database × ProcReply
-run_on plan program args db None = on_all plan program args db
+run_on plan program args db None = run_call plan None program args db
 run_on plan program args db (Some part) = on_part plan program args db part
 
 -- a procedure that isn't there changes nothing and gives no rows
@@ -91,6 +93,20 @@ call_of plan args db (Some proc) = run_on plan proc.1 args db (part_of_args plan
 
 abbrev pub call : Plan → Database → Call → Database × ProcReply
 call plan db c = call_of plan c.args db (slice_get plan.procs c.proc)
+
+-- ---- a call on one partition, seen by the partition alone
+
+-- the partition of a call whose procedure runs on one
+abbrev pub part_of_call : Plan → Call → Option ℕ
+part_of_call plan c = option_and_then (λ (proc : ProcDef × Program). part_of_args plan.parts proc.0 c.args) (slice_get plan.procs c.proc)
+
+abbrev pub own_call_of : Plan → ℕ → Cells → Database → Option (ProcDef × Program) → Database × ProcReply
+own_call_of plan part args own None = (own, reply.Ok (record { rows = [] }))
+own_call_of plan part args own (Some proc) = run_call plan (Some part) proc.1 args own
+
+-- what it makes of the partition's share, and its reply
+abbrev pub own_call : Plan → ℕ → Database → Call → Database × ProcReply
+own_call plan part own c = own_call_of plan part c.args own (slice_get plan.procs c.proc)
 
 -- ---- calls one after another
 

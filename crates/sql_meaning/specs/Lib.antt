@@ -15,3 +15,5 @@ pub mod Calls
 pub mod Parts
 pub mod Starter
 pub mod Scenarios
+pub mod Plans
+pub mod Rounds

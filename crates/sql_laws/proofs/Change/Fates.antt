@@ -122,7 +122,7 @@ abbrev pub change_in : Result Fate Fault → ℕ
 change_in (Ok f) = cond (is_change f) 1 0
 change_in (Err e) = 0
 
-left_values : {X : Type 0} (give : X → Result Fate Fault) (xs : List X) → filter_map left_of (filter_map value_in (map give xs)) ≡ filter_map (λ x. left_in (give x)) xs
+pub left_values : {X : Type 0} (give : X → Result Fate Fault) (xs : List X) → filter_map left_of (filter_map value_in (map give xs)) ≡ filter_map (λ x. left_in (give x)) xs
 left_values give [] = refl
 left_values give (x ∷ xs) = by (give x) (filter_map value_in (map give xs)) ∙ ap (cons_option (left_in (give x))) (left_values give xs)
   where

@@ -58,7 +58,7 @@ taken_same table n column (Text t) y e = fits_same (Text t) y (value_fits (Text 
 
 -- ---- rows of values
 
-abbrev cell : Table → (ℕ × Column) × Result Value Fault → Result Value Fault
+abbrev pub cell : Table → (ℕ × Column) × Result Value Fault → Result Value Fault
 cell table c = with c.1 (taken table c.0.0 c.0.1)
 
 cells_small : (table : Table) (a : ℕ) (columns : List Column) (values : List (Result Value Fault)) → AllByRecursion (λ r. small (fault_in r) ≡ true) values
@@ -90,7 +90,7 @@ deleted-small delete row args = with_small (holds delete.filter row args) (λ m.
 
 -- ---- the cells of a new row are its values
 
-ok_first : {A : Type 0} → (r : Result A Fault) (rs : List (Result A Fault)) (x : A) (xs : List A) → unless (least_fault (r ∷ rs)) (filter_map value_in (r ∷ rs)) ≡ Ok (x ∷ xs) → r ≡ Ok x
+pub ok_first : {A : Type 0} → (r : Result A Fault) (rs : List (Result A Fault)) (x : A) (xs : List A) → unless (least_fault (r ∷ rs)) (filter_map value_in (r ∷ rs)) ≡ Ok (x ∷ xs) → r ≡ Ok x
 ok_first {A} (Ok y) rs x xs e = by (least_fault rs) e
   where
     by : (f : Option Fault) → unless f (y ∷ filter_map value_in rs) ≡ Ok (x ∷ xs) → ◌≡◌ {A = Result A Fault} (Ok y) (Ok x)
@@ -102,7 +102,7 @@ ok_first {A} (Err f) rs x xs e = by (least_fault rs) e
     by None e = absurd (cc)
     by (Some g) e = absurd (cc)
 
-ok_rest : {A : Type 0} (r : Result A Fault) (rs : List (Result A Fault)) (x : A) (xs : List A) → unless (least_fault (r ∷ rs)) (filter_map value_in (r ∷ rs)) ≡ Ok (x ∷ xs) → unless (least_fault rs) (filter_map value_in rs) ≡ Ok xs
+pub ok_rest : {A : Type 0} (r : Result A Fault) (rs : List (Result A Fault)) (x : A) (xs : List A) → unless (least_fault (r ∷ rs)) (filter_map value_in (r ∷ rs)) ≡ Ok (x ∷ xs) → unless (least_fault rs) (filter_map value_in rs) ≡ Ok xs
 ok_rest (Ok y) rs x xs e = by (least_fault rs) e
   where
     by : (f : Option Fault) → unless f (y ∷ filter_map value_in rs) ≡ Ok (x ∷ xs) → unless f (filter_map value_in rs) ≡ Ok xs
@@ -114,7 +114,7 @@ ok_rest (Err f) rs x xs e = by (least_fault rs) e
     by None e = absurd (cc)
     by (Some g) e = absurd (cc)
 
-ok_none : {A : Type 0} (r : Result A Fault) (rs : List (Result A Fault)) → unless (least_fault (r ∷ rs)) (filter_map value_in (r ∷ rs)) ≡ Ok [] → ⊥
+pub ok_none : {A : Type 0} (r : Result A Fault) (rs : List (Result A Fault)) → unless (least_fault (r ∷ rs)) (filter_map value_in (r ∷ rs)) ≡ Ok [] → ⊥
 ok_none (Ok y) rs e = by (least_fault rs) e
   where
     by : (f : Option Fault) → unless f (y ∷ filter_map value_in rs) ≡ Ok [] → ⊥
@@ -126,7 +126,7 @@ ok_none (Err f) rs e = by (least_fault rs) e
     by None e = cc
     by (Some g) e = cc
 
-with_ok : {A B : Type 0} (r : Result A Fault) (go : A → Result B Fault) (y : B) → with r go ≡ Ok y → (x : A) × (r ≡ Ok x) × (go x ≡ Ok y)
+pub with_ok : {A B : Type 0} (r : Result A Fault) (go : A → Result B Fault) (y : B) → with r go ≡ Ok y → (x : A) × (r ≡ Ok x) × (go x ≡ Ok y)
 with_ok (Ok x) go y e = (x, refl, e)
 with_ok (Err f) go y e = absurd (cc)
 
@@ -157,7 +157,7 @@ kept_among values (m ∷ key) n e here =
       | inr later ↦ kept_among values key n two.1 later
     ]
 
-value_at_column : (es : List Scalar) (n k : ℕ) (row args : Cells) → is_that_column n (slice_get es k) ≡ true → slice_get (values_of es row args) k ≡ Some (Ok (at row n))
+pub value_at_column : (es : List Scalar) (n k : ℕ) (row args : Cells) → is_that_column n (slice_get es k) ≡ true → slice_get (values_of es row args) k ≡ Some (Ok (at row n))
 value_at_column [] n k row args e = absurd (cc)
 value_at_column (x ∷ es) n zero row args e = ap (λ r. Some r) (column_means n x e row args)
 value_at_column (x ∷ es) n (suc k) row args e = value_at_column es n k row args e

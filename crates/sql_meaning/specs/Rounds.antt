@@ -1,0 +1,35 @@
+-- A program on all partitions, in rounds: each partition makes its part of each statement on its own share,
+-- and what the parts come to is answered.
+use Rattle.std.specs.Prelude.{ℕ, List, [], ◌∷◌, slice_get, Option, Some, None, Result, Ok, Err}
+use Rattle.volt_catalog.specs.Rules.{Contents}
+use Rattle.sql_plan.specs.declared.fault.Fault.{Fault}
+use Rattle.sql_plan.specs.declared.partial.Partial.{Partial}
+use Rattle.sql_plan.specs.declared.prepared.Prepared.{Prepared}
+use Rattle.sql_plan.specs.declared.program.Program.{Program}
+use Rattle.sql_plan.specs.declared.reply.ProcReply.{ProcReply}
+use Rattle.sql_plan.specs.declared.reply.ProcReply.TheVariants as reply
+use Rattle.sql_plan.specs.Rows.{Cells}
+use Rattle.sql_meaning.specs.Database.{Database}
+use Rattle.sql_meaning.specs.Parts.{part_means, given_by_parts}
+use Rattle.sql_meaning.specs.Programs.{Talk, Returns, Aborts, Asks}
+
+-- a partition's share behind its part of a statement: as before where it faulted
+abbrev pub share_after : Database → Result (Database × Partial) Fault → Database
+share_after own (Ok made) = made.0
+share_after own (Err fault) = own
+
+abbrev pub round_answer : ℕ → Contents → Option Prepared → Cells → (ℕ → Database) → Result (List Cells) Fault
+round_answer parts catalog None args own = Ok []
+round_answer parts catalog (Some statement) args own = given_by_parts parts catalog statement args own
+
+abbrev pub round_shares : ℕ → Contents → Option Prepared → Cells → (ℕ → Database) → ℕ → Database
+round_shares parts catalog None args own part = own part
+round_shares parts catalog (Some statement) args own part = share_after (own part) (part_means parts catalog part statement args (own part))
+
+-- how a talk ends with the shares of all partitions, and what they have become
+abbrev pub in_rounds : ℕ → Contents → Program → Talk → (ℕ → Database) → (ℕ → Database) × ProcReply
+in_rounds parts catalog program (Returns rows) own = (own, reply.Ok (record { rows = rows }))
+in_rounds parts catalog program (Aborts cause) own = (own, reply.Abort cause)
+in_rounds parts catalog program (Asks statement args go) own =
+    in_rounds parts catalog program (go (round_answer parts catalog (slice_get program.statements statement) args own))
+        (round_shares parts catalog (slice_get program.statements statement) args own)
