@@ -74,16 +74,16 @@ module _ (parts : ℕ) (catalog : Contents) (rules : IsCatalog catalog) (program
   pub ran-database : (single : Bool) (here : Option ℕ) → AllByRecursion (IsStatement catalog single) program.statements → (args : Cells) (db : Database) → IsDatabase catalog db → IsDatabase catalog (ran parts catalog here program args db).0
   ran-database single here all args db is =
       settled-keeps (IsDatabase catalog) (answers_of parts catalog here program)
-        (statement_keeps (IsDatabase catalog) here (λ statement n at_n args db made e is. means-database parts catalog rules here statement (statement_at catalog single program.statements n statement all at_n).prepared args db made e is))
-        (talk_of program args) db is
+      (statement_keeps (IsDatabase catalog) here (λ statement n at_n args db made e is. means-database parts catalog rules here statement (statement_at catalog single program.statements n statement all at_n).prepared args db made e is))
+      (talk_of program args) db is
 
   pub ran-own : (part : ℕ) → AllByRecursion (IsStatement catalog true) program.statements → (args : Cells) (start : Database) → Own parts part catalog start start → Own parts part catalog start (ran parts catalog (Some part) program args start).0
   ran-own part all args start own =
       settled-keeps (Own parts part catalog start) (answers_of parts catalog (Some part) program)
-        (statement_keeps (Own parts part catalog start) (Some part) (λ statement n at_n args db made e own.
-          let is = statement_at catalog true program.statements n statement all at_n in
-          means-own parts catalog rules part statement is.prepared (writes_partitioned catalog statement is) args start db made e own))
-        (talk_of program args) start own
+      (statement_keeps (Own parts part catalog start) (Some part) (λ statement n at_n args db made e own.
+      let is = statement_at catalog true program.statements n statement all at_n in
+      means-own parts catalog rules part statement is.prepared (writes_partitioned catalog statement is) args start db made e own))
+      (talk_of program args) start own
 
 -- ---- a call
 
@@ -108,6 +108,7 @@ abort_leaves plan db c cause e = by (slice_get plan.procs c.proc) e
     run_abort (Some part) program e =
         let end = run_call plan (Some part) program c.args (share plan.parts plan.catalog part db) in
         kept-abort db (put_back plan.parts plan.catalog part db end.0) end.1 cause e
+
     by : (o : Option (ProcDef × Program)) → (call_of plan c.args db o).1 ≡ reply.Abort cause → (call_of plan c.args db o).0 ≡ db
     by None e = absurd (cc)
     by (Some proc) e = run_abort (part_of_args plan.parts proc.0 c.args) proc.1 e
@@ -182,8 +183,9 @@ call-database plan is_plan db c is = by (slice_get plan.procs c.proc) refl
     on : (proc : ProcDef × Program) → IsProcedure plan.catalog proc.0 proc.1 → (o : Option ℕ) → part_of_args plan.parts proc.0 c.args ≡ o → IsDatabase plan.catalog (run_on plan proc.1 c.args db o).0
     on proc procedure None e =
         kept-either (IsDatabase plan.catalog) db (ran plan.parts plan.catalog None proc.1 c.args db).0 (sized (ran plan.parts plan.catalog None proc.1 c.args db).1) is
-          (ran-database plan.parts plan.catalog is_plan.catalog proc.1 (is_some proc.0.part) None procedure.statements c.args db is)
+        (ran-database plan.parts plan.catalog is_plan.catalog proc.1 (is_some proc.0.part) None procedure.statements c.args db is)
     on proc procedure (Some part) e = part-database plan is_plan db is part proc procedure (chosen_some plan.parts proc.0 c.args part e) c.args
+
     by : (o : Option (ProcDef × Program)) → slice_get plan.procs c.proc ≡ o → IsDatabase plan.catalog (call_of plan c.args db o).0
     by None same = is
     by (Some proc) same = on proc (procedure_at plan.catalog plan.procs c.proc proc is_plan.procs same) (part_of_args plan.parts proc.0 c.args) refl

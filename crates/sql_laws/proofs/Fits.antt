@@ -70,9 +70,11 @@ row_at : (table : Table) (a : ℕ) (columns : List Column) (row : Cells) (n : �
     → length row ≡ length columns → n < length columns → (column : Column) × (is_ok (taken table (a + n) column (at row n)) ≡ true)
 row_at table a [] row n e same within = absurd (omega arith)
 row_at table a (column ∷ columns) [] n e same within = absurd (omega arith)
-row_at table a (column ∷ columns) (x ∷ row) zero e same within =
-    (column, let first = (and_parts (is_ok (taken table a column x)) (list_all (λ c. is_ok (taken table c.0.0 c.0.1 c.1)) (zip (enumerate_from (a + 1) columns) row)) e).0 in
-        subst (λ k. is_ok (taken table k column x) ≡ true) (sym (add-zero a)) first)
+row_at table a (column ∷ columns) (x ∷ row) zero e same within = (
+  column,
+  let first = (and_parts (is_ok (taken table a column x)) (list_all (λ c. is_ok (taken table c.0.0 c.0.1 c.1)) (zip (enumerate_from (a + 1) columns) row)) e).0 in
+      subst (λ k. is_ok (taken table k column x) ≡ true) (sym (add-zero a)) first,
+)
 row_at table a (column ∷ columns) (x ∷ row) (suc n) e same within =
     let rest = (and_parts (is_ok (taken table a column x)) (list_all (λ c. is_ok (taken table c.0.0 c.0.1 c.1)) (zip (enumerate_from (a + 1) columns) row)) e).1 in
     let found = row_at table (a + 1) columns row n rest (omega arith) (omega arith) in

@@ -66,7 +66,7 @@ changes_alone : (catalog : Contents) (n : ℕ) (fate : Reads Fate) (args : Cells
     → change_means catalog n fate args db ≡ with (part_of_change catalog n fate args db) count_made
 changes_alone catalog n fate args db =
     with_same (changed catalog n fate args (rows_of db n)) (λ made. Ok (whole_made db n made.1 made.0)) (λ made. Ok (set_rows db n made.0, counted (0 + made.1)))
-        (λ made e. ap (λ m. Ok (set_rows db n made.0, counted m)) (sym (zero-add made.1)))
+    (λ made e. ap (λ m. Ok (set_rows db n made.0, counted m)) (sym (zero-add made.1)))
     ∙ sym (with_with (changed catalog n fate args (rows_of db n)) (λ made. Ok (set_rows db n made.0, partial.Count made.1)) count_made)
 
 action_alone : (parts : ℕ) (catalog : Contents) (part : ℕ) (action : Action) (args : Cells) (db : Database)
@@ -75,7 +75,7 @@ action_alone parts catalog part (Insert insert) args db = by (inserted_row catal
   where
     by : (r : Result Cells Fault) → with r (λ row. if lies_in parts part (table_at catalog insert.table) row then with (inserted catalog insert.table (rows_of db insert.table) row) (λ rows. Ok (whole_made db insert.table 1 rows)) else Err WrongPartition)
         ≡ with (with r (λ row. if lies_in parts part (table_at catalog insert.table) row then with (inserted catalog insert.table (rows_of db insert.table) row) (λ rows. Ok (part_made db insert.table 1 rows)) else elsewhere OnePartition db))
-            count_made
+        count_made
     by (Ok row) = inserts_alone OnePartition catalog insert.table (inserted catalog insert.table (rows_of db insert.table) row) db (lies_in parts part (table_at catalog insert.table) row) refl
     by (Err f) = refl
 action_alone parts catalog part (Update update) args db = changes_alone catalog update.table (updated catalog update) args db
@@ -118,6 +118,7 @@ module _ (parts : ℕ) (some : 0 < parts) (catalog : Contents) (db : Database) (
       by_rows : (rs : Result (List Cells) Fault) → with (with rs (λ rows. Ok (part_made d insert.table 1 rows))) (λ r. Ok r.1) ≡ with rs (λ rows. Ok (partial.Count 1))
       by_rows (Ok rows) = refl
       by_rows (Err f) = refl
+
       by : (r : Result Cells Fault) → with (with r (λ row. if lies_in parts p (table_at catalog insert.table) row then with (inserted catalog insert.table (rows_of d insert.table) row) (λ rows. Ok (part_made d insert.table 1 rows)) else elsewhere scope d)) (λ r. Ok r.1)
           ≡ with r (λ row. with (inserted catalog insert.table (rows_of d insert.table) row) (λ rows. Ok (partial.Count 1)))
       by (Ok row) =
@@ -160,13 +161,13 @@ module _ (parts : ℕ) (some : 0 < parts) (catalog : Contents) (db : Database) (
   core_same : (p : ℕ) (action : Action) (args : Cells) → names_partitioned catalog action ≡ false → core action args (share parts catalog p db) ≡ core action args db
   core_same p (Insert insert) args none =
       ap (λ (rows : List Cells). with (inserted_row catalog insert args) (λ row. with (inserted catalog insert.table rows row) (λ rows. Ok (partial.Count 1))))
-          (same_rows p insert.table (none_when (table_at catalog insert.table).part (or_parts (is_some (table_at catalog insert.table).part) false none).0))
+      (same_rows p insert.table (none_when (table_at catalog insert.table).part (or_parts (is_some (table_at catalog insert.table).part) false none).0))
   core_same p (Update update) args none =
       ap (λ (rows : List Cells). with (changed catalog update.table (updated catalog update) args rows) (λ made. Ok (partial.Count made.1)))
-          (same_rows p update.table (none_when (table_at catalog update.table).part (or_parts (is_some (table_at catalog update.table).part) false none).0))
+      (same_rows p update.table (none_when (table_at catalog update.table).part (or_parts (is_some (table_at catalog update.table).part) false none).0))
   core_same p (Delete delete) args none =
       ap (λ (rows : List Cells). with (changed catalog delete.table (deleted delete) args rows) (λ made. Ok (partial.Count made.1)))
-          (same_rows p delete.table (none_when (table_at catalog delete.table).part (or_parts (is_some (table_at catalog delete.table).part) false none).0))
+      (same_rows p delete.table (none_when (table_at catalog delete.table).part (or_parts (is_some (table_at catalog delete.table).part) false none).0))
   core_same p (Select select) args none =
       let two = or_parts (is_some (table_at catalog select.left).part) (list_any (λ n. is_some (table_at catalog n).part) (joined_table select.right)) none in
       shape_same select select.shape args (share parts catalog p db) db (joined_same p select.left select.right (none_when (table_at catalog select.left).part two.0) two.1)
@@ -192,6 +193,7 @@ module _ (parts : ℕ) (some : 0 < parts) (catalog : Contents) (db : Database) (
       by_rows : (rs : Result (List Cells) Fault) → with (with rs (λ rows. Ok (whole_made db insert.table 1 rows))) (λ r. Ok r.1) ≡ with (with rs (λ rows. Ok (partial.Count 1))) (λ x. Ok (counted (sum_by count_in (x ∷ []))))
       by_rows (Ok rows) = refl
       by_rows (Err f) = refl
+
       by : (r : Result Cells Fault) → with (with r (λ row. with (inserted catalog insert.table (rows_of db insert.table) row) (λ rows. Ok (whole_made db insert.table 1 rows)))) (λ r. Ok r.1)
           ≡ with (with r (λ row. with (inserted catalog insert.table (rows_of db insert.table) row) (λ rows. Ok (partial.Count 1)))) (λ x. Ok (counted (sum_by count_in (x ∷ []))))
       by (Ok row) = by_rows (inserted catalog insert.table (rows_of db insert.table) row)
@@ -213,7 +215,7 @@ module _ (parts : ℕ) (some : 0 < parts) (catalog : Contents) (db : Database) (
   replicated statement args one none =
       whole_core statement.action args none
       ∙ with_same (core statement.action args db) (λ x. merged_action statement.action (x ∷ [])) (λ x. merged statement (map (λ p. x) (all_parts parts)))
-          (λ x e. ap (merged_action statement.action) (sym (ap (λ s. parts_that_count s (map (λ p. x) (all_parts parts))) one ∙ first_alone x)))
+      (λ x e. ap (merged_action statement.action) (sym (ap (λ s. parts_that_count s (map (λ p. x) (all_parts parts))) one ∙ first_alone x)))
       ∙ sym (with_with (core statement.action args db) (λ x. Ok (map (λ p. x) (all_parts parts))) (merged statement))
       ∙ ap (λ r. with r (merged statement)) (sym (all_same (core statement.action args db)))
       ∙ (λ i. with (collected (map (λ p. sym (action_core p statement.scope statement.action args (share parts catalog p db) none ∙ core_same p statement.action args none) i) (all_parts parts))) (merged statement))
@@ -274,11 +276,11 @@ module _ (parts : ℕ) (some : 0 < parts) (catalog : Contents) (rules : IsCatalo
   partitioned (Update update) params columns fits named args =
       let part = some_of (table_at catalog update.table).part (sym (or_false (is_some (table_at catalog update.table).part)) ∙ named) in
       change_answers parts some catalog rules update.table part.0 part.1 (updated catalog update) args (λ row. updated-small catalog update row args)
-        (λ row f new e l. updated-stays catalog update part.0 fits.0.key (part_column catalog update.table part.0 rules part.1) args row f new e l) db is
+      (λ row f new e l. updated-stays catalog update part.0 fits.0.key (part_column catalog update.table part.0 rules part.1) args row f new e l) db is
   partitioned (Delete delete) params columns fits named args =
       let part = some_of (table_at catalog delete.table).part (sym (or_false (is_some (table_at catalog delete.table).part)) ∙ named) in
       change_answers parts some catalog rules delete.table part.0 part.1 (deleted delete) args (λ row. deleted-small delete row args)
-        (λ row f new e l. ap (λ r. at r part.0) (deleted-stays delete args row f new e l)) db is
+      (λ row f new e l. ap (λ r. at r part.0) (deleted-stays delete args row f new e l)) db is
   partitioned (Select select) params columns fits named args =
       rows_alone (selected select args db) db
       ∙ shape_parts select select.shape params (map (λ column. column.1) columns) fits.shape (home_of catalog select named) fits.distributes args
@@ -310,11 +312,12 @@ module _ (parts : ℕ) (some : 0 < parts) (catalog : Contents) (rules : IsCatalo
       by : (r : Result (List Cells × ℕ) Fault) → changed catalog n fate args (rows_of db n) ≡ r → with r (λ made. Ok (whole_made db n made.1 made.0)) ≡ Ok whole
           → (x : Partial) × (part_of_change catalog n fate args (share parts catalog p db) ≡ Ok (share parts catalog p whole.0, x))
       by (Ok made) same done =
-          let was : whole_made db n made.1 made.0 ≡ whole = let f : Ok (whole_made db n made.1 made.0) ≡ Ok whole = done in cc in
-          (partial.Count made.1,
+          let was : whole_made db n made.1 made.0 ≡ whole = let f : Ok (whole_made db n made.1 made.0) ≡ Ok whole = done in cc in (
+            partial.Count made.1,
             ap (λ (rows : List Cells). with (changed catalog n fate args rows) (λ made. Ok (part_made (share parts catalog p db) n made.1 made.0))) (same_rows parts some catalog db is p n e)
-            ∙ ap (λ r. with r (λ made. Ok (part_made (share parts catalog p db) n made.1 made.0))) same
-            ∙ (λ i. Ok ((all_rows p n e made.0 ∙ ap (λ (w : Database × List Cells). share parts catalog p w.0) was) i, partial.Count made.1)))
+                ∙ ap (λ r. with r (λ made. Ok (part_made (share parts catalog p db) n made.1 made.0))) same
+                ∙ (λ i. Ok ((all_rows p n e made.0 ∙ ap (λ (w : Database × List Cells). share parts catalog p w.0) was) i, partial.Count made.1)),
+          )
       by (Err f) same done = absurd (cc)
 
   insert_replicated : (p : ℕ) (scope : Scope) (insert : InsertPlan) → (table_at catalog insert.table).part ≡ None → (args : Cells) (whole : Database × List Cells) → insert_means parts catalog None insert args db ≡ Ok whole
@@ -323,23 +326,27 @@ module _ (parts : ℕ) (some : 0 < parts) (catalog : Contents) (rules : IsCatalo
     where
       n : ℕ
       n = insert.table
+
       by_rows : (row : Cells) (rs : Result (List Cells) Fault) → inserted catalog insert.table (rows_of db insert.table) row ≡ rs → with rs (λ rows. Ok (whole_made db insert.table 1 rows)) ≡ Ok whole
           → (x : Partial) × (with (inserted catalog insert.table (rows_of (share parts catalog p db) insert.table) row) (λ rows. Ok (part_made (share parts catalog p db) insert.table 1 rows)) ≡ Ok (share parts catalog p whole.0, x))
       by_rows row (Ok rows) same done =
-          let was : whole_made db insert.table 1 rows ≡ whole = let f : Ok (whole_made db insert.table 1 rows) ≡ Ok whole = done in cc in
-          (partial.Count 1,
+          let was : whole_made db insert.table 1 rows ≡ whole = let f : Ok (whole_made db insert.table 1 rows) ≡ Ok whole = done in cc in (
+            partial.Count 1,
             ap (λ (rs : List Cells). with (inserted catalog insert.table rs row) (λ rows. Ok (part_made (share parts catalog p db) insert.table 1 rows))) (same_rows parts some catalog db is p insert.table e)
-            ∙ ap (λ r. with r (λ rows. Ok (part_made (share parts catalog p db) insert.table 1 rows))) same
-            ∙ (λ i. Ok ((all_rows p insert.table e rows ∙ ap (λ (w : Database × List Cells). share parts catalog p w.0) was) i, partial.Count 1)))
+                ∙ ap (λ r. with r (λ rows. Ok (part_made (share parts catalog p db) insert.table 1 rows))) same
+                ∙ (λ i. Ok ((all_rows p insert.table e rows ∙ ap (λ (w : Database × List Cells). share parts catalog p w.0) was) i, partial.Count 1)),
+          )
       by_rows row (Err f) same done = absurd (cc)
+
       by : (r : Result Cells Fault) → with r (λ row. with (inserted catalog insert.table (rows_of db insert.table) row) (λ rows. Ok (whole_made db insert.table 1 rows))) ≡ Ok whole
           → (x : Partial) × (with r (λ row. if lies_in parts p (table_at catalog insert.table) row then with (inserted catalog insert.table (rows_of (share parts catalog p db) insert.table) row) (λ rows. Ok (part_made (share parts catalog p db) insert.table 1 rows)) else elsewhere scope (share parts catalog p db))
-              ≡ Ok (share parts catalog p whole.0, x))
+          ≡ Ok (share parts catalog p whole.0, x))
       by (Ok row) done =
-          let made = by_rows row (inserted catalog insert.table (rows_of db insert.table) row) refl done in
-          (made.0,
+          let made = by_rows row (inserted catalog insert.table (rows_of db insert.table) row) refl done in (
+            made.0,
             ap (λ b. if b then with (inserted catalog insert.table (rows_of (share parts catalog p db) insert.table) row) (λ rows. Ok (part_made (share parts catalog p db) insert.table 1 rows)) else elsewhere scope (share parts catalog p db)) (no_part parts p (table_at catalog insert.table) row e)
-            ∙ made.1)
+                ∙ made.1,
+          )
       by (Err f) done = absurd (cc)
 
   select_share : (p : ℕ) → p < parts → (select : SelectPlan) (args : Cells) (whole : Database × List Cells) (merge : List Partial → Result (List Cells) Fault)
@@ -355,6 +362,7 @@ module _ (parts : ℕ) (some : 0 < parts) (catalog : Contents) (rules : IsCatalo
       selected_ok : (r : Result (List Cells) Fault) → with {B = Database × List Cells} r (λ rows. Ok (db, rows)) ≡ Ok whole → (rows : List Cells) × (r ≡ Ok rows) × (db ≡ whole.0)
       selected_ok (Ok rows) e = (rows, refl, one_database db rows whole e)
       selected_ok (Err f) e = absurd (cc)
+
       collected_some : (r : Result (List Partial) Fault) → {rows : List Cells} → with r merge ≡ Ok rows → (ps : List Partial) × (r ≡ Ok ps)
       collected_some (Ok ps) e = (ps, refl)
       collected_some (Err f) e = absurd (cc)
@@ -371,13 +379,17 @@ module _ (parts : ℕ) (some : 0 < parts) (catalog : Contents) (rules : IsCatalo
           let part = some_of (table_at catalog insert.table).part (sym (or_false (is_some (table_at catalog insert.table).part)) ∙ named) in
           let made = insert_shares parts some catalog rules insert part.0 part.1 AllPartitions (λ d. refl) args db is p within whole done in (partial.Count made.0, made.1)
       action AllPartitions (Update update) fits named many law done =
-          let part = some_of (table_at catalog update.table).part (sym (or_false (is_some (table_at catalog update.table).part)) ∙ named) in
-          (_, change_shares parts some catalog rules update.table part.0 part.1 (updated catalog update) args (λ row. updated-small catalog update row args)
-            (λ row f new e l. updated-stays catalog update part.0 fits.0.key (part_column catalog update.table part.0 rules part.1) args row f new e l) db is p within whole done)
+          let part = some_of (table_at catalog update.table).part (sym (or_false (is_some (table_at catalog update.table).part)) ∙ named) in (
+            _,
+            change_shares parts some catalog rules update.table part.0 part.1 (updated catalog update) args (λ row. updated-small catalog update row args)
+                (λ row f new e l. updated-stays catalog update part.0 fits.0.key (part_column catalog update.table part.0 rules part.1) args row f new e l) db is p within whole done,
+          )
       action AllPartitions (Delete delete) fits named many law done =
-          let part = some_of (table_at catalog delete.table).part (sym (or_false (is_some (table_at catalog delete.table).part)) ∙ named) in
-          (_, change_shares parts some catalog rules delete.table part.0 part.1 (deleted delete) args (λ row. deleted-small delete row args)
-            (λ row f new e l. ap (λ r. at r part.0) (deleted-stays delete args row f new e l)) db is p within whole done)
+          let part = some_of (table_at catalog delete.table).part (sym (or_false (is_some (table_at catalog delete.table).part)) ∙ named) in (
+            _,
+            change_shares parts some catalog rules delete.table part.0 part.1 (deleted delete) args (λ row. deleted-small delete row args)
+                (λ row f new e l. ap (λ r. at r part.0) (deleted-stays delete args row f new e l)) db is p within whole done,
+          )
       action Replicated (Insert insert) fits named many law done =
           insert_replicated p Replicated insert (none_when (table_at catalog insert.table).part (or_parts (is_some (table_at catalog insert.table).part) false (not-true (names_partitioned catalog (Insert insert)) named)).0) args whole done
       action Replicated (Update update) fits named many law done =
@@ -386,11 +398,12 @@ module _ (parts : ℕ) (some : 0 < parts) (catalog : Contents) (rules : IsCatalo
           change_replicated p delete.table (none_when (table_at catalog delete.table).part (or_parts (is_some (table_at catalog delete.table).part) false (not-true (names_partitioned catalog (Delete delete)) named)).0) (deleted delete) args whole done
       action s (Select select) fits named many law done =
           select_share p within select args whole (λ ps. merged_by select.shape (parts_that_count s ps))
-            (sym (rows_alone (selected select args db) db) ∙ law ∙ (λ i. with (collected (map (λ p. rows_alone (part_by_shape select select.shape args (share parts catalog p db)) (share parts catalog p db) i) (all_parts parts))) (λ ps. merged_by select.shape (parts_that_count s ps))))
-            done
+          (sym (rows_alone (selected select args db) db) ∙ law ∙ (λ i. with (collected (map (λ p. rows_alone (part_by_shape select select.shape args (share parts catalog p db)) (share parts catalog p db) i) (all_parts parts))) (λ ps. merged_by select.shape (parts_that_count s ps))))
+          done
+
       by : (s : Scope) → statement.scope ≡ s → is_scope s (names_partitioned catalog statement.action) ≡ true → (x : Partial) × (part_means parts catalog p statement args (share parts catalog p db) ≡ Ok (share parts catalog p whole.0, x))
       by s e named =
           let made = action s statement.action prepared.action named (λ one. many (e ∙ one))
-            (in_parts statement prepared many args ∙ (λ i. with (collected (map (λ p. with (part_of_action parts catalog p (e i) statement.action args (share parts catalog p db)) (λ r. Ok r.1)) (all_parts parts))) (λ ps. merged_action statement.action (parts_that_count (e i) ps))))
-            done in
+          (in_parts statement prepared many args ∙ (λ i. with (collected (map (λ p. with (part_of_action parts catalog p (e i) statement.action args (share parts catalog p db)) (λ r. Ok r.1)) (all_parts parts))) (λ ps. merged_action statement.action (parts_that_count (e i) ps))))
+          done in
           (made.0, ap (λ s. part_of_action parts catalog p s statement.action args (share parts catalog p db)) e ∙ made.1)

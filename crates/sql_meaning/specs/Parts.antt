@@ -48,9 +48,9 @@ abbrev pub part_of_insert : ℕ → Contents → ℕ → Scope → InsertPlan �
 part_of_insert parts catalog part scope insert args db =
     with (inserted_row catalog insert args) (λ row.
     if lies_in parts part (table_at catalog insert.table) row
-        then with (inserted catalog insert.table (rows_of db insert.table) row) (λ rows.
-            Ok (set_rows db insert.table rows, partial.Count 1))
-        else elsewhere scope db)
+    then with (inserted catalog insert.table (rows_of db insert.table) row) (λ rows.
+    Ok (set_rows db insert.table rows, partial.Count 1))
+    else elsewhere scope db)
 
 abbrev pub part_of_change : Contents → ℕ → Reads Fate → Cells → Database → Result (Database × Partial) Fault
 part_of_change catalog number fate args db =
@@ -175,4 +175,4 @@ merged statement parts = merged_action statement.action (parts_that_count statem
 abbrev pub given_by_parts : ℕ → Contents → Prepared → Cells → (ℕ → Database) → Result (List Cells) Fault
 given_by_parts parts catalog statement args own =
     with (collected (map (λ part. with (part_means parts catalog part statement args (own part)) (λ made. Ok made.1)) (all_parts parts)))
-        (merged statement)
+    (merged statement)

@@ -75,8 +75,8 @@ stepped known go = if nat_lt known.steps most_steps then go (record known { step
 abbrev pub asked : Known → ℕ → Cells → (Known → Result (List Cells) Fault → Talk) → Talk
 asked known statement args go =
     if nat_lt known.statements most_statements
-        then Asks statement args (go (record known { statements = known.statements + 1 }))
-        else Aborts cause.Statements
+    then Asks statement args (go (record known { statements = known.statements + 1 }))
+    else Aborts cause.Statements
 
 -- with a value, or aborted with its fault
 abbrev pub or_abort : {A : Type 0} → Result A Fault → (A → Talk) → Talk

@@ -32,4 +32,4 @@ in_rounds parts catalog program (Returns rows) own = (own, reply.Ok (record { ro
 in_rounds parts catalog program (Aborts cause) own = (own, reply.Abort cause)
 in_rounds parts catalog program (Asks statement args go) own =
     in_rounds parts catalog program (go (round_answer parts catalog (slice_get program.statements statement) args own))
-        (round_shares parts catalog (slice_get program.statements statement) args own)
+    (round_shares parts catalog (slice_get program.statements statement) args own)

@@ -20,9 +20,12 @@ ok rows = reply.Ok (record { rows = rows })
 
 abbrev pub db1 : Database
 db1 = (ints (pos 1 ∷ pos 9223372036854775805 ∷ []) ∷ ints (pos 2 ∷ pos 1 ∷ []) ∷ []) ∷ []
+
 abbrev pub db2 : Database
 db2 = (ints (pos 1 ∷ pos 9223372036854775805 ∷ []) ∷ ints (pos 2 ∷ pos 1 ∷ []) ∷ ints (pos 3 ∷ pos 1 ∷ []) ∷ []) ∷ []
+
 abbrev pub db3 : Database
 db3 = (ints (pos 1 ∷ pos 9223372036854775805 ∷ []) ∷ ints (pos 2 ∷ pos 1 ∷ []) ∷ ints (pos 3 ∷ pos 1 ∷ []) ∷ ints (pos 4 ∷ pos 1 ∷ []) ∷ []) ∷ []
+
 abbrev pub db4 : Database
 db4 = (ints (pos 1 ∷ pos 9223372036854775800 ∷ []) ∷ ints (pos 2 ∷ pos 6 ∷ []) ∷ ints (pos 3 ∷ pos 1 ∷ []) ∷ ints (pos 4 ∷ pos 1 ∷ []) ∷ []) ∷ []

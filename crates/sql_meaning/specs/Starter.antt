@@ -61,31 +61,31 @@ put_row = of_integers 2 modified_tuples OnePartition (Insert (record { table = 0
 abbrev pub balance_of : Scope → Prepared
 balance_of scope =
     of_integers 1 ((codes "bal", class.Int) ∷ []) scope (Select (record {
-        left = 0;
-        right = None;
-        filter = Compare compare.Equal (Col 0) (Param 0);
-        shape = shape.Rows (Col 1 ∷ []) (ascending 0 ∷ []);
-        limit = None;
+      left = 0;
+      right = None;
+      filter = Compare compare.Equal (Col 0) (Param 0);
+      shape = shape.Rows (Col 1 ∷ []) (ascending 0 ∷ []);
+      limit = None;
     }))
 
 -- UPDATE acct SET bal = .. WHERE id = ?, with two arguments
 abbrev pub update_balance : Scope → Scalar → Prepared
 update_balance scope balance =
     of_integers 2 modified_tuples scope (Update (record {
-        table = 0;
-        values = Col 0 ∷ balance ∷ [];
-        filter = Compare compare.Equal (Col 0) (Param 1);
+      table = 0;
+      values = Col 0 ∷ balance ∷ [];
+      filter = Compare compare.Equal (Col 0) (Param 1);
     }))
 
 -- SELECT SUM(bal) FROM acct
 abbrev pub total_balance : Prepared
 total_balance =
     of_integers 0 ((codes "C1", class.Int) ∷ []) AllPartitions (Select (record {
-        left = 0;
-        right = None;
-        filter = And [];
-        shape = shape.Total (Sum (Col 1) ∷ []);
-        limit = None;
+      left = 0;
+      right = None;
+      filter = And [];
+      shape = shape.Total (Sum (Col 1) ∷ []);
+      limit = None;
     }))
 
 -- ---- procedures
@@ -128,13 +128,13 @@ add =
       rows = 0;
       statements = balance_of OnePartition ∷ update_balance OnePartition (Param 0) ∷ [];
       steps =
-        Sql 0 (Variable 0 ∷ []) (Some 0)
-        ∷ If (Rows 0 ∷ []) (Compare compare.Equal (Param 0) (Literal (Int (pos 0)))) (Abort (codes "no account") ∷ []) []
-        ∷ Let 2 (First 0 0 ∷ Variable 1 ∷ []) (Chain (Param 0) ((Add, Param 1) ∷ []))
-        ∷ If (Variable 2 ∷ []) (Compare compare.Less (Param 0) (Literal (Int (pos 0)))) (Abort (codes "below zero") ∷ []) []
-        ∷ Sql 1 (Variable 2 ∷ Variable 0 ∷ []) None
-        ∷ Return (returned.Values (Variable 2 ∷ []) (Param 0 ∷ []))
-        ∷ [];
+          Sql 0 (Variable 0 ∷ []) (Some 0)
+          ∷ If (Rows 0 ∷ []) (Compare compare.Equal (Param 0) (Literal (Int (pos 0)))) (Abort (codes "no account") ∷ []) []
+          ∷ Let 2 (First 0 0 ∷ Variable 1 ∷ []) (Chain (Param 0) ((Add, Param 1) ∷ []))
+          ∷ If (Variable 2 ∷ []) (Compare compare.Less (Param 0) (Literal (Int (pos 0)))) (Abort (codes "below zero") ∷ []) []
+          ∷ Sql 1 (Variable 2 ∷ Variable 0 ∷ []) None
+          ∷ Return (returned.Values (Variable 2 ∷ []) (Param 0 ∷ []))
+          ∷ [];
     }
 
 -- (src BIGINT, dst BIGINT, n BIGINT)
@@ -151,25 +151,25 @@ move =
       results = integers 1 ∷ integers 1 ∷ [];
       rows = 0;
       statements =
-        balance_of AllPartitions
-        ∷ balance_of AllPartitions
-        ∷ update_balance AllPartitions (Chain (Col 1) ((Subtract, Param 0) ∷ []))
-        ∷ update_balance AllPartitions (Chain (Col 1) ((Add, Param 0) ∷ []))
-        ∷ [];
+          balance_of AllPartitions
+          ∷ balance_of AllPartitions
+          ∷ update_balance AllPartitions (Chain (Col 1) ((Subtract, Param 0) ∷ []))
+          ∷ update_balance AllPartitions (Chain (Col 1) ((Add, Param 0) ∷ []))
+          ∷ [];
       steps =
-        Sql 0 (Variable 0 ∷ []) (Some 0)
-        ∷ Sql 1 (Variable 1 ∷ []) (Some 1)
-        ∷ If (Rows 0 ∷ Rows 1 ∷ First 0 0 ∷ Variable 2 ∷ [])
-            (Or (
-              Compare compare.Equal (Param 0) (Literal (Int (pos 0)))
-              ∷ Compare compare.Equal (Param 1) (Literal (Int (pos 0)))
-              ∷ Compare compare.Less (Param 2) (Param 3)
-              ∷ []))
-            (Abort (codes "cannot move") ∷ []) []
-        ∷ Sql 2 (Variable 2 ∷ Variable 0 ∷ []) None
-        ∷ Sql 3 (Variable 2 ∷ Variable 1 ∷ []) None
-        ∷ Return (returned.Values (First 0 0 ∷ Variable 2 ∷ []) (Chain (Param 0) ((Subtract, Param 1) ∷ []) ∷ []))
-        ∷ [];
+          Sql 0 (Variable 0 ∷ []) (Some 0)
+          ∷ Sql 1 (Variable 1 ∷ []) (Some 1)
+          ∷ If (Rows 0 ∷ Rows 1 ∷ First 0 0 ∷ Variable 2 ∷ [])
+          (Or (
+          Compare compare.Equal (Param 0) (Literal (Int (pos 0)))
+          ∷ Compare compare.Equal (Param 1) (Literal (Int (pos 0)))
+          ∷ Compare compare.Less (Param 2) (Param 3)
+          ∷ []))
+          (Abort (codes "cannot move") ∷ []) []
+          ∷ Sql 2 (Variable 2 ∷ Variable 0 ∷ []) None
+          ∷ Sql 3 (Variable 2 ∷ Variable 1 ∷ []) None
+          ∷ Return (returned.Values (First 0 0 ∷ Variable 2 ∷ []) (Chain (Param 0) ((Subtract, Param 1) ∷ []) ∷ []))
+          ∷ [];
     }
 
 -- Put, Get, Add, Move, Total
@@ -178,11 +178,11 @@ plan parts =
     record {
       catalog = catalog;
       procs =
-        (on_first (codes "Put") 2, plain 2 put_row)
-        ∷ (on_first (codes "Get") 1, plain 1 (balance_of OnePartition))
-        ∷ (on_first (codes "Add") 2, add)
-        ∷ (record { name = codes "Move"; params = bigints 3; part = None }, move)
-        ∷ (record { name = codes "Total"; params = []; part = None }, plain 0 total_balance)
-        ∷ [];
+          (on_first (codes "Put") 2, plain 2 put_row)
+          ∷ (on_first (codes "Get") 1, plain 1 (balance_of OnePartition))
+          ∷ (on_first (codes "Add") 2, add)
+          ∷ (record { name = codes "Move"; params = bigints 3; part = None }, move)
+          ∷ (record { name = codes "Total"; params = []; part = None }, plain 0 total_balance)
+          ∷ [];
       parts = parts;
     }

@@ -196,9 +196,10 @@ module _ (parts : ℕ) (some : 0 < parts) (catalog : Contents) (rules : IsCatalo
 
   everywhere : (Q : Cells → Type 0) (xs : List Cells) → AllByRecursion (λ row. list_any (λ p. in_part parts c p row) (all_parts parts) ≡ false → Q row) xs
   everywhere Q [] = tt
-  everywhere Q (x ∷ xs) =
-      ((λ none. absurd (both_ways (list_any (λ p. in_part parts c p x) (all_parts parts)) none (range-has 0 parts (home parts c x) (omega arith) (let b = part_of_value-within parts (at x c) some in omega arith)))),
-        everywhere Q xs)
+  everywhere Q (x ∷ xs) = (
+    (λ none. absurd (both_ways (list_any (λ p. in_part parts c p x) (all_parts parts)) none (range-has 0 parts (home parts c x) (omega arith) (let b = part_of_value-within parts (at x c) some in omega arith)))),
+    everywhere Q xs,
+  )
 
   one_part : (p q : ℕ) (row : Cells) → in_part parts c p row ≡ true → in_part parts c q row ≡ true → q ≡ p
   one_part p q row f g = sym (eqb-true (home parts c row) q g) ∙ eqb-true (home parts c row) p f
@@ -210,14 +211,14 @@ module _ (parts : ℕ) (some : 0 < parts) (catalog : Contents) (rules : IsCatalo
   faults_share =
       total_parts least None least-assoc least-comm least-none (λ row. fault_in (fate row args)) (in_part parts c) one_part (all_parts parts) (range-distinct 0 parts) rows
       ∙ total_filter least None least-assoc least-comm least-none (λ row. fault_in (fate row args)) (λ row. list_any (λ p. in_part parts c p row) (all_parts parts)) rows
-          (everywhere (λ row. fault_in (fate row args) ≡ None) rows)
+      (everywhere (λ row. fault_in (fate row args) ≡ None) rows)
 
   changes_share : sum_all (λ p. changes fate args (part_rows p)) (all_parts parts) ≡ changes fate args rows
   changes_share =
       total-same ◌+◌ 0 (λ p. changes fate args (part_rows p)) (λ p. sum_all (λ row. change_in (fate row args)) (part_rows p)) (λ p. changes-total fate args (part_rows p)) (all_parts parts)
       ∙ total_parts ◌+◌ 0 add_assoc add_comm add-zero (λ row. change_in (fate row args)) (in_part parts c) one_part (all_parts parts) (range-distinct 0 parts) rows
       ∙ total_filter ◌+◌ 0 add_assoc add_comm add-zero (λ row. change_in (fate row args)) (λ row. list_any (λ p. in_part parts c p row) (all_parts parts)) rows
-          (everywhere (λ row. change_in (fate row args) ≡ 0) rows)
+      (everywhere (λ row. change_in (fate row args) ≡ 0) rows)
       ∙ sym (changes-total fate args rows)
 
   abbrev part_duplicate : ℕ → Option Fault
@@ -227,7 +228,7 @@ module _ (parts : ℕ) (some : 0 < parts) (catalog : Contents) (rules : IsCatalo
   duplicates_share =
       duplicates (λ p. has_any_twins catalog n (rows_left fate args (part_rows p))) (all_parts parts)
       ∙ ap (λ b. if b then Some Duplicate else None)
-          ((λ i. list_any (λ p. has_any_twins catalog n (left_share p i)) (all_parts parts)) ∙ sym (twins_of_parts parts some catalog rules n c e (rows_left fate args rows)))
+      ((λ i. list_any (λ p. has_any_twins catalog n (left_share p i)) (all_parts parts)) ∙ sym (twins_of_parts parts some catalog rules n c e (rows_left fate args rows)))
 
   -- the faults of all partitions are those of the whole
   all_faults : all_least (λ p. least (part_faults p) (part_duplicate p)) (all_parts parts) ≡ least (fate_faults fate args rows) (duplicate catalog n (rows_left fate args rows))
@@ -269,16 +270,16 @@ module _ (parts : ℕ) (some : 0 < parts) (catalog : Contents) (rules : IsCatalo
       ∙ (λ i. unless (sym all_faults i) (counted (sym (counts (all_parts parts) ∙ changes_share) i)))
       ∙ sym (with_unless (all_least (λ p. least (part_faults p) (part_duplicate p)) (all_parts parts)) (map (λ p. partial.Count (changes fate args (part_rows p))) (all_parts parts)) (λ ps. counted (sum_by count_in ps)))
       ∙ ap (λ r. with r (λ ps. Ok (counted (sum_by count_in ps)))) (sym ((λ i. collected (map (λ p. answer_is p i) (all_parts parts)))
-          ∙ collected_unless (λ p. least (part_faults p) (part_duplicate p)) (λ p. partial.Count (changes fate args (part_rows p))) (all_parts parts)))
+      ∙ collected_unless (λ p. least (part_faults p) (part_duplicate p)) (λ p. partial.Count (changes fate args (part_rows p))) (all_parts parts)))
 
   pub change_shares : (p : ℕ) → p < parts → (whole : Database × List Cells) → change_means catalog n fate args db ≡ Ok whole
       → part_of_change catalog n fate args (share parts catalog p db) ≡ Ok (share parts catalog p whole.0, partial.Count (changes fate args (part_rows p)))
   change_shares p within whole done =
       let made = ok_unless (least (fate_faults fate args rows) (duplicate catalog n (rows_left fate args rows))) (set_rows db n (rows_left fate args rows), counted (changes fate args rows)) whole (sym whole_is ∙ done) in
       let none : least (part_faults p) (part_duplicate p) ≡ None =
-        none_among (λ p. least (part_faults p) (part_duplicate p)) (all_parts parts) p (all_faults ∙ made.0) (range-has 0 parts p (omega arith) (omega arith)) in
+      none_among (λ p. least (part_faults p) (part_duplicate p)) (all_parts parts) p (all_faults ∙ made.0) (range-has 0 parts p (omega arith) (omega arith)) in
       let left : rows_left fate args (part_rows p) ≡ filter (lies_in parts p (table_at catalog n)) (rows_left fate args rows) =
-        left_share p ∙ sym (filter-same (lies_in parts p (table_at catalog n)) (in_part parts c p) (lies_is p) (rows_left fate args rows)) in
+      left_share p ∙ sym (filter-same (lies_in parts p (table_at catalog n)) (in_part parts c p) (lies_is p) (rows_left fate args rows)) in
       part_is p
       ∙ (λ i. unless (none i) (set_rows (share parts catalog p db) n (left i), partial.Count (changes fate args (part_rows p))))
       ∙ (λ i. Ok ((sym (share-set_rows parts catalog p db n (rows_left fate args rows)) ∙ ap (λ (w : Database × List Cells). share parts catalog p w.0) made.1) i, partial.Count (changes fate args (part_rows p))))

@@ -92,8 +92,8 @@ module _ (parts : ℕ) (some : 0 < parts) (catalog : Contents) (rules : IsCatalo
   all_duplicates row =
       duplicates (λ p. has_any_twins catalog n (put_part row p)) (all_parts parts)
       ∙ ap (λ b. if b then Some Duplicate else None)
-          (any_same (λ p. has_any_twins catalog n (put_part row p)) (λ p. has_any_twins catalog n (filter (in_part parts c p) (put_whole row))) (λ p. ap (has_any_twins catalog n) (sym (put_share row p))) (all_parts parts)
-            ∙ sym (twins_of_parts parts some catalog rules n c e (put_whole row)))
+      (any_same (λ p. has_any_twins catalog n (put_part row p)) (λ p. has_any_twins catalog n (filter (in_part parts c p) (put_whole row))) (λ p. ap (has_any_twins catalog n) (sym (put_share row p))) (all_parts parts)
+      ∙ sym (twins_of_parts parts some catalog rules n c e (put_whole row)))
 
   abbrev count : Cells → ℕ → ℕ
   count row p = cond (in_part parts c p row) 1 0
@@ -174,7 +174,7 @@ module _ (parts : ℕ) (some : 0 < parts) (catalog : Contents) (rules : IsCatalo
       ∙ (λ i. unless (sym (all_duplicates row) i) (counted (sym (counts row (all_parts parts) ∙ one_row row) i)))
       ∙ sym (with_unless (all_least (part_duplicate row) (all_parts parts)) (map (λ p. partial.Count (count row p)) (all_parts parts)) (λ ps. counted (sum_by count_in ps)))
       ∙ ap (λ r. with r (λ ps. Ok (counted (sum_by count_in ps)))) (sym ((λ i. collected (map (λ p. answer_is p row i) (all_parts parts)))
-          ∙ collected_unless (part_duplicate row) (λ p. partial.Count (count row p)) (all_parts parts)))
+      ∙ collected_unless (part_duplicate row) (λ p. partial.Count (count row p)) (all_parts parts)))
 
   pub insert_answers : with (insert_means parts catalog None insert args db) (λ w. Ok w.1)
       ≡ with (collected (map (λ p. with (part_of_insert parts catalog p scope insert args (share parts catalog p db)) (λ w. Ok w.1)) (all_parts parts))) (λ ps. Ok (counted (sum_by count_in ps)))
@@ -187,11 +187,12 @@ module _ (parts : ℕ) (some : 0 < parts) (catalog : Contents) (rules : IsCatalo
       let made = ok_unless (duplicate catalog n (put_whole row)) (set_rows db n (put_whole row), counted 1) whole (sym (whole_is row) ∙ done) in
       let none : part_duplicate row p ≡ None = none_among (part_duplicate row) (all_parts parts) p (all_duplicates row ∙ made.0) (range-has 0 parts p (omega arith) (omega arith)) in
       let put : put_part row p ≡ filter (lies_in parts p (table_at catalog n)) (put_whole row) =
-        sym (put_share row p) ∙ sym (filter-same (lies_in parts p (table_at catalog n)) (in_part parts c p) (lies_is p) (put_whole row)) in
-      (count row p,
+      sym (put_share row p) ∙ sym (filter-same (lies_in parts p (table_at catalog n)) (in_part parts c p) (lies_is p) (put_whole row)) in (
+        count row p,
         part_is p row
-        ∙ (λ i. unless (none i) (set_rows (share parts catalog p db) n (put i), partial.Count (count row p)))
-        ∙ (λ i. Ok ((sym (share-set_rows parts catalog p db n (put_whole row)) ∙ ap (λ (w : Database × List Cells). share parts catalog p w.0) made.1) i, partial.Count (count row p))))
+            ∙ (λ i. unless (none i) (set_rows (share parts catalog p db) n (put i), partial.Count (count row p)))
+            ∙ (λ i. Ok ((sym (share-set_rows parts catalog p db n (put_whole row)) ∙ ap (λ (w : Database × List Cells). share parts catalog p w.0) made.1) i, partial.Count (count row p))),
+      )
 
   pub insert_shares : (p : ℕ) → p < parts → (whole : Database × List Cells) → insert_means parts catalog None insert args db ≡ Ok whole
       → (count : ℕ) × (part_of_insert parts catalog p scope insert args (share parts catalog p db) ≡ Ok (share parts catalog p whole.0, partial.Count count))

@@ -67,7 +67,7 @@ cells_small table a [] values h = refl
 cells_small table a (column ∷ columns) [] h = refl
 cells_small table a (column ∷ columns) (x ∷ values) h =
     small_least (fault_in (with x (taken table a column))) (least_fault (map (cell table) (zip (enumerate_from (a + 1) columns) values)))
-        (with_small x (taken table a column) h.0 (taken_small table a column)) (cells_small table (a + 1) columns values h.1)
+    (with_small x (taken table a column) h.0 (taken_small table a column)) (cells_small table (a + 1) columns values h.1)
 
 pub values_small : (es : List Scalar) (row args : Cells) → AllByRecursion (λ r. small (fault_in r) ≡ true) (values_of es row args)
 values_small [] row args = tt
@@ -81,9 +81,9 @@ new_row-small table es row args =
 pub updated-small : (catalog : Contents) (update : UpdatePlan) (row args : Cells) → IsSmall (updated catalog update row args)
 updated-small catalog update row args =
     with_small (holds update.filter row args) (λ m. if m then with (new_row (table_at catalog update.table) (values_of update.values row args)) (λ new. Ok (Becomes new)) else Ok (Stays row))
-        (holds_small update.filter row args)
-        (λ m. if_small m (with (new_row (table_at catalog update.table) (values_of update.values row args)) (λ new. Ok (Becomes new))) (Ok (Stays row))
-          (with_small (new_row (table_at catalog update.table) (values_of update.values row args)) (λ new. Ok (Becomes new)) (new_row-small (table_at catalog update.table) update.values row args) (λ new. refl)) refl)
+    (holds_small update.filter row args)
+    (λ m. if_small m (with (new_row (table_at catalog update.table) (values_of update.values row args)) (λ new. Ok (Becomes new))) (Ok (Stays row))
+    (with_small (new_row (table_at catalog update.table) (values_of update.values row args)) (λ new. Ok (Becomes new)) (new_row-small (table_at catalog update.table) update.values row args) (λ new. refl)) refl)
 
 pub deleted-small : (delete : DeletePlan) (row args : Cells) → IsSmall (deleted delete row args)
 deleted-small delete row args = with_small (holds delete.filter row args) (λ m. Ok (if m then Goes else Stays row)) (holds_small delete.filter row args) (λ m. refl)
@@ -168,12 +168,14 @@ updated-stays catalog update c kept column args row f new e l = by (holds update
   where
     made : Result Cells Fault
     made = new_row (table_at catalog update.table) (values_of update.values row args)
+
     becomes : (r : Result Cells Fault) → new_row (table_at catalog update.table) (values_of update.values row args) ≡ r → with r (λ new. Ok (Becomes new)) ≡ Ok f → at new c ≡ at row c
     becomes (Ok y) is e =
         let is_new : y ≡ new = let g : Ok (Becomes y) ≡ Ok f = e in let h : f ≡ Becomes y = cc in let i : Some y ≡ Some new = sym (ap left_of h) ∙ l in cc in
         new_row-value (table_at catalog update.table) (values_of update.values row args) new (is ∙ ap (λ r. Ok r) is_new) c column.within (at row c)
-          (value_at_column update.values c c row args (kept_among update.values (table_at catalog update.table).key c kept column.in_key))
+        (value_at_column update.values c c row args (kept_among update.values (table_at catalog update.table).key c kept column.in_key))
     becomes (Err g) is e = absurd (cc)
+
     by : (r : Result Bool Fault) → with r (λ m. if m then with (new_row (table_at catalog update.table) (values_of update.values row args)) (λ new. Ok (Becomes new)) else Ok (Stays row)) ≡ Ok f → at new c ≡ at row c
     by (Ok true) e = becomes (new_row (table_at catalog update.table) (values_of update.values row args)) refl e
     by (Ok false) e = let g : Ok (Stays row) ≡ Ok f = e in let h : f ≡ Stays row = cc in let i : Some row ≡ Some new = sym (ap left_of h) ∙ l in let j : row ≡ new = cc in ap (λ r. at r c) (sym j)

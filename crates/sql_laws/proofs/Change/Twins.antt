@@ -131,6 +131,7 @@ index_key catalog n c index e rule is =
     part_is : (o : Option Table) → (unwrap_or o no_table).part ≡ Some c → part_column_of o ≡ Some c
     part_is None e = e
     part_is (Some t) e = e
+
     second : (a b : Bool) → a ≡ true → (a && b) ≡ false → b ≡ false
     second a b e f = (subst (λ (x : Bool). (x && b) ≡ false) e f)
 
@@ -148,7 +149,7 @@ index_keys catalog n c (index ∷ indexes) e rules =
 pub unique_keys-have : (catalog : Contents) (rules : IsCatalog catalog) (n c : ℕ) → (table_at catalog n).part ≡ Some c → list_all (λ key. list_any (λ k. k == c) key) (unique_keys catalog n) ≡ true
 unique_keys-have catalog rules n c e =
     and_from (list_any (λ k. k == c) (table_at catalog n).key) (list_all (λ key. list_any (λ k. k == c) key) (map (λ (index : IndexDef). index.columns) (filter (λ index. index.unique && (index.table == n)) catalog.indexes)))
-        (part_column catalog n c rules e).in_key (index_keys catalog n c catalog.indexes e rules.indexes)
+    (part_column catalog n c rules e).in_key (index_keys catalog n c catalog.indexes e rules.indexes)
 
 -- ---- Duplicate
 
@@ -205,17 +206,17 @@ filter-with_row table test new (row ∷ rows) up =
         | inl passes ↦ elim (cases_Bool (test new)) [
           | inl in_it ↦ rw (before, passes, in_it, before) (ap (λ (rs : List Cells). row ∷ rs) (later ∙ rw in_it))
           | inr out ↦ rw (before, passes, out) (ap (λ (rs : List Cells). row ∷ rs) (later ∙ rw out))
-          ]
-        | inr fails ↦ rw (before, fails) later
         ]
+        | inr fails ↦ rw (before, fails) later
+      ]
       | inr behind ↦ elim (cases_Bool (test row)) [
         | inl passes ↦ elim (cases_Bool (test new)) [
           | inl in_it ↦ rw (behind, in_it, passes, behind)
           | inr out ↦ rw (behind, out, passes)
-          ]
+        ]
         | inr fails ↦ elim (cases_Bool (test new)) [
           | inl in_it ↦ rw (behind, in_it, fails) (sym (none_before table row new rows behind two.0 test))
           | inr out ↦ rw (behind, out, fails)
-          ]
         ]
+      ]
     ]

@@ -95,12 +95,12 @@ pub database-set : (catalog : Contents) (db : Database) (n : ℕ) (rows : List C
 database-set catalog db n rows is are =
     elim (cases_lt n (length db)) [
       | inl below ↦ record {
-          tables = length-set db n rows ∙ is.tables;
-          each = λ m. elim (cases_eq m n) [
-            | inl same ↦ subst (λ k. AreRows catalog k (rows_of (set_rows db n rows) k)) (sym same) (subst (AreRows catalog n) (sym (rows_of-set db n rows below)) are)
-            | inr other ↦ subst (AreRows catalog m) (sym (rows_of-set_other db n m rows other)) (is.each m)
-          ];
-        }
+        tables = length-set db n rows ∙ is.tables;
+        each = λ m. elim (cases_eq m n) [
+          | inl same ↦ subst (λ k. AreRows catalog k (rows_of (set_rows db n rows) k)) (sym same) (subst (AreRows catalog n) (sym (rows_of-set db n rows below)) are)
+          | inr other ↦ subst (AreRows catalog m) (sym (rows_of-set_other db n m rows other)) (is.each m)
+        ];
+      }
       | inr past ↦ subst (IsDatabase catalog) (sym (rows_of-set_past db n rows past)) is
     ]
 

@@ -50,8 +50,8 @@ apart_more table x (y ∷ more) rows before apart =
     let first = and_parts (comes_before table x y) (list_all (comes_before table x) more) before in
     let two = and_parts (not (list_any (λ row. agree table.key row y) rows)) (are_apart table more rows) apart in
     and_from (not (list_any (λ row. agree table.key row y) (with_row table x rows))) (are_apart table more (with_row table x rows))
-        (ap not (any-with_row (λ row. agree table.key row y) table x rows (not_alike table x y first.0) (not-true (list_any (λ row. agree table.key row y) rows) two.0)))
-        (apart_more table x more rows first.1 two.1)
+    (ap not (any-with_row (λ row. agree table.key row y) table x rows (not_alike table x y first.0) (not-true (list_any (λ row. agree table.key row y) rows) two.0)))
+    (apart_more table x more rows first.1 two.1)
 
 pub rise-with_rows : (table : Table) (new rows : List Cells) → rise table new ≡ true → rise table rows ≡ true → are_apart table new rows ≡ true → rise table (with_rows table new rows) ≡ true
 rise-with_rows table [] rows up up' apart = up'
@@ -93,7 +93,7 @@ all_rests table x more [] first e = and_from (list_all (comes_before table x) mo
 all_rests table x more (row ∷ rows) first e =
     let two = and_parts (list_all (comes_before table row) (x ∷ more)) (list_all (λ row. list_all (comes_before table row) (x ∷ more)) rows) e in
     and_from (list_all (comes_before table row) more) (list_all (λ row. list_all (comes_before table row) more) (rows ++ (x ∷ [])))
-        (and_parts (comes_before table row x) (list_all (comes_before table row) more) two.0).1 (all_rests table x more rows first two.1)
+    (and_parts (comes_before table row x) (list_all (comes_before table row) more) two.0).1 (all_rests table x more rows first two.1)
 
 rows_last : (table : Table) (new rows : List Cells) → rise table new ≡ true → list_all (λ row. list_all (comes_before table row) new) rows ≡ true → with_rows table new rows ≡ rows ++ new
 rows_last table [] rows up before = sym (append-nil rows)
@@ -119,19 +119,22 @@ apart_others parts part catalog rules n [] old here = refl
 apart_others parts part catalog rules n (x ∷ new) old here =
     let two = and_parts (lies_in parts part (table_at catalog n) x) (list_all (lies_in parts part (table_at catalog n)) new) here in
     and_from (not (list_any (λ row. agree (table_at catalog n).key row x) (others parts part (table_at catalog n) old))) (are_apart (table_at catalog n) new (others parts part (table_at catalog n) old))
-        (ap not (none_agrees old two.0)) (apart_others parts part catalog rules n new old two.1)
+    (ap not (none_agrees old two.0)) (apart_others parts part catalog rules n new old two.1)
   where
     table : Table
     table = table_at catalog n
+
     equal : (r : Ordering) → is_eq r ≡ true → r ≡ Equal
     equal Less e = absurd (cc)
     equal Equal e = refl
     equal Greater e = absurd (cc)
+
     differ : (row : Cells) → lies_in parts part (table_at catalog n) x ≡ true → lies_in parts part (table_at catalog n) row ≡ false → agree (table_at catalog n).key row x ≡ false
     differ row lies other =
         false_from_ne_true (agree (table_at catalog n).key row x) (λ e.
-          both_ways (lies_in parts part (table_at catalog n) row) other
-            (same_lies parts part catalog rules n row x (row_cmp-equal (picked (table_at catalog n).key row) (picked (table_at catalog n).key x) (equal (row_cmp (picked (table_at catalog n).key row) (picked (table_at catalog n).key x)) e)) ∙ lies))
+        both_ways (lies_in parts part (table_at catalog n) row) other
+        (same_lies parts part catalog rules n row x (row_cmp-equal (picked (table_at catalog n).key row) (picked (table_at catalog n).key x) (equal (row_cmp (picked (table_at catalog n).key row) (picked (table_at catalog n).key x)) e)) ∙ lies))
+
     none_agrees : (rows : List Cells) → lies_in parts part (table_at catalog n) x ≡ true → list_any (λ row. agree (table_at catalog n).key row x) (filter (λ row. not (lies_in parts part (table_at catalog n) row)) rows) ≡ false
     none_agrees [] lies = refl
     none_agrees (row ∷ rows) lies =
@@ -156,7 +159,7 @@ still_others f g apart (x ∷ xs) =
       | inr fails ↦ elim (cases_Bool (f x)) [
         | inl out ↦ rw (out, fails) (still_others f g apart xs)
         | inr in_it ↦ rw (in_it, fails) (still_others f g apart xs)
-        ]
+      ]
     ]
 
 none_of : {X : Type 0} (f g : X → Bool) → ((x : X) → f x ≡ true → g x ≡ false) → (xs : List X) → list_all f xs ≡ true → filter g xs ≡ []
@@ -194,10 +197,11 @@ module _ (parts part : ℕ) (some : 0 < parts) (catalog : Contents) (rules : IsC
     where
       lies_is : (p : ℕ) (row : Cells) → lies_in parts p (table_at catalog n) row ≡ in_part parts c p row
       lies_is p row = ap (λ o. is_part p (option_map (λ column. part_of_value parts (at row column)) o)) e
+
       elsewhere : (p q : ℕ) (row : Cells) → (q ≡ p → ⊥) → lies_in parts p (table_at catalog n) row ≡ true → lies_in parts q (table_at catalog n) row ≡ false
       elsewhere p q row other l =
           false_from_ne_true (lies_in parts q (table_at catalog n) row) (λ m.
-            other (sym (eqb-true (part_of_value parts (at row c)) q (sym (lies_is q row) ∙ m)) ∙ eqb-true (part_of_value parts (at row c)) p (sym (lies_is p row) ∙ l)))
+          other (sym (eqb-true (part_of_value parts (at row c)) q (sym (lies_is q row) ∙ m)) ∙ eqb-true (part_of_value parts (at row c)) p (sym (lies_is p row) ∙ l)))
 
   -- of each other table the new rows are all
   pub put_all_rows : table.part ≡ None → whole ≡ new
@@ -205,6 +209,7 @@ module _ (parts part : ℕ) (some : 0 < parts) (catalog : Contents) (rules : IsC
     where
       all_here : (row : Cells) → lies_in parts part (table_at catalog n) row ≡ true
       all_here row = ap (λ o. is_part part (option_map (λ column. part_of_value parts (at row column)) o)) e
+
       none_left : (rows : List Cells) → filter (λ row. not (lies_in parts part (table_at catalog n) row)) rows ≡ []
       none_left [] = refl
       none_left (row ∷ rows) = rw (all_here row) (none_left rows)
@@ -216,9 +221,10 @@ module _ (parts part : ℕ) (some : 0 < parts) (catalog : Contents) (rules : IsC
       each c e q =
           ap (has_any_twins catalog n) (sym (filter-same (lies_in parts q (table_at catalog n)) (in_part parts c q) (λ row. ap (λ o. is_part q (option_map (λ column. part_of_value parts (at row column)) o)) e) whole))
           ∙ elim (cases_eq q part) [
-              | inl same ↦ ap (λ k. has_any_twins catalog n (filter (lies_in parts k (table_at catalog n)) whole)) same ∙ ap (has_any_twins catalog n) put_here ∙ are_new.unique
-              | inr other ↦ ap (has_any_twins catalog n) (put_there c q e other) ∙ (rows-filter catalog n (lies_in parts q (table_at catalog n)) old are_old).unique
-            ]
+            | inl same ↦ ap (λ k. has_any_twins catalog n (filter (lies_in parts k (table_at catalog n)) whole)) same ∙ ap (has_any_twins catalog n) put_here ∙ are_new.unique
+            | inr other ↦ ap (has_any_twins catalog n) (put_there c q e other) ∙ (rows-filter catalog n (lies_in parts q (table_at catalog n)) old are_old).unique
+          ]
+
       by : (o : Option ℕ) → table.part ≡ o → has_any_twins catalog n whole ≡ false
       by None e = ap (has_any_twins catalog n) (put_all_rows e) ∙ are_new.unique
       by (Some c) e =
@@ -290,9 +296,10 @@ module _ (parts part : ℕ) (some : 0 < parts) (catalog : Contents) (rules : IsC
     where
       all_in : (p n : ℕ) → (table_at catalog n).part ≡ None → (rows : List Cells) → filter (lies_in parts p (table_at catalog n)) rows ≡ rows
       all_in p n e rows = filter_all (lies_in parts p (table_at catalog n)) (λ row. ap (λ o. is_part p (option_map (λ column. part_of_value parts (at row column)) o)) e) rows
+
       by : (n : ℕ) (o : Option ℕ) → (table_at catalog n).part ≡ o
           → filter (lies_in parts q (table_at catalog n)) (put_back_rows parts part (table_at catalog n) (rows_of db n) (rows_of new n)) ≡ filter (lies_in parts q (table_at catalog n)) (rows_of db n)
       by n None e =
           ap (filter (lies_in parts q (table_at catalog n))) (put_all_rows parts part some catalog rules n (rows_of db n) (rows_of new n) (is.each n) (own.database.each n) (own.here n) e
-            ∙ own.others n e ∙ rows_of-share parts catalog part db n is.tables ∙ all_in part n e (rows_of db n))
+          ∙ own.others n e ∙ rows_of-share parts catalog part db n is.tables ∙ all_in part n e (rows_of db n))
       by n (Some c) e = put_there parts part some catalog rules n (rows_of db n) (rows_of new n) (is.each n) (own.database.each n) (own.here n) c q e other

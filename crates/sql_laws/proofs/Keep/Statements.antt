@@ -57,9 +57,10 @@ cells_are table a (column ∷ columns) [] new same e = absurd (omega arith)
 cells_are table a (column ∷ columns) (v ∷ values) [] same e = absurd (ok_none (cell table ((a, column), v)) (map (cell table) (zip (enumerate_from (a + 1) columns) values)) e)
 cells_are table a (column ∷ columns) (v ∷ values) (y ∷ new) same e =
     let first = with_ok v (taken table a column) y (ok_first (cell table ((a, column), v)) (map (cell table) (zip (enumerate_from (a + 1) columns) values)) y new e) in
-    let rest = cells_are table (a + 1) columns values new (omega arith) (ok_rest (cell table ((a, column), v)) (map (cell table) (zip (enumerate_from (a + 1) columns) values)) y new e) in
-    (ap (λ (k : ℕ). suc k) rest.0,
-      and_from (is_ok (taken table a column y)) (list_all (λ c. is_ok (taken table c.0.0 c.0.1 c.1)) (zip (enumerate_from (a + 1) columns) new)) (ok_again table a column first.0 y first.2) rest.1)
+    let rest = cells_are table (a + 1) columns values new (omega arith) (ok_rest (cell table ((a, column), v)) (map (cell table) (zip (enumerate_from (a + 1) columns) values)) y new e) in (
+      ap (λ (k : ℕ). suc k) rest.0,
+      and_from (is_ok (taken table a column y)) (list_all (λ c. is_ok (taken table c.0.0 c.0.1 c.1)) (zip (enumerate_from (a + 1) columns) new)) (ok_again table a column first.0 y first.2) rest.1,
+    )
 
 pub new_row-is : (table : Table) (values : List (Result Value Fault)) (new : Cells) → length values ≡ length table.columns → new_row table values ≡ Ok new → is_row table new ≡ true
 new_row-is table values new same e =
@@ -121,8 +122,8 @@ module _ (table : Table) (fate : Reads Fate) (args : Cells) (keeps : KeepsKeys t
       by None same rest is are all = rest
       by (Some new) same rest is are all =
           and_from (list_all (comes_before table new) (filter_map left rows)) (rise table (filter_map left rows))
-            (all_left (comes_before table row) (comes_before table new) (λ r n ir e l. before_same new row n r (kept row new is same).1 (kept r n ir l).1 e) rows are all)
-            rest
+          (all_left (comes_before table row) (comes_before table new) (λ r n ir e l. before_same new row n r (kept row new is same).1 (kept r n ir l).1 e) rows are all)
+          rest
 
 -- ---- the table after a change
 
@@ -163,14 +164,14 @@ changed_kept parts part catalog rules n fate args keeps rows made e =
     let is_left : rows_left fate args rows ≡ filter_map (λ row. left_in (fate row args)) rows = left_values (λ row. fate row args) rows in
     record {
       are = λ are. subst (AreRows catalog n) same (record {
-          fit = subst (λ (xs : List Cells). list_all (is_row (table_at catalog n)) xs ≡ true) (sym is_left)
+        fit = subst (λ (xs : List Cells). list_all (is_row (table_at catalog n)) xs ≡ true) (sym is_left)
             (all_left (table_at catalog n) fate args keeps (is_row (table_at catalog n)) (is_row (table_at catalog n)) (λ r m ir e l. (kept (table_at catalog n) fate args keeps r m ir l).0) rows are.fit are.fit);
-          ordered = subst (λ (xs : List Cells). rise (table_at catalog n) xs ≡ true) (sym is_left) (rise_left (table_at catalog n) fate args keeps rows are.fit are.ordered);
-          unique = none;
-        });
+        ordered = subst (λ (xs : List Cells). rise (table_at catalog n) xs ≡ true) (sym is_left) (rise_left (table_at catalog n) fate args keeps rows are.fit are.ordered);
+        unique = none;
+      });
       here = λ fit here. subst (λ (xs : List Cells). list_all (lies_in parts part (table_at catalog n)) xs ≡ true) (sym is_left ∙ same)
           (all_left (table_at catalog n) fate args keeps (lies_in parts part (table_at catalog n)) (lies_in parts part (table_at catalog n))
-            (λ r m ir h l. same_lies parts part catalog rules n m r (kept (table_at catalog n) fate args keeps r m ir l).1 ∙ h) rows fit here);
+          (λ r m ir h l. same_lies parts part catalog rules n m r (kept (table_at catalog n) fate args keeps r m ir l).1 ∙ h) rows fit here);
     }
 
 -- ---- UPDATE and DELETE keep keys
@@ -203,11 +204,13 @@ updated-keeps catalog rules params update fits args row f new is e l = by (holds
     becomes : (r : Result Cells Fault) → new_row (table_at catalog update.table) (values_of update.values row args) ≡ r → with r (λ new. Ok (Becomes new)) ≡ Ok f → (is_row (table_at catalog update.table) new ≡ true) × (picked (table_at catalog update.table).key new ≡ picked (table_at catalog update.table).key row)
     becomes (Ok y) made e =
         let is_new : y ≡ new = let g : Ok (Becomes y) ≡ Ok f = e in let h : f ≡ Becomes y = cc in let i : Some y ≡ Some new = sym (ap left_of h) ∙ l in cc in
-        let is_it : new_row (table_at catalog update.table) (values_of update.values row args) ≡ Ok new = made ∙ ap (λ r. Ok r) is_new in
-        (new_row-is (table_at catalog update.table) (values_of update.values row args) new (values_long _ params update.values (table_at catalog update.table) row args fits.values) is_it,
+        let is_it : new_row (table_at catalog update.table) (values_of update.values row args) ≡ Ok new = made ∙ ap (λ r. Ok r) is_new in (
+          new_row-is (table_at catalog update.table) (values_of update.values row args) new (values_long _ params update.values (table_at catalog update.table) row args fits.values) is_it,
           picked_kept (table_at catalog update.table).columns update.values row args new (λ k below x here. new_row-value (table_at catalog update.table) (values_of update.values row args) new is_it k below x here)
-            (table_at catalog update.table).key (key_columns catalog rules update.table) fits.key)
+              (table_at catalog update.table).key (key_columns catalog rules update.table) fits.key,
+        )
     becomes (Err g) made e = absurd (cc)
+
     by : (r : Result Bool Fault) → with r (λ m. if m then with (new_row (table_at catalog update.table) (values_of update.values row args)) (λ new. Ok (Becomes new)) else Ok (Stays row)) ≡ Ok f
         → (is_row (table_at catalog update.table) new ≡ true) × (picked (table_at catalog update.table).key new ≡ picked (table_at catalog update.table).key row)
     by (Ok true) e = becomes (new_row (table_at catalog update.table) (values_of update.values row args)) refl e
@@ -230,13 +233,14 @@ inserted_kept parts part catalog n rows row new e is are =
     let table = table_at catalog n in
     let done = ok_unless (duplicate catalog n (with_row table row rows)) (with_row table row rows) new (sym (without_twins-is catalog n (with_row table row rows)) ∙ e) in
     let none : has_any_twins catalog n (with_row table row rows) ≡ false = no_duplicate catalog n (with_row table row rows) done.0 in
-    let key_none : has_twins table.key (with_row table row rows) ≡ false = (or_parts (has_twins table.key (with_row table row rows)) _ none).0 in
-    (subst (AreRows catalog n) done.1 (record {
+    let key_none : has_twins table.key (with_row table row rows) ≡ false = (or_parts (has_twins table.key (with_row table row rows)) _ none).0 in (
+      subst (AreRows catalog n) done.1 (record {
         fit = all-with_row (is_row table) table row rows is are.fit;
         ordered = rise-with_row table row rows are.ordered (apart-with_row table.key table row rows key_none);
         unique = none;
       }),
-      λ lies here. subst (λ (xs : List Cells). list_all (lies_in parts part table) xs ≡ true) done.1 (all-with_row (lies_in parts part table) table row rows lies here))
+      λ lies here. subst (λ (xs : List Cells). list_all (lies_in parts part table) xs ≡ true) done.1 (all-with_row (lies_in parts part table) table row rows lies here),
+    )
 
 -- ---- what holds of a partition's share while a procedure runs on it
 
@@ -252,13 +256,13 @@ own_set parts part catalog start db n rows own are lies some =
     record {
       database = database-set catalog db n rows own.database are;
       here = λ m. elim (cases_eq m n) [
-          | inl same ↦ subst (λ k. list_all (lies_in parts part (table_at catalog k)) (rows_of (set_rows db n rows) k) ≡ true) (sym same) (at_n (cases_lt n (length db)))
-          | inr other ↦ ap (list_all (lies_in parts part (table_at catalog m))) (rows_of-set_other db n m rows other) ∙ own.here m
-        ];
+        | inl same ↦ subst (λ k. list_all (lies_in parts part (table_at catalog k)) (rows_of (set_rows db n rows) k) ≡ true) (sym same) (at_n (cases_lt n (length db)))
+        | inr other ↦ ap (list_all (lies_in parts part (table_at catalog m))) (rows_of-set_other db n m rows other) ∙ own.here m
+      ];
       others = λ m none. elim (cases_eq m n) [
-          | inl same ↦ absurd (both_ways (is_some (table_at catalog n).part) (ap is_some (subst (λ k. (table_at catalog k).part ≡ None) same none)) some)
-          | inr other ↦ rows_of-set_other db n m rows other ∙ own.others m none
-        ];
+        | inl same ↦ absurd (both_ways (is_some (table_at catalog n).part) (ap is_some (subst (λ k. (table_at catalog k).part ≡ None) same none)) some)
+        | inr other ↦ rows_of-set_other db n m rows other ∙ own.others m none
+      ];
     }
   where
     at_n : (n < length db) ⊎ (length db ≤ n) → list_all (lies_in parts part (table_at catalog n)) (rows_of (set_rows db n rows) n) ≡ true
@@ -297,6 +301,7 @@ insert_made parts catalog here params insert fits args db whole e =
   where
     made : List Cells → Database × List Cells
     made rows = (set_rows db insert.table rows, counted 1)
+
     one_made : (a b : Database × List Cells) → ◌≡◌ {A = Result (Database × List Cells) Fault} (Ok a) (Ok b) → b.0 ≡ a.0
     one_made a b e = let f : a ≡ b = cc in ap (λ (w : Database × List Cells). w.0) (sym f)
 
@@ -309,6 +314,7 @@ change_made catalog n fate args db whole e =
   where
     made : List Cells × ℕ → Database × List Cells
     made m = (set_rows db n m.0, counted m.1)
+
     one_made : (a b : Database × List Cells) → ◌≡◌ {A = Result (Database × List Cells) Fault} (Ok a) (Ok b) → b.0 ≡ a.0
     one_made a b e = let f : a ≡ b = cc in ap (λ (w : Database × List Cells). w.0) (sym f)
 
@@ -322,15 +328,15 @@ module _ (parts : ℕ) (catalog : Contents) (rules : IsCatalog catalog) where
   action_keeps here (Insert insert) params columns fits args db whole e is =
       let made = insert_made parts catalog here params insert fits.0 args db whole e in
       subst (IsDatabase catalog) (sym made.is) (database-set catalog db insert.table made.rows is
-        (inserted_kept parts 0 catalog insert.table (rows_of db insert.table) made.row made.rows made.put made.is_row (is.each insert.table)).0)
+      (inserted_kept parts 0 catalog insert.table (rows_of db insert.table) made.row made.rows made.put made.is_row (is.each insert.table)).0)
   action_keeps here (Update update) params columns fits args db whole e is =
       let made = change_made catalog update.table (updated catalog update) args db whole e in
       subst (IsDatabase catalog) (sym made.2) (database-set catalog db update.table made.0.0 is
-        ((changed_kept parts 0 catalog rules update.table (updated catalog update) args (updated-keeps catalog rules params update fits.0 args) (rows_of db update.table) made.0 made.1).are (is.each update.table)))
+      ((changed_kept parts 0 catalog rules update.table (updated catalog update) args (updated-keeps catalog rules params update fits.0 args) (rows_of db update.table) made.0 made.1).are (is.each update.table)))
   action_keeps here (Delete delete) params columns fits args db whole e is =
       let made = change_made catalog delete.table (deleted delete) args db whole e in
       subst (IsDatabase catalog) (sym made.2) (database-set catalog db delete.table made.0.0 is
-        ((changed_kept parts 0 catalog rules delete.table (deleted delete) args (deleted-keeps catalog delete.table delete args) (rows_of db delete.table) made.0 made.1).are (is.each delete.table)))
+      ((changed_kept parts 0 catalog rules delete.table (deleted delete) args (deleted-keeps catalog delete.table delete args) (rows_of db delete.table) made.0 made.1).are (is.each delete.table)))
   action_keeps here (Select select) params columns fits args db whole e is = subst (IsDatabase catalog) (sym (select_made (selected select args db) db whole e)) is
 
   -- a statement leaves a database
@@ -349,12 +355,12 @@ module _ (parts : ℕ) (catalog : Contents) (rules : IsCatalog catalog) where
       let made = change_made catalog update.table (updated catalog update) args db whole e in
       let kept_rows = changed_kept parts part catalog rules update.table (updated catalog update) args (updated-keeps catalog rules params update fits.0 args) (rows_of db update.table) made.0 made.1 in
       subst (Own parts part catalog start) (sym made.2) (own_set parts part catalog start db update.table made.0.0 own (kept_rows.are (own.database.each update.table))
-        (kept_rows.here (own.database.each update.table).fit (own.here update.table)) (writes update.table refl))
+      (kept_rows.here (own.database.each update.table).fit (own.here update.table)) (writes update.table refl))
   action_own part (Delete delete) params columns fits writes args start db whole e own =
       let made = change_made catalog delete.table (deleted delete) args db whole e in
       let kept_rows = changed_kept parts part catalog rules delete.table (deleted delete) args (deleted-keeps catalog delete.table delete args) (rows_of db delete.table) made.0 made.1 in
       subst (Own parts part catalog start) (sym made.2) (own_set parts part catalog start db delete.table made.0.0 own (kept_rows.are (own.database.each delete.table))
-        (kept_rows.here (own.database.each delete.table).fit (own.here delete.table)) (writes delete.table refl))
+      (kept_rows.here (own.database.each delete.table).fit (own.here delete.table)) (writes delete.table refl))
   action_own part (Select select) params columns fits writes args start db whole e own = subst (Own parts part catalog start) (sym (select_made (selected select args db) db whole e)) own
 
   -- in a procedure on one partition a statement leaves the partition's share

@@ -30,11 +30,11 @@ lesser-comm f g =
       | inl le ↦ elim (cases_Bool (nat_le (code_of g) (code_of f))) [
         | inl ge ↦ rw (le, ge) (code-one f g (let a = leb-true (code_of f) (code_of g) le in let b = leb-true (code_of g) (code_of f) ge in omega arith))
         | inr lt ↦ rw (le, lt)
-        ]
+      ]
       | inr gt ↦ elim (cases_Bool (nat_le (code_of g) (code_of f))) [
         | inl ge ↦ rw (gt, ge)
         | inr lt ↦ absurd (let a = leb-false (code_of f) (code_of g) gt in let b = leb-false (code_of g) (code_of f) lt in omega arith)
-        ]
+      ]
     ]
 
 lesser-assoc : (f g h : Fault) → lesser (lesser f g) h ≡ lesser f (lesser g h)

@@ -53,11 +53,11 @@ module _ {S X : Type 0} (step : S → X → S) where
         | inl p ↦ elim (cases_Bool (Q x)) [
           | inl q ↦ absurd (disjoint x p q)
           | inr q ↦ rw (p, q) (two_parts P Q apart disjoint xs (step s x))
-          ]
+        ]
         | inr p ↦ elim (cases_Bool (Q x)) [
           | inl q ↦ rw (p, q) (move_first P x (λ a pa. apart a x pa q) xs (filter Q xs) s ∙ two_parts P Q apart disjoint xs (step s x))
           | inr q ↦ rw (p, q) (two_parts P Q apart disjoint xs s)
-          ]
+        ]
       ]
 
   -- a fold over the parts one after another, where items of unlike parts may change places
@@ -72,9 +72,9 @@ module _ {S X : Type 0} (step : S → X → S) where
       ∙ fold_parts test apart disjoint ps distinct.1 xs (fold step s (filter (test p) xs))
       ∙ sym (fold-append step s (filter (test p) xs) (filter others xs))
       ∙ two_parts (test p) others
-          (λ a x pa any. let f = found test p x ps any distinct.0 in apart p f.0 a x f.1 pa f.2)
-          (λ x px any. let f = found test p x ps any distinct.0 in f.1 (disjoint p f.0 x px f.2))
-          xs s
+      (λ a x pa any. let f = found test p x ps any distinct.0 in apart p f.0 a x f.1 pa f.2)
+      (λ x px any. let f = found test p x ps any distinct.0 in f.1 (disjoint p f.0 x px f.2))
+      xs s
 
   -- an item that leaves everything as it is may be left out
   abbrev pub Inert : X → Type 0

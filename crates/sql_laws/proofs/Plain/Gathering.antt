@@ -53,11 +53,11 @@ module _ {K : Type 0} (R : K → K → Ordering) (o : IsTotalOrder R) (exact : (
         | inl ba ↦ elim (cases_Bool (is_lt (R c b))) [
           | inl cb ↦ rw (ba, cb, ap is_lt (o.trans c b a (less (R c b) cb) (less (R b a) ba)))
           | inr cb ↦ rw (ba, cb, ba)
-          ]
+        ]
         | inr ba ↦ elim (cases_Bool (is_lt (R c b))) [
           | inl cb ↦ rw (ba, cb)
           | inr cb ↦ rw (ba, cb, not_below a b c ba cb, ba)
-          ]
+        ]
       ]
     where
       not_below : (a b c : K) → is_lt (R b a) ≡ false → is_lt (R c b) ≡ false → is_lt (R c a) ≡ false
@@ -145,8 +145,8 @@ min_of_two-assoc a b c =
         | inr eb ↦ elim (is_there c) [
           | inl nc ↦ rw (nc, min_null (min_of_two a b), min_null b)
           | inr ec ↦ min_assoc_there a b c ea eb ec
-          ]
         ]
+      ]
     ]
 
 exact_back : (a b : Value) → flip_args value_cmp a b ≡ Equal → a ≡ b

@@ -18,8 +18,21 @@ put_all-append R join es (x ∷ xs) ys = put_all-append R join (put R join es x)
 module _ {K V : Type 0} (R : K → K → Ordering) (o : IsTotalOrder R) (join : V → V → V) where
   pub swap_apart : (a x : K × V) (es : List (K × V)) → (R a.0 x.0 ≡ Equal → ⊥) → put R join (put R join es a) x ≡ put R join (put R join es x) a
   swap_apart a x [] apart = grind (arith, o.antisymm a.0 x.0, o.antisymm x.0 a.0, apart)
-  swap_apart a x (e ∷ es) apart = grind (arith, apart, o.antisymm a.0 x.0, o.antisymm x.0 a.0, o.antisymm a.0 e.0, o.antisymm x.0 e.0, o.antisymm e.0 x.0, o.antisymm e.0 a.0,
-      o.trans x.0 e.0 a.0, o.trans a.0 e.0 x.0, o.congr a.0 e.0 x.0, o.congr x.0 e.0 a.0, swap_apart a x es apart)
+  swap_apart a x (e ∷ es) apart = grind (
+    arith,
+    apart,
+    o.antisymm a.0 x.0,
+    o.antisymm x.0 a.0,
+    o.antisymm a.0 e.0,
+    o.antisymm x.0 e.0,
+    o.antisymm e.0 x.0,
+    o.antisymm e.0 a.0,
+    o.trans x.0 e.0 a.0,
+    o.trans a.0 e.0 x.0,
+    o.congr a.0 e.0 x.0,
+    o.congr x.0 e.0 a.0,
+    swap_apart a x es apart,
+  )
 
   reverse_same : (r : Ordering) → r ≡ ordering_reverse r → r ≡ Equal
   reverse_same Less e = absurd (cc)

@@ -59,10 +59,10 @@ module _ (parts : ℕ) (some : 0 < parts) (catalog : Contents) (rules : IsCatalo
         ∙ absorb_all row_cmp row_total (all_joined gs) row_cmp-equal (all_joined-assoc gs) (all_joined-comm gs) (λ p. map (alone gs) (entries select (group_entry columns gs) args (from_rows select (share parts catalog p db)))) (all_parts parts) []
         ∙ (λ i. put_all row_cmp (all_joined gs) [] (flat_map (λ p. map-filter_map (alone gs) (λ row. entry_in (given select (group_entry columns gs) args row)) (from_rows-share parts catalog rules p select db is i) i) (all_parts parts)))
         ∙ puts_parts row_cmp (all_joined gs) entry (is_home parts catalog select)
-            (λ p q a x other pa qx es. swap_some row_cmp (all_joined gs) entry (swap row_cmp row_total (all_joined gs) row_cmp-equal (all_joined-assoc gs) (all_joined-comm gs)) (entry a) (entry x) es)
-            (λ p q row e f. is_home-one parts catalog select has p q row e f)
-            (all_parts parts) (range-distinct 0 parts) (from_rows select db)
-            (none_alone (from_rows select db) (no_entries select (group_entry columns gs) args parts some catalog rules has told db is))
+        (λ p q a x other pa qx es. swap_some row_cmp (all_joined gs) entry (swap row_cmp row_total (all_joined gs) row_cmp-equal (all_joined-assoc gs) (all_joined-comm gs)) (entry a) (entry x) es)
+        (λ p q row e f. is_home-one parts catalog select has p q row e f)
+        (all_parts parts) (range-distinct 0 parts) (from_rows select db)
+        (none_alone (from_rows select db) (no_entries select (group_entry columns gs) args parts some catalog rules has told db is))
         ∙ ap (put_all row_cmp (all_joined gs) []) (sym (map-filter_map (alone gs) (λ row. entry_in (given select (group_entry columns gs) args row)) (from_rows select db)))
         ∙ sym (gathered_groups gs (entries select (group_entry columns gs) args (from_rows select db)))
 
@@ -112,9 +112,9 @@ module _ (parts : ℕ) (some : 0 < parts) (catalog : Contents) (rules : IsCatalo
       ∙ ap (all_gathered_of gs) (sym (filter_map-flat taken (λ p. filter (is_home parts catalog select p) (from_rows select db)) (all_parts parts)))
       ∙ sym (fold_taken (flat_map (λ p. filter (is_home parts catalog select p) (from_rows select db)) (all_parts parts)) [])
       ∙ fold_parts more (is_home parts catalog select) (λ p q a x other pa qx s. swap_joined s (taken a) (taken x))
-          (λ p q row e f. is_home-one parts catalog select has p q row e f) (all_parts parts) (range-distinct 0 parts) (from_rows select db) (all_gathered_of gs [])
+      (λ p q row e f. is_home-one parts catalog select has p q row e f) (all_parts parts) (range-distinct 0 parts) (from_rows select db) (all_gathered_of gs [])
       ∙ fold_filter more (λ row. list_any (λ p. is_home parts catalog select p row) (all_parts parts)) (from_rows select db)
-          (inert_rows (from_rows select db) (no_entries select (arguments_of gs) args parts some catalog rules has told db is)) (all_gathered_of gs [])
+      (inert_rows (from_rows select db) (no_entries select (arguments_of gs) args parts some catalog rules has told db is)) (all_gathered_of gs [])
       ∙ fold_taken (from_rows select db) []
 
   -- one group put into another one with the empty key

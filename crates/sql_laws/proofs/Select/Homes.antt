@@ -74,11 +74,12 @@ module _ (parts : ℕ) (catalog : Contents) (rules : IsCatalog catalog) where
       → AllByRecursion (λ row. is_row table row ≡ true) rows
       → AllByRecursion (λ left. (right : Cells) → (is_part part (part_by parts table.part (left ++ right)) && is_part part (part_by parts (option_map (λ n. length table.columns + n) other.part) (left ++ right))) ≡ (lies_in parts part table left && lies_in parts part other right)) rows
   each_product part table other [] column each = tt
-  each_product part table other (row ∷ rows) column each =
-      ((λ right. λ i.
-          part_left parts part table table.part row right (λ n e. subst (λ w. n < w) (sym (is_row-length table row each.0)) (column n e).within) i
-          && part_right parts part (length table.columns) other.part row right (is_row-length table row each.0) i),
-        each_product part table other rows column each.1)
+  each_product part table other (row ∷ rows) column each = (
+    (λ right. λ i.
+        part_left parts part table table.part row right (λ n e. subst (λ w. n < w) (sym (is_row-length table row each.0)) (column n e).within) i
+        && part_right parts part (length table.columns) other.part row right (is_row-length table row each.0) i),
+    each_product part table other rows column each.1,
+  )
 
   joined_share : (part : ℕ) (left : ℕ) (right : Option JoinPlan) (db : Database) → IsDatabase catalog db
       → joined_with (rows_of (share parts catalog part db) left) right (share parts catalog part db)
@@ -89,10 +90,10 @@ module _ (parts : ℕ) (catalog : Contents) (rules : IsCatalog catalog) where
   joined_share part left (Some join) db is =
       (λ i. product (rows_of-share parts catalog part db left is.tables i) (rows_of-share parts catalog part db join.table is.tables i))
       ∙ product-filter (lies_in parts part (table_at catalog left)) (lies_in parts part (table_at catalog join.table))
-          (λ row. is_part part (part_by parts (table_at catalog left).part row) && is_part part (part_by parts (option_map (λ n. length (table_at catalog left).columns + n) (table_at catalog join.table).part) row))
-          (rows_of db left) (rows_of db join.table)
-          (each_product part (table_at catalog left) (table_at catalog join.table) (rows_of db left) (λ n e. part_column catalog left n rules e)
-            (each-row (table_at catalog left) (rows_of db left) (is.each left).fit))
+      (λ row. is_part part (part_by parts (table_at catalog left).part row) && is_part part (part_by parts (option_map (λ n. length (table_at catalog left).columns + n) (table_at catalog join.table).part) row))
+      (rows_of db left) (rows_of db join.table)
+      (each_product part (table_at catalog left) (table_at catalog join.table) (rows_of db left) (λ n e. part_column catalog left n rules e)
+      (each-row (table_at catalog left) (rows_of db left) (is.each left).fit))
 
   pub from_rows-share : (part : ℕ) (select : SelectPlan) (db : Database) → IsDatabase catalog db
       → from_rows select (share parts catalog part db) ≡ filter (is_home parts catalog select part) (from_rows select db)
@@ -118,7 +119,7 @@ pub is_home-one : (parts : ℕ) (catalog : Contents) (select : SelectPlan) → h
     → is_home parts catalog select p row ≡ true → is_home parts catalog select q row ≡ true → q ≡ p
 is_home-one parts catalog select has p q row e f =
     one_home p q (part_by parts (left_table catalog select).part row) (part_by parts (right_part catalog select) row)
-        ((λ i. is_some_part parts (left_table catalog select).part row i || is_some_part parts (right_part catalog select) row i) ∙ has) e f
+    ((λ i. is_some_part parts (left_table catalog select).part row i || is_some_part parts (right_part catalog select) row i) ∙ has) e f
 
 -- a place behind the left table's columns
 pub behind : (w m : ℕ) (o : Option ℕ) → option_map (λ n. w + n) o ≡ Some m → (r : ℕ) × (o ≡ Some r) × (w + r ≡ m)
@@ -137,6 +138,7 @@ any_at f h (p ∷ ps) e here =
   where
     first : (a b : Bool) → a ≡ true → (a || b) ≡ true
     first a b e = rw e
+
     second : (a b : Bool) → b ≡ true → (a || b) ≡ true
     second true b e = refl
     second false b e = e
@@ -199,7 +201,7 @@ each_joined : (P : Cells → Type 0) (table other : Table) (lefts rights : List 
 each_joined P table other [] rights each are are' = tt
 each_joined P table other (left ∷ lefts) rights each are are' =
     each_append P (map (λ right. left ++ right) rights) (product lefts rights)
-        (each_behind P left rights other (λ right is. each left right are.0 is) are') (each_joined P table other lefts rights each are.1 are')
+    (each_behind P left rights other (λ right is. each left right are.0 is) are') (each_joined P table other lefts rights each are.1 are')
 
 each_of : {X : Type 0} (P : X → Type 0) → ((x : X) → P x) → (xs : List X) → AllByRecursion P xs
 each_of P each [] = tt
@@ -223,30 +225,30 @@ module _ (parts : ℕ) (some : 0 < parts) (catalog : Contents) (rules : IsCatalo
       let y_there : at (left ++ right) (width + r) ≡ Null → ⊥ = λ e. is_row-key (table_at catalog join.table) right r is' column' (sym y ∙ e) in
       let differ : at (left ++ right) l ≡ at (left ++ right) (width + r) → ⊥ = λ e. other (ap (part_of_value parts) e) in
       not_kept l (width + r) (left ++ right) args
-        (differ_compared (at (left ++ right) l) (at (left ++ right) (width + r)) x_there y_there differ)
-        (differ_compared (at (left ++ right) (width + r)) (at (left ++ right) l) y_there x_there (λ e. differ (sym e)))
-        join.on select.filter told
+      (differ_compared (at (left ++ right) l) (at (left ++ right) (width + r)) x_there y_there differ)
+      (differ_compared (at (left ++ right) (width + r)) (at (left ++ right) l) y_there x_there (λ e. differ (sym e)))
+      join.on select.filter told
 
   in_two : (a b : Option ℕ) (row : Cells) (K : Type 0) → (is_some a || is_some b) ≡ true
       → list_any (λ p. is_part p (part_by parts a row) && is_part p (part_by parts b row)) (all_parts parts) ≡ false
       → ((n m : ℕ) → a ≡ Some n → b ≡ Some m → (part_of_value parts (at row n) ≡ part_of_value parts (at row m) → ⊥) → K) → K
   in_two (Some n) (Some m) row K has none two =
       two n m refl refl (λ e. home_found parts (λ p. (part_of_value parts (at row n) == p) && (part_of_value parts (at row m) == p)) (part_of_value parts (at row n))
-        (part_of_value-within parts (at row n) some)
-        (and_from (part_of_value parts (at row n) == part_of_value parts (at row n)) (part_of_value parts (at row m) == part_of_value parts (at row n))
-          (eq-eqb (part_of_value parts (at row n)) (part_of_value parts (at row n)) refl)
-          (eq-eqb (part_of_value parts (at row m)) (part_of_value parts (at row n)) (sym e)))
-        none)
+      (part_of_value-within parts (at row n) some)
+      (and_from (part_of_value parts (at row n) == part_of_value parts (at row n)) (part_of_value parts (at row m) == part_of_value parts (at row n))
+      (eq-eqb (part_of_value parts (at row n)) (part_of_value parts (at row n)) refl)
+      (eq-eqb (part_of_value parts (at row m)) (part_of_value parts (at row n)) (sym e)))
+      none)
   in_two (Some n) None row K has none two =
       absurd (home_found parts (λ p. (part_of_value parts (at row n) == p) && true) (part_of_value parts (at row n))
-        (part_of_value-within parts (at row n) some)
-        (and_from (part_of_value parts (at row n) == part_of_value parts (at row n)) true (eq-eqb (part_of_value parts (at row n)) (part_of_value parts (at row n)) refl) refl)
-        none)
+      (part_of_value-within parts (at row n) some)
+      (and_from (part_of_value parts (at row n) == part_of_value parts (at row n)) true (eq-eqb (part_of_value parts (at row n)) (part_of_value parts (at row n)) refl) refl)
+      none)
   in_two None (Some m) row K has none two =
       absurd (home_found parts (λ p. part_of_value parts (at row m) == p) (part_of_value parts (at row m))
-        (part_of_value-within parts (at row m) some)
-        (eq-eqb (part_of_value parts (at row m)) (part_of_value parts (at row m)) refl)
-        none)
+      (part_of_value-within parts (at row m) some)
+      (eq-eqb (part_of_value parts (at row m)) (part_of_value parts (at row m)) refl)
+      none)
   in_two None None row K has none two = absurd (cc)
 
   abbrev columns : Option JoinPlan → Cells → Option ℕ × Option ℕ
@@ -262,21 +264,21 @@ module _ (parts : ℕ) (some : 0 < parts) (catalog : Contents) (rules : IsCatalo
       → AllByRecursion (Homeless right args) (joined_with (rows_of db select.left) right db)
   homeless None has told args db is =
       each_of (Homeless None args) (λ row none. in_two (table_at catalog select.left).part None row (with (meets_on None row args) (λ meets. if meets then holds select.filter row args else Ok false) ≡ Ok false) has none
-        (λ n m a b other. absurd (let f : None ≡ Some m = b in cc))) (rows_of db select.left)
+      (λ n m a b other. absurd (let f : None ≡ Some m = b in cc))) (rows_of db select.left)
   homeless (Some join) has told args db is =
       each_joined (Homeless (Some join) args) (table_at catalog select.left) (table_at catalog join.table) (rows_of db select.left) (rows_of db join.table)
-        (λ left right is_left is_right none.
-          in_two (table_at catalog select.left).part (right_column catalog (length (table_at catalog select.left).columns) (Some join)) (left ++ right)
-            (with (meets_on (Some join) (left ++ right) args) (λ meets. if meets then holds select.filter (left ++ right) args else Ok false) ≡ Ok false) has none
-            (λ n m a b other.
-              let found = behind (length (table_at catalog select.left).columns) m (table_at catalog join.table).part b in
-              both_parts join n found.0 a found.1
-                (subst (λ o. distributes_by select join.on (Some n) (length (table_at catalog select.left).columns) o ≡ true) found.1
-                  (subst (λ o. distributes_by select join.on o (length (table_at catalog select.left).columns) (table_at catalog join.table).part ≡ true) a told))
-                args left right is_left is_right
-                (λ e. other (e ∙ ap (λ k. part_of_value parts (at (left ++ right) k)) found.2))))
-        (each-row (table_at catalog select.left) (rows_of db select.left) (is.each select.left).fit)
-        (each-row (table_at catalog join.table) (rows_of db join.table) (is.each join.table).fit)
+      (λ left right is_left is_right none.
+      in_two (table_at catalog select.left).part (right_column catalog (length (table_at catalog select.left).columns) (Some join)) (left ++ right)
+      (with (meets_on (Some join) (left ++ right) args) (λ meets. if meets then holds select.filter (left ++ right) args else Ok false) ≡ Ok false) has none
+      (λ n m a b other.
+      let found = behind (length (table_at catalog select.left).columns) m (table_at catalog join.table).part b in
+      both_parts join n found.0 a found.1
+      (subst (λ o. distributes_by select join.on (Some n) (length (table_at catalog select.left).columns) o ≡ true) found.1
+      (subst (λ o. distributes_by select join.on o (length (table_at catalog select.left).columns) (table_at catalog join.table).part ≡ true) a told))
+      args left right is_left is_right
+      (λ e. other (e ∙ ap (λ k. part_of_value parts (at (left ++ right) k)) found.2))))
+      (each-row (table_at catalog select.left) (rows_of db select.left) (is.each select.left).fit)
+      (each-row (table_at catalog join.table) (rows_of db join.table) (is.each join.table).fit)
 
   -- rows that lie in no partition aren't kept
   pub homeless_rows : has_home catalog select ≡ true → distributes catalog select select.right ≡ true → (args : Cells) (db : Database) → IsDatabase catalog db

@@ -71,6 +71,6 @@ module _ {A : Type 0} (select : SelectPlan) (gives : Reads A) (args : Cells) whe
     faults_parts =
         (λ i. all_least (λ p. row_faults (from_rows-share parts catalog rules p select db is i)) (all_parts parts))
         ∙ total_parts least None least-assoc least-comm least-none (λ row. fault_in (given row)) (is_home parts catalog select)
-            (λ p q row e f. is_home-one parts catalog select has p q row e f) (all_parts parts) (range-distinct 0 parts) rows
+        (λ p q row e f. is_home-one parts catalog select has p q row e f) (all_parts parts) (range-distinct 0 parts) rows
         ∙ total_filter least None least-assoc least-comm least-none (λ row. fault_in (given row)) (λ row. list_any (λ p. is_home parts catalog select p row) (all_parts parts)) rows
-            (not_faulted rows (homeless_rows parts some catalog rules select has told args db is))
+        (not_faulted rows (homeless_rows parts some catalog rules select has told args db is))

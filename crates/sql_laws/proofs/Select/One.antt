@@ -37,8 +37,8 @@ groups_again : (gs : List Aggregated) (es : List (Cells × Cells))
     ≡ map (λ g. (g.0, all_gathered_of gs g.1)) (by_key es)
 groups_again gs es =
     ap (put_all row_cmp (all_joined gs) []) (append-nil (map (λ (g : Group). (g.key, g.gathered)) (map (λ (g : Cells × List Cells). group_of (g.0, all_gathered_of gs g.1)) (by_key es)))
-        ∙ map-map (λ (g : Group). (g.key, g.gathered)) (λ (g : Cells × List Cells). group_of (g.0, all_gathered_of gs g.1)) (by_key es)
-        ∙ gathered_groups gs es)
+    ∙ map-map (λ (g : Group). (g.key, g.gathered)) (λ (g : Cells × List Cells). group_of (g.0, all_gathered_of gs g.1)) (by_key es)
+    ∙ gathered_groups gs es)
     ∙ absorb row_cmp row_total (all_joined gs) row_cmp-equal (all_joined-assoc gs) (all_joined-comm gs) (map (alone gs) es) [] []
     ∙ sym (gathered_groups gs es)
 
@@ -46,7 +46,7 @@ groups_again gs es =
 pub one_part : (select : SelectPlan) (s : Shape) (args : Cells) (db : Database) → selected_by select s args db ≡ with (part_by_shape select s args db) (λ part. merged_by s (part ∷ []))
 one_part select (shape.Rows outputs order) args db =
     with_same given (λ g. finished_rows g.1 g.0) (λ g. finished_rows g.1 (map (λ r. (r.key, r.row)) (map keyed_row g.0) ++ []))
-        (λ g e. ap (finished_rows g.1) (sym (append-nil (map (λ r. (r.key, r.row)) (map keyed_row g.0)) ∙ keyed_back g.0)))
+    (λ g e. ap (finished_rows g.1) (sym (append-nil (map (λ r. (r.key, r.row)) (map keyed_row g.0)) ∙ keyed_back g.0)))
     ∙ sym (with_with given (λ g. Ok (partial.Rows (map keyed_row g.0) g.1)) (λ part. merged_by (shape.Rows outputs order) (part ∷ [])))
   where
     given : Result (List (List Directed × Cells) × Option ℕ) Fault
@@ -55,8 +55,8 @@ one_part select (shape.Total gs) args db =
     sym (with_with (both (all_kept select (arguments_of gs) args db) (limit_of select.limit args)) (λ g. Ok (partial.Groups (group_of ([], all_gathered_of gs g.0) ∷ []) g.1)) (λ part. merged_by (shape.Total gs) (part ∷ [])))
 one_part select (shape.Groups columns gs outputs order) args db =
     with_same given (λ g. finished_groups outputs order g.1 (map (λ k. (k.0, all_gathered_of gs k.1)) (by_key g.0)))
-        (λ g. finished_groups outputs order g.1 (put_all row_cmp (all_joined gs) [] (map (λ k. (k.key, k.gathered)) (map (λ k. group_of (k.0, all_gathered_of gs k.1)) (by_key g.0)) ++ [])))
-        (λ g e. ap (finished_groups outputs order g.1) (sym (groups_again gs g.0)))
+    (λ g. finished_groups outputs order g.1 (put_all row_cmp (all_joined gs) [] (map (λ k. (k.key, k.gathered)) (map (λ k. group_of (k.0, all_gathered_of gs k.1)) (by_key g.0)) ++ [])))
+    (λ g e. ap (finished_groups outputs order g.1) (sym (groups_again gs g.0)))
     ∙ sym (with_with given (λ g. Ok (partial.Groups (map (λ k. group_of (k.0, all_gathered_of gs k.1)) (by_key g.0)) g.1)) (λ part. merged_by (shape.Groups columns gs outputs order) (part ∷ [])))
   where
     given : Result (List (Cells × Cells) × Option ℕ) Fault

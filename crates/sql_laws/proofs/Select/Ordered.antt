@@ -63,14 +63,14 @@ right_among_by catalog rules w None m e = absurd (cc)
 right_among_by catalog rules w (Some join) m e =
     let found = behind w m (table_at catalog join.table).part e in
     subst (λ k. list_any (λ j. j == k) (map (λ n. w + n) (table_at catalog join.table).key) ≡ true) found.2
-        (any_shifted w found.0 (table_at catalog join.table).key (part_column catalog join.table found.0 rules found.1).in_key)
+    (any_shifted w found.0 (table_at catalog join.table).key (part_column catalog join.table found.0 rules found.1).in_key)
 
 right_among : (catalog : Contents) (rules : IsCatalog catalog) (select : SelectPlan) (m : ℕ) → right_part catalog select ≡ Some m → list_any (λ k. k == m) (from_key catalog select) ≡ true
 right_among catalog rules select m e =
     let left = left_table catalog select in
     any-append (λ k. k == m) left.key (right_key (length left.columns) (right_table catalog select.right))
     ∙ or_right (list_any (λ k. k == m) left.key) (list_any (λ k. k == m) (right_key (length left.columns) (right_table catalog select.right)))
-        (right_among_by catalog rules (length left.columns) select.right m e)
+    (right_among_by catalog rules (length left.columns) select.right m e)
 
 -- ---- rows that agree on the key lie in one partition
 
@@ -118,7 +118,7 @@ module _ (parts : ℕ) (some : 0 < parts) (catalog : Contents) (rules : IsCatalo
       let keys : (keyed order a u.0).0 ≡ (keyed order x v.0).0 = sym (ap (λ r. r.0) u.1) ∙ key_cmp-equal e.0 f.0 same ∙ ap (λ r. r.0) v.1 in
       let agree : (n : ℕ) → list_any (λ k. k == n) (from_key catalog select) ≡ true → at a n ≡ at x n = key_agrees order count width (from_key catalog select) is_order a x u.0 v.0 keys in
       same_parts parts p q (left_table catalog select).part (right_part catalog select) a x has
-        (λ n l. agree n (left_among catalog rules select n l)) (λ n r. agree n (right_among catalog rules select n r)) pa qx
+      (λ n l. agree n (left_among catalog rules select n l)) (λ n r. agree n (right_among catalog rules select n r)) pa qx
 
   swap_entries : (a x : Option (List Directed × Cells)) → ((e f : List Directed × Cells) → a ≡ Some e → x ≡ Some f → key_cmp e.0 f.0 ≡ Equal → ⊥) → (es : List (List Directed × Cells))
       → put_some key_cmp latest (λ (o : Option (List Directed × Cells)). o) (put_some key_cmp latest (λ (o : Option (List Directed × Cells)). o) es a) x
@@ -134,7 +134,7 @@ module _ (parts : ℕ) (some : 0 < parts) (catalog : Contents) (rules : IsCatalo
   ordered_parts =
       (λ i. put_all key_cmp latest [] (flat_map (λ p. entries select (output_row outputs order) args (from_rows-share parts catalog rules p select db is i)) (all_parts parts)))
       ∙ puts_parts key_cmp latest (λ row. entry_in (given select (output_row outputs order) args row)) (is_home parts catalog select)
-          (λ p q a x other pa qx es. swap_entries (entry_in (given select (output_row outputs order) args a)) (entry_in (given select (output_row outputs order) args x))
-            (λ e f ea fx same. other (keys_tell p q a x pa qx e f ea fx same)) es)
-          (λ p q row e f. is_home-one parts catalog select has p q row e f)
-          (all_parts parts) (range-distinct 0 parts) (from_rows select db) (no_entries select (output_row outputs order) args parts some catalog rules has told db is)
+      (λ p q a x other pa qx es. swap_entries (entry_in (given select (output_row outputs order) args a)) (entry_in (given select (output_row outputs order) args x))
+      (λ e f ea fx same. other (keys_tell p q a x pa qx e f ea fx same)) es)
+      (λ p q row e f. is_home-one parts catalog select has p q row e f)
+      (all_parts parts) (range-distinct 0 parts) (from_rows select db) (no_entries select (output_row outputs order) args parts some catalog rules has told db is)

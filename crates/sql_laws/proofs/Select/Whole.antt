@@ -109,51 +109,61 @@ module _ (parts : ℕ) (some : 0 < parts) (catalog : Contents) (rules : IsCatalo
   pub rows_whole : (outputs : List Scalar) (order : List Order) (count width : ℕ) → IsOrder count width (from_key catalog select) order → PartsAre (shape.Rows outputs order)
   rows_whole outputs order count width is_order =
       whole_given select (output_row outputs order) args parts some catalog rules has told db is
-          (λ given. partial.Rows (map keyed_row given.0) given.1) (λ given. finished_rows given.1 given.0) (merged_by (shape.Rows outputs order))
-          (ap (λ (es : List (List Directed × Cells)). if_few (within limit_value (map (λ e. e.1) es))) (sym (ordered_parts parts some catalog rules select has told outputs order width count is_order args db is))
-            ∙ (λ i. if_few (within (limit_same i) (map (λ e. e.1) (put_all key_cmp latest [] (rows_same i))))))
+      (λ given. partial.Rows (map keyed_row given.0) given.1) (λ given. finished_rows given.1 given.0) (merged_by (shape.Rows outputs order))
+      (ap (λ (es : List (List Directed × Cells)). if_few (within limit_value (map (λ e. e.1) es))) (sym (ordered_parts parts some catalog rules select has told outputs order width count is_order args db is))
+      ∙ (λ i. if_few (within (limit_same i) (map (λ e. e.1) (put_all key_cmp latest [] (rows_same i))))))
     where
       limit_value : Option ℕ
       limit_value = value_or None (limit_of select.limit args)
+
       part : ℕ → List (List Directed × Cells)
       part p = entries select (output_row outputs order) args (from_rows select (share parts catalog p db))
+
       limit_same : limit_value ≡ first_limit (map (λ p. partial.Rows (map keyed_row (part p)) limit_value) (all_parts parts))
       limit_same = sym (first_of_all (λ p. partial.Rows (map keyed_row (part p)) limit_value) limit_value (λ p. refl) parts some)
+
       rows_same : flat_map part (all_parts parts) ≡ flat_map rows_in (map (λ p. partial.Rows (map keyed_row (part p)) limit_value) (all_parts parts))
       rows_same = sym (flat-map rows_in (λ p. partial.Rows (map keyed_row (part p)) limit_value) (all_parts parts) ∙ (λ i. flat_map (λ p. keyed_back (part p) i) (all_parts parts)))
 
   pub total_whole : (gs : List Aggregated) → PartsAre (shape.Total gs)
   total_whole gs =
       whole_given select (arguments_of gs) args parts some catalog rules has told db is
-          (λ given. partial.Groups (group_of ([], all_gathered_of gs given.0) ∷ []) given.1)
-          (λ given. finished_groups (aggregates_in_order gs) [] given.1 (([], all_gathered_of gs given.0) ∷ [])) (merged_by (shape.Total gs))
-          (ap (λ (groups : List (Cells × List Gathered)). finished_groups (aggregates_in_order gs) [] limit_value groups) (sym (total_parts parts some catalog rules select has told gs args db is))
-            ∙ (λ i. finished_groups (aggregates_in_order gs) [] (limit_same i) (put_all row_cmp (all_joined gs) [] (groups_same i))))
+      (λ given. partial.Groups (group_of ([], all_gathered_of gs given.0) ∷ []) given.1)
+      (λ given. finished_groups (aggregates_in_order gs) [] given.1 (([], all_gathered_of gs given.0) ∷ [])) (merged_by (shape.Total gs))
+      (ap (λ (groups : List (Cells × List Gathered)). finished_groups (aggregates_in_order gs) [] limit_value groups) (sym (total_parts parts some catalog rules select has told gs args db is))
+      ∙ (λ i. finished_groups (aggregates_in_order gs) [] (limit_same i) (put_all row_cmp (all_joined gs) [] (groups_same i))))
     where
       limit_value : Option ℕ
       limit_value = value_or None (limit_of select.limit args)
+
       part : ℕ → List Cells
       part p = entries select (arguments_of gs) args (from_rows select (share parts catalog p db))
+
       limit_same : limit_value ≡ first_limit (map (λ p. partial.Groups (group_of ([], all_gathered_of gs (part p)) ∷ []) limit_value) (all_parts parts))
       limit_same = sym (first_of_all (λ p. partial.Groups (group_of ([], all_gathered_of gs (part p)) ∷ []) limit_value) limit_value (λ p. refl) parts some)
+
       groups_same : flat_map (λ p. ([], all_gathered_of gs (part p)) ∷ []) (all_parts parts) ≡ flat_map groups_in (map (λ p. partial.Groups (group_of ([], all_gathered_of gs (part p)) ∷ []) limit_value) (all_parts parts))
       groups_same = sym (flat-map groups_in (λ p. partial.Groups (group_of ([], all_gathered_of gs (part p)) ∷ []) limit_value) (all_parts parts))
 
   pub groups_whole : (columns : List ℕ) (gs : List Aggregated) (outputs : List GroupOutput) (order : List Order) → PartsAre (shape.Groups columns gs outputs order)
   groups_whole columns gs outputs order =
       whole_given select (group_entry columns gs) args parts some catalog rules has told db is
-          (λ given. partial.Groups (map (λ g. group_of (g.0, all_gathered_of gs g.1)) (by_key given.0)) given.1)
-          (λ given. finished_groups outputs order given.1 (map (λ g. (g.0, all_gathered_of gs g.1)) (by_key given.0))) (merged_by (shape.Groups columns gs outputs order))
-          (ap (λ (groups : List (Cells × List Gathered)). finished_groups outputs order limit_value groups) (sym (grouped_parts parts some catalog rules select has told gs args db is columns))
-            ∙ (λ i. finished_groups outputs order (limit_same i) (put_all row_cmp (all_joined gs) [] (groups_same i))))
+      (λ given. partial.Groups (map (λ g. group_of (g.0, all_gathered_of gs g.1)) (by_key given.0)) given.1)
+      (λ given. finished_groups outputs order given.1 (map (λ g. (g.0, all_gathered_of gs g.1)) (by_key given.0))) (merged_by (shape.Groups columns gs outputs order))
+      (ap (λ (groups : List (Cells × List Gathered)). finished_groups outputs order limit_value groups) (sym (grouped_parts parts some catalog rules select has told gs args db is columns))
+      ∙ (λ i. finished_groups outputs order (limit_same i) (put_all row_cmp (all_joined gs) [] (groups_same i))))
     where
       limit_value : Option ℕ
       limit_value = value_or None (limit_of select.limit args)
+
       part : ℕ → List (Cells × List Cells)
       part p = by_key (entries select (group_entry columns gs) args (from_rows select (share parts catalog p db)))
+
       limit_same : limit_value ≡ first_limit (map (λ p. partial.Groups (map (λ g. group_of (g.0, all_gathered_of gs g.1)) (part p)) limit_value) (all_parts parts))
       limit_same = sym (first_of_all (λ p. partial.Groups (map (λ g. group_of (g.0, all_gathered_of gs g.1)) (part p)) limit_value) limit_value (λ p. refl) parts some)
+
       back : (groups : List (Cells × List Cells)) → map (λ (g : Group). (g.key, g.gathered)) (map (λ (g : Cells × List Cells). group_of (g.0, all_gathered_of gs g.1)) groups) ≡ map {B = Cells × List Gathered} (λ (g : Cells × List Cells). (g.0, all_gathered_of gs g.1)) groups
       back groups = map-map (λ (g : Group). (g.key, g.gathered)) (λ (g : Cells × List Cells). group_of (g.0, all_gathered_of gs g.1)) groups
+
       groups_same : flat_map (λ p. map (λ g. (g.0, all_gathered_of gs g.1)) (part p)) (all_parts parts) ≡ flat_map groups_in (map (λ p. partial.Groups (map (λ g. group_of (g.0, all_gathered_of gs g.1)) (part p)) limit_value) (all_parts parts))
       groups_same = sym (flat-map groups_in (λ p. partial.Groups (map (λ g. group_of (g.0, all_gathered_of gs g.1)) (part p)) limit_value) (all_parts parts) ∙ (λ i. flat_map (λ p. back (part p) i) (all_parts parts)))

@@ -241,6 +241,6 @@ module _ (left right : ℕ) (row args : Cells) (apart : comparison compare.Equal
   -- the condition isn't met by the row, or at least doesn't fault
   pub tells : (e : Cond) → Tells e
   tells = ind-Cond Tells (λ x y is. subst (λ z. Tells (roll-Cond z)) is (record {
-      fine = λ e. rw (cond_of_roll (map-Cond Told Cond (λ e. e.0) y) row args) (layer_fine y (sym (ap all_plain (conjuncts_roll (map-Cond Told Cond (λ e. e.0) y))) ∙ e));
-      told = λ e. cond_of_roll (map-Cond Told Cond (λ e. e.0) y) row args ∙ layer_told y (sym (ap tell_parts (conjuncts_roll (map-Cond Told Cond (λ e. e.0) y))) ∙ e);
-    }))
+    fine = λ e. rw (cond_of_roll (map-Cond Told Cond (λ e. e.0) y) row args) (layer_fine y (sym (ap all_plain (conjuncts_roll (map-Cond Told Cond (λ e. e.0) y))) ∙ e));
+    told = λ e. cond_of_roll (map-Cond Told Cond (λ e. e.0) y) row args ∙ layer_told y (sym (ap tell_parts (conjuncts_roll (map-Cond Told Cond (λ e. e.0) y))) ∙ e);
+  }))

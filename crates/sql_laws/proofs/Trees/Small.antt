@@ -35,7 +35,7 @@ with_small (Ok x) go h k = k x
 with_small (Err f) go h k = h
 
 pub in_range_small : (z : ℤ) → IsSmall (in_range z)
-in_range_small z = elim (cases_Bool (is_bigint z)) [ | inl e ↦ rw e | inr e ↦ rw e ]
+in_range_small z = elim (cases_Bool (is_bigint z)) [ inl e ↦ rw e | inr e ↦ rw e ]
 
 pub if_small : {A : Type 0} (b : Bool) (x y : Result A Fault) → IsSmall x → IsSmall y → IsSmall (if b then x else y)
 if_small true x y h k = h
