@@ -29,6 +29,7 @@ use Rattle.sql_laws.proofs.Plain.Rows.{rows_of-share}
 use Rattle.sql_laws.proofs.Keep.Databases.{database-share}
 use Rattle.sql_laws.proofs.Keep.Statements.{Own, means-database, means-own}
 use Rattle.sql_laws.proofs.Keep.PutBack.{put_database, put_own, put_other}
+use Rattle.sql_laws.specs.Alone.{OnOnePart}
 
 -- ---- statements of a procedure
 
@@ -195,11 +196,6 @@ serial-database plan is_plan [] db is = is
 serial-database plan is_plan (c ∷ calls) db is = serial-database plan is_plan calls (call plan db c).0 (call-database plan is_plan db c is)
 
 -- ---- a call on one partition
-
-pub record OnOnePart (plan : Plan) (db : Database) (c : Call) (part : ℕ) : Type 0 where
-  pub reply : (call plan db c).1 ≡ (own_call plan part (share plan.parts plan.catalog part db) c).1
-  pub own : share plan.parts plan.catalog part (call plan db c).0 ≡ (own_call plan part (share plan.parts plan.catalog part db) c).0
-  pub others : (q : ℕ) → (q ≡ part → ⊥) → share plan.parts plan.catalog q (call plan db c).0 ≡ share plan.parts plan.catalog q db
 
 pub one_part-call : (plan : Plan) (is_plan : IsPlan plan) (db : Database) (c : Call) (part : ℕ) → IsDatabase plan.catalog db → part_of_call plan c ≡ Some part → OnOnePart plan db c part
 one_part-call plan is_plan db c part is e = by (slice_get plan.procs c.proc) refl e
