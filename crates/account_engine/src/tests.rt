@@ -102,13 +102,13 @@ fn only_whole_calls_fit(rt: HostRuntime) -> Result<(), Fail> {
     };
     assert!(rt; !engine.fits(alloc, &misspelled)?);
     let fragment = Entry::Frag {
-        m: 1,
+        transaction: 1,
         round: 1,
         body: Bytes::of(alloc, &PUT_1_10)?,
     };
     assert!(rt; !engine.fits(alloc, &fragment)?);
     let end = Entry::Done {
-        m: 1,
+        transaction: 1,
         outcome: Outcome::Dropped,
     };
     assert!(rt; !engine.fits(alloc, &end)?);
