@@ -3,11 +3,11 @@ use Rattle.std.proofs.Common.{◌≡◌, ℕ, zero, suc, true, false, List, [], 
 use Rattle.sql_grammar.specs.declared.kind.Kind.{Kind}
 use Rattle.sql_grammar.specs.declared.kind.Kind.TheVariants as k
 use Rattle.sql_grammar.specs.Grammar.{null, first, cont, ok, is_in}
-use Rattle.sql_parse.specs.Expressions.{column, inner_expr, deeper, max_nesting, after_whole}
-use Rattle.sql_parse.specs.declared.levels.Level.TheVariants.{Whole}
+use Rattle.expr_parse.specs.Expressions.{column, inner_expr, deeper, max_nesting, after_whole}
+use Rattle.expr_parse.specs.declared.levels.Level.TheVariants.{Whole}
 use Rattle.sql_parse.specs.declared.statement.Aggregate.{Aggregate}
 use Rattle.sql_parse.specs.Statements.{closed, behind, tail, named_columns, values, counted_value, least_or_greatest, output_name, alias, table, columns, groups, descending, key, keys, order, limit_value, limited, names, filter, inner_exprs, insert, assignment, assignments, update, delete, counted, aggregated, output_value, output, listed_outputs, outputs, joined, second_table, source, select, stmt, statement, after_statement}
-use Rattle.sql_parse.proofs.ExpressionsOk.{expr-ok, expr-null, expr-cont, expr-first, inner_expr-ok, inner_expr-null, inner_expr-cont, operands, level-first, level-null}
+use Rattle.expr_parse.proofs.ExpressionsOk.{expr-ok, expr-null, expr-cont, expr-first, inner_expr-ok, inner_expr-null, inner_expr-cont, operands, level-first, level-null}
 
 -- what may go on after parts of a statement, inside longer ones
 abbrev after_second : List Kind

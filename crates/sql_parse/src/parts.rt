@@ -2,21 +2,18 @@
 
 ghost use Rattle.std.specs.Prelude.{◌≡◌};
 ghost use Rattle.sql_grammar.specs.Grammar.{parse};
-ghost use Rattle.sql_parse.specs.Reads.{Reads};
+ghost use Rattle.expr_parse.specs.Reads.{Reads};
 ghost use Rattle.sql_parse.specs.Statements as spec;
 
-use crate::atoms::column;
-use crate::cursor::Tokens;
-use crate::expression::ColumnName;
-use crate::fault::Fault;
 use crate::statement::{Limit, SortKey, TableName};
+use expr_parse::{ColumnName, Fault, Tokens, column};
 use sql_grammar::Kind;
 use sqlite_items::Items;
 use std::alloc::Global;
 use volt_value::Text;
 
 /// `name {"," name}`.
-#[tactic(auto, using(crate::proofs::Steps::steps), unfolding(crate::specs::Statements::names))]
+#[tactic(auto, using(expr_parse::proofs::Steps::steps), unfolding(crate::specs::Statements::names))]
 pub fn names(alloc: Global, tokens: &mut Tokens<'_>) -> Result<Items<Text>, Fault>
     ensures { Reads (parse spec.names tokens.old) result tokens.new }
 {
@@ -32,7 +29,7 @@ pub fn names(alloc: Global, tokens: &mut Tokens<'_>) -> Result<Items<Text>, Faul
 }
 
 /// `col {"," col}`.
-#[tactic(auto, using(crate::proofs::Steps::steps), unfolding(crate::specs::Statements::columns))]
+#[tactic(auto, using(expr_parse::proofs::Steps::steps), unfolding(crate::specs::Statements::columns))]
 fn columns(alloc: Global, tokens: &mut Tokens<'_>) -> Result<Items<ColumnName>, Fault>
     ensures { Reads (parse spec.columns tokens.old) result tokens.new }
 {
@@ -48,7 +45,7 @@ fn columns(alloc: Global, tokens: &mut Tokens<'_>) -> Result<Items<ColumnName>, 
 }
 
 /// `[[AS] name]`.
-#[tactic(auto, using(crate::proofs::Steps::steps), unfolding(crate::specs::Statements::alias))]
+#[tactic(auto, using(expr_parse::proofs::Steps::steps), unfolding(crate::specs::Statements::alias))]
 fn alias(alloc: Global, tokens: &mut Tokens<'_>) -> Result<Option<Text>, Fault>
     ensures { Reads (parse spec.alias tokens.old) result tokens.new }
 {
@@ -62,7 +59,7 @@ fn alias(alloc: Global, tokens: &mut Tokens<'_>) -> Result<Option<Text>, Fault>
 }
 
 /// `name [[AS] name]`.
-#[tactic(auto, using(crate::proofs::Steps::steps), unfolding(crate::specs::Statements::table))]
+#[tactic(auto, using(expr_parse::proofs::Steps::steps), unfolding(crate::specs::Statements::table))]
 pub fn table(alloc: Global, tokens: &mut Tokens<'_>) -> Result<TableName, Fault>
     ensures { Reads (parse spec.table tokens.old) result tokens.new }
 {
@@ -72,7 +69,7 @@ pub fn table(alloc: Global, tokens: &mut Tokens<'_>) -> Result<TableName, Fault>
 }
 
 /// `[GROUP BY col {"," col}]`.
-#[tactic(auto, using(crate::proofs::Steps::steps), unfolding(crate::specs::Statements::groups))]
+#[tactic(auto, using(expr_parse::proofs::Steps::steps), unfolding(crate::specs::Statements::groups))]
 pub fn groups(alloc: Global, tokens: &mut Tokens<'_>) -> Result<Items<ColumnName>, Fault>
     ensures { Reads (parse spec.groups tokens.old) result tokens.new }
 {
@@ -84,7 +81,7 @@ pub fn groups(alloc: Global, tokens: &mut Tokens<'_>) -> Result<Items<ColumnName
 }
 
 /// `[ASC | DESC]`: whether it is DESC.
-#[tactic(auto, using(crate::proofs::Steps::steps), unfolding(crate::specs::Statements::descending))]
+#[tactic(auto, using(expr_parse::proofs::Steps::steps), unfolding(crate::specs::Statements::descending))]
 fn descending(tokens: &mut Tokens<'_>) -> bool
     ensures { parse spec.descending tokens.old ≡ Ok (result, tokens.new) }
 {
@@ -96,7 +93,7 @@ fn descending(tokens: &mut Tokens<'_>) -> bool
 }
 
 /// `col [ASC | DESC]`.
-#[tactic(auto, using(crate::proofs::Steps::steps), unfolding(crate::specs::Statements::key))]
+#[tactic(auto, using(expr_parse::proofs::Steps::steps), unfolding(crate::specs::Statements::key))]
 fn key(alloc: Global, tokens: &mut Tokens<'_>) -> Result<SortKey, Fault>
     ensures { Reads (parse spec.key tokens.old) result tokens.new }
 {
@@ -106,7 +103,7 @@ fn key(alloc: Global, tokens: &mut Tokens<'_>) -> Result<SortKey, Fault>
 }
 
 /// `key {"," key}`.
-#[tactic(auto, using(crate::proofs::Steps::steps), unfolding(crate::specs::Statements::keys))]
+#[tactic(auto, using(expr_parse::proofs::Steps::steps), unfolding(crate::specs::Statements::keys))]
 fn keys(alloc: Global, tokens: &mut Tokens<'_>) -> Result<Items<SortKey>, Fault>
     ensures { Reads (parse spec.keys tokens.old) result tokens.new }
 {
@@ -122,7 +119,7 @@ fn keys(alloc: Global, tokens: &mut Tokens<'_>) -> Result<Items<SortKey>, Fault>
 }
 
 /// `[ORDER BY key {"," key}]`.
-#[tactic(auto, using(crate::proofs::Steps::steps), unfolding(crate::specs::Statements::order))]
+#[tactic(auto, using(expr_parse::proofs::Steps::steps), unfolding(crate::specs::Statements::order))]
 pub fn order(alloc: Global, tokens: &mut Tokens<'_>) -> Result<Items<SortKey>, Fault>
     ensures { Reads (parse spec.order tokens.old) result tokens.new }
 {
@@ -134,7 +131,7 @@ pub fn order(alloc: Global, tokens: &mut Tokens<'_>) -> Result<Items<SortKey>, F
 }
 
 /// A number, `?`, or `":" name`.
-#[tactic(auto, using(crate::proofs::Steps::steps), unfolding(crate::specs::Statements::limit_value))]
+#[tactic(auto, using(expr_parse::proofs::Steps::steps), unfolding(crate::specs::Statements::limit_value))]
 fn limit_value(alloc: Global, tokens: &mut Tokens<'_>) -> Result<Limit, Fault>
     ensures { Reads (parse spec.limit_value tokens.old) result tokens.new }
 {
@@ -149,7 +146,7 @@ fn limit_value(alloc: Global, tokens: &mut Tokens<'_>) -> Result<Limit, Fault>
 }
 
 /// `[LIMIT (number | "?" | ":" name)]`.
-#[tactic(auto, using(crate::proofs::Steps::steps), unfolding(crate::specs::Statements::limited))]
+#[tactic(auto, using(expr_parse::proofs::Steps::steps), unfolding(crate::specs::Statements::limited))]
 pub fn limited(alloc: Global, tokens: &mut Tokens<'_>) -> Result<Option<Limit>, Fault>
     ensures { Reads (parse spec.limited tokens.old) result tokens.new }
 {

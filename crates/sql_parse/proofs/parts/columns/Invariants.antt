@@ -2,7 +2,7 @@ use Rattle.std.proofs.Common.{◌≡◌, ◌-◌}
 use Rattle.sql_grammar.specs.declared.kind.Kind.TheVariants as k
 use Rattle.sql_grammar.specs.Grammar.{parse, loop, at, skip, joined}
 use Rattle.sql_parse.specs.Statements.{columns}
-use Rattle.sql_parse.specs.Expressions.{column}
+use Rattle.expr_parse.specs.Expressions.{column}
 use Rattle.sql_parse.proofs.parts.columns.Given as goal
 
 abbrev pub invariant-loop-turn : goal.invariant-loop-turn

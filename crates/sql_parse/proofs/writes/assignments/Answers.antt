@@ -2,7 +2,7 @@ use Rattle.std.proofs.Common.{◌≡◌, true, false, rules}
 use Rattle.sql_grammar.specs.declared.kind.Kind.TheVariants as k
 use Rattle.sql_grammar.specs.Grammar.{parse, at, skip, joined}
 use Rattle.sql_parse.specs.Statements.{assignment}
-use Rattle.sql_parse.proofs.Loops.{turned, ended, eaten_at, eaten_read}
+use Rattle.expr_parse.proofs.Loops.{turned, ended, eaten_at, eaten_read}
 use Rattle.sql_parse.proofs.writes.assignments.Goals as goal
 
 pub loop-turn-preserved : goal.loop-turn-preserved

@@ -2,7 +2,7 @@ use Rattle.std.proofs.Common.{◌≡◌, ◌-◌}
 use Rattle.sql_grammar.specs.declared.kind.Kind.TheVariants as k
 use Rattle.sql_grammar.specs.Grammar.{parse, loop, at, skip, joined}
 use Rattle.sql_parse.specs.Statements.{inner_exprs}
-use Rattle.sql_parse.specs.Expressions.{inner_expr}
+use Rattle.expr_parse.specs.Expressions.{inner_expr}
 use Rattle.sql_parse.proofs.writes.inner_exprs.Given as goal
 
 abbrev pub invariant-loop-turn : goal.invariant-loop-turn

@@ -1,0 +1,5 @@
+pub mod Cursor
+pub mod Expressions
+pub mod Nests
+pub mod Reads
+pub mod Words
