@@ -12,7 +12,7 @@ use crate::procedure::{ParameterText, ProcBody, ProcPartition, ProcText, Program
 use crate::program::steps;
 use crate::tables::{index_text, partition_text, table_text};
 use crate::types::type_name;
-use expr_parse::{Fault, Tokens};
+use expr_parse::{Fault, Tokens, comma_list};
 use sql_grammar::Kind;
 use sql_parse::{MAX_NESTING, stmt};
 use sqlite_items::Items;
@@ -71,19 +71,11 @@ fn parameter(alloc: Global, tokens: &mut Tokens<'_>) -> Result<ParameterText, Fa
 }
 
 /// `name type {"," name type}`.
-#[tactic(auto, using(expr_parse::proofs::Steps::steps, expr_parse::proofs::CommaLists::comma_lists), unfolding(crate::specs::Procedures::listed_parameters))]
+#[tactic(auto, unfolding(crate::specs::Procedures::listed_parameters))]
 fn listed_parameters(alloc: Global, tokens: &mut Tokens<'_>) -> Result<Items<ParameterText>, Fault>
     ensures { Reads (parse procedures.listed_parameters tokens.old) result tokens.new }
 {
-    let mut found = Items::new(alloc);
-    found.push(parameter(alloc, tokens)?)?;
-    for _turn in 0..tokens.left() {
-        if !tokens.eat(Kind::Comma) {
-            return Ok(found);
-        }
-        found.push(parameter(alloc, tokens)?)?;
-    }
-    Ok(found)
+    comma_list(alloc, tokens, parameter)
 }
 
 /// `[name type {"," name type}]`.

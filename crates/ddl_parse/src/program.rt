@@ -7,7 +7,7 @@ ghost use Rattle.ddl_parse.specs.NestsSteps.{NestsSteps};
 ghost use Rattle.ddl_parse.specs.Procedures as spec;
 
 use crate::procedure::{ReturnText, StepText};
-use expr_parse::{ColumnName, Expr, Fault, Tokens, expr};
+use expr_parse::{ColumnName, Expr, Fault, Tokens, comma_list, expr};
 use sql_grammar::Kind;
 use sql_parse::stmt;
 use sqlite_items::Items;
@@ -98,19 +98,15 @@ fn executed(alloc: Global, tokens: &mut Tokens<'_>, depth: usize) -> Result<Step
 }
 
 /// `expr {"," expr}`.
-#[tactic(auto, using(expr_parse::proofs::Steps::steps, expr_parse::proofs::CommaLists::comma_lists), unfolding(crate::specs::Procedures::exprs))]
+#[tactic(auto, unfolding(crate::specs::Procedures::exprs))]
 fn exprs(alloc: Global, tokens: &mut Tokens<'_>, depth: usize) -> Result<Items<Expr>, Fault>
     ensures { Reads (parse (spec.exprs depth) tokens.old) result tokens.new }
 {
-    let mut found = Items::new(alloc);
-    found.push(expr(alloc, tokens, depth)?)?;
-    for _turn in 0..tokens.left() {
-        if !tokens.eat(Kind::Comma) {
-            return Ok(found);
-        }
-        found.push(expr(alloc, tokens, depth)?)?;
-    }
-    Ok(found)
+    comma_list(
+        alloc,
+        tokens,
+        |alloc: Global, tokens: &mut Tokens<'_>| expr(alloc, tokens, depth),
+    )
 }
 
 /// `[name | expr {"," expr}] ";"`, behind RETURN.

@@ -9,7 +9,7 @@ ghost use Rattle.ddl_parse.specs.Ddl as spec;
 
 use crate::ddl::{ColumnText, CreateIndex, CreateTable, PartitionTable, TableItem};
 use crate::types::type_name;
-use expr_parse::{Fault, Tokens};
+use expr_parse::{Fault, Tokens, comma_list};
 use sql_grammar::Kind;
 use sql_parse::names;
 use sqlite_items::Items;
@@ -110,19 +110,11 @@ fn table_item(alloc: Global, tokens: &mut Tokens<'_>) -> Result<TableItem, Fault
 }
 
 /// `item {"," item}`.
-#[tactic(auto, using(expr_parse::proofs::Steps::steps, expr_parse::proofs::CommaLists::comma_lists), unfolding(crate::specs::Ddl::table_items))]
+#[tactic(auto, unfolding(crate::specs::Ddl::table_items))]
 fn table_items(alloc: Global, tokens: &mut Tokens<'_>) -> Result<Items<TableItem>, Fault>
     ensures { Reads (parse spec.table_items tokens.old) result tokens.new }
 {
-    let mut found = Items::new(alloc);
-    found.push(table_item(alloc, tokens)?)?;
-    for _turn in 0..tokens.left() {
-        if !tokens.eat(Kind::Comma) {
-            return Ok(found);
-        }
-        found.push(table_item(alloc, tokens)?)?;
-    }
-    Ok(found)
+    comma_list(alloc, tokens, table_item)
 }
 
 /// `name "(" item {"," item} ")"`, behind TABLE.

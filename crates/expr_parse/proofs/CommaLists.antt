@@ -1,59 +1,33 @@
 -- Lists with commas, turn by turn.
-use Rattle.std.proofs.Common.{arith, ◌≡◌, ◌<◌, ℕ, zero, suc, ◌-◌, true, false, List, [], ◌∷◌, ◌++◌, length, Ok, Err, refl}
+use Rattle.std.proofs.Common.{◌≡◌, ◌<◌, ℕ, ◌+◌, ◌-◌, true, false, List, [], ◌∷◌, ◌++◌, Ok, Err, refl, ◌∙◌}
 use Rattle.sql_grammar.specs.declared.kind.Kind.TheVariants.{Comma}
-use Rattle.sql_grammar.specs.Kinds.{same_kind}
+use Rattle.sql_grammar.specs.Grammar.{Tok, Outcome, after_tok, joined, next_is, loop}
 use Rattle.expr_parse.specs.Cursor.{Eats}
-use Rattle.sql_grammar.specs.Grammar.{Tok, G, Outcome, skip, joined, listed, next_is, at, parse, loop}
+use Rattle.expr_parse.specs.Reads.{Reads}
+use Rattle.expr_parse.specs.declared.fault.Fault.{Fault}
+use Rattle.expr_parse.specs.declared.fault.Fault.TheVariants as fault
+use Rattle.expr_parse.proofs.Loops.{one_more}
 
--- what is left to read of a list, with what was found of it
-abbrev pub Turns : {A : Type 0} → G A → ℕ → List A → List Tok → Outcome (List A)
-Turns g n found ts = loop joined (at (skip Comma g)) (parse (skip Comma g)) n found ts
+module _ {A : Type 0} (read : List Tok → Outcome A) where
+  -- what is left to read of a list, with what was found of it
+  abbrev pub Turns : ℕ → List A → List Tok → Outcome (List A)
+  Turns n found ts = loop joined (next_is Comma) (after_tok Comma read) n found ts
 
-pub listed_first : {A : Type 0} (g : G A) (ts : List Tok) (x : A) (rest : List Tok) → parse g ts ≡ Ok (x, rest) → parse (listed g) ts ≡ Turns g (length rest) (x ∷ []) rest
-listed_first g ts x rest e = rw e refl
+  -- one more turn: a comma was read, and an item
+  pub turn : (whole : Outcome (List A)) (n at : ℕ) (found new : List A) (old us rest : List Tok) (x : A)
+      → at < n → whole ≡ Turns (n - at) found old → Eats Comma true old us → read us ≡ Ok (x, rest) → new ≡ found ++ x ∷ [] → whole ≡ Turns (n - (at + 1)) new rest
+  turn whole n at found new old us rest x below before (t, is, same) reads pushed =
+      rw pushed (one_more (λ m. Turns m found old) n at below before ∙ rw (is, same, reads) refl)
 
-pub listed_fail : {A : Type 0} (g : G A) (ts : List Tok) (rest : List Tok) → parse g ts ≡ Err rest → parse (listed g) ts ≡ Err rest
-listed_fail g ts rest e = rw e refl
+  -- a comma was read, and no item
+  pub fail : (whole : Outcome (List A)) (n at : ℕ) (found : List A) (old us rest : List Tok) (why : Fault)
+      → at < n → whole ≡ Turns (n - at) found old → Eats Comma true old us → Reads (read us) (Err why) rest → Reads whole (Err why) rest
+  fail whole n at found old us rest fault.Syntax below before (t, is, same) refused =
+      one_more (λ m. Turns m found old) n at below before ∙ rw (is, same, refused) refl
+  fail whole n at found old us rest fault.NoMemory below before eats refused = tt
 
-pub turns_stop : {A : Type 0} (g : G A) (n : ℕ) (found : List A) (ts : List Tok) → next_is Comma ts ≡ false → Turns g n found ts ≡ Ok (found, ts)
-turns_stop g zero found ts e = refl
-turns_stop g (suc n) found ts e = rw e refl
-
-pub turns_more : {A : Type 0} (g : G A) (n : ℕ) (found : List A) (t : Tok) (us : List Tok) (x : A) (rest : List Tok) → 0 < n → same_kind t.kind Comma ≡ true → parse g us ≡ Ok (x, rest)
-    → Turns g n found (t ∷ us) ≡ Turns g (n - 1) (found ++ x ∷ []) rest
-turns_more g zero found t us x rest h s e = absurd (omega arith)
-turns_more g (suc n) found t us x rest h s e =
-    let m : suc n - 1 ≡ n = omega arith in
-    rw (m, s, e) refl
-
-pub turns_fail : {A : Type 0} (g : G A) (n : ℕ) (found : List A) (t : Tok) (us rest : List Tok) → 0 < n → same_kind t.kind Comma ≡ true → parse g us ≡ Err rest
-    → Turns g n found (t ∷ us) ≡ Err rest
-turns_fail g zero found t us rest h s e = absurd (omega arith)
-turns_fail g (suc n) found t us rest h s e = rw (s, e) refl
-
-pub ruleset comma_lists = (turns_stop, turns_more, turns_fail, listed_first, listed_fail)
-
--- one more turn: a comma was read, and an item
-pub turn : {A : Type 0} (g : G A) (whole : Outcome (List A)) (n m : ℕ) (found new : List A) (old us rest : List Tok) (x : A)
-    → whole ≡ Turns g n found old → Eats Comma true old us → parse g us ≡ Ok (x, rest) → new ≡ found ++ x ∷ [] → n ≡ suc m → whole ≡ Turns g m new rest
-turn g whole n m found new old us rest x before eats read pushed counted =
-    let more : Turns g (suc m) found (eats.0 ∷ us) ≡ Turns g (suc m - 1) (found ++ x ∷ []) rest = turns_more g (suc m) found eats.0 us x rest (omega arith) eats.2 read in
-    let less : suc m - 1 ≡ m = omega arith in
-    rw (before, counted, eats.1, more, less, pushed) refl
-
--- what is left to read of texts behind one another, with what was found of them
-abbrev pub Rounds : {A : Type 0} → G A → ℕ → List A → List Tok → Outcome (List A)
-Rounds g n found ts = loop joined (at g) (parse g) n found ts
-
-pub round_end : {A : Type 0} (g : G A) (n : ℕ) (found : List A) (ts : List Tok) → at g ts ≡ false → Rounds g n found ts ≡ Ok (found, ts)
-round_end g zero found ts e = refl
-round_end g (suc n) found ts e = rw e refl
-
-pub round_fail : {A : Type 0} (g : G A) (n : ℕ) (found : List A) (ts rest : List Tok) → 0 < n → at g ts ≡ true → parse g ts ≡ Err rest → Rounds g n found ts ≡ Err rest
-round_fail g zero found ts rest h b e = absurd (omega arith)
-round_fail g (suc n) found ts rest h b e = rw (b, e) refl
-
--- one more round: a text was read
-pub round : {A : Type 0} (g : G A) (whole : Outcome (List A)) (n m : ℕ) (found new : List A) (old rest : List Tok) (x : A)
-    → whole ≡ Rounds g n found old → at g old ≡ true → parse g old ≡ Ok (x, rest) → new ≡ found ++ x ∷ [] → n ≡ suc m → whole ≡ Rounds g m new rest
-round g whole n m found new old rest x before begun read pushed counted = rw (before, counted, begun, read, pushed) refl
+  -- no comma comes
+  pub stop : (whole : Outcome (List A)) (n at : ℕ) (found : List A) (old new : List Tok)
+      → at < n → whole ≡ Turns (n - at) found old → Eats Comma false old new → whole ≡ Ok (found, new)
+  stop whole n at found old new below before (none, same) =
+      one_more (λ m. Turns m found old) n at below before ∙ rw (none, same) refl

@@ -90,7 +90,6 @@ pub record Knows (inner : Level → G Expr) : Type 0 where
   pub cont_negation : cont (inner Negation) ≡ after Negation
   pub cont_sum : cont (inner Sum) ≡ after Sum
   pub cont_sign : cont (inner Sign) ≡ after Sign
-  pub first_sum : first (inner Sum) ≡ k.Minus ∷ operands
   pub ok_whole : ok (inner Whole) ≡ true
   pub ok_negation : ok (inner Negation) ≡ true
   pub ok_sum : ok (inner Sum) ≡ true
@@ -99,11 +98,11 @@ pub record Knows (inner : Level → G Expr) : Type 0 where
 module _ (depth : ℕ) (inner : Level → G Expr) (known : Knows inner) where
   atom-cont : cont (atom depth inner) ≡ k.Dot ∷ k.Dot ∷ []
   unfolding atom parenthesized literal named column bound rows first_of_rows
-  atom-cont = simp (known.null_whole, known.cont_whole)
+  atom-cont = simp (known.null_whole)
 
   atom-ok : ok (atom depth inner) ≡ true
   unfolding atom parenthesized literal named column bound rows first_of_rows
-  atom-ok = simp (known.null_whole, known.cont_whole, known.ok_whole)
+  atom-ok = simp (known.cont_whole, known.ok_whole)
 
   signed-ok : ok (signed depth inner) ≡ true
   unfolding signed minus
@@ -119,7 +118,7 @@ module _ (depth : ℕ) (inner : Level → G Expr) (known : Knows inner) where
 
   among-ok : (b : Bool) → ok (among depth inner b) ≡ true
   unfolding among sums
-  among-ok b = simp (known.null_sum, known.cont_sum, known.ok_sum, known.first_sum)
+  among-ok b = simp (known.cont_sum, known.ok_sum)
 
   among-cont : (b : Bool) → cont (among depth inner b) ≡ []
   unfolding among sums
@@ -127,11 +126,11 @@ module _ (depth : ℕ) (inner : Level → G Expr) (known : Knows inner) where
 
   between-ok : (b : Bool) → ok (between depth inner b) ≡ true
   unfolding between
-  between-ok b = simp (sum-ok, sum-cont depth inner, sum-null depth inner)
+  between-ok b = simp (sum-ok, sum-cont depth inner)
 
   between-cont : (b : Bool) → cont (between depth inner b) ≡ after_sum
   unfolding between
-  between-cont b = simp (sum-cont depth inner, sum-null depth inner)
+  between-cont b = simp (sum-cont depth inner)
 
   excluded-ok : ok (excluded depth inner) ≡ true
   unfolding excluded
@@ -143,7 +142,7 @@ module _ (depth : ℕ) (inner : Level → G Expr) (known : Knows inner) where
 
   compared-ok : ok (compared depth inner) ≡ true
   unfolding compared
-  compared-ok = simp (sum-ok, sum-cont depth inner, sum-null depth inner)
+  compared-ok = simp (sum-ok)
 
   compared-null : null (compared depth inner) ≡ true
   unfolding compared
@@ -159,7 +158,7 @@ module _ (depth : ℕ) (inner : Level → G Expr) (known : Knows inner) where
 
   tested-ok : ok (tested depth inner) ≡ true
   unfolding tested contained null_test
-  tested-ok = simp (among-ok, between-ok, excluded-ok, compared-ok, compared-null, compared-first)
+  tested-ok = simp (among-ok, between-ok, excluded-ok, compared-ok, compared-first)
 
   tested-null : null (tested depth inner) ≡ true
   unfolding tested contained compared
@@ -195,19 +194,15 @@ module _ (depth : ℕ) (inner : Level → G Expr) (known : Knows inner) where
 
   conjunction-ok : ok (conjunction depth inner) ≡ true
   unfolding conjunction
-  conjunction-ok = simp (negation-ok, negation-cont depth inner, negation-null depth inner)
-
-  conjunction-null : null (conjunction depth inner) ≡ false
-  unfolding conjunction
-  conjunction-null = negation-null depth inner
+  conjunction-ok = simp (negation-ok, negation-cont depth inner)
 
   conjunction-cont : cont (conjunction depth inner) ≡ k.And ∷ (after_negation ++ after_negation)
   unfolding conjunction
-  conjunction-cont = simp (negation-cont depth inner, negation-null depth inner)
+  conjunction-cont = simp (negation-cont depth inner)
 
   disjunction-ok : ok (disjunction depth inner) ≡ true
   unfolding disjunction
-  disjunction-ok = simp (conjunction-ok, conjunction-cont, conjunction-null)
+  disjunction-ok = simp (conjunction-ok, conjunction-cont)
 
 -- the rules of the innermost nesting
 abbrev none : Level → G Expr
@@ -255,11 +250,6 @@ unfolding level
 level-first zero = disjunction-first zero none
 level-first (suc depth) = disjunction-first (suc depth) (level depth)
 
-sum_level-first : (depth : ℕ) → first (level depth Sum) ≡ k.Minus ∷ operands
-unfolding level
-sum_level-first zero = sum-first zero none
-sum_level-first (suc depth) = sum-first (suc depth) (level depth)
-
 knows : (depth : ℕ) → ((l : Level) → ok (level depth l) ≡ true) → Knows (level depth)
 knows depth oks = record {
   null_whole = level-null depth Whole;
@@ -270,7 +260,6 @@ knows depth oks = record {
   cont_negation = level-cont depth Negation;
   cont_sum = level-cont depth Sum;
   cont_sign = level-cont depth Sign;
-  first_sum = sum_level-first depth;
   ok_whole = oks Whole;
   ok_negation = oks Negation;
   ok_sum = oks Sum;

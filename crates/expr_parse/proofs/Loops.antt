@@ -6,7 +6,7 @@ use Rattle.expr_parse.specs.Reads.{Reads, applied}
 use Rattle.expr_parse.specs.declared.fault.Fault.{Fault}
 use Rattle.sql_grammar.specs.Grammar.{Tok, G, Outcome, seq, alt, skip, at, parse, loop}
 
-one_more : {X : Type 0} {x : X} (f : ℕ → X) (n at : ℕ) → at < n → x ≡ f (n - at) → x ≡ f (suc (n - (at + 1)))
+pub one_more : {X : Type 0} {x : X} (f : ℕ → X) (n at : ℕ) → at < n → x ≡ f (n - at) → x ≡ f (suc (n - (at + 1)))
 one_more f n at below e = let turn : n - at ≡ suc (n - (at + 1)) = omega arith in e ∙ ap f turn
 
 one_item : {A B : Type 0} (f : A → B → A) (begins : List Tok → Bool) (read : List Tok → Outcome B) (n : ℕ) (a : A) (ts : List Tok) (b : B) (rest : List Tok)

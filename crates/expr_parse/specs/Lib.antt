@@ -1,3 +1,4 @@
+pub mod CommaLists
 pub mod Cursor
 pub mod Expressions
 pub mod Nests

@@ -99,6 +99,13 @@ pub fn is_in(
     })
 }
 
+/// Both operands, each in a box.
+fn boxed(alloc: Global, left: Expr, right: Expr) -> Result<(Boxed<Expr>, Boxed<Expr>), AllocError>
+    ensures { IfOk result (λ boxes. (boxes.0 ≡ left) × (boxes.1 ≡ right)) }
+{
+    Ok((Boxed::new(alloc, left)?, Boxed::new(alloc, right)?))
+}
+
 pub fn calculate(
     alloc: Global,
     operator: Arithmetic,
@@ -107,11 +114,8 @@ pub fn calculate(
 ) -> Result<Expr, AllocError>
     ensures { IfOk result (λ e. e ≡ Expr.Calculate operator left right) }
 {
-    Ok(Expr::Calculate(
-        operator,
-        Boxed::new(alloc, left)?,
-        Boxed::new(alloc, right)?,
-    ))
+    let (left, right) = boxed(alloc, left, right)?;
+    Ok(Expr::Calculate(operator, left, right))
 }
 
 pub fn compare(
@@ -122,11 +126,8 @@ pub fn compare(
 ) -> Result<Expr, AllocError>
     ensures { IfOk result (λ e. e ≡ Expr.Compare operator left right) }
 {
-    Ok(Expr::Compare(
-        operator,
-        Boxed::new(alloc, left)?,
-        Boxed::new(alloc, right)?,
-    ))
+    let (left, right) = boxed(alloc, left, right)?;
+    Ok(Expr::Compare(operator, left, right))
 }
 
 pub fn between(
@@ -138,10 +139,11 @@ pub fn between(
 ) -> Result<Expr, AllocError>
     ensures { IfOk result (λ e. e ≡ Expr.Between value low high negated) }
 {
+    let (low, high) = boxed(alloc, low, high)?;
     Ok(Expr::Between {
         value: Boxed::new(alloc, value)?,
-        low: Boxed::new(alloc, low)?,
-        high: Boxed::new(alloc, high)?,
+        low,
+        high,
         negated,
     })
 }
@@ -149,11 +151,13 @@ pub fn between(
 pub fn both(alloc: Global, left: Expr, right: Expr) -> Result<Expr, AllocError>
     ensures { IfOk result (λ e. e ≡ Expr.And left right) }
 {
-    Ok(Expr::And(Boxed::new(alloc, left)?, Boxed::new(alloc, right)?))
+    let (left, right) = boxed(alloc, left, right)?;
+    Ok(Expr::And(left, right))
 }
 
 pub fn either(alloc: Global, left: Expr, right: Expr) -> Result<Expr, AllocError>
     ensures { IfOk result (λ e. e ≡ Expr.Or left right) }
 {
-    Ok(Expr::Or(Boxed::new(alloc, left)?, Boxed::new(alloc, right)?))
+    let (left, right) = boxed(alloc, left, right)?;
+    Ok(Expr::Or(left, right))
 }

@@ -11,6 +11,7 @@ use crate::cursor::Tokens;
 use crate::expression::Expr;
 use crate::fault::Fault;
 use crate::levels::Level;
+use crate::lists::comma_list;
 use crate::operators::{
     adding, between, both, calculate, compare, comparing, either, invert, is_in, is_null, negate,
     parenthesize, scaling,
@@ -148,20 +149,16 @@ impl<F: Fn(Global, &mut Tokens<'_>, usize, Level) -> Result<Expr, Fault>> Rules<
     }
 
     /// `sum {"," sum}`.
-    #[tactic(auto, using(crate::proofs::Steps::steps), unfolding(crate::specs::Expressions::sums))]
+    #[tactic(auto, unfolding(crate::specs::Expressions::sums))]
     fn sums(&self, tokens: &mut Tokens<'_>) -> Result<Items<Expr>, Fault>
         requires { Nests self.now.depth (F.pre self.now.level) (F.post self.now.level) }
         ensures { Reads (parse (spec.sums self.now.depth (spec.deeper self.now.depth)) tokens.old) result tokens.new }
     {
-        let mut found = Items::new(self.alloc);
-        found.push(self.inner(tokens, Level::Sum)?)?;
-        for _turn in 0..tokens.left() {
-            if !tokens.eat(Kind::Comma) {
-                return Ok(found);
-            }
-            found.push(self.inner(tokens, Level::Sum)?)?;
-        }
-        Ok(found)
+        comma_list(
+            self.alloc,
+            tokens,
+            |_alloc: Global, tokens: &mut Tokens<'_>| self.inner(tokens, Level::Sum),
+        )
     }
 
     /// `"(" sum {"," sum} ")"`, behind IN.

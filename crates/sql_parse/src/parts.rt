@@ -6,42 +6,26 @@ ghost use Rattle.expr_parse.specs.Reads.{Reads};
 ghost use Rattle.sql_parse.specs.Statements as spec;
 
 use crate::statement::{Limit, SortKey, TableName};
-use expr_parse::{ColumnName, Fault, Tokens, column};
+use expr_parse::{ColumnName, Fault, Tokens, column, comma_list};
 use sql_grammar::Kind;
 use sqlite_items::Items;
 use std::alloc::Global;
 use volt_value::Text;
 
 /// `name {"," name}`.
-#[tactic(auto, using(expr_parse::proofs::Steps::steps), unfolding(crate::specs::Statements::names))]
+#[tactic(auto, unfolding(crate::specs::Statements::names))]
 pub fn names(alloc: Global, tokens: &mut Tokens<'_>) -> Result<Items<Text>, Fault>
     ensures { Reads (parse spec.names tokens.old) result tokens.new }
 {
-    let mut found = Items::new(alloc);
-    found.push(tokens.name(alloc)?)?;
-    for _turn in 0..tokens.left() {
-        if !tokens.eat(Kind::Comma) {
-            return Ok(found);
-        }
-        found.push(tokens.name(alloc)?)?;
-    }
-    Ok(found)
+    comma_list(alloc, tokens, |alloc, tokens| tokens.name(alloc))
 }
 
 /// `col {"," col}`.
-#[tactic(auto, using(expr_parse::proofs::Steps::steps), unfolding(crate::specs::Statements::columns))]
+#[tactic(auto, unfolding(crate::specs::Statements::columns))]
 fn columns(alloc: Global, tokens: &mut Tokens<'_>) -> Result<Items<ColumnName>, Fault>
     ensures { Reads (parse spec.columns tokens.old) result tokens.new }
 {
-    let mut found = Items::new(alloc);
-    found.push(column(alloc, tokens)?)?;
-    for _turn in 0..tokens.left() {
-        if !tokens.eat(Kind::Comma) {
-            return Ok(found);
-        }
-        found.push(column(alloc, tokens)?)?;
-    }
-    Ok(found)
+    comma_list(alloc, tokens, |alloc, tokens| column(alloc, tokens))
 }
 
 /// `[[AS] name]`.
@@ -49,10 +33,7 @@ fn columns(alloc: Global, tokens: &mut Tokens<'_>) -> Result<Items<ColumnName>, 
 fn alias(alloc: Global, tokens: &mut Tokens<'_>) -> Result<Option<Text>, Fault>
     ensures { Reads (parse spec.alias tokens.old) result tokens.new }
 {
-    if tokens.eat(Kind::As) {
-        return Ok(Some(tokens.name(alloc)?));
-    }
-    if tokens.sees(Kind::Name) {
+    if tokens.eat(Kind::As) || tokens.sees(Kind::Name) {
         return Ok(Some(tokens.name(alloc)?));
     }
     Ok(None)
@@ -103,19 +84,11 @@ fn key(alloc: Global, tokens: &mut Tokens<'_>) -> Result<SortKey, Fault>
 }
 
 /// `key {"," key}`.
-#[tactic(auto, using(expr_parse::proofs::Steps::steps), unfolding(crate::specs::Statements::keys))]
+#[tactic(auto, unfolding(crate::specs::Statements::keys))]
 fn keys(alloc: Global, tokens: &mut Tokens<'_>) -> Result<Items<SortKey>, Fault>
     ensures { Reads (parse spec.keys tokens.old) result tokens.new }
 {
-    let mut found = Items::new(alloc);
-    found.push(key(alloc, tokens)?)?;
-    for _turn in 0..tokens.left() {
-        if !tokens.eat(Kind::Comma) {
-            return Ok(found);
-        }
-        found.push(key(alloc, tokens)?)?;
-    }
-    Ok(found)
+    comma_list(alloc, tokens, key)
 }
 
 /// `[ORDER BY key {"," key}]`.

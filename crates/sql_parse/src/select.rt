@@ -10,7 +10,7 @@ use crate::statement::{
     Aggregate, Limit, Output, OutputValue, Outputs, SecondTable, Select, SortKey, TableName,
 };
 use crate::writes::filter;
-use expr_parse::{ColumnName, Expr, Fault, Tokens, expr, inner_expr};
+use expr_parse::{ColumnName, Expr, Fault, Tokens, comma_list, expr, inner_expr};
 use sql_grammar::Kind;
 use sqlite_items::Items;
 use std::alloc::Global;
@@ -166,7 +166,7 @@ fn output(alloc: Global, tokens: &mut Tokens<'_>, depth: usize) -> Result<Output
 }
 
 /// `out {"," out}`.
-#[tactic(auto, using(expr_parse::proofs::Steps::steps), unfolding(crate::specs::Statements::listed_outputs))]
+#[tactic(auto, unfolding(crate::specs::Statements::listed_outputs))]
 fn listed_outputs(
     alloc: Global,
     tokens: &mut Tokens<'_>,
@@ -174,15 +174,7 @@ fn listed_outputs(
 ) -> Result<Items<Output>, Fault>
     ensures { Reads (parse (spec.listed_outputs depth) tokens.old) result tokens.new }
 {
-    let mut found = Items::new(alloc);
-    found.push(output(alloc, tokens, depth)?)?;
-    for _turn in 0..tokens.left() {
-        if !tokens.eat(Kind::Comma) {
-            return Ok(found);
-        }
-        found.push(output(alloc, tokens, depth)?)?;
-    }
-    Ok(found)
+    comma_list(alloc, tokens, |alloc, tokens| output(alloc, tokens, depth))
 }
 
 /// `"*" | out {"," out}`.

@@ -7,7 +7,7 @@ ghost use Rattle.sql_parse.specs.Statements as spec;
 
 use crate::parts::names;
 use crate::statement::{Assignment, Delete, Insert, Update};
-use expr_parse::{Expr, Fault, Tokens, expr, inner_expr};
+use expr_parse::{Expr, Fault, Tokens, comma_list, expr, inner_expr};
 use sql_grammar::Kind;
 use sqlite_items::Items;
 use std::alloc::Global;
@@ -25,19 +25,15 @@ pub fn filter(alloc: Global, tokens: &mut Tokens<'_>, depth: usize) -> Result<Op
 }
 
 /// `expr {"," expr}`, behind a parenthesis.
-#[tactic(auto, using(expr_parse::proofs::Steps::steps), unfolding(crate::specs::Statements::inner_exprs))]
+#[tactic(auto, unfolding(crate::specs::Statements::inner_exprs))]
 fn inner_exprs(alloc: Global, tokens: &mut Tokens<'_>, depth: usize) -> Result<Items<Expr>, Fault>
     ensures { Reads (parse (spec.inner_exprs depth) tokens.old) result tokens.new }
 {
-    let mut found = Items::new(alloc);
-    found.push(inner_expr(alloc, tokens, depth)?)?;
-    for _turn in 0..tokens.left() {
-        if !tokens.eat(Kind::Comma) {
-            return Ok(found);
-        }
-        found.push(inner_expr(alloc, tokens, depth)?)?;
-    }
-    Ok(found)
+    comma_list(
+        alloc,
+        tokens,
+        |alloc, tokens| inner_expr(alloc, tokens, depth),
+    )
 }
 
 /// `["(" names ")"]`.
@@ -97,7 +93,7 @@ fn assignment(alloc: Global, tokens: &mut Tokens<'_>, depth: usize) -> Result<As
 }
 
 /// `name "=" expr {"," name "=" expr}`.
-#[tactic(auto, using(expr_parse::proofs::Steps::steps), unfolding(crate::specs::Statements::assignments))]
+#[tactic(auto, unfolding(crate::specs::Statements::assignments))]
 fn assignments(
     alloc: Global,
     tokens: &mut Tokens<'_>,
@@ -105,15 +101,11 @@ fn assignments(
 ) -> Result<Items<Assignment>, Fault>
     ensures { Reads (parse (spec.assignments depth) tokens.old) result tokens.new }
 {
-    let mut found = Items::new(alloc);
-    found.push(assignment(alloc, tokens, depth)?)?;
-    for _turn in 0..tokens.left() {
-        if !tokens.eat(Kind::Comma) {
-            return Ok(found);
-        }
-        found.push(assignment(alloc, tokens, depth)?)?;
-    }
-    Ok(found)
+    comma_list(
+        alloc,
+        tokens,
+        |alloc, tokens| assignment(alloc, tokens, depth),
+    )
 }
 
 /// `name SET name "=" expr {"," name "=" expr} [WHERE expr]`.

@@ -1,10 +1,8 @@
-use Rattle.std.proofs.Common.{arith, ◌-◌, ◌+◌}
+use Rattle.std.proofs.Common.{rules}
 use Rattle.sql_grammar.specs.Grammar.{parse}
 use Rattle.ddl_parse.specs.Procedures.{listed_parameters, parameter}
-use Rattle.expr_parse.proofs.CommaLists.{turn}
 use Rattle.ddl_parse.proofs.definitions.listed_parameters.Goals as goal
 
-pub loop-turn-preserved : goal.loop-turn-preserved
-loop-turn-preserved c = turn parameter (parse listed_parameters c.args.tokens.now) (c.left-turn-end.result - c.loop-turn._turn) (c.left-turn-end.result - (c.loop-turn._turn + 1))
-    c.loop-turn.found c.push-in-loop-turn.new.self c.loop-turn.tokens c.eat.new.self c.parameter-in-loop-turn.new.tokens c.in_ok-parameter-2.field-0
-    c.loop-turn.invariant c.if-not-eat.ensures c.in_ok-parameter-2.ensures c.in_ok-push-2.ensures.ok (omega arith)
+pub returns : goal.returns
+unfolding listed_parameters
+returns c = c.comma_list.ensures (parse parameter) (λ alloc old new r post. search rules)
