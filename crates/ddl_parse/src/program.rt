@@ -2,6 +2,7 @@
 
 ghost use Rattle.std.specs.Prelude.{◌≡◌};
 ghost use Rattle.sql_grammar.specs.Grammar.{parse, at};
+ghost use Rattle.expr_parse.specs.Expressions.{name, before};
 ghost use Rattle.expr_parse.specs.Reads.{Reads};
 ghost use Rattle.ddl_parse.specs.NestsSteps.{NestsSteps};
 ghost use Rattle.ddl_parse.specs.Procedures as spec;
@@ -42,6 +43,16 @@ fn returned_of(mut values: Items<Expr>) -> ReturnText
     }
 }
 
+/// `name "="`.
+#[tactic(auto, using(expr_parse::proofs::Steps::steps))]
+fn name_before_equal(alloc: Global, tokens: &mut Tokens<'_>) -> Result<Text, Fault>
+    ensures { Reads (parse (before name Kind.Equal) tokens.old) result tokens.new }
+{
+    let name = tokens.name(alloc)?;
+    tokens.expect(Kind::Equal)?;
+    Ok(name)
+}
+
 /// `[name "="]`, behind SQL.
 #[tactic(auto, using(expr_parse::proofs::Steps::steps), unfolding(crate::specs::Procedures::result_name))]
 fn result_name(alloc: Global, tokens: &mut Tokens<'_>) -> Result<Option<Text>, Fault>
@@ -50,9 +61,7 @@ fn result_name(alloc: Global, tokens: &mut Tokens<'_>) -> Result<Option<Text>, F
     if !tokens.sees(Kind::Name) {
         return Ok(None);
     }
-    let name = tokens.name(alloc)?;
-    tokens.expect(Kind::Equal)?;
-    Ok(Some(name))
+    Ok(Some(name_before_equal(alloc, tokens)?))
 }
 
 /// `END ";"`.
@@ -102,11 +111,7 @@ fn executed(alloc: Global, tokens: &mut Tokens<'_>, depth: usize) -> Result<Step
 fn exprs(alloc: Global, tokens: &mut Tokens<'_>, depth: usize) -> Result<Items<Expr>, Fault>
     ensures { Reads (parse (spec.exprs depth) tokens.old) result tokens.new }
 {
-    comma_list(
-        alloc,
-        tokens,
-        |alloc: Global, tokens: &mut Tokens<'_>| expr(alloc, tokens, depth),
-    )
+    comma_list(alloc, tokens, |alloc, tokens| expr(alloc, tokens, depth))
 }
 
 /// `[name | expr {"," expr}] ";"`, behind RETURN.
@@ -125,10 +130,10 @@ fn returned(alloc: Global, tokens: &mut Tokens<'_>, depth: usize) -> Result<Retu
 /// The rules of a step in which so many nestings are left. They take the function that reads the
 /// steps in it as a value, so that each is proved by itself.
 #[derive(Clone, Copy)]
-struct StepRules<F> {
-    alloc: Global,
-    depth: usize,
-    steps: F,
+pub struct StepRules<F> {
+    pub alloc: Global,
+    pub depth: usize,
+    pub steps: F,
 }
 
 impl<F: Fn(Global, &mut Tokens<'_>, usize) -> Result<Items<StepText>, Fault>> StepRules<F> {

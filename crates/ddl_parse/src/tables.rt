@@ -1,7 +1,8 @@
 //! The rules of tables, indexes and partitions.
 
 ghost use Rattle.std.specs.Prelude.{◌≡◌};
-ghost use Rattle.sql_grammar.specs.Grammar.{parse};
+ghost use Rattle.sql_grammar.specs.Grammar.{parse, skip};
+ghost use Rattle.expr_parse.specs.Expressions.{name};
 ghost use Rattle.expr_parse.specs.Reads.{Reads};
 ghost use Rattle.sql_parse.specs.Statements.{names};
 ghost use Rattle.ddl_parse.specs.Types.{closed};
@@ -150,14 +151,22 @@ pub fn index_text(
     })
 }
 
+/// `ON COLUMN name`.
+#[tactic(auto, using(expr_parse::proofs::Steps::steps))]
+fn partition_column(alloc: Global, tokens: &mut Tokens<'_>) -> Result<Text, Fault>
+    ensures { Reads (parse (skip Kind.On (skip Kind.Column name)) tokens.old) result tokens.new }
+{
+    tokens.expect(Kind::On)?;
+    tokens.expect(Kind::Column)?;
+    tokens.name(alloc)
+}
+
 /// `name ON COLUMN name`, behind PARTITION TABLE.
 #[tactic(auto, using(expr_parse::proofs::Steps::steps), unfolding(crate::specs::Ddl::partition_text))]
 pub fn partition_text(alloc: Global, tokens: &mut Tokens<'_>) -> Result<PartitionTable, Fault>
     ensures { Reads (parse spec.partition_text tokens.old) result tokens.new }
 {
     let table = tokens.name(alloc)?;
-    tokens.expect(Kind::On)?;
-    tokens.expect(Kind::Column)?;
-    let column = tokens.name(alloc)?;
+    let column = partition_column(alloc, tokens)?;
     Ok(PartitionTable { table, column })
 }

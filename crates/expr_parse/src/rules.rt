@@ -157,7 +157,7 @@ impl<F: Fn(Global, &mut Tokens<'_>, usize, Level) -> Result<Expr, Fault>> Rules<
         comma_list(
             self.alloc,
             tokens,
-            |_alloc: Global, tokens: &mut Tokens<'_>| self.inner(tokens, Level::Sum),
+            |_alloc, tokens| self.inner(tokens, Level::Sum),
         )
     }
 
