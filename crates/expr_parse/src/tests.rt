@@ -132,6 +132,7 @@ fn a_cursor_goes_over_tokens(rt: HostRuntime) -> Result<(), Fail> {
     let alloc = rt.alloc();
     let text = "SELECT t . a ( 7 'x''y'";
     let tokens = lex(alloc, text)?;
+    assert!(rt; tokens.len() == 7);
     let mut cursor = Tokens::at(text, tokens.as_slice(), 1);
     assert_eq!(rt; cursor.left(), 6);
     assert!(rt; !cursor.eat(Kind::Select) && cursor.sees(Kind::Name));

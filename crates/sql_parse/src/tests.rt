@@ -199,6 +199,7 @@ fn rules_go_on_from_a_cursor(rt: HostRuntime) -> Result<(), Fail> {
         _ => return Err(Fail::from("no DELETE")),
     }
     assert_eq!(rt; cursor.left(), 1);
+    assert!(rt; tokens.len() == 13);
     let mut shallow = Tokens::at(text, tokens.as_slice(), 3);
     assert!(rt; stmt(alloc, &mut shallow, 0).is_err());
     assert_eq!(rt; shallow.left(), 6);
