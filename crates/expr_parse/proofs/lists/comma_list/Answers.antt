@@ -1,4 +1,3 @@
-use Rattle.std.proofs.Common.{Ok, Err}
 use Rattle.std.proofs.lemmas.Result.{err_from_is_err_and}
 use Rattle.expr_parse.proofs.CommaLists.{turn, fail, stop}
 use Rattle.expr_parse.proofs.lists.comma_list.Goals as goal

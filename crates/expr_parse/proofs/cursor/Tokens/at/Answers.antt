@@ -1,4 +1,4 @@
-use Rattle.std.proofs.Common.{◌≡◌, List, All, ap, sym, ◌∙◌, subst}
+use Rattle.std.proofs.Common.{List, All, ap, sym, ◌∙◌, subst}
 use Rattle.volt_text.specs.declared.token.Token.{Token}
 use Rattle.expr_parse.specs.Cursor.{Stands, toks}
 use Rattle.expr_parse.proofs.Standing.{standing}
