@@ -3,7 +3,6 @@
 ghost use Rattle.std.specs.Prelude.{◌<◌, ◌^◌, length};
 
 use crate::*;
-use expr_parse::Tokens;
 use std::alloc::Global;
 use std::test::Fail;
 use volt_text::lex;
@@ -180,29 +179,5 @@ fn each_part_is_refused_at_its_place(rt: HostRuntime) -> Result<(), Fail> {
         assert!(rt; text.len() < 100_000);
         assert_eq!(rt; refusal_of(rt.alloc(), text)?, Some(place));
     }
-    Ok(())
-}
-
-#[test]
-fn rules_go_on_from_a_cursor(rt: HostRuntime) -> Result<(), Fail> {
-    let alloc = rt.alloc();
-    let text = "a, b DELETE FROM t WHERE (1) = 1;";
-    let tokens = lex(alloc, text)?;
-    let mut cursor = Tokens::at(text, tokens.as_slice(), 0);
-    assert!(rt; names(alloc, &mut cursor).is_ok());
-    assert_eq!(rt; cursor.left(), 10);
-    assert!(rt; stmt(alloc, &mut cursor, 1).is_ok());
-    assert_eq!(rt; cursor.left(), 1);
-    Ok(())
-}
-
-#[test]
-fn nothing_nests_where_no_nesting_is_left(rt: HostRuntime) -> Result<(), Fail> {
-    let alloc = rt.alloc();
-    let text = "DELETE FROM t WHERE (1) = 1;";
-    let tokens = lex(alloc, text)?;
-    let mut cursor = Tokens::at(text, tokens.as_slice(), 0);
-    assert!(rt; stmt(alloc, &mut cursor, 0).is_err());
-    assert_eq!(rt; cursor.left(), 6);
     Ok(())
 }
