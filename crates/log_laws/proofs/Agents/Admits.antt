@@ -1,26 +1,11 @@
 -- Who asks to be admitted has loaded all, and has it on disk: what holds of that, holds after an agent's turns.
-use Rattle.std.proofs.Common.{◌≡◌, ◌+◌, ◌<◌, Bool, true, List, subst, inl, inr, ◌==◌, arith}
-use Rattle.std.proofs.lemmas.Bool.{and_parts}
-use Rattle.std.proofs.lemmas.Bool.Decides.{nat_tests}
-use Rattle.std.specs.Prelude.{ℕ, nat_lt}
-use Rattle.std.specs.List.{AllByRecursion, list_all, range_with_len}
-use Rattle.volt_wire.specs.declared.actor.Actor.{Actor}
-use Rattle.volt_wire.specs.declared.actor.Actor.TheVariants.{Director, Client, Agent, Site, Scanner}
+use Rattle.log_laws.proofs.Names.{◌≡◌, ◌+◌, ◌<◌, Bool, true, List, subst, inl, inr, ◌==◌, arith, and_parts, nat_tests, ℕ, nat_lt, AllByRecursion, list_all, range_with_len, Actor, Director, Client, Agent, Site, Scanner, Deployment, slots, host_of_slot, is_slot_of, slots_of_host, is_in, Letter, Sends, AgentState, Queued, Job_, Admission, took, In, History, Admitted, all-mono, all-append, list_all-at, filter-in, set-both, sent-both, took-all, asked_by}
 use Rattle.volt_wire.specs.declared.message.Msg.TheVariants as msg
-use Rattle.cluster_model.specs.Words.{Deployment, slots, host_of_slot, is_slot_of, slots_of_host, is_in}
-use Rattle.cluster_model.specs.Letters.{Letter, Sends}
-use Rattle.cluster_model.specs.AgentState.{AgentState, Queued, Job_, Admission}
-use Rattle.cluster_model.specs.World.{took}
-use Rattle.cluster_steps.specs.Lists.{In}
-use Rattle.word_laws.specs.Histories.{History, Admitted}
-use Rattle.cluster_steps.proofs.Lists.{all-mono, all-append, list_all-at, filter-in, set-both}
-use Rattle.cluster_steps.proofs.Channels.{sent-both, took-all}
 use Rattle.word_laws.proofs.Moves as word
-use Rattle.word_laws.proofs.Calm.{asked_by}
 use Rattle.log_laws.specs.Histories.{LogState, LoadedOk, AllLoaded, ToldOk, AskedOk, QueuedLoadedOk, LoadsOk}
 use Rattle.log_laws.proofs.Agents.AgentSends.{NoAdmit}
 use Rattle.log_laws.proofs.Agents.Views.{worded, agent_turned}
-use Rattle.log_laws.proofs.Plain.Copies.{range-in}
+use Rattle.log_laws.proofs.Plain.{range-in}
 
 -- ---- what is asked, in another state of words
 

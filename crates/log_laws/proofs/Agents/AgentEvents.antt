@@ -1,34 +1,11 @@
 -- An agent takes a message: what holds, holds after all that it does then.
-use Rattle.std.proofs.Common.{◌≡◌, ◌<◌, true, false, List, [], ◌∷◌, ◌++◌, refl, sym, subst, ap, ◌⊎◌, inl, inr, ◌==◌, arith}
-use Rattle.std.proofs.lemmas.Bool.{cases_eq}
-use Rattle.std.proofs.lemmas.Bool.Decides.{nat_tests}
-use Rattle.std.specs.Prelude.{ℕ, ◌&&◌, not, nat_lt, None}
-use Rattle.std.specs.List.{AllByRecursion}
-use Rattle.volt_wire.specs.declared.actor.Actor.{Actor}
-use Rattle.volt_wire.specs.declared.actor.Actor.TheVariants.{Director, Client, Agent, Site, Scanner}
+use Rattle.log_laws.proofs.Names.{◌≡◌, ◌<◌, true, false, List, [], ◌∷◌, ◌++◌, refl, sym, subst, ap, ◌⊎◌, inl, inr, ◌==◌, arith, cases_eq, nat_tests, ℕ, ◌&&◌, not, nat_lt, None, AllByRecursion, Actor, Director, Client, Agent, Site, Scanner, Database, is_host, term_in, Letter, Sends, Turn, becomes, open_letter, ◌▸◌, arrival, Arrival, Taken, Refused, Waits, Waiting, of_term, above_term, AgentState, new_agent, stops, stops_with_host, agent_handler, handler_and_word, unless_stopped, agent_runs, agent_takes, agent_turn, start_taken, rest, start_in_letter, starts_in, Environment, NoFault, DiskFails, NoMemory, DisksShow, In, History, Admitted, CameOk, AgentWaitingFrom, AgentWaitingOk, all-mono, all-append, all-filter, all-if, Grows, grows-same, concludes, StopsSay, stops-say, stops_with_host-say, AgentTakes, Stops_, Ignores, Runs_, takes-cases, runs-taken, runs-waits, runs-refused, turn-cases, stopped-cases, unless-running, waiting-brings, pops, waiting-shrinks, with_began, start-grows, start-holds, start-stops-holds, WordsTurn, none-handler, handler-grows, handler-plain, handler-later, others-after, then-assoc, concludes-none, calm-event, handler-event, asked-waiting, came-still, none-taken, none-waited, waits-event, refused-event, ignored-event, stop-pops, stays-holds, comes-first, start-of-body}
 use Rattle.volt_wire.specs.declared.message.Msg.TheVariants as msg
-use Rattle.cluster_model.specs.Engine.{Database}
-use Rattle.cluster_model.specs.Words.{is_host, term_in}
-use Rattle.cluster_model.specs.Letters.{Letter, Sends, Turn, becomes, open_letter, ◌▸◌, arrival, Arrival, Taken, Refused, Waits, Waiting, of_term, above_term}
-use Rattle.cluster_model.specs.AgentState.{AgentState, new_agent, stops, stops_with_host}
-use Rattle.cluster_model.specs.Agent.{agent_handler, handler_and_word, unless_stopped, takes_each, takes_waiting, agent_runs, agent_takes, agent_turn, start_after, start_taken, on_start}
-use Rattle.cluster_model.specs.World.{rest}
-use Rattle.cluster_model.specs.Laws.{start_in_letter, starts_in}
-use Rattle.cluster_model.specs.Environment.{Environment, NoFault, DiskFails, NoMemory, DisksShow}
+use Rattle.cluster_model.specs.Agent.{takes_each, takes_waiting, start_after, on_start}
 use Rattle.word_laws.specs.Histories as word
-use Rattle.cluster_steps.specs.Lists.{In}
-use Rattle.word_laws.specs.Histories.{History, Admitted, CameOk, AgentWaitingFrom, AgentWaitingOk}
-use Rattle.cluster_steps.proofs.Lists.{all-mono, all-append, all-filter, all-if}
 use Rattle.word_laws.proofs.Moves as word_moves
-use Rattle.word_laws.proofs.Moves.{Grows}
 use Rattle.word_laws.proofs.Laters.{waiting-later}
-use Rattle.word_laws.proofs.Worlds.{grows-same}
-use Rattle.word_laws.proofs.Turns.{tells, concludes, StopsSay, stops-say, stops_with_host-say}
-use Rattle.word_laws.proofs.Arrivals.{AgentTakes, Stops_, Ignores, Runs_, takes-cases, runs-taken, runs-waits, runs-refused, turn-cases, stopped-cases, unless-running, waiting-brings}
-use Rattle.word_laws.proofs.Steps.{pops, waiting-shrinks}
-use Rattle.word_laws.proofs.Rejoins.{with_began, start-grows, start-holds, start-stops-holds}
-use Rattle.word_laws.proofs.Hearings.{WordsTurn, none-handler, handler-grows, handler-plain, handler-later, others-after, then-assoc, concludes-none}
-use Rattle.word_laws.proofs.AgentEvents.{calm-event, handler-event, asked-waiting, came-still, none-taken, none-waited, waits-event, refused-event, ignored-event, stop-pops, stays-holds, comes-first, start-of-body}
+use Rattle.word_laws.proofs.Turns.{tells}
 use Rattle.log_laws.specs.Histories.{LogState, AskedOk, LogsHold}
 use Rattle.log_laws.proofs.Agents.AgentSends.{NoView, NoAdmit, stops-plain, stops-none}
 use Rattle.log_laws.proofs.Agents.Views.{agent_turned}

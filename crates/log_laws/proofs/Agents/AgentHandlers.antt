@@ -1,23 +1,8 @@
 -- The handler of a message that an agent takes, and what it says of a new word: what holds besides that of words, holds after it.
-use Rattle.std.proofs.Common.{◌≡◌, ◌<◌, Bool, true, false, List, [], ◌++◌, refl, sym, subst, inl, inr, ◌==◌, eqb-true}
-use Rattle.std.specs.Prelude.{ℕ, if◌then◌else◌, Option, Some, None}
-use Rattle.std.specs.List.{AllByRecursion}
-use Rattle.volt_wire.specs.Word.{Membership}
-use Rattle.volt_wire.specs.declared.actor.Actor.{Actor}
-use Rattle.volt_wire.specs.declared.actor.Actor.TheVariants.{Director, Client, Agent, Site, Scanner}
+use Rattle.log_laws.proofs.Names.{◌≡◌, ◌<◌, Bool, true, false, List, [], ◌++◌, refl, sym, subst, inl, inr, ◌==◌, eqb-true, ℕ, if◌then◌else◌, Option, Some, None, AllByRecursion, Membership, Actor, Director, Client, Agent, Site, Scanner, Database, Deployment, is_in, union, with_lost, with_number, Letter, Turn, becomes, ◌▸◌, AgentState, Queued, Job_, Admission, new_agent, stops_with_host, agent_handler, on_closed, on_word, on_decided, In, all-mono, all-append, all-at, all-from, in-left, in-cases, in-with_number, Calm, SaysNoWord, asked_by, loaded_by, handler-calm, stops_with_host-say, tells-state, on_decided-joiner, WordsTurn}
 use Rattle.volt_wire.specs.declared.message.Msg.TheVariants as msg
-use Rattle.cluster_model.specs.Engine.{Database}
-use Rattle.cluster_model.specs.Words.{Deployment, is_in, union, with_lost, with_number}
-use Rattle.cluster_model.specs.Letters.{Letter, Turn, becomes, ◌▸◌}
-use Rattle.cluster_model.specs.AgentState.{AgentState, Queued, Job_, Admission, new_agent, stops_with_host}
-use Rattle.cluster_model.specs.Agent.{agent_handler, on_closed, on_word, on_decided}
 use Rattle.word_laws.specs.Histories as word
-use Rattle.cluster_steps.specs.Lists.{In}
-use Rattle.cluster_steps.proofs.Lists.{all-mono, all-append, all-at, all-from, in-left, in-cases}
-use Rattle.word_laws.proofs.Algebra.{in-with_number}
-use Rattle.word_laws.proofs.Calm.{Calm, SaysNoWord, asked_by, loaded_by, handler-calm}
-use Rattle.word_laws.proofs.Turns.{stops_with_host-say, tells, tells-state, on_decided-joiner}
-use Rattle.word_laws.proofs.Hearings.{WordsTurn}
+use Rattle.word_laws.proofs.Turns.{tells}
 use Rattle.log_laws.specs.Histories.{LogState, LoadedOk, AskedOk, QueuedLoadedOk, AllLoaded}
 use Rattle.log_laws.proofs.Agents.AgentSends.{NoView, NoAdmit, Tells, tells-says, stops-plain, stops-none}
 use Rattle.log_laws.proofs.Agents.Admits.{asked-admission, all-slots}

@@ -1,25 +1,10 @@
 -- Turns of an agent: what holds besides that of words, holds after them.
-use Rattle.std.proofs.Common.{◌≡◌, ◌<◌, true, List, ◌++◌, refl, sym, subst, ap, ◌∙◌, inl, inr, arith}
-use Rattle.std.specs.Prelude.{ℕ, Option, Some, None}
-use Rattle.std.specs.List.{AllByRecursion}
-use Rattle.volt_wire.specs.Word.{Membership}
-use Rattle.volt_wire.specs.declared.actor.Actor.{Actor}
-use Rattle.volt_wire.specs.declared.actor.Actor.TheVariants.{Director, Client, Agent, Site, Scanner}
+use Rattle.log_laws.proofs.Names.{◌≡◌, ◌<◌, true, List, ◌++◌, refl, sym, subst, ap, ◌∙◌, inl, inr, arith, ℕ, Option, Some, None, AllByRecursion, Membership, Actor, Director, Client, Agent, Site, Scanner, host_of_slot, is_in, term_of, term_in, Letter, Sends, Turn, becomes, ◌▸◌, AgentState, new_agent, In, History, Admitted, all-mono, all-append, sent-both, Grows, grows-same, tells-state, WordsTurn, handler-grows, stay-handler, agent-there, after-handler, then-inert}
 use Rattle.volt_wire.specs.declared.message.Msg.TheVariants as msg
-use Rattle.cluster_model.specs.Words.{host_of_slot, is_in, term_of, term_in}
-use Rattle.cluster_model.specs.Letters.{Letter, Sends, Turn, becomes, ◌▸◌}
-use Rattle.cluster_model.specs.AgentState.{AgentState, new_agent}
 use Rattle.word_laws.specs.Histories as word
-use Rattle.cluster_steps.specs.Lists.{In}
-use Rattle.word_laws.specs.Histories.{History, Admitted}
-use Rattle.cluster_steps.proofs.Lists.{all-mono, all-append}
-use Rattle.cluster_steps.proofs.Channels.{sent-both}
 use Rattle.word_laws.proofs.Moves as word_moves
-use Rattle.word_laws.proofs.Moves.{Grows}
-use Rattle.word_laws.proofs.Worlds.{grows-same}
-use Rattle.word_laws.proofs.Turns.{tells, tells-state}
+use Rattle.word_laws.proofs.Turns.{tells}
 use Rattle.word_laws.proofs.Steps.{after-after}
-use Rattle.word_laws.proofs.Hearings.{WordsTurn, handler-grows, stay-handler, agent-there, after-handler, then-inert}
 use Rattle.log_laws.specs.Histories.{LogState, LoadedOk, AllLoaded, AskedOk, QueuedLoadedOk, ForeignOk, LoadsOk, ViewsOk, LogsHold, sent_term, agent_to_site}
 use Rattle.log_laws.proofs.Agents.Words.{SitesHold, sites-hold, sites-kept}
 use Rattle.log_laws.proofs.Agents.AgentSends.{NoView, NoAdmit, Tells, tells-says}

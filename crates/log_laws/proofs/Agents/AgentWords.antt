@@ -1,24 +1,8 @@
 -- An agent starts, takes its first word as a joiner, or decides a word: what holds besides that of words, holds after it.
-use Rattle.std.proofs.Common.{◌≡◌, ◌<◌, ◌≤◌, Bool, true, false, List, [], ◌∷◌, ◌++◌, append_assoc, append-nil, refl, sym, subst, ap, ◌∙◌, ◌⊎◌, inl, inr, ◌==◌, arith, true≢false}
-use Rattle.std.proofs.lemmas.Bool.{and_parts, cases_Bool, eqb-true}
-use Rattle.std.specs.Prelude.{ℕ, filter, ◌&&◌, not, if◌then◌else◌, nat_lt, Option, Some, None}
-use Rattle.std.specs.List.{AllByRecursion}
-use Rattle.volt_wire.specs.Word.{Membership}
-use Rattle.volt_wire.specs.declared.actor.Actor.TheVariants.{Agent, Site}
+use Rattle.log_laws.proofs.Names.{◌≡◌, ◌<◌, ◌≤◌, Bool, true, false, List, [], ◌∷◌, ◌++◌, append_assoc, append-nil, refl, sym, subst, ap, ◌∙◌, ◌⊎◌, inl, inr, ◌==◌, arith, true≢false, and_parts, cases_Bool, eqb-true, ℕ, filter, ◌&&◌, not, if◌then◌else◌, nat_lt, Option, Some, None, AllByRecursion, Membership, Agent, Site, slots, host_of_slot, start_of, is_slot_of, is_in, is_down, term_of, Letter, Sends, Turn, becomes, ◌▸◌, open_letter, letter_to, AgentState, Hears, Off, new_agent, initiates, with_phase, takes_word, decides_word, may_decide, In, names, all-mono, all-append, some-here, none-and-some, in-none, is_member-start, WordsTurn, handler-grows, agent-there, decides-handler, with_began, start-grows, Decides, decides-state, decides-sends, may_decide-cases, tells-state, concludes, concludes-not, concludes-is}
 use Rattle.volt_wire.specs.declared.message.Msg.TheVariants as msg
-use Rattle.cluster_model.specs.Words.{slots, host_of_slot, start_of, is_slot_of, is_in, is_down, term_of}
-use Rattle.cluster_model.specs.Letters.{Letter, Sends, Turn, becomes, ◌▸◌, open_letter, letter_to}
-use Rattle.cluster_model.specs.AgentState.{AgentState, Hears, Off, new_agent, initiates}
-use Rattle.cluster_model.specs.Initiator.{with_phase}
-use Rattle.cluster_model.specs.Agent.{takes_word, decides_word, may_decide}
 use Rattle.word_laws.specs.Histories as word
-use Rattle.cluster_steps.specs.Lists.{In}
-use Rattle.word_laws.specs.Histories.{names}
-use Rattle.cluster_steps.proofs.Lists.{all-mono, all-append, some-here, none-and-some, in-none}
-use Rattle.word_laws.proofs.Members.{is_member-start}
-use Rattle.word_laws.proofs.Hearings.{WordsTurn, handler-grows, agent-there, decides-handler}
-use Rattle.word_laws.proofs.Rejoins.{with_began, start-grows}
-use Rattle.word_laws.proofs.Turns.{Decides, decides-state, decides-sends, may_decide-cases, tells, tells-state, concludes, concludes-not, concludes-is}
+use Rattle.word_laws.proofs.Turns.{tells}
 use Rattle.log_laws.specs.Histories.{LogState, LoadedOk, AskedOk, ForeignOk, sent_term, site_start, views}
 use Rattle.log_laws.proofs.Agents.AgentSends.{NoView, NoAdmit, Tells, tells-says}
 use Rattle.log_laws.proofs.Agents.Decided.{decides-above}

@@ -1,27 +1,11 @@
 -- The words that an agent sends to its sites: what holds of them, holds after its turns.
-use Rattle.std.proofs.Common.{◌≡◌, ◌+◌, ◌<◌, ◌≤◌, List, [], ◌∷◌, ◌++◌, append-nil, refl, sym, subst, ap, ◌∙◌, ◌⊎◌, inl, inr, arith}
-use Rattle.std.proofs.lemmas.Bool.{cases_eq}
-use Rattle.std.proofs.lemmas.List.{map-append}
-use Rattle.std.specs.Prelude.{ℕ, map, Option, Some, None}
-use Rattle.std.specs.List.{AllByRecursion}
-use Rattle.volt_wire.specs.Word.{Membership}
-use Rattle.volt_wire.specs.declared.actor.Actor.{Actor}
-use Rattle.volt_wire.specs.declared.actor.Actor.TheVariants.{Agent, Site}
+use Rattle.log_laws.proofs.Names.{◌≡◌, ◌+◌, ◌<◌, ◌≤◌, List, [], ◌∷◌, ◌++◌, append-nil, refl, sym, subst, ap, ◌∙◌, ◌⊎◌, inl, inr, arith, cases_eq, map-append, ℕ, map, Option, Some, None, AllByRecursion, Membership, Actor, Agent, Site, host_of_slot, start_of_slot, term_of, term_in, Letter, Sends, open_letter, letter_to, AgentState, RiseFrom, start_in_letter, starts_in, In, History, all-mono, all-append, eqb-same, in-left, in-right, in-cases, none-and-some, set-here, set-there, rise-append, starts-append, sent-both, Grows}
 use Rattle.volt_wire.specs.declared.message.Msg.TheVariants as msg
-use Rattle.cluster_model.specs.Words.{host_of_slot, start_of_slot, term_of, term_in}
-use Rattle.cluster_model.specs.Letters.{Letter, Sends, open_letter, letter_to}
-use Rattle.cluster_model.specs.AgentState.{AgentState}
-use Rattle.cluster_model.specs.Laws.{RiseFrom, start_in_letter, starts_in}
-use Rattle.cluster_steps.specs.Lists.{In}
-use Rattle.word_laws.specs.Histories.{History}
-use Rattle.cluster_steps.proofs.Lists.{all-mono, all-append, eqb-same, in-left, in-right, in-cases, none-and-some, set-here, set-there, rise-append}
-use Rattle.cluster_steps.proofs.Channels.{starts-append, sent-both}
 use Rattle.word_laws.proofs.Moves as word
-use Rattle.word_laws.proofs.Moves.{Grows}
 use Rattle.log_laws.specs.Histories.{PlainView, LogState, view_in, view_of, views, MemberViews, FirstViews, RunViews, Starting, ViewsOk, sent_term, site_start, term_at, agent_to_site}
-use Rattle.log_laws.proofs.Plain.Lines.{flat-none, views-append, views-same, views-none, views-plain, views-here, views-other}
+use Rattle.log_laws.proofs.Plain.{flat-none, views-append, views-same, views-none, views-plain, views-here, views-other}
 use Rattle.log_laws.proofs.Agents.AgentSends.{NoView}
-use Rattle.log_laws.proofs.Kept.KeepsViews.{first_views-later, run_views-later}
+use Rattle.log_laws.proofs.Kept.{first_views-later, run_views-later}
 
 -- the state with these agents, messages and history
 abbrev pub worded : LogState → (ℕ → AgentState) → (Actor → Actor → List Letter) → History → LogState

@@ -1,21 +1,7 @@
 -- An event that changes words, what is under way between others than sites, and what disks hold: what holds of sites and logs,
 -- holds after it.
-use Rattle.std.proofs.Common.{◌≡◌, ◌<◌, List, refl, sym, subst, ap, ◌∙◌, inl, inr}
-use Rattle.std.proofs.Math.Path.{fun_ext}
-use Rattle.std.specs.Prelude.{ℕ, Option, Some, None}
-use Rattle.std.specs.List.{AllByRecursion}
-use Rattle.volt_base.specs.declared.entry.Entry.{Entry}
-use Rattle.volt_wire.specs.Word.{Membership}
-use Rattle.volt_wire.specs.declared.actor.Actor.{Actor}
-use Rattle.volt_wire.specs.declared.actor.Actor.TheVariants.{Director, Client, Agent, Site, Scanner}
+use Rattle.log_laws.proofs.Names.{◌≡◌, ◌<◌, List, refl, sym, subst, ap, ◌∙◌, inl, inr, fun_ext, ℕ, Option, Some, None, AllByRecursion, Entry, Membership, Actor, Director, Client, Agent, Site, Scanner, Deployment, term_of, Shown, Letter, Waiting, Streamed, Joining, Joiner, State, all-mono, Grows}
 use Rattle.volt_wire.specs.declared.message.Msg.TheVariants as msg
-use Rattle.cluster_model.specs.Words.{Deployment, term_of}
-use Rattle.cluster_model.specs.Disk.{Shown}
-use Rattle.cluster_model.specs.Letters.{Letter, Waiting}
-use Rattle.cluster_model.specs.SiteState.{Streamed, Joining, Joiner}
-use Rattle.word_laws.specs.Histories.{State}
-use Rattle.cluster_steps.proofs.Lists.{all-mono}
-use Rattle.word_laws.proofs.Moves.{Grows}
 use Rattle.log_laws.specs.Histories.{LogState, Entered, Streaming, Leadership, Flow, IsSlot, HasBeen, AckOk, ReportOk, AsksToJoin, CountedOk, EndOk, SiteLetterOk, MemberOk, Coming, Took, Inert, Untaken, StreamIn, InWord, Wordless, ViewIn, JoinerOk, SiteWaitingFrom, SiteWaitingOk, KeepsOk, SiteOk, Came, EnteredOk, StreamedOk, LeadershipOk, UnledOk, WordOf, LogsHold, epoch_base, part, site_start, term_at, between, flow}
 
 -- what is under way between sites as in the first one, and else as in the second one

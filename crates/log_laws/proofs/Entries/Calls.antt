@@ -1,26 +1,8 @@
 -- A leader runs the calls that wait, and takes rounds and ends of transactions.
-use Rattle.std.proofs.Common.{◌≡◌, ◌<◌, Bool, true, false, List, [], ◌∷◌, ◌++◌, refl, sym, subst}
-use Rattle.std.proofs.lemmas.Bool.{and_parts}
-use Rattle.std.specs.Prelude.{ℕ, ◌&&◌, ◌+◌, if◌then◌else◌, length, Option, Some, None}
-use Rattle.volt_base.specs.declared.entry.Entry.{Entry}
-use Rattle.volt_base.specs.declared.entry.Entry.TheVariants.{Sp, Frag, Done}
-use Rattle.volt_base.specs.declared.entry.Outcome.{Outcome}
-use Rattle.volt_wire.specs.declared.actor.Actor.TheVariants.{Agent}
-use Rattle.volt_wire.specs.declared.message.Msg.{Msg}
+use Rattle.log_laws.proofs.Names.{◌≡◌, ◌<◌, Bool, true, false, List, [], ◌∷◌, ◌++◌, refl, sym, subst, and_parts, ℕ, ◌&&◌, ◌+◌, if◌then◌else◌, length, Option, Some, None, Entry, Sp, Frag, Done, Outcome, Agent, Msg, Database, nothing_open, answer_behind, Deployment, part_of_slot, Blocks, Letter, Turn, becomes, ◌▸◌, letter_to, letter_in, SiteState, AskedCall, site_term, leads, leads_with, holds, holds_for, initiator_in, runs_call, runs_calls, works_calls, on_sp_call, on_frag, on_done, end_of_reply, all-append}
 use Rattle.volt_wire.specs.declared.message.Msg.TheVariants as msg
-use Rattle.cluster_model.specs.Engine.{Database}
-use Rattle.cluster_model.specs.Log.{nothing_open, answer_behind}
-use Rattle.cluster_model.specs.Words.{Deployment, part_of_slot}
-use Rattle.cluster_model.specs.Letters.{Blocks, Letter, Turn, becomes, ◌▸◌, letter_to, letter_in}
-use Rattle.cluster_model.specs.SiteState.{SiteState, AskedCall, site_term, leads}
-use Rattle.cluster_model.specs.Site.{leads_with, holds, holds_for, initiator_in, runs_call, runs_calls, works_calls, on_sp_call, on_frag, on_done}
-use Rattle.cluster_model.specs.Initiator.{end_of_reply}
-use Rattle.cluster_steps.proofs.Lists.{all-append}
 use Rattle.log_laws.specs.Histories.{LogState, HeldOk, HeldFor, LogsHold, site_start}
-use Rattle.log_laws.proofs.Kept.Moves.{LogsGo}
-use Rattle.log_laws.proofs.Kept.Plumbing.{GoesFrom, goes-then, goes-same}
-use Rattle.log_laws.proofs.Kept.InertTurns.{inert-becomes, calls-goes}
-use Rattle.log_laws.proofs.Kept.Rests.{part-from}
+use Rattle.log_laws.proofs.Kept.{LogsGo, GoesFrom, goes-then, goes-same, inert-becomes, calls-goes, part-from}
 use Rattle.log_laws.proofs.Entries.Leads.{leads-goes, leads-on}
 
 -- ---- one part behind another

@@ -1,35 +1,9 @@
 -- The leader of a term that has begun appends an entry, and sends it to the copies and the joiners.
-use Rattle.std.proofs.Common.{◌≡◌, ◌<◌, true, false, List, [], ◌∷◌, ◌++◌, append_assoc, append-nil, refl, sym, subst, ap, ◌∙◌, ◌⊎◌, inl, inr, true≢false, arith}
-use Rattle.std.proofs.lemmas.Bool.{cases_eq}
-use Rattle.std.specs.Prelude.{ℕ, ◌≤◌, map, drop, length, Option, Some, None}
-use Rattle.std.specs.List.{AllByRecursion}
-use Rattle.volt_base.specs.declared.entry.Entry.{Entry}
-use Rattle.volt_wire.specs.Word.{Membership}
-use Rattle.volt_wire.specs.declared.actor.Actor.{Actor}
-use Rattle.volt_wire.specs.declared.actor.Actor.TheVariants.{Director, Client, Agent, Site, Scanner}
-use Rattle.cluster_model.specs.Engine.{Database}
-use Rattle.cluster_model.specs.Words.{Deployment, is_in, leader, start_of_slot, term_of, term_in}
-use Rattle.cluster_model.specs.SiteState.{SiteState, Joining, Joiner, Scanning, site_term, start_in_view, is_leader, leads, other_copies}
-use Rattle.cluster_model.specs.Letters.{Sends}
-use Rattle.cluster_model.specs.Site.{leads_with}
-use Rattle.cluster_steps.specs.Lists.{In, Prefix}
-use Rattle.cluster_steps.proofs.Lists.{all-append, not-both, same-some, none-and-some, all-at, set-both}
+use Rattle.log_laws.proofs.Names.{◌≡◌, ◌<◌, true, false, List, [], ◌∷◌, ◌++◌, append_assoc, append-nil, refl, sym, subst, ap, ◌∙◌, ◌⊎◌, inl, inr, true≢false, arith, cases_eq, ℕ, ◌≤◌, map, drop, length, Option, Some, None, AllByRecursion, Entry, Membership, Actor, Director, Client, Agent, Site, Scanner, Database, Deployment, is_in, leader, start_of_slot, term_of, term_in, SiteState, Joining, Joiner, Scanning, site_term, start_in_view, is_leader, leads, other_copies, Sends, leads_with, In, Prefix, all-append, not-both, same-some, none-and-some, all-at, set-both, put_letter, task_letter, leads-parts, leader-view, prefix-append, prefix-length, grown, Passed, leads-with}
 use Rattle.log_laws.specs.Histories.{LogState, Logs, Leadership, Line, Repairs, Puts, Flow, Begins, Follows, FollowsIn, LeadsIn, Coming, Took, Inert, InWord, JoinerOk, MemberOk, CountedOk, IsCounted, IsSlot, SiteLetterOk, ForeignOk, ToldOk, BeginsAt, LogsHold, follows, line, flow, stream_ends_in, asked, asks_in, asks_waiting, asks_of_term, between, part, site_start, log_at, term_at}
-use Rattle.log_laws.proofs.Plain.Lines.{line-append, line-same, flow-append, flow-same, ends-same, puts-append, follows-append}
-use Rattle.cluster_steps.proofs.Sends.{put_letter, task_letter}
-use Rattle.log_laws.proofs.Plain.Copies.{leader-follows-none, is-leader, start-in-view, other-copy, copy-other, follows-part, follows-one, leader-followed}
-use Rattle.cluster_steps.proofs.Leaders.{leads-parts, leader-view}
-use Rattle.log_laws.proofs.Kept.Moves.{Grown, LogsLater, SameLeaderships, NoStreamStart, LogsGo, after_site}
-use Rattle.log_laws.proofs.Kept.Grown.{grown-at, enters-same}
-use Rattle.log_laws.proofs.Kept.Plumbing.{sent-either, here, there, between-here, between-there}
-use Rattle.log_laws.proofs.Kept.Terms.{same-word, some-term, leadership-entered, took-decided, took-unnamed}
-use Rattle.log_laws.proofs.Kept.Asked.{at-most-is}
-use Rattle.log_laws.proofs.Kept.Keeps.{SiteStays, SameFrom, SameTerm, SameRun, Uncounted, still-same, member-keeps-from, counted-from, inert-keeps, coming-keeps, took-keeps, in_word-keeps-with, joiner-keeps-with}
-use Rattle.log_laws.proofs.Kept.Turned.{put_at, put-both, put-here, put-there}
-use Rattle.log_laws.proofs.Kept.Growing.{Carries, grew-later, grew-member, grew-holds}
-use Rattle.cluster_steps.proofs.Prefixes.{prefix-append, prefix-length}
-use Rattle.cluster_steps.proofs.Appends.{grown, Passed, leads-with}
-use Rattle.log_laws.proofs.Plain.Appends.{passed-line, passed-line-other, passed-flow, passed-flow-other, passed-ends, passed-all, passed-follows}
+use Rattle.log_laws.proofs.Plain.{line-append, line-same, flow-append, flow-same, ends-same, puts-append, follows-append, leader-follows-none, is-leader, start-in-view, other-copy, copy-other, follows-part, follows-one, leader-followed, passed-line, passed-line-other, passed-flow, passed-flow-other, passed-ends, passed-all, passed-follows}
+use Rattle.log_laws.proofs.Kept.{LogsLater, SameLeaderships, NoStreamStart, LogsGo, after_site, grown-at, enters-same, sent-either, here, there, between-here, between-there, same-word, some-term, leadership-entered, took-decided, took-unnamed, at-most-is, SiteStays, SameFrom, SameTerm, SameRun, Uncounted, still-same, member-keeps-from, counted-from, inert-keeps, coming-keeps, took-keeps, in_word-keeps-with, joiner-keeps-with, put_at, put-both, put-here, put-there, Carries, grew-later, grew-member, grew-holds}
+use Rattle.log_laws.proofs.Kept.Moves.{Grown}
 
 -- ---- the history of the leader's term
 

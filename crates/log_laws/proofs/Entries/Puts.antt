@@ -1,36 +1,10 @@
 -- A copy takes what its leader sent it to append: one entry more, or what it lacks of what its term begins with.
-use Rattle.std.proofs.Common.{◌≡◌, ◌<◌, Bool, true, false, List, [], ◌∷◌, ◌++◌, append_assoc, append-nil, refl, sym, subst, ap, ◌∙◌, inl, inr, ◌==◌, arith}
-use Rattle.std.proofs.lemmas.Bool.{cases_Bool, ne_eqb}
-use Rattle.std.specs.Prelude.{ℕ, ◌≤◌, ◌-◌, ◌&&◌, if◌then◌else◌, max, map, drop, length, Option, Some, None}
-use Rattle.std.specs.List.{AllByRecursion}
-use Rattle.volt_base.specs.declared.entry.Entry.{Entry}
-use Rattle.volt_wire.specs.Word.{Membership}
-use Rattle.volt_wire.specs.declared.actor.Actor.{Actor}
-use Rattle.volt_wire.specs.declared.actor.Actor.TheVariants.{Director, Client, Agent, Site, Scanner}
+use Rattle.log_laws.proofs.Names.{◌≡◌, ◌<◌, Bool, true, false, List, [], ◌∷◌, ◌++◌, append_assoc, append-nil, refl, sym, subst, ap, ◌∙◌, inl, inr, ◌==◌, arith, cases_Bool, ne_eqb, ℕ, ◌≤◌, ◌-◌, ◌&&◌, if◌then◌else◌, max, map, drop, length, Option, Some, None, AllByRecursion, Entry, Membership, Actor, Director, Client, Agent, Site, Scanner, Database, term_of, term_in, same, Letter, Sends, SiteState, Joining, Joiner, Scanning, site_term, on_put, on_repair, took, sent, rest, In, Prefix, and-false, eqb-same, if-false, not-both, same-some, set-here, set-there, set-both, took-all, prefix-append, prefix-grows, prefix-length, prefix-refl, prefix-rest, Appended, appends-one, appends-all}
 use Rattle.volt_wire.specs.declared.message.Msg.TheVariants as msg
-use Rattle.cluster_model.specs.Engine.{Database}
-use Rattle.cluster_model.specs.Words.{term_of, term_in}
-use Rattle.cluster_model.specs.Letters.{same, Letter, Sends}
-use Rattle.cluster_model.specs.SiteState.{SiteState, Joining, Joiner, Scanning, site_term}
-use Rattle.cluster_model.specs.Site.{on_put, on_repair}
-use Rattle.cluster_model.specs.World.{took, sent, rest}
-use Rattle.cluster_steps.specs.Lists.{In, Prefix}
-use Rattle.cluster_steps.proofs.Lists.{and-false, eqb-same, if-false, not-both, same-some, set-here, set-there, set-both}
-use Rattle.cluster_steps.proofs.Channels.{took-all}
 use Rattle.log_laws.specs.Histories.{LogState, Leadership, Line, Puts, Repairs, FollowsIn, JoinerOk, ViewIn, MemberOk, MeantFor, ForeignOk, ToldOk, SiteLetterOk, BeginsAt, LogsHold, line_in, flow_in, ask_in, follows, line, flow, stream_ends_in, asks_in, asks_waiting, asks_of_term, asked, between, part, site_start, term_at, log_at}
-use Rattle.log_laws.proofs.Plain.Lines.{puts-cons, puts-not-repairs, repairs-not-put, repairs-same, line-here, flow-plain, asks-plain}
-use Rattle.log_laws.proofs.Kept.Terms.{running-slot, leadership-entered}
-use Rattle.log_laws.proofs.Plain.Copies.{leader-follows-none, follows-one}
-use Rattle.log_laws.proofs.Kept.Moves.{LogsLater, after_site, site_popped, NoStreamStart, LogsGo}
-use Rattle.log_laws.proofs.Kept.Grown.{grown-same, enters-same}
-use Rattle.log_laws.proofs.Kept.Laters.{same-leaderships}
-use Rattle.log_laws.proofs.Kept.Plumbing.{taken-either}
-use Rattle.log_laws.proofs.Kept.Asked.{at-most-is}
+use Rattle.log_laws.proofs.Plain.{puts-cons, puts-not-repairs, repairs-not-put, repairs-same, line-here, flow-plain, asks-plain, leader-follows-none, follows-one}
+use Rattle.log_laws.proofs.Kept.{running-slot, leadership-entered, LogsLater, after_site, site_popped, NoStreamStart, LogsGo, grown-same, enters-same, same-leaderships, taken-either, at-most-is, SiteStays, SameFrom, Uncounted, still-same, member-keeps, counted-from, Carries, grew, grew-later, grew-member, grew-holds}
 use Rattle.log_laws.proofs.Kept.Keeps as keeps
-use Rattle.log_laws.proofs.Kept.Keeps.{SiteStays, SameFrom, Uncounted, still-same, member-keeps, counted-from}
-use Rattle.cluster_steps.proofs.Prefixes.{prefix-append, prefix-grows, prefix-length, prefix-refl, prefix-rest}
-use Rattle.cluster_steps.proofs.Appends.{Appended, appends-one, appends-all}
-use Rattle.log_laws.proofs.Kept.Growing.{Carries, grew, grew-later, grew-member, grew-holds}
 
 -- ---- who takes it
 

@@ -1,18 +1,7 @@
 -- The leader notes what a copy or a joiner acknowledged, and counts what is firm.
-use Rattle.std.proofs.Common.{◌≡◌, ◌<◌, ◌≤◌, Bool, true, false, ◌∷◌, refl, sym, subst, ap, ◌∙◌, inl, inr, ◌==◌, arith}
-use Rattle.std.proofs.lemmas.Bool.{cases_eq, eqb-true}
-use Rattle.std.specs.Prelude.{ℕ, not, if◌then◌else◌, filter, map, length}
-use Rattle.cluster_model.specs.Words.{is_in}
-use Rattle.cluster_model.specs.Letters.{no_sends, becomes}
-use Rattle.cluster_model.specs.SiteState.{Joiner, is_leader, other_copies}
-use Rattle.cluster_model.specs.Site.{with_position, noted, counts, on_ack}
-use Rattle.word_laws.specs.Histories.{Distinct}
-use Rattle.cluster_steps.proofs.Lists.{all-at, all-from, all-filter, all-if, in-map-from}
+use Rattle.log_laws.proofs.Names.{◌≡◌, ◌<◌, ◌≤◌, Bool, true, false, ◌∷◌, refl, sym, subst, ap, ◌∙◌, inl, inr, ◌==◌, arith, cases_eq, eqb-true, ℕ, not, if◌then◌else◌, filter, map, length, is_in, no_sends, becomes, Joiner, is_leader, other_copies, with_position, noted, counts, on_ack, Distinct, all-at, all-from, all-filter, all-if, in-map-from}
 use Rattle.log_laws.specs.Histories.{LogState, LogsHold, IsSlot, WasIn, AckOk, CountedOk, KeepsOk, part, site_start, log_at, term_at}
-use Rattle.log_laws.proofs.Kept.Moves.{LogsGo}
-use Rattle.log_laws.proofs.Kept.Terms.{one-in, was-been}
-use Rattle.log_laws.proofs.Kept.Plumbing.{goes-then, goes-same}
-use Rattle.log_laws.proofs.Kept.Rests.{SiteRests, map-joiners, map-slots, part-from, reach-same, site-same, says-nothing, rests-goes}
+use Rattle.log_laws.proofs.Kept.{LogsGo, one-in, was-been, goes-then, goes-same, SiteRests, map-joiners, map-slots, part-from, reach-same, site-same, says-nothing, rests-goes}
 use Rattle.log_laws.proofs.Firmness.Firm.{counts-goes}
 
 -- Where the earlier starts of a slot that runs had lower terms, its own start is the one that was in the term.

@@ -1,23 +1,8 @@
 -- A joiner is told that its stream is whole, once the position at which that began is everywhere.
-use Rattle.std.proofs.Common.{◌≡◌, ◌<◌, ◌≤◌, Bool, true, false, List, [], ◌∷◌, refl, sym, subst, ap, ◌∙◌, inl, inr, true≢false, arith}
-use Rattle.std.proofs.lemmas.Bool.{and_parts, leb-true}
-use Rattle.std.specs.Prelude.{ℕ, nat_le, if◌then◌else◌, map, length, Option, Some, None, is_some}
-use Rattle.std.specs.List.{AllByRecursion}
-use Rattle.volt_base.specs.declared.entry.Entry.{Entry}
-use Rattle.volt_wire.specs.Word.{Membership}
-use Rattle.cluster_model.specs.Words.{term_of, term_in, leader}
-use Rattle.cluster_model.specs.SiteState.{SiteState, Streamed, Joining, Joiner}
-use Rattle.cluster_model.specs.Site.{is_sent, without_count, ends_streams}
-use Rattle.cluster_steps.specs.Lists.{In}
-use Rattle.word_laws.specs.Histories.{Distinct}
-use Rattle.cluster_steps.proofs.Lists.{all-at, all-from, in-map, in-map-from, none-and-some}
+use Rattle.log_laws.proofs.Names.{◌≡◌, ◌<◌, ◌≤◌, Bool, true, false, List, [], ◌∷◌, refl, sym, subst, ap, ◌∙◌, inl, inr, true≢false, arith, and_parts, leb-true, ℕ, nat_le, if◌then◌else◌, map, length, Option, Some, None, is_some, AllByRecursion, Entry, Membership, term_of, term_in, leader, SiteState, Streamed, Joining, Joiner, is_sent, without_count, ends_streams, In, Distinct, all-at, all-from, in-map, in-map-from, none-and-some, end_letter, stream_ends-all}
 use Rattle.log_laws.specs.Histories.{LogState, LogsHold, Follows, WordOf, CountedOk, IsCounted, BeginsAt, SiteLetterOk, JoinsIn, ViewIn, StreamIn, KeepsOk, flow, follows, part, site_start, term_at, between}
-use Rattle.log_laws.proofs.Kept.Moves.{LogsGo}
-use Rattle.cluster_steps.proofs.Sends.{end_letter, stream_ends-all}
-use Rattle.log_laws.proofs.Plain.Lines.{stream_ends-other}
-use Rattle.log_laws.proofs.Plain.Copies.{follows-one, leader-followed}
-use Rattle.log_laws.proofs.Kept.Terms.{same-word, some-term, took-decided}
-use Rattle.log_laws.proofs.Kept.Rests.{SiteRests, SaysRests, Bare, map-joiners, map-slots, reach-same, site-same, rests-goes}
+use Rattle.log_laws.proofs.Kept.{LogsGo, same-word, some-term, took-decided, SiteRests, SaysRests, Bare, map-joiners, map-slots, reach-same, site-same, rests-goes}
+use Rattle.log_laws.proofs.Plain.{stream_ends-other, follows-one, leader-followed}
 use Rattle.log_laws.proofs.Firmness.Firm.{LeaderOf, leader-of}
 
 -- ---- a joiner loses its count

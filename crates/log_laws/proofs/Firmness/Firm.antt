@@ -1,30 +1,10 @@
 -- What a leader counts as firm, and as its floor, is in each log.
-use Rattle.std.proofs.Common.{◌≡◌, ◌<◌, ◌≤◌, Bool, true, false, List, [], refl, sym, subst, ap, ◌∙◌, inl, inr, ◌==◌, arith}
-use Rattle.std.proofs.lemmas.Bool.{cases_eq, and_parts}
-use Rattle.std.specs.Prelude.{ℕ, ◌&&◌, nat_lt, nat_le, if◌then◌else◌, filter, max, length, Option, Some, None}
-use Rattle.std.specs.List.{AllByRecursion}
-use Rattle.volt_wire.specs.Word.{Membership}
-use Rattle.volt_wire.specs.declared.actor.Actor.{Actor}
-use Rattle.volt_wire.specs.declared.actor.Actor.TheVariants.{Agent, Site}
+use Rattle.log_laws.proofs.Names.{◌≡◌, ◌<◌, ◌≤◌, Bool, true, false, List, [], refl, sym, subst, ap, ◌∙◌, inl, inr, ◌==◌, arith, cases_eq, and_parts, ℕ, ◌&&◌, nat_lt, nat_le, if◌then◌else◌, filter, max, length, Option, Some, None, AllByRecursion, Membership, Actor, Agent, Site, Deployment, term_of, term_in, start_of_slot, leader, same, Letter, becomes, SiteState, Held, Joiner, is_leader, leads, other_copies, own_ack, acked_in, firm_now, floor_now, answers_held, sends_firm, counts, In, all-at, all-from, all-filter, in-filter, in-map-from, same-some, none-and-some, not-both, same-true, leads-parts, leader-view, acked_in-from, reach_now, reach_now-own, reach_now-copy, reach_now-joiner}
 use Rattle.volt_wire.specs.declared.message.Msg.TheVariants as msg
-use Rattle.cluster_model.specs.Words.{Deployment, term_of, term_in, start_of_slot, leader}
-use Rattle.cluster_model.specs.Letters.{same, Letter, becomes}
-use Rattle.cluster_model.specs.SiteState.{SiteState, Held, Joiner, is_leader, leads, other_copies}
-use Rattle.cluster_model.specs.Site.{own_ack, acked_in, firm_now, floor_now, answers_held, sends_firm, counts}
-use Rattle.cluster_steps.specs.Lists.{In}
-use Rattle.cluster_steps.proofs.Lists.{all-at, all-from, all-filter, in-filter, in-map-from, same-some, none-and-some, not-both}
-use Rattle.word_laws.proofs.Steps.{same-true}
 use Rattle.log_laws.specs.Histories.{LogState, Entered, Streaming, Leadership, Flow, LogsHold, IsSlot, WordOf, AckOk, CountedOk, IsCounted, HeldFor, HeldOk, LeadsIn, MemberOk, KeepsOk, Coming, ToldOk, SiteLetterOk, end_of, part, site_start, log_at, term_at}
-use Rattle.log_laws.proofs.Kept.Moves.{LogsGo}
-use Rattle.log_laws.proofs.Plain.Lines.{ends-none}
-use Rattle.log_laws.proofs.Plain.Copies.{is_in-in, copy-other, is-leader}
-use Rattle.cluster_steps.proofs.Leaders.{leads-parts, leader-view}
-use Rattle.log_laws.proofs.Kept.Terms.{same-word, entered-start, one-in, took-decided}
-use Rattle.log_laws.proofs.Kept.Plumbing.{goes-same}
-use Rattle.cluster_steps.proofs.Least.{acked_in-from, reach_now, reach_now-own, reach_now-copy, reach_now-joiner}
+use Rattle.log_laws.proofs.Kept.{LogsGo, same-word, entered-start, one-in, took-decided, goes-same, SiteRests, ReachRests, SaysRests, Bare, same-joiners, reach-same, rests-goes, put_at, put-both, put-here}
+use Rattle.log_laws.proofs.Plain.{ends-none, is_in-in, copy-other, is-leader}
 use Rattle.log_laws.proofs.NewTerms.Since.{since-raised}
-use Rattle.log_laws.proofs.Kept.Rests.{SiteRests, ReachRests, SaysRests, Bare, same-joiners, reach-same, rests-goes}
-use Rattle.log_laws.proofs.Kept.Turned.{put_at, put-both, put-here}
 
 -- ---- who leads
 

@@ -1,24 +1,9 @@
 -- A site has written what it owed: a leader counts what is firm, a copy and a joiner acknowledge, and a joiner says once that it has loaded.
-use Rattle.std.proofs.Common.{◌≡◌, ◌<◌, Bool, true, false, List, [], refl, sym, subst, ap, ◌∙◌, inl, inr, ◌==◌, arith}
-use Rattle.std.specs.Prelude.{ℕ, if◌then◌else◌, length, Option, Some, None}
-use Rattle.volt_wire.specs.Word.{Membership}
-use Rattle.volt_wire.specs.declared.actor.Actor.TheVariants.{Agent, Site}
+use Rattle.log_laws.proofs.Names.{◌≡◌, ◌<◌, Bool, true, false, List, [], refl, sym, subst, ap, ◌∙◌, inl, inr, ◌==◌, arith, ℕ, if◌then◌else◌, length, Option, Some, None, Membership, Agent, Site, Deployment, host_of_slot, term_of, term_in, Letter, becomes, sending, ◌▸◌, no_sends, only, letter_in, letter_to, Shown, SiteState, Streamed, Joining, leader_in, start_in_view, is_leader, counts, member_written, joiner_written, written, acknowledges, says_loaded, after_sync, In, all-one, same-some, none-and-some, not-both}
 use Rattle.volt_wire.specs.declared.message.Msg.TheVariants as msg
-use Rattle.cluster_model.specs.Words.{Deployment, host_of_slot, term_of, term_in}
-use Rattle.cluster_model.specs.Letters.{Letter, becomes, sending, ◌▸◌, no_sends, only, letter_in, letter_to}
-use Rattle.cluster_model.specs.Disk.{Shown}
-use Rattle.cluster_model.specs.SiteState.{SiteState, Streamed, Joining, leader_in, start_in_view, is_leader}
-use Rattle.cluster_model.specs.Site.{counts}
-use Rattle.cluster_model.specs.Sync.{member_written, joiner_written, written, acknowledges, says_loaded, after_sync}
-use Rattle.cluster_steps.specs.Lists.{In}
-use Rattle.cluster_steps.proofs.Lists.{all-one, same-some, none-and-some, not-both}
 use Rattle.log_laws.specs.Histories.{LogState, LogsHold, WasIn, AckOk, LoadedOk, ToldOk, SiteLetterOk, ViewIn, StreamIn, MemberOk, JoinerOk, KeepsOk, end_of, part, site_start, log_at, term_at}
-use Rattle.log_laws.proofs.Kept.Moves.{LogsGo}
-use Rattle.log_laws.proofs.Plain.Lines.{ends-none, ends-plain}
-use Rattle.log_laws.proofs.Plain.Copies.{leader-copy, start-in-view}
-use Rattle.log_laws.proofs.Kept.Terms.{some-start, some-term, took-decided}
-use Rattle.log_laws.proofs.Kept.Plumbing.{goes-then, goes-same, GoesFrom}
-use Rattle.log_laws.proofs.Kept.Rests.{SiteRests, JoiningRests, Bare, part-from, reach-same, site-same, site-rests, says-nothing, rests-goes}
+use Rattle.log_laws.proofs.Kept.{LogsGo, some-start, some-term, took-decided, goes-then, goes-same, GoesFrom, SiteRests, JoiningRests, Bare, part-from, reach-same, site-same, site-rests, says-nothing, rests-goes}
+use Rattle.log_laws.proofs.Plain.{ends-none, ends-plain, leader-copy, start-in-view}
 use Rattle.log_laws.proofs.Firmness.Firm.{counts-goes}
 
 -- ---- what it says

@@ -1,25 +1,9 @@
 -- A site takes a JoinAsk: it keeps it until it can take the joiner.
-use Rattle.std.proofs.Common.{List, ap, arith, refl, subst, sym, ◌≡◌, ◌++◌, ◌∷◌, ◌<◌, [], inl}
-use Rattle.std.specs.List.{AllByRecursion}
-use Rattle.std.specs.Prelude.{ℕ}
-use Rattle.volt_wire.specs.declared.actor.Actor.{Actor}
-use Rattle.volt_wire.specs.declared.actor.Actor.TheVariants.{Site}
+use Rattle.log_laws.proofs.Names.{List, ap, arith, refl, subst, sym, ◌≡◌, ◌++◌, ◌∷◌, ◌<◌, [], inl, AllByRecursion, ℕ, Actor, Site, Letter, Waiting, becomes, on_join_ask, SiteState, term_of, set_at, all-append, set-here, set-there, sent-nothing}
 use Rattle.volt_wire.specs.declared.message.Msg.TheVariants as msg
-use Rattle.cluster_model.specs.Letters.{Letter, Waiting, becomes}
-use Rattle.cluster_model.specs.Site.{on_join_ask}
-use Rattle.cluster_model.specs.SiteState.{SiteState}
-use Rattle.cluster_model.specs.Words.{term_of}
-use Rattle.cluster_model.specs.World.{set_at}
-use Rattle.cluster_steps.proofs.Lists.{all-append, set-here, set-there}
-use Rattle.cluster_steps.proofs.Channels.{sent-nothing}
 use Rattle.log_laws.specs.Histories.{AsksToJoin, ForeignOk, LogsHold, IsSlot, KeepsOk, LogState, SiteLetterOk, SiteWaitingFrom, SiteWaitingOk, between, flow, part, site_start, term_at}
-use Rattle.log_laws.proofs.Kept.Terms.{running-slot}
-use Rattle.log_laws.proofs.Kept.Asked.{AsksLess, left-kept, popped-kept}
-use Rattle.log_laws.proofs.Kept.Keeps.{SiteStays}
-use Rattle.log_laws.proofs.Plain.Lines.{flow-plain}
-use Rattle.log_laws.proofs.Kept.Moves.{LogsGo, left, site_popped}
-use Rattle.log_laws.proofs.Kept.OneSite.{LessTo, SiteTakes, becomes-goes, counts-on, same-counts, same-uncounts, takes-asks, takes-holds, takes-joiner-same, takes-joiners, takes-keeps, takes-letters, takes-member, takes-stream, uncounts-on, with-site}
-use Rattle.log_laws.proofs.Kept.Steady.{SiteGoesOn}
+use Rattle.log_laws.proofs.Kept.{running-slot, AsksLess, left-kept, popped-kept, SiteStays, LogsGo, left, site_popped, LessTo, SiteTakes, becomes-goes, counts-on, same-counts, same-uncounts, takes-asks, takes-holds, takes-joiner-same, takes-joiners, takes-keeps, takes-letters, takes-member, takes-stream, uncounts-on, with-site, SiteGoesOn}
+use Rattle.log_laws.proofs.Plain.{flow-plain}
 use Rattle.log_laws.proofs.Messages.Taken.{first-foreign, first-less, first-letters, first-takes, without, without-each}
 
 -- ---- an ask

@@ -1,26 +1,7 @@
 -- A site takes a block, the end of a stream or of a scan: a joiner may have loaded all then.
-use Rattle.std.proofs.Common.{Bool, List, ap, append-nil, arith, false, inl, inr, refl, subst, sym, true, true≢false, ◌≡◌, ◌++◌, ◌∷◌, ◌∙◌, ◌⊎◌, ◌<◌, ◌≤◌, ◌==◌, [], ◌+◌}
-use Rattle.std.proofs.lemmas.Bool.{and_parts}
-use Rattle.std.proofs.lemmas.List.{length-append}
-use Rattle.std.specs.List.{AllByRecursion}
-use Rattle.std.specs.Prelude.{None, Option, Some, is_some, length, map, not, ◌&&◌, if◌then◌else◌, ℕ}
-use Rattle.volt_base.specs.declared.entry.Entry.{Entry}
-use Rattle.volt_wire.specs.Word.{Membership}
-use Rattle.cluster_model.specs.Letters.{Letter, becomes}
-use Rattle.cluster_model.specs.Site.{finishes_load, may_finish, on_chunk, on_scan_end, on_stream_end, with_count, with_joining}
-use Rattle.cluster_model.specs.SiteState.{ForBase, ForJoiner, Joiner, Joining, Scanning, SiteState, Streamed}
-use Rattle.cluster_model.specs.Words.{is_some_of, term_in, term_of}
-use Rattle.cluster_steps.proofs.Lists.{none-and-some, same-some, set-here, set-there}
-use Rattle.word_laws.specs.Histories.{Distinct}
-use Rattle.cluster_steps.specs.Lists.{In}
+use Rattle.log_laws.proofs.Names.{Bool, List, ap, append-nil, arith, false, inl, inr, refl, subst, sym, true, true≢false, ◌≡◌, ◌++◌, ◌∷◌, ◌∙◌, ◌⊎◌, ◌<◌, ◌≤◌, ◌==◌, [], ◌+◌, and_parts, length-append, AllByRecursion, None, Option, Some, is_some, length, map, not, ◌&&◌, if◌then◌else◌, ℕ, Entry, Membership, Letter, becomes, finishes_load, may_finish, on_chunk, on_scan_end, on_stream_end, with_count, with_joining, ForBase, ForJoiner, Joiner, Joining, Scanning, SiteState, Streamed, is_some_of, term_in, term_of, none-and-some, same-some, set-here, set-there, Distinct, In}
 use Rattle.log_laws.specs.Histories.{CountedOk, EndOk, LogsHold, JoinerOk, KeepsOk, LogState, MemberOk, StreamIn, Took, asked, asks_in, asks_of_term, asks_waiting, between, log_at, part, site_start, term_at}
-use Rattle.log_laws.proofs.Kept.Asked.{AtMost, asks-at, asks-of-same, at-most-same}
-use Rattle.log_laws.proofs.Kept.Keeps.{SiteStays}
-use Rattle.log_laws.proofs.Kept.Moves.{LogsGo}
-use Rattle.log_laws.proofs.Kept.OneSite.{LessTo, SiteTakes, becomes-goes, counts-on, same-counts, same-uncounts, takes-asks, takes-holds, takes-joined, takes-joiner, takes-joiner-same, takes-joiners, takes-keeps, takes-kept, takes-letters, takes-member, takes-stream, takes-took, takes-untaken, takes-word, takes-wordless, uncounts-on, with-site}
-use Rattle.log_laws.proofs.Kept.Plumbing.{goes-same}
-use Rattle.log_laws.proofs.Kept.Steady.{SiteGoesOn}
-use Rattle.log_laws.proofs.Kept.Rests.{SameJoiners, map-joiners, map-slots}
+use Rattle.log_laws.proofs.Kept.{AtMost, asks-at, asks-of-same, at-most-same, SiteStays, LogsGo, LessTo, SiteTakes, becomes-goes, counts-on, same-counts, same-uncounts, takes-asks, takes-holds, takes-joined, takes-joiner, takes-joiner-same, takes-joiners, takes-keeps, takes-kept, takes-letters, takes-member, takes-stream, takes-took, takes-untaken, takes-word, takes-wordless, uncounts-on, with-site, goes-same, SiteGoesOn, SameJoiners, map-joiners, map-slots}
 
 -- ---- a site changes with nothing under way
 

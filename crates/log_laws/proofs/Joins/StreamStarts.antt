@@ -1,29 +1,9 @@
 -- A joiner takes the stream that its leader began for it, or drops it.
-use Rattle.std.proofs.Common.{Bool, List, ap, append-nil, arith, false, inl, inr, refl, subst, sym, true, true≢false, ◌≡◌, ◌++◌, ◌∷◌, ◌∙◌, ◌⊎◌, ◌<◌, ◌≤◌, []}
-use Rattle.std.proofs.lemmas.Bool.{and_parts, cases_Bool, cases_eq}
-use Rattle.std.proofs.lemmas.Bool.Decides.{nat_tests}
-use Rattle.std.specs.List.{AllByRecursion}
-use Rattle.std.specs.Prelude.{None, Option, Some, is_none, is_some, length, map, nat_lt, ◌&&◌, if◌then◌else◌, ℕ}
-use Rattle.volt_wire.specs.Stream.{StreamHead}
-use Rattle.volt_wire.specs.Word.{Membership}
-use Rattle.volt_wire.specs.declared.actor.Actor.TheVariants.{Site}
+use Rattle.log_laws.proofs.Names.{Bool, List, ap, append-nil, arith, false, inl, inr, refl, subst, sym, true, true≢false, ◌≡◌, ◌++◌, ◌∷◌, ◌∙◌, ◌⊎◌, ◌<◌, ◌≤◌, [], and_parts, cases_Bool, cases_eq, nat_tests, AllByRecursion, None, Option, Some, is_none, is_some, length, map, nat_lt, ◌&&◌, if◌then◌else◌, ℕ, StreamHead, Membership, Site, Letter, becomes, may_stream, on_stream_start, Joining, SiteState, Streamed, site_term, term_in, term_of, set_at, all-at, all-from, none-and-some, same-some, set-here, set-there, is_none-none, In}
 use Rattle.volt_wire.specs.declared.message.Msg.TheVariants as msg
-use Rattle.cluster_model.specs.Letters.{Letter, becomes}
-use Rattle.cluster_model.specs.Site.{may_stream, on_stream_start}
-use Rattle.cluster_model.specs.SiteState.{Joining, SiteState, Streamed, site_term}
-use Rattle.cluster_model.specs.Words.{term_in, term_of}
-use Rattle.cluster_model.specs.World.{set_at}
-use Rattle.cluster_steps.proofs.Lists.{all-at, all-from, none-and-some, same-some, set-here, set-there, is_none-none}
-use Rattle.cluster_steps.specs.Lists.{In}
 use Rattle.log_laws.specs.Histories.{Begins, BeginsAt, Coming, EndOk, Entered, Follows, HasBeen, LogsHold, InWord, IsCounted, IsSlot, JoinerOk, LogState, MeantFor, SiteLetterOk, StreamIn, StreamedOk, Streaming, Took, Untaken, ViewIn, asked, asks_of_term, between, end_in, stream_ends_in, flow, follows, known, part, site_start, term_at}
-use Rattle.log_laws.proofs.Kept.Terms.{running-slot}
-use Rattle.log_laws.proofs.Kept.Asked.{at-most-none, at-most-same, popped-less}
-use Rattle.log_laws.proofs.Plain.Copies.{follows-one}
-use Rattle.log_laws.proofs.Kept.Laters.{ack-later, ask-later, been-later, end-later-if, part-later, reached-later, report-later}
-use Rattle.log_laws.proofs.Plain.Lines.{begins-same, ends-empty, ends-here, flow-here, follows-not-begins}
-use Rattle.log_laws.proofs.Kept.Moves.{LogsGo, JoinsOn, LogsLater, site_popped}
-use Rattle.log_laws.proofs.Kept.OneSite.{LessTo, SiteTakes, becomes-goes, takes-counted, takes-joined, takes-joiner, takes-steady, takes-stream, takes-word, with-site}
-use Rattle.log_laws.proofs.Kept.Steady.{SiteGoesOn, steady-joins, steady-later}
+use Rattle.log_laws.proofs.Kept.{running-slot, at-most-none, at-most-same, popped-less, ack-later, ask-later, been-later, end-later-if, part-later, reached-later, report-later, LogsGo, JoinsOn, LogsLater, site_popped, LessTo, SiteTakes, becomes-goes, takes-counted, takes-joined, takes-joiner, takes-steady, takes-stream, takes-word, with-site, SiteGoesOn, steady-joins, steady-later}
+use Rattle.log_laws.proofs.Plain.{follows-one, begins-same, ends-empty, ends-here, flow-here, follows-not-begins}
 use Rattle.log_laws.proofs.Messages.Taken.{first-begun, first-foreign, first-less, first-takes, without, without-each, without-here}
 use Rattle.log_laws.proofs.Joins.Tasks.{drops-goes}
 

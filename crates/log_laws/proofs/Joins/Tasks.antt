@@ -1,26 +1,10 @@
 -- A joiner takes an entry that its leader sent it behind its stream.
-use Rattle.std.proofs.Common.{Bool, List, ap, append-nil, append_assoc, arith, false, inl, inr, refl, subst, sym, true, true≢false, ◌≡◌, ◌++◌, ◌∷◌, ◌∙◌, ◌<◌, ◌≤◌, []}
-use Rattle.std.proofs.lemmas.Bool.{cases_Bool}
-use Rattle.std.proofs.lemmas.List.{length-append}
-use Rattle.std.specs.Prelude.{None, Option, Some, is_some, length, map, if◌then◌else◌, ℕ}
-use Rattle.volt_base.specs.declared.entry.Entry.{Entry}
-use Rattle.volt_wire.specs.Word.{Membership}
-use Rattle.volt_wire.specs.declared.actor.Actor.TheVariants.{Site}
+use Rattle.log_laws.proofs.Names.{Bool, List, ap, append-nil, append_assoc, arith, false, inl, inr, refl, subst, sym, true, true≢false, ◌≡◌, ◌++◌, ◌∷◌, ◌∙◌, ◌<◌, ◌≤◌, [], cases_Bool, length-append, None, Option, Some, is_some, length, map, if◌then◌else◌, ℕ, Entry, Membership, Site, Letter, becomes, on_task, with_joining, Joining, SiteState, Streamed, term_in, term_of, none-and-some, same-some}
 use Rattle.volt_wire.specs.declared.message.Msg.TheVariants as msg
-use Rattle.cluster_model.specs.Letters.{Letter, becomes}
-use Rattle.cluster_model.specs.Site.{on_task, with_joining}
-use Rattle.cluster_model.specs.SiteState.{Joining, SiteState, Streamed}
-use Rattle.cluster_model.specs.Words.{term_in, term_of}
-use Rattle.cluster_steps.proofs.Lists.{none-and-some, same-some}
 use Rattle.log_laws.specs.Histories.{Follows, LogsHold, InWord, JoinerOk, LogState, StreamIn, Took, ViewIn, asks_of_term, between, flow, follows, line_in, log_at, part, site_start, term_at}
-use Rattle.log_laws.proofs.Kept.Asked.{at-most-same, popped-less}
-use Rattle.log_laws.proofs.Plain.Copies.{follows-one}
-use Rattle.log_laws.proofs.Kept.Keeps.{SiteStays, still-same}
-use Rattle.log_laws.proofs.Plain.Lines.{begins-not-follows, flow-here, follows-cons}
+use Rattle.log_laws.proofs.Kept.{at-most-same, popped-less, SiteStays, still-same, LogsGo, site_popped, LessTo, SiteTakes, becomes-goes, takes-holds, takes-joined, takes-joiner, takes-joiner-same, takes-kept, takes-member, takes-stream, takes-took, takes-word, with-site, SiteGoesOn, goes-on-same}
+use Rattle.log_laws.proofs.Plain.{follows-one, begins-not-follows, flow-here, follows-cons}
 use Rattle.log_laws.proofs.Joins.Loads.{load-on, with-load}
-use Rattle.log_laws.proofs.Kept.Moves.{LogsGo, site_popped}
-use Rattle.log_laws.proofs.Kept.OneSite.{LessTo, SiteTakes, becomes-goes, takes-holds, takes-joined, takes-joiner, takes-joiner-same, takes-kept, takes-member, takes-stream, takes-took, takes-word, with-site}
-use Rattle.log_laws.proofs.Kept.Steady.{SiteGoesOn, goes-on-same}
 use Rattle.log_laws.proofs.Messages.Taken.{first-foreign, first-less, first-letters, first-takes, without, without-each, without-here}
 
 -- ---- a message that a site drops

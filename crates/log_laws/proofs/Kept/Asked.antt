@@ -1,25 +1,9 @@
 -- By which starts a slot asked to join: what a message that waits, is kept or is forgotten makes of that.
-use Rattle.std.proofs.Common.{◌≡◌, Bool, true, false, List, [], ◌∷◌, ◌++◌, append_assoc, refl, sym, subst, ap, ◌∙◌, ◌⊎◌, inl, inr, ◌==◌, true≢false, arith}
-use Rattle.std.proofs.lemmas.Bool.{cases_eq, eqb-true}
-use Rattle.std.proofs.lemmas.Bool.Decides.{nat_tests}
-use Rattle.std.proofs.lemmas.List.{length-append, map-append}
-use Rattle.std.proofs.lemmas.List.Elements.{filter-append}
-use Rattle.std.specs.Prelude.{ℕ, ◌≤◌, ◌&&◌, if◌then◌else◌, flat_map, filter, length, nat_lt}
-use Rattle.volt_wire.specs.declared.actor.Actor.{Actor}
-use Rattle.volt_wire.specs.declared.actor.Actor.TheVariants.{Site}
+use Rattle.log_laws.proofs.Names.{◌≡◌, Bool, true, false, List, [], ◌∷◌, ◌++◌, append_assoc, refl, sym, subst, ap, ◌∙◌, ◌⊎◌, inl, inr, ◌==◌, true≢false, arith, cases_eq, eqb-true, nat_tests, length-append, map-append, filter-append, ℕ, ◌≤◌, ◌&&◌, if◌then◌else◌, flat_map, filter, length, nat_lt, Actor, Site, term_in, same, Letter, Waiting, no_sends, of_term, above_term, SiteState, site_term, on_join_ask, rest, set_at, In, eqb-same, in-left, in-right, in-cases, set-here, set-there, same-true, sent-nothing}
 use Rattle.volt_wire.specs.declared.message.Msg.TheVariants as msg
-use Rattle.cluster_model.specs.Words.{term_in}
-use Rattle.cluster_model.specs.Letters.{same, Letter, Waiting, no_sends, of_term, above_term}
-use Rattle.cluster_model.specs.SiteState.{SiteState, site_term}
-use Rattle.cluster_model.specs.Site.{on_join_ask}
-use Rattle.cluster_model.specs.World.{rest, set_at}
-use Rattle.cluster_steps.specs.Lists.{In}
-use Rattle.cluster_steps.proofs.Lists.{eqb-same, in-left, in-right, in-cases, set-here, set-there}
-use Rattle.word_laws.proofs.Steps.{same-true}
-use Rattle.cluster_steps.proofs.Channels.{sent-nothing}
 use Rattle.log_laws.specs.Histories.{LogState, Logs, between, ask_of, asks_in, wait_of, asks_waiting, asks_kept, asks_of_term, asked}
 use Rattle.log_laws.proofs.Kept.Moves.{after_site, site_popped, left}
-use Rattle.log_laws.proofs.Plain.Lines.{waits-push}
+use Rattle.log_laws.proofs.Plain.{waits-push}
 
 -- ---- no more than before
 

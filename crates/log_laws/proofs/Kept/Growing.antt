@@ -1,23 +1,6 @@
 -- A turn in which the log of a member grows: what holds, holds after it, where the messages and the copies of its partition allow it.
-use Rattle.std.proofs.Common.{◌≡◌, ◌<◌, Bool, true, false, List, [], ◌++◌, refl, sym, subst, ap, ◌∙◌, inl, inr, true≢false, arith}
-use Rattle.std.proofs.lemmas.Bool.{cases_eq}
-use Rattle.std.proofs.lemmas.List.{length-append}
-use Rattle.std.specs.Prelude.{ℕ, ◌≤◌, Option, Some, None}
-use Rattle.std.specs.List.{AllByRecursion}
-use Rattle.volt_base.specs.declared.entry.Entry.{Entry}
-use Rattle.volt_wire.specs.Word.{Membership}
-use Rattle.volt_wire.specs.declared.actor.Actor.{Actor}
-use Rattle.volt_wire.specs.declared.actor.Actor.TheVariants.{Director, Agent, Site}
-use Rattle.cluster_model.specs.Words.{host_of_slot, term_of, leader}
-use Rattle.cluster_model.specs.Letters.{Letter, Waiting}
-use Rattle.cluster_model.specs.SiteState.{SiteState, Joining, Joiner, Scanning}
-use Rattle.cluster_model.specs.World.{set_at}
-use Rattle.cluster_model.specs.Laws.{starts_in}
-use Rattle.cluster_steps.specs.Lists.{In}
-use Rattle.cluster_steps.proofs.Lists.{all-mono, none-and-some, set-here, set-there, set-both}
-use Rattle.word_laws.proofs.Steps.{channel-holds}
+use Rattle.log_laws.proofs.Names.{◌≡◌, ◌<◌, Bool, true, false, List, [], ◌++◌, refl, sym, subst, ap, ◌∙◌, inl, inr, true≢false, arith, cases_eq, length-append, ℕ, ◌≤◌, Option, Some, None, AllByRecursion, Entry, Membership, Actor, Director, Agent, Site, host_of_slot, term_of, leader, Letter, Waiting, SiteState, Joining, Joiner, Scanning, set_at, starts_in, In, all-mono, none-and-some, set-here, set-there, set-both, channel-holds, prefix-grows}
 use Rattle.log_laws.specs.Histories.{LogState, Leadership, FollowsIn, LeadsIn, MemberOk, JoinerOk, AckOk, ReportOk, AsksToJoin, CountedOk, SiteWaitingOk, KeepsOk, SiteOk, SiteLetterOk, ForeignOk, ToldOk, BeginsAt, IsSlot, IsCounted, LogsHold, agent_to_site, follows, line, flow, between, part, site_start, log_at, term_at}
-use Rattle.cluster_steps.proofs.Prefixes.{prefix-grows}
 use Rattle.log_laws.proofs.Kept.Moves.{SiteRises, site-stays, Stays, LogsLater, SameLeaderships, JoinsOn}
 use Rattle.log_laws.proofs.Kept.Laters.{letter-later, waiting-later, ack-later, report-later, ask-later, counted-later, entered-later, streamed-later, leaderships-later, unleds-later, first-later, loads-later}
 use Rattle.log_laws.proofs.Kept.Plumbing.{words-later}

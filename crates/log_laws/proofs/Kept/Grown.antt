@@ -1,11 +1,6 @@
 -- What turns of sites add to the history of terms that are led: nothing, at one place, and one turn behind another.
-use Rattle.std.proofs.Common.{◌≡◌, sym, subst, ap, ◌∙◌, inl, inr, refl, arith}
-use Rattle.std.proofs.lemmas.Bool.{cases_eq}
-use Rattle.std.specs.Prelude.{ℕ, ◌≤◌, Some, length}
-use Rattle.cluster_model.specs.Words.{Deployment}
-use Rattle.cluster_model.specs.SiteState.{SiteState}
+use Rattle.log_laws.proofs.Names.{◌≡◌, sym, subst, ap, ◌∙◌, inl, inr, refl, arith, cases_eq, ℕ, ◌≤◌, Some, length, Deployment, SiteState, prefix-refl, prefix-trans}
 use Rattle.log_laws.specs.Histories.{LogState, Logs, log_at}
-use Rattle.cluster_steps.proofs.Prefixes.{prefix-refl, prefix-trans}
 use Rattle.log_laws.proofs.Kept.Moves.{LogsLater, Onward, Heads, Grown, Enters}
 
 -- ---- a later history

@@ -1,16 +1,6 @@
 -- States in which other messages are under way or wait, and sites differ in what isn't looked at: what holds, holds in them.
-use Rattle.std.proofs.Common.{◌≡◌, ◌<◌, List, [], refl, sym, subst, ◌∙◌, inl, arith}
-use Rattle.std.specs.Prelude.{ℕ}
-use Rattle.std.specs.List.{AllByRecursion}
-use Rattle.volt_wire.specs.Word.{Membership}
-use Rattle.volt_wire.specs.declared.actor.Actor.{Actor}
-use Rattle.volt_wire.specs.declared.actor.Actor.TheVariants.{Agent, Site}
-use Rattle.cluster_model.specs.Words.{host_of_slot}
-use Rattle.cluster_model.specs.Letters.{Letter, Waiting}
-use Rattle.cluster_model.specs.SiteState.{SiteState, Joining}
-use Rattle.cluster_model.specs.World.{set_at}
+use Rattle.log_laws.proofs.Names.{◌≡◌, ◌<◌, List, [], refl, sym, subst, ◌∙◌, inl, arith, ℕ, AllByRecursion, Membership, Actor, Agent, Site, host_of_slot, Letter, Waiting, SiteState, Joining, set_at, all-mono, set-both, set-same}
 use Rattle.word_laws.specs.Histories as word
-use Rattle.cluster_steps.proofs.Lists.{all-mono, set-both, set-same}
 use Rattle.log_laws.specs.Histories.{LogState, LogsHold, IsCounted, SiteLetterOk, ForeignOk, ToldOk, SiteWaitingOk, EndOk, BeginsAt, MeantFor, IsSlot, KeepsOk, ViewsOk, site_start, term_at, between, agent_to_site, line, flow, stream_ends_in, part}
 use Rattle.log_laws.proofs.Kept.Moves.{LogsLater, SameLeaderships, JoinsOn}
 use Rattle.log_laws.proofs.Kept.Asked.{AsksLess}
@@ -158,8 +148,8 @@ pub record SiteStill (S : LogState) (i : ℕ) (s : SiteState) : Type 0 where
   pub waiting : 0 < site_start S i → AllByRecursion (SiteWaitingOk S i) s.waiting
   pub none : site_start S i ≡ 0 → s.waiting ≡ []
 
-pub site-same : (S : LogState) (i : ℕ) → LogsHold S → SiteStill S i (S.sites i)
-site-same S i H = record {
+pub site-as-is : (S : LogState) (i : ℕ) → LogsHold S → SiteStill S i (S.sites i)
+site-as-is S i H = record {
   still = still-same (S.sites i) (S.sites i) refl;
   kept = kept-same (S.sites i) (S.sites i) refl;
   waiting = λ up. ((H.sites i).keeps up).waiting;
@@ -222,4 +212,4 @@ still-holds S i s ch H site channels asks = subst (λ p. LogsHold (logs_moved S 
 -- where all sites stay
 pub channels-hold : (S : LogState) (ch : Actor → Actor → List Letter) → LogsHold S → ChannelsOk S ch → AsksLess S (logs_moved S ch S.sites S.pending) → LogsHold (logs_moved S ch S.sites S.pending)
 channels-hold S ch H channels asks = subst (λ f. LogsHold (logs_moved S ch f S.pending)) (set-same S.sites 0)
-    (still-holds S 0 (S.sites 0) ch H (site-same S 0 H) channels (subst (λ f. AsksLess S (logs_moved S ch f S.pending)) (sym (set-same S.sites 0)) asks))
+    (still-holds S 0 (S.sites 0) ch H (site-as-is S 0 H) channels (subst (λ f. AsksLess S (logs_moved S ch f S.pending)) (sym (set-same S.sites 0)) asks))

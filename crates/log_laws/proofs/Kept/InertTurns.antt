@@ -1,23 +1,11 @@
 -- Turns of a site in which nothing changes that is looked at: what holds, holds after them.
-use Rattle.std.proofs.Common.{◌≡◌, Bool, true, false, List, [], ◌∷◌, ◌++◌, refl, ap, ◌∙◌, ◌==◌, arith}
-use Rattle.std.specs.Prelude.{ℕ, ◌&&◌, ◌+◌, not, nat_lt, if◌then◌else◌, replicate, Option, Some, None, length}
-use Rattle.std.specs.List.{AllByRecursion}
-use Rattle.volt_base.specs.declared.entry.Outcome.{Outcome}
-use Rattle.volt_wire.specs.declared.actor.Actor.{Actor}
-use Rattle.volt_wire.specs.declared.actor.Actor.TheVariants.{Director, Client, Agent, Site, Scanner}
+use Rattle.log_laws.proofs.Names.{◌≡◌, Bool, true, false, List, [], ◌∷◌, ◌++◌, refl, ap, ◌∙◌, ◌==◌, arith, ℕ, ◌&&◌, ◌+◌, not, nat_lt, if◌then◌else◌, replicate, Option, Some, None, length, AllByRecursion, Outcome, Actor, Director, Client, Agent, Site, Scanner, Database, Deployment, part_of_slot, Letter, Sends, Turn, becomes, sending, only, letter_in, open_in, last_done, nothing_open, SiteState, AskedCall, site_term, leads, is_joiner, tells_initiator, is_first_term, has_all_on_disk, initiator_in, shows, looked, on_look, on_power, sent, all-append, all-from, all-if, all-mono, set-both}
 use Rattle.volt_wire.specs.declared.message.Msg.TheVariants as msg
-use Rattle.cluster_model.specs.Engine.{Database}
-use Rattle.cluster_model.specs.Words.{Deployment, part_of_slot}
-use Rattle.cluster_model.specs.Letters.{Letter, Sends, Turn, becomes, sending, only, letter_in}
-use Rattle.cluster_model.specs.Log.{open_in, last_done, nothing_open}
-use Rattle.cluster_model.specs.SiteState.{SiteState, AskedCall, site_term, leads, is_joiner}
-use Rattle.cluster_model.specs.Site.{tells, tells_initiator, standing, is_first_term, has_all_on_disk, initiator_in, shows, looked, on_look, on_power}
-use Rattle.cluster_model.specs.World.{sent}
-use Rattle.cluster_steps.proofs.Lists.{all-append, all-from, all-if, all-mono, set-both}
+use Rattle.cluster_model.specs.Site.{tells, standing}
 use Rattle.log_laws.specs.Histories.{LogState, LogsHold, HeldOk, SiteLetterOk, ForeignOk, ToldOk, site_start, term_at, between, agent_to_site, line, line_of, flow, flow_of, stream_ends_in, end_of, ask_of, asks_in, asks_waiting, asks_of_term, asked, log_at}
 use Rattle.log_laws.proofs.Kept.Moves.{after_site, NoStreamStart, LogsGo}
 use Rattle.log_laws.proofs.Kept.Grown.{grown-same, enters-same}
-use Rattle.log_laws.proofs.Plain.Lines.{line-none, flow-none, ends-none, asks-none, line-same, flow-same, ends-same, asks-same, line-plain, flow-plain, ends-plain, asks-plain}
+use Rattle.log_laws.proofs.Plain.{line-none, flow-none, ends-none, asks-none, line-same, flow-same, ends-same, asks-same, line-plain, flow-plain, ends-plain, asks-plain}
 use Rattle.log_laws.proofs.Kept.Asked.{AsksLess, at-most-is}
 use Rattle.log_laws.proofs.Kept.KeepsViews.{leaves-same}
 use Rattle.log_laws.proofs.Kept.Plumbing.{sent-either, words-after, goes-same}

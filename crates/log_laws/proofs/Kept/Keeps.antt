@@ -1,18 +1,10 @@
 -- What holds of a slot that isn't the one that moves: it stays so.
-use Rattle.std.proofs.Common.{◌≡◌, ◌<◌, Bool, true, false, List, [], ◌∷◌, refl, sym, subst, ap, ◌∙◌, ◌⊎◌, inl, inr, ◌==◌, arith}
-use Rattle.std.proofs.lemmas.Bool.{cases_eq, cases_Bool, eqb-true, eq-eqb, ne_eqb}
-use Rattle.std.specs.Prelude.{ℕ, ◌&&◌, not, length, Option, Some, None}
-use Rattle.std.specs.List.{AllByRecursion}
-use Rattle.volt_wire.specs.Word.{Membership}
-use Rattle.cluster_model.specs.Words.{Deployment, term_of, term_in, leader}
-use Rattle.cluster_model.specs.SiteState.{SiteState, Streamed, Joining, Joiner, Ask}
-use Rattle.cluster_steps.specs.Lists.{In}
-use Rattle.cluster_steps.proofs.Lists.{all-mono}
+use Rattle.log_laws.proofs.Names.{◌≡◌, ◌<◌, Bool, true, false, List, [], ◌∷◌, refl, sym, subst, ap, ◌∙◌, ◌⊎◌, inl, inr, ◌==◌, arith, cases_eq, cases_Bool, eqb-true, eq-eqb, ne_eqb, ℕ, ◌&&◌, not, length, Option, Some, None, AllByRecursion, Membership, Deployment, term_of, term_in, leader, SiteState, Streamed, Joining, Joiner, Ask, In, all-mono}
 use Rattle.log_laws.specs.Histories.{LogState, LogsHold, Entered, Streaming, Leadership, Line, Flow, FollowsIn, LeadsIn, HeldOk, AsksToJoin, CountedOk, SiteWaitingOk, KeepsOk, SiteOk, AckOk, ReportOk, MemberOk, JoinerOk, InWord, Wordless, ViewIn, StreamIn, Untaken, Took, Coming, Inert, NoStream, IsCounted, IsSlot, part, site_start, term_at, between, follows, line, flow, stream_ends_in, asked}
 use Rattle.log_laws.proofs.Kept.Moves.{LogsLater, Stays, JoinsOn}
 use Rattle.log_laws.proofs.Kept.Asked.{AtMost, at-most-none, at-most-one}
 use Rattle.log_laws.proofs.Kept.Laters.{part-later, slot-before, start-later, ack-later, report-later, counted-later, ask-later-on, waiting-later-on}
-use Rattle.log_laws.proofs.Plain.Copies.{follows-leader}
+use Rattle.log_laws.proofs.Plain.{follows-leader}
 
 -- ---- what is the same
 

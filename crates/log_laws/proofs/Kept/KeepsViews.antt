@@ -1,16 +1,6 @@
 -- What holds between a slot's site and its host's agent stays so, also when the site takes a message that is no word for it.
-use Rattle.std.proofs.Common.{◌≡◌, ◌<◌, List, [], ◌∷◌, ◌++◌, sym, subst, ap, ◌∙◌, ◌⊎◌, inl, inr, ◌+◌}
-use Rattle.std.specs.Prelude.{ℕ, ◌≤◌, Option, Some, None}
-use Rattle.volt_wire.specs.Word.{Membership}
-use Rattle.volt_wire.specs.declared.actor.Actor.{Actor}
-use Rattle.volt_wire.specs.declared.actor.Actor.TheVariants.{Director, Client, Agent, Site, Scanner}
+use Rattle.log_laws.proofs.Names.{◌≡◌, ◌<◌, List, [], ◌∷◌, ◌++◌, sym, subst, ap, ◌∙◌, ◌⊎◌, inl, inr, ◌+◌, ℕ, ◌≤◌, Option, Some, None, Membership, Actor, Director, Client, Agent, Site, Scanner, term_of, host_of_slot, start_of_slot, Letter, AgentState, start_in_letter, starts_in, In, all-mono, all-at, all-from, in-right}
 use Rattle.volt_wire.specs.declared.message.Msg.TheVariants as msg
-use Rattle.cluster_model.specs.Words.{term_of, host_of_slot, start_of_slot}
-use Rattle.cluster_model.specs.Letters.{Letter}
-use Rattle.cluster_model.specs.AgentState.{AgentState}
-use Rattle.cluster_model.specs.Laws.{start_in_letter, starts_in}
-use Rattle.cluster_steps.specs.Lists.{In}
-use Rattle.cluster_steps.proofs.Lists.{all-mono, all-at, all-from, in-right}
 use Rattle.log_laws.specs.Histories.{LogState, LogsHold, MemberViews, FirstViews, RunViews, Starting, ViewsOk, ForeignOk, site_start, agent_to_site, views, view_of, sent_term}
 use Rattle.log_laws.proofs.Kept.Moves.{LogsLater}
 

@@ -1,23 +1,7 @@
 -- One site changes, with what is under way to it: all that holds of the others holds after it.
-use Rattle.std.proofs.Common.{List, ap, arith, false, inl, inr, refl, subst, sym, true, ◌≡◌, ◌++◌, ◌∙◌, ◌⊎◌, ◌<◌, ◌≤◌, []}
-use Rattle.std.proofs.lemmas.Bool.{cases_eq}
-use Rattle.std.specs.List.{AllByRecursion}
-use Rattle.std.specs.Prelude.{None, Option, Some, is_some, length, map, ℕ}
-use Rattle.volt_base.specs.declared.entry.Entry.{Entry}
-use Rattle.volt_wire.specs.Word.{Membership}
-use Rattle.volt_wire.specs.declared.actor.Actor.{Actor}
-use Rattle.volt_wire.specs.declared.actor.Actor.TheVariants.{Agent, Director, Site}
-use Rattle.cluster_model.specs.Letters.{Letter, Waiting, becomes}
-use Rattle.cluster_model.specs.SiteState.{Ask, Joiner, Joining, SiteState, Streamed, is_leader}
-use Rattle.cluster_model.specs.Words.{term_of}
-use Rattle.cluster_model.specs.World.{set_at}
-use Rattle.cluster_steps.proofs.Lists.{all-mono, none-and-some, same-some, set-here, set-there}
-use Rattle.cluster_steps.proofs.Channels.{sent-nothing}
-use Rattle.word_laws.specs.Histories.{Distinct}
-use Rattle.cluster_steps.specs.Lists.{In}
+use Rattle.log_laws.proofs.Names.{List, ap, arith, false, inl, inr, refl, subst, sym, true, ◌≡◌, ◌++◌, ◌∙◌, ◌⊎◌, ◌<◌, ◌≤◌, [], cases_eq, AllByRecursion, None, Option, Some, is_some, length, map, ℕ, Entry, Membership, Actor, Agent, Director, Site, Letter, Waiting, becomes, Ask, Joiner, Joining, SiteState, Streamed, is_leader, term_of, set_at, all-mono, none-and-some, same-some, set-here, set-there, sent-nothing, Distinct, In, leader-view}
 use Rattle.log_laws.specs.Histories.{AsksToJoin, BeginsAt, Coming, CountedOk, Flow, Follows, ForeignOk, LogsHold, InWord, IsCounted, IsSlot, JoinerOk, KeepsOk, LogState, MemberOk, Inert, SiteLetterOk, StreamIn, StreamedOk, Streaming, Took, Untaken, ViewIn, SiteWaitingOk, Wordless, asked, between, stream_ends_in, flow, follows, line, part, site_start, term_at, log_at}
 use Rattle.log_laws.proofs.Kept.Asked.{AsksLess, at-most-none, at-most-one}
-use Rattle.cluster_steps.proofs.Leaders.{leader-view}
 use Rattle.log_laws.proofs.Kept.Keeps.{CountedBy, SameFrom, SiteStays, Uncounted, counted-from, still-same}
 use Rattle.log_laws.proofs.Kept.Laters.{letter-later, streamed-later}
 use Rattle.log_laws.proofs.Kept.Moves.{LogsGo, LogsLater, Unentered}

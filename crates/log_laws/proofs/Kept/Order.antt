@@ -1,24 +1,8 @@
 -- A turn whose messages are put in order: what holds after it as they were sent, holds then.
-use Rattle.std.proofs.Common.{◌≡◌, Bool, true, false, List, [], ◌∷◌, ◌++◌, append-nil, append_assoc, refl, sym, subst, ap, ◌∙◌, ◌==◌}
-use Rattle.std.proofs.lemmas.Bool.{eqb-true, eqb-false}
-use Rattle.std.proofs.Math.Path.{fun_ext}
-use Rattle.std.proofs.lemmas.List.Elements.{filter-append}
-use Rattle.std.specs.Prelude.{ℕ, filter, find, Option, Some, None, if◌then◌else◌}
-use Rattle.std.specs.List.{AllByRecursion}
-use Rattle.volt_wire.specs.declared.actor.Actor.{Actor}
-use Rattle.volt_wire.specs.declared.actor.Actor.TheVariants.{Director, Client, Agent, Site, Scanner}
-use Rattle.cluster_model.specs.Engine.{Database}
-use Rattle.cluster_model.specs.Words.{Deployment}
-use Rattle.cluster_model.specs.Letters.{same, Letter, Sends, Turn, ◌▸◌, only}
-use Rattle.cluster_model.specs.SiteState.{SiteState, Ask}
-use Rattle.cluster_model.specs.Site.{ordered, order_of, of_order, takes_asks, takes_first_ask, can_take}
-use Rattle.cluster_model.specs.World.{sent}
-use Rattle.cluster_steps.proofs.Lists.{all-append, all-behind, all-if, all-mono, filter-all}
-use Rattle.word_laws.proofs.Steps.{channel-holds}
+use Rattle.log_laws.proofs.Names.{◌≡◌, Bool, true, false, List, [], ◌∷◌, ◌++◌, append-nil, append_assoc, refl, sym, subst, ap, ◌∙◌, ◌==◌, eqb-true, eqb-false, fun_ext, filter-append, ℕ, filter, find, Option, Some, None, if◌then◌else◌, AllByRecursion, Actor, Director, Client, Agent, Site, Scanner, Database, Deployment, same, Letter, Sends, Turn, ◌▸◌, only, SiteState, Ask, ordered, order_of, of_order, takes_asks, takes_first_ask, can_take, sent, all-append, all-behind, all-if, all-mono, filter-all, channel-holds, in_order, all-order}
 use Rattle.log_laws.specs.Histories.{LogState, Logs, LogsHold, SiteLetterOk, ForeignOk, ToldOk, site_start, term_at, between, agent_to_site, line, flow, stream_ends_in, asks_in, asks_waiting, asks_of_term, asked}
 use Rattle.log_laws.proofs.Kept.Moves.{after_site, NoStreamStart, Turns}
-use Rattle.cluster_steps.proofs.Sends.{in_order, all-order}
-use Rattle.log_laws.proofs.Plain.Lines.{line-append, flow-append, ends-append, asks-append, line-order, flow-order, ends-order, asks-order}
+use Rattle.log_laws.proofs.Plain.{line-append, flow-append, ends-append, asks-append, line-order, flow-order, ends-order, asks-order}
 use Rattle.log_laws.proofs.Kept.Asked.{at-most-is}
 use Rattle.log_laws.proofs.Kept.KeepsViews.{leaves-same}
 use Rattle.log_laws.proofs.Kept.Inert.{logs_moved, channels-hold}

@@ -1,20 +1,8 @@
 -- States after turns: their channels, their words, and one turn behind another.
-use Rattle.std.proofs.Common.{◌≡◌, Bool, true, false, List, ◌∷◌, ◌++◌, refl, sym, subst, ap, ◌∙◌, ◌==◌, arith}
-use Rattle.std.proofs.lemmas.Bool.{eqb-true, and_parts}
-use Rattle.std.proofs.lemmas.Bool.Decides.{nat_tests}
-use Rattle.std.specs.Prelude.{ℕ, ◌≤◌, ◌&&◌, length, if◌then◌else◌}
-use Rattle.std.specs.List.{AllByRecursion}
-use Rattle.volt_wire.specs.declared.actor.Actor.{Actor}
-use Rattle.volt_wire.specs.declared.actor.Actor.TheVariants.{Director, Client, Agent, Site, Scanner}
-use Rattle.cluster_model.specs.Letters.{same, Letter, Sends, no_sends, Turn, becomes, ◌▸◌}
-use Rattle.cluster_model.specs.SiteState.{SiteState}
-use Rattle.cluster_model.specs.World.{sent, rest, set_at}
+use Rattle.log_laws.proofs.Names.{◌≡◌, Bool, true, false, List, ◌∷◌, ◌++◌, refl, sym, subst, ap, ◌∙◌, ◌==◌, arith, eqb-true, and_parts, nat_tests, ℕ, ◌≤◌, ◌&&◌, length, if◌then◌else◌, AllByRecursion, Actor, Director, Client, Agent, Site, Scanner, same, Letter, Sends, no_sends, Turn, becomes, ◌▸◌, SiteState, sent, rest, set_at, In, all-append, all-at, all-from, all-mono, eqb-same, set-here, set-there, set-both, set-same, set-twice, sent-nothing, sent-twice}
 use Rattle.word_laws.specs.Histories as word
-use Rattle.cluster_steps.specs.Lists.{In}
-use Rattle.cluster_steps.proofs.Lists.{all-append, all-at, all-from, all-mono, eqb-same, set-here, set-there, set-both, set-same, set-twice}
 use Rattle.word_laws.proofs.Moves as word_moves
 use Rattle.word_laws.proofs.Steps as word_steps
-use Rattle.cluster_steps.proofs.Channels.{sent-nothing, sent-twice}
 use Rattle.log_laws.specs.Histories.{LogState, Logs, LogsHold, IsSlot, SiteLetterOk, ForeignOk, ViewsOk, site_start, log_at, between}
 use Rattle.log_laws.proofs.Kept.Moves.{after_site, site_popped, LogsLater, Grown, Enters, Turns, LogsGo, NoStreamStart}
 use Rattle.log_laws.proofs.Kept.Grown.{grown-same, grown-then, enters-same, enters-then}

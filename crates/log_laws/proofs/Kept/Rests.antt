@@ -1,25 +1,11 @@
 -- Turns of a site in which its log and its term stay: what it counts, acknowledges and has on disk may change.
-use Rattle.std.proofs.Common.{◌≡◌, ◌<◌, ◌≤◌, true, false, List, [], ◌∷◌, ◌++◌, refl, sym, subst, ap, ◌∙◌, ◌⊎◌, inl, inr, append-nil, arith}
-use Rattle.std.proofs.Math.Path.{fun_ext}
-use Rattle.std.specs.Prelude.{ℕ, map, length, Option, Some, None}
-use Rattle.std.specs.List.{AllByRecursion}
-use Rattle.volt_wire.specs.Word.{Membership}
-use Rattle.volt_wire.specs.declared.actor.Actor.{Actor}
-use Rattle.volt_wire.specs.declared.actor.Actor.TheVariants.{Director, Client, Agent, Site, Scanner}
+use Rattle.log_laws.proofs.Names.{◌≡◌, ◌<◌, ◌≤◌, true, false, List, [], ◌∷◌, ◌++◌, refl, sym, subst, ap, ◌∙◌, ◌⊎◌, inl, inr, append-nil, arith, fun_ext, ℕ, map, length, Option, Some, None, AllByRecursion, Membership, Actor, Director, Client, Agent, Site, Scanner, Deployment, term_of, Letter, Sends, no_sends, Turn, sending, Waiting, SiteState, Streamed, Joining, Joiner, is_leader, sent, set_at, In, Distinct, not-both, in-none, in-map, in-map-from, all-append, all-mono, none-and-some, same-some, set-both, leader-same, leader-view}
 use Rattle.volt_wire.specs.declared.message.Msg.TheVariants as msg
-use Rattle.cluster_model.specs.Words.{Deployment, term_of}
-use Rattle.cluster_model.specs.Letters.{Letter, Sends, no_sends, Turn, sending, Waiting}
-use Rattle.cluster_model.specs.SiteState.{SiteState, Streamed, Joining, Joiner, is_leader}
-use Rattle.cluster_model.specs.World.{sent, set_at}
-use Rattle.cluster_steps.specs.Lists.{In}
-use Rattle.word_laws.specs.Histories.{Distinct}
-use Rattle.cluster_steps.proofs.Lists.{not-both, in-none, in-map, in-map-from, all-append, all-mono, none-and-some, same-some, set-both}
 use Rattle.log_laws.specs.Histories.{LogState, Entered, Streaming, Leadership, Flow, LogsHold, SiteOk, BeginsAt, SiteWaitingOk, ReportOk, AsksToJoin, agent_to_site, IsSlot, AckOk, CountedOk, IsCounted, HeldOk, MemberOk, JoinerOk, ViewIn, StreamIn, Inert, Coming, KeepsOk, ViewsOk, ForeignOk, LoadsOk, ToldOk, SiteLetterOk, JoinsIn, line_in, flow_in, ask_in, line_of, flow_of, ask_of, asks_waiting, asks_of_term, line, flow, stream_ends_in, asks_in, asked, follows, FollowsIn, part, site_start, log_at, term_at, between}
 use Rattle.log_laws.proofs.Kept.Moves.{after_site, LogsLater, LogsGo, NoStreamStart, JoinsOn, SameLeaderships}
 use Rattle.log_laws.proofs.Kept.Grown.{grown-reach, enters-same}
 use Rattle.log_laws.proofs.Kept.Laters.{ack-later, report-later, ask-later, counted-later, letter-later, waiting-later-with, loads-later, entered-later, streamed-later, leaderships-later, unleds-later}
-use Rattle.cluster_steps.proofs.Leaders.{leader-same, leader-view}
-use Rattle.log_laws.proofs.Plain.Lines.{line-same, flow-same, ends-same, asks-same, line-none, flow-none, asks-none, line-plain, flow-plain, asks-plain}
+use Rattle.log_laws.proofs.Plain.{line-same, flow-same, ends-same, asks-same, line-none, flow-none, asks-none, line-plain, flow-plain, asks-plain}
 use Rattle.log_laws.proofs.Kept.KeepsViews.{views-keeps-with, leaves-same}
 use Rattle.log_laws.proofs.Kept.Plumbing.{GoesFrom, words-later, words-after, sent-either}
 
@@ -201,17 +187,7 @@ module _ (S : LogState) (H : LogsHold S) (states : ℕ → SiteState) (i : ℕ) 
   }
 
   coming-rests : (c : ℕ) (w : Membership) (fl : List Flow) → In w S.words.history.decided → log_at S c ≡ [] → (S.sites c).earlier < term_of w → Coming S c w fl → Coming T c w fl
-  coming-rests c w fl decided empty below k = record {
-    past = k.past;
-    more = k.more;
-    leadership = k.leadership;
-    flow_is = k.flow_is;
-    led = k.led;
-    whole = k.whole;
-    behind = k.behind;
-    reach = reaches.coming c w fl decided empty below k;
-    counted = counted-rests c (site_start S c) (length k.past) w k.counted;
-  }
+  coming-rests c w fl decided empty below k = search (reaches.coming, counted-rests)
 
   -- ---- members
 

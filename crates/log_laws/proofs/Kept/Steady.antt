@@ -1,17 +1,5 @@
 -- Moves of sites that leave words, terms and what was entered as they are: what holds, holds after them.
-use Rattle.std.proofs.Common.{List, ap, arith, inl, refl, sym, true, ◌≡◌, ◌∙◌, ◌⊎◌, ◌<◌, ◌≤◌, []}
-use Rattle.std.specs.List.{AllByRecursion}
-use Rattle.std.specs.Prelude.{None, Option, Some, length, map, ℕ}
-use Rattle.volt_wire.specs.Word.{Membership}
-use Rattle.volt_wire.specs.declared.actor.Actor.{Actor}
-use Rattle.volt_wire.specs.declared.actor.Actor.TheVariants.{Agent, Director, Site}
-use Rattle.cluster_model.specs.Laws.{starts_in}
-use Rattle.cluster_model.specs.Letters.{Letter, Waiting}
-use Rattle.cluster_model.specs.SiteState.{Ask, Joiner, Joining, SiteState, is_leader}
-use Rattle.cluster_model.specs.Words.{host_of_slot, term_of}
-use Rattle.cluster_steps.proofs.Lists.{all-mono, none-and-some}
-use Rattle.word_laws.proofs.Steps.{channel-holds}
-use Rattle.word_laws.specs.Histories.{Distinct}
+use Rattle.log_laws.proofs.Names.{List, ap, arith, inl, refl, sym, true, ◌≡◌, ◌∙◌, ◌⊎◌, ◌<◌, ◌≤◌, [], AllByRecursion, None, Option, Some, length, map, ℕ, Membership, Actor, Agent, Director, Site, starts_in, Letter, Waiting, Ask, Joiner, Joining, SiteState, is_leader, host_of_slot, term_of, all-mono, none-and-some, channel-holds, Distinct}
 use Rattle.log_laws.specs.Histories.{AckOk, AsksToJoin, AskedOk, CountedOk, FirstViews, ForeignOk, LogsHold, IsCounted, IsSlot, JoinerOk, KeepsOk, LoadsOk, LogState, MemberOk, QueuedLoadedOk, ReportOk, RunViews, SiteLetterOk, SiteOk, StreamedOk, Streaming, ToldOk, ViewsOk, SiteWaitingOk, between, agent_to_site, line, part, site_start, term_at, views}
 use Rattle.log_laws.proofs.Kept.Keeps.{SameFrom, SameRun, SiteStays, joiner-keeps, member-keeps}
 use Rattle.log_laws.proofs.Kept.Laters.{ack-later, all_loaded-later, ask-later, asked-later, counted-later, entered-later, loaded-later, queued-later, leaderships-later, report-later, same-leaderships, told-later, unleds-later, waiting-later-with}

@@ -1,17 +1,5 @@
 -- Terms of an epoch: which words there are, who was in a term, and which term had a leader last.
-use Rattle.std.proofs.Common.{◌≡◌, ◌+◌, ◌-◌, ◌<◌, ◌≤◌, zero, suc, true, false, length, refl, sym, subst, ap, ◌∙◌, ◌⊎◌, inl, inr, ◌==◌, arith}
-use Rattle.std.proofs.lemmas.Bool.{cases_Bool, cases_lt}
-use Rattle.std.proofs.lemmas.List.{length-map}
-use Rattle.std.specs.Prelude.{ℕ, nat_lt, Option, Some, None}
-use Rattle.std.specs.List.{list_any}
-use Rattle.volt_wire.specs.Word.{Membership}
-use Rattle.cluster_model.specs.Words.{slots, host_of_slot, is_in, term_of, start_of, start_of_slot, admits}
-use Rattle.cluster_steps.specs.Lists.{In, Prefix}
-use Rattle.word_laws.specs.Histories.{Within, Comparable, Recorded, GoodWord, names}
-use Rattle.cluster_steps.proofs.Lists.{same-some, none-and-some, not-both}
-use Rattle.word_laws.proofs.Algebra.{firsts, subset-length, within-refl, within-cases, names-first, names-admits, names-within, admits-fresh, admits-firsts}
-use Rattle.word_laws.proofs.Agreement.{one-first, term-same, member-of, member-is}
-use Rattle.word_laws.proofs.Admissions.{not-earlier-self}
+use Rattle.log_laws.proofs.Names.{◌≡◌, ◌+◌, ◌-◌, ◌<◌, ◌≤◌, zero, suc, true, false, length, refl, sym, subst, ap, ◌∙◌, ◌⊎◌, inl, inr, ◌==◌, arith, cases_Bool, cases_lt, length-map, ℕ, nat_lt, Option, Some, None, list_any, Membership, slots, host_of_slot, is_in, term_of, start_of, start_of_slot, admits, In, Prefix, Within, Comparable, Recorded, GoodWord, names, same-some, none-and-some, not-both, firsts, subset-length, within-refl, within-cases, names-first, names-admits, names-within, admits-fresh, admits-firsts, one-first, term-same, member-of, member-is, not-earlier-self}
 use Rattle.log_laws.specs.Histories.{LogState, LogsHold, Entered, Leadership, WordOf, Last, WasIn, HasBeen, Came, LeadershipOk, IsSlot, epoch_base, part, site_start, log_at, term_at}
 
 module _ (S : LogState) (H : LogsHold S) where

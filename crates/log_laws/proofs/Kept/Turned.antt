@@ -1,24 +1,11 @@
 -- Turns of one site by which the history of logs grows: what holds of the other slots, of messages and of what was loaded stays so.
-use Rattle.std.proofs.Common.{◌≡◌, ◌<◌, List, [], ◌++◌, refl, sym, subst, ap, ◌∙◌, ◌⊎◌, inl, inr, ◌==◌, arith}
-use Rattle.std.proofs.lemmas.Bool.{cases_eq}
-use Rattle.std.specs.Prelude.{ℕ, ◌≤◌, length, filter, map, Option, Some, None}
-use Rattle.std.specs.List.{AllByRecursion}
-use Rattle.volt_wire.specs.Word.{Membership}
-use Rattle.volt_wire.specs.declared.actor.Actor.{Actor}
-use Rattle.volt_wire.specs.declared.actor.Actor.TheVariants.{Agent, Site}
+use Rattle.log_laws.proofs.Names.{◌≡◌, ◌<◌, List, [], ◌++◌, refl, sym, subst, ap, ◌∙◌, ◌⊎◌, inl, inr, ◌==◌, arith, cases_eq, ℕ, ◌≤◌, length, filter, map, Option, Some, None, AllByRecursion, Membership, Actor, Agent, Site, term_of, host_of_slot, Letter, Waiting, SiteState, Joining, Joiner, Ask, set_at, In, Distinct, all-from, all-at, all-append, all-mono, in-left, in-right, in-map, filter-in, eqb-same, set-here, set-there, set-both}
 use Rattle.volt_wire.specs.declared.message.Msg.TheVariants as msg
-use Rattle.cluster_model.specs.Words.{term_of, host_of_slot}
-use Rattle.cluster_model.specs.Letters.{Letter, Waiting}
-use Rattle.cluster_model.specs.SiteState.{SiteState, Joining, Joiner, Ask}
-use Rattle.cluster_model.specs.World.{set_at}
 use Rattle.word_laws.specs.Histories as word
-use Rattle.cluster_steps.specs.Lists.{In}
-use Rattle.word_laws.specs.Histories.{Distinct}
-use Rattle.cluster_steps.proofs.Lists.{all-from, all-at, all-append, all-mono, in-left, in-right, in-map, filter-in, eqb-same, set-here, set-there, set-both}
 use Rattle.log_laws.specs.Histories.{LogState, LogsHold, Entered, Streaming, Leadership, EnteredOk, StreamedOk, LeadershipOk, UnledOk, SiteOk, KeepsOk, MemberOk, JoinerOk, InWord, Coming, ViewsOk, LoadsOk, ForeignOk, AckOk, ReportOk, CountedOk, HeldOk, SiteLetterOk, SiteWaitingOk, AsksToJoin, EndOk, MeantFor, IsCounted, IsSlot, ToldOk, AskedOk, QueuedLoadedOk, epoch_base, part, site_start, term_at, between, agent_to_site, line, flow, stream_ends_in, ask_of, wait_of, asks_in, asks_waiting, asks_kept, asks_of_term, asked}
 use Rattle.log_laws.proofs.Kept.Moves.{SiteRises, site-stays, LogsLater, EntersNow}
 use Rattle.log_laws.proofs.Kept.Laters.{been-later, ack-later, report-later, ask-later, counted-later, loaded-later, all_loaded-later, end-later, told-later, asked-later, queued-later, stays, letter-later-with, waiting-later-with}
-use Rattle.log_laws.proofs.Plain.Lines.{in-flat, flow-same, ends-same}
+use Rattle.log_laws.proofs.Plain.{in-flat, flow-same, ends-same}
 use Rattle.log_laws.proofs.Kept.Asked.{AtMost, at-most-is, at-most-both, at-most-same, at-most-none}
 use Rattle.log_laws.proofs.Kept.Plumbing.{words-later}
 use Rattle.log_laws.proofs.Kept.Terms.{running-slot, took-decided}

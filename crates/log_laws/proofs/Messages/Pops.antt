@@ -1,27 +1,9 @@
 -- A message leaves its channel, or what waited is taken up, where what is looked at of it is nothing: what holds, holds then.
-use Rattle.std.proofs.Common.{◌≡◌, ◌<◌, Bool, true, false, List, [], ◌∷◌, ◌++◌, refl, sym, subst, ap, ◌∙◌, ◌⊎◌, inl, inr, ◌==◌, arith}
-use Rattle.std.proofs.lemmas.Bool.{eqb-true, eqb-false}
-use Rattle.std.proofs.lemmas.Bool.Decides.{nat_tests}
-use Rattle.std.specs.Prelude.{ℕ, ◌||◌, nat_lt, if◌then◌else◌, length}
-use Rattle.std.specs.List.{AllByRecursion}
-use Rattle.volt_wire.specs.declared.actor.Actor.{Actor}
-use Rattle.volt_wire.specs.declared.actor.Actor.TheVariants.{Director, Client, Agent, Site, Scanner}
+use Rattle.log_laws.proofs.Names.{◌≡◌, ◌<◌, Bool, true, false, List, [], ◌∷◌, ◌++◌, refl, sym, subst, ap, ◌∙◌, ◌⊎◌, inl, inr, ◌==◌, arith, eqb-true, eqb-false, nat_tests, ℕ, ◌||◌, nat_lt, if◌then◌else◌, length, AllByRecursion, Actor, Director, Client, Agent, Site, Scanner, host_of_slot, Letter, Waiting, of_term, above_term, Taken, Refused, Waits, arrival, in_term, no_sends, becomes, SiteState, set_at, took-all, sent-nothing, all-append, all-filter, set-same}
 use Rattle.volt_wire.specs.declared.message.Msg.TheVariants as msg
-use Rattle.cluster_model.specs.Words.{host_of_slot}
-use Rattle.cluster_model.specs.Letters.{Letter, Waiting, of_term, above_term, Taken, Refused, Waits, arrival, in_term, no_sends, becomes}
-use Rattle.cluster_model.specs.SiteState.{SiteState}
-use Rattle.cluster_model.specs.World.{set_at}
-use Rattle.cluster_steps.proofs.Channels.{took-all, sent-nothing}
-use Rattle.cluster_steps.proofs.Lists.{all-append, all-filter, set-same}
 use Rattle.log_laws.specs.Histories.{LogState, LogsHold, SiteLetterOk, ForeignOk, SiteWaitingOk, IsSlot, MeantFor, site_start, term_at, agent_to_site, line, line_of, flow, flow_of, stream_ends_in, end_of, line_in, flow_in, view_in, SiteWaitingFrom, view_of, asks_of_term, log_at}
-use Rattle.log_laws.proofs.Kept.Moves.{after_site, site_popped, left, LogsGo}
-use Rattle.log_laws.proofs.Kept.Grown.{grown-same, enters-same}
-use Rattle.log_laws.proofs.Plain.Lines.{line-other, flow-other, views-other, line-plain, flow-plain, views-plain, both-empty}
-use Rattle.log_laws.proofs.Kept.Asked.{AsksLess, at-most-same, popped-less, left-less, parted-asks, waits-asks}
-use Rattle.log_laws.proofs.Kept.KeepsViews.{LeavesViews, leaves-same, leaves-first}
-use Rattle.log_laws.proofs.Kept.Plumbing.{after-same, taken-either, words-popped}
-use Rattle.log_laws.proofs.Kept.Inert.{ChannelsOk, channels-same, SiteStill, inert-holds, site-same, site-waiting, logs_moved, still-holds}
-use Rattle.log_laws.proofs.Kept.Terms.{running-slot}
+use Rattle.log_laws.proofs.Kept.{after_site, site_popped, left, LogsGo, grown-same, enters-same, AsksLess, at-most-same, popped-less, left-less, parted-asks, waits-asks, LeavesViews, leaves-same, leaves-first, after-same, taken-either, words-popped, ChannelsOk, channels-same, SiteStill, inert-holds, site-as-is, site-waiting, logs_moved, still-holds, running-slot}
+use Rattle.log_laws.proofs.Plain.{line-other, flow-other, views-other, line-plain, flow-plain, views-plain, both-empty}
 
 -- ---- whether a site takes a message
 
@@ -163,7 +145,7 @@ module _ (S : LogState) (H : LogsHold S) (from : Actor) (i : ℕ) (l : Letter) (
 
   -- it is taken, or dropped
   pub pops-with : (0 < site_start S i → Unread S i from l) → LogsHold (site_popped S from i)
-  pops-with unread = subst LogsHold (after-same (site_popped S from i) i) (pops-into (S.sites i) (site-same S i H) unread
+  pops-with unread = subst LogsHold (after-same (site_popped S from i) i) (pops-into (S.sites i) (site-as-is S i H) unread
       (popped-less S from i l ls is S.logs (S.sites i) refl (λ c t. at-most-same (asks_of_term c t (S.sites i)))))
 
   -- one of which nothing is looked at, by what is in it and who sent it
@@ -307,7 +289,7 @@ module _ (S : LogState) (H : LogsHold S) (from : Actor) (i : ℕ) (l : Letter) (
 -- one of it is taken, or dropped
 pub leaves : (S : LogState) → LogsHold S → (i : ℕ) (x : Waiting) (ws : List Waiting) → S.pending i ≡ x ∷ ws → LogsHold (left S i ws)
 leaves S H i x ws is = subst (λ f. LogsHold (logs_moved S S.words.channel f (set_at S.pending i ws))) (set-same S.sites i)
-    (inert-holds S i (S.sites i) S.words.channel ws H (site-same S i H) (channels-same S H)
+    (inert-holds S i (S.sites i) S.words.channel ws H (site-as-is S i H) (channels-same S H)
     (λ up. (subst (AllByRecursion (SiteWaitingOk S i)) is ((H.sites i).keeps up).pending).1)
     (λ z. let e = sym is ∙ ((H.sites i).stopped z).3 in absurd (cc))
     (subst (AsksLess S) nothing (left-less S i ws S.logs x is (S.sites i) refl (λ c t. at-most-same (asks_of_term c t (S.sites i))))))

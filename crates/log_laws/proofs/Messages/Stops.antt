@@ -1,35 +1,12 @@
 -- A slot's site stops, or a start of it begins to run: what holds, holds after it.
-use Rattle.std.proofs.Common.{◌≡◌, ◌<◌, Bool, true, false, List, [], ◌∷◌, ◌++◌, refl, sym, subst, ap, ◌∙◌, inl, inr, ◌==◌, arith, ◌⊎◌}
-use Rattle.std.proofs.lemmas.Bool.{cases_eq, and_parts}
-use Rattle.std.proofs.lemmas.Bool.Decides.{nat_tests}
-use Rattle.std.specs.Prelude.{ℕ, ◌≤◌, ◌&&◌, if◌then◌else◌, max, nat_le, nat_lt, length, Some, None}
-use Rattle.std.specs.List.{AllByRecursion}
-use Rattle.volt_wire.specs.Word.{Membership}
-use Rattle.volt_wire.specs.declared.actor.Actor.{Actor}
-use Rattle.volt_wire.specs.declared.actor.Actor.TheVariants.{Director, Client, Agent, Site, Scanner}
+use Rattle.log_laws.proofs.Names.{◌≡◌, ◌<◌, Bool, true, false, List, [], ◌∷◌, ◌++◌, refl, sym, subst, ap, ◌∙◌, inl, inr, ◌==◌, arith, ◌⊎◌, cases_eq, and_parts, nat_tests, ℕ, ◌≤◌, ◌&&◌, if◌then◌else◌, max, nat_le, nat_lt, length, Some, None, AllByRecursion, Membership, Actor, Director, Client, Agent, Site, Scanner, Deployment, host_of_slot, is_slot_of, slots, Shown, same, Letter, Sends, Turn, becomes, sending, no_sends, only, open_letter, SiteState, site_term, new_joiner, new_joining, stopped_site, stops_others, on_stop, stops_so, sent, rest, set_at, starts_in, In, all-if, all-mono, not-both, same-some, set-both, set-here, set-there, set-twice}
 use Rattle.volt_wire.specs.declared.message.Msg.TheVariants as msg
-use Rattle.cluster_model.specs.Words.{Deployment, host_of_slot, is_slot_of, slots}
-use Rattle.cluster_model.specs.Disk.{Shown}
-use Rattle.cluster_model.specs.Letters.{same, Letter, Sends, Turn, becomes, sending, no_sends, only, open_letter}
-use Rattle.cluster_model.specs.SiteState.{SiteState, site_term, new_joiner, new_joining, stopped_site}
-use Rattle.cluster_model.specs.AgentState.{stops_others}
-use Rattle.cluster_model.specs.Site.{on_start, on_stop}
-use Rattle.cluster_model.specs.Sync.{stops_so}
-use Rattle.cluster_model.specs.World.{sent, rest, set_at}
-use Rattle.cluster_model.specs.Laws.{starts_in}
-use Rattle.cluster_steps.specs.Lists.{In}
-use Rattle.cluster_steps.proofs.Lists.{all-if, all-mono, not-both, same-some, set-both, set-here, set-there, set-twice}
+use Rattle.cluster_model.specs.Site.{on_start}
 use Rattle.log_laws.specs.Histories.{LogState, Logs, Entered, Streaming, LogsHold, IsCounted, SiteLetterOk, ForeignOk, IsSlot, SiteOk, KeepsOk, ViewsOk, JoinerOk, FirstViews, Starting, part, site_start, log_at, term_at, between, agent_to_site, views, asks_in, asks_waiting, asks_of_term}
-use Rattle.log_laws.proofs.Kept.Moves.{SiteRises, site-stays, Grown, Enters, after_site, site_popped, LogsLater, SiteLater, Stays, SameLeaderships, JoinsOn}
-use Rattle.log_laws.proofs.Kept.Grown.{grown-same, grown-reach, enters-same}
-use Rattle.log_laws.proofs.Kept.Laters.{stays, same-leaderships, ask-later-on, letter-later-with, end-later-if, loads-later, entered-later, streamed-later, leaderships-later}
-use Rattle.log_laws.proofs.Plain.Lines.{if-none}
-use Rattle.log_laws.proofs.Kept.Asked.{AtMost, AsksLess, asks-at, at-most-both, at-most-same}
-use Rattle.log_laws.proofs.Kept.Keeps.{SiteStays, still-same, Uncounted, counted-from, site-keeps, keeps-later}
-use Rattle.log_laws.proofs.Kept.KeepsViews.{foreign-later, first_views-later, views-keeps}
-use Rattle.log_laws.proofs.Kept.Plumbing.{words-later, goes-same, here, popped-here, popped-after, first-after}
+use Rattle.log_laws.proofs.Kept.{SiteRises, site-stays, Enters, after_site, site_popped, LogsLater, SiteLater, Stays, SameLeaderships, JoinsOn, grown-same, grown-reach, enters-same, stays, same-leaderships, ask-later-on, letter-later-with, end-later-if, loads-later, entered-later, streamed-later, leaderships-later, AtMost, AsksLess, asks-at, at-most-both, at-most-same, SiteStays, still-same, Uncounted, counted-from, site-keeps, keeps-later, foreign-later, first_views-later, views-keeps, words-later, goes-same, here, popped-here, popped-after, first-after, Silent, Unwatched, inert-after}
+use Rattle.log_laws.proofs.Kept.Moves.{Grown}
+use Rattle.log_laws.proofs.Plain.{if-none}
 use Rattle.log_laws.proofs.Messages.Pops.{pops-kind, pops-stopped}
-use Rattle.log_laws.proofs.Kept.InertTurns.{Silent, Unwatched, inert-after}
 
 -- a site that is as it was goes on
 pub stays-same : (S T : LogState) (c : ℕ) → T.sites c ≡ S.sites c → Stays S T c

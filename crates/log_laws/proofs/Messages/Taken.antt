@@ -1,21 +1,8 @@
 -- A site takes the first message that another site sent it, or one that waited: what is under way to it then, and what holds.
-use Rattle.std.proofs.Common.{Bool, List, ap, false, inl, inr, refl, subst, sym, true, ◌≡◌, ◌++◌, ◌∷◌, ◌<◌, ◌==◌, [], ◌⊎◌}
-use Rattle.std.proofs.lemmas.Bool.{cases_eq, eqb-true}
-use Rattle.std.specs.List.{AllByRecursion}
-use Rattle.std.specs.Prelude.{Option, Some, ◌&&◌, if◌then◌else◌, ℕ}
-use Rattle.volt_wire.specs.declared.actor.Actor.{Actor}
-use Rattle.volt_wire.specs.declared.actor.Actor.TheVariants.{Agent, Site}
-use Rattle.cluster_model.specs.Letters.{Letter, no_sends, same}
-use Rattle.cluster_model.specs.SiteState.{SiteState}
-use Rattle.cluster_model.specs.World.{rest, took}
-use Rattle.cluster_steps.proofs.Channels.{took-all, sent-nothing}
-use Rattle.cluster_steps.proofs.Lists.{all-behind, and-false, eqb-same}
+use Rattle.log_laws.proofs.Names.{Bool, List, ap, false, inl, inr, refl, subst, sym, true, ◌≡◌, ◌++◌, ◌∷◌, ◌<◌, ◌==◌, [], ◌⊎◌, cases_eq, eqb-true, AllByRecursion, Option, Some, ◌&&◌, if◌then◌else◌, ℕ, Actor, Agent, Site, Letter, no_sends, same, SiteState, rest, took, took-all, sent-nothing, all-behind, and-false, eqb-same}
 use Rattle.log_laws.specs.Histories.{BeginsAt, ForeignOk, LogsHold, IsSlot, LogState, SiteLetterOk, Streaming, between, end_of, stream_ends_in, flow, flow_of, line, line_in, site_start}
-use Rattle.log_laws.proofs.Kept.Asked.{AsksLess}
-use Rattle.log_laws.proofs.Plain.Lines.{line-plain, both-empty}
-use Rattle.log_laws.proofs.Kept.Moves.{after_site, site_popped, Unentered}
-use Rattle.log_laws.proofs.Kept.OneSite.{LessTo, SiteTakes, counts-on, same-counts, same-uncounts, takes-letters, uncounts-on, with-site}
-use Rattle.log_laws.proofs.Kept.Steady.{SiteGoesOn}
+use Rattle.log_laws.proofs.Kept.{AsksLess, after_site, site_popped, Unentered, LessTo, SiteTakes, counts-on, same-counts, same-uncounts, takes-letters, uncounts-on, with-site, SiteGoesOn}
+use Rattle.log_laws.proofs.Plain.{line-plain, both-empty}
 
 module _ (S : LogState) (l i : ℕ) where
   -- the channels without that message

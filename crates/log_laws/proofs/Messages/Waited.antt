@@ -1,19 +1,8 @@
 -- A site that has come to a term takes what waited for that, one after another: what holds, holds after it.
-use Rattle.std.proofs.Common.{◌≡◌, ◌<◌, List, [], ◌∷◌, sym, subst, ap, ◌∙◌, ◌==◌, arith}
-use Rattle.std.proofs.lemmas.Bool.{eqb-true}
-use Rattle.std.specs.Prelude.{ℕ, length}
-use Rattle.std.specs.List.{AllByRecursion}
-use Rattle.volt_wire.specs.declared.actor.Actor.TheVariants.{Site}
-use Rattle.cluster_model.specs.Engine.{Database}
-use Rattle.cluster_model.specs.Words.{Deployment, term_in}
-use Rattle.cluster_model.specs.Letters.{Waiting, Turn, ◌▸◌, no_sends, of_term, above_term}
-use Rattle.cluster_model.specs.SiteState.{SiteState, site_term}
-use Rattle.cluster_model.specs.Site.{site_handler, takes_each, takes_waiting}
-use Rattle.cluster_steps.proofs.Lists.{all-append, all-from, in-filter, set-here, set-same, set-twice}
+use Rattle.log_laws.proofs.Names.{◌≡◌, ◌<◌, List, [], ◌∷◌, sym, subst, ap, ◌∙◌, ◌==◌, arith, eqb-true, ℕ, length, AllByRecursion, Site, Database, Deployment, term_in, Waiting, Turn, ◌▸◌, no_sends, of_term, above_term, SiteState, site_term, site_handler, all-append, all-from, in-filter, set-here, set-same, set-twice}
+use Rattle.cluster_model.specs.Site.{takes_each, takes_waiting}
 use Rattle.log_laws.specs.Histories.{LogState, LogsHold, SiteWaitingOk, site_start, log_at, term_at}
-use Rattle.log_laws.proofs.Kept.Moves.{after_site, left, Enters, LogsGo, NoStreamStart}
-use Rattle.log_laws.proofs.Kept.Grown.{grown-then, enters-then}
-use Rattle.log_laws.proofs.Kept.Plumbing.{here, after-after, log-here, then-longer, goes-same}
+use Rattle.log_laws.proofs.Kept.{after_site, left, Enters, LogsGo, NoStreamStart, grown-then, enters-then, here, after-after, log-here, then-longer, goes-same}
 use Rattle.log_laws.proofs.Messages.Pops.{takes-up-after}
 
 -- ---- what is left of what waited

@@ -1,21 +1,8 @@
 -- A leader that has all reports begins its term: the log with which it does, and what that means for each copy.
-use Rattle.std.proofs.Common.{◌≡◌, ◌<◌, Bool, true, false, List, [], ◌∷◌, ◌++◌, append-nil, refl, sym, subst, ap, ◌∙◌, ◌⊎◌, inl, inr, ◌==◌, drop-drop, arith}
-use Rattle.std.proofs.lemmas.Bool.{cases_eq, eqb-true}
-use Rattle.std.proofs.lemmas.Bool.Decides.{nat_tests}
-use Rattle.std.proofs.Math.Seq.{drop-append_seam}
-use Rattle.std.specs.Prelude.{ℕ, ◌≤◌, ◌-◌, nat_lt, length, drop, if◌then◌else◌, Option, Some, None}
-use Rattle.std.specs.List.{AllByRecursion, list_any, list_all}
-use Rattle.volt_base.specs.declared.entry.Entry.{Entry}
-use Rattle.volt_wire.specs.Word.{Membership}
-use Rattle.cluster_model.specs.Words.{term_of, term_in, start_of_slot, leader}
-use Rattle.cluster_model.specs.SiteState.{SiteState, Reported, other_copies}
-use Rattle.cluster_model.specs.Site.{longest, lacks}
-use Rattle.cluster_steps.specs.Lists.{In, Prefix}
-use Rattle.cluster_steps.proofs.Lists.{none-and-some, same-some, all-at, not-both, list_all-at, list_any-from}
+use Rattle.log_laws.proofs.Names.{◌≡◌, ◌<◌, Bool, true, false, List, [], ◌∷◌, ◌++◌, append-nil, refl, sym, subst, ap, ◌∙◌, ◌⊎◌, inl, inr, ◌==◌, drop-drop, arith, cases_eq, eqb-true, nat_tests, drop-append_seam, ℕ, ◌≤◌, ◌-◌, nat_lt, length, drop, if◌then◌else◌, Option, Some, None, AllByRecursion, list_any, list_all, Entry, Membership, term_of, term_in, start_of_slot, leader, SiteState, Reported, other_copies, longest, lacks, In, Prefix, none-and-some, same-some, all-at, not-both, list_all-at, list_any-from, prefixes-order}
 use Rattle.log_laws.specs.Histories.{LogState, Entered, Leadership, LogsHold, IsSlot, WordOf, Last, Unled, known, EnteredOk, ReportOk, MemberOk, LeadsIn, epoch_base, part, site_start, log_at, term_at}
-use Rattle.cluster_steps.proofs.Prefixes.{prefixes-order}
-use Rattle.log_laws.proofs.Kept.Terms.{base-least, entered-start, member-or-joined, named-first, last-below}
-use Rattle.log_laws.proofs.Plain.Copies.{copy-other, is_in-in}
+use Rattle.log_laws.proofs.Kept.{base-least, entered-start, member-or-joined, named-first, last-below}
+use Rattle.log_laws.proofs.Plain.{copy-other, is_in-in}
 use Rattle.log_laws.proofs.NewTerms.Entering.{behind-at}
 
 -- ---- the longest of the logs

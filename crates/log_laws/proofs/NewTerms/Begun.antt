@@ -1,34 +1,12 @@
 -- A leader that has all reports begins its term: what holds, holds after it.
-use Rattle.std.proofs.Common.{◌≡◌, ◌<◌, true, false, List, [], ◌∷◌, ◌++◌, append-nil, refl, sym, subst, ap, ◌∙◌, inl, inr, ◌==◌, true≢false, arith}
-use Rattle.std.proofs.lemmas.Bool.{cases_eq}
-use Rattle.std.specs.Prelude.{ℕ, ◌≤◌, length, drop, Option, Some, None}
-use Rattle.std.specs.List.{AllByRecursion, list_any, list_all}
-use Rattle.volt_wire.specs.Word.{Membership}
-use Rattle.volt_wire.specs.declared.actor.Actor.{Actor}
-use Rattle.volt_wire.specs.declared.actor.Actor.TheVariants.{Agent, Site}
-use Rattle.cluster_model.specs.Words.{term_of, term_in, leader}
-use Rattle.cluster_model.specs.Letters.{Letter, Sends}
-use Rattle.cluster_model.specs.SiteState.{SiteState, Scanning, Joining, Joiner, Reported, site_term, start_in_view, other_copies}
-use Rattle.cluster_model.specs.Site.{longest, lacks, repair_to}
-use Rattle.cluster_model.specs.World.{sent}
-use Rattle.cluster_steps.specs.Lists.{In, Prefix}
-use Rattle.cluster_steps.proofs.Lists.{none-and-some, same-some, all-mono, not-both, set-here, set-there, set-both}
+use Rattle.log_laws.proofs.Names.{◌≡◌, ◌<◌, true, false, List, [], ◌∷◌, ◌++◌, append-nil, refl, sym, subst, ap, ◌∙◌, inl, inr, ◌==◌, true≢false, arith, cases_eq, ℕ, ◌≤◌, length, drop, Option, Some, None, AllByRecursion, list_any, list_all, Membership, Actor, Agent, Site, term_of, term_in, leader, Letter, Sends, SiteState, Scanning, Joining, Joiner, Reported, site_term, start_in_view, other_copies, longest, lacks, repair_to, sent, In, Prefix, none-and-some, same-some, all-mono, not-both, set-here, set-there, set-both, repair-all, repair_letter, prefix-length, prefix-refl, prefix-trans, grown}
 use Rattle.log_laws.specs.Histories.{LogState, Logs, Repairs, Entered, Leadership, LogsHold, IsSlot, WordOf, Last, known, EnteredOk, ReportOk, LeadershipOk, UnledOk, SiteOk, KeepsOk, MemberOk, JoinerOk, LeadsIn, FollowsIn, SiteLetterOk, MeantFor, IsCounted, AckOk, CountedOk, AsksToJoin, ForeignOk, SiteWaitingOk, JoinsIn, asks_of_term, part, site_start, log_at, term_at, between, follows, line}
-use Rattle.log_laws.proofs.Kept.Moves.{Grown, after_site, LogsLater, JoinsOn}
-use Rattle.log_laws.proofs.Kept.Grown.{grown-at}
-use Rattle.log_laws.proofs.Kept.Laters.{been-later, word_of-later, ack-later, counted-later, ask-later, reached-later, stays, leadership-later, unled-later}
-use Rattle.log_laws.proofs.Plain.Lines.{line-same, line-append, repair-line, repair-line-other, repair-flow, repair-ends}
-use Rattle.cluster_steps.proofs.Sends.{repair-all, repair_letter}
-use Rattle.cluster_steps.proofs.Prefixes.{prefix-length, prefix-refl, prefix-trans}
-use Rattle.cluster_steps.proofs.Appends.{grown}
-use Rattle.log_laws.proofs.Plain.Copies.{start-in-view, follows-leader, leader-follows-none, leader-followed}
-use Rattle.log_laws.proofs.Kept.Terms.{running-slot, same-word, some-term, entered-start, running-in}
-use Rattle.log_laws.proofs.Kept.Plumbing.{sent-here, sent-there, words-after, foreign-after, views-after}
-use Rattle.log_laws.proofs.Kept.Keeps.{still-same, member-keeps-with}
-use Rattle.log_laws.proofs.Kept.Asked.{at-most-same}
+use Rattle.log_laws.proofs.Kept.{after_site, LogsLater, JoinsOn, grown-at, been-later, word_of-later, ack-later, counted-later, ask-later, reached-later, stays, leadership-later, unled-later, running-slot, same-word, some-term, entered-start, running-in, sent-here, sent-there, words-after, foreign-after, views-after, still-same, member-keeps-with, at-most-same, put_at, put-both, put-here, put-there, site_turned, turned-later, turned-holds, waiting-turned, pending-turned}
+use Rattle.log_laws.proofs.Kept.Moves.{Grown}
+use Rattle.log_laws.proofs.Kept.Turned.{Turned}
+use Rattle.log_laws.proofs.Plain.{line-same, line-append, repair-line, repair-line-other, repair-flow, repair-ends, start-in-view, follows-leader, leader-follows-none, leader-followed}
 use Rattle.log_laws.proofs.NewTerms.Since.{since-unled, unled-above}
 use Rattle.log_laws.proofs.NewTerms.Beginning.{begun-by, begun_log, begun_leadership, leading-member, not-begun, reported, own-prefix, has-report, all-entered, begun-behind}
-use Rattle.log_laws.proofs.Kept.Turned.{put_at, put-both, put-here, put-there, site_turned, turned-later, Turned, turned-holds, waiting-turned, pending-turned}
 
 -- the leader with the longest log, with its scans as they may be, and once it has begun its term
 abbrev pub longest_site : SiteState → ℕ → Option Scanning → SiteState

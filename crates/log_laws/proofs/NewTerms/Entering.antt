@@ -1,20 +1,9 @@
 -- A site comes into a term as a member of its word: what was so before.
-use Rattle.std.proofs.Common.{◌≡◌, ◌<◌, true, false, [], ◌++◌, append-nil, append_assoc, refl, sym, subst, ap, ◌∙◌, ◌⊎◌, inl, inr, ◌==◌, arith}
-use Rattle.std.proofs.lemmas.Bool.{cases_eq, and_from, eq-eqb, false_from_ne_true}
-use Rattle.std.specs.Prelude.{ℕ, ◌≤◌, nat_lt, max, length, Option, Some, None}
-use Rattle.volt_wire.specs.Word.{Membership}
-use Rattle.cluster_model.specs.Words.{slots, term_of, term_in, start_of_slot, host_of_slot}
-use Rattle.cluster_model.specs.SiteState.{SiteState, Joining, Streamed}
-use Rattle.cluster_steps.specs.Lists.{In, Prefix}
-use Rattle.word_laws.specs.Histories.{Admitted, names, HistoryOk, GoodWord, Recorded, AdmittedOk}
-use Rattle.cluster_steps.proofs.Lists.{none-and-some, same-some, all-at, not-both}
-use Rattle.word_laws.proofs.Algebra.{admits-fresh}
-use Rattle.word_laws.proofs.Agreement.{one-first, at-good, term-same, member-is}
+use Rattle.log_laws.proofs.Names.{◌≡◌, ◌<◌, true, false, [], ◌++◌, append-nil, append_assoc, refl, sym, subst, ap, ◌∙◌, ◌⊎◌, inl, inr, ◌==◌, arith, cases_eq, and_from, eq-eqb, false_from_ne_true, ℕ, ◌≤◌, nat_lt, max, length, Option, Some, None, Membership, slots, term_of, term_in, start_of_slot, host_of_slot, SiteState, Joining, Streamed, In, Prefix, Admitted, names, HistoryOk, GoodWord, Recorded, AdmittedOk, none-and-some, same-some, all-at, not-both, admits-fresh, one-first, at-good, term-same, member-is, prefix-trans}
 use Rattle.log_laws.specs.Histories.{LogState, Entered, Streaming, Leadership, LogsHold, IsSlot, WordOf, WasIn, Last, Unled, Came, known, MemberOk, JoinerOk, InWord, Took, ViewIn, StreamIn, LeadsIn, FollowsIn, line, between, part, site_start, log_at, term_at}
-use Rattle.cluster_steps.proofs.Prefixes.{prefix-trans}
-use Rattle.log_laws.proofs.Kept.Terms.{running-slot, took-not-named, base-least, entered-start, leadership-entered, running-in, was-in, last-below}
+use Rattle.log_laws.proofs.Kept.{running-slot, took-not-named, base-least, entered-start, leadership-entered, running-in, was-in, last-below}
 use Rattle.log_laws.proofs.NewTerms.Since.{since-running}
-use Rattle.log_laws.proofs.Plain.Copies.{leads-or-follows}
+use Rattle.log_laws.proofs.Plain.{leads-or-follows}
 
 -- ---- starts and words
 

@@ -1,33 +1,12 @@
 -- A site takes a word that counts its start, and enters its term: what holds, holds after it.
-use Rattle.std.proofs.Common.{◌≡◌, ◌<◌, List, [], ◌∷◌, refl, sym, subst, ap, ◌∙◌, ◌⊎◌, inl, inr, ◌==◌, arith}
-use Rattle.std.proofs.lemmas.Bool.{cases_eq, cases_lt}
-use Rattle.std.specs.Prelude.{ℕ, ◌≤◌, length, drop, max, Option, Some, None}
-use Rattle.std.specs.List.{AllByRecursion}
-use Rattle.volt_wire.specs.Word.{Membership}
-use Rattle.volt_wire.specs.declared.actor.Actor.{Actor}
-use Rattle.volt_wire.specs.declared.actor.Actor.TheVariants.{Agent, Site}
+use Rattle.log_laws.proofs.Names.{◌≡◌, ◌<◌, List, [], ◌∷◌, refl, sym, subst, ap, ◌∙◌, ◌⊎◌, inl, inr, ◌==◌, arith, cases_eq, cases_lt, ℕ, ◌≤◌, length, drop, max, Option, Some, None, AllByRecursion, Membership, Actor, Agent, Site, Deployment, term_of, term_in, start_of_slot, leader, Letter, Sends, letter_in, sending, SiteState, Joiner, site_term, start_in_view, in_new_term, sent, In, Prefix, none-and-some, same-some, all-filter, set-here, set-there, set-both, prefix-refl}
 use Rattle.volt_wire.specs.declared.message.Msg.TheVariants as msg
-use Rattle.cluster_model.specs.Words.{Deployment, term_of, term_in, start_of_slot, leader}
-use Rattle.cluster_model.specs.Letters.{Letter, Sends, letter_in, sending}
-use Rattle.cluster_model.specs.SiteState.{SiteState, Joiner, site_term, start_in_view}
-use Rattle.cluster_model.specs.Site.{in_new_term}
-use Rattle.cluster_model.specs.World.{sent}
-use Rattle.cluster_steps.specs.Lists.{In, Prefix}
-use Rattle.cluster_steps.proofs.Lists.{none-and-some, same-some, all-filter, set-here, set-there, set-both}
 use Rattle.log_laws.specs.Histories.{LogState, Logs, LogsHold, Entered, Streaming, IsSlot, known, EnteredOk, UnledOk, MemberOk, SiteOk, LeadsIn, FollowsIn, SiteLetterOk, AsksToJoin, HasBeen, HeldOk, ForeignOk, part, site_start, log_at, term_at, between, line, line_of, flow_of, end_of, asks_of_term, asked}
-use Rattle.log_laws.proofs.Kept.Moves.{after_site, site_popped, LogsLater, Stays, EntersNow, Turns, NoStreamStart}
-use Rattle.log_laws.proofs.Kept.Grown.{grown-reach, enters-later}
-use Rattle.log_laws.proofs.Kept.Laters.{been-later, stays, entered-later, same-leaderships, leaderships-later}
-use Rattle.log_laws.proofs.Plain.Lines.{line-none, line-same, line-plain, flow-none, flow-plain, ends-none, ends-plain, if-none}
-use Rattle.log_laws.proofs.Kept.Asked.{AtMost}
-use Rattle.log_laws.proofs.Plain.Copies.{leader-copy, start-in-view}
-use Rattle.log_laws.proofs.Kept.Terms.{running-slot, some-term, some-start}
-use Rattle.log_laws.proofs.Kept.Plumbing.{words-after, words-popped}
-use Rattle.log_laws.proofs.Kept.Keeps.{still-same, member-keeps}
+use Rattle.log_laws.proofs.Kept.{after_site, site_popped, LogsLater, Stays, EntersNow, Turns, NoStreamStart, grown-reach, enters-later, been-later, stays, entered-later, same-leaderships, leaderships-later, AtMost, running-slot, some-term, some-start, words-after, words-popped, still-same, member-keeps, put_at, put-both, put-here, put-there, site_turned, turned-later, turned-holds, fresh-keeps, said-same}
+use Rattle.log_laws.proofs.Kept.Turned.{Turned}
+use Rattle.log_laws.proofs.Plain.{line-none, line-same, line-plain, flow-none, flow-plain, ends-none, ends-plain, if-none, leader-copy, start-in-view}
 use Rattle.log_laws.proofs.NewTerms.Entering.{since-within, running-ran, entering, was-member, came, earlier-below, not-entered, not-streamed, not-led, behind, still, known-within, reach-within, others-within}
-use Rattle.log_laws.proofs.Kept.Turned.{put_at, put-both, put-here, put-there, site_turned, turned-later, Turned, turned-holds, fresh-keeps, said-same}
 use Rattle.log_laws.proofs.NewTerms.Taking.{no-line, later-word, popped-other, mine-taken, theirs-taken, tells-taken, foreign-taken, views-taken}
-use Rattle.cluster_steps.proofs.Prefixes.{prefix-refl}
 
 -- the site as it enters
 abbrev pub entered_site : SiteState → Membership → SiteState

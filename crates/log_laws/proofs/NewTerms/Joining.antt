@@ -1,33 +1,11 @@
 -- A joiner takes its word, which doesn't count it: it asks its partition's leader to join.
-use Rattle.std.proofs.Common.{◌≡◌, ◌<◌, Bool, true, false, List, [], ◌∷◌, ◌++◌, append-nil, refl, sym, subst, ap, ◌∙◌, ◌⊎◌, inl, inr, ◌==◌, arith}
-use Rattle.std.proofs.lemmas.Bool.{cases_eq, eqb-true, eqb-false}
-use Rattle.std.specs.Prelude.{ℕ, ◌≤◌, filter, if◌then◌else◌, Option, Some, None, length}
-use Rattle.std.specs.List.{AllByRecursion}
-use Rattle.volt_wire.specs.Word.{Membership}
-use Rattle.volt_wire.specs.declared.actor.Actor.{Actor}
-use Rattle.volt_wire.specs.declared.actor.Actor.TheVariants.{Agent, Site}
+use Rattle.log_laws.proofs.Names.{◌≡◌, ◌<◌, Bool, true, false, List, [], ◌∷◌, ◌++◌, append-nil, refl, sym, subst, ap, ◌∙◌, ◌⊎◌, inl, inr, ◌==◌, arith, cases_eq, eqb-true, eqb-false, ℕ, ◌≤◌, filter, if◌then◌else◌, Option, Some, None, length, AllByRecursion, Membership, Actor, Agent, Site, Deployment, term_of, term_in, leader, same, Letter, Sends, Waiting, letter_in, sending, SiteState, Joining, Joiner, site_term, start_in_view, in_new_term, asks_to_join, sent, In, none-and-some, same-some, not-both, all-at, all-filter, in-cases, in-none, in-map-from, in-filter, only-one, set-here, set-there, set-both, same-true, leader-view}
 use Rattle.volt_wire.specs.declared.message.Msg.TheVariants as msg
-use Rattle.cluster_model.specs.Words.{Deployment, term_of, term_in, leader}
-use Rattle.cluster_model.specs.Letters.{same, Letter, Sends, Waiting, letter_in, sending}
-use Rattle.cluster_model.specs.SiteState.{SiteState, Joining, Joiner, site_term, start_in_view}
-use Rattle.cluster_model.specs.Site.{in_new_term, asks_to_join}
-use Rattle.cluster_model.specs.World.{sent}
-use Rattle.cluster_steps.specs.Lists.{In}
-use Rattle.cluster_steps.proofs.Lists.{none-and-some, same-some, not-both, all-at, all-filter, in-cases, in-none, in-map-from, in-filter, only-one, set-here, set-there, set-both}
-use Rattle.word_laws.proofs.Steps.{same-true}
 use Rattle.log_laws.specs.Histories.{LogState, LogsHold, IsSlot, Inert, Untaken, Wordless, InWord, StreamIn, JoinerOk, SiteOk, ViewIn, SiteLetterOk, SiteWaitingFrom, SiteWaitingOk, AsksToJoin, HeldOk, CountedOk, ForeignOk, line_of, flow_of, end_of, part, site_start, term_at, between, line, flow, stream_ends_in, ask_in, ask_of, asks_in, wait_of, asks_waiting, asks_kept, asks_of_term, asked, follows, log_at}
-use Rattle.log_laws.proofs.Kept.Moves.{after_site, site_popped, LogsLater, Turns, NoStreamStart}
-use Rattle.log_laws.proofs.Kept.Grown.{grown-same, enters-same}
-use Rattle.log_laws.proofs.Kept.Laters.{ask-later, stays, entered-later, same-leaderships, leaderships-later, unleds-later}
-use Rattle.log_laws.proofs.Plain.Lines.{flat-in, line-none, line-same, line-plain, flow-none, flow-same, flow-plain, ends-none, ends-same, ends-plain, asks-append, asks-here, if-none}
-use Rattle.log_laws.proofs.Kept.Asked.{AtMost, at-most-both, at-most-same, at-most-none}
-use Rattle.log_laws.proofs.Plain.Copies.{follows-leader, leader-follows, leader-copy, start-in-view}
-use Rattle.cluster_steps.proofs.Leaders.{leader-view}
-use Rattle.log_laws.proofs.Kept.Terms.{running-slot, took-decided, some-term, some-start}
-use Rattle.log_laws.proofs.Kept.Keeps.{still-same, member-keeps}
+use Rattle.log_laws.proofs.Kept.{after_site, site_popped, LogsLater, Turns, NoStreamStart, grown-same, enters-same, ask-later, stays, entered-later, same-leaderships, leaderships-later, unleds-later, AtMost, at-most-both, at-most-same, at-most-none, running-slot, took-decided, some-term, some-start, still-same, member-keeps, words-after, words-popped, site_turned, turned-later, turned-holds, fresh-keeps, said-same}
+use Rattle.log_laws.proofs.Kept.Turned.{Turned}
+use Rattle.log_laws.proofs.Plain.{flat-in, line-none, line-same, line-plain, flow-none, flow-same, flow-plain, ends-none, ends-same, ends-plain, asks-append, asks-here, if-none, follows-leader, leader-follows, leader-copy, start-in-view}
 use Rattle.log_laws.proofs.NewTerms.Entering.{running-ran}
-use Rattle.log_laws.proofs.Kept.Plumbing.{words-after, words-popped}
-use Rattle.log_laws.proofs.Kept.Turned.{site_turned, turned-later, Turned, turned-holds, fresh-keeps, said-same}
 use Rattle.log_laws.proofs.NewTerms.Taking.{no-line, no-flow, no-end, first-word, popped-other, mine-taken, theirs-taken, tells-taken, foreign-taken, views-taken}
 
 -- ---- who asks, wherever it is known

@@ -1,36 +1,11 @@
 -- Reports in a new term: a leader notes one, and begins its term once it has all.
-use Rattle.std.proofs.Common.{◌≡◌, ◌<◌, Bool, true, false, List, [], ◌∷◌, ◌++◌, append-nil, refl, sym, subst, ap, ◌∙◌, inl, ◌==◌, arith}
-use Rattle.std.proofs.lemmas.Bool.{and_parts, not-true}
-use Rattle.std.specs.Prelude.{ℕ, ◌≤◌, ◌&&◌, not, length, if◌then◌else◌, Some, None}
-use Rattle.std.specs.List.{AllByRecursion, list_any, list_all}
-use Rattle.volt_base.specs.declared.entry.Entry.{Entry}
-use Rattle.volt_wire.specs.Word.{Membership}
-use Rattle.volt_wire.specs.declared.actor.Actor.TheVariants.{Agent, Site}
-use Rattle.cluster_model.specs.Engine.{Database}
-use Rattle.cluster_model.specs.Words.{Deployment, term_of, leader}
-use Rattle.cluster_model.specs.Letters.{Letter, Sends, no_sends, Turn, becomes, sending, ◌▸◌}
-use Rattle.cluster_model.specs.SiteState.{SiteState, Joiner, Joining, Reported, site_term, is_leader, other_copies}
-use Rattle.cluster_model.specs.Site.{longest, lacks, appends_all, repair_to, is_repaired, repairs, works_calls, on_report}
-use Rattle.cluster_steps.specs.Lists.{In}
-use Rattle.cluster_steps.proofs.Lists.{all-append, all-mono, set-here, set-there, set-both}
-use Rattle.cluster_steps.proofs.Channels.{sent-nothing}
-use Rattle.word_laws.proofs.Hearings.{then-assoc}
+use Rattle.log_laws.proofs.Names.{◌≡◌, ◌<◌, Bool, true, false, List, [], ◌∷◌, ◌++◌, append-nil, refl, sym, subst, ap, ◌∙◌, inl, ◌==◌, arith, and_parts, not-true, ℕ, ◌≤◌, ◌&&◌, not, length, if◌then◌else◌, Some, None, AllByRecursion, list_any, list_all, Entry, Membership, Agent, Site, Database, Deployment, term_of, leader, Letter, Sends, no_sends, Turn, becomes, sending, ◌▸◌, SiteState, Joiner, Joining, Reported, site_term, is_leader, other_copies, longest, lacks, appends_all, repair_to, is_repaired, repairs, works_calls, on_report, In, all-append, all-mono, set-here, set-there, set-both, sent-nothing, then-assoc, prefix-append, prefix-length, repair-all, Appended, appends-all, leader-view, leader-same}
 use Rattle.log_laws.specs.Histories.{LogState, LogsHold, IsSlot, ReportOk, AckOk, CountedOk, AsksToJoin, KeepsOk, SiteOk, IsCounted, JoinsIn, SiteWaitingOk, agent_to_site, part, site_start, log_at, term_at, between, asked, asks_in, asks_waiting, asks_of_term}
-use Rattle.log_laws.proofs.Kept.Terms.{running-slot}
-use Rattle.log_laws.proofs.Kept.Moves.{Grown, after_site, LogsLater, JoinsOn, LogsGo, NoStreamStart}
-use Rattle.log_laws.proofs.Kept.Grown.{grown-same, enters-same}
-use Rattle.log_laws.proofs.Kept.Laters.{ack-later, counted-later, report-later, ask-later, stays, entered-later, same-leaderships, leaderships-later, unleds-later}
-use Rattle.cluster_steps.proofs.Prefixes.{prefix-append, prefix-length}
-use Rattle.cluster_steps.proofs.Sends.{repair-all}
-use Rattle.cluster_steps.proofs.Appends.{Appended, appends-all}
-use Rattle.cluster_steps.proofs.Leaders.{leader-view, leader-same}
-use Rattle.log_laws.proofs.Plain.Copies.{is-leader}
-use Rattle.log_laws.proofs.Kept.Asked.{AtMost, at-most-same}
-use Rattle.log_laws.proofs.Kept.Plumbing.{goes-then, goes-same}
-use Rattle.log_laws.proofs.Kept.Keeps.{SiteStays, still-same, member-keeps, site-keeps}
-use Rattle.log_laws.proofs.Kept.KeepsViews.{views-keeps-with, leaves-same}
+use Rattle.log_laws.proofs.Kept.{running-slot, after_site, LogsLater, JoinsOn, LogsGo, NoStreamStart, grown-same, enters-same, ack-later, counted-later, report-later, ask-later, stays, entered-later, same-leaderships, leaderships-later, unleds-later, AtMost, at-most-same, goes-then, goes-same, SiteStays, still-same, member-keeps, site-keeps, views-keeps-with, leaves-same, site_turned, turned-later, turned-holds, waiting-turned, pending-turned}
+use Rattle.log_laws.proofs.Kept.Moves.{Grown}
+use Rattle.log_laws.proofs.Kept.Turned.{Turned}
+use Rattle.log_laws.proofs.Plain.{is-leader}
 use Rattle.log_laws.proofs.Entries.Calls.{works-goes}
-use Rattle.log_laws.proofs.Kept.Turned.{site_turned, turned-later, Turned, turned-holds, waiting-turned, pending-turned}
 use Rattle.log_laws.proofs.NewTerms.Begun.{longest_site, begun_site, begun_leaderships, repairs_of, begun-holds, begun-grown}
 
 -- ---- a leader with all reports

@@ -1,26 +1,9 @@
 -- A site takes the first word that is under way to it: its channels after that, and what is left of its words.
-use Rattle.std.proofs.Common.{◌≡◌, ◌+◌, ◌<◌, Bool, true, false, List, [], ◌∷◌, ◌++◌, append-nil, refl, sym, subst, ap, ◌∙◌, inl, inr, ◌==◌, arith}
-use Rattle.std.proofs.lemmas.Bool.{cases_eq}
-use Rattle.std.proofs.lemmas.Bool.Decides.{nat_tests}
-use Rattle.std.specs.Prelude.{ℕ, ◌≤◌, ◌&&◌, if◌then◌else◌, Option, Some, None}
-use Rattle.std.specs.List.{AllByRecursion}
-use Rattle.volt_wire.specs.Word.{Membership}
-use Rattle.volt_wire.specs.declared.actor.Actor.{Actor}
-use Rattle.volt_wire.specs.declared.actor.Actor.TheVariants.{Director, Client, Agent, Site, Scanner}
+use Rattle.log_laws.proofs.Names.{◌≡◌, ◌+◌, ◌<◌, Bool, true, false, List, [], ◌∷◌, ◌++◌, append-nil, refl, sym, subst, ap, ◌∙◌, inl, inr, ◌==◌, arith, cases_eq, nat_tests, ℕ, ◌≤◌, ◌&&◌, if◌then◌else◌, Option, Some, None, AllByRecursion, Membership, Actor, Director, Client, Agent, Site, Scanner, term_of, term_in, host_of_slot, start_of_slot, Letter, Sends, AgentState, SiteState, sent, rest, starts_in, In, if-true, if-false, and-false, all-at, all-from, all-append, all-mono, eqb-same, set-here, took-all}
 use Rattle.volt_wire.specs.declared.message.Msg.TheVariants as msg
-use Rattle.cluster_model.specs.Words.{term_of, term_in, host_of_slot, start_of_slot}
-use Rattle.cluster_model.specs.Letters.{Letter, Sends}
-use Rattle.cluster_model.specs.AgentState.{AgentState}
-use Rattle.cluster_model.specs.SiteState.{SiteState}
-use Rattle.cluster_model.specs.World.{sent, rest}
-use Rattle.cluster_model.specs.Laws.{starts_in}
-use Rattle.cluster_steps.specs.Lists.{In}
-use Rattle.cluster_steps.proofs.Lists.{if-true, if-false, and-false, all-at, all-from, all-append, all-mono, eqb-same, set-here}
-use Rattle.cluster_steps.proofs.Channels.{took-all}
 use Rattle.log_laws.specs.Histories.{PlainView, LogState, Logs, LogsHold, ViewsOk, MemberViews, FirstViews, RunViews, Starting, ForeignOk, site_start, term_at, agent_to_site, between, views, IsSlot, MeantFor, SiteLetterOk, is_for, line_of, flow_of, end_of, line, flow, stream_ends_in, sent_term}
-use Rattle.log_laws.proofs.Kept.Moves.{after_site, site_popped, LogsLater}
-use Rattle.log_laws.proofs.Plain.Lines.{views-here, line-other, flow-other, ends-other, line-none, flow-none, ends-none, if-none}
-use Rattle.log_laws.proofs.Kept.KeepsViews.{LeavesViews, leaves-first, member_views-later, first_views-later}
+use Rattle.log_laws.proofs.Kept.{after_site, site_popped, LogsLater, LeavesViews, leaves-first, member_views-later, first_views-later}
+use Rattle.log_laws.proofs.Plain.{views-here, line-other, flow-other, ends-other, line-none, flow-none, ends-none, if-none}
 
 -- ---- nothing is under way to a site in a term that is above its own
 

@@ -1,23 +1,9 @@
 -- The turn of a site that takes a word.
-use Rattle.std.proofs.Common.{◌≡◌, ◌<◌, Bool, true, false, List, [], ◌∷◌, refl, sym, subst, ap, ◌∙◌, ◌⊎◌, inl, inr, ◌==◌}
-use Rattle.std.proofs.lemmas.Bool.{cases_Bool, eqb-true, and_from, not_from_false, not_from_true}
-use Rattle.std.specs.Prelude.{ℕ, ◌&&◌, not, if◌then◌else◌, Option, Some, None}
-use Rattle.volt_wire.specs.Word.{Membership}
-use Rattle.volt_wire.specs.declared.actor.Actor.TheVariants.{Agent, Site}
+use Rattle.log_laws.proofs.Names.{◌≡◌, ◌<◌, Bool, true, false, List, [], ◌∷◌, refl, sym, subst, ap, ◌∙◌, ◌⊎◌, inl, inr, ◌==◌, cases_Bool, eqb-true, and_from, not_from_false, not_from_true, ℕ, ◌&&◌, not, if◌then◌else◌, Option, Some, None, Membership, Agent, Site, Database, Deployment, host_of_slot, leader, is_member, Letter, no_sends, becomes, sending, SiteState, Joining, is_joiner, is_leader, as_member, reports_to, repairs, on_view, none-and-some, not-both, and-false, if-true, if-false, is_member-start, start-is_member, a-joiner}
 use Rattle.volt_wire.specs.declared.message.Msg.TheVariants as msg
-use Rattle.cluster_model.specs.Engine.{Database}
-use Rattle.cluster_model.specs.Words.{Deployment, host_of_slot, leader, is_member}
-use Rattle.cluster_model.specs.Letters.{Letter, no_sends, becomes, sending}
-use Rattle.cluster_model.specs.SiteState.{SiteState, Joining, is_joiner, is_leader}
-use Rattle.cluster_model.specs.Site.{as_member, reports_to, repairs, on_view}
-use Rattle.cluster_steps.proofs.Lists.{none-and-some, not-both, and-false, if-true, if-false}
-use Rattle.word_laws.proofs.Members.{is_member-start, start-is_member}
 use Rattle.log_laws.specs.Histories.{LogState, LogsHold, part, site_start, agent_to_site}
-use Rattle.log_laws.proofs.Kept.Moves.{site_popped, Turns, LogsGo}
-use Rattle.log_laws.proofs.Plain.Copies.{leader-is}
-use Rattle.cluster_steps.proofs.Leaders.{a-joiner}
-use Rattle.log_laws.proofs.Kept.Terms.{took-unnamed}
-use Rattle.log_laws.proofs.Kept.Plumbing.{turns-then-goes}
+use Rattle.log_laws.proofs.Kept.{site_popped, Turns, LogsGo, took-unnamed, turns-then-goes}
+use Rattle.log_laws.proofs.Plain.{leader-is}
 use Rattle.log_laws.proofs.NewTerms.Reports.{repairs-goes}
 use Rattle.log_laws.proofs.NewTerms.Taking.{first-word, later-word}
 use Rattle.log_laws.proofs.NewTerms.Joining.{joins-turns}

@@ -1,18 +1,5 @@
 -- What an entry that a leader passes on comes to, for the copies and the joiners to which it goes.
-use Rattle.std.proofs.Common.{◌≡◌, true, [], ◌∷◌, ◌++◌, refl, subst, ap, ◌∙◌}
-use Rattle.std.specs.Prelude.{ℕ, map}
-use Rattle.std.specs.List.{AllByRecursion}
-use Rattle.volt_base.specs.declared.entry.Entry.{Entry}
-use Rattle.volt_wire.specs.declared.actor.Actor.TheVariants.{Site}
-use Rattle.cluster_model.specs.Words.{Deployment, is_in}
-use Rattle.cluster_model.specs.Letters.{Letter, Sends}
-use Rattle.cluster_model.specs.SiteState.{SiteState, Joiner, site_term, start_in_view, other_copies}
-use Rattle.cluster_model.specs.Site.{put_to, tasks_to}
-use Rattle.cluster_steps.specs.Lists.{In}
-use Rattle.word_laws.specs.Histories.{Distinct}
-use Rattle.cluster_steps.proofs.Lists.{all-append, all-at, all-from, only-one}
-use Rattle.cluster_steps.proofs.Appends.{Passed}
-use Rattle.cluster_steps.proofs.Sends.{put_letter, put-all, task_letter, tasks-all}
+use Rattle.log_laws.proofs.Names.{◌≡◌, true, [], ◌∷◌, ◌++◌, refl, subst, ap, ◌∙◌, ℕ, map, AllByRecursion, Entry, Site, Deployment, is_in, Letter, Sends, SiteState, Joiner, site_term, start_in_view, other_copies, put_to, tasks_to, In, Distinct, all-append, all-at, all-from, only-one, Passed, put_letter, put-all, task_letter, tasks-all}
 use Rattle.log_laws.specs.Histories.{Puts, Flow, Follows, is_for, line_of, line, flow_of, flow, end_of, stream_ends_in}
 use Rattle.log_laws.proofs.Plain.Lines.{flat-in, line-none, line-same, line-plain, line-other, flow-none, flow-append, flow-plain, flow-other, ends-none, ends-plain, put-line, put-flow, tasks-line, tasks-flow}
 

@@ -1,29 +1,9 @@
 -- How an epoch begins: all holds of logs in the first world, and once a recovery has worked.
-use Rattle.std.proofs.Common.{◌≡◌, ◌+◌, ◌<◌, ◌≤◌, Bool, true, false, List, [], ◌∷◌, append-nil, refl, sym, subst, ap, ◌∙◌, inl, inr, ◌==◌, arith, zero, suc}
-use Rattle.std.proofs.lemmas.Bool.{and_parts, and_from, cases_Bool, eq-eqb, eqb-true, false≢true}
-use Rattle.std.proofs.lemmas.Bool.Decides.{nat_tests}
-use Rattle.std.proofs.lemmas.Nat.{mod_below}
-use Rattle.std.specs.Prelude.{ℕ, ◌*◌, ◌&&◌, not, nat_lt, if◌then◌else◌, length, map, Option, Some, None}
-use Rattle.std.specs.List.{AllByRecursion}
-use Rattle.volt_base.specs.declared.entry.Entry.{Entry}
-use Rattle.volt_wire.specs.Word.{Membership}
-use Rattle.volt_wire.specs.declared.actor.Actor.{Actor}
-use Rattle.volt_wire.specs.declared.actor.Actor.TheVariants.{Director, Client, Agent, Site, Scanner}
+use Rattle.log_laws.proofs.Names.{◌≡◌, ◌+◌, ◌<◌, ◌≤◌, Bool, true, false, List, [], ◌∷◌, append-nil, refl, sym, subst, ap, ◌∙◌, inl, inr, ◌==◌, arith, zero, suc, and_parts, and_from, cases_Bool, eq-eqb, eqb-true, false≢true, nat_tests, mod_below, ℕ, ◌*◌, ◌&&◌, not, nat_lt, if◌then◌else◌, length, map, Option, Some, None, AllByRecursion, Entry, Membership, Actor, Director, Client, Agent, Site, Scanner, Database, Deployment, slots, parts, part_of_slot, host_of_slot, is_host, is_in, term_of, copies, start_of_slot, Letter, AgentState, new_agent, starts_in, SiteState, Joining, site_term, is_joiner, is_member_site, no_site, stopped_site, member_site, World, Input, first_world, new_word, greatest_done, first_initiating, member_agent, start_from, is_of_host, new_channels, new_base, new_log, starts_anew, In, eqb-same, if-true, if-false, none-and-some, same-some, in-one, in-map-from, all-from, epoch_state, new_history, new_owner, boot-holds, recovery-holds, start_of-first, first-there}
 use Rattle.volt_wire.specs.declared.message.Msg.TheVariants as msg
-use Rattle.cluster_model.specs.Engine.{Database}
-use Rattle.cluster_model.specs.Words.{Deployment, slots, parts, part_of_slot, host_of_slot, is_host, is_in, term_of, copies, start_of_slot}
-use Rattle.cluster_model.specs.Letters.{Letter}
-use Rattle.cluster_model.specs.AgentState.{AgentState, new_agent}
-use Rattle.cluster_model.specs.Laws.{starts_in}
-use Rattle.cluster_model.specs.SiteState.{SiteState, Joining, site_term, is_joiner, is_member_site, no_site, stopped_site, member_site}
-use Rattle.cluster_model.specs.World.{World, Input, first_world, new_word, greatest_done, first_initiating, member_agent, start_from}
-use Rattle.cluster_model.specs.Recover.{is_of_host, new_channels, new_base, new_log, starts_anew}
 use Rattle.word_laws.specs.Histories as word
-use Rattle.cluster_steps.specs.Lists.{In}
-use Rattle.cluster_steps.proofs.Lists.{eqb-same, if-true, if-false, none-and-some, same-some, in-one, in-map-from, all-from}
-use Rattle.word_laws.proofs.Epochs.{epoch_state, new_history, new_owner, boot-holds, recovery-holds, start_of-first, first-there}
 use Rattle.log_laws.specs.Histories.{Entered, Streaming, Leadership, Logs, LogState, IsSlot, HasBeen, AckOk, EnteredOk, LeadershipOk, LeadsIn, FollowsIn, MemberOk, KeepsOk, SiteOk, ViewsOk, LoadsOk, ForeignOk, LogsHold, part, site_start, log_at, term_at, agent_to_site, between, line, views, sent_term}
-use Rattle.log_laws.proofs.Plain.Copies.{in-is_in, copy-member}
+use Rattle.log_laws.proofs.Plain.{in-is_in, copy-member}
 use Rattle.log_laws.specs.Copies.{log_state, AuthoritativeOk, HasLogs}
 
 -- ---- the history with which an epoch begins

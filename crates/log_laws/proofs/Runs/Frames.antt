@@ -1,24 +1,12 @@
 -- What the law of logs doesn't look at may be another: the disks' contents, the next start, and what others than sites and agents
 -- have sent.
-use Rattle.std.proofs.Common.{◌≡◌, false, List, refl, sym, subst, ◌∙◌, true≢false}
-use Rattle.std.proofs.Math.Path.{fun_ext}
-use Rattle.std.specs.Prelude.{ℕ}
-use Rattle.std.specs.List.{AllByRecursion}
-use Rattle.volt_wire.specs.declared.actor.Actor.{Actor}
-use Rattle.volt_wire.specs.declared.actor.Actor.TheVariants.{Director, Client, Agent, Site, Scanner}
+use Rattle.log_laws.proofs.Names.{◌≡◌, false, List, refl, sym, subst, ◌∙◌, true≢false, fun_ext, ℕ, AllByRecursion, Actor, Director, Client, Agent, Site, Scanner, Shown, same, Letter, Queued, Job_, Admission, In, Admitted, all-mono, eqb-same, grows-same}
 use Rattle.volt_wire.specs.declared.message.Msg.TheVariants as msg
-use Rattle.cluster_model.specs.Disk.{Shown}
-use Rattle.cluster_model.specs.Letters.{same, Letter}
-use Rattle.cluster_model.specs.AgentState.{Queued, Job_, Admission}
 use Rattle.word_laws.specs.Histories as word
-use Rattle.cluster_steps.specs.Lists.{In}
-use Rattle.word_laws.specs.Histories.{Admitted}
-use Rattle.cluster_steps.proofs.Lists.{all-mono, eqb-same}
-use Rattle.word_laws.proofs.Worlds.{grows-same}
 use Rattle.log_laws.specs.Histories.{LogState, views, ViewsOk, ForeignOk, AllLoaded, AskedOk, QueuedLoadedOk, LogsHold, site_start, agent_to_site}
 use Rattle.log_laws.proofs.Agents.Words.{sites-hold, sites-kept}
 use Rattle.log_laws.proofs.Runs.Boots.{NoStart}
-use Rattle.log_laws.proofs.Kept.KeepsViews.{first_views-later, run_views-later}
+use Rattle.log_laws.proofs.Kept.{first_views-later, run_views-later}
 
 -- the channels between sites and agents, and other ones
 abbrev pub kept : (Actor → Actor → List Letter) → (Actor → Actor → List Letter) → Actor → Actor → List Letter

@@ -1,20 +1,9 @@
 -- What is firm in the authoritative log of a partition is never lost, and all that a leader counts firm is firm in it.
-use Rattle.std.proofs.Common.{◌≡◌, ◌<◌, ◌≤◌, length, take, refl, sym, subst, ap, ◌∙◌, inl, inr, arith}
-use Rattle.std.proofs.lemmas.Bool.{cases_eq, and_parts}
-use Rattle.std.proofs.lemmas.Bool.Decides.{nat_tests}
-use Rattle.std.specs.Prelude.{ℕ, nat_lt, not, Some}
-use Rattle.cluster_model.specs.Engine.{Database}
-use Rattle.cluster_model.specs.Words.{term_of, term_in}
-use Rattle.cluster_model.specs.SiteState.{is_joiner}
-use Rattle.cluster_model.specs.World.{World, Input, AuthoritativeLog}
-use Rattle.cluster_model.specs.Runs.{Reached, RunsInEpoch}
-use Rattle.cluster_steps.proofs.Lists.{same-some}
+use Rattle.log_laws.proofs.Names.{◌≡◌, ◌<◌, ◌≤◌, length, take, refl, sym, subst, ap, ◌∙◌, inl, inr, arith, cases_eq, and_parts, nat_tests, ℕ, nat_lt, not, Some, Database, term_of, term_in, is_joiner, World, Input, AuthoritativeLog, Reached, RunsInEpoch, same-some, Prefix, prefix-trans, prefix-length, prefix-take, take-prefix, take-grown, take-of-prefix}
 use Rattle.log_laws.specs.Histories.{LogState, Leadership, LogsHold, part, term_at}
-use Rattle.cluster_steps.specs.Lists.{Prefix}
 use Rattle.log_laws.specs.Copies.{Leads, LeadsNext, AuthoritativeOk, KeepsFirm, IsInAuthoritative, HasLogs, log_state, log_of, authoritative_for}
-use Rattle.cluster_steps.proofs.Prefixes.{prefix-trans, prefix-length, prefix-take, take-prefix, take-grown, take-of-prefix}
 use Rattle.log_laws.proofs.Runs.Agreeing.{agrees-begun}
-use Rattle.log_laws.proofs.Kept.Moves.{Onward}
+use Rattle.log_laws.proofs.Kept.{Onward}
 use Rattle.log_laws.proofs.Runs.Leading.{AuthoritativeRises}
 use Rattle.log_laws.proofs.Entries.Leads.{Leading, leading}
 use Rattle.log_laws.proofs.Runs.Worlds.{logs-agree, epoch-reaches}

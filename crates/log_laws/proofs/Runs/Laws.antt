@@ -1,19 +1,8 @@
 -- The laws of logs, from what holds of a history.
-use Rattle.std.proofs.Common.{◌≡◌, ◌<◌, ◌≤◌, true, false, List, ◌++◌, append_assoc, refl, sym, subst, ap, ◌∙◌, ◌⊎◌, inl, inr, arith}
-use Rattle.std.proofs.lemmas.Bool.{and_parts}
-use Rattle.std.proofs.lemmas.Bool.Decides.{nat_tests}
-use Rattle.std.specs.Prelude.{ℕ, not, nat_lt, length, Option, Some, None}
-use Rattle.volt_wire.specs.Word.{Membership}
-use Rattle.cluster_model.specs.Words.{term_of, term_in}
-use Rattle.cluster_model.specs.SiteState.{SiteState, Joining, Streamed, is_joiner, is_member_site, leads}
-use Rattle.cluster_model.specs.World.{World}
-use Rattle.cluster_steps.proofs.Lists.{not-both, same-some, none-and-some}
-use Rattle.cluster_steps.specs.Lists.{Prefix}
+use Rattle.log_laws.proofs.Names.{◌≡◌, ◌<◌, ◌≤◌, true, false, List, ◌++◌, append_assoc, refl, sym, subst, ap, ◌∙◌, ◌⊎◌, inl, inr, arith, and_parts, nat_tests, ℕ, not, nat_lt, length, Option, Some, None, Membership, term_of, term_in, SiteState, Joining, Streamed, is_joiner, is_member_site, leads, World, not-both, same-some, none-and-some, Prefix, leads-parts, prefix-same, prefix-trans, prefixes-compare}
 use Rattle.log_laws.specs.Histories.{Logs, LogState, Line, line, between, Leadership, Last, FollowsIn, LeadsIn, MemberOk, StreamIn, ViewIn, Took, LogsHold, part, site_start, log_at, term_at, epoch_base}
-use Rattle.log_laws.proofs.Plain.Copies.{leads-or-follows, is-leader}
-use Rattle.cluster_steps.proofs.Leaders.{leads-parts}
-use Rattle.cluster_steps.proofs.Prefixes.{prefix-same, prefix-trans, prefixes-compare}
-use Rattle.log_laws.proofs.Kept.Terms.{base-least, leadership-entered, last-below, running-slot}
+use Rattle.log_laws.proofs.Plain.{leads-or-follows, is-leader}
+use Rattle.log_laws.proofs.Kept.{base-least, leadership-entered, last-below, running-slot}
 use Rattle.log_laws.specs.Copies.{OfOneTerm, AreCopies, Leads, HasLoaded, Follows, HasLogs, log_state}
 
 -- ---- sites

@@ -1,19 +1,10 @@
 -- The authoritative log of a partition, which the world keeps: what the history says of it stays so in turns of sites.
-use Rattle.std.proofs.Common.{◌≡◌, ◌<◌, ◌≤◌, Bool, true, false, refl, sym, subst, ap, ◌∙◌, inl, inr, arith}
-use Rattle.std.proofs.lemmas.Bool.{cases_eq, cases_lt, and_from, leb-true}
-use Rattle.std.proofs.lemmas.Bool.Decides.{nat_tests}
-use Rattle.std.specs.Prelude.{ℕ, nat_le, max, if◌then◌else◌, Option, Some, None}
-use Rattle.volt_wire.specs.Word.{Membership}
-use Rattle.cluster_model.specs.Words.{Deployment, term_of, term_in, leader}
-use Rattle.cluster_model.specs.SiteState.{SiteState, Joining, site_term, is_leader, leads}
-use Rattle.cluster_model.specs.World.{AuthoritativeLog, authoritative_after}
-use Rattle.cluster_steps.proofs.Lists.{none-and-some, same-some, not-both}
+use Rattle.log_laws.proofs.Names.{◌≡◌, ◌<◌, ◌≤◌, Bool, true, false, refl, sym, subst, ap, ◌∙◌, inl, inr, arith, cases_eq, cases_lt, and_from, leb-true, nat_tests, ℕ, nat_le, max, if◌then◌else◌, Option, Some, None, Membership, Deployment, term_of, term_in, leader, SiteState, Joining, site_term, is_leader, leads, AuthoritativeLog, authoritative_after, none-and-some, same-some, not-both, leader-view, leads-parts}
 use Rattle.log_laws.specs.Histories.{LogState, Logs, Leadership, LogsHold, ViewIn, LeadsIn, part, site_start, log_at, term_at}
 use Rattle.log_laws.specs.Copies.{AuthoritativeOk}
-use Rattle.log_laws.proofs.Plain.Copies.{leader-is}
-use Rattle.cluster_steps.proofs.Leaders.{leader-view, leads-parts}
-use Rattle.log_laws.proofs.Kept.Terms.{took-unnamed}
-use Rattle.log_laws.proofs.Kept.Moves.{Heads, Grown}
+use Rattle.log_laws.proofs.Plain.{leader-is}
+use Rattle.log_laws.proofs.Kept.{took-unnamed, Heads}
+use Rattle.log_laws.proofs.Kept.Moves.{Grown}
 use Rattle.log_laws.proofs.Entries.Leads.{Leading, leading}
 
 -- ---- a site that leads by its word

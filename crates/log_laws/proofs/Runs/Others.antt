@@ -1,32 +1,8 @@
 -- Events that change nothing of sites: those of the director, of clients and scanners, and a recovery that fails.
-use Rattle.std.proofs.Common.{◌≡◌, ◌+◌, ◌<◌, Bool, true, false, List, [], ◌∷◌, ◌++◌, append-nil, refl, sym, subst, ap, ◌∙◌, ◌==◌, arith}
-use Rattle.std.specs.Prelude.{ℕ, if◌then◌else◌, Option, Some, None}
-use Rattle.std.specs.List.{AllByRecursion}
-use Rattle.volt_wire.specs.declared.actor.Actor.{Actor}
-use Rattle.volt_wire.specs.declared.actor.Actor.TheVariants.{Director, Client, Agent, Site, Scanner}
-use Rattle.volt_wire.specs.declared.item.Item.{Item}
+use Rattle.log_laws.proofs.Names.{◌≡◌, ◌+◌, ◌<◌, Bool, true, false, List, [], ◌∷◌, ◌++◌, append-nil, refl, sym, subst, ap, ◌∙◌, ◌==◌, arith, ℕ, if◌then◌else◌, Option, Some, None, AllByRecursion, Actor, Director, Client, Agent, Site, Scanner, Item, TimedItem, Database, Deployment, is_host, is_slot_of, host_of_slot, same, Letter, Sends, Turn, no_sends, open_letter, only, new_agent, stops_others, ClientState, Due, submits, submit_to, target, DirectorState, stops_host, asks_recovery, does, does_next, ScannerState, Scan, scan_block, scans, scan_turn, scanner_turn, Environment, NoFault, DiskFails, NoMemory, DisksShow, World, took, sent, set_at, stop_noted, stamp_of, with_director, with_client, with_scanner, left_contents, stays_stopped, delivered, starts_in, takes-next, state_of, all-append, all-if, all-mono, set-there, starts-if, stops_all-starts, same-true, channel-holds, director-inert-holds, draws-holds}
 use Rattle.volt_wire.specs.declared.item.Item.TheVariants as item
-use Rattle.volt_wire.specs.declared.item.TimedItem.{TimedItem}
 use Rattle.volt_wire.specs.declared.message.Msg.TheVariants as msg
-use Rattle.cluster_model.specs.Engine.{Database}
-use Rattle.cluster_model.specs.Words.{Deployment, is_host, is_slot_of, host_of_slot}
-use Rattle.cluster_model.specs.Letters.{same, Letter, Sends, Turn, no_sends, open_letter, only}
-use Rattle.cluster_model.specs.AgentState.{new_agent, stops_others}
-use Rattle.cluster_model.specs.Client.{ClientState, Due, submits, submit_to, target}
-use Rattle.cluster_model.specs.Director.{DirectorState, stops_host, asks_recovery, does, does_next}
-use Rattle.cluster_model.specs.Scanner.{ScannerState, Scan, scan_block, scans, scan_turn, scanner_turn}
-use Rattle.cluster_model.specs.Environment.{Environment, NoFault, DiskFails, NoMemory, DisksShow}
-use Rattle.cluster_model.specs.World.{World, took, sent, set_at, stop_noted, stamp_of, with_director, with_client, with_scanner}
-use Rattle.cluster_model.specs.Recover.{left_contents, stays_stopped}
-use Rattle.cluster_model.specs.Events.{delivered}
-use Rattle.cluster_model.specs.Laws.{starts_in}
-use Rattle.cluster_model.proofs.Starts.{takes-next}
 use Rattle.word_laws.specs.Histories as word
-use Rattle.word_laws.specs.Chain.{state_of}
-use Rattle.cluster_steps.proofs.Lists.{all-append, all-if, all-mono, set-there}
-use Rattle.cluster_steps.proofs.Channels.{starts-if, stops_all-starts}
-use Rattle.word_laws.proofs.Steps.{same-true, channel-holds}
-use Rattle.word_laws.proofs.Draws.{director-inert-holds, draws-holds}
 use Rattle.log_laws.specs.Histories.{LogState, ForeignOk, LogsHold}
 use Rattle.log_laws.specs.Copies.{log_state, AuthoritativeOk, CountedIn, HasLogs}
 use Rattle.log_laws.proofs.Runs.Boots.{NoStart}

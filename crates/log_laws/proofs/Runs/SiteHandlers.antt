@@ -1,25 +1,11 @@
 -- What a site does with a message that it takes, from its channel and of those that waited: all holds after its handler.
-use Rattle.std.proofs.Common.{◌≡◌, ◌<◌, List, [], ◌∷◌, ◌++◌, refl, sym, subst, ap, ◌∙◌, ◌⊎◌, inl, inr, arith}
-use Rattle.std.specs.Prelude.{ℕ}
-use Rattle.std.specs.List.{AllByRecursion}
-use Rattle.volt_base.specs.declared.entry.Entry.{Entry}
-use Rattle.volt_wire.specs.Word.{Membership}
-use Rattle.volt_wire.specs.declared.actor.Actor.{Actor}
-use Rattle.volt_wire.specs.declared.actor.Actor.TheVariants.{Director, Client, Agent, Site, Scanner}
-use Rattle.volt_wire.specs.declared.message.Msg.{Msg}
+use Rattle.log_laws.proofs.Names.{◌≡◌, ◌<◌, List, [], ◌∷◌, ◌++◌, refl, sym, subst, ap, ◌∙◌, ◌⊎◌, inl, inr, arith, ℕ, AllByRecursion, Entry, Membership, Actor, Director, Client, Agent, Site, Scanner, Msg, Database, host_of_slot, Blocks, Letter, becomes, arrival, Taken, Waiting, on_view, from_agent, from_site, from_scanner, from_director, site_handler, rest, eqb-same}
 use Rattle.volt_wire.specs.declared.message.Msg.TheVariants as msg
-use Rattle.cluster_model.specs.Engine.{Database}
-use Rattle.cluster_model.specs.Words.{host_of_slot}
-use Rattle.cluster_model.specs.Letters.{Blocks, Letter, becomes, arrival, Taken, Waiting}
-use Rattle.cluster_model.specs.Site.{on_view, from_agent, from_site, from_scanner, from_director, site_handler}
-use Rattle.cluster_model.specs.World.{rest}
-use Rattle.cluster_steps.proofs.Lists.{eqb-same}
 use Rattle.log_laws.specs.Histories as log
 use Rattle.log_laws.specs.Histories.{LogState, LogsHold, AckOk, ReportOk, EndOk, SiteLetterOk, SiteWaitingFrom, SiteWaitingOk, ForeignOk, part, site_start, term_at, between, flow}
-use Rattle.log_laws.proofs.Kept.Moves.{site_popped, left, Turns, LogsGo}
-use Rattle.log_laws.proofs.Plain.Lines.{flow-plain}
+use Rattle.log_laws.proofs.Kept.{site_popped, left, Turns, LogsGo, look-goes, goes-same, goes-turns, running-slot}
+use Rattle.log_laws.proofs.Plain.{flow-plain}
 use Rattle.log_laws.proofs.Messages.Pops.{taken-for, pops-plain, leaves}
-use Rattle.log_laws.proofs.Kept.InertTurns.{look-goes}
 use Rattle.log_laws.proofs.Entries.Puts.{on_put-goes, on_repair-goes}
 use Rattle.log_laws.proofs.Entries.Calls.{on_sp_call-goes, on_frag-goes, on_done-goes}
 use Rattle.log_laws.proofs.Firmness.Acks.{on_ack-goes}
@@ -29,8 +15,6 @@ use Rattle.log_laws.proofs.Joins.Asks.{join-ask-goes, join-ask-left-goes}
 use Rattle.log_laws.proofs.Joins.StreamStarts.{stream-start-goes}
 use Rattle.log_laws.proofs.Joins.Tasks.{task-goes}
 use Rattle.log_laws.proofs.Joins.Loads.{stream-end-goes, chunk-goes, scan-end-goes}
-use Rattle.log_laws.proofs.Kept.Plumbing.{goes-same, goes-turns}
-use Rattle.log_laws.proofs.Kept.Terms.{running-slot}
 
 -- ---- which messages are taken
 
