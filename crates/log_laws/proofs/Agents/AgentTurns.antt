@@ -22,20 +22,7 @@ pub rest-of : (S : LogState) → LogsHold S → Rest S
 rest-of S h = record { sites = sites-hold S h; views = h.views; foreign = h.foreign; loads = h.loads }
 
 pub holds-of : (S : LogState) → word.WordsHold S.words → Rest S → LogsHold S
-holds-of S w r = record {
-  words = w;
-  sites = r.sites.sites;
-  views = r.views;
-  letters = r.sites.letters;
-  foreign = r.foreign;
-  loads = r.loads;
-  entered = r.sites.entered;
-  streamed = r.sites.streamed;
-  leaderships = r.sites.leaderships;
-  unled = r.sites.unled;
-  some = r.sites.some;
-  first = r.sites.first;
-}
+holds-of S w r = search r.sites
 
 -- ---- another state of words
 

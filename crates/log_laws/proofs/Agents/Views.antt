@@ -1,9 +1,9 @@
 -- The words that an agent sends to its sites: what holds of them, holds after its turns.
-use Rattle.log_laws.proofs.Names.{◌≡◌, ◌+◌, ◌<◌, ◌≤◌, List, [], ◌∷◌, ◌++◌, append-nil, refl, sym, subst, ap, ◌∙◌, ◌⊎◌, inl, inr, arith, cases_eq, map-append, ℕ, map, Option, Some, None, AllByRecursion, Membership, Actor, Agent, Site, host_of_slot, start_of_slot, term_of, term_in, Letter, Sends, open_letter, letter_to, AgentState, RiseFrom, start_in_letter, starts_in, In, History, all-mono, all-append, eqb-same, in-left, in-right, in-cases, none-and-some, set-here, set-there, rise-append, starts-append, sent-both, Grows}
+use Rattle.log_laws.proofs.Names.{◌==◌, ◌≡◌, ◌+◌, ◌<◌, ◌≤◌, List, [], ◌∷◌, ◌++◌, append-nil, refl, sym, subst, ap, ◌∙◌, ◌⊎◌, inl, inr, arith, cases_eq, map-append, ℕ, map, Option, Some, None, AllByRecursion, Membership, Actor, Agent, Site, host_of_slot, start_of_slot, term_of, term_in, Letter, Sends, open_letter, letter_to, AgentState, RiseFrom, start_in_letter, starts_in, In, History, all-mono, all-append, eqb-same, in-left, in-right, in-cases, none-and-some, set-here, set-there, rise-append, starts-append, sent-both, Grows, flat_map-append}
 use Rattle.volt_wire.specs.declared.message.Msg.TheVariants as msg
 use Rattle.word_laws.proofs.Moves as word
 use Rattle.log_laws.specs.Histories.{PlainView, LogState, view_in, view_of, views, MemberViews, FirstViews, RunViews, Starting, ViewsOk, sent_term, site_start, term_at, agent_to_site}
-use Rattle.log_laws.proofs.Plain.{flat-none, views-append, views-same, views-none, views-plain, views-here, views-other}
+use Rattle.log_laws.proofs.Plain.{flat-none, views-here, views-other, flat-same, if-empty}
 use Rattle.log_laws.proofs.Agents.AgentSends.{NoView}
 use Rattle.log_laws.proofs.Kept.{first_views-later, run_views-later}
 
@@ -33,7 +33,7 @@ no-starts : (ls : List Letter) → AllByRecursion NoView ls → starts_in ls ≡
 no-starts ls h = flat-none start_in_letter ls (all-mono NoView (λ l. start_in_letter l ≡ []) no-start ls h)
 
 no-views : (s : ℕ) (ls : List Letter) → AllByRecursion NoView ls → views s ls ≡ []
-no-views s ls h = views-none s ls (all-mono NoView (λ l. view_of s l ≡ []) (λ l k. views-plain s l (no-view l k)) ls h)
+no-views s ls h = flat-none (view_of s) ls (all-mono NoView (λ l. view_of s l ≡ []) (λ l k. if-empty _ _ (no-view l k)) ls h)
 
 -- ---- a start that is under way
 
@@ -79,28 +79,14 @@ pub record ViewsIn (S : LogState) (c h : ℕ) (a : AgentState) (ls : List Letter
   pub below : 0 < a.start → SentUpTo S c a.start (sent_term a) ls
 
 pub views-in : (S : LogState) (c h : ℕ) → host_of_slot S.words.deployment c ≡ h → ViewsOk S c → ViewsIn S c h (S.words.agents h) (S.words.channel (Agent h) (Site c))
-views-in S c h e k = subst (λ h. ViewsIn S c h (S.words.agents h) (S.words.channel (Agent h) (Site c))) e (record {
-  plain = k.plain;
-  began = k.began;
-  running = k.running;
-  starting = k.starting;
-  wordless = k.wordless;
-  below = k.below;
-})
+views-in S c h e k = subst (λ h. ViewsIn S c h (S.words.agents h) (S.words.channel (Agent h) (Site c))) e (search)
 
 pub views-of : (S : LogState) (c h : ℕ) (a : AgentState) (ls : List Letter) → host_of_slot S.words.deployment c ≡ h → S.words.agents h ≡ a → S.words.channel (Agent h) (Site c) ≡ ls
     → ViewsIn S c h a ls → ViewsOk S c
 views-of S c h a ls e p q k = of (subst (λ h. ViewsIn S c h (S.words.agents h) (S.words.channel (Agent h) (Site c))) (sym e) (rw (p, q) k))
   where
     of : ViewsIn S c (host_of_slot S.words.deployment c) (S.words.agents (host_of_slot S.words.deployment c)) (agent_to_site S c) → ViewsOk S c
-    of k = record {
-      plain = k.plain;
-      began = k.began;
-      running = k.running;
-      starting = k.starting;
-      wordless = k.wordless;
-      below = k.below;
-    }
+    of k = search
 
 -- ---- more messages
 
@@ -137,7 +123,7 @@ module _ (S : LogState) (c h : ℕ) (a : AgentState) (ls : List Letter) (k : Vie
       starts = starts-append ls more ∙ ap (λ x. starts_in ls ++ x) (no-starts more plain) ∙ append-nil (starts_in ls)
 
       same : (s : ℕ) → views s (ls ++ more) ≡ views s ls
-      same s = views-same s ls more (no-views s more plain)
+      same s = flat-same (view_of s) ls more (no-views s more plain)
 
   -- the start of an agent that has said nothing yet, and the word that it took
   pub views-start : (w : Membership) → 0 < a.start → Unsent S c a.start ls → In a.start (S.words.history.began h) → S.words.history.took a.start ≡ Some w → a.taken ≡ Some w
@@ -175,12 +161,12 @@ module _ (S : LogState) (c h : ℕ) (a : AgentState) (ls : List Letter) (k : Vie
       more = open_letter (msg.Start a.start) ∷ letter_to a.start (msg.View w) ∷ []
 
       here : views a.start (ls ++ more) ≡ w ∷ []
-      here = views-append a.start ls more
-          ∙ rw (none.2, views-plain a.start (open_letter (msg.Start a.start)) refl, views-here a.start (letter_to a.start (msg.View w)) refl) refl
+      here = flat_map-append (view_of a.start) ls more
+          ∙ rw (none.2, if-empty ((open_letter (msg.Start a.start)).start == a.start) [] refl, views-here a.start (letter_to a.start (msg.View w)) refl) refl
 
       apart : (s : ℕ) → (s ≡ a.start → ⊥) → views s (ls ++ more) ≡ views s ls
-      apart s d = views-same s ls more (views-none s more (
-        views-plain s (open_letter (msg.Start a.start)) refl,
+      apart s d = flat-same (view_of s) ls more (flat-none (view_of s) more (
+        if-empty _ _ refl,
         (views-other s (letter_to a.start (msg.View w)) (λ e. d (sym e)), tt),
       ))
 
@@ -239,10 +225,10 @@ module _ (S : LogState) (c h : ℕ) (a : AgentState) (ls : List Letter) (k : Vie
       top = rw is refl
 
       here : views a.start (ls ++ more) ≡ views a.start ls ++ w ∷ []
-      here = views-append a.start ls more ∙ rw (views-here a.start (letter_to a.start (msg.View w)) refl) refl
+      here = flat_map-append (view_of a.start) ls more ∙ rw (views-here a.start (letter_to a.start (msg.View w)) refl) refl
 
       apart : (s : ℕ) → (s ≡ a.start → ⊥) → views s (ls ++ more) ≡ views s ls
-      apart s d = views-same s ls more (views-none s more (views-other s (letter_to a.start (msg.View w)) (λ e. d (sym e)), tt))
+      apart s d = flat-same (view_of s) ls more (flat-none (view_of s) more (views-other s (letter_to a.start (msg.View w)) (λ e. d (sym e)), tt))
 
       starts : starts_in (ls ++ more) ≡ starts_in ls
       starts = starts-append ls more ∙ append-nil (starts_in ls)

@@ -167,16 +167,7 @@ pub record SitesHold (S : LogState) : Type 0 where
   pub first : (p : ℕ) → (g : Leadership) × (S.logs.leadership p (epoch_base S) ≡ Some g)
 
 pub sites-hold : (S : LogState) → LogsHold S → SitesHold S
-sites-hold S h = record {
-  sites = h.sites;
-  letters = h.letters;
-  entered = h.entered;
-  streamed = h.streamed;
-  leaderships = h.leaderships;
-  unled = h.unled;
-  some = h.some;
-  first = h.first;
-}
+sites-hold S h = search
 
 -- Words have only grown, and nothing new is under way between sites.
 pub record KeepsSites (S : LogState) (W : State) : Type 0 where

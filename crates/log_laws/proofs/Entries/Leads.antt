@@ -1,7 +1,7 @@
 -- The leader of a term that has begun appends an entry, and sends it to the copies and the joiners.
-use Rattle.log_laws.proofs.Names.{◌≡◌, ◌<◌, true, false, List, [], ◌∷◌, ◌++◌, append_assoc, append-nil, refl, sym, subst, ap, ◌∙◌, ◌⊎◌, inl, inr, true≢false, arith, cases_eq, ℕ, ◌≤◌, map, drop, length, Option, Some, None, AllByRecursion, Entry, Membership, Actor, Director, Client, Agent, Site, Scanner, Database, Deployment, is_in, leader, start_of_slot, term_of, term_in, SiteState, Joining, Joiner, Scanning, site_term, start_in_view, is_leader, leads, other_copies, Sends, leads_with, In, Prefix, all-append, not-both, same-some, none-and-some, all-at, set-both, put_letter, task_letter, leads-parts, leader-view, prefix-append, prefix-length, grown, Passed, leads-with}
-use Rattle.log_laws.specs.Histories.{LogState, Logs, Leadership, Line, Repairs, Puts, Flow, Begins, Follows, FollowsIn, LeadsIn, Coming, Took, Inert, InWord, JoinerOk, MemberOk, CountedOk, IsCounted, IsSlot, SiteLetterOk, ForeignOk, ToldOk, BeginsAt, LogsHold, follows, line, flow, stream_ends_in, asked, asks_in, asks_waiting, asks_of_term, between, part, site_start, log_at, term_at}
-use Rattle.log_laws.proofs.Plain.{line-append, line-same, flow-append, flow-same, ends-same, puts-append, follows-append, leader-follows-none, is-leader, start-in-view, other-copy, copy-other, follows-part, follows-one, leader-followed, passed-line, passed-line-other, passed-flow, passed-flow-other, passed-ends, passed-all, passed-follows}
+use Rattle.log_laws.proofs.Names.{◌≡◌, ◌<◌, true, false, List, [], ◌∷◌, ◌++◌, append_assoc, append-nil, refl, sym, subst, ap, ◌∙◌, ◌⊎◌, inl, inr, true≢false, arith, cases_eq, ℕ, ◌≤◌, map, drop, length, Option, Some, None, AllByRecursion, Entry, Membership, Actor, Director, Client, Agent, Site, Scanner, Database, Deployment, is_in, leader, start_of_slot, term_of, term_in, SiteState, Joining, Joiner, Scanning, site_term, start_in_view, is_leader, leads, other_copies, Sends, leads_with, In, Prefix, all-append, not-both, same-some, none-and-some, all-at, set-both, put_letter, task_letter, leads-parts, leader-view, prefix-append, prefix-length, grown, Passed, leads-with, flat_map-append, map-append}
+use Rattle.log_laws.specs.Histories.{LogState, Logs, Leadership, Line, Repairs, Puts, Flow, Begins, Follows, FollowsIn, LeadsIn, Coming, Took, Inert, InWord, JoinerOk, MemberOk, CountedOk, IsCounted, IsSlot, SiteLetterOk, ForeignOk, ToldOk, BeginsAt, LogsHold, follows, line, flow, stream_ends_in, asked, asks_in, asks_waiting, asks_of_term, between, part, site_start, log_at, term_at, end_of, flow_of, line_of}
+use Rattle.log_laws.proofs.Plain.{leader-follows-none, is-leader, start-in-view, other-copy, copy-other, follows-part, follows-one, leader-followed, passed-line, passed-line-other, passed-flow, passed-flow-other, passed-ends, passed-all, passed-follows, flat-same, one-and-others}
 use Rattle.log_laws.proofs.Kept.{LogsLater, SameLeaderships, NoStreamStart, LogsGo, after_site, grown-at, enters-same, sent-either, here, there, between-here, between-there, same-word, some-term, leadership-entered, took-decided, took-unnamed, at-most-is, SiteStays, SameFrom, SameTerm, SameRun, Uncounted, still-same, member-keeps-from, counted-from, inert-keeps, coming-keeps, took-keeps, in_word-keeps-with, joiner-keeps-with, put_at, put-both, put-here, put-there, Carries, grew-later, grew-member, grew-holds}
 use Rattle.log_laws.proofs.Kept.Moves.{Grown}
 
@@ -74,14 +74,14 @@ pub follows-longer : (s : SiteState) (ln : List Line) (g : Leadership) (e : Entr
 follows-longer s ln g e (inl (es, repaired, line_is, log_is, behind)) = inl (
   es ++ e ∷ [],
   repaired,
-  ap (λ x. x ++ Puts e ∷ []) line_is ∙ sym (puts-append es (e ∷ [])),
+  ap (λ x. x ++ Puts e ∷ []) line_is ∙ sym (map-append Puts es (e ∷ [])),
   sym (append_assoc s.log es (e ∷ [])) ∙ ap (λ x. x ++ e ∷ []) log_is,
   behind,
 )
 follows-longer s ln g e (inr (es, unrepaired, line_is, log_is)) = inr (
   es ++ e ∷ [],
   unrepaired,
-  ap (λ x. x ++ Puts e ∷ []) line_is ∙ ap (λ x. Repairs (length s.log) (drop (length s.log) g.begun) ∷ x) (sym (puts-append es (e ∷ []))),
+  ap (λ x. x ++ Puts e ∷ []) line_is ∙ ap (λ x. Repairs (length s.log) (drop (length s.log) g.begun) ∷ x) (sym (map-append Puts es (e ∷ []))),
   sym (append_assoc g.begun es (e ∷ [])) ∙ ap (λ x. x ++ e ∷ []) log_is,
 )
 
@@ -122,11 +122,9 @@ module _ (T : LogState) (i : ℕ) (e : Entry) (H : LogsHold T) (up : 0 < site_st
   -- ---- what is under way
 
   line-else : (c start term l : ℕ) → (l ≡ i → line start term (out (Site c)) ≡ []) → line start term (between next l c) ≡ line start term (between T l c)
-  line-else c start term l none = elim (cases_eq l i) [
-    | inl q ↦ subst (λ x. line start term (between next x c) ≡ line start term (between T x c)) (sym q)
-        (ap (line start term) (between-here T i state out logs c) ∙ line-same start term (between T i c) (out (Site c)) (none q))
-    | inr n ↦ ap (line start term) (between-there T i state out logs l c n)
-  ]
+  line-else c start term = one-and-others _ i
+      (λ none. ap (line start term) (between-here T i state out logs c) ∙ flat-same (line_of start term) (between T i c) (out (Site c)) (none refl))
+      (λ l n none. ap (line start term) (between-there T i state out logs l c n))
 
   -- ---- its term
 
@@ -165,7 +163,7 @@ module _ (T : LogState) (i : ℕ) (e : Entry) (H : LogsHold T) (up : 0 < site_st
 
       ln : line (site_start T c) (term_of k.word) (between next i c) ≡ line (site_start T c) (term_of k.word) (between T i c) ++ Puts e ∷ []
       ln = ap (line (site_start T c) (term_of k.word)) (between-here T i state out logs c)
-          ∙ line-append (site_start T c) (term_of k.word) (between T i c) (out (Site c))
+          ∙ flat_map-append (line_of (site_start T c) (term_of k.word)) (between T i c) (out (Site c))
           ∙ ap (λ x. line (site_start T c) (term_of k.word) (between T i c) ++ x) got
 
   -- and no other does
@@ -197,19 +195,14 @@ module _ (T : LogState) (i : ℕ) (e : Entry) (H : LogsHold T) (up : 0 < site_st
       (all-at (CountedOk T (part T i) (term_at T i)) (T.sites i).joiners ((H.sites i).keeps up).joiners j is).part_is
 
   flow-else : (c start term l : ℕ) → (l ≡ i → flow start term (out (Site c)) ≡ []) → flow start term (between next l c) ≡ flow start term (between T l c)
-  flow-else c start term l none = elim (cases_eq l i) [
-    | inl q ↦ subst (λ x. flow start term (between next x c) ≡ flow start term (between T x c)) (sym q)
-        (ap (flow start term) (between-here T i state out logs c) ∙ flow-same start term (between T i c) (out (Site c)) (none q))
-    | inr n ↦ ap (flow start term) (between-there T i state out logs l c n)
-  ]
+  flow-else c start term = one-and-others _ i
+      (λ none. ap (flow start term) (between-here T i state out logs c) ∙ flat-same (flow_of start term) (between T i c) (out (Site c)) (none refl))
+      (λ l n none. ap (flow start term) (between-there T i state out logs l c n))
 
   ends-else : (c start term l : ℕ) → stream_ends_in start term (between next l c) ≡ stream_ends_in start term (between T l c)
-  ends-else c start term l = elim (cases_eq l i) [
-    | inl q ↦ subst (λ x. stream_ends_in start term (between next x c) ≡ stream_ends_in start term (between T x c)) (sym q)
-        (ap (stream_ends_in start term) (between-here T i state out logs c)
-        ∙ ends-same start term (between T i c) (out (Site c)) (passed-ends T.words.deployment i e state out passed c start term))
-    | inr n ↦ ap (stream_ends_in start term) (between-there T i state out logs l c n)
-  ]
+  ends-else c start term = one-and-others _ i (ap (stream_ends_in start term) (between-here T i state out logs c)
+      ∙ flat-same (end_of start term) (between T i c) (out (Site c)) (passed-ends T.words.deployment i e state out passed c start term))
+      (λ l n. ap (stream_ends_in start term) (between-there T i state out logs l c n))
 
   -- nobody asks, and what was asked is kept
   asked-same : (c l t : ℕ) → (c ≡ i → ⊥) → asked next c l t ≡ asked T c l t
@@ -259,11 +252,11 @@ module _ (T : LogState) (i : ℕ) (e : Entry) (H : LogsHold T) (up : 0 < site_st
   longer-flow : (c a stream_start : ℕ) (past : List Flow) (more : List Entry) → part T c ≡ part T i → IsCounted T c a stream_start k.word
       → flow a (term_of k.word) (between T i c) ≡ past ++ map Follows more → flow a (term_of k.word) (between next i c) ≡ past ++ map Follows (more ++ e ∷ [])
   longer-flow c a stream_start past more p counted is = ap (flow a (term_of k.word)) (between-here T i state out logs c)
-      ∙ flow-append a (term_of k.word) (between T i c) (out (Site c))
+      ∙ flat_map-append (flow_of a (term_of k.word)) (between T i c) (out (Site c))
       ∙ ap (λ x. flow a (term_of k.word) (between T i c) ++ x) (counted-flow c a stream_start p counted)
       ∙ ap (λ x. x ++ Follows e ∷ []) is
       ∙ append_assoc past (map Follows more) (Follows e ∷ [])
-      ∙ ap (λ x. past ++ x) (sym (follows-append more (e ∷ [])))
+      ∙ ap (λ x. past ++ x) (sym (map-append Follows more (e ∷ [])))
 
   longer-log : (c : ℕ) (past more : List Entry) (g : Leadership) → part T c ≡ part T i → T.logs.leadership (part T c) (term_of k.word) ≡ Some g → past ++ more ≡ g.log
       → past ++ (more ++ e ∷ []) ≡ (longer k.leadership e).log
@@ -427,7 +420,7 @@ module _ (T : LogState) (i : ℕ) (e : Entry) (H : LogsHold T) (up : 0 < site_st
         (passed-all T.words.deployment i e state out passed c (SiteLetterOk T i c) (some-put c slot) (some-task c))) (λ j n. H.letters j c slot) j;
     begins = λ j c start term stream_start. sent-either T i state out logs
         (λ j ls. AllByRecursion (BeginsAt stream_start) (flow start term (between T j c)) → AllByRecursion (BeginsAt stream_start) (flow start term ls)) (Site c)
-        (λ h. rw flow-append (all-append (BeginsAt stream_start) (flow start term (between T i c)) (flow start term (out (Site c))) h
+        (λ h. rw (flat_map-append (flow_of start term) (between T i c) (out (Site c))) (all-append (BeginsAt stream_start) (flow start term (between T i c)) (flow start term (out (Site c))) h
         (passed-follows T.words.deployment i e state out passed c (BeginsAt stream_start) start term tt))) (λ j n h. h) j;
   }
     where

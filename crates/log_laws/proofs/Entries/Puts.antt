@@ -1,8 +1,8 @@
 -- A copy takes what its leader sent it to append: one entry more, or what it lacks of what its term begins with.
 use Rattle.log_laws.proofs.Names.{◌≡◌, ◌<◌, Bool, true, false, List, [], ◌∷◌, ◌++◌, append_assoc, append-nil, refl, sym, subst, ap, ◌∙◌, inl, inr, ◌==◌, arith, cases_Bool, ne_eqb, ℕ, ◌≤◌, ◌-◌, ◌&&◌, if◌then◌else◌, max, map, drop, length, Option, Some, None, AllByRecursion, Entry, Membership, Actor, Director, Client, Agent, Site, Scanner, Database, term_of, term_in, same, Letter, Sends, SiteState, Joining, Joiner, Scanning, site_term, on_put, on_repair, took, sent, rest, In, Prefix, and-false, eqb-same, if-false, not-both, same-some, set-here, set-there, set-both, took-all, prefix-append, prefix-grows, prefix-length, prefix-refl, prefix-rest, Appended, appends-one, appends-all}
 use Rattle.volt_wire.specs.declared.message.Msg.TheVariants as msg
-use Rattle.log_laws.specs.Histories.{LogState, Leadership, Line, Puts, Repairs, FollowsIn, JoinerOk, ViewIn, MemberOk, MeantFor, ForeignOk, ToldOk, SiteLetterOk, BeginsAt, LogsHold, line_in, flow_in, ask_in, follows, line, flow, stream_ends_in, asks_in, asks_waiting, asks_of_term, asked, between, part, site_start, term_at, log_at}
-use Rattle.log_laws.proofs.Plain.{puts-cons, puts-not-repairs, repairs-not-put, repairs-same, line-here, flow-plain, asks-plain, leader-follows-none, follows-one}
+use Rattle.log_laws.specs.Histories.{LogState, Leadership, Line, Puts, Repairs, FollowsIn, JoinerOk, ViewIn, MemberOk, MeantFor, ForeignOk, ToldOk, SiteLetterOk, BeginsAt, LogsHold, line_in, flow_in, ask_in, follows, line, flow, stream_ends_in, asks_in, asks_waiting, asks_of_term, asked, between, part, site_start, term_at, log_at, is_for}
+use Rattle.log_laws.proofs.Plain.{puts-cons, puts-not-repairs, repairs-not-put, repairs-same, leader-follows-none, follows-one, for-here, if-empty}
 use Rattle.log_laws.proofs.Kept.{running-slot, leadership-entered, LogsLater, after_site, site_popped, NoStreamStart, LogsGo, grown-same, enters-same, same-leaderships, taken-either, at-most-is, SiteStays, SameFrom, Uncounted, still-same, member-keeps, counted-from, Carries, grew, grew-later, grew-member, grew-holds}
 use Rattle.log_laws.proofs.Kept.Keeps as keeps
 
@@ -24,7 +24,7 @@ module _ (S : LogState) (H : LogsHold S) (k i : ℕ) (l : Letter) (ls : List Let
   -- it is first in the channel
   first-line : (w : Membership) → (S.sites i).view ≡ Some w → line (site_start S i) (term_of w) (between S k i) ≡ x ∷ line (site_start S i) (term_of w) ls
   first-line w v = ap (line (site_start S i) (term_of w)) is
-      ∙ ap (λ ys. ys ++ line (site_start S i) (term_of w) ls) (line-here (site_start S i) (term_of w) l own (now ∙ ap term_in v) ∙ said)
+      ∙ ap (λ ys. ys ++ line (site_start S i) (term_of w) ls) (for-here (site_start S i) (term_of w) l (line_in l.body) own (now ∙ ap term_in v) ∙ said)
 
   no-joiner : (j : Joining) → (S.sites i).joining ≡ Some j → ⊥
   no-joiner j e = view (S.sites i).view refl ((H.sites i).joiner j e).view
@@ -103,14 +103,14 @@ module _ (S : LogState) (H : LogsHold S) (k i : ℕ) (l : Letter) (ls : List Let
   flow-kept j c start term = ap (flow start term) (from-site S k i out inert j (Site c) refl)
       ∙ taken-either S (Site k) i (λ a c ys. flow start term ys ≡ flow start term (S.words.channel a (Site c)))
       (λ c q. subst (λ y. flow start term (rest (between S k y)) ≡ flow start term (between S k y)) (sym q)
-      (ap (λ ys. flow start term (rest ys)) is ∙ sym (ap (λ ys. ys ++ flow start term ls) (flow-plain start term l no-flow)) ∙ ap (flow start term) (sym is)))
+      (ap (λ ys. flow start term (rest ys)) is ∙ sym (ap (λ ys. ys ++ flow start term ls) (if-empty (is_for start term l) (flow_in l.past l.body) no-flow)) ∙ ap (flow start term) (sym is)))
       (Site j) c refl
 
   asks-kept : (j c term : ℕ) → asks_in term (channel (Site j) (Site c)) ≡ asks_in term (between S j c)
   asks-kept j c term = ap (asks_in term) (from-site S k i out inert j (Site c) refl)
       ∙ taken-either S (Site k) i (λ a c ys. asks_in term ys ≡ asks_in term (S.words.channel a (Site c)))
       (λ c q. subst (λ y. asks_in term (rest (between S k y)) ≡ asks_in term (between S k y)) (sym q)
-      (ap (λ ys. asks_in term (rest ys)) is ∙ sym (ap (λ ys. ys ++ asks_in term ls) (asks-plain term l no-ask)) ∙ ap (asks_in term) (sym is)))
+      (ap (λ ys. asks_in term (rest ys)) is ∙ sym (ap (λ ys. ys ++ asks_in term ls) (if-empty (l.term == term) (ask_in l.body) no-ask)) ∙ ap (asks_in term) (sym is)))
       (Site j) c refl
 
   carries : Carries S channel

@@ -3,7 +3,7 @@ use Rattle.log_laws.proofs.Names.{◌≡◌, ◌<◌, ◌≤◌, Bool, true, fal
 use Rattle.volt_wire.specs.declared.message.Msg.TheVariants as msg
 use Rattle.log_laws.specs.Histories.{LogState, Entered, Streaming, Leadership, Flow, LogsHold, IsSlot, WordOf, AckOk, CountedOk, IsCounted, HeldFor, HeldOk, LeadsIn, MemberOk, KeepsOk, Coming, ToldOk, SiteLetterOk, end_of, part, site_start, log_at, term_at}
 use Rattle.log_laws.proofs.Kept.{LogsGo, same-word, entered-start, one-in, took-decided, goes-same, SiteRests, ReachRests, SaysRests, Bare, same-joiners, reach-same, rests-goes, put_at, put-both, put-here}
-use Rattle.log_laws.proofs.Plain.{ends-none, is_in-in, copy-other, is-leader}
+use Rattle.log_laws.proofs.Plain.{is_in-in, copy-other, is-leader, flat-none}
 use Rattle.log_laws.proofs.NewTerms.Since.{since-raised}
 
 -- ---- who leads
@@ -237,7 +237,7 @@ held-told T i h d ok e = go d.letter (subst (λ a. HeldFor a d.letter) e ok)
 pub answers-rest : (T : LogState) (i firm : ℕ) (ds : List Held) → AllByRecursion HeldOk ds → SaysRests T i (answers_held firm ds)
 answers-rest T i firm ds h = record {
   sites = λ c. answers-all (λ l. Bare l × SiteLetterOk T i c l) (Site c) (λ d ok e. absurd (held-away c d ok e)) firm ds h;
-  ended = λ c w joins decided away. ends-none (site_start T c) (term_of w) (answers_held firm ds (Site c))
+  ended = λ c w joins decided away. flat-none (end_of (site_start T c) (term_of w)) (answers_held firm ds (Site c))
       (answers-all (λ l. end_of (site_start T c) (term_of w) l ≡ []) (Site c) (λ d ok e. absurd (held-away c d ok e)) firm ds h);
   told = λ a. answers-all (ToldOk T i) (Agent a) (held-told T i a) firm ds h;
 }

@@ -3,7 +3,7 @@ use Rattle.log_laws.proofs.Names.{◌≡◌, ◌<◌, Bool, true, false, List, [
 use Rattle.volt_wire.specs.declared.message.Msg.TheVariants as msg
 use Rattle.log_laws.specs.Histories.{LogState, LogsHold, WasIn, AckOk, LoadedOk, ToldOk, SiteLetterOk, ViewIn, StreamIn, MemberOk, JoinerOk, KeepsOk, end_of, part, site_start, log_at, term_at}
 use Rattle.log_laws.proofs.Kept.{LogsGo, some-start, some-term, took-decided, goes-then, goes-same, GoesFrom, SiteRests, JoiningRests, Bare, part-from, reach-same, site-same, site-rests, says-nothing, rests-goes}
-use Rattle.log_laws.proofs.Plain.{ends-none, ends-plain, leader-copy, start-in-view}
+use Rattle.log_laws.proofs.Plain.{leader-copy, start-in-view, flat-none, if-empty}
 use Rattle.log_laws.proofs.Firmness.Firm.{counts-goes}
 
 -- ---- what it says
@@ -41,8 +41,8 @@ module _ (T : LogState) (H : LogsHold T) (i : ℕ) (up : 0 < site_start T i) whe
     acknowledges-goes None e = goes-same T i H
     acknowledges-goes (Some slot) e = rests-goes T H i (T.sites i) (only (Site slot) (ack-letter slot)) T.logs.reach (site-same T H i T.logs.reach i) (reach-same T H) (record {
       sites = λ c. all-one (λ l. Bare l × SiteLetterOk T i c l) (slot == c) (ack-letter slot) (λ _. ((refl, refl, refl, tt), ack-ok slot e c));
-      ended = λ c v joins of away. ends-none (site_start T c) (term_of v) (only (Site slot) (ack-letter slot) (Site c))
-          (all-one (λ l. end_of (site_start T c) (term_of v) l ≡ []) (slot == c) (ack-letter slot) (λ _. ends-plain (site_start T c) (term_of v) (ack-letter slot) refl));
+      ended = λ c v joins of away. flat-none (end_of (site_start T c) (term_of v)) (only (Site slot) (ack-letter slot) (Site c))
+          (all-one (λ l. end_of (site_start T c) (term_of v) l ≡ []) (slot == c) (ack-letter slot) (λ _. if-empty _ _ refl));
       told = λ h. tt;
     })
 

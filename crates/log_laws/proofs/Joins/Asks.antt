@@ -3,7 +3,7 @@ use Rattle.log_laws.proofs.Names.{List, ap, arith, refl, subst, sym, ◌≡◌, 
 use Rattle.volt_wire.specs.declared.message.Msg.TheVariants as msg
 use Rattle.log_laws.specs.Histories.{AsksToJoin, ForeignOk, LogsHold, IsSlot, KeepsOk, LogState, SiteLetterOk, SiteWaitingFrom, SiteWaitingOk, between, flow, part, site_start, term_at}
 use Rattle.log_laws.proofs.Kept.{running-slot, AsksLess, left-kept, popped-kept, SiteStays, LogsGo, left, site_popped, LessTo, SiteTakes, becomes-goes, counts-on, same-counts, same-uncounts, takes-asks, takes-holds, takes-joiner-same, takes-joiners, takes-keeps, takes-letters, takes-member, takes-stream, uncounts-on, with-site, SiteGoesOn}
-use Rattle.log_laws.proofs.Plain.{flow-plain}
+use Rattle.log_laws.proofs.Plain.{if-empty}
 use Rattle.log_laws.proofs.Messages.Taken.{first-foreign, first-less, first-letters, first-takes, without, without-each}
 
 -- ---- an ask
@@ -16,20 +16,7 @@ ask-waited : (S : LogState) (c i : ℕ) (x : Letter) (a slot : ℕ) → x.body �
 ask-waited S c i x a slot body k = let r = subst (λ m. SiteWaitingFrom S i (Site c) (record x { body = m })) body k in (r.1, r.2)
 
 keeping-on : (s : SiteState) (a slot : ℕ) → SiteGoesOn s (on_join_ask s a slot)
-keeping-on s a slot = record {
-  start = refl;
-  greatest = refl;
-  earlier = refl;
-  view = refl;
-  acks = refl;
-  reports = refl;
-  held = refl;
-  waiting = refl;
-  log = omega arith;
-  member = λ e. e;
-  joins = λ j e. (j, e);
-  loaded = λ j e. (j, e, λ l. l);
-}
+keeping-on s a slot = search arith
 
 keeping-still : (s : SiteState) (a slot : ℕ) → SiteStays s (on_join_ask s a slot)
 keeping-still s a slot = record { start = refl; greatest = refl; earlier = refl; view = refl; joining = refl; log = refl; floor = refl; repaired = refl; firm = refl }
@@ -87,7 +74,7 @@ join-ask-goes S H i c l ls a slot e up start term = becomes-goes (site_popped S 
 
     flows : (l a t : ℕ) → flow a t (without S c i (Site l) (Site i)) ≡ flow a t (between S l i)
     flows l a t = without-each S c i (λ l ys. flow a t ys ≡ flow a t (between S l i)) x ls e
-        (rw e (ap (λ z. z ++ flow a t ls) (sym (flow-plain a t x refl)))) (λ l n. refl) l
+        (rw e (ap (λ z. z ++ flow a t ls) (sym (if-empty _ _ refl)))) (λ l n. refl) l
 
 -- ---- from what waited
 

@@ -1,13 +1,12 @@
 -- A site takes a block, the end of a stream or of a scan: a joiner may have loaded all then.
-use Rattle.log_laws.proofs.Names.{Bool, List, ap, append-nil, arith, false, inl, inr, refl, subst, sym, true, true≢false, ◌≡◌, ◌++◌, ◌∷◌, ◌∙◌, ◌⊎◌, ◌<◌, ◌≤◌, ◌==◌, [], ◌+◌, and_parts, length-append, AllByRecursion, None, Option, Some, is_some, length, map, not, ◌&&◌, if◌then◌else◌, ℕ, Entry, Membership, Letter, becomes, finishes_load, may_finish, on_chunk, on_scan_end, on_stream_end, with_count, with_joining, ForBase, ForJoiner, Joiner, Joining, Scanning, SiteState, Streamed, is_some_of, term_in, term_of, none-and-some, same-some, set-here, set-there, Distinct, In}
-use Rattle.log_laws.specs.Histories.{CountedOk, EndOk, LogsHold, JoinerOk, KeepsOk, LogState, MemberOk, StreamIn, Took, asked, asks_in, asks_of_term, asks_waiting, between, log_at, part, site_start, term_at}
-use Rattle.log_laws.proofs.Kept.{AtMost, asks-at, asks-of-same, at-most-same, SiteStays, LogsGo, LessTo, SiteTakes, becomes-goes, counts-on, same-counts, same-uncounts, takes-asks, takes-holds, takes-joined, takes-joiner, takes-joiner-same, takes-joiners, takes-keeps, takes-kept, takes-letters, takes-member, takes-stream, takes-took, takes-untaken, takes-word, takes-wordless, uncounts-on, with-site, goes-same, SiteGoesOn, SameJoiners, map-joiners, map-slots}
+use Rattle.log_laws.proofs.Names.{Bool, List, ap, append-nil, arith, false, inl, inr, refl, subst, sym, true, true≢false, ◌≡◌, ◌++◌, ◌∷◌, ◌∙◌, ◌⊎◌, ◌<◌, ◌≤◌, ◌==◌, [], ◌+◌, and_parts, length-append, AllByRecursion, None, Option, Some, is_some, length, map, not, ◌&&◌, if◌then◌else◌, ℕ, Entry, Membership, Letter, becomes, finishes_load, may_finish, on_chunk, on_scan_end, on_stream_end, with_count, with_joining, ForBase, ForJoiner, Joiner, Joining, Scanning, SiteState, Streamed, is_some_of, term_in, term_of, none-and-some, same-some, set-here, set-there, no_sends}
+use Rattle.log_laws.specs.Histories.{CountedOk, EndOk, LogsHold, JoinerOk, LogState, StreamIn, Took, asked, asks_in, asks_of_term, asks_waiting, between, log_at, part, site_start, term_at}
+use Rattle.log_laws.proofs.Kept.{AtMost, asks-at, asks-of-same, at-most-same, LogsGo, LessTo, SiteTakes, becomes-goes, counts-on, same-counts, same-uncounts, takes-joined, takes-joiner, takes-letters, takes-stream, takes-took, takes-untaken, takes-word, takes-wordless, uncounts-on, with-site, goes-same, SiteGoesOn, map-joiners, map-slots, inert-becomes, reach-same, rests-goes, says-nothing, site-same}
 
 -- ---- a site changes with nothing under way
 
 module _ (S : LogState) (H : LogsHold S) (i : ℕ) (up : 0 < site_start S i) (s : SiteState) (g : SiteGoesOn (S.sites i) s) (asks : s.asks ≡ (S.sites i).asks)
-    (each : (j : Joiner) → In j (S.sites i).joiners → (n : Joiner) × In n s.joiners × (n.slot ≡ j.slot) × (n.start ≡ j.start) × (n.stream_start ≡ j.stream_start))
-    (back : (n : Joiner) → In n s.joiners → (j : Joiner) × In j (S.sites i).joiners × (j.slot ≡ n.slot) × (j.start ≡ n.start)) where
+    (joiners : s.joiners ≡ (S.sites i).joiners) where
   pub alone-takes : SiteTakes S i s S.words.channel S.pending S.logs.streamed
   alone-takes = record {
     up = up;
@@ -24,22 +23,12 @@ module _ (S : LogState) (H : LogsHold S) (i : ℕ) (up : 0 < site_start S i) (s 
         subst (λ x. AtMost (asked S c i t) (asks_in t (between S c i) ++ asks_waiting c t x.waiting ++ asks_waiting c t (S.pending i) ++ asks_of_term c t x))
         (sym (set-here S.sites i s))
         (rw (g.waiting, asks-of-same c t (S.sites i) s g.view asks) (at-most-same (asked S c i t))));
-    counted = counts-on S i s S.words.channel S.pending S.logs.streamed g each;
-    uncounted = uncounts-on S i s S.words.channel S.pending S.logs.streamed g back;
+    counted = counts-on S i s S.words.channel S.pending S.logs.streamed g (same-counts (S.sites i).joiners s.joiners joiners);
+    uncounted = uncounts-on S i s S.words.channel S.pending S.logs.streamed g (same-uncounts (S.sites i).joiners s.joiners joiners);
   }
 
   pub alone-less : LessTo S i S.words.channel
   alone-less = record { lines = λ l a t. refl; flows = λ l a t e. e; ends = λ l a t e. e }
-
-  pub alone-goes : ((w : Membership) → (S.sites i).joining ≡ None → MemberOk S i w → MemberOk (with-site S i s S.words.channel S.pending S.logs.streamed) i w)
-      → ((j : Joining) → s.joining ≡ Some j → JoinerOk (with-site S i s S.words.channel S.pending S.logs.streamed) i j)
-      → (KeepsOk S i → KeepsOk (with-site S i s S.words.channel S.pending S.logs.streamed) i)
-      → LogsGo S i (becomes s)
-  alone-goes member joiner keeps = becomes-goes S i s S.logs.streamed g.start g.view g.log
-      (takes-holds S H i s S.words.channel S.pending S.logs.streamed alone-takes member joiner keeps
-      (λ l slot. takes-letters S H i s S.words.channel S.pending S.logs.streamed alone-takes (λ t. refl) l (λ a t stream_start b. b) (between S l i) (H.letters l i slot))
-      (λ from. H.foreign from i)
-      (takes-stream S H i s S.words.channel S.pending S.logs.streamed alone-takes))
 
 -- ---- a joiner loads
 
@@ -95,17 +84,11 @@ module _ (S : LogState) (H : LogsHold S) (i : ℕ) (up : 0 < site_start S i) (j 
       T : LogState
       T = with-site S i s S.words.channel S.pending S.logs.streamed
 
-      each : (x : Joiner) → In x (S.sites i).joiners → (y : Joiner) × In y s.joiners × (y.slot ≡ x.slot) × (y.start ≡ x.start) × (y.stream_start ≡ x.stream_start)
-      each = same-counts (S.sites i).joiners s.joiners refl
-
-      back : (y : Joiner) → In y s.joiners → (x : Joiner) × In x (S.sites i).joiners × (x.slot ≡ y.slot) × (x.start ≡ y.start)
-      back = same-uncounts (S.sites i).joiners s.joiners refl
-
       k : SiteTakes S i s S.words.channel S.pending S.logs.streamed
-      k = alone-takes S H i up s (load-on (S.sites i) j n log is longer (λ b. based ∙ b)) refl each back
+      k = alone-takes S H i up s (load-on (S.sites i) j n log is longer (λ b. based ∙ b)) refl refl
 
       less : LessTo S i S.words.channel
-      less = alone-less S H i up s (load-on (S.sites i) j n log is longer (λ b. based ∙ b)) refl each back
+      less = alone-less S H i up s (load-on (S.sites i) j n log is longer (λ b. based ∙ b)) refl refl
 
       old : JoinerOk S i j
       old = (H.sites i).joiner j is
@@ -184,60 +167,6 @@ stream-end-goes S H i c x count up start term e = go (S.sites i).joining refl
 
 -- ---- a block, and the end of a scan
 
--- a site that stays as it was, but for what it keeps
-still-goes : (S : LogState) (H : LogsHold S) (i : ℕ) (up : 0 < site_start S i) (s : SiteState) (g : SiteGoesOn (S.sites i) s) → SiteStays (S.sites i) s → (asks : s.asks ≡ (S.sites i).asks)
-    → (each : (j : Joiner) → In j (S.sites i).joiners → (n : Joiner) × In n s.joiners × (n.slot ≡ j.slot) × (n.start ≡ j.start) × (n.stream_start ≡ j.stream_start))
-    → (back : (n : Joiner) → In n s.joiners → (j : Joiner) × In j (S.sites i).joiners × (j.slot ≡ n.slot) × (j.start ≡ n.start))
-    → (KeepsOk S i → KeepsOk (with-site S i s S.words.channel S.pending S.logs.streamed) i) → LogsGo S i (becomes s)
-still-goes S H i up s g still asks each back keeps = alone-goes S H i up s g asks each back
-    (λ w none h. takes-member S H i s S.words.channel S.pending S.logs.streamed k less still w h)
-    (λ j is. takes-joiner-same S H i s S.words.channel S.pending S.logs.streamed k less still (λ t. refl) (λ w view l f low. refl) j
-    ((H.sites i).joiner j (sym still.joining ∙ is)))
-    keeps
-  where
-    k : SiteTakes S i s S.words.channel S.pending S.logs.streamed
-    k = alone-takes S H i up s g asks each back
-
-    less : LessTo S i S.words.channel
-    less = alone-less S H i up s g asks each back
-
--- it goes on with another scan, or none, and counts so
-abbrev scans : SiteState → Option Scanning → List Joiner → SiteState
-scans s scanning js = record s { scanning = scanning; joiners = js }
-
-scans-on : (s : SiteState) (scanning : Option Scanning) (js : List Joiner) → SiteGoesOn s (scans s scanning js)
-scans-on s scanning js = record {
-  start = refl;
-  greatest = refl;
-  earlier = refl;
-  view = refl;
-  acks = refl;
-  reports = refl;
-  held = refl;
-  waiting = refl;
-  log = omega arith;
-  member = λ e. e;
-  joins = λ j e. (j, e);
-  loaded = λ j e. (j, e, λ l. l);
-}
-
-scans-still : (s : SiteState) (scanning : Option Scanning) (js : List Joiner) → SiteStays s (scans s scanning js)
-scans-still s scanning js = record { start = refl; greatest = refl; earlier = refl; view = refl; joining = refl; log = refl; floor = refl; repaired = refl; firm = refl }
-
-scan-goes : (S : LogState) → LogsHold S → (i : ℕ) → 0 < site_start S i → (scanning : Option Scanning) → LogsGo S i (becomes (record (S.sites i) { scanning = scanning }))
-scan-goes S H i up scanning = still-goes S H i up s (scans-on (S.sites i) scanning (S.sites i).joiners) (scans-still (S.sites i) scanning (S.sites i).joiners) refl each back
-    (takes-kept S H i s S.words.channel S.pending S.logs.streamed
-    (alone-takes S H i up s (scans-on (S.sites i) scanning (S.sites i).joiners) refl each back) refl refl (λ e. e) (λ h. h.on_disk) (λ h. h))
-  where
-    s : SiteState
-    s = record (S.sites i) { scanning = scanning }
-
-    each : (x : Joiner) → In x (S.sites i).joiners → (y : Joiner) × In y s.joiners × (y.slot ≡ x.slot) × (y.start ≡ x.start) × (y.stream_start ≡ x.stream_start)
-    each = same-counts (S.sites i).joiners s.joiners refl
-
-    back : (y : Joiner) → In y s.joiners → (x : Joiner) × In x (S.sites i).joiners × (x.slot ≡ y.slot) × (x.start ≡ y.start)
-    back = same-uncounts (S.sites i).joiners s.joiners refl
-
 -- with the number of blocks that a joiner was sent it is the same one
 pub record SameJoiner (j n : Joiner) : Type 0 where
   pub slot : n.slot ≡ j.slot
@@ -266,34 +195,21 @@ module _ (f : Joiner → Joiner) (same : (j : Joiner) → SameJoiner j (f j)) wh
   counted-mapped S p t [] h = tt
   counted-mapped S p t (j ∷ js) h = (counted-same S p t j (f j) (same j) h.0, counted-mapped S p t js h.1)
 
-scan_end-joiners : (S : LogState) → LogsHold S → (i : ℕ) → 0 < site_start S i → (slot count : ℕ)
-    → LogsGo S i (becomes (record (S.sites i) { scanning = None; joiners = map (with_count slot count) (S.sites i).joiners }))
-scan_end-joiners S H i up slot count = still-goes S H i up s (scans-on (S.sites i) None js) (scans-still (S.sites i) None js) refl each back
-    (λ h. takes-keeps S H i s S.words.channel S.pending S.logs.streamed k h
-    (counted-mapped (with_count slot count) (with_count-same slot count) (with-site S i s S.words.channel S.pending S.logs.streamed) (part S i) (term_at S i) (S.sites i).joiners
-    (takes-joiners S H i s S.words.channel S.pending S.logs.streamed k (S.sites i).joiners h.joiners))
-    (subst Distinct (sym (map-slots (with_count slot count) (λ j. (with_count-same slot count j).slot) (S.sites i).joiners)) h.alone)
-    (elim h.leads [ inl none ↦ inl (ap (map (with_count slot count)) none) | inr is ↦ inr is ])
-    (takes-asks S H i s S.words.channel S.pending S.logs.streamed k (S.sites i).asks h.asks) h.pending h.on_disk)
-  where
-    js : List Joiner
-    js = map (with_count slot count) (S.sites i).joiners
-
-    s : SiteState
-    s = scans (S.sites i) None js
-
-    mapped : SameJoiners (S.sites i).joiners js
-    mapped = map-joiners (with_count slot count) (λ j. (with_count-same slot count j).slot) (λ j. (with_count-same slot count j).start) (λ j. (with_count-same slot count j).stream_start)
-        (S.sites i).joiners
-
-    each : (x : Joiner) → In x (S.sites i).joiners → (y : Joiner) × In y s.joiners × (y.slot ≡ x.slot) × (y.start ≡ x.start) × (y.stream_start ≡ x.stream_start)
-    each = mapped.kept
-
-    back : (y : Joiner) → In y s.joiners → (x : Joiner) × In x (S.sites i).joiners × (x.slot ≡ y.slot) × (x.start ≡ y.start)
-    back y is = let r = mapped.back y is in (r.0, r.1, r.2, r.3)
-
-    k : SiteTakes S i s S.words.channel S.pending S.logs.streamed
-    k = alone-takes S H i up s (scans-on (S.sites i) None js) refl each back
+scan_end-joiners : (S : LogState) → LogsHold S → (i slot count : ℕ) → LogsGo S i (becomes (record (S.sites i) { scanning = None; joiners = map (with_count slot count) (S.sites i).joiners }))
+scan_end-joiners S H i slot count = let o = site-same S H i S.logs.reach i in let f = with_count slot count in let same = with_count-same slot count in
+    rests-goes S H i (record (S.sites i) { scanning = None; joiners = map f (S.sites i).joiners }) no_sends S.logs.reach (record {
+      is = refl;
+      member = o.member;
+      joiner = o.joiner;
+      counts = o.counts;
+      acks = o.acks;
+      joiners = λ up. counted-mapped f same S (part S i) (term_at S i) (S.sites i).joiners (o.joiners up);
+      alone = λ up. rw (map-slots f (λ j. (same j).slot) (S.sites i).joiners) (o.alone up);
+      leads = λ up. elim (o.leads up) [ inl none ↦ inl (ap (map f) none) | inr is ↦ inr is ];
+      counted = map-joiners f (λ j. (same j).slot) (λ j. (same j).start) (λ j. (same j).stream_start) (S.sites i).joiners;
+      on_disk = o.on_disk;
+      held = o.held;
+    }) (reach-same S H) (says-nothing S H i)
 
 -- the end of a scan
 pub scan-end-goes : (S : LogState) → LogsHold S → (i id count : ℕ) → 0 < site_start S i → LogsGo S i (becomes (on_scan_end (S.sites i) (S.sites i).scanning id count))
@@ -304,12 +220,12 @@ scan-end-goes S H i id count up = go (S.sites i).scanning
     go (Some (ForJoiner own slot)) = choice (own == id)
       where
         choice : (b : Bool) → LogsGo S i (becomes (if b then record (S.sites i) { scanning = None; joiners = map (with_count slot count) (S.sites i).joiners } else S.sites i))
-        choice true = scan_end-joiners S H i up slot count
+        choice true = scan_end-joiners S H i slot count
         choice false = goes-same S i H
     go (Some (ForBase own position blocks written ended)) = choice (own == id)
       where
         choice : (b : Bool) → LogsGo S i (becomes (if b then record (S.sites i) { scanning = Some (ForBase own position blocks written (Some count)) } else S.sites i))
-        choice true = scan-goes S H i up (Some (ForBase own position blocks written (Some count)))
+        choice true = inert-becomes S i (record (S.sites i) { scanning = Some (ForBase own position blocks written (Some count)) }) H (record { same = refl; held = λ k. k })
         choice false = goes-same S i H
 
 -- a block
@@ -323,5 +239,5 @@ chunk-goes S H i id up = go (S.sites i).joining refl (S.sites i).scanning
     go None none (Some (ForBase own position blocks written count)) = choice (own == id)
       where
         choice : (b : Bool) → LogsGo S i (becomes (if b then record (S.sites i) { scanning = Some (ForBase own position (blocks + 1) written count) } else S.sites i))
-        choice true = scan-goes S H i up (Some (ForBase own position (blocks + 1) written count))
+        choice true = inert-becomes S i (record (S.sites i) { scanning = Some (ForBase own position (blocks + 1) written count) }) H (record { same = refl; held = λ k. k })
         choice false = goes-same S i H

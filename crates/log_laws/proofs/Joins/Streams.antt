@@ -1,10 +1,10 @@
 -- A leader takes a joiner: it counts it, and its stream begins.
 use Rattle.log_laws.proofs.Names.{Bool, List, ap, append-nil, arith, false, inl, inr, refl, subst, sym, true, true≢false, ◌≡◌, ◌++◌, ◌∷◌, ◌∙◌, ◌⊎◌, ◌<◌, ◌≤◌, ◌==◌, [], ◌+◌, and_parts, cases_eq, eq-eqb, eqb-true, not-true, length-append, map-append, nil_from_length, AllByRecursion, list_any, None, Option, Some, filter, find, is_none, length, map, not, ◌&&◌, if◌then◌else◌, ℕ, Membership, Actor, Agent, Client, Director, Scanner, Site, Database, Letter, Turn, letter_in, same, nothing_open, can_take, is_lost_in, stream_head, takes_asks, takes_first_ask, takes_joiner, without_first, Ask, Joiner, Joining, SiteState, Streamed, is_leader, leads, site_term, leader, term_in, term_of, sent, set_at, all-append, all-at, all-from, eqb-same, filter-in, if-true, in-cases, in-left, in-map, in-map-from, in-right, list_any-in, none-and-some, same-some, set-both, set-here, set-there, Distinct, In, leader-view, leads-parts, prefix-length}
 use Rattle.volt_wire.specs.declared.message.Msg.TheVariants as msg
-use Rattle.log_laws.specs.Histories.{AsksToJoin, BeginsAt, Coming, CountedOk, EndOk, ForeignOk, LogsHold, InWord, IsCounted, IsSlot, JoinerOk, JoinsIn, KeepsOk, LeadsIn, LogState, MemberOk, Inert, Leadership, SiteLetterOk, StreamIn, Took, ViewIn, asked, asks_in, asks_kept, asks_of_term, asks_waiting, between, end_in, stream_ends_in, flow, flow_of, follows, line, log_at, part, site_start, term_at}
+use Rattle.log_laws.specs.Histories.{AsksToJoin, BeginsAt, Coming, CountedOk, EndOk, ForeignOk, LogsHold, InWord, IsCounted, IsSlot, JoinerOk, JoinsIn, KeepsOk, LeadsIn, LogState, MemberOk, Inert, Leadership, SiteLetterOk, StreamIn, Took, ViewIn, asked, asks_in, asks_kept, asks_of_term, asks_waiting, between, end_in, stream_ends_in, flow, flow_of, follows, line, log_at, part, site_start, term_at, ask_of, end_of, flow_in, line_of}
 use Rattle.log_laws.proofs.Kept.{AsksLess, AtMost, at-most-behind, at-most-both, at-most-is, at-most-same, CountedBy, SiteStays, Uncounted, counted-from, in_word-keeps-with, joiner-keeps-with, streamed-later, LogsLater, after_site, counts-on, with-site, after-same, still-at, SiteGoesOn, goes-on-same, steady-asks, steady-counted, steady-holds, steady-joiner, steady-joins, steady-keeps, steady-later, steady-member, steady-leaderships, running-slot, same-word, some-term, took-decided}
 use Rattle.log_laws.proofs.Kept.Steady.{Steady}
-use Rattle.log_laws.proofs.Plain.{follows-one, is-leader, leader-followed, asks-plain, asks-same, ends-empty, ends-here, ends-plain, ends-same, flow-here, flow-other, flow-push, flow-same, line-plain, line-same, kept-append}
+use Rattle.log_laws.proofs.Plain.{follows-one, is-leader, leader-followed, kept-append, flat-each, flat-push, flat-same, for-here, for-other, if-empty, one-and-others}
 use Rattle.log_laws.proofs.Joins.StreamStarts.{letter-later-ends}
 
 -- ---- lists
@@ -143,45 +143,32 @@ module _ (E : Database) (S : LogState) (H : LogsHold S) (i : ℕ) (up : 0 < site
   same-lines : (k c x t : ℕ) → line x t (between T k c) ≡ line x t (between S k c)
   same-lines k c x t = elim (chan k c) [
     | inl e ↦ ap (line x t) e
-    | inr e ↦ ap (line x t) e.2 ∙ line-same x t (between S k c) (begins ∷ []) (ap (λ z. z ++ []) (line-plain x t begins refl))
+    | inr e ↦ ap (line x t) e.2 ∙ flat-same (line_of x t) (between S k c) (begins ∷ []) (ap (λ z. z ++ []) (if-empty _ _ refl))
   ]
 
   same-ends : (k c x t : ℕ) → stream_ends_in x t (between T k c) ≡ stream_ends_in x t (between S k c)
   same-ends k c x t = elim (chan k c) [
     | inl e ↦ ap (stream_ends_in x t) e
-    | inr e ↦ ap (stream_ends_in x t) e.2 ∙ ends-same x t (between S k c) (begins ∷ []) (ap (λ z. z ++ []) (ends-plain x t begins refl))
+    | inr e ↦ ap (stream_ends_in x t) e.2 ∙ flat-same (end_of x t) (between S k c) (begins ∷ []) (ap (λ z. z ++ []) (if-empty _ _ refl))
   ]
 
   same-asks : (k c t : ℕ) → asks_in t (between T k c) ≡ asks_in t (between S k c)
   same-asks k c t = elim (chan k c) [
     | inl e ↦ ap (asks_in t) e
-    | inr e ↦ ap (asks_in t) e.2 ∙ asks-same t (between S k c) (begins ∷ []) (ap (λ z. z ++ []) (asks-plain t begins refl))
+    | inr e ↦ ap (asks_in t) e.2 ∙ flat-same (ask_of t) (between S k c) (begins ∷ []) (ap (λ z. z ++ []) (if-empty _ _ refl))
   ]
 
   -- but to the joiner that asked
   same-flows : (k c x t : ℕ) → (c ≡ a.slot → x ≡ a.start → ⊥) → flow x t (between T k c) ≡ flow x t (between S k c)
   same-flows k c x t n = elim (chan k c) [
     | inl e ↦ ap (flow x t) e
-    | inr e ↦ ap (flow x t) e.2 ∙ flow-same x t (between S k c) (begins ∷ []) (ap (λ z. z ++ []) (flow-other x t begins (λ s _. n e.1 (sym s))))
+    | inr e ↦ ap (flow x t) e.2 ∙ flat-same (flow_of x t) (between S k c) (begins ∷ []) (ap (λ z. z ++ []) (for-other x t begins (flow_in begins.past begins.body) (λ s _. n e.1 (sym s))))
   ]
 
   -- ---- what is kept
 
   goes-on : SiteGoesOn (S.sites i) turn.state
-  goes-on = record {
-    start = refl;
-    greatest = refl;
-    earlier = refl;
-    view = refl;
-    acks = refl;
-    reports = refl;
-    held = refl;
-    waiting = refl;
-    log = omega arith;
-    member = λ e. e;
-    joins = λ j e. (j, e);
-    loaded = λ j e. (j, e, λ l. l);
-  }
+  goes-on = search arith
 
   there : (c : ℕ) → (c ≡ i → ⊥) → set_at S.sites i turn.state c ≡ S.sites c
   there c n = set-there S.sites i turn.state c n
@@ -308,8 +295,8 @@ module _ (E : Database) (S : LogState) (H : LogsHold S) (i : ℕ) (up : 0 < site
       past = log_at S i;
       more = [];
       leadership = leadership.0;
-      flow_is = ap (flow (site_start S a.slot) (term_of w)) chan-here ∙ flow-push (site_start S a.slot) (term_of w) (between S i a.slot) begins
-          ∙ ap (λ z. z ++ flow_of (site_start S a.slot) (term_of w) begins) q.flow_is ∙ flow-here (site_start S a.slot) (term_of w) begins (sym runs) same-term;
+      flow_is = ap (flow (site_start S a.slot) (term_of w)) chan-here ∙ flat-push (flow_of (site_start S a.slot) (term_of w)) (between S i a.slot) begins
+          ∙ ap (λ z. z ++ flow_of (site_start S a.slot) (term_of w) begins) q.flow_is ∙ for-here (site_start S a.slot) (term_of w) begins (flow_in begins.past begins.body) (sym runs) same-term;
       led = ap (λ p. S.logs.leadership p (term_of w)) ok.part_is ∙ leadership.1;
       whole = append-nil (log_at S i) ∙ leadership.2;
       behind = subst (λ z. length leadership.0.begun ≤ length z) (sym leadership.2) (prefix-length leadership.0.begun leadership.0.log (H.leaderships (part S i) (term_of w) leadership.0 leadership.1).grown);
@@ -410,14 +397,11 @@ module _ (E : Database) (S : LogState) (H : LogsHold S) (i : ℕ) (up : 0 < site
   }
 
   keeps-after : (c : ℕ) → KeepsOk S c → KeepsOk T c
-  keeps-after c k = elim (cases_eq c i) [
-    | inl e ↦ subst (KeepsOk T) (sym e) (own (subst (KeepsOk S) e k))
-    | inr n ↦ steady-keeps S channels (set_at S.sites i turn.state) S.pending S.logs.streamed H steady c k
+  keeps-after = one-and-others _ i own (λ c n k. steady-keeps S channels (set_at S.sites i turn.state) S.pending S.logs.streamed H steady c k
         (rw (there c n) (steady-counted S channels (set_at S.sites i turn.state) S.pending S.logs.streamed H steady (part S c) (term_at S c) (S.sites c).joiners k.joiners))
         (rw (there c n) k.alone) (rw (there c n) k.leads)
         (rw (there c n) (steady-asks S channels (set_at S.sites i turn.state) S.pending S.logs.streamed H steady (part S c) (term_at S c) (S.sites c).asks k.asks))
-        k.pending (rw (there c n) k.on_disk)
-  ]
+        k.pending (rw (there c n) k.on_disk))
     where
       here : set_at S.sites i turn.state i ≡ turn.state
       here = set-here S.sites i turn.state
@@ -457,8 +441,8 @@ module _ (E : Database) (S : LogState) (H : LogsHold S) (i : ℕ) (up : 0 < site
           let runs = subst (λ z. site_start S z ≡ a.start) e r in
           let at : y.term ≡ term_of w = sym (subst (λ z. term_at S z ≡ y.term) e term) ∙ ap term_in (view-is runs) in
           let below = subst (λ n. (S.sites a.slot).earlier < n) at (subst (λ z. (S.sites z).earlier < y.term) e low) in
-          some (sym (ends-here (site_start S a.slot) (term_of w) y (sym (subst (λ z. site_start S z ≡ y.start) e start)) at)
-          ∙ ends-empty (site_start S a.slot) (term_of w) (between S i a.slot) (inert runs below).ends_are y
+          some (sym (for-here (site_start S a.slot) (term_of w) y (end_in y.body) (sym (subst (λ z. site_start S z ≡ y.start) e start)) at)
+          ∙ flat-each (end_of (site_start S a.slot) (term_of w)) (between S i a.slot) (inert runs below).ends_are y
           (subst (λ z. In y (between S z a.slot)) q (subst (λ z. In y (between S k z)) e is)))
 
       begun : site_start S c ≡ y.start → term_at S c ≡ y.term → (S.sites c).earlier < y.term → AllByRecursion (BeginsAt h.stream_start) (flow y.start y.term (between S k c))

@@ -1,9 +1,9 @@
 -- A joiner takes an entry that its leader sent it behind its stream.
 use Rattle.log_laws.proofs.Names.{Bool, List, ap, append-nil, append_assoc, arith, false, inl, inr, refl, subst, sym, true, true≢false, ◌≡◌, ◌++◌, ◌∷◌, ◌∙◌, ◌<◌, ◌≤◌, [], cases_Bool, length-append, None, Option, Some, is_some, length, map, if◌then◌else◌, ℕ, Entry, Membership, Site, Letter, becomes, on_task, with_joining, Joining, SiteState, Streamed, term_in, term_of, none-and-some, same-some}
 use Rattle.volt_wire.specs.declared.message.Msg.TheVariants as msg
-use Rattle.log_laws.specs.Histories.{Follows, LogsHold, InWord, JoinerOk, LogState, StreamIn, Took, ViewIn, asks_of_term, between, flow, follows, line_in, log_at, part, site_start, term_at}
+use Rattle.log_laws.specs.Histories.{Follows, LogsHold, InWord, JoinerOk, LogState, StreamIn, Took, ViewIn, asks_of_term, between, flow, follows, line_in, log_at, part, site_start, term_at, flow_in}
 use Rattle.log_laws.proofs.Kept.{at-most-same, popped-less, SiteStays, still-same, LogsGo, site_popped, LessTo, SiteTakes, becomes-goes, takes-holds, takes-joined, takes-joiner, takes-joiner-same, takes-kept, takes-member, takes-stream, takes-took, takes-word, with-site, SiteGoesOn, goes-on-same}
-use Rattle.log_laws.proofs.Plain.{follows-one, begins-not-follows, flow-here, follows-cons}
+use Rattle.log_laws.proofs.Plain.{follows-one, begins-not-follows, follows-cons, for-here}
 use Rattle.log_laws.proofs.Joins.Loads.{load-on, with-load}
 use Rattle.log_laws.proofs.Messages.Taken.{first-foreign, first-less, first-letters, first-takes, without, without-each, without-here}
 
@@ -51,7 +51,7 @@ module _ (S : LogState) (H : LogsHold S) (m i : ℕ) (l : Letter) (ls : List Let
   -- it is the first thing that is under way to the joiner from there
   task-first : (w : Membership) → (S.sites i).view ≡ Some w → flow (site_start S i) (term_of w) (between S m i) ≡ Follows v ∷ flow (site_start S i) (term_of w) ls
   task-first w view = ap (flow (site_start S i) (term_of w)) e
-      ∙ ap (λ z. z ++ flow (site_start S i) (term_of w) ls) (flow-here (site_start S i) (term_of w) (record l { body = msg.Task position v }) start (term ∙ ap term_in view))
+      ∙ ap (λ z. z ++ flow (site_start S i) (term_of w) ls) (for-here (site_start S i) (term_of w) (record l { body = msg.Task position v }) (flow_in (record l { body = msg.Task position v }).past (record l { body = msg.Task position v }).body) start (term ∙ ap term_in view))
 
   task-drops : ((j : Joining) → (S.sites i).joining ≡ Some j → j.stream ≡ None) → LogsGo (site_popped S (Site m) i) i (becomes (S.sites i))
   task-drops none = drops-goes S H m i (record l { body = msg.Task position v }) ls e up refl (λ j w is view h f low. absurd (clash j w is view h f low))

@@ -1,9 +1,9 @@
 -- By which starts a slot asked to join: what a message that waits, is kept or is forgotten makes of that.
-use Rattle.log_laws.proofs.Names.{◌≡◌, Bool, true, false, List, [], ◌∷◌, ◌++◌, append_assoc, refl, sym, subst, ap, ◌∙◌, ◌⊎◌, inl, inr, ◌==◌, true≢false, arith, cases_eq, eqb-true, nat_tests, length-append, map-append, filter-append, ℕ, ◌≤◌, ◌&&◌, if◌then◌else◌, flat_map, filter, length, nat_lt, Actor, Site, term_in, same, Letter, Waiting, no_sends, of_term, above_term, SiteState, site_term, on_join_ask, rest, set_at, In, eqb-same, in-left, in-right, in-cases, set-here, set-there, same-true, sent-nothing}
+use Rattle.log_laws.proofs.Names.{◌≡◌, Bool, true, false, List, [], ◌∷◌, ◌++◌, append_assoc, refl, sym, subst, ap, ◌∙◌, ◌⊎◌, inl, inr, ◌==◌, true≢false, arith, eqb-true, nat_tests, length-append, map-append, filter-append, ℕ, ◌≤◌, ◌&&◌, if◌then◌else◌, flat_map, filter, length, nat_lt, Actor, Site, term_in, same, Letter, Waiting, no_sends, of_term, above_term, SiteState, site_term, on_join_ask, rest, set_at, In, eqb-same, in-left, in-right, in-cases, set-here, set-there, same-true, sent-nothing}
 use Rattle.volt_wire.specs.declared.message.Msg.TheVariants as msg
 use Rattle.log_laws.specs.Histories.{LogState, Logs, between, ask_of, asks_in, wait_of, asks_waiting, asks_kept, asks_of_term, asked}
 use Rattle.log_laws.proofs.Kept.Moves.{after_site, site_popped, left}
-use Rattle.log_laws.proofs.Plain.{waits-push}
+use Rattle.log_laws.proofs.Plain.{flat-push, one-and-others}
 
 -- ---- no more than before
 
@@ -138,13 +138,10 @@ AsksLess S T = (c l t : ℕ) → AtMost (asked S c l t) (asked T c l t)
 pub asks-at : (S T : LogState) (i : ℕ)
     → ((l : ℕ) → (l ≡ i → ⊥) → (T.sites l ≡ S.sites l) × (T.pending l ≡ S.pending l) × ((c : ℕ) → between T c l ≡ between S c l))
     → ((c t : ℕ) → AtMost (asked S c i t) (asked T c i t)) → AsksLess S T
-asks-at S T i others here c l t = elim (cases_eq l i) [
-  | inl e ↦ subst (λ z. AtMost (asked S c z t) (asked T c z t)) (sym e) (here c t)
-  | inr n ↦ at-most-is (asked S c l t) (asked T c l t) (same-asks (others l n))
-]
+asks-at S T i others here c l t = one-and-others (λ l. AtMost (asked S c l t) (asked T c l t)) i (here c t) (λ l n. at-most-is (asked S c l t) (asked T c l t) (same-asks l (others l n))) l
   where
-    same-asks : (T.sites l ≡ S.sites l) × (T.pending l ≡ S.pending l) × ((c : ℕ) → between T c l ≡ between S c l) → asked T c l t ≡ asked S c l t
-    same-asks (s, p, b) =
+    same-asks : (l : ℕ) → (T.sites l ≡ S.sites l) × (T.pending l ≡ S.pending l) × ((c : ℕ) → between T c l ≡ between S c l) → asked T c l t ≡ asked S c l t
+    same-asks l (s, p, b) =
         ap (λ z. asks_in t z ++ asks_waiting c t (T.sites l).waiting ++ asks_waiting c t (T.pending l) ++ asks_of_term c t (T.sites l)) (b c)
         ∙ ap (λ z. asks_in t (between S c l) ++ asks_waiting c t z.waiting ++ asks_waiting c t (T.pending l) ++ asks_of_term c t z) s
         ∙ ap (λ z. asks_in t (between S c l) ++ asks_waiting c t (S.sites l).waiting ++ asks_waiting c t z ++ asks_of_term c t (S.sites l)) p
@@ -219,7 +216,7 @@ module _ (S : LogState) (from : Actor) (i : ℕ) (l : Letter) (ls : List Letter)
   -- it waits
   pub waits-asks : AsksLess S (after_site (site_popped S from i) i (record (S.sites i) { waiting = (S.sites i).waiting ++ came from l ∷ [] }) no_sends G)
   waits-asks = popped-site (record (S.sites i) { waiting = (S.sites i).waiting ++ came from l ∷ [] }) (λ c t.
-      rw (waits-push c t (S.sites i).waiting (came from l))
+      rw (flat-push (wait_of c t) (S.sites i).waiting (came from l))
       (first-to-second (wait_of c t (came from l)) (asks_in t (between (site_popped S from i) c i)) (asks_waiting c t (S.sites i).waiting)
       (asks_waiting c t (S.pending i)) (asks_of_term c t (S.sites i))))
 

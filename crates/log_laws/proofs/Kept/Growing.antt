@@ -1,11 +1,12 @@
 -- A turn in which the log of a member grows: what holds, holds after it, where the messages and the copies of its partition allow it.
-use Rattle.log_laws.proofs.Names.{◌≡◌, ◌<◌, Bool, true, false, List, [], ◌++◌, refl, sym, subst, ap, ◌∙◌, inl, inr, true≢false, arith, cases_eq, length-append, ℕ, ◌≤◌, Option, Some, None, AllByRecursion, Entry, Membership, Actor, Director, Agent, Site, host_of_slot, term_of, leader, Letter, Waiting, SiteState, Joining, Joiner, Scanning, set_at, starts_in, In, all-mono, none-and-some, set-here, set-there, set-both, channel-holds, prefix-grows}
+use Rattle.log_laws.proofs.Names.{◌≡◌, ◌<◌, Bool, true, false, List, [], ◌++◌, refl, sym, subst, ap, ◌∙◌, inl, true≢false, arith, length-append, ℕ, ◌≤◌, Option, Some, None, AllByRecursion, Entry, Membership, Actor, Director, Agent, Site, host_of_slot, term_of, leader, Letter, Waiting, SiteState, Joining, Joiner, Scanning, set_at, starts_in, In, all-mono, none-and-some, set-here, set-there, set-both, channel-holds, prefix-grows}
 use Rattle.log_laws.specs.Histories.{LogState, Leadership, FollowsIn, LeadsIn, MemberOk, JoinerOk, AckOk, ReportOk, AsksToJoin, CountedOk, SiteWaitingOk, KeepsOk, SiteOk, SiteLetterOk, ForeignOk, ToldOk, BeginsAt, IsSlot, IsCounted, LogsHold, agent_to_site, follows, line, flow, between, part, site_start, log_at, term_at}
 use Rattle.log_laws.proofs.Kept.Moves.{SiteRises, site-stays, Stays, LogsLater, SameLeaderships, JoinsOn}
 use Rattle.log_laws.proofs.Kept.Laters.{letter-later, waiting-later, ack-later, report-later, ask-later, counted-later, entered-later, streamed-later, leaderships-later, unleds-later, first-later, loads-later}
 use Rattle.log_laws.proofs.Kept.Plumbing.{words-later}
 use Rattle.log_laws.proofs.Kept.Keeps.{still-same, kept-same, counted-from, keeps-with, site-keeps-with}
 use Rattle.log_laws.proofs.Kept.KeepsViews.{views-keeps-with, leaves-same}
+use Rattle.log_laws.proofs.Plain.{one-and-others}
 
 -- What must be so of the messages behind it: those from agents and the director are as they were, others may be new or taken.
 pub record Carries (S : LogState) (ch : Actor → Actor → List Letter) : Type 0 where
@@ -147,10 +148,7 @@ module _ (S : LogState) (H : LogsHold S) (i : ℕ) (more : List Entry) (floor : 
       → LogsHold T
   grew-holds up none same carries w view mine members joiners = record {
     words = channel-holds S.words ch (λ h g. carries.agents h (Agent g)) (λ h. ap starts_in (carries.director h)) H.words;
-    sites = λ c. elim (cases_eq c i) [
-      | inl q ↦ subst (SiteOk T) (sym q) (site-own up none w view mine)
-      | inr n ↦ site-other c n (members c n) (joiners c n)
-    ];
+    sites = one-and-others (SiteOk T) i (site-own up none w view mine) (λ c n. site-other c n (members c n) (joiners c n));
     views = λ c. views-keeps-with S T H grew-later c (stays c).start
         (set-both (λ h x. x.view ≡ (S.sites h).view) S.sites i s refl (λ h n. refl) c) refl refl (λ a m. m)
         (leaves-same (site_start S c) (agent_to_site S c) (agent_to_site T c) (carries.agents (host_of_slot S.words.deployment c) (Site c))) (H.views c);

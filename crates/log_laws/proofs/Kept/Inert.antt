@@ -120,17 +120,7 @@ pub record ChannelsOk (S : LogState) (ch : Actor → Actor → List Letter) : Ty
 
 -- they are as they were
 pub channels-same : (S : LogState) → LogsHold S → ChannelsOk S S.words.channel
-channels-same S H = record {
-  words = H.words;
-  lines = λ l c up. refl;
-  flows = λ l c up. refl;
-  ends = λ l c up e. e;
-  leaves = λ c. leaves-same (site_start S c) (agent_to_site S c) (agent_to_site S c) refl;
-  letters = λ l c. H.letters l c;
-  foreign = H.foreign;
-  told = H.loads.told;
-  asked = λ h g. refl;
-}
+channels-same S H = search (leaves-same, H.letters, H.loads)
 
 -- ---- the site
 

@@ -1,10 +1,10 @@
 -- What holds of a slot that isn't the one that moves: it stays so.
-use Rattle.log_laws.proofs.Names.{◌≡◌, ◌<◌, Bool, true, false, List, [], ◌∷◌, refl, sym, subst, ap, ◌∙◌, ◌⊎◌, inl, inr, ◌==◌, arith, cases_eq, cases_Bool, eqb-true, eq-eqb, ne_eqb, ℕ, ◌&&◌, not, length, Option, Some, None, AllByRecursion, Membership, Deployment, term_of, term_in, leader, SiteState, Streamed, Joining, Joiner, Ask, In, all-mono}
+use Rattle.log_laws.proofs.Names.{◌≡◌, ◌<◌, Bool, true, false, List, [], ◌∷◌, refl, sym, subst, ap, ◌∙◌, ◌⊎◌, inl, inr, ◌==◌, arith, cases_Bool, eqb-true, eq-eqb, ne_eqb, ℕ, ◌&&◌, not, length, Option, Some, None, AllByRecursion, Membership, Deployment, term_of, term_in, leader, SiteState, Streamed, Joining, Joiner, Ask, In, all-mono}
 use Rattle.log_laws.specs.Histories.{LogState, LogsHold, Entered, Streaming, Leadership, Line, Flow, FollowsIn, LeadsIn, HeldOk, AsksToJoin, CountedOk, SiteWaitingOk, KeepsOk, SiteOk, AckOk, ReportOk, MemberOk, JoinerOk, InWord, Wordless, ViewIn, StreamIn, Untaken, Took, Coming, Inert, NoStream, IsCounted, IsSlot, part, site_start, term_at, between, follows, line, flow, stream_ends_in, asked}
 use Rattle.log_laws.proofs.Kept.Moves.{LogsLater, Stays, JoinsOn}
 use Rattle.log_laws.proofs.Kept.Asked.{AtMost, at-most-none, at-most-one}
 use Rattle.log_laws.proofs.Kept.Laters.{part-later, slot-before, start-later, ack-later, report-later, counted-later, ask-later-on, waiting-later-on}
-use Rattle.log_laws.proofs.Plain.{follows-leader}
+use Rattle.log_laws.proofs.Plain.{follows-leader, one-and-others}
 
 -- ---- what is the same
 
@@ -101,13 +101,7 @@ module _ (S T : LogState) (H : LogsHold S) (f : LogsLater S T) where
   -- where at most slot i changes, and it counts whom it counted
   pub counted-from : (i : ℕ) → ((l : ℕ) → (l ≡ i → ⊥) → T.sites l ≡ S.sites l) → (c a stream_start : ℕ) (w : Membership)
       → (CountedBy S c a stream_start w i → CountedBy T c a stream_start w i) → IsCounted S c a stream_start w → IsCounted T c a stream_start w
-  counted-from i others c a stream_start w mine = counted-keeps c a stream_start w each
-    where
-      each : (l : ℕ) → CountedBy S c a stream_start w l → CountedBy T c a stream_start w l
-      each l k = elim (cases_eq l i) [
-        | inl e ↦ subst (CountedBy T c a stream_start w) (sym e) (mine (subst (CountedBy S c a stream_start w) e k))
-        | inr d ↦ counted_by-same S T c a stream_start w l (others l d) k
-      ]
+  counted-from i others c a stream_start w mine = counted-keeps c a stream_start w (one-and-others _ i mine (λ l d. counted_by-same S T c a stream_start w l (others l d)))
 
 -- ---- a member
 
@@ -202,19 +196,10 @@ module _ (S T : LogState) (H : LogsHold S) (f : LogsLater S T) (c : ℕ) (site :
 
       following : (l : ℕ) → follows D w c l ≡ true → FollowsIn (S.sites c) (line (site_start S c) (term_of w) (between S l c)) (S.logs.leadership (part S c) (term_of w))
           → FollowsIn (S.sites c) (line (site_start S c) (term_of w) (between T l c)) (T.logs.leadership (part S c) (term_of w))
-      following l e p = elim (cases_eq l i) [
-        | inl q ↦ subst (λ x. FollowsIn (S.sites c) (line (site_start S c) (term_of w) (between T x c)) (T.logs.leadership (part S c) (term_of w))) (sym q)
-            (mine (subst (λ x. follows D w c x ≡ true) q e)
-            (subst (λ x. FollowsIn (S.sites c) (line (site_start S c) (term_of w) (between S x c)) (S.logs.leadership (part S c) (term_of w))) q p))
-        | inr d ↦ rw (lines l d, same-leadership l d (follows-leader D w c l e).0) p
-      ]
+      following = one-and-others _ i mine (λ l d e p. rw (lines l d, same-leadership l d (follows-leader D w c l e).0) p)
 
       others : (l : ℕ) → follows D w c l ≡ false → line (site_start S c) (term_of w) (between S l c) ≡ [] → line (site_start S c) (term_of w) (between T l c) ≡ []
-      others l e p = elim (cases_eq l i) [
-        | inl q ↦ subst (λ x. line (site_start S c) (term_of w) (between T x c) ≡ []) (sym q)
-            (none (subst (λ x. follows D w c x ≡ false) q e) (subst (λ x. line (site_start S c) (term_of w) (between S x c) ≡ []) q p))
-        | inr d ↦ lines l d ∙ p
-      ]
+      others = one-and-others _ i none (λ l d e p. lines l d ∙ p)
 
   -- ---- a joiner
 
@@ -288,15 +273,7 @@ module _ (S T : LogState) (H : LogsHold S) (f : LogsLater S T) (c : ℕ) (site :
   }
 
   pub wordless-keeps : (j : Joining) → SameRun S T c → Wordless S c j → Wordless T c j
-  wordless-keeps j run k = record {
-    stream = k.stream;
-    loads = k.loads;
-    counts = k.counts;
-    tasks = k.tasks;
-    empty = site.log ∙ k.empty;
-    floor = site.floor ∙ k.floor;
-    never = never-keeps run k.never;
-  }
+  wordless-keeps j run k = search (site.log ∙ k.empty, site.floor ∙ k.floor, never-keeps run k.never)
 
   -- where what it looks at is given anew
   pub in_word-keeps-with : (w : Membership) (j : Joining) → SameRun S T c

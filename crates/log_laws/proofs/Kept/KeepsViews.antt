@@ -18,13 +18,7 @@ module _ (S T : LogState) (deployment : T.words.deployment ≡ S.words.deploymen
   )
 
   pub first_views-later : (c start : ℕ) (ws : List Membership) → FirstViews S c start ws → FirstViews T c start ws
-  first_views-later c start ws k = record {
-    first = k.first;
-    later = k.later;
-    views_are = k.views_are;
-    took = took_word start k.first k.took;
-    members = member_views-later c start (term_of k.first + 1) k.later k.members;
-  }
+  first_views-later c start ws k = search (took_word start k.first k.took, member_views-later c start (term_of k.first + 1) k.later k.members)
 
   pub run_views-later : (c : ℕ) (o : Option Membership) (ws : List Membership) → site_start T c ≡ site_start S c → RunViews S c o ws → RunViews T c o ws
   run_views-later c None ws e k = rw e (first_views-later c (site_start S c) ws k)

@@ -1,5 +1,5 @@
 -- One site changes, with what is under way to it: all that holds of the others holds after it.
-use Rattle.log_laws.proofs.Names.{List, ap, arith, false, inl, inr, refl, subst, sym, true, ◌≡◌, ◌++◌, ◌∙◌, ◌⊎◌, ◌<◌, ◌≤◌, [], cases_eq, AllByRecursion, None, Option, Some, is_some, length, map, ℕ, Entry, Membership, Actor, Agent, Director, Site, Letter, Waiting, becomes, Ask, Joiner, Joining, SiteState, Streamed, is_leader, term_of, set_at, all-mono, none-and-some, same-some, set-here, set-there, sent-nothing, Distinct, In, leader-view}
+use Rattle.log_laws.proofs.Names.{List, ap, arith, false, inl, inr, refl, subst, sym, true, ◌≡◌, ◌++◌, ◌∙◌, ◌⊎◌, ◌<◌, ◌≤◌, [], AllByRecursion, None, Option, Some, is_some, length, map, ℕ, Entry, Membership, Actor, Agent, Director, Site, Letter, Waiting, becomes, Ask, Joiner, Joining, SiteState, Streamed, is_leader, term_of, set_at, all-mono, none-and-some, same-some, set-here, set-there, sent-nothing, Distinct, In, leader-view, set-both}
 use Rattle.log_laws.specs.Histories.{AsksToJoin, BeginsAt, Coming, CountedOk, Flow, Follows, ForeignOk, LogsHold, InWord, IsCounted, IsSlot, JoinerOk, KeepsOk, LogState, MemberOk, Inert, SiteLetterOk, StreamIn, StreamedOk, Streaming, Took, Untaken, ViewIn, SiteWaitingOk, Wordless, asked, between, stream_ends_in, flow, follows, line, part, site_start, term_at, log_at}
 use Rattle.log_laws.proofs.Kept.Asked.{AsksLess, at-most-none, at-most-one}
 use Rattle.log_laws.proofs.Kept.Keeps.{CountedBy, SameFrom, SiteStays, Uncounted, counted-from, still-same}
@@ -7,6 +7,7 @@ use Rattle.log_laws.proofs.Kept.Laters.{letter-later, streamed-later}
 use Rattle.log_laws.proofs.Kept.Moves.{LogsGo, LogsLater, Unentered}
 use Rattle.log_laws.proofs.Kept.Grown.{grown-reach, enters-same}
 use Rattle.log_laws.proofs.Kept.Steady.{SiteGoesOn, Steady, goes-on-same, shifted, steady-asks, steady-counted, steady-holds, steady-joiner, steady-joins, steady-keeps, steady-later, steady-member, steady-leaderships}
+use Rattle.log_laws.proofs.Plain.{one-and-others}
 
 -- the state in which the site of slot i is this one, with these channels, with what is pending, and with the streams that were taken
 abbrev pub with-site : LogState → ℕ → SiteState → (Actor → Actor → List Letter) → (ℕ → List Waiting) → (ℕ → ℕ → Option Streaming) → LogState
@@ -36,21 +37,12 @@ module _ (S : LogState) (H : LogsHold S) (i : ℕ) (s : SiteState) (ch : Actor �
 
   pub takes-steady : Steady S ch (set_at S.sites i s) st
   takes-steady = record {
-    sites = λ c. elim (cases_eq c i) [
-      | inl e ↦ subst (λ z. SiteGoesOn (S.sites z) (set_at S.sites i s z)) (sym e) (subst (SiteGoesOn (S.sites i)) (sym (set-here S.sites i s)) k.goes)
-      | inr n ↦ subst (SiteGoesOn (S.sites c)) (sym (there c n)) (goes-on-same (S.sites c))
-    ];
+    sites = set-both (λ c x. SiteGoesOn (S.sites c) x) S.sites i s k.goes (λ c n. goes-on-same (S.sites c));
     agents = k.agents;
     told = k.told;
     director = k.director;
-    streamed = λ c t x is. elim (cases_eq c i) [
-      | inl e ↦ subst (λ z. st z t ≡ Some x) (sym e) (k.stays t x (subst (λ z. S.logs.streamed z t ≡ Some x) e is))
-      | inr n ↦ k.streamed c t n ∙ is
-    ];
-    fresh = λ c t x is. elim (cases_eq c i) [
-      | inl e ↦ subst (λ z. (S.logs.streamed z t ≡ Some x) ⊎ Unentered S.logs z x.start) (sym e) (k.fresh t x (subst (λ z. st z t ≡ Some x) e is))
-      | inr n ↦ inl (sym (k.streamed c t n) ∙ is)
-    ];
+    streamed = one-and-others _ i k.stays (λ c n t x is. k.streamed c t n ∙ is);
+    fresh = one-and-others _ i k.fresh (λ c n t x is. inl (sym (k.streamed c t n) ∙ is));
   }
 
   -- who was counted is, by this site and by others
@@ -58,10 +50,8 @@ module _ (S : LogState) (H : LogsHold S) (i : ℕ) (s : SiteState) (ch : Actor �
   takes-counted c a stream_start w h = counted-from S (with-site S i s ch pend st) H (steady-later S ch (set_at S.sites i s) pend st H takes-steady) i there c a stream_start w (k.counted c a stream_start w) h
 
   takes-uncounted : (l c a : ℕ) → Uncounted S l c a → Uncounted (with-site S i s ch pend st) l c a
-  takes-uncounted l c a h = elim (cases_eq l i) [
-    | inl e ↦ subst (λ z. Uncounted (with-site S i s ch pend st) z c a) (sym e) (k.uncounted c a (subst (λ z. Uncounted S z c a) e h))
-    | inr n ↦ λ j is. h j (rw (there l n) at is)
-  ]
+  takes-uncounted l c a =
+      one-and-others (λ l. Uncounted S l c a → Uncounted (with-site S i s ch pend st) l c a) i (k.uncounted c a) (λ l n h j is. h j (rw (there l n) at is)) l
 
   -- All holds after it, where this holds of that slot.
   pub takes-holds :
@@ -73,35 +63,17 @@ module _ (S : LogState) (H : LogsHold S) (i : ℕ) (s : SiteState) (ch : Actor �
       → ((t : ℕ) (x : Streaming) → st i t ≡ Some x → StreamedOk (with-site S i s ch pend st) i t x)
       → LogsHold (with-site S i s ch pend st)
   takes-holds member joiner keeps letters foreign streamed = steady-holds S ch (set_at S.sites i s) pend st H takes-steady
-      (λ c w up none h. elim (cases_eq c i) [
-        | inl e ↦ subst (λ z. MemberOk T z w) (sym e) (member w (subst (λ z. (S.sites z).joining ≡ None) e none) (subst (λ z. MemberOk S z w) e h))
-        | inr n ↦ steady-member S ch (set_at S.sites i s) pend st H takes-steady c (still c n) (λ l a t. ap (line a t) (k.others (Site l) c n)) w h
-      ])
-      (λ c j is. elim (cases_eq c i) [
-        | inl e ↦ subst (λ z. JoinerOk T z j) (sym e) (joiner j (ap (λ x. x.joining) (sym (set-here S.sites i s)) ∙ subst (λ z. (set_at S.sites i s z).joining ≡ Some j) e is))
-        | inr n ↦ steady-joiner S ch (set_at S.sites i s) pend st H takes-steady c (still c n) (λ t x own _. sym (k.streamed c t n) ∙ own)
-            (λ l. from c n l) (λ stream_start w. takes-counted c (site_start S c) stream_start w) j is
-      ])
-      (λ c up h. elim (cases_eq c i) [
-        | inl e ↦ subst (KeepsOk T) (sym e) (keeps (subst (KeepsOk S) e h))
-        | inr n ↦ kept c n h
-      ])
-      (λ c none. elim (cases_eq c i) [
-        | inl e ↦ let up = subst (λ z. 0 < site_start S z) (sym e) k.up in absurd (omega (arith, up, none))
-        | inr n ↦ (there c n, k.pending c n)
-      ])
-      (λ l c slot. elim (cases_eq c i) [
-        | inl e ↦ subst (λ z. AllByRecursion (SiteLetterOk T l z) (ch (Site l) (Site z))) (sym e) (letters l (subst (IsSlot S) e slot))
-        | inr n ↦ rw (k.others (Site l) c n) (all-mono (SiteLetterOk S l c) (SiteLetterOk T l c) (λ x. to-other l c n x) (between S l c) (H.letters l c slot))
-      ])
-      (λ from c. elim (cases_eq c i) [
-        | inl e ↦ subst (λ z. AllByRecursion (ForeignOk S z from) (ch from (Site z))) (sym e) (foreign from)
-        | inr n ↦ rw (k.others from c n) (H.foreign from c)
-      ])
-      (λ c t x is. elim (cases_eq c i) [
-        | inl e ↦ subst (λ z. StreamedOk T z t x) (sym e) (streamed t x (subst (λ z. st z t ≡ Some x) e is))
-        | inr n ↦ other-stream c t x n (sym (k.streamed c t n) ∙ is)
-      ])
+      (one-and-others _ i (λ w up. member w) (λ c n w up none.
+      steady-member S ch (set_at S.sites i s) pend st H takes-steady c (still c n) (λ l a t. ap (line a t) (k.others (Site l) c n)) w))
+      (one-and-others _ i (λ j is. joiner j (ap (λ x. x.joining) (sym (set-here S.sites i s)) ∙ is)) (λ c n.
+      steady-joiner S ch (set_at S.sites i s) pend st H takes-steady c (still c n) (λ t x own _. sym (k.streamed c t n) ∙ own)
+      (from c n) (takes-counted c (site_start S c))))
+      (one-and-others _ i (λ up. keeps) (λ c n up. kept c n))
+      (one-and-others _ i (λ none. let up = k.up in absurd (omega (arith, up, none))) (λ c n none. (there c n, k.pending c n)))
+      (λ l. one-and-others _ i (letters l) (λ c n slot.
+      rw (k.others (Site l) c n) (all-mono (SiteLetterOk S l c) (SiteLetterOk T l c) (to-other l c n) (between S l c) (H.letters l c slot))))
+      (λ from. one-and-others _ i (foreign from) (λ c n. rw (k.others from c n) (H.foreign from c)))
+      (one-and-others _ i streamed (λ c n t x is. other-stream c t x n (sym (k.streamed c t n) ∙ is)))
     where
       T : LogState
       T = with-site S i s ch pend st

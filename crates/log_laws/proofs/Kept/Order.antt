@@ -1,8 +1,8 @@
 -- A turn whose messages are put in order: what holds after it as they were sent, holds then.
-use Rattle.log_laws.proofs.Names.{◌≡◌, Bool, true, false, List, [], ◌∷◌, ◌++◌, append-nil, append_assoc, refl, sym, subst, ap, ◌∙◌, ◌==◌, eqb-true, eqb-false, fun_ext, filter-append, ℕ, filter, find, Option, Some, None, if◌then◌else◌, AllByRecursion, Actor, Director, Client, Agent, Site, Scanner, Database, Deployment, same, Letter, Sends, Turn, ◌▸◌, only, SiteState, Ask, ordered, order_of, of_order, takes_asks, takes_first_ask, can_take, sent, all-append, all-behind, all-if, all-mono, filter-all, channel-holds, in_order, all-order}
-use Rattle.log_laws.specs.Histories.{LogState, Logs, LogsHold, SiteLetterOk, ForeignOk, ToldOk, site_start, term_at, between, agent_to_site, line, flow, stream_ends_in, asks_in, asks_waiting, asks_of_term, asked}
+use Rattle.log_laws.proofs.Names.{◌≡◌, Bool, true, false, List, [], ◌∷◌, ◌++◌, append-nil, append_assoc, refl, sym, subst, ap, ◌∙◌, ◌==◌, eqb-true, eqb-false, fun_ext, filter-append, ℕ, filter, find, Option, Some, None, if◌then◌else◌, AllByRecursion, Actor, Director, Client, Agent, Site, Scanner, Database, Deployment, same, Letter, Sends, Turn, ◌▸◌, only, SiteState, Ask, ordered, order_of, of_order, takes_asks, takes_first_ask, can_take, sent, all-append, all-behind, all-if, all-mono, filter-all, channel-holds, in_order, all-order, flat_map-append}
+use Rattle.log_laws.specs.Histories.{LogState, Logs, LogsHold, SiteLetterOk, ForeignOk, ToldOk, site_start, term_at, between, agent_to_site, line, flow, stream_ends_in, asks_in, asks_waiting, asks_of_term, asked, ask_of, end_of, flow_of, line_of}
 use Rattle.log_laws.proofs.Kept.Moves.{after_site, NoStreamStart, Turns}
-use Rattle.log_laws.proofs.Plain.{line-append, flow-append, ends-append, asks-append, line-order, flow-order, ends-order, asks-order}
+use Rattle.log_laws.proofs.Plain.{line-order, flow-order, ends-order, asks-order}
 use Rattle.log_laws.proofs.Kept.Asked.{at-most-is}
 use Rattle.log_laws.proofs.Kept.KeepsViews.{leaves-same}
 use Rattle.log_laws.proofs.Kept.Inert.{logs_moved, channels-hold}
@@ -29,16 +29,16 @@ order-holds S i s out G plain H = channels-hold T ch H
     (record {
       words = channel-holds T.words ch (λ x y. refl) (λ x. refl) H.words;
       lines = λ l c up. sent-two S i s out (λ b. in_order (out b)) G (λ j xs ys. line (site_start T c) (term_at T c) ys ≡ line (site_start T c) (term_at T c) xs) (Site c)
-          (same-behind (line (site_start T c) (term_at T c)) (line-append (site_start T c) (term_at T c)) (between S i c) (out (Site c))
+          (same-behind (line (site_start T c) (term_at T c)) (flat_map-append (line_of (site_start T c) (term_at T c))) (between S i c) (out (Site c))
           (line-order (site_start T c) (term_at T c) (out (Site c))))
           (λ j other. refl) l;
       flows = λ l c up. sent-two S i s out (λ b. in_order (out b)) G (λ j xs ys. flow (site_start T c) (term_at T c) ys ≡ flow (site_start T c) (term_at T c) xs) (Site c)
-          (same-behind (flow (site_start T c) (term_at T c)) (flow-append (site_start T c) (term_at T c)) (between S i c) (out (Site c))
+          (same-behind (flow (site_start T c) (term_at T c)) (flat_map-append (flow_of (site_start T c) (term_at T c))) (between S i c) (out (Site c))
           (flow-order (site_start T c) (term_at T c) (out (Site c)) (plain c)))
           (λ j other. refl) l;
       ends = λ l c up. sent-two S i s out (λ b. in_order (out b)) G
           (λ j xs ys. stream_ends_in (site_start T c) (term_at T c) xs ≡ [] → stream_ends_in (site_start T c) (term_at T c) ys ≡ []) (Site c)
-          (λ e. same-behind (stream_ends_in (site_start T c) (term_at T c)) (ends-append (site_start T c) (term_at T c)) (between S i c) (out (Site c))
+          (λ e. same-behind (stream_ends_in (site_start T c) (term_at T c)) (flat_map-append (end_of (site_start T c) (term_at T c))) (between S i c) (out (Site c))
           (ends-order (site_start T c) (term_at T c) (out (Site c))) ∙ e)
           (λ j other e. e) l;
       leaves = λ c. leaves-same (site_start T c) (agent_to_site T c) (agent_to_site T c) refl;
@@ -62,7 +62,7 @@ order-holds S i s out G plain H = channels-hold T ch H
 
     asks : (c l t : ℕ) → asks_in t (ch (Site c) (Site l)) ≡ asks_in t (between T c l)
     asks c l t = sent-two S i s out (λ b. in_order (out b)) G (λ j xs ys. asks_in t ys ≡ asks_in t xs) (Site l)
-        (same-behind (asks_in t) (asks-append t) (between S i l) (out (Site l)) (asks-order t (out (Site l)))) (λ j other. refl) c
+        (same-behind (asks_in t) (flat_map-append (ask_of t)) (between S i l) (out (Site l)) (asks-order t (out (Site l)))) (λ j other. refl) c
 
     in-prefix : (P : Letter → Type 0) (xs ys : List Letter) → AllByRecursion P (xs ++ ys) → AllByRecursion P xs
     in-prefix P [] ys k = tt

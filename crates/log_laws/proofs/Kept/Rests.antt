@@ -1,11 +1,11 @@
 -- Turns of a site in which its log and its term stay: what it counts, acknowledges and has on disk may change.
 use Rattle.log_laws.proofs.Names.{◌≡◌, ◌<◌, ◌≤◌, true, false, List, [], ◌∷◌, ◌++◌, refl, sym, subst, ap, ◌∙◌, ◌⊎◌, inl, inr, append-nil, arith, fun_ext, ℕ, map, length, Option, Some, None, AllByRecursion, Membership, Actor, Director, Client, Agent, Site, Scanner, Deployment, term_of, Letter, Sends, no_sends, Turn, sending, Waiting, SiteState, Streamed, Joining, Joiner, is_leader, sent, set_at, In, Distinct, not-both, in-none, in-map, in-map-from, all-append, all-mono, none-and-some, same-some, set-both, leader-same, leader-view}
 use Rattle.volt_wire.specs.declared.message.Msg.TheVariants as msg
-use Rattle.log_laws.specs.Histories.{LogState, Entered, Streaming, Leadership, Flow, LogsHold, SiteOk, BeginsAt, SiteWaitingOk, ReportOk, AsksToJoin, agent_to_site, IsSlot, AckOk, CountedOk, IsCounted, HeldOk, MemberOk, JoinerOk, ViewIn, StreamIn, Inert, Coming, KeepsOk, ViewsOk, ForeignOk, LoadsOk, ToldOk, SiteLetterOk, JoinsIn, line_in, flow_in, ask_in, line_of, flow_of, ask_of, asks_waiting, asks_of_term, line, flow, stream_ends_in, asks_in, asked, follows, FollowsIn, part, site_start, log_at, term_at, between}
+use Rattle.log_laws.specs.Histories.{LogState, Entered, Streaming, Leadership, Flow, LogsHold, SiteOk, BeginsAt, SiteWaitingOk, ReportOk, AsksToJoin, agent_to_site, IsSlot, AckOk, CountedOk, IsCounted, HeldOk, MemberOk, JoinerOk, ViewIn, StreamIn, Inert, Coming, KeepsOk, ViewsOk, ForeignOk, LoadsOk, ToldOk, SiteLetterOk, JoinsIn, line_in, flow_in, ask_in, line_of, flow_of, ask_of, asks_waiting, asks_of_term, line, flow, stream_ends_in, asks_in, asked, follows, FollowsIn, part, site_start, log_at, term_at, between, end_of}
 use Rattle.log_laws.proofs.Kept.Moves.{after_site, LogsLater, LogsGo, NoStreamStart, JoinsOn, SameLeaderships}
 use Rattle.log_laws.proofs.Kept.Grown.{grown-reach, enters-same}
 use Rattle.log_laws.proofs.Kept.Laters.{ack-later, report-later, ask-later, counted-later, letter-later, waiting-later-with, loads-later, entered-later, streamed-later, leaderships-later, unleds-later}
-use Rattle.log_laws.proofs.Plain.{line-same, flow-same, ends-same, asks-same, line-none, flow-none, asks-none, line-plain, flow-plain, asks-plain}
+use Rattle.log_laws.proofs.Plain.{flat-none, flat-same, if-empty}
 use Rattle.log_laws.proofs.Kept.KeepsViews.{views-keeps-with, leaves-same}
 use Rattle.log_laws.proofs.Kept.Plumbing.{GoesFrom, words-later, words-after, sent-either}
 
@@ -145,18 +145,18 @@ module _ (S : LogState) (H : LogsHold S) (states : ℕ → SiteState) (i : ℕ) 
 
   lines : (start term j c : ℕ) → line start term (between T j c) ≡ line start term (between S j c)
   lines start term j c = sent-either S i (S.sites i) out S.logs (λ j ls. line start term ls ≡ line start term (between S j c)) (Site c)
-      (line-same start term (between S i c) (out (Site c)) (line-none start term (out (Site c))
-      (all-mono Bare (λ l. line_of start term l ≡ []) (λ l k. line-plain start term l k.0) (out (Site c)) (plain-out c)))) (λ j n. refl) j
+      (flat-same (line_of start term) (between S i c) (out (Site c)) (flat-none (line_of start term) (out (Site c))
+      (all-mono Bare (λ l. line_of start term l ≡ []) (λ l k. if-empty _ _ k.0) (out (Site c)) (plain-out c)))) (λ j n. refl) j
 
   flows : (start term j c : ℕ) → flow start term (between T j c) ≡ flow start term (between S j c)
   flows start term j c = sent-either S i (S.sites i) out S.logs (λ j ls. flow start term ls ≡ flow start term (between S j c)) (Site c)
-      (flow-same start term (between S i c) (out (Site c)) (flow-none start term (out (Site c))
-      (all-mono Bare (λ l. flow_of start term l ≡ []) (λ l k. flow-plain start term l k.1) (out (Site c)) (plain-out c)))) (λ j n. refl) j
+      (flat-same (flow_of start term) (between S i c) (out (Site c)) (flat-none (flow_of start term) (out (Site c))
+      (all-mono Bare (λ l. flow_of start term l ≡ []) (λ l k. if-empty _ _ k.1) (out (Site c)) (plain-out c)))) (λ j n. refl) j
 
   asks-under : (term j c : ℕ) → asks_in term (between T j c) ≡ asks_in term (between S j c)
   asks-under term j c = sent-either S i (S.sites i) out S.logs (λ j ls. asks_in term ls ≡ asks_in term (between S j c)) (Site c)
-      (asks-same term (between S i c) (out (Site c)) (asks-none term (out (Site c))
-      (all-mono Bare (λ l. ask_of term l ≡ []) (λ l k. asks-plain term l k.2) (out (Site c)) (plain-out c)))) (λ j n. refl) j
+      (flat-same (ask_of term) (between S i c) (out (Site c)) (flat-none (ask_of term) (out (Site c))
+      (all-mono Bare (λ l. ask_of term l ≡ []) (λ l k. if-empty _ _ k.2) (out (Site c)) (plain-out c)))) (λ j n. refl) j
 
   askeds : (c l term : ℕ) → asked T c l term ≡ asked S c l term
   askeds c l term = ap (λ xs. xs ++ asks_waiting c term (S.sites l).waiting ++ asks_waiting c term (S.pending l) ++ asks_of_term c term (S.sites l)) (asks-under term c l)
@@ -165,7 +165,7 @@ module _ (S : LogState) (H : LogsHold S) (states : ℕ → SiteState) (i : ℕ) 
       → stream_ends_in (site_start S c) (term_of w) (between S l c) ≡ [] → stream_ends_in (site_start S c) (term_of w) (between T l c) ≡ []
   ends-from c l w joins decided away none = sent-either S i (S.sites i) out S.logs
       (λ l ls. Inert S c w l ⊎ (follows S.words.deployment w c l ≡ false) → stream_ends_in (site_start S c) (term_of w) (between S l c) ≡ [] → stream_ends_in (site_start S c) (term_of w) ls ≡ []) (Site c)
-      (λ q e. ends-same (site_start S c) (term_of w) (between S i c) (out (Site c)) (says.ended c w joins decided q) ∙ e) (λ l n q e. e) l away none
+      (λ q e. flat-same (end_of (site_start S c) (term_of w)) (between S i c) (out (Site c)) (says.ended c w joins decided q) ∙ e) (λ l n q e. e) l away none
 
   -- ---- who is counted
 
@@ -260,15 +260,7 @@ module _ (S : LogState) (H : LogsHold S) (states : ℕ → SiteState) (i : ℕ) 
     }
 
     view-rests : (o : Option Membership) → (S.sites c).view ≡ o → ViewIn S c j o → ViewIn T c (flagged j k) o
-    view-rests None view v = record {
-      stream = v.stream;
-      loads = v.loads;
-      counts = v.counts;
-      tasks = v.tasks;
-      empty = v.empty;
-      floor = same-counts.0 ∙ v.floor;
-      never = v.never;
-    }
+    view-rests None view v = search (same-counts.0 ∙ v.floor)
     view-rests (Some w) view v = let decided = (H.words.history.took_ok (site_start S c) w v.took).0 in record {
       took = v.took;
       lines = λ l. lines (site_start S c) (term_of w) l c ∙ v.lines l;
@@ -281,14 +273,7 @@ module _ (S : LogState) (H : LogsHold S) (states : ℕ → SiteState) (i : ℕ) 
     }
 
     joiner-rests : JoinerOk S c j → JoinerOk T c k
-    joiner-rests o = subst (JoinerOk T c) (sym r.same) (record {
-      runs = o.runs;
-      unentered = o.unentered;
-      told = r.told;
-      based = r.based;
-      firm = same-counts.1 ∙ o.firm;
-      view = view-rests (S.sites c).view refl o.view;
-    })
+    joiner-rests o = subst (JoinerOk T c) (sym r.same) (search (same-counts.1 ∙ o.firm, r.told, r.based, view-rests (S.sites c).view refl o.view))
 
   -- ---- what a site keeps
 

@@ -33,20 +33,7 @@ pub record SiteGoesOn (s t : SiteState) : Type 0 where
   pub loaded : (k : Joining) → t.joining ≡ Some k → (j : Joining) × (s.joining ≡ Some j) × (j.is_based ≡ true → k.is_based ≡ true)
 
 pub goes-on-same : (s : SiteState) → SiteGoesOn s s
-goes-on-same s = record {
-  start = refl;
-  greatest = refl;
-  earlier = refl;
-  view = refl;
-  acks = refl;
-  reports = refl;
-  held = refl;
-  waiting = refl;
-  log = omega arith;
-  member = λ e. e;
-  joins = λ j e. (j, e);
-  loaded = λ k e. (k, e, λ l. l);
-}
+goes-on-same s = search arith
 
 -- All sites go on, agents' channels stay, and so does each stream that was taken.
 pub record Steady (S : LogState) (ch : Actor → Actor → List Letter) (f : ℕ → SiteState) (st : ℕ → ℕ → Option Streaming) : Type 0 where

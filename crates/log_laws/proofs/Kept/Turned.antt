@@ -1,11 +1,11 @@
 -- Turns of one site by which the history of logs grows: what holds of the other slots, of messages and of what was loaded stays so.
-use Rattle.log_laws.proofs.Names.{◌≡◌, ◌<◌, List, [], ◌++◌, refl, sym, subst, ap, ◌∙◌, ◌⊎◌, inl, inr, ◌==◌, arith, cases_eq, ℕ, ◌≤◌, length, filter, map, Option, Some, None, AllByRecursion, Membership, Actor, Agent, Site, term_of, host_of_slot, Letter, Waiting, SiteState, Joining, Joiner, Ask, set_at, In, Distinct, all-from, all-at, all-append, all-mono, in-left, in-right, in-map, filter-in, eqb-same, set-here, set-there, set-both}
+use Rattle.log_laws.proofs.Names.{◌≡◌, ◌<◌, List, [], ◌++◌, refl, sym, subst, ap, ◌∙◌, ◌⊎◌, inl, inr, ◌==◌, arith, ℕ, ◌≤◌, length, filter, map, Option, Some, None, AllByRecursion, Membership, Actor, Agent, Site, term_of, host_of_slot, Letter, Waiting, SiteState, Joining, Joiner, Ask, set_at, In, Distinct, all-from, all-at, all-append, all-mono, in-left, in-right, in-map, filter-in, eqb-same, set-here, set-there, set-both}
 use Rattle.volt_wire.specs.declared.message.Msg.TheVariants as msg
 use Rattle.word_laws.specs.Histories as word
-use Rattle.log_laws.specs.Histories.{LogState, LogsHold, Entered, Streaming, Leadership, EnteredOk, StreamedOk, LeadershipOk, UnledOk, SiteOk, KeepsOk, MemberOk, JoinerOk, InWord, Coming, ViewsOk, LoadsOk, ForeignOk, AckOk, ReportOk, CountedOk, HeldOk, SiteLetterOk, SiteWaitingOk, AsksToJoin, EndOk, MeantFor, IsCounted, IsSlot, ToldOk, AskedOk, QueuedLoadedOk, epoch_base, part, site_start, term_at, between, agent_to_site, line, flow, stream_ends_in, ask_of, wait_of, asks_in, asks_waiting, asks_kept, asks_of_term, asked}
+use Rattle.log_laws.specs.Histories.{LogState, LogsHold, Entered, Streaming, Leadership, EnteredOk, StreamedOk, LeadershipOk, UnledOk, SiteOk, KeepsOk, MemberOk, JoinerOk, InWord, Coming, ViewsOk, LoadsOk, ForeignOk, AckOk, ReportOk, CountedOk, HeldOk, SiteLetterOk, SiteWaitingOk, AsksToJoin, EndOk, MeantFor, IsCounted, IsSlot, ToldOk, AskedOk, QueuedLoadedOk, epoch_base, part, site_start, term_at, between, agent_to_site, line, flow, stream_ends_in, ask_of, wait_of, asks_in, asks_waiting, asks_kept, asks_of_term, asked, end_of, flow_of}
 use Rattle.log_laws.proofs.Kept.Moves.{SiteRises, site-stays, LogsLater, EntersNow}
 use Rattle.log_laws.proofs.Kept.Laters.{been-later, ack-later, report-later, ask-later, counted-later, loaded-later, all_loaded-later, end-later, told-later, asked-later, queued-later, stays, letter-later-with, waiting-later-with}
-use Rattle.log_laws.proofs.Plain.{in-flat, flow-same, ends-same}
+use Rattle.log_laws.proofs.Plain.{in-flat, flat-same, one-and-others}
 use Rattle.log_laws.proofs.Kept.Asked.{AtMost, at-most-is, at-most-both, at-most-same, at-most-none}
 use Rattle.log_laws.proofs.Kept.Plumbing.{words-later}
 use Rattle.log_laws.proofs.Kept.Terms.{running-slot, took-decided}
@@ -64,10 +64,7 @@ turned-later S i s ch en re rc goes entered now reach = record {
 pub said-same : {A : Type 0} (f : List Letter → A) (S : LogState) (i : ℕ) (ch : Actor → Actor → List Letter) (new : ℕ → List Letter)
     → ((c : ℕ) → ch (Site i) (Site c) ≡ between S i c ++ new c) → ((a c : ℕ) → (a ≡ i → ⊥) → ch (Site a) (Site c) ≡ between S a c)
     → (a c : ℕ) → f (between S i c ++ new c) ≡ f (between S i c) → f (ch (Site a) (Site c)) ≡ f (between S a c)
-said-same f S i ch new mine theirs a c same = elim (cases_eq a i) [
-  | inl e ↦ subst (λ z. f (ch (Site z) (Site c)) ≡ f (between S z c)) (sym e) (ap f (mine c) ∙ same)
-  | inr n ↦ ap f (theirs a c n)
-]
+said-same f S i ch new mine theirs a c same = one-and-others (λ a. f (ch (Site a) (Site c)) ≡ f (between S a c)) i (ap f (mine c) ∙ same) (λ a n. ap f (theirs a c n)) a
 
 -- What must be so of it. The site sent these to others.
 pub record Turned (S : LogState) (i : ℕ) (s : SiteState) (ch : Actor → Actor → List Letter) (en : ℕ → ℕ → Option Entered) (re : ℕ → ℕ → Option Leadership) (rc : ℕ → ℕ → ℕ)
@@ -112,18 +109,15 @@ module _ (S : LogState) (H : LogsHold S) (i : ℕ) (s : SiteState) (ch : Actor �
   -- ---- messages
 
   flows-same : (a c start t : ℕ) → flow start t (ch (Site a) (Site c)) ≡ flow start t (between S a c)
-  flows-same a c start t = said-same (flow start t) S i ch new F.mine F.theirs a c (flow-same start t (between S i c) (new c) (F.flows c start t))
+  flows-same a c start t = said-same (flow start t) S i ch new F.mine F.theirs a c (flat-same (flow_of start t) (between S i c) (new c) (F.flows c start t))
 
   ends-are-same : (a c start t : ℕ) → stream_ends_in start t (ch (Site a) (Site c)) ≡ stream_ends_in start t (between S a c)
-  ends-are-same a c start t = said-same (stream_ends_in start t) S i ch new F.mine F.theirs a c (ends-same start t (between S i c) (new c) (F.ends c start t))
+  ends-are-same a c start t = said-same (stream_ends_in start t) S i ch new F.mine F.theirs a c (flat-same (end_of start t) (between S i c) (new c) (F.ends c start t))
 
   -- an ask that is somewhere
   ask-kept : (a c t x : ℕ) → IsSlot S c → In x (asked S a c t) → AsksToJoin S (part S c) a t x → AsksToJoin T (part S c) a t x
-  ask-kept a c t x slot is k = elim (cases_eq a i) [
-    | inl e ↦ subst (λ z. AsksToJoin T (part S c) z t x) (sym e)
-        (F.joins c t x slot (subst (λ z. In x (asked S z c t)) e is) (subst (λ z. AsksToJoin S (part S c) z t x) e k))
-    | inr n ↦ ask-later S T H F.later (part S c) a t x (λ w j. (j.0, ap (λ z. z.joining) (there a n) ∙ j.1, ap (λ z. z.view) (there a n) ∙ j.2)) k
-  ]
+  ask-kept a c t x slot = one-and-others (λ a. In x (asked S a c t) → AsksToJoin S (part S c) a t x → AsksToJoin T (part S c) a t x) i (F.joins c t x slot)
+      (λ a n is. ask-later S T H F.later (part S c) a t x (λ w j. (j.0, ap (λ z. z.joining) (there a n) ∙ j.1, ap (λ z. z.view) (there a n) ∙ j.2))) a
 
   end-kept : (a c : ℕ) (l : Letter) → MeantFor S c l → EndOk S a c l → EndOk T a c l
   end-kept a c l r k = end-later S T H F.later a c l r k (subst (AllByRecursion _) (sym (flows-same a c l.start l.term))) (λ x e start. inl e)
@@ -141,11 +135,9 @@ module _ (S : LogState) (H : LogsHold S) (i : ℕ) (s : SiteState) (ch : Actor �
           (in-left x (asks_in l.term (between S a c)) (asks_waiting a l.term (S.sites c).waiting) all))
 
   pub letters-turned : ((c : ℕ) → IsSlot S c → AllByRecursion (SiteLetterOk T i c) (new c)) → (a c : ℕ) → IsSlot S c → AllByRecursion (SiteLetterOk T a c) (ch (Site a) (Site c))
-  letters-turned more a c slot = elim (cases_eq a i) [
-    | inl e ↦ subst (λ z. AllByRecursion (SiteLetterOk T z c) (ch (Site z) (Site c))) (sym e)
-        (subst (AllByRecursion (SiteLetterOk T i c)) (sym (F.mine c)) (all-append (SiteLetterOk T i c) (between S i c) (new c) (letters-kept i c slot) (more c slot)))
-    | inr n ↦ subst (AllByRecursion (SiteLetterOk T a c)) (sym (F.theirs a c n)) (letters-kept a c slot)
-  ]
+  letters-turned more a c slot = one-and-others (λ a. AllByRecursion (SiteLetterOk T a c) (ch (Site a) (Site c))) i
+      (rw (F.mine c) (all-append (SiteLetterOk T i c) (between S i c) (new c) (letters-kept i c slot) (more c slot)))
+      (λ a n. rw (F.theirs a c n) (letters-kept a c slot)) a
 
   -- what waits
   pub waiting-turned : (c : ℕ) → IsSlot S c → site_start T c ≡ site_start S c → KeepsOk S c → AllByRecursion (SiteWaitingOk T c) (S.sites c).waiting
@@ -175,12 +167,9 @@ module _ (S : LogState) (H : LogsHold S) (i : ℕ) (s : SiteState) (ch : Actor �
   -- ---- other slots
 
   asked-less : (c l t : ℕ) → (c ≡ i → ⊥) → AtMost (asked S c l t) (asked T c l t)
-  asked-less c l t other = elim (cases_eq l i) [
-    | inl e ↦ subst (λ z. AtMost (asked S c z t) (asked T c z t)) (sym e) mine
-    | inr n ↦ at-most-is (asked S c l t) (asked T c l t)
-        (ap (λ z. asks_in t z ++ asks_waiting c t (T.sites l).waiting ++ asks_waiting c t (S.pending l) ++ asks_of_term c t (T.sites l)) (F.theirs c l other)
-        ∙ ap (λ z. asks_in t (between S c l) ++ asks_waiting c t z.waiting ++ asks_waiting c t (S.pending l) ++ asks_of_term c t z) (there l n))
-  ]
+  asked-less c l t other = one-and-others (λ l. AtMost (asked S c l t) (asked T c l t)) i mine (λ l n. at-most-is (asked S c l t) (asked T c l t)
+      (ap (λ z. asks_in t z ++ asks_waiting c t (T.sites l).waiting ++ asks_waiting c t (S.pending l) ++ asks_of_term c t (T.sites l)) (F.theirs c l other)
+      ∙ ap (λ z. asks_in t (between S c l) ++ asks_waiting c t z.waiting ++ asks_waiting c t (S.pending l) ++ asks_of_term c t z) (there l n))) l
     where
       asked-is : asked T c i t ≡ asks_in t (between S c i) ++ asks_waiting c t (S.sites i).waiting ++ asks_waiting c t (S.pending i) ++ asks_of_term c t s
       asked-is = ap (λ z. asks_in t z ++ asks_waiting c t (T.sites i).waiting ++ asks_waiting c t (S.pending i) ++ asks_of_term c t (T.sites i)) (F.theirs c i other)
@@ -361,8 +350,8 @@ module _ (S : LogState) (H : LogsHold S) (i : ℕ) (s : SiteState) (ch : Actor �
       → LogsHold T
   turned-holds words site views letters entered apart leaderships unled = record {
     words = words;
-    sites = λ c. elim (cases_eq c i) [ inl e ↦ subst (SiteOk T) (sym e) site | inr n ↦ site-other c n ];
-    views = λ c. elim (cases_eq c i) [ inl e ↦ subst (ViewsOk T) (sym e) views | inr n ↦ views-other c n ];
+    sites = one-and-others (SiteOk T) i site site-other;
+    views = one-and-others (ViewsOk T) i views views-other;
     letters = letters-turned letters;
     foreign = λ from c. all-mono (ForeignOk S c from) (ForeignOk T c from) (foreign-later S T H F.later c from) (ch from (Site c)) (F.foreign from c);
     loads = loads-turned;

@@ -3,7 +3,7 @@ use Rattle.log_laws.proofs.Names.{◌≡◌, ◌<◌, Bool, true, false, List, [
 use Rattle.volt_wire.specs.declared.message.Msg.TheVariants as msg
 use Rattle.log_laws.specs.Histories.{LogState, LogsHold, SiteLetterOk, ForeignOk, SiteWaitingOk, IsSlot, MeantFor, site_start, term_at, agent_to_site, line, line_of, flow, flow_of, stream_ends_in, end_of, line_in, flow_in, view_in, SiteWaitingFrom, view_of, asks_of_term, log_at}
 use Rattle.log_laws.proofs.Kept.{after_site, site_popped, left, LogsGo, grown-same, enters-same, AsksLess, at-most-same, popped-less, left-less, parted-asks, waits-asks, LeavesViews, leaves-same, leaves-first, after-same, taken-either, words-popped, ChannelsOk, channels-same, SiteStill, inert-holds, site-as-is, site-waiting, logs_moved, still-holds, running-slot}
-use Rattle.log_laws.proofs.Plain.{line-other, flow-other, views-other, line-plain, flow-plain, views-plain, both-empty}
+use Rattle.log_laws.proofs.Plain.{views-other, both-empty, for-other, if-empty}
 
 -- ---- whether a site takes a message
 
@@ -151,24 +151,24 @@ module _ (S : LogState) (H : LogsHold S) (from : Actor) (i : ℕ) (l : Letter) (
   -- one of which nothing is looked at, by what is in it and who sent it
   pub pops-plain : BringsNothing S i from l → LogsHold (site_popped S from i)
   pops-plain k = pops-with (λ up. record {
-    line = λ j e. line-plain (site_start S i) (term_at S i) l (k.line j e);
-    flow = λ j e. flow-plain (site_start S i) (term_at S i) l (k.flow j e);
-    view = λ own. views-plain (site_start S i) l (k.view own);
+    line = λ j e. if-empty _ _ (k.line j e);
+    flow = λ j e. if-empty _ _ (k.flow j e);
+    view = λ own. if-empty _ _ (k.view own);
   })
 
   -- one of a kind of which nothing is looked at
   pub pops-kind : BringsNone l → LogsHold (site_popped S from i)
   pops-kind k = pops-with (λ up. record {
-    line = λ _ _. line-plain (site_start S i) (term_at S i) l (plain-line l k);
-    flow = λ _ _. flow-plain (site_start S i) (term_at S i) l (plain-flow l k);
-    view = λ own. views-plain (site_start S i) l (plain-view l k);
+    line = λ _ _. if-empty _ _ (plain-line l k);
+    flow = λ _ _. if-empty _ _ (plain-flow l k);
+    view = λ own. if-empty _ _ (plain-view l k);
   })
 
   -- one for another start
   pub pops-other : (l.start ≡ site_start S i → ⊥) → LogsHold (site_popped S from i)
   pops-other other = pops-with (λ up. record {
-    line = λ _ _. line-other (site_start S i) (term_at S i) l (λ e _. other e);
-    flow = λ _ _. flow-other (site_start S i) (term_at S i) l (λ e _. other e);
+    line = λ _ _. for-other (site_start S i) (term_at S i) l (line_in l.body) (λ e _. other e);
+    flow = λ _ _. for-other (site_start S i) (term_at S i) l (flow_in l.past l.body) (λ e _. other e);
     view = λ own. views-other (site_start S i) l other;
   })
 
@@ -179,9 +179,9 @@ module _ (S : LogState) (H : LogsHold S) (from : Actor) (i : ℕ) (l : Letter) (
   -- one of another term
   pub pops-term : (l.term ≡ term_at S i → ⊥) → 0 < l.term → LogsHold (site_popped S from i)
   pops-term other timed = pops-with (λ up. record {
-    line = λ _ _. line-other (site_start S i) (term_at S i) l (λ _ e. other e);
-    flow = λ _ _. flow-other (site_start S i) (term_at S i) l (λ _ e. other e);
-    view = λ own. views-plain (site_start S i) l (untimed (subst (λ a. S.words.channel a (Site i) ≡ l ∷ ls) own is));
+    line = λ _ _. for-other (site_start S i) (term_at S i) l (line_in l.body) (λ _ e. other e);
+    flow = λ _ _. for-other (site_start S i) (term_at S i) l (flow_in l.past l.body) (λ _ e. other e);
+    view = λ own. if-empty _ _ (untimed (subst (λ a. S.words.channel a (Site i) ≡ l ∷ ls) own is));
   })
     where
       -- words have no term
@@ -265,9 +265,9 @@ module _ (S : LogState) (H : LogsHold S) (from : Actor) (i : ℕ) (l : Letter) (
         (λ _. all-append (SiteWaitingOk S i) (S.sites i).waiting (record { from = from; letter = l } ∷ []) ((H.sites i).keeps up).waiting ((high.0, waiting-from up e), tt))
         (λ z. absurd (omega (arith, up, z))))
         (λ _. record {
-          line = λ _ _. line-other (site_start S i) (term_at S i) l (λ _ z. let h = high.1 in absurd (omega (arith, h, z)));
-          flow = λ _ _. flow-other (site_start S i) (term_at S i) l (λ _ z. let h = high.1 in absurd (omega (arith, h, z)));
-          view = λ own. views-plain (site_start S i) l (no-view own);
+          line = λ _ _. for-other (site_start S i) (term_at S i) l (line_in l.body) (λ _ z. let h = high.1 in absurd (omega (arith, h, z)));
+          flow = λ _ _. for-other (site_start S i) (term_at S i) l (flow_in l.past l.body) (λ _ z. let h = high.1 in absurd (omega (arith, h, z)));
+          view = λ own. if-empty _ _ (no-view own);
         })
         (waits-asks S from i l ls is S.logs);
     grown = grown-same S.words.deployment i keeping S.logs;

@@ -1,11 +1,11 @@
 -- A slot's site stops, or a start of it begins to run: what holds, holds after it.
-use Rattle.log_laws.proofs.Names.{◌≡◌, ◌<◌, Bool, true, false, List, [], ◌∷◌, ◌++◌, refl, sym, subst, ap, ◌∙◌, inl, inr, ◌==◌, arith, ◌⊎◌, cases_eq, and_parts, nat_tests, ℕ, ◌≤◌, ◌&&◌, if◌then◌else◌, max, nat_le, nat_lt, length, Some, None, AllByRecursion, Membership, Actor, Director, Client, Agent, Site, Scanner, Deployment, host_of_slot, is_slot_of, slots, Shown, same, Letter, Sends, Turn, becomes, sending, no_sends, only, open_letter, SiteState, site_term, new_joiner, new_joining, stopped_site, stops_others, on_stop, stops_so, sent, rest, set_at, starts_in, In, all-if, all-mono, not-both, same-some, set-both, set-here, set-there, set-twice}
+use Rattle.log_laws.proofs.Names.{◌≡◌, ◌<◌, Bool, true, false, List, [], ◌∷◌, ◌++◌, refl, sym, subst, ap, ◌∙◌, inl, inr, ◌==◌, arith, ◌⊎◌, and_parts, nat_tests, ℕ, ◌≤◌, ◌&&◌, if◌then◌else◌, max, nat_le, nat_lt, length, Some, None, AllByRecursion, Membership, Actor, Director, Client, Agent, Site, Scanner, Deployment, host_of_slot, is_slot_of, slots, Shown, same, Letter, Sends, Turn, becomes, sending, no_sends, only, open_letter, SiteState, site_term, new_joiner, new_joining, stopped_site, stops_others, on_stop, stops_so, sent, rest, set_at, starts_in, In, all-if, all-mono, not-both, same-some, set-both, set-here, set-there, set-twice}
 use Rattle.volt_wire.specs.declared.message.Msg.TheVariants as msg
 use Rattle.cluster_model.specs.Site.{on_start}
 use Rattle.log_laws.specs.Histories.{LogState, Logs, Entered, Streaming, LogsHold, IsCounted, SiteLetterOk, ForeignOk, IsSlot, SiteOk, KeepsOk, ViewsOk, JoinerOk, FirstViews, Starting, part, site_start, log_at, term_at, between, agent_to_site, views, asks_in, asks_waiting, asks_of_term}
 use Rattle.log_laws.proofs.Kept.{SiteRises, site-stays, Enters, after_site, site_popped, LogsLater, SiteLater, Stays, SameLeaderships, JoinsOn, grown-same, grown-reach, enters-same, stays, same-leaderships, ask-later-on, letter-later-with, end-later-if, loads-later, entered-later, streamed-later, leaderships-later, AtMost, AsksLess, asks-at, at-most-both, at-most-same, SiteStays, still-same, Uncounted, counted-from, site-keeps, keeps-later, foreign-later, first_views-later, views-keeps, words-later, goes-same, here, popped-here, popped-after, first-after, Silent, Unwatched, inert-after}
 use Rattle.log_laws.proofs.Kept.Moves.{Grown}
-use Rattle.log_laws.proofs.Plain.{if-none}
+use Rattle.log_laws.proofs.Plain.{if-none, one-and-others}
 use Rattle.log_laws.proofs.Messages.Pops.{pops-kind, pops-stopped}
 
 -- a site that is as it was goes on
@@ -44,17 +44,11 @@ module _ (S : LogState) (H : LogsHold S) (i : ℕ) (s : SiteState) (ran : ℕ �
 
   -- starts that run on join on
   joins-on : (c : ℕ) → Stays S T c → 0 < site_start T c → JoinsOn S T c
-  joins-on c k up = elim (cases_eq c i) [
-    | inl e ↦ absurd (ended (subst (Stays S T) e k) (subst (λ z. 0 < site_start T z) e up))
-    | inr d ↦ λ w j. (j.0, ap (λ z. z.joining) (other c d) ∙ j.1, ap (λ z. z.view) (other c d) ∙ j.2)
-  ]
+  joins-on = one-and-others _ i (λ k up. absurd (ended k up)) (λ c d k up w j. (j.0, ap (λ z. z.joining) (other c d) ∙ j.1, ap (λ z. z.view) (other c d) ∙ j.2))
 
   -- a start that ran and runs is of another slot
   ran-on : (c a : ℕ) → 0 < a → In a (S.logs.ran c) → site_start T c ≡ a → T.sites c ≡ S.sites c
-  ran-on c a some was is = elim (cases_eq c i) [
-    | inl e ↦ absurd (ended (subst (Stays S T) e (stays S T H new.later c a some was is)) (subst (λ z. 0 < site_start T z) e (rw is some)))
-    | inr d ↦ other c d
-  ]
+  ran-on = one-and-others _ i (λ a some was is. absurd (ended (stays S T H new.later i a some was is) (rw is some))) (λ c d a some was is. other c d)
 
   counts : (c a stream_start : ℕ) (w : Membership) → IsCounted S c a stream_start w → IsCounted T c a stream_start w
   counts c a stream_start w = counted-from S T H new.later i other c a stream_start w (λ k up joining view.
@@ -90,10 +84,7 @@ module _ (S : LogState) (H : LogsHold S) (i : ℕ) (s : SiteState) (ran : ℕ �
       still = still-same (S.sites c) (T.sites c) (other c d)
 
       uncounted : (l : ℕ) → Uncounted S l c (site_start S c) → Uncounted T l c (site_start S c)
-      uncounted l k j m = elim (cases_eq l i) [
-        | inl e ↦ absurd (subst (In j) (ap (λ z. (T.sites z).joiners) e ∙ ap (λ x. x.joiners) mine ∙ new.joiners) m)
-        | inr n ↦ k j (subst (λ x. In j x.joiners) (other l n) m)
-      ]
+      uncounted = one-and-others _ i (λ k j m. absurd (subst (In j) (ap (λ x. x.joiners) mine ∙ new.joiners) m)) (λ l n k j m. k j (subst (λ x. In j x.joiners) (other l n) m))
 
       keeps : 0 < site_start S c → KeepsOk S c → KeepsOk T c
       keeps up k = keeps-later S T H new.later c still (other c d) refl joins-on k
@@ -102,14 +93,9 @@ module _ (S : LogState) (H : LogsHold S) (i : ℕ) (s : SiteState) (ran : ℕ �
   pub renewed-holds : SiteOk T i → ViewsOk T i → LogsHold T
   renewed-holds site views = record {
     words = H.words;
-    sites = λ c. elim (cases_eq c i) [
-      | inl e ↦ subst (SiteOk T) (sym e) site
-      | inr d ↦ other-ok c d
-    ];
-    views = λ c. elim (cases_eq c i) [
-      | inl e ↦ subst (ViewsOk T) (sym e) views
-      | inr d ↦ views-keeps S T H new.later c (ap (λ x. x.start) (other c d)) (ap (λ x. x.view) (other c d)) (new.others c d) refl (λ s m. m) refl (H.views c)
-    ];
+    sites = one-and-others (SiteOk T) i site other-ok;
+    views = one-and-others (ViewsOk T) i views (λ c d.
+        views-keeps S T H new.later c (ap (λ x. x.start) (other c d)) (ap (λ x. x.view) (other c d)) (new.others c d) refl (λ s m. m) refl (H.views c));
     letters = λ j c slot. all-mono (SiteLetterOk S j c) (SiteLetterOk T j c) (λ l. letter-later-with S T H new.later j c l
         (λ a _ _. ask-later-on S T H new.later (part S c) j l.term a (joins-on j))
         (λ r e. end-later-if S T H new.later j c l r e (λ _ _ _ _ k. k) (λ x q _. inl q)))
@@ -162,10 +148,7 @@ module _ (S : LogState) (H : LogsHold S) (i : ℕ) (none : S.pending i ≡ []) (
     words = words-later S S.words.channel;
     ran = λ c a k. k;
     greatest = set-both (λ c x. (S.sites c).greatest ≤ x.greatest) S.sites i (stopped_so (S.sites i) stop contents plans) (omega arith) (λ c d. omega arith);
-    sites = λ c. elim (cases_eq c i) [
-      | inl e ↦ inr (inl (ap (λ z. (Q.sites z).start) e ∙ ap (λ x. x.start) gone))
-      | inr d ↦ inl (stays-same S Q c (set-there S.sites i (stopped_so (S.sites i) stop contents plans) c d))
-    ];
+    sites = one-and-others (SiteLater S Q) i (inr (inl (ap (λ x. x.start) gone))) (λ c d. inl (stays-same S Q c (set-there S.sites i (stopped_so (S.sites i) stop contents plans) c d)));
     entered = λ c t e k. k;
     entered_now = λ c t e k. inl k;
     streamed = λ c t x k. k;
@@ -268,13 +251,9 @@ module _ (S : LogState) (H : LogsHold S) (i : ℕ) (l : Letter) (ls : List Lette
     words = words-later P P.words.channel;
     ran = λ c b k. set-both (λ c x. In b (S.logs.ran c) → In b x) S.logs.ran i (a ∷ S.logs.ran i) (λ k. inr k) (λ c d k. k) c k;
     greatest = set-both (λ c x. (S.sites c).greatest ≤ x.greatest) S.sites i (new_joiner (S.sites i) a) (omega arith) (λ c d. omega arith);
-    sites = λ c. elim (cases_eq c i) [
-      | inl e ↦ subst (SiteLater P N) (sym e) (inr (inr (record {
-        fresh = λ k. starting.0 (subst (λ z. In z (S.logs.ran i)) (ap (λ x. x.start) fresh) k);
-        earlier = ap (λ x. x.earlier) fresh;
-      })))
-      | inr d ↦ inl (stays-same P N c (set-there S.sites i (new_joiner (S.sites i) a) c d))
-    ];
+    sites = one-and-others (SiteLater P N) i
+        (inr (inr (record { fresh = λ k. starting.0 (subst (λ z. In z (S.logs.ran i)) (ap (λ x. x.start) fresh) k); earlier = ap (λ x. x.earlier) fresh })))
+        (λ c d. inl (stays-same P N c (set-there S.sites i (new_joiner (S.sites i) a) c d)));
     entered = λ c t e k. k;
     entered_now = λ c t e k. inl k;
     streamed = λ c t x k. k;

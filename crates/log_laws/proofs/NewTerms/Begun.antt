@@ -1,10 +1,10 @@
 -- A leader that has all reports begins its term: what holds, holds after it.
-use Rattle.log_laws.proofs.Names.{◌≡◌, ◌<◌, true, false, List, [], ◌∷◌, ◌++◌, append-nil, refl, sym, subst, ap, ◌∙◌, inl, inr, ◌==◌, true≢false, arith, cases_eq, ℕ, ◌≤◌, length, drop, Option, Some, None, AllByRecursion, list_any, list_all, Membership, Actor, Agent, Site, term_of, term_in, leader, Letter, Sends, SiteState, Scanning, Joining, Joiner, Reported, site_term, start_in_view, other_copies, longest, lacks, repair_to, sent, In, Prefix, none-and-some, same-some, all-mono, not-both, set-here, set-there, set-both, repair-all, repair_letter, prefix-length, prefix-refl, prefix-trans, grown}
-use Rattle.log_laws.specs.Histories.{LogState, Logs, Repairs, Entered, Leadership, LogsHold, IsSlot, WordOf, Last, known, EnteredOk, ReportOk, LeadershipOk, UnledOk, SiteOk, KeepsOk, MemberOk, JoinerOk, LeadsIn, FollowsIn, SiteLetterOk, MeantFor, IsCounted, AckOk, CountedOk, AsksToJoin, ForeignOk, SiteWaitingOk, JoinsIn, asks_of_term, part, site_start, log_at, term_at, between, follows, line}
+use Rattle.log_laws.proofs.Names.{◌≡◌, ◌<◌, true, false, List, [], ◌∷◌, ◌++◌, append-nil, refl, sym, subst, ap, ◌∙◌, inl, inr, ◌==◌, true≢false, arith, cases_eq, ℕ, ◌≤◌, length, drop, Option, Some, None, AllByRecursion, list_any, list_all, Membership, Actor, Agent, Site, term_of, term_in, leader, Letter, Sends, SiteState, Scanning, Joining, Joiner, Reported, site_term, start_in_view, other_copies, longest, lacks, repair_to, sent, In, Prefix, none-and-some, same-some, all-mono, not-both, set-here, set-there, set-both, repair-all, repair_letter, prefix-length, prefix-refl, prefix-trans, grown, flat_map-append}
+use Rattle.log_laws.specs.Histories.{LogState, Logs, Repairs, Entered, Leadership, LogsHold, IsSlot, WordOf, Last, known, EnteredOk, ReportOk, LeadershipOk, UnledOk, SiteOk, KeepsOk, MemberOk, JoinerOk, LeadsIn, FollowsIn, SiteLetterOk, MeantFor, IsCounted, AckOk, CountedOk, AsksToJoin, ForeignOk, SiteWaitingOk, JoinsIn, asks_of_term, part, site_start, log_at, term_at, between, follows, line, line_of}
 use Rattle.log_laws.proofs.Kept.{after_site, LogsLater, JoinsOn, grown-at, been-later, word_of-later, ack-later, counted-later, ask-later, reached-later, stays, leadership-later, unled-later, running-slot, same-word, some-term, entered-start, running-in, sent-here, sent-there, words-after, foreign-after, views-after, still-same, member-keeps-with, at-most-same, put_at, put-both, put-here, put-there, site_turned, turned-later, turned-holds, waiting-turned, pending-turned}
 use Rattle.log_laws.proofs.Kept.Moves.{Grown}
 use Rattle.log_laws.proofs.Kept.Turned.{Turned}
-use Rattle.log_laws.proofs.Plain.{line-same, line-append, repair-line, repair-line-other, repair-flow, repair-ends, start-in-view, follows-leader, leader-follows-none, leader-followed}
+use Rattle.log_laws.proofs.Plain.{repair-line, repair-line-other, repair-flow, repair-ends, start-in-view, follows-leader, leader-follows-none, leader-followed, flat-same, one-and-others}
 use Rattle.log_laws.proofs.NewTerms.Since.{since-unled, unled-above}
 use Rattle.log_laws.proofs.NewTerms.Beginning.{begun-by, begun_log, begun_leadership, leading-member, not-begun, reported, own-prefix, has-report, all-entered, begun-behind}
 
@@ -64,15 +64,7 @@ module _ (S : LogState) (H : LogsHold S) (i : ℕ) (w : Membership) (up : 0 < si
 
   later : LogsLater S T
   later = turned-later S i s ch S.logs.entered re S.logs.reach
-      (record {
-        start = refl;
-        earlier = refl;
-        greatest = omega arith;
-        log = prefix-length (log_at S i) (begun_log (S.sites i)) (own-prefix S H i w up none view leads unrepaired all);
-        term = omega arith;
-        member = λ e. e;
-        loaded = λ k e. (k, e, λ l. l);
-      })
+      (search (arith, prefix-length (log_at S i) (begun_log (S.sites i)) (own-prefix S H i w up none view leads unrepaired all)))
       (λ c t e is. is) (λ c t e is. inl is) (λ p t. omega arith)
 
   member : MemberOk S i w
@@ -95,14 +87,10 @@ module _ (S : LogState) (H : LogsHold S) (i : ℕ) (w : Membership) (up : 0 < si
   none-new c a t n = repair-line-other S.words.deployment (longest_site (S.sites i) scans scanning) c a t (S.sites i).reports
       (λ r is q start term. n r is q start (sym (ap term_in view) ∙ term))
 
-  line-mine : (c a t : ℕ) → line a t (new c) ≡ [] → line a t (ch (Site i) (Site c)) ≡ line a t (between S i c)
-  line-mine c a t e = ap (line a t) (sent-here S i s out G (Site c) ∙ ap (λ z. between S i c ++ z) (sends c)) ∙ line-same a t (between S i c) (new c) e
-
   line-there : (l c a t : ℕ) → (l ≡ i → line a t (new c) ≡ []) → line a t (ch (Site l) (Site c)) ≡ line a t (between S l c)
-  line-there l c a t e = elim (cases_eq l i) [
-    | inl q ↦ subst (λ z. line a t (ch (Site z) (Site c)) ≡ line a t (between S z c)) (sym q) (line-mine c a t (e q))
-    | inr n ↦ ap (line a t) (sent-there S i s out G l (Site c) n)
-  ]
+  line-there l c a t = one-and-others (λ l. (l ≡ i → line a t (new c) ≡ []) → line a t (ch (Site l) (Site c)) ≡ line a t (between S l c)) i
+      (λ e. ap (line a t) (sent-here S i s out G (Site c) ∙ ap (λ z. between S i c ++ z) (sends c)) ∙ flat-same (line_of a t) (between S i c) (new c) (e refl))
+      (λ l n e. ap (line a t) (sent-there S i s out G l (Site c) n)) l
 
   -- each goes to a start that has been in the term
   reached-new : (c : ℕ) (r : Reported) → In r (S.sites i).reports → r.slot ≡ c
@@ -157,7 +145,7 @@ module _ (S : LogState) (H : LogsHold S) (i : ℕ) (w : Membership) (up : 0 < si
         [],
         f.0,
         ap (line (site_start S c) (term_of w)) (sent-here S i s out G (Site c) ∙ ap (λ z. between S i c ++ z) (sends c))
-            ∙ line-append (site_start S c) (term_of w) (between S i c) (new c)
+            ∙ flat_map-append (line_of (site_start S c) (term_of w)) (between S i c) (new c)
             ∙ ap (λ z. z ++ line (site_start S c) (term_of w) (new c)) f.1
             ∙ n.3
             ∙ ap (λ z. Repairs z (drop z (begun_log (S.sites i))) ∷ []) position,
@@ -208,11 +196,8 @@ module _ (S : LogState) (H : LogsHold S) (i : ℕ) (w : Membership) (up : 0 < si
     flows = λ c start t. repair-flow S.words.deployment (longest_site (S.sites i) scans scanning) c start t (S.sites i).reports;
     ends = λ c start t. repair-ends S.words.deployment (longest_site (S.sites i) scans scanning) c start t (S.sites i).reports;
     agreed = λ h g. refl;
-    tells = λ c h. elim (cases_eq c i) [
-      | inl e ↦ subst (λ z. ch (Site z) (Agent h) ≡ S.words.channel (Site z) (Agent h)) (sym e)
-          (sent-here S i s out G (Agent h) ∙ ap (λ z. S.words.channel (Site i) (Agent h) ++ z) (inert h) ∙ append-nil (S.words.channel (Site i) (Agent h)))
-      | inr n ↦ sent-there S i s out G c (Agent h) n
-    ];
+    tells = one-and-others _ i (λ h. sent-here S i s out G (Agent h) ∙ ap (λ z. S.words.channel (Site i) (Agent h) ++ z) (inert h) ∙ append-nil (S.words.channel (Site i) (Agent h)))
+        (λ c n h. sent-there S i s out G c (Agent h) n);
     views = λ c _. refl;
     foreign = foreign-after S H i s out G later (λ c. subst (AllByRecursion (ForeignOk S c (Site i))) (sym (sends c))
         (repair-all S.words.deployment (longest_site (S.sites i) scans scanning) c (ForeignOk S c (Site i)) (S.sites i).reports (λ r is q. tt)));

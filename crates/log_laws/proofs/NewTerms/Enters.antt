@@ -4,7 +4,7 @@ use Rattle.volt_wire.specs.declared.message.Msg.TheVariants as msg
 use Rattle.log_laws.specs.Histories.{LogState, Logs, LogsHold, Entered, Streaming, IsSlot, known, EnteredOk, UnledOk, MemberOk, SiteOk, LeadsIn, FollowsIn, SiteLetterOk, AsksToJoin, HasBeen, HeldOk, ForeignOk, part, site_start, log_at, term_at, between, line, line_of, flow_of, end_of, asks_of_term, asked}
 use Rattle.log_laws.proofs.Kept.{after_site, site_popped, LogsLater, Stays, EntersNow, Turns, NoStreamStart, grown-reach, enters-later, been-later, stays, entered-later, same-leaderships, leaderships-later, AtMost, running-slot, some-term, some-start, words-after, words-popped, still-same, member-keeps, put_at, put-both, put-here, put-there, site_turned, turned-later, turned-holds, fresh-keeps, said-same}
 use Rattle.log_laws.proofs.Kept.Turned.{Turned}
-use Rattle.log_laws.proofs.Plain.{line-none, line-same, line-plain, flow-none, flow-plain, ends-none, ends-plain, if-none, leader-copy, start-in-view}
+use Rattle.log_laws.proofs.Plain.{if-none, leader-copy, start-in-view, flat-none, flat-same, if-empty}
 use Rattle.log_laws.proofs.NewTerms.Entering.{since-within, running-ran, entering, was-member, came, earlier-below, not-entered, not-streamed, not-led, behind, still, known-within, reach-within, others-within}
 use Rattle.log_laws.proofs.NewTerms.Taking.{no-line, later-word, popped-other, mine-taken, theirs-taken, tells-taken, foreign-taken, views-taken}
 
@@ -126,7 +126,7 @@ module _ (S : LogState) (H : LogsHold S) (h i : ℕ) (l : Letter) (w : Membershi
 
   line-there : (a c start t : ℕ) → line start t (ch (Site a) (Site c)) ≡ line start t (between S a c)
   line-there a c b t = said-same (line b t) S i ch new (mine-taken S H h i l w ls is start up out) (theirs-taken S H h i l w ls is start up out) a c
-      (line-same b t (between S i c) (new c) (line-none b t (new c) (says-all (λ x. line_of b t x ≡ []) c (λ _ _. line-plain b t (report_letter D (S.sites i) w c) refl))))
+      (flat-same (line_of b t) (between S i c) (new c) (flat-none (line_of b t) (new c) (says-all (λ x. line_of b t x ≡ []) c (λ _ _. if-empty _ _ refl))))
 
   -- an ask of it is one of an earlier start
   asks-gone : (c t a : ℕ) → IsSlot S c → In a (asked S i c t) → AsksToJoin S (part S c) i t a → AsksToJoin T (part S c) i t a
@@ -148,8 +148,8 @@ module _ (S : LogState) (H : LogsHold S) (h i : ℕ) (l : Letter) (w : Membershi
     later = later;
     mine = mine-taken S H h i l w ls is start up out;
     theirs = theirs-taken S H h i l w ls is start up out;
-    flows = λ c b t. flow-none b t (new c) (says-all (λ x. flow_of b t x ≡ []) c (λ _ _. flow-plain b t (report_letter D (S.sites i) w c) refl));
-    ends = λ c b t. ends-none b t (new c) (says-all (λ x. end_of b t x ≡ []) c (λ _ _. ends-plain b t (report_letter D (S.sites i) w c) refl));
+    flows = λ c b t. flat-none (flow_of b t) (new c) (says-all (λ x. flow_of b t x ≡ []) c (λ _ _. if-empty _ _ refl));
+    ends = λ c b t. flat-none (end_of b t) (new c) (says-all (λ x. end_of b t x ≡ []) c (λ _ _. if-empty _ _ refl));
     agreed = λ g k. refl;
     tells = tells-taken S H h i l w ls is start up out says.agents;
     views = λ c other. popped-other S H h i l w ls is start up c other _;

@@ -1,10 +1,10 @@
 -- A joiner takes its word, which doesn't count it: it asks its partition's leader to join.
-use Rattle.log_laws.proofs.Names.{◌≡◌, ◌<◌, Bool, true, false, List, [], ◌∷◌, ◌++◌, append-nil, refl, sym, subst, ap, ◌∙◌, ◌⊎◌, inl, inr, ◌==◌, arith, cases_eq, eqb-true, eqb-false, ℕ, ◌≤◌, filter, if◌then◌else◌, Option, Some, None, length, AllByRecursion, Membership, Actor, Agent, Site, Deployment, term_of, term_in, leader, same, Letter, Sends, Waiting, letter_in, sending, SiteState, Joining, Joiner, site_term, start_in_view, in_new_term, asks_to_join, sent, In, none-and-some, same-some, not-both, all-at, all-filter, in-cases, in-none, in-map-from, in-filter, only-one, set-here, set-there, set-both, same-true, leader-view}
+use Rattle.log_laws.proofs.Names.{◌≡◌, ◌<◌, Bool, true, false, List, [], ◌∷◌, ◌++◌, append-nil, refl, sym, subst, ap, ◌∙◌, ◌⊎◌, inl, inr, ◌==◌, arith, cases_eq, eqb-true, eqb-false, ℕ, ◌≤◌, filter, if◌then◌else◌, Option, Some, None, length, AllByRecursion, Membership, Actor, Agent, Site, Deployment, term_of, term_in, leader, same, Letter, Sends, Waiting, letter_in, sending, SiteState, Joining, Joiner, site_term, start_in_view, in_new_term, asks_to_join, sent, In, none-and-some, same-some, not-both, all-at, all-filter, in-cases, in-none, in-map-from, in-filter, only-one, set-here, set-there, set-both, same-true, leader-view, flat_map-append}
 use Rattle.volt_wire.specs.declared.message.Msg.TheVariants as msg
 use Rattle.log_laws.specs.Histories.{LogState, LogsHold, IsSlot, Inert, Untaken, Wordless, InWord, StreamIn, JoinerOk, SiteOk, ViewIn, SiteLetterOk, SiteWaitingFrom, SiteWaitingOk, AsksToJoin, HeldOk, CountedOk, ForeignOk, line_of, flow_of, end_of, part, site_start, term_at, between, line, flow, stream_ends_in, ask_in, ask_of, asks_in, wait_of, asks_waiting, asks_kept, asks_of_term, asked, follows, log_at}
 use Rattle.log_laws.proofs.Kept.{after_site, site_popped, LogsLater, Turns, NoStreamStart, grown-same, enters-same, ask-later, stays, entered-later, same-leaderships, leaderships-later, unleds-later, AtMost, at-most-both, at-most-same, at-most-none, running-slot, took-decided, some-term, some-start, still-same, member-keeps, words-after, words-popped, site_turned, turned-later, turned-holds, fresh-keeps, said-same}
 use Rattle.log_laws.proofs.Kept.Turned.{Turned}
-use Rattle.log_laws.proofs.Plain.{flat-in, line-none, line-same, line-plain, flow-none, flow-same, flow-plain, ends-none, ends-same, ends-plain, asks-append, asks-here, if-none, follows-leader, leader-follows, leader-copy, start-in-view}
+use Rattle.log_laws.proofs.Plain.{flat-in, asks-here, if-none, follows-leader, leader-follows, leader-copy, start-in-view, flat-none, flat-same, if-empty}
 use Rattle.log_laws.proofs.NewTerms.Entering.{running-ran}
 use Rattle.log_laws.proofs.NewTerms.Taking.{no-line, no-flow, no-end, first-word, popped-other, mine-taken, theirs-taken, tells-taken, foreign-taken, views-taken}
 
@@ -181,39 +181,31 @@ module _ (S : LogState) (H : LogsHold S) (h i : ℕ) (l : Letter) (w : Membershi
 
   later : LogsLater S T
   later = turned-later S i s ch S.logs.entered S.logs.leadership S.logs.reach
-      (record {
-        start = refl;
-        earlier = refl;
-        greatest = omega arith;
-        log = omega arith;
-        term = (let a = above in omega (arith, a));
-        member = λ e. e;
-        loaded = λ k e. (k, e, λ l. l);
-      })
+      (search (arith, above))
       (λ c t e is. is) (λ c t e is. inl is) (λ p t. omega arith)
 
   -- ---- what it sent says nothing but that it asks
 
   new-line : (c a t : ℕ) → line a t (new c) ≡ []
-  new-line c a t = line-none a t (new c) (asks-all i D s (λ x. line_of a t x ≡ []) (leader D w (part S i)) c (λ _ _. line-plain a t (ask_letter i D s c) refl))
+  new-line c a t = flat-none (line_of a t) (new c) (asks-all i D s (λ x. line_of a t x ≡ []) (leader D w (part S i)) c (λ _ _. if-empty _ _ refl))
 
   new-flow : (c a t : ℕ) → flow a t (new c) ≡ []
-  new-flow c a t = flow-none a t (new c) (asks-all i D s (λ x. flow_of a t x ≡ []) (leader D w (part S i)) c (λ _ _. flow-plain a t (ask_letter i D s c) refl))
+  new-flow c a t = flat-none (flow_of a t) (new c) (asks-all i D s (λ x. flow_of a t x ≡ []) (leader D w (part S i)) c (λ _ _. if-empty _ _ refl))
 
   new-ends : (c a t : ℕ) → stream_ends_in a t (new c) ≡ []
-  new-ends c a t = ends-none a t (new c) (asks-all i D s (λ x. end_of a t x ≡ []) (leader D w (part S i)) c (λ _ _. ends-plain a t (ask_letter i D s c) refl))
+  new-ends c a t = flat-none (end_of a t) (new c) (asks-all i D s (λ x. end_of a t x ≡ []) (leader D w (part S i)) c (λ _ _. if-empty _ _ refl))
 
   line-there : (a c start t : ℕ) → line start t (ch (Site a) (Site c)) ≡ line start t (between S a c)
   line-there a c b t = said-same (line b t) S i ch new (mine-taken S H h i l w ls is start up out) (theirs-taken S H h i l w ls is start up out) a c
-      (line-same b t (between S i c) (new c) (new-line c b t))
+      (flat-same (line_of b t) (between S i c) (new c) (new-line c b t))
 
   flow-there : (a c start t : ℕ) → flow start t (ch (Site a) (Site c)) ≡ flow start t (between S a c)
   flow-there a c b t = said-same (flow b t) S i ch new (mine-taken S H h i l w ls is start up out) (theirs-taken S H h i l w ls is start up out) a c
-      (flow-same b t (between S i c) (new c) (new-flow c b t))
+      (flat-same (flow_of b t) (between S i c) (new c) (new-flow c b t))
 
   ends-there : (a c start t : ℕ) → stream_ends_in start t (ch (Site a) (Site c)) ≡ stream_ends_in start t (between S a c)
   ends-there a c b t = said-same (stream_ends_in b t) S i ch new (mine-taken S H h i l w ls is start up out) (theirs-taken S H h i l w ls is start up out) a c
-      (ends-same b t (between S i c) (new c) (new-ends c b t))
+      (flat-same (end_of b t) (between S i c) (new c) (new-ends c b t))
 
   no-asks : (c t : ℕ) → asks_of_term c t s ≡ []
   no-asks c t = if-none (site_term s == t)
@@ -274,7 +266,7 @@ module _ (S : LogState) (H : LogsHold S) (h i : ℕ) (l : Letter) (w : Membershi
       ap (λ z. asks_in t (ch (Site i) (Site c)) ++ asks_waiting i t z.waiting ++ asks_waiting i t (S.pending c) ++ asks_of_term i t z) (there c other)
       ∙ ap (λ z. asks_in t z ++ asks_waiting i t (S.sites c).waiting ++ asks_waiting i t (S.pending c) ++ asks_of_term i t (S.sites c)) channel
       ∙ ap (λ z. z ++ asks_waiting i t (S.sites c).waiting ++ asks_waiting i t (S.pending c) ++ asks_of_term i t (S.sites c))
-      (asks-append t (between S i c) (ask_letter i D s c ∷ []) ∙ ap (λ z. asks_in t (between S i c) ++ (z ++ [])) (asks-here t (ask_letter i D s c) refl))
+      (flat_map-append (ask_of t) (between S i c) (ask_letter i D s c ∷ []) ∙ ap (λ z. asks_in t (between S i c) ++ (z ++ [])) (asks-here t (ask_letter i D s c) refl))
       ∙ empties (asks_in t (between S i c)) (asks_waiting i t (S.sites c).waiting) (asks_waiting i t (S.pending c)) (asks_of_term i t (S.sites c)) (none-asked c t sl low)
     where
       t : ℕ

@@ -172,15 +172,7 @@ module _ (w : World) (k : HasLogs w) where
       let q = runs-member (S.sites d) a.second in
       let m = (k.holds.sites c).member r.0 r.1 in
       let n = (k.holds.sites d).member q.0 q.1 in
-      record {
-        up = r.0;
-        up_too = q.0;
-        first = m.0;
-        second = n.0;
-        member = m.2;
-        member_too = n.2;
-        term = sym (view-term S k.holds c m.0 m.1) ∙ a.alike.term ∙ view-term S k.holds d n.0 n.1;
-      }
+      (search (r.0, q.0, m.0, n.0, m.2, n.2, sym (view-term S k.holds c m.0 m.1) ∙ a.alike.term ∙ view-term S k.holds d n.0 n.1))
 
   pub firm-in : (c d : ℕ) → AreCopies w c d → (S.sites d).firm ≤ length (log_at S c)
   firm-in c d a = let x = words-of c d a in firm-there S k.holds c d x.first x.second x.member x.member_too a.alike.part x.term

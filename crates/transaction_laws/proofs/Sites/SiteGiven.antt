@@ -84,7 +84,7 @@ module _ (S : LogState) (H : LogsHold S) (i : ℕ) (slot : IsSlot S i) (up : 0 <
     lines : is_leader S.words.deployment i s ≡ true → (0 < l.start) × (0 < l.term) → line_in l.body ≡ []
     lines authoritative some =
         let a = taken-here (site_start S i) (term_at S i) l take some.0 some.1 in
-        let here = line-empty (site_start S i) (term_at S i) (between S c i) (no-line authoritative c) l (subst (In l) (sym is) (inl refl)) in
+        let here = flat-each (line_of (site_start S i) (term_at S i)) (between S c i) (no-line authoritative c) l (subst (In l) (sym is) (inl refl)) in
         rw (for-true (site_start S i) (term_at S i) l a.0 a.1) at here
 
     letter : SiteLetterOk S c i l
