@@ -13,9 +13,7 @@ module _ (S : LogState) (agents : ℕ → AgentState) (channel : Actor → Actor
   pub asked-worded : (from : Actor) (l : Letter) → AskedOk S from l → AskedOk (worded S agents channel G) from l
   asked-worded (Agent h) l k = k
   asked-worded (Site c) l k = k
-  asked-worded Director l k = tt
-  asked-worded (Client n) l k = tt
-  asked-worded (Scanner x) l k = tt
+  asked-worded from l k = tt
 
   pub queued-worded : (q : Queued) → QueuedLoadedOk S q → QueuedLoadedOk (worded S agents channel G) q
   queued-worded (Job_ job) k = tt
@@ -38,10 +36,7 @@ asked-admission S (Agent g) l p j h term i = (elim l.body as
       ]
       | m ↦ λ k q. absurd q
     ]) p i
-asked-admission S (Site c) l p j h term i = absurd i
-asked-admission S Director l p j h term i = absurd i
-asked-admission S (Client n) l p j h term i = absurd i
-asked-admission S (Scanner x) l p j h term i = absurd i
+asked-admission S from l p j h term i = absurd i
 
 -- ---- a host's slots
 
@@ -56,7 +51,7 @@ all-slots D n c test all s = list_all-at test (slots_of_host D n) c all (filter-
 
 -- a message to an agent is taken
 pub loads-popped : (S : LogState) (from : Actor) (n : ℕ) → LoadsOk S → LoadsOk (record S { words = word.agent_popped S.words from n })
-loads-popped S from n k = record {
+loads-popped S from n k = let channel = took S.words.channel from (Agent n) in record {
   told = λ c h. took-all (ToldOk S c) S.words.channel from (Agent n) (Site c) (Agent h) (k.told c h);
   heard = k.heard;
   asked = λ h g. took-all (AskedOk S (Agent h)) S.words.channel from (Agent n) (Agent h) (Agent g) (k.asked h g);
@@ -64,9 +59,6 @@ loads-popped S from n k = record {
   queued = λ h. all-mono _ _ (λ q p. queued-worded S S.words.agents channel S.words.history q p) (S.words.agents h).initiating.queue (k.queued h);
   admitted = k.admitted;
 }
-  where
-    channel : Actor → Actor → List Letter
-    channel = took S.words.channel from (Agent n)
 
 -- What an agent has after its turn, and what it asks.
 pub record LoadsTurn (S : LogState) (n : ℕ) (a : AgentState) (out : Sends) (G : History) : Type 0 where
@@ -77,7 +69,7 @@ pub record LoadsTurn (S : LogState) (n : ℕ) (a : AgentState) (out : Sends) (G 
   pub admitted : (x : Admitted) → In x G.admitted → AllLoaded S (S.words.owner x.start) x.start
 
 pub loads-turned : (S : LogState) (n : ℕ) (a : AgentState) (out : Sends) (G : History) → LoadsOk S → LoadsTurn S n a out G → LoadsOk (agent_turned S n a out G)
-loads-turned S n a out G k t = record {
+loads-turned S n a out G k t = let T = agent_turned S n a out G in record {
   told = k.told;
   heard = λ h c. set-both (λ h x. 0 < x.start → is_in c x.loaded ≡ true → LoadedOk S c x.start) S.words.agents n a (λ u i. t.heard u c i) (λ h d u i. k.heard h c u i) h;
   asked = λ h g. sent-both (AllByRecursion (AskedOk S (Agent h))) S.words.channel n out h (Agent g)
@@ -90,6 +82,3 @@ loads-turned S n a out G k t = record {
       (set-both (λ h x. AllByRecursion (QueuedLoadedOk S) x.initiating.queue) S.words.agents n a t.queued (λ h d. k.queued h) h);
   admitted = t.admitted;
 }
-  where
-    T : LogState
-    T = agent_turned S n a out G

@@ -6,7 +6,7 @@ use Rattle.word_laws.specs.Histories as word
 use Rattle.word_laws.proofs.Moves as word_moves
 use Rattle.word_laws.proofs.Laters.{waiting-later}
 use Rattle.word_laws.proofs.Turns.{tells}
-use Rattle.log_laws.specs.Histories.{LogState, AskedOk, LogsHold}
+use Rattle.log_laws.specs.Histories.{LogState, AskedOk, LogsHold, asked}
 use Rattle.log_laws.proofs.Agents.AgentSends.{NoView, NoAdmit, stops-plain, stops-none}
 use Rattle.log_laws.proofs.Agents.Views.{agent_turned}
 use Rattle.log_laws.proofs.Agents.Admits.{asked-worded}
@@ -20,9 +20,7 @@ use Rattle.log_laws.proofs.Agents.AgentHandlers.{BringsDecided, may-join, first-
 pub first-asks : (S : LogState) (from : Actor) (n : ℕ) (l : Letter) (ls : List Letter) → Rest S → S.words.channel from (Agent n) ≡ l ∷ ls → AskedOk (agent_heard S from n) from l
 first-asks S (Agent h) n l ls r is = (subst (AllByRecursion (AskedOk S (Agent h))) is (r.loads.asked h n)).0
 first-asks S (Site c) n l ls r is = (subst (AllByRecursion (AskedOk S (Site c))) is (r.loads.told c n)).0
-first-asks S Director n l ls r is = tt
-first-asks S (Client c) n l ls r is = tt
-first-asks S (Scanner x) n l ls r is = tt
+first-asks S from n l ls r is = tt
 
 -- a message that brings a word may leave its place at once
 pub decided-pops : (S : LogState) (from : Actor) (n : ℕ) (l : Letter) (ls : List Letter) → word.WordsHold S.words → S.words.channel from (Agent n) ≡ l ∷ ls → BringsDecided from l
@@ -32,10 +30,7 @@ decided-pops S (Agent k) n l ls h is b = (elim l.body as (λ m. S.words.channel 
       | msg.Decided w ↦ λ e b. pops S.words k n (record l { body = msg.Decided w }) ls e tt h
       | m ↦ λ e b. absurd b
     ]) is b
-decided-pops S Director n l ls h is b = absurd b
-decided-pops S (Client c) n l ls h is b = absurd b
-decided-pops S (Site c) n l ls h is b = absurd b
-decided-pops S (Scanner x) n l ls h is b = absurd b
+decided-pops S from n l ls h is b = absurd b
 
 -- what follows a handler, when the agent has said its word
 concluded-agent : (S : LogState) (n : ℕ) (t : Turn AgentState) → AgentHandler S n t → AgentHandler S n (t ▸ concludes S.words.deployment n)
@@ -48,6 +43,7 @@ handler-waited : (E : Database) (S : LogState) (n stamp : ℕ) (from : Actor) (l
     → AgentWaitingFrom S.words n from l → AskedOk S from l
     → AgentHandler S n (unless_stopped E S.words.deployment n stamp (S.words.agents n) from l)
 handler-waited E S n stamp from l h r up w asked =
+    let running : (S.words.agents n).start == 0 ≡ false = grind (arith, nat_tests, up) in
     let D = S.words.deployment in
     let a = S.words.agents n in
     subst (AgentHandler S n) (sym (unless-running E D n stamp a from l running))
@@ -55,9 +51,6 @@ handler-waited E S n stamp from l h r up w asked =
     (concluded-agent S n (agent_handler E D n stamp a from l ▸ tells n a.own)
     (first-agent S n r up E stamp from l asked (λ b. h)
     (calm-event E S.words n stamp from l h up (waiting-brings S.words n from l w) (asked-waiting S.words n from l w) (may-join S n r up from l asked)))))
-  where
-    running : (S.words.agents n).start == 0 ≡ false
-    running = grind (arith, nat_tests, up)
 
 -- what waits and what it asks stay as they are behind a turn
 module _ (S : LogState) (n : ℕ) (t : Turn AgentState) (r : AgentHandler S n t) where
@@ -181,14 +174,11 @@ module _ (E : Database) (S : LogState) (n stamp : ℕ) (from : Actor) (l : Lette
   takes-agent (Runs_ e c) = subst (AgentHandler P n) (sym e) (runs-agent (arrival a.start (term_in a.decided) l) refl)
 
   running-agent : (o : Environment) → AgentHandler P n (agent_turn E S.words.deployment n stamp a from l o)
-  running-agent o = elim (turn-cases E S.words.deployment n stamp a from l o running) [
+  running-agent o = let running : (a.start == 0) ≡ false = grind (arith, nat_tests, up) in elim (turn-cases E S.words.deployment n stamp a from l o running) [
     | inl e ↦ subst (AgentHandler P n) (sym e)
         (stops-agent (stops_with_host S.words.deployment n a.start) refl (λ g. refl) (stops_with_host-say S.words.deployment n a.start))
     | inr e ↦ subst (AgentHandler P n) (sym e) (takes-agent (takes-cases E S.words.deployment n stamp a from l running))
   ]
-    where
-      running : (a.start == 0) ≡ false
-      running = grind (arith, nat_tests, up)
 
 -- ---- the whole
 
@@ -294,10 +284,7 @@ stopped-memory S n from l ls h z host is some =
       where
         taken : start_taken (S.words.agents n) Director s ≡ s
         taken = rw z refl
-    started (Client c) s l e b u = absurd (not-some u)
-    started (Agent g) s l e b u = absurd (not-some u)
-    started (Site i) s l e b u = absurd (not-some u)
-    started (Scanner i) s l e b u = absurd (not-some u)
+    started from s l e b u = absurd (not-some u)
 
 -- A message of an agent that is there, with any share of the environment's: what holds, holds after its turn.
 pub agent-event : (E : Database) (S : LogState) (n stamp : ℕ) (from : Actor) (l : Letter) (ls : List Letter) (o : Environment) → S.words.channel from (Agent n) ≡ l ∷ ls
@@ -310,7 +297,5 @@ agent-event E S n stamp from l ls o is host memory h = elim (cases_eq (word.agen
   where
     stopped : (o : Environment) → word.agent_start S.words n ≡ 0 → ((answered : ℕ) → o ≡ NoMemory answered → nat_lt 0 (start_after (S.words.agents n) from l) ≡ true)
         → AgentGoes S n from (agent_turn E S.words.deployment n stamp (S.words.agents n) from l o)
-    stopped NoFault z m = stopped-takes E S n stamp from l ls h z host is
-    stopped (DiskFails answered) z m = stopped-takes E S n stamp from l ls h z host is
     stopped (NoMemory answered) z m = stopped-memory S n from l ls h z host is (m answered refl)
-    stopped (DisksShow shown failed) z m = stopped-takes E S n stamp from l ls h z host is
+    stopped x z m = stopped-takes E S n stamp from l ls h z host is

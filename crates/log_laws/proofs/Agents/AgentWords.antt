@@ -1,9 +1,9 @@
 -- An agent starts, takes its first word as a joiner, or decides a word: what holds besides that of words, holds after it.
-use Rattle.log_laws.proofs.Names.{◌≡◌, ◌<◌, ◌≤◌, Bool, true, false, List, [], ◌∷◌, ◌++◌, append_assoc, append-nil, refl, sym, subst, ap, ◌∙◌, ◌⊎◌, inl, inr, ◌==◌, arith, true≢false, and_parts, cases_Bool, eqb-true, ℕ, filter, ◌&&◌, not, if◌then◌else◌, nat_lt, Option, Some, None, AllByRecursion, Membership, Agent, Site, slots, host_of_slot, start_of, is_slot_of, is_in, is_down, term_of, Letter, Sends, Turn, becomes, ◌▸◌, open_letter, letter_to, AgentState, Hears, Off, new_agent, initiates, with_phase, takes_word, decides_word, may_decide, In, names, all-mono, all-append, some-here, none-and-some, in-none, is_member-start, WordsTurn, handler-grows, agent-there, decides-handler, with_began, start-grows, Decides, decides-state, decides-sends, may_decide-cases, tells-state, concludes, concludes-not, concludes-is}
+use Rattle.log_laws.proofs.Names.{◌≡◌, ◌<◌, ◌≤◌, Bool, true, false, List, [], ◌∷◌, ◌++◌, append_assoc, append-nil, refl, sym, subst, ap, ◌∙◌, ◌⊎◌, inl, inr, ◌==◌, arith, true≢false, and_parts, cases_Bool, eqb-true, ℕ, filter, ◌&&◌, not, if◌then◌else◌, nat_lt, Option, Some, None, AllByRecursion, Membership, Agent, Site, slots, host_of_slot, start_of, is_slot_of, is_in, is_down, term_of, Letter, Sends, Turn, becomes, ◌▸◌, open_letter, letter_to, AgentState, new_agent, initiates, takes_word, decides_word, may_decide, In, names, all-mono, all-append, some-here, none-and-some, in-none, is_member-start, WordsTurn, handler-grows, agent-there, decides-handler, with_began, start-grows, Decides, decides-state, decides-sends, may_decide-cases, tells-state, concludes, concludes-not, concludes-is, cond_both}
 use Rattle.volt_wire.specs.declared.message.Msg.TheVariants as msg
 use Rattle.word_laws.specs.Histories as word
 use Rattle.word_laws.proofs.Turns.{tells}
-use Rattle.log_laws.specs.Histories.{LogState, LoadedOk, AskedOk, ForeignOk, sent_term, site_start, views}
+use Rattle.log_laws.specs.Histories.{LogState, LoadedOk, AskedOk, ForeignOk, sent_term, site_start, views, asked}
 use Rattle.log_laws.proofs.Agents.AgentSends.{NoView, NoAdmit, Tells, tells-says}
 use Rattle.log_laws.proofs.Agents.Decided.{decides-above}
 use Rattle.log_laws.proofs.Agents.Views.{agent_turned, Unsent, SentUpTo, ViewsIn, views-in, views-later, views-plainly, views-start, views-next}
@@ -113,14 +113,10 @@ module _ (S : LogState) (n : ℕ) (v : Membership) (h : word.WordsHold S.words) 
 
   -- its sites that have loaded stay
   same-loaded : decides.state.loaded ≡ was.loaded
-  same-loaded = choice (initiates n was (Some v))
+  same-loaded = cond_both (initiates n was (Some v)) _ _ (λ (z : AgentState). z.loaded ≡ was.loaded) (λ _. refl) (λ _. refl)
     where
       decided : AgentState
       decided = record was { decided = Some v; pending = filter (λ p. not (is_in p.target v.lost)) was.pending }
-
-      choice : (c : Bool) → (if c then with_phase decided (Hears []) else with_phase decided Off).loaded ≡ was.loaded
-      choice true = refl
-      choice false = refl
 
   abbrev channel-to : ℕ → List Letter
   channel-to c = S.words.channel (Agent n) (Site c)

@@ -184,7 +184,7 @@ module _ (S : LogState) (c h : ℕ) (a : AgentState) (ls : List Letter) (k : Vie
   pub views-next : (w : Membership) (old : ℕ) → 0 < a.start → In w S.words.history.decided → start_of_slot S.words.deployment w c ≡ Some a.start
       → In a.start (S.words.history.began h)
       → a.decided ≡ Some w → SentUpTo S c a.start old ls → old < term_of w → ViewsIn S c h a (ls ++ letter_to a.start (msg.View w) ∷ [])
-  views-next w old up decided start began is before above = record {
+  views-next w old up decided start began is before above = let top : sent_term a ≡ term_of w = rw is refl in record {
     plain = all-append PlainView ls more k.plain ((refl, up), tt);
     began = λ s i. elim i [
       | inl j ↦ k.began s (inl (subst (In s) starts j))
@@ -220,9 +220,6 @@ module _ (S : LogState) (c h : ℕ) (a : AgentState) (ls : List Letter) (k : Vie
     where
       more : List Letter
       more = letter_to a.start (msg.View w) ∷ []
-
-      top : sent_term a ≡ term_of w
-      top = rw is refl
 
       here : views a.start (ls ++ more) ≡ views a.start ls ++ w ∷ []
       here = flat_map-append (view_of a.start) ls more ∙ rw (views-here a.start (letter_to a.start (msg.View w)) refl) refl

@@ -93,9 +93,7 @@ module _ (S : LogState) (W : State) (contents : ℕ → List Shown) where
       | m ↦ λ k. k
     ] p
     waits c (Agent h) l p = p
-    waits c Director l p = tt
-    waits c (Client n) l p = tt
-    waits c (Scanner x) l p = tt
+    waits c from l p = tt
 
     waiting : (c : ℕ) (x : Waiting) → SiteWaitingOk S c x → SiteWaitingOk T c x
     waiting c x k = (k.0, waits c x.from x.letter k.1)

@@ -342,7 +342,7 @@ module _ (T : LogState) (i : ℕ) (e : Entry) (H : LogsHold T) (up : 0 < site_st
     not-its l p f = follows-one T.words.deployment k.word c l i f (leader-followed T.words.deployment k.word i c k.first p other)
 
     in_word-keeps : (w : Membership) (j : Joining) → InWord T c w j → InWord next c w j
-    in_word-keeps w j m = in_word-keeps-with T next H later c site w j run
+    in_word-keeps w j m = let decided = took-decided T H (site_start T c) w m.took in in_word-keeps-with T next H later c site w j run
         (λ l z. line-else c (site_start T c) (term_of w) l (λ _. joiner-line c w j m) ∙ z)
         (λ l f z n. (
           flow-else c (site_start T c) (term_of w) l (λ q. uncounted-flow c (term_of w) (inr (apart c other w decided
@@ -354,9 +354,6 @@ module _ (T : LogState) (i : ℕ) (e : Entry) (H : LogsHold T) (up : 0 < site_st
         (λ stream_start. took stream_start (joiner-word w decided))
         m
       where
-        decided : In w T.words.history.decided
-        decided = took-decided T H (site_start T c) w m.took
-
         comes : (l : ℕ) → follows T.words.deployment w c l ≡ true → ((part T c ≡ part T i) × (w ≡ k.word)) ⊎ (part T c ≡ part T i → term_of w ≡ term_of k.word → ⊥)
             → ComesNext T (site_start T c) c w l → ComesNext next (site_start T c) c w l
         comes l f (inr n) = coming-else w l (same-term (term_of w) n)
@@ -428,10 +425,7 @@ module _ (T : LogState) (i : ℕ) (e : Entry) (H : LogsHold T) (up : 0 < site_st
       foreign (Site j) c = sent-either T i state out logs (λ j ls. AllByRecursion (ForeignOk T c (Site j)) ls) (Site c)
           (all-append (ForeignOk T c (Site i)) (between T i c) (out (Site c)) (H.foreign (Site i) c)
           (passed-all T.words.deployment i e state out passed c (ForeignOk T c (Site i)) (λ is. tt) (λ j is q. tt))) (λ j n. H.foreign (Site j) c) j
-      foreign (Agent h) c = H.foreign (Agent h) c
-      foreign Director c = H.foreign Director c
-      foreign (Client n) c = H.foreign (Client n) c
-      foreign (Scanner x) c = H.foreign (Scanner x) c
+      foreign from c = H.foreign from c
 
   led-holds : LogsHold next
   led-holds = grew-holds T H i (e ∷ []) (T.sites i).floor (T.sites i).repaired (T.sites i).owes scans scanning next.words.channel logs.leadership

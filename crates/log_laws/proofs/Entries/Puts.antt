@@ -1,5 +1,5 @@
 -- A copy takes what its leader sent it to append: one entry more, or what it lacks of what its term begins with.
-use Rattle.log_laws.proofs.Names.{◌≡◌, ◌<◌, Bool, true, false, List, [], ◌∷◌, ◌++◌, append_assoc, append-nil, refl, sym, subst, ap, ◌∙◌, inl, inr, ◌==◌, arith, cases_Bool, ne_eqb, ℕ, ◌≤◌, ◌-◌, ◌&&◌, if◌then◌else◌, max, map, drop, length, Option, Some, None, AllByRecursion, Entry, Membership, Actor, Director, Client, Agent, Site, Scanner, Database, term_of, term_in, same, Letter, Sends, SiteState, Joining, Joiner, Scanning, site_term, on_put, on_repair, took, sent, rest, In, Prefix, and-false, eqb-same, if-false, not-both, same-some, set-here, set-there, set-both, took-all, prefix-append, prefix-grows, prefix-length, prefix-refl, prefix-rest, Appended, appends-one, appends-all}
+use Rattle.log_laws.proofs.Names.{◌≡◌, ◌<◌, true, false, List, [], ◌∷◌, ◌++◌, append_assoc, append-nil, refl, sym, subst, ap, ◌∙◌, inl, inr, ◌==◌, arith, cases_Bool, ne_eqb, ℕ, ◌≤◌, ◌-◌, ◌&&◌, max, map, drop, length, Option, Some, None, AllByRecursion, Entry, Membership, Actor, Director, Client, Agent, Site, Scanner, Database, term_of, term_in, same, Letter, Sends, SiteState, Joining, Joiner, Scanning, site_term, on_put, on_repair, took, sent, rest, In, Prefix, and-false, eqb-same, if-false, not-both, same-some, set-here, set-there, set-both, took-all, prefix-append, prefix-grows, prefix-length, prefix-refl, prefix-rest, Appended, appends-one, appends-all, cond_both}
 use Rattle.volt_wire.specs.declared.message.Msg.TheVariants as msg
 use Rattle.log_laws.specs.Histories.{LogState, Leadership, Line, Puts, Repairs, FollowsIn, JoinerOk, ViewIn, MemberOk, MeantFor, ForeignOk, ToldOk, SiteLetterOk, BeginsAt, LogsHold, line_in, flow_in, ask_in, follows, line, flow, stream_ends_in, asks_in, asks_waiting, asks_of_term, asked, between, part, site_start, term_at, log_at, is_for}
 use Rattle.log_laws.proofs.Plain.{puts-cons, puts-not-repairs, repairs-not-put, repairs-same, leader-follows-none, follows-one, for-here, if-empty}
@@ -60,12 +60,9 @@ module _ (S : LogState) (k i : ℕ) (out : Sends) (inert : (b : Actor) → same 
 
   -- only its scanner was told something
   from-site : (a : ℕ) (b : Actor) → same (Scanner i) b ≡ false → ch (Site a) b ≡ took S.words.channel (Site k) (Site i) (Site a) b
-  from-site a b apart = choice (i == a)
-    where
-      choice : (c : Bool) → (if c then took S.words.channel (Site k) (Site i) (Site a) b ++ out b else took S.words.channel (Site k) (Site i) (Site a) b)
-          ≡ took S.words.channel (Site k) (Site i) (Site a) b
-      choice true = ap (λ ys. took S.words.channel (Site k) (Site i) (Site a) b ++ ys) (inert b apart) ∙ append-nil (took S.words.channel (Site k) (Site i) (Site a) b)
-      choice false = refl
+  from-site a b apart = cond_both (i == a) _ _ (λ z. z ≡ took S.words.channel (Site k) (Site i) (Site a) b)
+      (λ _. ap (λ ys. took S.words.channel (Site k) (Site i) (Site a) b ++ ys) (inert b apart) ∙ append-nil (took S.words.channel (Site k) (Site i) (Site a) b))
+      (λ _. refl)
 
   -- to other slots all is as it was
   to-other : (a c : ℕ) → (c ≡ i → ⊥) → ch (Site a) (Site c) ≡ between S a c
@@ -127,10 +124,7 @@ module _ (S : LogState) (H : LogsHold S) (k i : ℕ) (l : Letter) (ls : List Let
       foreign : (from : Actor) (c : ℕ) → AllByRecursion (ForeignOk S c from) (channel from (Site c))
       foreign (Site j) c = subst (AllByRecursion (ForeignOk S c (Site j))) (sym (from-site S k i out inert j (Site c) refl))
           (took-all (ForeignOk S c (Site j)) S.words.channel (Site k) (Site i) (Site j) (Site c) (H.foreign (Site j) c))
-      foreign (Agent h) c = took-all (ForeignOk S c (Agent h)) S.words.channel (Site k) (Site i) (Agent h) (Site c) (H.foreign (Agent h) c)
-      foreign Director c = took-all (ForeignOk S c Director) S.words.channel (Site k) (Site i) Director (Site c) (H.foreign Director c)
-      foreign (Client n) c = took-all (ForeignOk S c (Client n)) S.words.channel (Site k) (Site i) (Client n) (Site c) (H.foreign (Client n) c)
-      foreign (Scanner z) c = took-all (ForeignOk S c (Scanner z)) S.words.channel (Site k) (Site i) (Scanner z) (Site c) (H.foreign (Scanner z) c)
+      foreign from c = took-all (ForeignOk S c from) S.words.channel (Site k) (Site i) from (Site c) (H.foreign from c)
 
   own-member : MemberOk next i r.word
   own-member = grew-member S H i more floor true owes scans scanning channel S.logs.leadership r.word refl below

@@ -1,5 +1,5 @@
 -- A joiner is told that its stream is whole, once the position at which that began is everywhere.
-use Rattle.log_laws.proofs.Names.{◌≡◌, ◌<◌, ◌≤◌, Bool, true, false, List, [], ◌∷◌, refl, sym, subst, ap, ◌∙◌, inl, inr, true≢false, arith, and_parts, leb-true, ℕ, nat_le, if◌then◌else◌, map, length, Option, Some, None, is_some, AllByRecursion, Entry, Membership, term_of, term_in, leader, SiteState, Streamed, Joining, Joiner, is_sent, without_count, ends_streams, In, Distinct, all-at, all-from, in-map, in-map-from, none-and-some, end_letter, stream_ends-all}
+use Rattle.log_laws.proofs.Names.{◌≡◌, ◌<◌, ◌≤◌, true, List, [], ◌∷◌, refl, sym, subst, ap, ◌∙◌, inl, inr, true≢false, arith, and_parts, leb-true, ℕ, nat_le, map, length, Option, Some, None, is_some, AllByRecursion, Entry, Membership, term_of, term_in, leader, SiteState, Streamed, Joining, Joiner, is_sent, without_count, ends_streams, In, Distinct, all-at, all-from, in-map, in-map-from, none-and-some, end_letter, stream_ends-all, cond_both}
 use Rattle.log_laws.specs.Histories.{LogState, LogsHold, Follows, WordOf, CountedOk, IsCounted, BeginsAt, SiteLetterOk, JoinsIn, ViewIn, StreamIn, KeepsOk, flow, follows, part, site_start, term_at, between}
 use Rattle.log_laws.proofs.Kept.{LogsGo, same-word, some-term, took-decided, SiteRests, SaysRests, Bare, map-joiners, map-slots, reach-same, site-same, rests-goes}
 use Rattle.log_laws.proofs.Plain.{stream_ends-other, follows-one, leader-followed}
@@ -8,18 +8,11 @@ use Rattle.log_laws.proofs.Firmness.Firm.{LeaderOf, leader-of}
 -- ---- a joiner loses its count
 
 count-same : {A : Type 0} (f : Joiner → A) → ((j : Joiner) → f (record j { count = None }) ≡ f j) → (s : SiteState) (j : Joiner) → f (without_count s j) ≡ f j
-count-same f same s j = choice (is_sent s j)
-  where
-    choice : (b : Bool) → f (if b then record j { count = None } else j) ≡ f j
-    choice true = same j
-    choice false = refl
+count-same f same s j = cond_both (is_sent s j) _ _ (λ z. f z ≡ f j) (λ _. same j) (λ _. refl)
 
 count-counted : (T : LogState) (p t : ℕ) (s : SiteState) (j : Joiner) → CountedOk T p t j → CountedOk T p t (without_count s j)
-count-counted T p t s j k = choice (is_sent s j)
-  where
-    choice : (b : Bool) → CountedOk T p t (if b then record j { count = None } else j)
-    choice true = record { been = k.been; part_is = k.part_is; reached = k.reached; position = k.position; later = k.later }
-    choice false = k
+count-counted T p t s j k = cond_both (is_sent s j) _ _ (CountedOk T p t)
+    (λ _. record { been = k.been; part_is = k.part_is; reached = k.reached; position = k.position; later = k.later }) (λ _. k)
 
 -- joiners of one slot are one
 pub slot-one : (js : List Joiner) → Distinct (map (λ j. j.slot) js) → (j k : Joiner) → In j js → In k js → j.slot ≡ k.slot → j ≡ k

@@ -1,5 +1,5 @@
 -- What a leader counts as firm, and as its floor, is in each log.
-use Rattle.log_laws.proofs.Names.{◌≡◌, ◌<◌, ◌≤◌, Bool, true, false, List, [], refl, sym, subst, ap, ◌∙◌, inl, inr, ◌==◌, arith, cases_eq, and_parts, ℕ, ◌&&◌, nat_lt, nat_le, if◌then◌else◌, filter, max, length, Option, Some, None, AllByRecursion, Membership, Actor, Agent, Site, Deployment, term_of, term_in, start_of_slot, leader, same, Letter, becomes, SiteState, Held, Joiner, is_leader, leads, other_copies, own_ack, acked_in, firm_now, floor_now, answers_held, sends_firm, counts, In, all-at, all-from, all-filter, in-filter, in-map-from, same-some, none-and-some, not-both, same-true, leads-parts, leader-view, acked_in-from, reach_now, reach_now-own, reach_now-copy, reach_now-joiner}
+use Rattle.log_laws.proofs.Names.{◌≡◌, ◌<◌, ◌≤◌, true, List, [], refl, sym, subst, ap, ◌∙◌, inl, inr, ◌==◌, arith, cases_eq, and_parts, ℕ, ◌&&◌, nat_lt, nat_le, filter, max, length, Option, Some, None, AllByRecursion, Membership, Actor, Agent, Site, Deployment, term_of, term_in, start_of_slot, leader, same, Letter, SiteState, Held, Joiner, is_leader, leads, other_copies, own_ack, acked_in, firm_now, floor_now, answers_held, sends_firm, counts, In, all-at, all-from, all-filter, in-filter, in-map-from, same-some, none-and-some, not-both, same-true, leads-parts, leader-view, acked_in-from, reach_now, reach_now-own, reach_now-copy, reach_now-joiner, cond_both}
 use Rattle.volt_wire.specs.declared.message.Msg.TheVariants as msg
 use Rattle.log_laws.specs.Histories.{LogState, Entered, Streaming, Leadership, Flow, LogsHold, IsSlot, WordOf, AckOk, CountedOk, IsCounted, HeldFor, HeldOk, LeadsIn, MemberOk, KeepsOk, Coming, ToldOk, SiteLetterOk, end_of, part, site_start, log_at, term_at}
 use Rattle.log_laws.proofs.Kept.{LogsGo, same-word, entered-start, one-in, took-decided, goes-same, SiteRests, ReachRests, SaysRests, Bare, same-joiners, reach-same, rests-goes, put_at, put-both, put-here}
@@ -20,6 +20,7 @@ pub leader-of : (T : LogState) → LogsHold T → (i : ℕ) → 0 < site_start T
 leader-of T H i up e =
     let v = leader-view T.words.deployment i (T.sites i) e in
     let m = (H.sites i).member up v.0 in
+
     record { word = m.0; none = v.0; view = m.1; first = (is-leader T.words.deployment i (T.sites i) m.0 m.1 e).1; member = m.2 }
 
 -- ---- what a leader counts
@@ -58,11 +59,8 @@ module _ (T : LogState) (H : LogsHold T) (i : ℕ) (up : 0 < site_start T i) (o 
 
   -- its own position, where it counts
   own-log : (v : ℕ) → own_ack (T.sites i) ≡ Some v → v ≤ length (log_at T i)
-  own-log v e = go ((T.sites i).mark == term_at T i) e
-    where
-      go : (b : Bool) → (if b then Some (T.sites i).on_disk else None) ≡ Some v → v ≤ length (log_at T i)
-      go true e = let q : (T.sites i).on_disk ≡ v = same-some e in let d = keeps.on_disk in omega (arith, q, d)
-      go false e = absurd (cc)
+  own-log v e = cond_both ((T.sites i).mark == term_at T i) _ _ (λ z. z ≡ Some v → v ≤ length (log_at T i))
+      (λ _ e. let q : (T.sites i).on_disk ≡ v = same-some e in let d = keeps.on_disk in omega (arith, q, d)) (λ _ e. absurd (cc)) e
 
   -- what it knew before isn't above what is in a log that has what is everywhere
   known-below : (c n : ℕ) → part T c ≡ part T i → T.logs.reach (part T c) (term_of w) ≤ n → ((T.sites i).firm ≤ n) × ((T.sites i).floor ≤ n)
@@ -79,14 +77,11 @@ module _ (T : LogState) (H : LogsHold T) (i : ℕ) (up : 0 < site_start T i) (o 
   -- what copies of the term have in their logs
   pub reach_now-entered : (c : ℕ) (e : Entered) → part T c ≡ part T i → T.logs.entered c (term_of w) ≡ Some e → site_start T c ≡ e.start
       → reach_now T.words.deployment i (T.sites i) ≤ length (log_at T c)
-  reach_now-entered c e same is runs = elim (cases_eq c i) [
+  reach_now-entered c e same is runs = let low = known-below c (length (log_at T c)) same ((H.entered c (term_of w) e is).running runs).2 in elim (cases_eq c i) [
     | inl q ↦ reach_now-own T.words.deployment i (T.sites i) (length (log_at T c)) low.0 low.1
         (λ v own. subst (λ x. v ≤ length (log_at T x)) (sym q) (own-log v own))
     | inr n ↦ reach_now-copy T.words.deployment i (T.sites i) (length (log_at T c)) low.0 low.1 c (other c e same is n) (acked-log c e is runs)
   ]
-    where
-      low : ((T.sites i).firm ≤ length (log_at T c)) × ((T.sites i).floor ≤ length (log_at T c))
-      low = known-below c (length (log_at T c)) same ((H.entered c (term_of w) e is).running runs).2
 
   -- a start that is counted
   counted-joiner : (c a stream_start : ℕ) (v : Membership) → part T c ≡ part T i → WordOf T (term_of w) v → IsCounted T c a stream_start v
@@ -102,15 +97,13 @@ module _ (T : LogState) (H : LogsHold T) (i : ℕ) (up : 0 < site_start T i) (o 
   pub reach_now-counted : (c a stream_start n : ℕ) (v : Membership) → part T c ≡ part T i → WordOf T (term_of w) v → IsCounted T c a stream_start v → site_start T c ≡ a → (T.sites c).earlier < term_of w
       → T.logs.reach (part T c) (term_of w) ≤ n → stream_start ≤ n → length (log_at T c) ≤ n → reach_now T.words.deployment i (T.sites i) ≤ n
   reach_now-counted c a stream_start n v same of counted runs below reach from upto =
+      let low = known-below c n same reach in
       reach_now-joiner T.words.deployment i (T.sites i) n low.0 low.1 j r.1
       (let m = (joiner-ok j r.1).position (ap (λ x. site_start T x) r.2 ∙ runs ∙ sym r.3) (subst (λ x. (T.sites x).earlier < term_of w) (sym r.2) below) in
       let l : length (log_at T j.slot) ≤ n = subst (λ x. length (log_at T x) ≤ n) (sym r.2) upto in
       let b = r.4 in
       omega (arith, m, l, b, from))
     where
-      low : ((T.sites i).firm ≤ n) × ((T.sites i).floor ≤ n)
-      low = known-below c n same reach
-
       r : (j : Joiner) × In j (T.sites i).joiners × (j.slot ≡ c) × (j.start ≡ a) × (j.stream_start ≡ stream_start)
       r = counted-joiner c a stream_start v same of counted
 
@@ -143,11 +136,9 @@ module _ (T : LogState) (H : LogsHold T) (i : ℕ) (up : 0 < site_start T i) (o 
   since-entered : (g : Leadership) → T.logs.leadership (part T i) (term_of w) ≡ Some g → (c t : ℕ) (e f : Entered) → part T c ≡ part T i → T.logs.entered c (term_of w) ≡ Some f
       → T.logs.entered c t ≡ Some e → f.start ≡ e.start → term_of w < t → reach_now T.words.deployment i (T.sites i) ≤ length e.log
   since-entered g led c t e f same was is start above =
+      let low = known-since c t e g led same is above in
       reach_now-copy T.words.deployment i (T.sites i) (length e.log) low.0 low.1 c (other c f same was away) (acked-since c t e f was is start above)
     where
-      low : ((T.sites i).firm ≤ length e.log) × ((T.sites i).floor ≤ length e.log)
-      low = known-since c t e g led same is above
-
       -- the leader itself is in its term
       away : c ≡ i → ⊥
       away q =
@@ -191,7 +182,7 @@ pub reach-raised : (S : LogState) → LogsHold S → (p t n : ℕ) (g : Leadersh
     → ((c u : ℕ) (e : Entered) → part S c ≡ p → S.logs.entered c u ≡ Some e → t < u → n ≤ length e.log)
     → ((c : ℕ) (w : Membership) (fl : List Flow) → part S c ≡ p → WordOf S t w → (S.sites c).earlier < t → log_at S c ≡ [] → (k : Coming S c w fl) → n ≤ length k.past)
     → ReachRests S (raised S.logs.reach p t n)
-reach-raised S H p t n g led within entered streamed since coming = record {
+reach-raised S H p t n g led within entered streamed since coming = let o = reach-same S H in record {
   rises = λ q u. raised-both (λ m. S.logs.reach q u ≤ m) S.logs.reach p t n q u (λ a b. omega arith) (omega arith);
   unled = λ q u none. raised-both (λ m. m ≡ S.logs.reach q u) S.logs.reach p t n q u
       (λ a b. absurd (none-and-some none (ap (λ z. S.logs.leadership z u) a ∙ ap (λ z. S.logs.leadership p z) b ∙ led))) refl;
@@ -208,9 +199,6 @@ reach-raised S H p t n g led within entered streamed since coming = record {
       (λ a b. let r = k.reach in
       let m = coming c w fl a (record { decided = decided; term_is = b }) (subst (λ z. (S.sites c).earlier < z) b below) empty k in omega (arith, r, m)) k.reach;
 }
-  where
-    o : ReachRests S S.logs.reach
-    o = reach-same S H
 
 -- ---- answers that were held
 
@@ -314,11 +302,4 @@ counts-leads T H i up authoritative = begun (T.logs.leadership (part T i) (term_
         (answers-rest T i (firm_now D i s) s.held k.held)
 
 pub counts-goes : (T : LogState) → LogsHold T → (i : ℕ) → 0 < site_start T i → LogsGo T i (counts T.words.deployment i (T.sites i))
-counts-goes T H i up = choice (leads T.words.deployment i (T.sites i)) refl
-  where
-    choice : (b : Bool) → leads T.words.deployment i (T.sites i) ≡ b
-        → LogsGo T i (if b
-        then sends_firm (record (T.sites i) { firm = firm_now T.words.deployment i (T.sites i); floor = floor_now T.words.deployment i (T.sites i) })
-        else becomes (T.sites i))
-    choice true e = counts-leads T H i up e
-    choice false e = goes-same T i H
+counts-goes T H i up = cond_both (leads T.words.deployment i (T.sites i)) _ _ (LogsGo T i) (λ e. counts-leads T H i up e) (λ e. goes-same T i H)

@@ -1,5 +1,5 @@
 -- A site has written what it owed: a leader counts what is firm, a copy and a joiner acknowledge, and a joiner says once that it has loaded.
-use Rattle.log_laws.proofs.Names.{◌≡◌, ◌<◌, Bool, true, false, List, [], refl, sym, subst, ap, ◌∙◌, inl, inr, ◌==◌, arith, ℕ, if◌then◌else◌, length, Option, Some, None, Membership, Agent, Site, Deployment, host_of_slot, term_of, term_in, Letter, becomes, sending, ◌▸◌, no_sends, only, letter_in, letter_to, Shown, SiteState, Streamed, Joining, leader_in, start_in_view, is_leader, counts, member_written, joiner_written, written, acknowledges, says_loaded, after_sync, In, all-one, same-some, none-and-some, not-both}
+use Rattle.log_laws.proofs.Names.{◌≡◌, ◌<◌, Bool, true, false, List, [], refl, sym, subst, ap, ◌∙◌, inl, inr, ◌==◌, arith, ℕ, if◌then◌else◌, length, Option, Some, None, Membership, Agent, Site, Deployment, host_of_slot, term_of, term_in, Letter, becomes, no_sends, only, letter_in, letter_to, Shown, SiteState, Streamed, Joining, leader_in, start_in_view, is_leader, counts, member_written, joiner_written, written, acknowledges, says_loaded, after_sync, In, all-one, same-some, none-and-some, not-both, cond_both}
 use Rattle.volt_wire.specs.declared.message.Msg.TheVariants as msg
 use Rattle.log_laws.specs.Histories.{LogState, LogsHold, WasIn, AckOk, LoadedOk, ToldOk, SiteLetterOk, ViewIn, StreamIn, MemberOk, JoinerOk, KeepsOk, end_of, part, site_start, log_at, term_at}
 use Rattle.log_laws.proofs.Kept.{LogsGo, some-start, some-term, took-decided, goes-then, goes-same, GoesFrom, SiteRests, JoiningRests, Bare, part-from, reach-same, site-same, site-rests, says-nothing, rests-goes}
@@ -52,7 +52,14 @@ module _ (T : LogState) (H : LogsHold T) (i : ℕ) (up : 0 < site_start T i) whe
       (subst (In (site_start T i)) (sym r.1) (inl refl), λ _ is k here. ap (λ x. x.is_based) (same-some (sym here ∙ some)) ∙ based)
 
   says_loaded-goes : (j : Joining) → (T.sites i).joining ≡ Some j → j.is_based ≡ true → LogsGo T i (says_loaded T.words.deployment i (T.sites i) j)
-  says_loaded-goes j some based = choice j.has_told
+  says_loaded-goes j some based = cond_both j.has_told _ _ (LogsGo T i)
+      (λ _. goes-same T i H)
+      (λ _. rests-goes T H i (record (T.sites i) { joining = Some (record j { has_told = true }) })
+          (only (Agent (host_of_slot T.words.deployment i)) (letter_to (site_start T i) (msg.Loaded (site_start T i)))) T.logs.reach rests (reach-same T H) (record {
+            sites = λ c. tt;
+            ended = λ c v joins of away. refl;
+            told = λ h. all-one (ToldOk T i) (host_of_slot T.words.deployment i == h) (letter_to (site_start T i) (msg.Loaded (site_start T i))) (λ _. loaded-ok j some based);
+          }))
     where
       loaded : j.is_loaded ≡ true
       loaded = ((H.sites i).joiner j some).based based
@@ -67,17 +74,6 @@ module _ (T : LogState) (H : LogsHold T) (i : ℕ) (up : 0 < site_start T i) whe
                 (record { same = refl; told = λ _. loaded; based = λ _. loaded; still = λ b. b }),
           ))
           (λ _. keeps.on_disk)
-
-      choice : (b : Bool) → LogsGo T i (if b then becomes (T.sites i)
-          else sending (record (T.sites i) { joining = Some (record j { has_told = true }) })
-          (only (Agent (host_of_slot T.words.deployment i)) (letter_to (site_start T i) (msg.Loaded (site_start T i)))))
-      choice true = goes-same T i H
-      choice false = rests-goes T H i (record (T.sites i) { joining = Some (record j { has_told = true }) })
-          (only (Agent (host_of_slot T.words.deployment i)) (letter_to (site_start T i) (msg.Loaded (site_start T i)))) T.logs.reach rests (reach-same T H) (record {
-            sites = λ c. tt;
-            ended = λ c v joins of away. refl;
-            told = λ h. all-one (ToldOk T i) (host_of_slot T.words.deployment i == h) (letter_to (site_start T i) (msg.Loaded (site_start T i))) (λ _. loaded-ok j some based);
-          })
 
   -- a joiner that has loaded has taken the stream of its word
   loaded-took : (j : Joining) → (T.sites i).joining ≡ Some j → j.is_loaded ≡ true
@@ -106,21 +102,18 @@ acknowledges-state D i s (Some slot) = refl
 
 module _ (T : LogState) (H : LogsHold T) (i : ℕ) (up : 0 < site_start T i) where
   joiner-goes : (j : Joining) → (T.sites i).joining ≡ Some j → LogsGo T i (after_sync T.words.deployment i (T.sites i) (Some j))
-  joiner-goes j some = choice j.is_based refl
-    where
-      then-loaded : j.is_based ≡ true → (s : SiteState) → s ≡ T.sites i → GoesFrom T i s (says_loaded T.words.deployment i s j)
-      then-loaded based s is S here same pending K = subst (λ D. LogsGo S i (says_loaded D i s j)) same (subst (λ x. LogsGo S i (says_loaded S.words.deployment i x j)) here
-          (says_loaded-goes S K i (subst (λ x. 0 < x.start) (sym (here ∙ is)) up) j (ap (λ x. x.joining) (here ∙ is) ∙ some) based))
-
-      choice : (b : Bool) → j.is_based ≡ b → LogsGo T i (if b then acknowledges T.words.deployment i (T.sites i) (leader_in T.words.deployment (T.sites i).view (part T i))
-          ▸ (λ x. says_loaded T.words.deployment i x j) else becomes (T.sites i))
-      choice false e = goes-same T i H
-      choice true e =
+  joiner-goes j some = cond_both j.is_based _ _ (LogsGo T i)
+      (λ e. 
           let o = leader_in T.words.deployment (T.sites i).view (part T i) in
           let k = loaded-took T H i up j some (((H.sites i).joiner j some).based e) in
           goes-then T i (acknowledges T.words.deployment i (T.sites i) o) (λ x. says_loaded T.words.deployment i x j)
           (acknowledges-goes T H i up k.0 k.1 k.2 k.3 o refl)
-          (then-loaded e (acknowledges T.words.deployment i (T.sites i) o).state (acknowledges-state T.words.deployment i (T.sites i) o))
+          (then-loaded e (acknowledges T.words.deployment i (T.sites i) o).state (acknowledges-state T.words.deployment i (T.sites i) o)))
+      (λ e. goes-same T i H)
+    where
+      then-loaded : j.is_based ≡ true → (s : SiteState) → s ≡ T.sites i → GoesFrom T i s (says_loaded T.words.deployment i s j)
+      then-loaded based s is S here same pending K = subst (λ D. LogsGo S i (says_loaded D i s j)) same (subst (λ x. LogsGo S i (says_loaded S.words.deployment i x j)) here
+          (says_loaded-goes S K i (subst (λ x. 0 < x.start) (sym (here ∙ is)) up) j (ap (λ x. x.joining) (here ∙ is) ∙ some) based))
 
   member-goes : (T.sites i).joining ≡ None → LogsGo T i (after_sync T.words.deployment i (T.sites i) None)
   member-goes none = choice (is_leader T.words.deployment i (T.sites i)) ((T.sites i).mark == term_at T i)
@@ -155,18 +148,8 @@ module _ (T : LogState) (H : LogsHold T) (i : ℕ) (up : 0 < site_start T i) whe
       → SiteRests T T.logs.reach i (record (joiner_written (T.sites i) j st) { contents = contents })
   joiner-rests j some None contents = site-rests T H i T.logs.reach (record (T.sites i) { contents = contents }) refl refl refl refl refl refl
       (λ e. e) (site-same T H i T.logs.reach i).joiner (λ _. ((H.sites i).keeps up).on_disk)
-  joiner-rests j some (Some st) contents = choice j.is_loaded refl
-    where
-      joins : (k : Joining) → JoiningRests j k → (x : Joining) → (T.sites i).joining ≡ Some x → (y : Joining) × (Some k ≡ Some y) × JoiningRests x y
-      joins k r x here = (k, refl, subst (λ y. JoiningRests y k) (same-some (sym some ∙ here)) r)
-
-      o : JoinerOk T i j
-      o = (H.sites i).joiner j some
-
-      choice : (b : Bool) → j.is_loaded ≡ b → SiteRests T T.logs.reach i (record (if b
-          then record (T.sites i) { joining = Some (record j { written = j.blocks; is_based = true }); on_disk = length (log_at T i); mark = st.mark; base = st.stream_start }
-          else record (T.sites i) { joining = Some (record j { written = j.blocks }) }) { contents = contents })
-      choice true e = site-rests T H i T.logs.reach
+  joiner-rests j some (Some st) contents = cond_both j.is_loaded _ _ (λ z. SiteRests T T.logs.reach i (record z { contents = contents }))
+      (λ e. site-rests T H i T.logs.reach
           (record (T.sites i) {
             joining = Some (record j { written = j.blocks; is_based = true });
             on_disk = length (log_at T i);
@@ -175,10 +158,16 @@ module _ (T : LogState) (H : LogsHold T) (i : ℕ) (up : 0 < site_start T i) whe
             contents = contents;
           })
           refl refl refl refl refl refl (λ none. absurd (none-and-some none some))
-          (joins (record j { written = j.blocks; is_based = true }) (record { same = refl; told = o.told; based = λ _. e; still = λ _. refl })) (λ _. omega arith)
-      choice false e = site-rests T H i T.logs.reach (record (T.sites i) { joining = Some (record j { written = j.blocks }); contents = contents })
+          (joins (record j { written = j.blocks; is_based = true }) (record { same = refl; told = o.told; based = λ _. e; still = λ _. refl })) (λ _. omega arith))
+      (λ e. site-rests T H i T.logs.reach (record (T.sites i) { joining = Some (record j { written = j.blocks }); contents = contents })
           refl refl refl refl refl refl (λ none. absurd (none-and-some none some))
-          (joins (record j { written = j.blocks }) (record { same = refl; told = o.told; based = o.based; still = λ b. b })) (λ _. ((H.sites i).keeps up).on_disk)
+          (joins (record j { written = j.blocks }) (record { same = refl; told = o.told; based = o.based; still = λ b. b })) (λ _. ((H.sites i).keeps up).on_disk))
+    where
+      joins : (k : Joining) → JoiningRests j k → (x : Joining) → (T.sites i).joining ≡ Some x → (y : Joining) × (Some k ≡ Some y) × JoiningRests x y
+      joins k r x here = (k, refl, subst (λ y. JoiningRests y k) (same-some (sym some ∙ here)) r)
+
+      o : JoinerOk T i j
+      o = (H.sites i).joiner j some
 
   written-rests : (contents : List Shown) → SiteRests T T.logs.reach i (record (written (T.sites i) (T.sites i).joining) { contents = contents })
   written-rests contents = choice (T.sites i).joining refl

@@ -1,5 +1,5 @@
 -- A site takes a block, the end of a stream or of a scan: a joiner may have loaded all then.
-use Rattle.log_laws.proofs.Names.{Bool, List, ap, append-nil, arith, false, inl, inr, refl, subst, sym, true, true≢false, ◌≡◌, ◌++◌, ◌∷◌, ◌∙◌, ◌⊎◌, ◌<◌, ◌≤◌, ◌==◌, [], ◌+◌, and_parts, length-append, AllByRecursion, None, Option, Some, is_some, length, map, not, ◌&&◌, if◌then◌else◌, ℕ, Entry, Membership, Letter, becomes, finishes_load, may_finish, on_chunk, on_scan_end, on_stream_end, with_count, with_joining, ForBase, ForJoiner, Joiner, Joining, Scanning, SiteState, Streamed, is_some_of, term_in, term_of, none-and-some, same-some, set-here, set-there, no_sends}
+use Rattle.log_laws.proofs.Names.{List, ap, append-nil, arith, false, inl, inr, refl, subst, sym, true, true≢false, ◌≡◌, ◌++◌, ◌∷◌, ◌∙◌, ◌⊎◌, ◌<◌, ◌≤◌, ◌==◌, [], ◌+◌, and_parts, length-append, AllByRecursion, None, Option, Some, is_some, length, map, not, ◌&&◌, ℕ, Entry, Membership, Letter, becomes, finishes_load, may_finish, on_chunk, on_scan_end, on_stream_end, with_count, ForBase, ForJoiner, Joiner, Joining, Scanning, SiteState, Streamed, is_some_of, term_in, term_of, none-and-some, same-some, set-here, set-there, no_sends, cond_both}
 use Rattle.log_laws.specs.Histories.{CountedOk, EndOk, LogsHold, JoinerOk, LogState, StreamIn, Took, asked, asks_in, asks_of_term, asks_waiting, between, log_at, part, site_start, term_at}
 use Rattle.log_laws.proofs.Kept.{AtMost, asks-at, asks-of-same, at-most-same, LogsGo, LessTo, SiteTakes, becomes-goes, counts-on, same-counts, same-uncounts, takes-joined, takes-joiner, takes-letters, takes-stream, takes-took, takes-untaken, takes-word, takes-wordless, uncounts-on, with-site, goes-same, SiteGoesOn, map-joiners, map-slots, inert-becomes, reach-same, rests-goes, says-nothing, site-same}
 
@@ -106,7 +106,26 @@ module _ (S : LogState) (H : LogsHold S) (i : ℕ) (up : 0 < site_start S i) (j 
     (counts : j.stream ≡ None → n.count ≡ j.count)
     (ends : (w : Membership) (stream_start : ℕ) → (S.sites i).view ≡ Some w → Took S i w j stream_start → is_some n.count ≡ true → stream_start ≤ S.logs.reach (part S i) (term_of w)) where
   finish-goes : LogsGo S i (becomes (finishes_load (S.sites i) n))
-  finish-goes = choice (may_finish n) refl
+  finish-goes = cond_both (may_finish n) _ _ (λ z. LogsGo S i (becomes z))
+      (λ e. load-goes S H i up j done (log_at S i ++ n.tasks) is (rw (length-append (log_at S i) n.tasks) (omega arith)) (λ _. refl) told based stream
+          (λ none. absurd (true≢false (sym (parts e).0 ∙ ap is_some (stream ∙ none))))
+          (λ w stream_start view h. record {
+            whole = append-nil (log_at S i ++ n.tasks) ∙ ap (λ z. log_at S i ++ z) tasks;
+            loading = λ no. absurd (true≢false no);
+            loaded = λ _. refl;
+            ends = λ _. ends w stream_start view h (parts e).1;
+          }))
+      (λ e. load-goes S H i up j n (log_at S i) is (omega arith) (λ l. loads ∙ l) told based stream
+          (λ none. (loads, counts none, tasks, refl))
+          (λ w stream_start view h. record {
+            whole = ap (λ z. log_at S i ++ z) tasks;
+            loading = λ no. h.loading (sym loads ∙ no);
+            loaded = λ whole. tasks ∙ h.loaded (sym loads ∙ whole);
+            ends = λ some. elim some [
+              | inl whole ↦ h.ends (inl (sym loads ∙ whole))
+              | inr known ↦ ends w stream_start view h known
+            ];
+          }))
     where
       done : Joining
       done = record n { is_loaded = true; tasks = [] }
@@ -121,27 +140,6 @@ module _ (S : LogState) (H : LogsHold S) (i : ℕ) (up : 0 < site_start S i) (j 
           some None e = absurd (true≢false (sym e))
           some (Some x) e = refl
 
-      choice : (b : Bool) → may_finish n ≡ b → LogsGo S i (becomes (if b then with-load (S.sites i) done (log_at S i ++ n.tasks) else with_joining (S.sites i) n))
-      choice true e = load-goes S H i up j done (log_at S i ++ n.tasks) is (rw (length-append (log_at S i) n.tasks) (omega arith)) (λ _. refl) told based stream
-          (λ none. absurd (true≢false (sym (parts e).0 ∙ ap is_some (stream ∙ none))))
-          (λ w stream_start view h. record {
-            whole = append-nil (log_at S i ++ n.tasks) ∙ ap (λ z. log_at S i ++ z) tasks;
-            loading = λ no. absurd (true≢false no);
-            loaded = λ _. refl;
-            ends = λ _. ends w stream_start view h (parts e).1;
-          })
-      choice false e = load-goes S H i up j n (log_at S i) is (omega arith) (λ l. loads ∙ l) told based stream
-          (λ none. (loads, counts none, tasks, refl))
-          (λ w stream_start view h. record {
-            whole = ap (λ z. log_at S i ++ z) tasks;
-            loading = λ no. h.loading (sym loads ∙ no);
-            loaded = λ whole. tasks ∙ h.loaded (sym loads ∙ whole);
-            ends = λ some. elim some [
-              | inl whole ↦ h.ends (inl (sym loads ∙ whole))
-              | inr known ↦ ends w stream_start view h known
-            ];
-          })
-
 -- the end of a stream
 pub stream-end-goes : (S : LogState) → LogsHold S → (i c : ℕ) (x : Letter) (count : ℕ) → 0 < site_start S i → x.start ≡ site_start S i → x.term ≡ term_at S i → EndOk S c i x
     → LogsGo S i (becomes (on_stream_end (S.sites i) (S.sites i).joining count))
@@ -149,7 +147,8 @@ stream-end-goes S H i c x count up start term e = go (S.sites i).joining refl
   where
     go : (o : Option Joining) → (S.sites i).joining ≡ o → LogsGo S i (becomes (on_stream_end (S.sites i) o count))
     go None none = goes-same S i H
-    go (Some j) is = choice (is_some j.stream) refl
+    go (Some j) is = cond_both (is_some j.stream) _ _ (λ z. LogsGo S i (becomes z))
+        (λ some. finish-goes S H i up j n is refl refl refl refl refl (λ none. absurd (true≢false (sym some ∙ ap is_some none))) ends) (λ none. goes-same S i H)
       where
         n : Joining
         n = record j { count = Some count }
@@ -161,10 +160,6 @@ stream-end-goes S H i c x count up start term e = go (S.sites i).joining refl
             let low = subst (λ t. e.stream_start ≤ S.logs.reach (part S i) t) same-term e.everywhere in
             omega (arith, at, low)
 
-        choice : (b : Bool) → is_some j.stream ≡ b → LogsGo S i (becomes (if b then finishes_load (S.sites i) n else S.sites i))
-        choice true some = finish-goes S H i up j n is refl refl refl refl refl (λ none. absurd (true≢false (sym some ∙ ap is_some none))) ends
-        choice false none = goes-same S i H
-
 -- ---- a block, and the end of a scan
 
 -- with the number of blocks that a joiner was sent it is the same one
@@ -175,11 +170,8 @@ pub record SameJoiner (j n : Joiner) : Type 0 where
   pub position : n.position ≡ j.position
 
 pub with_count-same : (slot count : ℕ) (j : Joiner) → SameJoiner j (with_count slot count j)
-with_count-same slot count j = choice (j.slot == slot)
-  where
-    choice : (b : Bool) → SameJoiner j (if b then record j { count = Some count } else j)
-    choice true = record { slot = refl; start = refl; stream_start = refl; position = refl }
-    choice false = record { slot = refl; start = refl; stream_start = refl; position = refl }
+with_count-same slot count j = cond_both (j.slot == slot) _ _ (SameJoiner j)
+    (λ _. record { slot = refl; start = refl; stream_start = refl; position = refl }) (λ _. record { slot = refl; start = refl; stream_start = refl; position = refl })
 
 pub counted-same : (S : LogState) (p t : ℕ) (j n : Joiner) → SameJoiner j n → CountedOk S p t j → CountedOk S p t n
 counted-same S p t j n e k = record {
@@ -217,16 +209,10 @@ scan-end-goes S H i id count up = go (S.sites i).scanning
   where
     go : (o : Option Scanning) → LogsGo S i (becomes (on_scan_end (S.sites i) o id count))
     go None = goes-same S i H
-    go (Some (ForJoiner own slot)) = choice (own == id)
-      where
-        choice : (b : Bool) → LogsGo S i (becomes (if b then record (S.sites i) { scanning = None; joiners = map (with_count slot count) (S.sites i).joiners } else S.sites i))
-        choice true = scan_end-joiners S H i slot count
-        choice false = goes-same S i H
-    go (Some (ForBase own position blocks written ended)) = choice (own == id)
-      where
-        choice : (b : Bool) → LogsGo S i (becomes (if b then record (S.sites i) { scanning = Some (ForBase own position blocks written (Some count)) } else S.sites i))
-        choice true = inert-becomes S i (record (S.sites i) { scanning = Some (ForBase own position blocks written (Some count)) }) H (record { same = refl; held = λ k. k })
-        choice false = goes-same S i H
+    go (Some (ForJoiner own slot)) = cond_both (own == id) _ _ (λ z. LogsGo S i (becomes z)) (λ _. scan_end-joiners S H i slot count) (λ _. goes-same S i H)
+    go (Some (ForBase own position blocks written ended)) = cond_both (own == id) _ _ (λ z. LogsGo S i (becomes z))
+        (λ _. inert-becomes S i (record (S.sites i) { scanning = Some (ForBase own position blocks written (Some count)) }) H (record { same = refl; held = λ k. k }))
+        (λ _. goes-same S i H)
 
 -- a block
 pub chunk-goes : (S : LogState) → LogsHold S → (i id : ℕ) → 0 < site_start S i → LogsGo S i (becomes (on_chunk (S.sites i) (S.sites i).joining (S.sites i).scanning id))
@@ -236,8 +222,6 @@ chunk-goes S H i id up = go (S.sites i).joining refl (S.sites i).scanning
     go (Some j) is scanning = finish-goes S H i up j (record j { blocks = j.blocks + 1 }) is refl refl refl refl refl (λ none. refl) (λ w stream_start view h some. h.ends (inr some))
     go None none None = goes-same S i H
     go None none (Some (ForJoiner own slot)) = goes-same S i H
-    go None none (Some (ForBase own position blocks written count)) = choice (own == id)
-      where
-        choice : (b : Bool) → LogsGo S i (becomes (if b then record (S.sites i) { scanning = Some (ForBase own position (blocks + 1) written count) } else S.sites i))
-        choice true = inert-becomes S i (record (S.sites i) { scanning = Some (ForBase own position (blocks + 1) written count) }) H (record { same = refl; held = λ k. k })
-        choice false = goes-same S i H
+    go None none (Some (ForBase own position blocks written count)) = cond_both (own == id) _ _ (λ z. LogsGo S i (becomes z))
+        (λ _. inert-becomes S i (record (S.sites i) { scanning = Some (ForBase own position (blocks + 1) written count) }) H (record { same = refl; held = λ k. k }))
+        (λ _. goes-same S i H)

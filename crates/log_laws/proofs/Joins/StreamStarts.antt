@@ -1,5 +1,5 @@
 -- A joiner takes the stream that its leader began for it, or drops it.
-use Rattle.log_laws.proofs.Names.{Bool, List, ap, append-nil, arith, false, inl, inr, refl, subst, sym, true, true≢false, ◌≡◌, ◌++◌, ◌∷◌, ◌∙◌, ◌⊎◌, ◌<◌, ◌≤◌, [], and_parts, cases_Bool, cases_eq, nat_tests, AllByRecursion, None, Option, Some, is_none, is_some, length, map, nat_lt, ◌&&◌, if◌then◌else◌, ℕ, StreamHead, Membership, Site, Letter, becomes, may_stream, on_stream_start, Joining, SiteState, Streamed, site_term, term_in, term_of, set_at, all-at, all-from, none-and-some, same-some, set-here, set-there, is_none-none, In}
+use Rattle.log_laws.proofs.Names.{List, ap, append-nil, arith, false, inl, inr, refl, subst, sym, true, true≢false, ◌≡◌, ◌++◌, ◌∷◌, ◌∙◌, ◌⊎◌, ◌<◌, ◌≤◌, [], and_parts, cases_Bool, cases_eq, nat_tests, AllByRecursion, None, Option, Some, is_none, is_some, length, map, nat_lt, ◌&&◌, ℕ, StreamHead, Membership, Site, Letter, becomes, may_stream, on_stream_start, Joining, SiteState, Streamed, site_term, term_in, term_of, set_at, all-at, all-from, none-and-some, same-some, set-here, set-there, is_none-none, In, cond_both}
 use Rattle.volt_wire.specs.declared.message.Msg.TheVariants as msg
 use Rattle.log_laws.specs.Histories.{Begins, BeginsAt, Coming, EndOk, Entered, Follows, HasBeen, LogsHold, InWord, IsCounted, IsSlot, JoinerOk, LogState, MeantFor, SiteLetterOk, StreamIn, StreamedOk, Streaming, Took, Untaken, ViewIn, asked, asks_of_term, between, end_in, stream_ends_in, flow, follows, known, part, site_start, term_at, end_of, flow_in}
 use Rattle.log_laws.proofs.Kept.{running-slot, at-most-none, at-most-same, popped-less, ack-later, ask-later, been-later, end-later-if, part-later, reached-later, report-later, LogsGo, JoinsOn, LogsLater, site_popped, LessTo, SiteTakes, becomes-goes, takes-counted, takes-joined, takes-joiner, takes-steady, takes-stream, takes-word, with-site, SiteGoesOn, steady-joins, steady-later}
@@ -307,7 +307,8 @@ module _ (S : LogState) (H : LogsHold S) (m i : ℕ) (l : Letter) (ls : List Let
 
       go : (o : Option Joining) → (S.sites i).joining ≡ o → LogsGo (site_popped S (Site m) i) i (becomes (on_stream_start (S.sites i) o (record l { body = msg.StreamStart head }) head))
       go None none = stream-drops (λ j is. absurd (none-and-some none is))
-      go (Some j) is = choice (may_stream (S.sites i) j l) refl
+      go (Some j) is = cond_both (may_stream (S.sites i) j l) _ _ (λ z. LogsGo (site_popped S (Site m) i) i (becomes z))
+          (λ may. takes-stream-in (S.sites i).view refl may) (λ may. stream-drops (λ k e. subst (λ z. may_stream (S.sites i) z l ≡ false) (same-some (sym is ∙ e)) may))
         where
           streaming : SiteState
           streaming = record (S.sites i) {
@@ -326,10 +327,6 @@ module _ (S : LogState) (H : LogsHold S) (m i : ℕ) (l : Letter) (ls : List Let
             where
               below : nat_lt (S.sites i).earlier l.term ≡ true → l.term ≡ term_of w → (S.sites i).earlier < term_of w
               below r same-term = grind (arith, nat_tests, r, same-term)
-
-          choice : (b : Bool) → may_stream (S.sites i) j l ≡ b → LogsGo (site_popped S (Site m) i) i (becomes (if b then streaming else S.sites i))
-          choice true may = takes-stream-in (S.sites i).view refl may
-          choice false may = stream-drops (λ k e. subst (λ z. may_stream (S.sites i) z l ≡ false) (same-some (sym is ∙ e)) may)
 
 pub stream-start-goes : (S : LogState) → LogsHold S → (i c : ℕ) (l : Letter) (ls : List Letter) (head : StreamHead) → between S c i ≡ record l { body = msg.StreamStart head } ∷ ls
     → 0 < site_start S i → l.start ≡ site_start S i → l.term ≡ term_at S i

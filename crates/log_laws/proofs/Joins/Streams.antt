@@ -2,7 +2,7 @@
 use Rattle.log_laws.proofs.Names.{Bool, List, ap, append-nil, arith, false, inl, inr, refl, subst, sym, true, true≢false, ◌≡◌, ◌++◌, ◌∷◌, ◌∙◌, ◌⊎◌, ◌<◌, ◌≤◌, ◌==◌, [], ◌+◌, and_parts, cases_eq, eq-eqb, eqb-true, not-true, length-append, map-append, nil_from_length, AllByRecursion, list_any, None, Option, Some, filter, find, is_none, length, map, not, ◌&&◌, if◌then◌else◌, ℕ, Membership, Actor, Agent, Client, Director, Scanner, Site, Database, Letter, Turn, letter_in, same, nothing_open, can_take, is_lost_in, stream_head, takes_asks, takes_first_ask, takes_joiner, without_first, Ask, Joiner, Joining, SiteState, Streamed, is_leader, leads, site_term, leader, term_in, term_of, sent, set_at, all-append, all-at, all-from, eqb-same, filter-in, if-true, in-cases, in-left, in-map, in-map-from, in-right, list_any-in, none-and-some, same-some, set-both, set-here, set-there, Distinct, In, leader-view, leads-parts, prefix-length}
 use Rattle.volt_wire.specs.declared.message.Msg.TheVariants as msg
 use Rattle.log_laws.specs.Histories.{AsksToJoin, BeginsAt, Coming, CountedOk, EndOk, ForeignOk, LogsHold, InWord, IsCounted, IsSlot, JoinerOk, JoinsIn, KeepsOk, LeadsIn, LogState, MemberOk, Inert, Leadership, SiteLetterOk, StreamIn, Took, ViewIn, asked, asks_in, asks_kept, asks_of_term, asks_waiting, between, end_in, stream_ends_in, flow, flow_of, follows, line, log_at, part, site_start, term_at, ask_of, end_of, flow_in, line_of}
-use Rattle.log_laws.proofs.Kept.{AsksLess, AtMost, at-most-behind, at-most-both, at-most-is, at-most-same, CountedBy, SiteStays, Uncounted, counted-from, in_word-keeps-with, joiner-keeps-with, streamed-later, LogsLater, after_site, counts-on, with-site, after-same, still-at, SiteGoesOn, goes-on-same, steady-asks, steady-counted, steady-holds, steady-joiner, steady-joins, steady-keeps, steady-later, steady-member, steady-leaderships, running-slot, same-word, some-term, took-decided}
+use Rattle.log_laws.proofs.Kept.{AsksLess, AtMost, at-most-behind, at-most-both, at-most-is, at-most-same, CountedBy, SiteStays, Uncounted, counted-from, in_word-keeps-with, joiner-keeps-with, streamed-later, LogsLater, after_site, counts-on, with-site, after-same, SiteGoesOn, goes-on-same, steady-asks, steady-counted, steady-holds, steady-joiner, steady-joins, steady-keeps, steady-later, steady-member, steady-leaderships, running-slot, same-word, some-term, took-decided, still-same}
 use Rattle.log_laws.proofs.Kept.Steady.{Steady}
 use Rattle.log_laws.proofs.Plain.{follows-one, is-leader, leader-followed, kept-append, flat-each, flat-push, flat-same, for-here, for-other, if-empty, one-and-others}
 use Rattle.log_laws.proofs.Joins.StreamStarts.{letter-later-ends}
@@ -174,7 +174,7 @@ module _ (E : Database) (S : LogState) (H : LogsHold S) (i : ℕ) (up : 0 < site
   there c n = set-there S.sites i turn.state c n
 
   still : (c : ℕ) → SiteStays (S.sites c) (set_at S.sites i turn.state c)
-  still = still-at S i turn.state (record { start = refl; greatest = refl; earlier = refl; view = refl; joining = refl; log = refl; floor = refl; repaired = refl; firm = refl })
+  still = set-both (λ c x. SiteStays (S.sites c) x) S.sites i turn.state (search) (λ c n. still-same (S.sites c) (S.sites c) refl)
 
   steady : Steady S channels (set_at S.sites i turn.state) S.logs.streamed
   steady = record {
@@ -481,10 +481,7 @@ module _ (E : Database) (S : LogState) (H : LogsHold S) (i : ℕ) (up : 0 < site
     | inl e ↦ subst (AllByRecursion (ForeignOk S c (Site k))) (sym e) (H.foreign (Site k) c)
     | inr e ↦ subst (AllByRecursion (ForeignOk S c (Site k))) (sym e.2) (all-append (ForeignOk S c (Site k)) (between S k c) (begins ∷ []) (H.foreign (Site k) c) (tt, tt))
   ]
-  foreign-after (Agent h) c = H.foreign (Agent h) c
-  foreign-after (Client n) c = H.foreign (Client n) c
-  foreign-after (Scanner k) c = H.foreign (Scanner k) c
-  foreign-after Director c = H.foreign Director c
+  foreign-after from c = H.foreign from c
 
   takes-holds-joiner : LogsHold T
   takes-holds-joiner = steady-holds S channels (set_at S.sites i turn.state) S.pending S.logs.streamed H steady

@@ -2,7 +2,7 @@
 use Rattle.log_laws.proofs.Names.{Bool, List, ap, append-nil, append_assoc, arith, false, inl, inr, refl, subst, sym, true, true≢false, ◌≡◌, ◌++◌, ◌∷◌, ◌∙◌, ◌<◌, ◌≤◌, [], cases_Bool, length-append, None, Option, Some, is_some, length, map, if◌then◌else◌, ℕ, Entry, Membership, Site, Letter, becomes, on_task, with_joining, Joining, SiteState, Streamed, term_in, term_of, none-and-some, same-some}
 use Rattle.volt_wire.specs.declared.message.Msg.TheVariants as msg
 use Rattle.log_laws.specs.Histories.{Follows, LogsHold, InWord, JoinerOk, LogState, StreamIn, Took, ViewIn, asks_of_term, between, flow, follows, line_in, log_at, part, site_start, term_at, flow_in}
-use Rattle.log_laws.proofs.Kept.{at-most-same, popped-less, SiteStays, still-same, LogsGo, site_popped, LessTo, SiteTakes, becomes-goes, takes-holds, takes-joined, takes-joiner, takes-joiner-same, takes-kept, takes-member, takes-stream, takes-took, takes-word, with-site, SiteGoesOn, goes-on-same}
+use Rattle.log_laws.proofs.Kept.{at-most-same, popped-less, still-same, LogsGo, site_popped, LessTo, SiteTakes, becomes-goes, takes-holds, takes-joined, takes-joiner, takes-joiner-same, takes-kept, takes-member, takes-stream, takes-took, takes-word, with-site, SiteGoesOn, goes-on-same}
 use Rattle.log_laws.proofs.Plain.{follows-one, begins-not-follows, follows-cons, for-here}
 use Rattle.log_laws.proofs.Joins.Loads.{load-on, with-load}
 use Rattle.log_laws.proofs.Messages.Taken.{first-foreign, first-less, first-letters, first-takes, without, without-each, without-here}
@@ -14,7 +14,7 @@ pub drops-goes : (S : LogState) → LogsHold S → (m i : ℕ) (x : Letter) (ls 
     → ((j : Joining) (w : Membership) → (S.sites i).joining ≡ Some j → (S.sites i).view ≡ Some w → InWord S i w j → follows S.words.deployment w i m ≡ true
     → (S.sites i).earlier < term_of w → flow (site_start S i) (term_of w) ls ≡ flow (site_start S i) (term_of w) (between S m i))
     → LogsGo (site_popped S (Site m) i) i (becomes (S.sites i))
-drops-goes S H m i x ls e up line same-flow = becomes-goes (site_popped S (Site m) i) i s S.logs.streamed refl refl (omega arith)
+drops-goes S H m i x ls e up line same-flow = let still = still-same s s refl in becomes-goes (site_popped S (Site m) i) i s S.logs.streamed refl refl (omega arith)
     (takes-holds S H i s (without S m i) S.pending S.logs.streamed k
     (λ w none h. takes-member S H i s (without S m i) S.pending S.logs.streamed k less still w h)
     (λ j is. takes-joiner-same S H i s (without S m i) S.pending S.logs.streamed k less still (λ t. refl)
@@ -30,9 +30,6 @@ drops-goes S H m i x ls e up line same-flow = becomes-goes (site_popped S (Site 
 
     g : SiteGoesOn (S.sites i) s
     g = goes-on-same s
-
-    still : SiteStays (S.sites i) s
-    still = still-same s s refl
 
     k : SiteTakes S i s (without S m i) S.pending S.logs.streamed
     k = first-takes S H m i x ls e s g S.logs.streamed up (λ c t n. refl) (λ t y is. is) (λ t y is. inl is)

@@ -125,10 +125,7 @@ goes-if-becomes S i false s t g h = h
 -- one message to an agent
 silent-only : (h : ℕ) (l : Letter) → Silent (Agent h) l → (b : Actor) → AllByRecursion (Silent b) (only (Agent h) l b)
 silent-only h l k (Agent g) = all-if (Silent (Agent g)) (h == g) (l ∷ []) [] (k, tt) tt
-silent-only h l k (Site c) = tt
-silent-only h l k Director = tt
-silent-only h l k (Client n) = tt
-silent-only h l k (Scanner x) = tt
+silent-only h l k from = tt
 
 -- the leader tells the initiator how its partition stands
 pub tells-goes : (E : Database) (D : Deployment) (S : LogState) (i : ℕ) → LogsHold S → LogsGo S i (tells E D i (S.sites i))
@@ -169,10 +166,7 @@ shows-goes E D S i H = goes-if S i (nat_lt 0 s.looks && nothing_open s.log) show
 
     silent : (b : Actor) → AllByRecursion (Silent b) (shown.sends b)
     silent Director = all-from (Silent Director) (replicate s.looks (looked E D i s)) (λ l k. tt)
-    silent (Client n) = tt
-    silent (Agent h) = tt
-    silent (Site c) = tt
-    silent (Scanner x) = tt
+    silent from = tt
 
 -- a look, and a cut of power, are noted
 pub look-goes : (S : LogState) (i : ℕ) → LogsHold S → LogsGo S i (becomes (on_look (S.sites i)))

@@ -1,9 +1,9 @@
 -- What holds of a slot that isn't the one that moves: it stays so.
-use Rattle.log_laws.proofs.Names.{◌≡◌, ◌<◌, Bool, true, false, List, [], ◌∷◌, refl, sym, subst, ap, ◌∙◌, ◌⊎◌, inl, inr, ◌==◌, arith, cases_Bool, eqb-true, eq-eqb, ne_eqb, ℕ, ◌&&◌, not, length, Option, Some, None, AllByRecursion, Membership, Deployment, term_of, term_in, leader, SiteState, Streamed, Joining, Joiner, Ask, In, all-mono}
-use Rattle.log_laws.specs.Histories.{LogState, LogsHold, Entered, Streaming, Leadership, Line, Flow, FollowsIn, LeadsIn, HeldOk, AsksToJoin, CountedOk, SiteWaitingOk, KeepsOk, SiteOk, AckOk, ReportOk, MemberOk, JoinerOk, InWord, Wordless, ViewIn, StreamIn, Untaken, Took, Coming, Inert, NoStream, IsCounted, IsSlot, part, site_start, term_at, between, follows, line, flow, stream_ends_in, asked}
+use Rattle.log_laws.proofs.Names.{◌≡◌, ◌<◌, Bool, true, false, List, [], ◌∷◌, refl, sym, subst, ap, ◌∙◌, ◌⊎◌, inl, inr, ◌==◌, arith, cases_Bool, eqb-true, eq-eqb, ne_eqb, ℕ, ◌&&◌, not, length, Option, Some, None, AllByRecursion, Membership, Deployment, term_of, term_in, leader, SiteState, Streamed, Joining, Joiner, Ask, In, all-mono, none-and-some, same-some}
+use Rattle.log_laws.specs.Histories.{LogState, LogsHold, Entered, Streaming, Leadership, Line, Flow, FollowsIn, LeadsIn, HeldOk, AsksToJoin, SiteWaitingOk, KeepsOk, SiteOk, MemberOk, JoinerOk, InWord, Wordless, ViewIn, StreamIn, Untaken, Took, Coming, Inert, NoStream, IsCounted, part, site_start, term_at, between, follows, line, flow, stream_ends_in, asked}
 use Rattle.log_laws.proofs.Kept.Moves.{LogsLater, Stays, JoinsOn}
 use Rattle.log_laws.proofs.Kept.Asked.{AtMost, at-most-none, at-most-one}
-use Rattle.log_laws.proofs.Kept.Laters.{part-later, slot-before, start-later, ack-later, report-later, counted-later, ask-later-on, waiting-later-on}
+use Rattle.log_laws.proofs.Kept.Laters.{part-later, slot-before, start-later, ask-later-on, waiting-later-on, counteds-later, keeps-at}
 use Rattle.log_laws.proofs.Plain.{follows-leader, one-and-others}
 
 -- ---- what is the same
@@ -21,17 +21,30 @@ pub record SiteStays (s t : SiteState) : Type 0 where
   pub firm : t.firm ≡ s.firm
 
 pub still-same : (s t : SiteState) → t ≡ s → SiteStays s t
-still-same s t e = record {
-  start = ap (λ x. x.start) e;
-  greatest = ap (λ x. x.greatest) e;
-  earlier = ap (λ x. x.earlier) e;
-  view = ap (λ x. x.view) e;
-  joining = ap (λ x. x.joining) e;
-  log = ap (λ x. x.log) e;
-  floor = ap (λ x. x.floor) e;
-  repaired = ap (λ x. x.repaired) e;
-  firm = ap (λ x. x.firm) e;
-}
+still-same s t e = subst (SiteStays s) (sym e) search
+
+-- It runs on in its word, a member as one, and a joiner as one.
+pub record RunsOn (s t : SiteState) : Type 0 where
+  pub start : t.start ≡ s.start
+  pub greatest : t.greatest ≡ s.greatest
+  pub earlier : t.earlier ≡ s.earlier
+  pub view : t.view ≡ s.view
+  pub member : s.joining ≡ None → t.joining ≡ None
+  pub joins : (j : Joining) → s.joining ≡ Some j → (k : Joining) × (t.joining ≡ Some k)
+
+pub was-member : (s t : SiteState) → RunsOn s t → t.joining ≡ None → s.joining ≡ None
+was-member s t on none = go s.joining refl
+  where
+    go : (o : Option Joining) → s.joining ≡ o → s.joining ≡ None
+    go None e = e
+    go (Some j) e = absurd (none-and-some none (on.joins j e).1)
+
+pub was-joiner : (s t : SiteState) → RunsOn s t → (k : Joining) → t.joining ≡ Some k → (j : Joining) × (s.joining ≡ Some j)
+was-joiner s t on k is = go s.joining refl
+  where
+    go : (o : Option Joining) → s.joining ≡ o → (j : Joining) × (s.joining ≡ Some j)
+    go None e = absurd (none-and-some (on.member e) is)
+    go (Some j) e = (j, e)
 
 -- slot l counts no joiner of this start of a slot
 abbrev pub Uncounted : LogState → ℕ → ℕ → ℕ → Type 0
@@ -60,14 +73,7 @@ pub record SameKept (s t : SiteState) : Type 0 where
   pub held : AllByRecursion HeldOk s.held → AllByRecursion HeldOk t.held
 
 pub kept-same : (s t : SiteState) → t ≡ s → SameKept s t
-kept-same s t e = record {
-  acks = ap (λ x. x.acks) e;
-  reports = ap (λ x. x.reports) e;
-  joiners = ap (λ x. x.joiners) e;
-  asks = ap (λ x. x.asks) e;
-  on_disk = ap (λ x. x.on_disk) e;
-  held = subst (λ x. AllByRecursion HeldOk x.held) (sym e);
-}
+kept-same s t e = subst (SameKept s) (sym e) search
 
 -- nothing waits, was asked or is counted at a site
 abbrev pub KeepsNone : LogState → ℕ → Type 0
@@ -102,6 +108,26 @@ module _ (S T : LogState) (H : LogsHold S) (f : LogsLater S T) where
   pub counted-from : (i : ℕ) → ((l : ℕ) → (l ≡ i → ⊥) → T.sites l ≡ S.sites l) → (c a stream_start : ℕ) (w : Membership)
       → (CountedBy S c a stream_start w i → CountedBy T c a stream_start w i) → IsCounted S c a stream_start w → IsCounted T c a stream_start w
   counted-from i others c a stream_start w mine = counted-keeps c a stream_start w (one-and-others _ i mine (λ l d. counted_by-same S T c a stream_start w l (others l d)))
+
+-- ---- a slot
+
+-- It runs on, where what it is, and what it keeps, is given anew.
+pub site-runs : (S T : LogState) → LogsHold S → LogsLater S T → (c : ℕ) → RunsOn (S.sites c) (T.sites c) → T.logs.ran c ≡ S.logs.ran c
+    → (0 < site_start S c → (S.sites c).joining ≡ None → (w : Membership) → (S.sites c).view ≡ Some w → MemberOk S c w → MemberOk T c w)
+    → ((j k : Joining) → (S.sites c).joining ≡ Some j → (T.sites c).joining ≡ Some k → JoinerOk S c j → JoinerOk T c k)
+    → (0 < site_start S c → KeepsOk S c → KeepsOk T c) → (site_start S c ≡ 0 → KeepsNone S c → KeepsNone T c) → SiteOk S c → SiteOk T c
+site-runs S T H f c on ran member joiner keeps stopped k = record {
+  environment = λ e. on.start ∙ k.environment (rw (f.words.deployment) at e);
+  ran = λ up. rw (ran, on.start) (k.ran (rw (on.start) at up));
+  term = rw (on.view, on.greatest) k.term;
+  earlier = rw (on.earlier, on.greatest) k.earlier;
+  member = λ up e. let old = rw (on.start) at up in let none = was-member (S.sites c) (T.sites c) on e in
+      let m = k.member old none in (m.0, on.view ∙ m.1, member old none m.0 m.1 m.2);
+  joiner = λ j e. let b = was-joiner (S.sites c) (T.sites c) on j e in joiner b.0 j b.1 e (k.joiner b.0 b.1);
+  keeps = λ up. let old = rw (on.start) at up in keeps old (k.keeps old);
+  stopped = λ e. stopped (sym on.start ∙ e) (k.stopped (sym on.start ∙ e));
+  blank = λ e. on.view ∙ k.blank (sym on.start ∙ e);
+}
 
 -- ---- a member
 
@@ -340,26 +366,11 @@ module _ (S T : LogState) (H : LogsHold S) (f : LogsLater S T) (c : ℕ) (site :
   pub keeps-with : SameKept (S.sites c) (T.sites c)
       → ((a : Ask) → AsksToJoin S (part S c) a.slot (term_at S c) a.start → AsksToJoin T (part S c) a.slot (term_at S c) a.start)
       → AllByRecursion (SiteWaitingOk T c) (T.sites c).waiting → AllByRecursion (SiteWaitingOk T c) (T.pending c) → KeepsOk S c → KeepsOk T c
-  keeps-with same asks waiting pending k = record {
-    acks = rw (same.acks, term-still) (all-mono (λ a. IsSlot S a.0 → AckOk S a.0 (term_at S c) a.1) (λ a. IsSlot T a.0 → AckOk T a.0 (term_at S c) a.1)
-        (λ a p slot. ack-later S T H f a.0 (term_at S c) a.1 (p (slot-before S T H f a.0 slot))) (S.sites c).acks k.acks);
-    reports = rw (same.reports, term-still, part-later S T H f c) (all-mono (λ r. ReportOk S (part S c) r.slot (term_at S c) r.position r.floor r.tail)
-        (λ r. ReportOk T (part S c) r.slot (term_at S c) r.position r.floor r.tail)
-        (λ r. report-later S T H f (part S c) r.slot (term_at S c) r.position r.floor r.tail) (S.sites c).reports k.reports);
-    joiners = rw (same.joiners, term-still, part-later S T H f c) (all-mono (CountedOk S (part S c) (term_at S c)) (CountedOk T (part S c) (term_at S c))
-        (counted-later S T H f (part S c) (term_at S c)) (S.sites c).joiners k.joiners);
-    alone = rw (same.joiners) k.alone;
-    leads = elim k.leads [
-      | inl e ↦ inl (same.joiners ∙ e)
-      | inr e ↦ inr (rw (f.words.deployment, site.joining, site.view) e)
-    ];
-    asks = rw (same.asks, term-still, part-later S T H f c) (all-mono (λ a. AsksToJoin S (part S c) a.slot (term_at S c) a.start)
-        (λ a. AsksToJoin T (part S c) a.slot (term_at S c) a.start) asks (S.sites c).asks k.asks);
-    waiting = waiting;
-    pending = pending;
-    on_disk = rw (same.on_disk, site.log) k.on_disk;
-    held = same.held k.held;
-  }
+  keeps-with same asks waiting pending k = keeps-at S T H f c (T.sites c) refl term-still (rw same.acks k.acks) (rw same.reports k.reports)
+      (rw same.joiners (counteds-later S T H f (part S c) (term_at S c) (S.sites c).joiners k.joiners)) (rw same.joiners k.alone)
+      (elim k.leads [ inl e ↦ inl (same.joiners ∙ e) | inr e ↦ inr (rw (site.joining, site.view) e) ])
+      (rw same.asks (all-mono (λ a. AsksToJoin S (part S c) a.slot (term_at S c) a.start) (λ a. AsksToJoin T (part S c) a.slot (term_at S c) a.start) asks (S.sites c).asks k.asks))
+      waiting pending (rw (same.on_disk, site.log) k.on_disk) (same.held k.held)
 
   -- where the site is as it was, and starts that ask and run on join on
   pub keeps-later : T.sites c ≡ S.sites c → T.pending c ≡ S.pending c → ((i : ℕ) → Stays S T i → 0 < site_start T i → JoinsOn S T i) → KeepsOk S c → KeepsOk T c
@@ -376,18 +387,8 @@ module _ (S T : LogState) (H : LogsHold S) (f : LogsLater S T) (c : ℕ) (site :
       → (0 < site_start S c → (S.sites c).joining ≡ None → (w : Membership) → (S.sites c).view ≡ Some w → MemberOk S c w → MemberOk T c w)
       → ((j : Joining) → (S.sites c).joining ≡ Some j → JoinerOk S c j → JoinerOk T c j)
       → (0 < site_start S c → KeepsOk S c → KeepsOk T c) → (site_start S c ≡ 0 → KeepsNone S c → KeepsNone T c) → SiteOk S c → SiteOk T c
-  site-keeps-with ran member joiner keeps stopped k = record {
-    environment = λ e. site.start ∙ k.environment (rw (f.words.deployment) at e);
-    ran = λ up. rw (ran, site.start) (k.ran (rw (site.start) at up));
-    term = rw (term-still, site.greatest) k.term;
-    earlier = rw (site.earlier, site.greatest) k.earlier;
-    member = λ up e. let old = rw (site.start) at up in let none = sym site.joining ∙ e in
-        let m = k.member old none in (m.0, site.view ∙ m.1, member old none m.0 m.1 m.2);
-    joiner = λ j e. let is = sym site.joining ∙ e in joiner j is (k.joiner j is);
-    keeps = λ up. let old = rw (site.start) at up in keeps old (k.keeps old);
-    stopped = λ e. stopped (sym site.start ∙ e) (k.stopped (sym site.start ∙ e));
-    blank = λ e. site.view ∙ k.blank (sym site.start ∙ e);
-  }
+  site-keeps-with ran member joiner = site-runs S T H f c (record { start = site.start; greatest = site.greatest; earlier = site.earlier; view = site.view; member = λ e. site.joining ∙ e; joins = λ j e. (j, site.joining ∙ e) })
+      ran member (λ j k is e o. subst (JoinerOk T c) (same-some (sym is ∙ sym site.joining ∙ e)) (joiner j is o))
 
   -- where all is the same
   pub site-keeps : T.logs.ran c ≡ S.logs.ran c → SameRun S T c → SameTerm S T (part S c) (term_at S c) → (0 < site_start S c → (l : ℕ) → SameFrom S T c l (term_at S c))

@@ -33,10 +33,7 @@ module _ (S T : LogState) (H : LogsHold S) (f : LogsLater S T) where
     | msg.StreamStart head ↦ λ e. e
     | m ↦ λ _. tt
   ] k
-  foreign-later c Director l k = k
-  foreign-later c (Client n) l k = k
-  foreign-later c (Site i) l k = k
-  foreign-later c (Scanner i) l k = k
+  foreign-later c from l k = k
 
 -- ---- of messages from the agent, others that are left of them
 

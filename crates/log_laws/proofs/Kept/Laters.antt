@@ -1,7 +1,7 @@
 -- What is kept from one state to a later one.
-use Rattle.log_laws.proofs.Names.{◌≡◌, ◌<◌, List, refl, sym, subst, ap, ◌∙◌, ◌⊎◌, inl, inr, ◌==◌, arith, ℕ, ◌≤◌, max, length, Option, Some, None, AllByRecursion, list_any, Entry, Membership, Actor, Director, Client, Agent, Site, Scanner, start_of_slot, leader, Letter, Waiting, Queued, Job_, Admission, Joiner, Joining, In, Prefix, all-mono, none-and-some, same-some, prefix-length, prefix-refl, prefix-trans}
+use Rattle.log_laws.proofs.Names.{◌≡◌, ◌<◌, List, refl, sym, subst, ap, ◌∙◌, ◌⊎◌, inl, inr, ◌==◌, arith, ℕ, ◌≤◌, max, length, Option, Some, None, AllByRecursion, list_any, Entry, Membership, Actor, Director, Client, Agent, Site, Scanner, start_of_slot, leader, Letter, Waiting, Queued, Job_, Admission, Joiner, Joining, In, Prefix, all-mono, none-and-some, same-some, prefix-length, prefix-refl, prefix-trans, Distinct, is_leader, map, Ask, SiteState, site_term, [], true}
 use Rattle.volt_wire.specs.declared.message.Msg.TheVariants as msg
-use Rattle.log_laws.specs.Histories.{LogState, Logs, epoch_base, LogsHold, HasBeen, WasIn, AckOk, ReportOk, AsksToJoin, CountedOk, EndOk, MeantFor, LoadedOk, BeginsAt, SiteLetterOk, SiteWaitingFrom, SiteWaitingOk, ToldOk, AskedOk, QueuedLoadedOk, LoadsOk, IsSlot, AllLoaded, Entered, Streaming, Leadership, EnteredOk, StreamedOk, LeadershipOk, UnledOk, Last, Unled, Came, IsCounted, WordOf, part, site_start, log_at, term_at, flow, between}
+use Rattle.log_laws.specs.Histories.{LogState, Logs, epoch_base, LogsHold, HasBeen, WasIn, AckOk, ReportOk, AsksToJoin, CountedOk, EndOk, MeantFor, LoadedOk, BeginsAt, SiteLetterOk, SiteWaitingFrom, SiteWaitingOk, ToldOk, AskedOk, QueuedLoadedOk, LoadsOk, IsSlot, AllLoaded, Entered, Streaming, Leadership, EnteredOk, StreamedOk, LeadershipOk, UnledOk, Last, Unled, Came, IsCounted, WordOf, part, site_start, log_at, term_at, flow, between, HeldOk, KeepsOk, asked}
 use Rattle.log_laws.proofs.Kept.Moves.{LogsLater, EntersNow, Stays, JoinsOn, SameLeaderships}
 
 -- the same terms are led where nothing of them changes
@@ -222,10 +222,7 @@ module _ (S T : LogState) (H : LogsHold S) (f : LogsLater S T) where
 
       go : (from : Actor) → x.from ≡ from → SiteWaitingFrom S c from x.letter → SiteWaitingFrom T c from x.letter
       go (Site i) e p = site i e p
-      go (Agent h) e p = p
-      go Director e p = p
-      go (Client n) e p = p
-      go (Scanner i) e p = p
+      go from e p = p
 
   -- where all starts that ask and run on join on
   pub waiting-later-on : (c : ℕ) → site_start T c ≡ site_start S c → ((i : ℕ) → Stays S T i → 0 < site_start T i → JoinsOn S T i) → (x : Waiting) → SiteWaitingOk S c x → SiteWaitingOk T c x
@@ -233,6 +230,38 @@ module _ (S T : LogState) (H : LogsHold S) (f : LogsLater S T) where
 
   pub waiting-later : (c : ℕ) → site_start T c ≡ site_start S c → ((i : ℕ) → JoinsOn S T i) → (x : Waiting) → SiteWaitingOk S c x → SiteWaitingOk T c x
   waiting-later c start on = waiting-later-on c start (λ i _ _. on i)
+
+  -- all that wait, asked, or are counted
+  pub waitings-later : (c : ℕ) → site_start T c ≡ site_start S c → ((i : ℕ) → JoinsOn S T i) → (ws : List Waiting) → AllByRecursion (SiteWaitingOk S c) ws → AllByRecursion (SiteWaitingOk T c) ws
+  waitings-later c start on = all-mono (SiteWaitingOk S c) (SiteWaitingOk T c) (waiting-later c start on)
+
+  pub asks-later : (p t : ℕ) → ((c : ℕ) → JoinsOn S T c) → (as_ : List Ask) → AllByRecursion (λ a. AsksToJoin S p a.slot t a.start) as_ → AllByRecursion (λ a. AsksToJoin T p a.slot t a.start) as_
+  asks-later p t on = all-mono (λ a. AsksToJoin S p a.slot t a.start) (λ a. AsksToJoin T p a.slot t a.start) (λ a. ask-later p a.slot t a.start (on a.slot))
+
+  pub counteds-later : (p t : ℕ) (js : List Joiner) → AllByRecursion (CountedOk S p t) js → AllByRecursion (CountedOk T p t) js
+  counteds-later p t = all-mono (CountedOk S p t) (CountedOk T p t) (counted-later p t)
+
+  -- What a slot's site keeps that has this state: what it knew of copies and reports it knows still.
+  pub keeps-at : (c : ℕ) (s : SiteState) → T.sites c ≡ s → site_term s ≡ term_at S c
+      → AllByRecursion (λ a. IsSlot S a.0 → AckOk S a.0 (term_at S c) a.1) s.acks
+      → AllByRecursion (λ r. ReportOk S (part S c) r.slot (term_at S c) r.position r.floor r.tail) s.reports
+      → AllByRecursion (CountedOk T (part S c) (term_at S c)) s.joiners → Distinct (map (λ j. j.slot) s.joiners)
+      → ((s.joiners ≡ []) ⊎ (is_leader S.words.deployment c s ≡ true)) → AllByRecursion (λ a. AsksToJoin T (part S c) a.slot (term_at S c) a.start) s.asks
+      → AllByRecursion (SiteWaitingOk T c) s.waiting → AllByRecursion (SiteWaitingOk T c) (T.pending c) → s.on_disk ≤ length s.log → AllByRecursion HeldOk s.held → KeepsOk T c
+  keeps-at c s is term acks reports joiners alone leads asks waiting pending on_disk held = record {
+    acks = rw (is, term) (all-mono (λ a. IsSlot S a.0 → AckOk S a.0 (term_at S c) a.1) (λ a. IsSlot T a.0 → AckOk T a.0 (term_at S c) a.1)
+        (λ a p slot. ack-later a.0 (term_at S c) a.1 (p (slot-before a.0 slot))) s.acks acks);
+    reports = rw (is, term, part-later c) (all-mono (λ r. ReportOk S (part S c) r.slot (term_at S c) r.position r.floor r.tail)
+        (λ r. ReportOk T (part S c) r.slot (term_at S c) r.position r.floor r.tail) (λ r. report-later (part S c) r.slot (term_at S c) r.position r.floor r.tail) s.reports reports);
+    joiners = rw (is, term, part-later c) joiners;
+    alone = rw is alone;
+    leads = rw (is, f.words.deployment) leads;
+    asks = rw (is, term, part-later c) asks;
+    waiting = rw is waiting;
+    pending = pending;
+    on_disk = rw (is, log_at) on_disk;
+    held = rw is held;
+  }
 
   -- ---- what was loaded
 
@@ -248,9 +277,7 @@ module _ (S T : LogState) (H : LogsHold S) (f : LogsLater S T) where
     | m ↦ λ _. tt
   ] k
   asked-later (Site i) l k = told-later i l k
-  asked-later Director l k = tt
-  asked-later (Client n) l k = tt
-  asked-later (Scanner i) l k = tt
+  asked-later from l k = tt
 
   pub queued-later : (q : Queued) → QueuedLoadedOk S q → QueuedLoadedOk T q
   queued-later (Job_ job) k = tt
@@ -289,6 +316,12 @@ module _ (S T : LogState) (H : LogsHold S) (f : LogsLater S T) where
 
   pub unled-before : (p v t : ℕ) → SameLeaderships S.logs T.logs → Unled T.logs p v t → Unled S.logs p v t
   unled-before p v t same k x g is = let r = same.kept p x g is in k x r.0 r.1
+
+  -- What is everywhere in a term in which a start was is in its log still.
+  reach-later : (c t a : ℕ) → HasBeen S c t a → ((p t : ℕ) → T.logs.reach p t ≡ S.logs.reach p t) → (site_start S c ≡ a → S.logs.reach (part S c) t ≤ length (log_at S c))
+      → site_start T c ≡ a → T.logs.reach (part T c) t ≤ length (log_at T c)
+  reach-later c t a been reach within runs = let s = stays c a been.some been.ran runs in
+      let n = within (sym s.start ∙ runs) in let m = s.log in let r = reach (part S c) t in rw (part-later c) (omega (arith, n, m, r))
 
   -- Of a slot that entered a term, where what is everywhere is in its log still.
   pub entered-later : (c t : ℕ) (e : Entered) → EnteredOk S c t e → SameLeaderships S.logs T.logs
@@ -349,6 +382,15 @@ module _ (S T : LogState) (H : LogsHold S) (f : LogsLater S T) where
             );
         counted = counted k.counted;
       }
+
+  -- So it is of all, where the same terms are led, and what is everywhere in them is the same.
+  pub entereds-later : SameLeaderships S.logs T.logs → ((p t : ℕ) → T.logs.reach p t ≡ S.logs.reach p t) → (c t : ℕ) (e : Entered) → S.logs.entered c t ≡ Some e → EnteredOk T c t e
+  entereds-later same reach c t e is = let k = H.entered c t e is in entered-later c t e k same (reach-later c t e.start k.been reach (λ runs. (k.running runs).2))
+      (λ v g led below. let a = k.since v g led below in let r = reach (part S c) v in omega (arith, a, r))
+
+  pub streameds-later : SameLeaderships S.logs T.logs → ((p t : ℕ) → T.logs.reach p t ≡ S.logs.reach p t) → (c t : ℕ) (x : Streaming) (k : StreamedOk S c t x) → T.logs.entered c t ≡ None
+      → (IsCounted S c x.start x.stream_start k.word → IsCounted T c x.start x.stream_start k.word) → StreamedOk T c t x
+  streameds-later same reach c t x k apart = streamed-later c t x k same apart (reach-later c t x.start k.been reach (λ runs. (k.running runs).2))
 
   -- Of a term that a leader began.
   pub leadership-later : (p t : ℕ) (g h : Leadership) → h.begun ≡ g.begun → Prefix g.log h.log → T.logs.reach p t ≤ length g.log → LeadershipOk S p t g → LeadershipOk T p t h

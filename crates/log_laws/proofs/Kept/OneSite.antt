@@ -2,11 +2,11 @@
 use Rattle.log_laws.proofs.Names.{List, ap, arith, false, inl, inr, refl, subst, sym, true, ◌≡◌, ◌++◌, ◌∙◌, ◌⊎◌, ◌<◌, ◌≤◌, [], AllByRecursion, None, Option, Some, is_some, length, map, ℕ, Entry, Membership, Actor, Agent, Director, Site, Letter, Waiting, becomes, Ask, Joiner, Joining, SiteState, Streamed, is_leader, term_of, set_at, all-mono, none-and-some, same-some, set-here, set-there, sent-nothing, Distinct, In, leader-view, set-both}
 use Rattle.log_laws.specs.Histories.{AsksToJoin, BeginsAt, Coming, CountedOk, Flow, Follows, ForeignOk, LogsHold, InWord, IsCounted, IsSlot, JoinerOk, KeepsOk, LogState, MemberOk, Inert, SiteLetterOk, StreamIn, StreamedOk, Streaming, Took, Untaken, ViewIn, SiteWaitingOk, Wordless, asked, between, stream_ends_in, flow, follows, line, part, site_start, term_at, log_at}
 use Rattle.log_laws.proofs.Kept.Asked.{AsksLess, at-most-none, at-most-one}
-use Rattle.log_laws.proofs.Kept.Keeps.{CountedBy, SameFrom, SiteStays, Uncounted, counted-from, still-same}
-use Rattle.log_laws.proofs.Kept.Laters.{letter-later, streamed-later}
+use Rattle.log_laws.proofs.Kept.Keeps.{CountedBy, SameFrom, SiteStays, Uncounted, counted-from, still-same, was-member}
+use Rattle.log_laws.proofs.Kept.Laters.{letter-later, streameds-later}
 use Rattle.log_laws.proofs.Kept.Moves.{LogsGo, LogsLater, Unentered}
 use Rattle.log_laws.proofs.Kept.Grown.{grown-reach, enters-same}
-use Rattle.log_laws.proofs.Kept.Steady.{SiteGoesOn, Steady, goes-on-same, shifted, steady-asks, steady-counted, steady-holds, steady-joiner, steady-joins, steady-keeps, steady-later, steady-member, steady-leaderships}
+use Rattle.log_laws.proofs.Kept.Steady.{SiteGoesOn, Steady, goes-on-same, shifted, steady-asks, steady-counted, steady-holds, steady-joiner, steady-joins, steady-keeps, steady-later, steady-member, steady-leaderships, goes-runs}
 use Rattle.log_laws.proofs.Plain.{one-and-others}
 
 -- the state in which the site of slot i is this one, with these channels, with what is pending, and with the streams that were taken
@@ -107,8 +107,7 @@ module _ (S : LogState) (H : LogsHold S) (i : ℕ) (s : SiteState) (ch : Actor �
 
       other-stream : (c t : ℕ) (x : Streaming) → (c ≡ i → ⊥) → S.logs.streamed c t ≡ Some x → StreamedOk T c t x
       other-stream c t x n is = let h = H.streamed c t x is in
-          streamed-later S T H later c t x h (steady-leaderships S ch (set_at S.sites i s) pend st H takes-steady) h.apart
-          (λ at. subst (λ z. S.logs.reach (part S c) t ≤ length z.log) (sym (there c n)) (h.running (ap (λ z. z.start) (sym (there c n)) ∙ at)).2)
+          streameds-later S T H later (steady-leaderships S ch (set_at S.sites i s) pend st H takes-steady) (λ p t. refl) c t x h h.apart
           (takes-counted c x.start x.stream_start h.word)
 
 -- ---- the slot itself
@@ -323,10 +322,8 @@ module _ (S : LogState) (H : LogsHold S) (i : ℕ) (s : SiteState) (ch : Actor �
   -- the streams that it took before
   pub takes-stream : (t : ℕ) (x : Streaming) → S.logs.streamed i t ≡ Some x → StreamedOk (with-site S i s ch pend st) i t x
   takes-stream t x is = let h = H.streamed i t x is in
-      streamed-later S (with-site S i s ch pend st) H (steady-later S ch (set_at S.sites i s) pend st H (takes-steady S H i s ch pend st k)) i t x h
-      (steady-leaderships S ch (set_at S.sites i s) pend st H (takes-steady S H i s ch pend st k)) h.apart
-      (λ at. subst (λ z. S.logs.reach (part S i) t ≤ length z.log) (sym here)
-      (let r = h.running (sym start-here ∙ at) in let low = r.2 in let up = k.goes.log in omega (arith, low, up)))
+      streameds-later S (with-site S i s ch pend st) H (steady-later S ch (set_at S.sites i s) pend st H (takes-steady S H i s ch pend st k))
+      (steady-leaderships S ch (set_at S.sites i s) pend st H (takes-steady S H i s ch pend st k)) (λ p t. refl) i t x h h.apart
       (takes-counted S H i s ch pend st k i x.start x.stream_start h.word)
 
 -- ---- whom it counts
@@ -338,16 +335,9 @@ module _ (S : LogState) (i : ℕ) (s : SiteState) (ch : Actor → Actor → List
       → (c a stream_start : ℕ) (w : Membership) → CountedBy S c a stream_start w i → CountedBy (with-site S i s ch pend st) c a stream_start w i
   counts-on each c a stream_start w h = λ up none view.
       let e = set-here S.sites i s in
-      let r = h (subst (λ z. 0 < z) (ap (λ x. x.start) e ∙ g.start) up) (none-before (ap (λ x. x.joining) (sym e) ∙ none)) (sym g.view ∙ ap (λ x. x.view) (sym e) ∙ view) in
+      let r = h (subst (λ z. 0 < z) (ap (λ x. x.start) e ∙ g.start) up) (was-member (S.sites i) s (goes-runs (S.sites i) s g) (ap (λ x. x.joining) (sym e) ∙ none)) (sym g.view ∙ ap (λ x. x.view) (sym e) ∙ view) in
       let n = each r.0 r.1 in
       (n.0, subst (λ x. In n.0 x.joiners) (sym e) n.1, n.2 ∙ r.2, n.3 ∙ r.3, n.4 ∙ r.4)
-    where
-      none-before : s.joining ≡ None → (S.sites i).joining ≡ None
-      none-before none = go (S.sites i).joining refl
-        where
-          go : (o : Option Joining) → (S.sites i).joining ≡ o → (S.sites i).joining ≡ None
-          go None e = e
-          go (Some j) e = absurd (none-and-some none (g.joins j e).1)
 
   pub uncounts-on : ((n : Joiner) → In n s.joiners → (j : Joiner) × In j (S.sites i).joiners × (j.slot ≡ n.slot) × (j.start ≡ n.start))
       → (c a : ℕ) → Uncounted S i c a → Uncounted (with-site S i s ch pend st) i c a

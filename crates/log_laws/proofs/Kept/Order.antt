@@ -5,7 +5,7 @@ use Rattle.log_laws.proofs.Kept.Moves.{after_site, NoStreamStart, Turns}
 use Rattle.log_laws.proofs.Plain.{line-order, flow-order, ends-order, asks-order}
 use Rattle.log_laws.proofs.Kept.Asked.{at-most-is}
 use Rattle.log_laws.proofs.Kept.KeepsViews.{leaves-same}
-use Rattle.log_laws.proofs.Kept.Inert.{logs_moved, channels-hold}
+use Rattle.log_laws.proofs.Kept.Inert.{channels-hold}
 
 -- ---- two turns that differ in the order of what they send
 
@@ -47,7 +47,7 @@ order-holds S i s out G plain H = channels-hold T ch H
       told = λ c h. all-two (λ j. ToldOk T j) (Agent h) c (H.loads.told c h);
       asked = λ h g. refl;
     })
-    (λ c l t. at-most-is (asked T c l t) (asked (logs_moved T ch T.sites T.pending) c l t)
+    (λ c l t. at-most-is (asked T c l t) (asked (record T { words = record T.words { channel = ch } }) c l t)
     (ap (λ z. z ++ asks_waiting c t (T.sites l).waiting ++ asks_waiting c t (T.pending l) ++ asks_of_term c t (T.sites l)) (asks c l t)))
   where
     T : LogState
@@ -76,10 +76,7 @@ order-holds S i s out G plain H = channels-hold T ch H
 
     foreign : (from : Actor) (c : ℕ) → AllByRecursion (ForeignOk T c from) (ch from (Site c))
     foreign (Site j) c = all-two (λ j. ForeignOk T c (Site j)) (Site c) j (H.foreign (Site j) c)
-    foreign (Agent h) c = H.foreign (Agent h) c
-    foreign Director c = H.foreign Director c
-    foreign (Client n) c = H.foreign (Client n) c
-    foreign (Scanner x) c = H.foreign (Scanner x) c
+    foreign from c = H.foreign from c
 
 -- ---- a turn in order
 
@@ -102,7 +99,7 @@ IsLast l = order_of l ≡ 4
 
 -- messages of the last place behind others stay behind them
 pub order-behind : (xs ys : List Letter) → AllByRecursion IsLast ys → in_order (xs ++ ys) ≡ in_order xs ++ ys
-order-behind xs ys h = rw (
+order-behind xs ys h = let same-last = filter-all (λ l. order_of l == 4) ys (all-mono IsLast (λ l. (order_of l == 4) ≡ true) (λ l k. ap (λ m. m == 4) k) ys h) in rw (
   split 1,
   split 2,
   split 3,
@@ -126,9 +123,6 @@ order-behind xs ys h = rw (
         filter-nothing : (p : Letter → Bool) (zs : List Letter) → AllByRecursion (λ l. p l ≡ false) zs → filter p zs ≡ []
         filter-nothing p [] k = refl
         filter-nothing p (z ∷ zs) k = rw (k.0) (filter-nothing p zs k.1)
-
-    same-last : of_order 4 ys ≡ ys
-    same-last = filter-all (λ l. order_of l == 4) ys (all-mono IsLast (λ l. (order_of l == 4) ≡ true) (λ l k. ap (λ m. m == 4) k) ys h)
 
 pub ordered-then : (t : Turn SiteState) (f : SiteState → Turn SiteState) → ((b : Actor) → AllByRecursion IsLast ((f t.state).sends b)) → ordered (t ▸ f) ≡ ordered t ▸ f
 ordered-then t f h = ap (λ z. record { state = (f t.state).state; sends = z }) (fun_ext (λ b. order-behind (t.sends b) ((f t.state).sends b) (h b)))

@@ -1,13 +1,14 @@
 -- Turns of a site in which its log and its term stay: what it counts, acknowledges and has on disk may change.
-use Rattle.log_laws.proofs.Names.{◌≡◌, ◌<◌, ◌≤◌, true, false, List, [], ◌∷◌, ◌++◌, refl, sym, subst, ap, ◌∙◌, ◌⊎◌, inl, inr, append-nil, arith, fun_ext, ℕ, map, length, Option, Some, None, AllByRecursion, Membership, Actor, Director, Client, Agent, Site, Scanner, Deployment, term_of, Letter, Sends, no_sends, Turn, sending, Waiting, SiteState, Streamed, Joining, Joiner, is_leader, sent, set_at, In, Distinct, not-both, in-none, in-map, in-map-from, all-append, all-mono, none-and-some, same-some, set-both, leader-same, leader-view}
+use Rattle.log_laws.proofs.Names.{◌≡◌, ◌<◌, ◌≤◌, true, false, List, [], ◌∷◌, ◌++◌, refl, sym, subst, ap, ◌∙◌, ◌⊎◌, inl, inr, append-nil, arith, fun_ext, ℕ, map, length, Option, Some, None, AllByRecursion, Membership, Actor, Director, Client, Agent, Site, Scanner, Deployment, term_of, Letter, Sends, no_sends, Turn, sending, SiteState, Streamed, Joining, Joiner, is_leader, sent, set_at, In, Distinct, not-both, in-none, in-map, in-map-from, all-append, all-mono, none-and-some, same-some, set-both, leader-same, leader-view}
 use Rattle.volt_wire.specs.declared.message.Msg.TheVariants as msg
-use Rattle.log_laws.specs.Histories.{LogState, Entered, Streaming, Leadership, Flow, LogsHold, SiteOk, BeginsAt, SiteWaitingOk, ReportOk, AsksToJoin, agent_to_site, IsSlot, AckOk, CountedOk, IsCounted, HeldOk, MemberOk, JoinerOk, ViewIn, StreamIn, Inert, Coming, KeepsOk, ViewsOk, ForeignOk, LoadsOk, ToldOk, SiteLetterOk, JoinsIn, line_in, flow_in, ask_in, line_of, flow_of, ask_of, asks_waiting, asks_of_term, line, flow, stream_ends_in, asks_in, asked, follows, FollowsIn, part, site_start, log_at, term_at, between, end_of}
+use Rattle.log_laws.specs.Histories.{LogState, Entered, Streaming, Leadership, Flow, LogsHold, SiteOk, BeginsAt, agent_to_site, IsSlot, AckOk, CountedOk, IsCounted, HeldOk, MemberOk, JoinerOk, ViewIn, StreamIn, Inert, Coming, KeepsOk, ViewsOk, ForeignOk, LoadsOk, ToldOk, SiteLetterOk, JoinsIn, line_in, flow_in, ask_in, line_of, flow_of, ask_of, asks_waiting, asks_of_term, line, flow, stream_ends_in, asks_in, asked, follows, FollowsIn, part, site_start, log_at, term_at, between, end_of}
 use Rattle.log_laws.proofs.Kept.Moves.{after_site, LogsLater, LogsGo, NoStreamStart, JoinsOn, SameLeaderships}
 use Rattle.log_laws.proofs.Kept.Grown.{grown-reach, enters-same}
-use Rattle.log_laws.proofs.Kept.Laters.{ack-later, report-later, ask-later, counted-later, letter-later, waiting-later-with, loads-later, entered-later, streamed-later, leaderships-later, unleds-later}
+use Rattle.log_laws.proofs.Kept.Laters.{letter-later, loads-later, entered-later, streamed-later, leaderships-later, unleds-later, asks-later, counteds-later, keeps-at, waitings-later}
 use Rattle.log_laws.proofs.Plain.{flat-none, flat-same, if-empty}
 use Rattle.log_laws.proofs.Kept.KeepsViews.{views-keeps-with, leaves-same}
-use Rattle.log_laws.proofs.Kept.Plumbing.{GoesFrom, words-later, words-after, sent-either}
+use Rattle.log_laws.proofs.Kept.Plumbing.{GoesFrom, words-later, words-after, sent-either, later-by}
+use Rattle.log_laws.proofs.Kept.Keeps.{RunsOn, site-runs, was-joiner, was-member}
 
 -- ---- what such a turn may change
 
@@ -95,44 +96,26 @@ module _ (S : LogState) (H : LogsHold S) (states : ℕ → SiteState) (i : ℕ) 
   T = rested S states i out reach
 
   -- joins
-  joins-before : (c : ℕ) (k : Joining) → (states c).joining ≡ Some k → (j : Joining) × ((S.sites c).joining ≡ Some j) × JoiningRests j k
-  joins-before c k e = go (S.sites c).joining refl
-    where
-      go : (o : Option Joining) → (S.sites c).joining ≡ o → (j : Joining) × ((S.sites c).joining ≡ Some j) × JoiningRests j k
-      go None none = absurd (none-and-some ((rests c).member none) e)
-      go (Some j) some = let r = (rests c).joiner j some in (j, some, subst (JoiningRests j) (same-some (sym r.1 ∙ e)) r.2)
+  on : (c : ℕ) → RunsOn (S.sites c) (T.sites c)
+  on c = record { start = refl; greatest = refl; earlier = refl; view = refl; member = (rests c).member; joins = λ j e. let r = (rests c).joiner j e in (r.0, r.1) }
 
-  member-before : (c : ℕ) → (states c).joining ≡ None → (S.sites c).joining ≡ None
-  member-before c e = go (S.sites c).joining refl
-    where
-      go : (o : Option Joining) → (S.sites c).joining ≡ o → (S.sites c).joining ≡ None
-      go None none = none
-      go (Some j) some = absurd (none-and-some e ((rests c).joiner j some).1)
+  joins-before : (c : ℕ) (k : Joining) → (states c).joining ≡ Some k → (j : Joining) × ((S.sites c).joining ≡ Some j) × JoiningRests j k
+  joins-before c k e = let b = was-joiner (S.sites c) (T.sites c) (on c) k e in let r = (rests c).joiner b.0 b.1 in (b.0, b.1, subst (JoiningRests b.0) (same-some (sym r.1 ∙ e)) r.2)
 
   joins-on : (c : ℕ) → JoinsOn S T c
   joins-on c w k = let r = (rests c).joiner k.0 k.1 in (r.0, r.1, k.2)
 
   -- what is kept
   later : LogsLater S T
-  later = record {
-    words = words-later S T.words.channel;
-    ran = λ c a k. k;
-    greatest = λ c. omega arith;
-    sites = λ c. inl (record {
-      start = refl;
-      earlier = refl;
-      greatest = omega arith;
-      log = omega arith;
-      term = omega arith;
-      member = (rests c).member;
-      loaded = λ k e. let b = joins-before c k e in (b.0, b.1, b.2.still);
-    });
-    entered = λ c t e is. is;
-    entered_now = λ c t e is. inl is;
-    streamed = λ c t x is. is;
-    streamed_now = λ c t x is. inl is;
-    reach = reaches.rises;
-  }
+  later = later-by S T (words-later S T.words.channel) refl refl refl (λ c. record {
+    start = refl;
+    earlier = refl;
+    greatest = omega arith;
+    log = omega arith;
+    term = omega arith;
+    member = (rests c).member;
+    loaded = λ k e. let b = joins-before c k e in (b.0, b.1, b.2.still);
+  }) reaches.rises
 
   same-leaderships : SameLeaderships S.logs T.logs
   same-leaderships = record { kept = λ p t g is. (g, is, refl, ([], sym (append-nil g.log))); none = λ p t is. is }
@@ -171,7 +154,7 @@ module _ (S : LogState) (H : LogsHold S) (states : ℕ → SiteState) (i : ℕ) 
 
   counted-rests : (c a stream_start : ℕ) (w : Membership) → IsCounted S c a stream_start w → IsCounted T c a stream_start w
   counted-rests c a stream_start w k l authoritative up none view =
-      let r = k l authoritative up (member-before l none) view in
+      let r = k l authoritative up (was-member (S.sites l) (T.sites l) (on l) none) view in
       let m = (rests l).counted.kept r.0 r.1 in
       (m.0, m.1, m.2 ∙ r.2, m.3 ∙ r.3, m.4 ∙ r.4)
 
@@ -282,47 +265,20 @@ module _ (S : LogState) (H : LogsHold S) (states : ℕ → SiteState) (i : ℕ) 
   letter-rests j c l k = letter-later S T H later j c l (joins-on j)
       (λ e n some start term b. subst (AllByRecursion (BeginsAt e.stream_start)) (sym (flows l.start l.term j c)) b) (λ e x is start. inl is) k
 
-  waiting-rests : (c : ℕ) (x : Waiting) → SiteWaitingOk S c x → SiteWaitingOk T c x
-  waiting-rests c x k = waiting-later-with S T H later c refl x (λ j a _ _ _. ask-later S T H later (part S c) j x.letter.term a (joins-on j)) k
-
   leads-rests : (c : ℕ) → is_leader S.words.deployment c (S.sites c) ≡ true → is_leader S.words.deployment c (T.sites c) ≡ true
   leads-rests c e = leader-same S.words.deployment c (S.sites c) (T.sites c) refl
       (let none = (leader-view S.words.deployment c (S.sites c) e).0 in (rests c).member none ∙ sym none) ∙ e
 
   keeps-rests : (c : ℕ) → 0 < site_start S c → KeepsOk S c → KeepsOk T c
-  keeps-rests c up k = record {
-    acks = all-mono (λ a. IsSlot S a.0 → AckOk S a.0 (term_at S c) a.1) (λ a. IsSlot T a.0 → AckOk T a.0 (term_at T c) a.1)
-        (λ a ok slot. ack-later S T H later a.0 (term_at S c) a.1 (ok slot)) (states c).acks ((rests c).acks up);
-    reports = all-mono (λ r. ReportOk S (part S c) r.slot (term_at S c) r.position r.floor r.tail) (λ r. ReportOk T (part T c) r.slot (term_at T c) r.position r.floor r.tail)
-        (λ r. report-later S T H later (part S c) r.slot (term_at S c) r.position r.floor r.tail) (S.sites c).reports k.reports;
-    joiners = all-mono (CountedOk S (part S c) (term_at S c)) (CountedOk T (part T c) (term_at T c))
-        (counted-later S T H later (part S c) (term_at S c)) (states c).joiners ((rests c).joiners up);
-    alone = (rests c).alone up;
-    leads = elim ((rests c).leads up) [
-      | inl e ↦ inl e
-      | inr e ↦ inr (leads-rests c e)
-    ];
-    asks = all-mono (λ a. AsksToJoin S (part S c) a.slot (term_at S c) a.start) (λ a. AsksToJoin T (part T c) a.slot (term_at T c) a.start)
-        (λ a. ask-later S T H later (part S c) a.slot (term_at S c) a.start (joins-on a.slot)) (S.sites c).asks k.asks;
-    waiting = all-mono (SiteWaitingOk S c) (SiteWaitingOk T c) (waiting-rests c) (S.sites c).waiting k.waiting;
-    pending = all-mono (SiteWaitingOk S c) (SiteWaitingOk T c) (waiting-rests c) (S.pending c) k.pending;
-    on_disk = (rests c).on_disk up;
-    held = (rests c).held up;
-  }
+  keeps-rests c up k = let r = rests c in keeps-at S T H later c (T.sites c) refl refl (r.acks up) k.reports
+      (counteds-later S T H later (part S c) (term_at S c) (states c).joiners (r.joiners up)) (r.alone up) (elim (r.leads up) [ inl e ↦ inl e | inr e ↦ inr (leads-rests c e) ])
+      (asks-later S T H later (part S c) (term_at S c) joins-on (S.sites c).asks k.asks) (waitings-later S T H later c refl joins-on (S.sites c).waiting k.waiting)
+      (waitings-later S T H later c refl joins-on (S.pending c) k.pending) (r.on_disk up) (r.held up)
 
   site_ok-rests : (c : ℕ) → SiteOk S c → SiteOk T c
-  site_ok-rests c o = record {
-    environment = o.environment;
-    ran = o.ran;
-    term = o.term;
-    earlier = o.earlier;
-    member = λ up none. let m = o.member up (member-before c none) in (m.0, m.1, member-rests c m.0 m.1 m.2);
-    joiner = λ k here. let b = joins-before c k here in joiner-rests c b.0 k b.1 b.2 here (o.joiner b.0 b.1);
-    keeps = λ up. keeps-rests c up (o.keeps up);
-    stopped = λ none. let k = o.stopped none in
-        (k.0, k.1, in-none (states c).joiners (λ j here. let b = (rests c).counted.back j here in subst (In b.0) k.2 b.1), k.3);
-    blank = o.blank;
-  }
+  site_ok-rests c = site-runs S T H later c (on c) refl (λ _ _. member-rests c)
+      (λ j k some here. let r = (rests c).joiner j some in joiner-rests c j k some (subst (JoiningRests j) (same-some (sym r.1 ∙ here)) r.2) here) (keeps-rests c)
+      (λ _ k. (k.0, k.1, in-none (states c).joiners (λ j here. let b = (rests c).counted.back j here in subst (In b.0) k.2 b.1), k.3))
 
   -- ---- what comes from agents, and goes to them
 
@@ -339,10 +295,7 @@ module _ (S : LogState) (H : LogsHold S) (states : ℕ → SiteState) (i : ℕ) 
         | msg.Start a ↦ λ p. p
         | m ↦ λ p. tt
       ] k
-  foreign-rests (Agent h) c = H.foreign (Agent h) c
-  foreign-rests Director c = H.foreign Director c
-  foreign-rests (Client n) c = H.foreign (Client n) c
-  foreign-rests (Scanner j) c = H.foreign (Scanner j) c
+  foreign-rests from c = H.foreign from c
 
   loads-rests : LoadsOk T
   loads-rests = loads-later S T H later refl refl

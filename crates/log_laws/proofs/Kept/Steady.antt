@@ -1,8 +1,8 @@
 -- Moves of sites that leave words, terms and what was entered as they are: what holds, holds after them.
-use Rattle.log_laws.proofs.Names.{List, ap, arith, inl, refl, sym, true, ◌≡◌, ◌∙◌, ◌⊎◌, ◌<◌, ◌≤◌, [], AllByRecursion, None, Option, Some, length, map, ℕ, Membership, Actor, Agent, Director, Site, starts_in, Letter, Waiting, Ask, Joiner, Joining, SiteState, is_leader, host_of_slot, term_of, all-mono, none-and-some, channel-holds, Distinct}
-use Rattle.log_laws.specs.Histories.{AckOk, AsksToJoin, AskedOk, CountedOk, FirstViews, ForeignOk, LogsHold, IsCounted, IsSlot, JoinerOk, KeepsOk, LoadsOk, LogState, MemberOk, QueuedLoadedOk, ReportOk, RunViews, SiteLetterOk, SiteOk, StreamedOk, Streaming, ToldOk, ViewsOk, SiteWaitingOk, between, agent_to_site, line, part, site_start, term_at, views}
-use Rattle.log_laws.proofs.Kept.Keeps.{SameFrom, SameRun, SiteStays, joiner-keeps, member-keeps}
-use Rattle.log_laws.proofs.Kept.Laters.{ack-later, all_loaded-later, ask-later, asked-later, counted-later, entered-later, loaded-later, queued-later, leaderships-later, report-later, same-leaderships, told-later, unleds-later, waiting-later-with}
+use Rattle.log_laws.proofs.Names.{List, ap, arith, inl, refl, sym, true, ◌≡◌, ◌∙◌, ◌⊎◌, ◌<◌, ◌≤◌, [], AllByRecursion, None, Option, Some, length, map, ℕ, Membership, Actor, Agent, Director, Site, starts_in, Letter, Waiting, Ask, Joiner, Joining, SiteState, is_leader, host_of_slot, term_of, all-mono, channel-holds, Distinct, term_in}
+use Rattle.log_laws.specs.Histories.{AsksToJoin, AskedOk, CountedOk, FirstViews, ForeignOk, LogsHold, IsCounted, IsSlot, JoinerOk, KeepsOk, LoadsOk, LogState, MemberOk, QueuedLoadedOk, RunViews, SiteLetterOk, SiteOk, StreamedOk, Streaming, ToldOk, ViewsOk, SiteWaitingOk, between, agent_to_site, line, part, site_start, term_at, views, asked}
+use Rattle.log_laws.proofs.Kept.Keeps.{SameFrom, SameRun, SiteStays, joiner-keeps, member-keeps, RunsOn, site-runs}
+use Rattle.log_laws.proofs.Kept.Laters.{all_loaded-later, asked-later, loaded-later, queued-later, leaderships-later, same-leaderships, told-later, unleds-later, entereds-later, asks-later, counteds-later, keeps-at, waitings-later}
 use Rattle.log_laws.proofs.Kept.Moves.{JoinsOn, LogsLater, SameLeaderships, Unentered}
 use Rattle.log_laws.proofs.Kept.Plumbing.{words-later}
 
@@ -31,6 +31,9 @@ pub record SiteGoesOn (s t : SiteState) : Type 0 where
   pub member : s.joining ≡ None → t.joining ≡ None
   pub joins : (j : Joining) → s.joining ≡ Some j → (k : Joining) × (t.joining ≡ Some k)
   pub loaded : (k : Joining) → t.joining ≡ Some k → (j : Joining) × (s.joining ≡ Some j) × (j.is_based ≡ true → k.is_based ≡ true)
+
+pub goes-runs : (s t : SiteState) → SiteGoesOn s t → RunsOn s t
+goes-runs s t g = record { start = g.start; greatest = g.greatest; earlier = g.earlier; view = g.view; member = g.member; joins = g.joins }
 
 pub goes-on-same : (s : SiteState) → SiteGoesOn s s
 goes-on-same s = search arith
@@ -77,16 +80,13 @@ module _ (S : LogState) (ch : Actor → Actor → List Letter) (f : ℕ → Site
 
   -- what waits, and what was asked and counted
   pub steady-waiting : (c : ℕ) (ws : List Waiting) → AllByRecursion (SiteWaitingOk S c) ws → AllByRecursion (SiteWaitingOk (shifted S ch f pend st) c) ws
-  steady-waiting c ws h = all-mono (SiteWaitingOk S c) (SiteWaitingOk (shifted S ch f pend st) c)
-      (λ x k. waiting-later-with S (shifted S ch f pend st) H steady-later c (m.sites c).start x
-      (λ i a _ _ _ asks. ask-later S (shifted S ch f pend st) H steady-later (part S c) i x.letter.term a (steady-joins i) asks) k) ws h
+  steady-waiting c = waitings-later S (shifted S ch f pend st) H steady-later c (m.sites c).start steady-joins
 
   pub steady-asks : (p t : ℕ) (as_ : List Ask) → AllByRecursion (λ a. AsksToJoin S p a.slot t a.start) as_ → AllByRecursion (λ a. AsksToJoin (shifted S ch f pend st) p a.slot t a.start) as_
-  steady-asks p t as_ h = all-mono (λ a. AsksToJoin S p a.slot t a.start) (λ a. AsksToJoin (shifted S ch f pend st) p a.slot t a.start)
-      (λ a k. ask-later S (shifted S ch f pend st) H steady-later p a.slot t a.start (steady-joins a.slot) k) as_ h
+  steady-asks p t = asks-later S (shifted S ch f pend st) H steady-later p t steady-joins
 
   pub steady-counted : (p t : ℕ) (js : List Joiner) → AllByRecursion (CountedOk S p t) js → AllByRecursion (CountedOk (shifted S ch f pend st) p t) js
-  steady-counted p t js h = all-mono (CountedOk S p t) (CountedOk (shifted S ch f pend st) p t) (λ j k. counted-later S (shifted S ch f pend st) H steady-later p t j k) js h
+  steady-counted = counteds-later S (shifted S ch f pend st) H steady-later
 
   -- what a site keeps, but for those that it counts, those that asked, and what is pending
   pub steady-keeps : (c : ℕ) → KeepsOk S c
@@ -97,26 +97,13 @@ module _ (S : LogState) (ch : Actor → Actor → List Letter) (f : ℕ → Site
       → AllByRecursion (SiteWaitingOk S c) (pend c)
       → (f c).on_disk ≤ length (f c).log
       → KeepsOk (shifted S ch f pend st) c
-  steady-keeps c k counted alone leads asks pending disk = record {
-    acks = rw ((m.sites c).acks, (m.sites c).view) (all-mono (λ a. IsSlot S a.0 → AckOk S a.0 (term_at S c) a.1)
-        (λ a. IsSlot S a.0 → AckOk (shifted S ch f pend st) a.0 (term_at S c) a.1)
-        (λ a known slot. ack-later S (shifted S ch f pend st) H steady-later a.0 (term_at S c) a.1 (known slot)) (S.sites c).acks k.acks);
-    reports = rw ((m.sites c).reports, (m.sites c).view) (all-mono (λ r. ReportOk S (part S c) r.slot (term_at S c) r.position r.floor r.tail)
-        (λ r. ReportOk (shifted S ch f pend st) (part S c) r.slot (term_at S c) r.position r.floor r.tail)
-        (λ r known. report-later S (shifted S ch f pend st) H steady-later (part S c) r.slot (term_at S c) r.position r.floor r.tail known) (S.sites c).reports k.reports);
-    joiners = rw (m.sites c).view counted;
-    alone = alone;
-    leads = leads;
-    asks = rw (m.sites c).view asks;
-    waiting = rw (m.sites c).waiting (steady-waiting c (S.sites c).waiting k.waiting);
-    pending = steady-waiting c (pend c) pending;
-    on_disk = disk;
-    held = rw (m.sites c).held k.held;
-  }
+  steady-keeps c k counted alone leads asks pending disk = let g = m.sites c in keeps-at S (shifted S ch f pend st) H steady-later c (f c) refl (ap term_in g.view)
+      (rw g.acks k.acks) (rw g.reports k.reports) counted alone leads asks (rw g.waiting (steady-waiting c (S.sites c).waiting k.waiting)) (steady-waiting c (pend c) pending) disk
+      (rw g.held k.held)
 
   -- words that are under way to a site
   steady-views : (c : ℕ) → ViewsOk S c → ViewsOk (shifted S ch f pend st) c
-  steady-views c h = record {
+  steady-views c h = let same-channel = m.agents (host_of_slot S.words.deployment c) (Site c) in record {
     plain = rw same-channel h.plain;
     began = λ s i. h.began s (rw same-channel at i);
     running = λ up. rw (g.view, g.start, same-channel) (run (S.sites c).view (views (site_start S c) (agent_to_site S c)) (h.running (rw g.start at up)));
@@ -127,9 +114,6 @@ module _ (S : LogState) (ch : Actor → Actor → List Letter) (f : ℕ → Site
     where
       g : SiteGoesOn (S.sites c) (f c)
       g = m.sites c
-
-      same-channel : ch (Agent (host_of_slot S.words.deployment c)) (Site c) ≡ agent_to_site S c
-      same-channel = m.agents (host_of_slot S.words.deployment c) (Site c)
 
       first : (s : ℕ) (ws : List Membership) → FirstViews S c s ws → FirstViews (shifted S ch f pend st) c s ws
       first s ws k = record { first = k.first; later = k.later; views_are = k.views_are; took = k.took; members = k.members }
@@ -169,8 +153,7 @@ module _ (S : LogState) (ch : Actor → Actor → List Letter) (f : ℕ → Site
     letters = letters;
     foreign = foreign;
     loads = steady-loads H.loads;
-    entered = λ c t e is. entered-later S (shifted S ch f pend st) H steady-later c t e (H.entered c t e is) steady-leaderships (λ at_start.
-        let r = (H.entered c t e is).running (sym (m.sites c).start ∙ at_start) in let low = r.2 in let up = (m.sites c).log in omega (arith, low, up)) (H.entered c t e is).since;
+    entered = entereds-later S (shifted S ch f pend st) H steady-later steady-leaderships (λ p t. refl);
     streamed = streamed;
     leaderships = leaderships-later S (shifted S ch f pend st) H steady-later steady-leaderships (λ p t g is. (H.leaderships p t g is).within);
     unled = λ p t none. unleds-later S (shifted S ch f pend st) H steady-later steady-leaderships p t refl none;
@@ -179,25 +162,8 @@ module _ (S : LogState) (ch : Actor → Actor → List Letter) (f : ℕ → Site
   }
     where
       site : (c : ℕ) → SiteOk (shifted S ch f pend st) c
-      site c = let g = m.sites c in let h = H.sites c in record {
-        environment = λ out. g.start ∙ h.environment out;
-        ran = λ up. let r = h.ran (rw g.start at up) in (r.0, rw g.start r.1);
-        term = rw (g.view, g.greatest) h.term;
-        earlier = rw (g.earlier, g.greatest) h.earlier;
-        member = λ up none. let none-before = before none in
-            let k = h.member (rw g.start at up) none-before in (k.0, g.view ∙ k.1, members c k.0 (rw g.start at up) none-before k.2);
-        joiner = joiners c;
-        keeps = λ up. keeps c (rw g.start at up) (h.keeps (rw g.start at up));
-        stopped = λ none. let e = stopped c (sym g.start ∙ none) in rw (e.0, e.1) (h.stopped (sym g.start ∙ none));
-        blank = λ none. g.view ∙ h.blank (sym g.start ∙ none);
-      }
-        where
-          before : (f c).joining ≡ None → (S.sites c).joining ≡ None
-          before none = go (S.sites c).joining refl
-            where
-              go : (o : Option Joining) → (S.sites c).joining ≡ o → (S.sites c).joining ≡ None
-              go None e = e
-              go (Some j) e = absurd (none-and-some none ((m.sites c).joins j e).1)
+      site c = site-runs S (shifted S ch f pend st) H steady-later c (goes-runs (S.sites c) (f c) (m.sites c)) refl (λ up none w _. members c w up none) (λ j k _ is _. joiners c k is) (keeps c)
+          (λ z k. let e = stopped c z in rw (e.0, e.1) k) (H.sites c)
 
 -- ---- slots of which nothing changes but what they keep
 

@@ -4,7 +4,7 @@ use Rattle.volt_wire.specs.declared.message.Msg.TheVariants as msg
 use Rattle.word_laws.specs.Histories as word
 use Rattle.log_laws.specs.Histories.{LogState, LogsHold, Entered, Streaming, Leadership, EnteredOk, StreamedOk, LeadershipOk, UnledOk, SiteOk, KeepsOk, MemberOk, JoinerOk, InWord, Coming, ViewsOk, LoadsOk, ForeignOk, AckOk, ReportOk, CountedOk, HeldOk, SiteLetterOk, SiteWaitingOk, AsksToJoin, EndOk, MeantFor, IsCounted, IsSlot, ToldOk, AskedOk, QueuedLoadedOk, epoch_base, part, site_start, term_at, between, agent_to_site, line, flow, stream_ends_in, ask_of, wait_of, asks_in, asks_waiting, asks_kept, asks_of_term, asked, end_of, flow_of}
 use Rattle.log_laws.proofs.Kept.Moves.{SiteRises, site-stays, LogsLater, EntersNow}
-use Rattle.log_laws.proofs.Kept.Laters.{been-later, ack-later, report-later, ask-later, counted-later, loaded-later, all_loaded-later, end-later, told-later, asked-later, queued-later, stays, letter-later-with, waiting-later-with}
+use Rattle.log_laws.proofs.Kept.Laters.{been-later, ask-later, loaded-later, all_loaded-later, end-later, told-later, asked-later, queued-later, stays, letter-later-with, waiting-later-with, counteds-later, keeps-at}
 use Rattle.log_laws.proofs.Plain.{in-flat, flat-same, one-and-others}
 use Rattle.log_laws.proofs.Kept.Asked.{AtMost, at-most-is, at-most-both, at-most-same, at-most-none}
 use Rattle.log_laws.proofs.Kept.Plumbing.{words-later}
@@ -45,7 +45,7 @@ pub turned-later : (S : LogState) (i : ℕ) (s : SiteState) (ch : Actor → Acto
     → ((c t : ℕ) (e : Entered) → S.logs.entered c t ≡ Some e → en c t ≡ Some e)
     → ((c t : ℕ) (e : Entered) → en c t ≡ Some e → (S.logs.entered c t ≡ Some e) ⊎ EntersNow S c t e)
     → ((p t : ℕ) → S.logs.reach p t ≤ rc p t) → LogsLater S (site_turned S i s ch en re rc)
-turned-later S i s ch en re rc goes entered now reach = record {
+turned-later S i s ch en re rc goes entered now reach = let all = set-both (λ c z. SiteRises (S.sites c) z) S.sites i s goes (λ c _. site-stays (S.sites c)) in record {
   words = words-later S ch;
   ran = λ c a is. is;
   greatest = λ c. (all c).greatest;
@@ -56,9 +56,6 @@ turned-later S i s ch en re rc goes entered now reach = record {
   streamed_now = λ c t x is. inl is;
   reach = reach;
 }
-  where
-    all : (c : ℕ) → SiteRises (S.sites c) (set_at S.sites i s c)
-    all = set-both (λ c z. SiteRises (S.sites c) z) S.sites i s goes (λ c _. site-stays (S.sites c))
 
 -- what is said of a channel, where what a site sent to others is behind what was there
 pub said-same : {A : Type 0} (f : List Letter → A) (S : LogState) (i : ℕ) (ch : Actor → Actor → List Letter) (new : ℕ → List Letter)
@@ -184,24 +181,11 @@ module _ (S : LogState) (H : LogsHold S) (i : ℕ) (s : SiteState) (ch : Actor �
           (at-most-same (asks_in t (between S c i) ++ asks_waiting c t (S.sites i).waiting ++ asks_waiting c t (S.pending i))) (F.asks c t))
 
   keeps-other : (c : ℕ) → (c ≡ i → ⊥) → 0 < site_start S c → KeepsOk S c → KeepsOk T c
-  keeps-other c other up k = record {
-    acks = rw (there c other) (all-mono (λ a. IsSlot S a.0 → AckOk S a.0 (term_at S c) a.1) (λ a. IsSlot S a.0 → AckOk T a.0 (term_at S c) a.1)
-        (λ a p slot. ack-later S T H F.later a.0 (term_at S c) a.1 (p slot)) (S.sites c).acks k.acks);
-    reports = rw (there c other) (all-mono (λ r. ReportOk S (part S c) r.slot (term_at S c) r.position r.floor r.tail)
-        (λ r. ReportOk T (part S c) r.slot (term_at S c) r.position r.floor r.tail)
-        (λ r. report-later S T H F.later (part S c) r.slot (term_at S c) r.position r.floor r.tail) (S.sites c).reports k.reports);
-    joiners = rw (there c other) (all-mono (CountedOk S (part S c) (term_at S c)) (CountedOk T (part S c) (term_at S c))
-        (counted-later S T H F.later (part S c) (term_at S c)) (S.sites c).joiners k.joiners);
-    alone = rw (there c other) k.alone;
-    leads = rw (there c other) k.leads;
-    asks = rw (there c other) (all-from (λ a. AsksToJoin T (part S c) a.slot (term_at S c) a.start) (S.sites c).asks (λ a is.
-        ask-kept a.slot c (term_at S c) a.start slot (in-asked a is)
-        (all-at (λ a. AsksToJoin S (part S c) a.slot (term_at S c) a.start) (S.sites c).asks k.asks a is)));
-    waiting = subst (λ z. AllByRecursion (SiteWaitingOk T c) z.waiting) (sym (there c other)) (waiting-turned c slot start k);
-    pending = pending-turned c slot start k;
-    on_disk = subst (λ z. z.on_disk ≤ length z.log) (sym (there c other)) k.on_disk;
-    held = rw (there c other) k.held;
-  }
+  keeps-other c other up k = keeps-at S T H F.later c (S.sites c) (there c other) refl k.acks k.reports
+      (counteds-later S T H F.later (part S c) (term_at S c) (S.sites c).joiners k.joiners) k.alone k.leads
+      (all-from (λ a. AsksToJoin T (part S c) a.slot (term_at S c) a.start) (S.sites c).asks (λ a is. ask-kept a.slot c (term_at S c) a.start slot (in-asked a is)
+      (all-at (λ a. AsksToJoin S (part S c) a.slot (term_at S c) a.start) (S.sites c).asks k.asks a is)))
+      (waiting-turned c slot start k) (pending-turned c slot start k) k.on_disk k.held
     where
       slot : IsSlot S c
       slot = running-slot S H c up
@@ -228,7 +212,7 @@ module _ (S : LogState) (H : LogsHold S) (i : ℕ) (s : SiteState) (ch : Actor �
       site = still-same (S.sites c) (T.sites c) (there c other)
 
       word : (w : Membership) → (S.sites c).view ≡ Some w → InWord S c w j → InWord T c w j
-      word w view n = in_word-keeps-with S T H F.later c site w j (same-run c other)
+      word w view n = let decided = took-decided S H (site_start S c) w n.took in in_word-keeps-with S T H F.later c site w j (same-run c other)
           (λ l e. F.lines c l w j other joins k e)
           (λ l _ e d. (flows-same l c (site_start S c) (term_of w) ∙ e, ends-are-same l c (site_start S c) (term_of w) ∙ d))
           (λ l. asked-less c l (term_of w) other)
@@ -244,9 +228,6 @@ module _ (S : LogState) (H : LogsHold S) (i : ℕ) (s : SiteState) (ch : Actor �
           (λ stream_start q. took-keeps S T H F.later c site w j stream_start (same-term q.leadership q.led) from q)
           n
         where
-          decided : In w S.words.history.decided
-          decided = took-decided S H (site_start S c) w n.took
-
           same-term : (g : Leadership) → S.logs.leadership (part S c) (term_of w) ≡ Some g → SameTerm S T (part S c) (term_of w)
           same-term g is = let p = F.led (part S c) (term_of w) g is in record { leadership = p.0; reach = p.1 }
 
@@ -318,7 +299,7 @@ module _ (S : LogState) (H : LogsHold S) (i : ℕ) (s : SiteState) (ch : Actor �
 
   pub fresh-keeps : 0 < site_start S i → s.start ≡ site_start S i → s.acks ≡ [] → s.reports ≡ [] → s.joiners ≡ [] → s.asks ≡ [] → s.on_disk ≤ length s.log
       → AllByRecursion HeldOk s.held → KeepsOk S i → KeepsOk T i
-  fresh-keeps up start acks reports joiners asks on_disk held k = record {
+  fresh-keeps up start acks reports joiners asks on_disk held k = let slot = running-slot S H i up in record {
     acks = subst (λ z. AllByRecursion (λ a. IsSlot T a.0 → AckOk T a.0 (term_at T i) a.1) z) (sym (ap (λ z. z.acks) here ∙ acks)) tt;
     reports = subst (λ z. AllByRecursion (λ r. ReportOk T (part T i) r.slot (term_at T i) r.position r.floor r.tail) z) (sym (ap (λ z. z.reports) here ∙ reports)) tt;
     joiners = subst (AllByRecursion (CountedOk T (part T i) (term_at T i))) (sym none) tt;
@@ -331,9 +312,6 @@ module _ (S : LogState) (H : LogsHold S) (i : ℕ) (s : SiteState) (ch : Actor �
     held = subst (λ z. AllByRecursion HeldOk z.held) (sym here) held;
   }
     where
-      slot : IsSlot S i
-      slot = running-slot S H i up
-
       same-start : site_start T i ≡ site_start S i
       same-start = ap (λ z. z.start) here ∙ start
 

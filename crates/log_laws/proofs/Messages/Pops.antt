@@ -1,8 +1,8 @@
 -- A message leaves its channel, or what waited is taken up, where what is looked at of it is nothing: what holds, holds then.
-use Rattle.log_laws.proofs.Names.{◌≡◌, ◌<◌, Bool, true, false, List, [], ◌∷◌, ◌++◌, refl, sym, subst, ap, ◌∙◌, ◌⊎◌, inl, inr, ◌==◌, arith, eqb-true, eqb-false, nat_tests, ℕ, ◌||◌, nat_lt, if◌then◌else◌, length, AllByRecursion, Actor, Director, Client, Agent, Site, Scanner, host_of_slot, Letter, Waiting, of_term, above_term, Taken, Refused, Waits, arrival, in_term, no_sends, becomes, SiteState, set_at, took-all, sent-nothing, all-append, all-filter, set-same}
+use Rattle.log_laws.proofs.Names.{◌≡◌, ◌<◌, Bool, true, false, List, [], ◌∷◌, ◌++◌, refl, sym, subst, ap, ◌∙◌, ◌⊎◌, inl, inr, ◌==◌, arith, eqb-true, eqb-false, nat_tests, ℕ, ◌||◌, nat_lt, if◌then◌else◌, AllByRecursion, Actor, Director, Client, Agent, Site, Scanner, host_of_slot, Letter, Waiting, of_term, above_term, Taken, Refused, Waits, arrival, in_term, no_sends, becomes, SiteState, set_at, took-all, all-append, all-filter, set-both}
 use Rattle.volt_wire.specs.declared.message.Msg.TheVariants as msg
-use Rattle.log_laws.specs.Histories.{LogState, LogsHold, SiteLetterOk, ForeignOk, SiteWaitingOk, IsSlot, MeantFor, site_start, term_at, agent_to_site, line, line_of, flow, flow_of, stream_ends_in, end_of, line_in, flow_in, view_in, SiteWaitingFrom, view_of, asks_of_term, log_at}
-use Rattle.log_laws.proofs.Kept.{after_site, site_popped, left, LogsGo, grown-same, enters-same, AsksLess, at-most-same, popped-less, left-less, parted-asks, waits-asks, LeavesViews, leaves-same, leaves-first, after-same, taken-either, words-popped, ChannelsOk, channels-same, SiteStill, inert-holds, site-as-is, site-waiting, logs_moved, still-holds, running-slot}
+use Rattle.log_laws.specs.Histories.{LogState, LogsHold, SiteLetterOk, ForeignOk, SiteWaitingOk, IsSlot, MeantFor, site_start, term_at, agent_to_site, line, line_of, flow, flow_of, stream_ends_in, end_of, line_in, flow_in, view_in, SiteWaitingFrom, view_of, asks_of_term, asked}
+use Rattle.log_laws.proofs.Kept.{after_site, site_popped, left, LogsGo, AsksLess, at-most-same, popped-less, left-less, parted-asks, waits-asks, LeavesViews, leaves-same, leaves-first, after-same, taken-either, words-popped, ChannelsOk, channels-same, running-slot, channels-hold, moved-holds, NotesOk, after-nothing, becomes-goes, noted-holds, noted-same, notes-same}
 use Rattle.log_laws.proofs.Plain.{views-other, both-empty, for-other, if-empty}
 
 -- ---- whether a site takes a message
@@ -133,19 +133,9 @@ module _ (S : LogState) (H : LogsHold S) (from : Actor) (i : ℕ) (l : Letter) (
       here : (c : ℕ) → c ≡ i → 0 < site_start S c → Unread S i from l
       here c e up = unread (subst (λ z. 0 < site_start S z) e up)
 
-  -- it is taken, and the site stays as it was as far as is looked at
-  pub pops-into : (s : SiteState) → SiteStill S i s → (0 < site_start S i → Unread S i from l) → AsksLess S (after_site (site_popped S from i) i s no_sends S.logs)
-      → LogsHold (after_site (site_popped S from i) i s no_sends S.logs)
-  pops-into s site unread asks = subst (λ ch. LogsHold (logs_moved S ch (set_at S.sites i s) S.pending)) (sym nothing)
-      (still-holds S i s (site_popped S from i).words.channel H site (channels-popped unread)
-      (subst (λ ch. AsksLess S (logs_moved S ch (set_at S.sites i s) S.pending)) nothing asks))
-    where
-      nothing : (after_site (site_popped S from i) i s no_sends S.logs).words.channel ≡ (site_popped S from i).words.channel
-      nothing = sent-nothing (site_popped S from i).words.channel (Site i)
-
   -- it is taken, or dropped
   pub pops-with : (0 < site_start S i → Unread S i from l) → LogsHold (site_popped S from i)
-  pops-with unread = subst LogsHold (after-same (site_popped S from i) i) (pops-into (S.sites i) (site-as-is S i H) unread
+  pops-with unread = channels-hold S (site_popped S from i).words.channel H (channels-popped unread) (subst (AsksLess S) (after-same (site_popped S from i) i)
       (popped-less S from i l ls is S.logs (S.sites i) refl (λ c t. at-most-same (asks_of_term c t (S.sites i)))))
 
   -- one of which nothing is looked at, by what is in it and who sent it
@@ -250,34 +240,25 @@ module _ (S : LogState) (H : LogsHold S) (from : Actor) (i : ℕ) (l : Letter) (
             | msg.View w ↦ λ k. let z = k.0 in let u = high.1 in absurd (omega (arith, u, z))
             | m ↦ λ k. refl
           ]) (subst (AllByRecursion (λ x. elim x.body as (λ _. Type 0) [ msg.View w ↦ (x.term ≡ 0) × (0 < x.start) | _ ↦ Unit {0} ])) e (H.views i).plain).0
-      go Director q = tt
-      go (Client n) q = tt
-      go (Scanner x) q = tt
+      go from q = tt
 
   pub waits-goes : 0 < site_start S i → arrival (site_start S i) (term_at S i) l ≡ Waits → LogsGo (site_popped S from i) i (becomes keeping)
-  waits-goes up e = record {
-    logs = S.logs;
-    start = refl;
-    view = refl;
-    plain = λ c. tt;
-    holds = pops-into keeping
-        (site-waiting S i keeping.waiting
-        (λ _. all-append (SiteWaitingOk S i) (S.sites i).waiting (record { from = from; letter = l } ∷ []) ((H.sites i).keeps up).waiting ((high.0, waiting-from up e), tt))
-        (λ z. absurd (omega (arith, up, z))))
-        (λ _. record {
-          line = λ _ _. for-other (site_start S i) (term_at S i) l (line_in l.body) (λ _ z. let h = high.1 in absurd (omega (arith, h, z)));
-          flow = λ _ _. for-other (site_start S i) (term_at S i) l (flow_in l.past l.body) (λ _ z. let h = high.1 in absurd (omega (arith, h, z)));
-          view = λ own. if-empty _ _ (no-view own);
-        })
-        (waits-asks S from i l ls is S.logs);
-    grown = grown-same S.words.deployment i keeping S.logs;
-    enters = enters-same i (length (log_at S i)) S.logs S.logs refl;
-    longer = omega arith;
-  }
+  waits-goes up e = let high = waits-for (site_start S i) (term_at S i) l e in let o = notes-same S H i in
+      becomes-goes (site_popped S from i) i keeping S.logs.streamed refl refl (omega arith) (noted-same S i keeping (site_popped S from i).words.channel H refl
+      (channels-popped (λ _. record {
+        line = λ _ _. for-other (site_start S i) (term_at S i) l (line_in l.body) (λ _ z. let h = high.1 in absurd (omega (arith, h, z)));
+        flow = λ _ _. for-other (site_start S i) (term_at S i) l (flow_in l.past l.body) (λ _ z. let h = high.1 in absurd (omega (arith, h, z)));
+        view = λ own. if-empty _ _ (no-view own);
+      }))
+      (record {
+        waiting = λ _. all-append (SiteWaitingOk S i) (S.sites i).waiting (record { from = from; letter = l } ∷ []) (o.waiting up) ((high.0, waiting-from up e), tt);
+        asks = o.asks;
+        reports = o.reports;
+        pending = o.pending;
+        none = λ z. absurd (omega (arith, up, z));
+      })
+      (subst (AsksLess S) (after-nothing (site_popped S from i) i keeping S.logs) (waits-asks S from i l ls is S.logs)))
     where
-      high : ((l.start ≡ 0) ⊎ (l.start ≡ site_start S i)) × (term_at S i < l.term)
-      high = waits-for (site_start S i) (term_at S i) l e
-
       no-view : from ≡ Agent (host_of_slot S.words.deployment i) → view_in l.body ≡ []
       no-view own = (elim l.body as (λ m. SiteWaitingFrom S i (Agent (host_of_slot S.words.deployment i)) (record l { body = m }) → view_in m ≡ []) [
         | msg.View w ↦ λ k. absurd k
@@ -288,14 +269,15 @@ module _ (S : LogState) (H : LogsHold S) (from : Actor) (i : ℕ) (l : Letter) (
 
 -- one of it is taken, or dropped
 pub leaves : (S : LogState) → LogsHold S → (i : ℕ) (x : Waiting) (ws : List Waiting) → S.pending i ≡ x ∷ ws → LogsHold (left S i ws)
-leaves S H i x ws is = subst (λ f. LogsHold (logs_moved S S.words.channel f (set_at S.pending i ws))) (set-same S.sites i)
-    (inert-holds S i (S.sites i) S.words.channel ws H (site-as-is S i H) (channels-same S H)
-    (λ up. (subst (AllByRecursion (SiteWaitingOk S i)) is ((H.sites i).keeps up).pending).1)
-    (λ z. let e = sym is ∙ ((H.sites i).stopped z).3 in absurd (cc))
-    (subst (AsksLess S) nothing (left-less S i ws S.logs x is (S.sites i) refl (λ c t. at-most-same (asks_of_term c t (S.sites i))))))
-  where
-    nothing : after_site (left S i ws) i (S.sites i) no_sends S.logs ≡ logs_moved S S.words.channel (set_at S.sites i (S.sites i)) (set_at S.pending i ws)
-    nothing = ap (λ ch. logs_moved S ch (set_at S.sites i (S.sites i)) (set_at S.pending i ws)) (sent-nothing S.words.channel (Site i))
+leaves S H i x ws is = moved-holds S S.words.channel S.sites (set_at S.pending i ws) H (channels-same S H)
+    (subst (AsksLess S) (after-same (left S i ws) i) (left-less S i ws S.logs x is (S.sites i) refl (λ c t. at-most-same (asks_of_term c t (S.sites i)))))
+    (set-both (λ c p. NotesOk S c (S.sites c) p) S.pending i ws (let o = notes-same S H i in record {
+      waiting = o.waiting;
+      asks = o.asks;
+      reports = o.reports;
+      pending = λ up. (subst (AllByRecursion (SiteWaitingOk S i)) is (o.pending up)).1;
+      none = λ z. let e = sym is ∙ (o.none z).2 in absurd (cc);
+    }) (λ c n. notes-same S H c))
 
 -- All that waited for a term is to be taken.
 pub takes-up : (S : LogState) → LogsHold S → (i : ℕ) → S.pending i ≡ [] → (term : ℕ)
@@ -303,28 +285,17 @@ pub takes-up : (S : LogState) → LogsHold S → (i : ℕ) → S.pending i ≡ [
       sites = set_at S.sites i (record (S.sites i) { waiting = above_term term (S.sites i).waiting });
       pending = set_at S.pending i (of_term term (S.sites i).waiting);
     })
-takes-up S H i none term = inert-holds S i s S.words.channel now H
-    (site-waiting S i (above_term term old) (λ up. all-filter (SiteWaitingOk S i) (λ w. nat_lt term w.letter.term) old ((H.sites i).keeps up).waiting)
-    (λ z. ap (above_term term) ((H.sites i).stopped z).0))
-    (channels-same S H)
-    (λ up. all-filter (SiteWaitingOk S i) (λ w. w.letter.term == term) old ((H.sites i).keeps up).waiting)
-    (λ z. ap (of_term term) ((H.sites i).stopped z).0)
-    (subst (λ ch. AsksLess S (logs_moved S ch (set_at S.sites i s) (set_at S.pending i now))) (sent-nothing S.words.channel (Site i))
-    (parted-asks S i now S.logs s term refl refl (λ c t. at-most-same (asks_of_term c t (S.sites i)))))
-  where
-    old : List Waiting
-    old = (S.sites i).waiting
-
-    now : List Waiting
-    now = of_term term old
-
-    s : SiteState
-    s = record (S.sites i) { waiting = above_term term old }
+takes-up S H i none term = let old = (S.sites i).waiting in let now = of_term term old in let s : SiteState = record (S.sites i) { waiting = above_term term old } in
+    let o = notes-same S H i in noted-holds S i s S.words.channel now H refl (channels-same S H) (record {
+      waiting = λ up. all-filter (SiteWaitingOk S i) (λ w. nat_lt term w.letter.term) old (o.waiting up);
+      asks = o.asks;
+      reports = o.reports;
+      pending = λ up. all-filter (SiteWaitingOk S i) (λ w. w.letter.term == term) old (o.waiting up);
+      none = λ z. let e = o.none z in (ap (above_term term) e.0, e.1, ap (of_term term) e.0);
+    }) (subst (AsksLess S) (after-nothing (left S i now) i s S.logs) (parted-asks S i now S.logs s term refl refl (λ c t. at-most-same (asks_of_term c t (S.sites i)))))
 
 -- the same as a turn in which nothing is sent
 pub takes-up-after : (S : LogState) → LogsHold S → (i : ℕ) → S.pending i ≡ [] → (term : ℕ)
     → LogsHold (after_site (left S i (of_term term (S.sites i).waiting)) i (record (S.sites i) { waiting = above_term term (S.sites i).waiting }) no_sends S.logs)
-takes-up-after S H i none term =
-    subst (λ ch. LogsHold (logs_moved S ch (set_at S.sites i (record (S.sites i) { waiting = above_term term (S.sites i).waiting }))
-    (set_at S.pending i (of_term term (S.sites i).waiting))))
-    (sym (sent-nothing S.words.channel (Site i))) (takes-up S H i none term)
+takes-up-after S H i none term = let old = (S.sites i).waiting in
+    subst LogsHold (sym (after-nothing (left S i (of_term term old)) i (record (S.sites i) { waiting = above_term term old }) S.logs)) (takes-up S H i none term)

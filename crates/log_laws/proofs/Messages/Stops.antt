@@ -1,9 +1,9 @@
 -- A slot's site stops, or a start of it begins to run: what holds, holds after it.
-use Rattle.log_laws.proofs.Names.{◌≡◌, ◌<◌, Bool, true, false, List, [], ◌∷◌, ◌++◌, refl, sym, subst, ap, ◌∙◌, inl, inr, ◌==◌, arith, ◌⊎◌, and_parts, nat_tests, ℕ, ◌≤◌, ◌&&◌, if◌then◌else◌, max, nat_le, nat_lt, length, Some, None, AllByRecursion, Membership, Actor, Director, Client, Agent, Site, Scanner, Deployment, host_of_slot, is_slot_of, slots, Shown, same, Letter, Sends, Turn, becomes, sending, no_sends, only, open_letter, SiteState, site_term, new_joiner, new_joining, stopped_site, stops_others, on_stop, stops_so, sent, rest, set_at, starts_in, In, all-if, all-mono, not-both, same-some, set-both, set-here, set-there, set-twice}
+use Rattle.log_laws.proofs.Names.{◌≡◌, ◌<◌, List, [], ◌∷◌, ◌++◌, refl, sym, subst, ap, ◌∙◌, inl, inr, ◌==◌, arith, ◌⊎◌, and_parts, nat_tests, ℕ, ◌≤◌, ◌&&◌, max, nat_le, nat_lt, length, Some, None, AllByRecursion, Membership, Actor, Director, Client, Agent, Site, Scanner, Deployment, host_of_slot, is_slot_of, slots, Shown, same, Letter, Sends, Turn, becomes, no_sends, only, open_letter, SiteState, site_term, new_joiner, new_joining, stopped_site, stops_others, on_stop, stops_so, sent, rest, set_at, starts_in, In, all-if, all-mono, not-both, same-some, set-both, set-here, set-there, set-twice, cond_both}
 use Rattle.volt_wire.specs.declared.message.Msg.TheVariants as msg
 use Rattle.cluster_model.specs.Site.{on_start}
 use Rattle.log_laws.specs.Histories.{LogState, Logs, Entered, Streaming, LogsHold, IsCounted, SiteLetterOk, ForeignOk, IsSlot, SiteOk, KeepsOk, ViewsOk, JoinerOk, FirstViews, Starting, part, site_start, log_at, term_at, between, agent_to_site, views, asks_in, asks_waiting, asks_of_term}
-use Rattle.log_laws.proofs.Kept.{SiteRises, site-stays, Enters, after_site, site_popped, LogsLater, SiteLater, Stays, SameLeaderships, JoinsOn, grown-same, grown-reach, enters-same, stays, same-leaderships, ask-later-on, letter-later-with, end-later-if, loads-later, entered-later, streamed-later, leaderships-later, AtMost, AsksLess, asks-at, at-most-both, at-most-same, SiteStays, still-same, Uncounted, counted-from, site-keeps, keeps-later, foreign-later, first_views-later, views-keeps, words-later, goes-same, here, popped-here, popped-after, first-after, Silent, Unwatched, inert-after}
+use Rattle.log_laws.proofs.Kept.{SiteRises, site-stays, Enters, after_site, site_popped, LogsLater, SiteLater, Stays, JoinsOn, grown-same, grown-reach, enters-same, same-leaderships, ask-later-on, letter-later-with, end-later-if, loads-later, leaderships-later, AtMost, AsksLess, asks-at, at-most-both, at-most-same, SiteStays, still-same, Uncounted, counted-from, site-keeps, keeps-later, foreign-later, first_views-later, views-keeps, words-later, goes-same, here, popped-here, popped-after, first-after, Silent, Unwatched, inert-after, entereds-later, streameds-later}
 use Rattle.log_laws.proofs.Kept.Moves.{Grown}
 use Rattle.log_laws.proofs.Plain.{if-none, one-and-others}
 use Rattle.log_laws.proofs.Messages.Pops.{pops-kind, pops-stopped}
@@ -46,10 +46,6 @@ module _ (S : LogState) (H : LogsHold S) (i : ℕ) (s : SiteState) (ran : ℕ �
   joins-on : (c : ℕ) → Stays S T c → 0 < site_start T c → JoinsOn S T c
   joins-on = one-and-others _ i (λ k up. absurd (ended k up)) (λ c d k up w j. (j.0, ap (λ z. z.joining) (other c d) ∙ j.1, ap (λ z. z.view) (other c d) ∙ j.2))
 
-  -- a start that ran and runs is of another slot
-  ran-on : (c a : ℕ) → 0 < a → In a (S.logs.ran c) → site_start T c ≡ a → T.sites c ≡ S.sites c
-  ran-on = one-and-others _ i (λ a some was is. absurd (ended (stays S T H new.later i a some was is) (rw is some))) (λ c d a some was is. other c d)
-
   counts : (c a stream_start : ℕ) (w : Membership) → IsCounted S c a stream_start w → IsCounted T c a stream_start w
   counts c a stream_start w = counted-from S T H new.later i other c a stream_start w (λ k up joining view.
       let z = new.joins (ap (λ x. x.joining) (sym mine) ∙ joining) in let u = subst (λ x. 0 < x.start) mine up in absurd (omega (arith, z, u)))
@@ -91,7 +87,7 @@ module _ (S : LogState) (H : LogsHold S) (i : ℕ) (s : SiteState) (ran : ℕ �
 
   -- What must hold of that slot, so that what holds, holds.
   pub renewed-holds : SiteOk T i → ViewsOk T i → LogsHold T
-  renewed-holds site views = record {
+  renewed-holds site views = let leaderships = same-leaderships S.logs T.logs refl in record {
     words = H.words;
     sites = one-and-others (SiteOk T) i site other-ok;
     views = one-and-others (ViewsOk T) i views (λ c d.
@@ -102,23 +98,13 @@ module _ (S : LogState) (H : LogsHold S) (i : ℕ) (s : SiteState) (ran : ℕ �
         (between S j c) (H.letters j c slot);
     foreign = λ a c. all-mono (ForeignOk S c a) (ForeignOk T c a) (foreign-later S T H new.later c a) (S.words.channel a (Site c)) (H.foreign a c);
     loads = loads-later S T H new.later refl refl H.loads.told (λ h g. refl);
-    entered = λ c t e k. let o = H.entered c t e k in
-        entered-later S T H new.later c t e o leaderships (λ is. within c t e.start o.been.some o.been.ran is (λ r. (o.running r).2)) o.since;
-    streamed = λ c t x k. let o = H.streamed c t x k in
-        streamed-later S T H new.later c t x o leaderships o.apart (λ is. within c t x.start o.been.some o.been.ran is (λ r. (o.running r).2)) (counts c x.start x.stream_start o.word);
+    entered = entereds-later S T H new.later leaderships (λ p t. refl);
+    streamed = λ c t x k. let o = H.streamed c t x k in streameds-later S T H new.later leaderships (λ p t. refl) c t x o o.apart (counts c x.start x.stream_start o.word);
     leaderships = leaderships-later S T H new.later leaderships (λ p t g is. (H.leaderships p t g is).within);
     unled = H.unled;
     some = H.some;
     first = H.first;
   }
-    where
-      leaderships : SameLeaderships S.logs T.logs
-      leaderships = same-leaderships S.logs T.logs refl
-
-      -- what is everywhere is in the log of a slot that runs on
-      within : (c t a : ℕ) → 0 < a → In a (S.logs.ran c) → site_start T c ≡ a → (site_start S c ≡ a → S.logs.reach (part S c) t ≤ length (log_at S c))
-          → S.logs.reach (part S c) t ≤ length (log_at T c)
-      within c t a some was is k = let e = ran-on c a some was is in rw (ap (λ x. x.log) e) (k (ap (λ x. x.start) (sym e) ∙ is))
 
 -- ---- and what it sends
 
@@ -365,11 +351,8 @@ module _ (S : LogState) (H : LogsHold S) (i : ℕ) (l : Letter) (ls : List Lette
   starts-holds = renewed-sends P i (new_joiner (S.sites i) a) ran (only (Scanner i) (open_letter (msg.Start a))) started-holds silent
     where
       silent : (b : Actor) → AllByRecursion (Silent b) (only (Scanner i) (open_letter (msg.Start a)) b)
-      silent Director = tt
-      silent (Client n) = tt
-      silent (Agent h) = tt
-      silent (Site c) = tt
       silent (Scanner x) = all-if (Silent (Scanner x)) (i == x) (open_letter (msg.Start a) ∷ []) [] (tt, tt) tt
+      silent from = tt
 
 -- ---- what a site does with Start and Stop, and when it stops of itself
 
@@ -380,11 +363,10 @@ AfterTurn S i t = (G : Logs) × LogsHold (after_site S i t.state t.sends G) × G
 
 -- Stop to others of its host
 pub stops_others-silent : (D : Deployment) (h start : ℕ) (b : Actor) → AllByRecursion (Silent b) (stops_others D h start b)
-stops_others-silent D h start Director = tt
-stops_others-silent D h start (Client n) = tt
 stops_others-silent D h start (Agent g) = all-if (Silent (Agent g)) (g == h) (open_letter (msg.Stop start) ∷ []) [] (tt, tt) tt
 stops_others-silent D h start (Site c) = all-if (Silent (Site c)) (is_slot_of D h c) (open_letter (msg.Stop start) ∷ []) [] (tt, tt) tt
 stops_others-silent D h start (Scanner x) = all-if (Silent (Scanner x)) (is_slot_of D h x) (open_letter (msg.Stop start) ∷ []) [] (tt, tt) tt
+stops_others-silent D h start from = tt
 
 pub stops_so-silent : (D : Deployment) (i : ℕ) (s : SiteState) (start : ℕ) (contents : List Shown) (b : Actor) → AllByRecursion (Silent b) ((stops_so D i s start contents).sends b)
 stops_so-silent D i s start contents b = all-if (Silent b) (same (Site i) b) [] (stops_others D (host_of_slot D i) start b) tt (stops_others-silent D (host_of_slot D i) start b)
@@ -415,42 +397,37 @@ stops_so-message S H from i l ls is none D start contents = (
 -- Stop comes to it.
 pub on_stop-after : (S : LogState) → LogsHold S → (from : Actor) (i : ℕ) (l : Letter) (ls : List Letter) (a : ℕ) → S.words.channel from (Site i) ≡ record l { body = msg.Stop a } ∷ ls
     → S.pending i ≡ [] → AfterTurn (site_popped S from i) i (becomes (on_stop (S.sites i) a))
-on_stop-after S H from i l ls a is none = choice (nat_le (S.sites i).start a)
-  where
-    noted : SiteState
-    noted = record (S.sites i) { stop = max (S.sites i).stop a }
-
-    choice : (b : Bool) → AfterTurn (site_popped S from i) i (becomes (if b then stopped_site noted else noted))
-    choice true = (
+on_stop-after S H from i l ls a is none = cond_both (nat_le (S.sites i).start a) _ _ (λ z. AfterTurn (site_popped S from i) i (becomes z))
+    (λ _. (
       S.logs,
       stops-message S H from i (record l { body = msg.Stop a }) ls is none (max (S.sites i).stop a) (S.sites i).contents (S.sites i).plans no_sends (λ b. tt),
       grown-same S.words.deployment i (stopped_site noted) S.logs,
       enters-same i (length (log_at S i)) S.logs S.logs refl,
       inr refl,
-    )
-    choice false = (
+    ))
+    (λ _. (
       S.logs,
       inert-after (site_popped S from i) i noted no_sends (pops-kind S H from i (record l { body = msg.Stop a }) ls is tt) (record { same = refl; held = λ k. k }) (λ b. tt),
       grown-same S.words.deployment i noted S.logs,
       enters-same i (length (log_at S i)) S.logs S.logs refl,
       inl refl,
-    )
+    ))
+  where
+    noted : SiteState
+    noted = record (S.sites i) { stop = max (S.sites i).stop a }
 
 -- Start comes to it, from its own agent.
 pub on_start-after : (S : LogState) → LogsHold S → (i : ℕ) (l : Letter) (ls : List Letter) (a : ℕ) → agent_to_site S i ≡ record l { body = msg.Start a } ∷ ls
     → IsSlot S i → S.pending i ≡ [] → AfterTurn (site_popped S (Agent (host_of_slot S.words.deployment i)) i) i (on_start i (S.sites i) a)
-on_start-after S H i l ls a is slot none = choice (nat_lt (S.sites i).start a && nat_lt (S.sites i).stop a) refl
-  where
-    P : LogState
-    P = site_popped S (Agent (host_of_slot S.words.deployment i)) i
-
-    choice : (b : Bool) → (nat_lt (S.sites i).start a && nat_lt (S.sites i).stop a) ≡ b
-        → AfterTurn P i (if b then sending (new_joiner (S.sites i) a) (only (Scanner i) (open_letter (msg.Start a))) else becomes (S.sites i))
-    choice true e = let above = (and_parts (nat_lt (S.sites i).start a) (nat_lt (S.sites i).stop a) e).0 in (
+on_start-after S H i l ls a is slot none = cond_both (nat_lt (S.sites i).start a && nat_lt (S.sites i).stop a) _ _ (AfterTurn P i)
+    (λ e. let above = (and_parts (nat_lt (S.sites i).start a) (nat_lt (S.sites i).stop a) e).0 in (
       record S.logs { ran = set_at S.logs.ran i (a ∷ S.logs.ran i) },
       starts-holds S H i l ls a is slot (grind (arith, nat_tests, above)) none,
       grown-reach S.words.deployment i (new_joiner (S.sites i) a) S.logs (record S.logs { ran = set_at S.logs.ran i (a ∷ S.logs.ran i) }) refl (λ p t. omega arith),
       enters-same i (length (log_at S i)) S.logs (record S.logs { ran = set_at S.logs.ran i (a ∷ S.logs.ran i) }) refl,
       inr refl,
-    )
-    choice false e = let g = goes-same P i (pops-kind S H (Agent (host_of_slot S.words.deployment i)) i (record l { body = msg.Start a }) ls is tt) in (g.logs, g.holds, g.grown, g.enters, inl g.start)
+    ))
+    (λ e. let g = goes-same P i (pops-kind S H (Agent (host_of_slot S.words.deployment i)) i (record l { body = msg.Start a }) ls is tt) in (g.logs, g.holds, g.grown, g.enters, inl g.start))
+  where
+    P : LogState
+    P = site_popped S (Agent (host_of_slot S.words.deployment i)) i

@@ -42,27 +42,15 @@ module _ (E : Database) (D : Deployment) (stamp i : ℕ) where
       → AllByRecursion (λ x. x.letter.term ≡ term_at S i) ws → LogsGo (left S i []) i (takes_each E D stamp i ws (S.sites i))
   each-goes [] S handlers H up d is t = subst (λ T. LogsGo T i (takes_each E D stamp i [] (S.sites i))) (sym (left-same S i [] is)) (goes-same S i H)
   each-goes (x ∷ ws) S handlers H up d is t =
+      let handler = site_handler E D stamp i (S.sites i) x.from x.letter in
+      let g = handlers S x ws H up d is t.0 (subst (AllByRecursion (SiteWaitingOk S i)) is ((H.sites i).keeps up).pending).0 in
+      let T = after_site (left S i ws) i handler.state handler.sends g.logs in
+      let there = here (left S i ws) i handler.state handler.sends g.logs in
+      let view : (T.sites i).view ≡ (S.sites i).view = ap (λ s. s.view) there ∙ g.view in
+      let start : site_start T i ≡ site_start S i = ap (λ s. s.start) there ∙ g.start in
       left-then S i ws [] handler (takes_each E D stamp i ws) g (subst (λ s. LogsGo (left T i []) i (takes_each E D stamp i ws s)) there
       (each-goes ws T handlers g.holds (subst (λ s. 0 < s) (sym start) up) d (set-here S.pending i ws)
       (subst (λ o. AllByRecursion (λ x. x.letter.term ≡ term_in o) ws) (sym view) t.1)))
-    where
-      handler : Turn SiteState
-      handler = site_handler E D stamp i (S.sites i) x.from x.letter
-
-      g : LogsGo (left S i ws) i handler
-      g = handlers S x ws H up d is t.0 (subst (AllByRecursion (SiteWaitingOk S i)) is ((H.sites i).keeps up).pending).0
-
-      T : LogState
-      T = after_site (left S i ws) i handler.state handler.sends g.logs
-
-      there : T.sites i ≡ handler.state
-      there = here (left S i ws) i handler.state handler.sends g.logs
-
-      start : site_start T i ≡ site_start S i
-      start = ap (λ s. s.start) there ∙ g.start
-
-      view : (T.sites i).view ≡ (S.sites i).view
-      view = ap (λ s. s.view) there ∙ g.view
 
   -- What waited for the site's term is taken.
   pub waited-goes : (S : LogState) → HandlersGo → LogsHold S → 0 < site_start S i → S.words.deployment ≡ D → S.pending i ≡ [] → LogsGo S i (takes_waiting E D stamp i (S.sites i))

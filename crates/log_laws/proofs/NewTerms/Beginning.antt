@@ -181,6 +181,7 @@ module _ (T : LogState) (H : LogsHold T) (i : ℕ) (w : Membership) (up : 0 < si
       → ((x : ℕ) (g : Leadership) → T.logs.leadership (part T i) x ≡ Some g → x < u → x ≤ term_of w)
       → Prefix e.log (begun_log (T.sites i)) × (known e ≤ T.logs.reach (part T i) (term_of w))
   begun-behind c u e part-is is above greatest =
+      let f = all-entered c e.start k.slot part-is member in
       let s = k.still (term_of w) f.0 above f.1 f.2 unled in
       let r = (H.entered c (term_of w) f.0 f.1).reach in
       (rw s.0 f.3, (let q = ap (λ q. T.logs.reach q (term_of w)) part-is in let n = s.1 in omega (arith, n, r, q)))
@@ -212,6 +213,3 @@ module _ (T : LogState) (H : LogsHold T) (i : ℕ) (w : Membership) (up : 0 < si
               absurd (unled z h.leadership h.led low below)
         ]
       ]
-
-      f : (f : Entered) × (T.logs.entered c (term_of w) ≡ Some f) × (f.start ≡ e.start) × Prefix f.log (begun_log (T.sites i))
-      f = all-entered c e.start k.slot part-is member

@@ -1,7 +1,7 @@
 -- A leader that has all reports begins its term: what holds, holds after it.
-use Rattle.log_laws.proofs.Names.{◌≡◌, ◌<◌, true, false, List, [], ◌∷◌, ◌++◌, append-nil, refl, sym, subst, ap, ◌∙◌, inl, inr, ◌==◌, true≢false, arith, cases_eq, ℕ, ◌≤◌, length, drop, Option, Some, None, AllByRecursion, list_any, list_all, Membership, Actor, Agent, Site, term_of, term_in, leader, Letter, Sends, SiteState, Scanning, Joining, Joiner, Reported, site_term, start_in_view, other_copies, longest, lacks, repair_to, sent, In, Prefix, none-and-some, same-some, all-mono, not-both, set-here, set-there, set-both, repair-all, repair_letter, prefix-length, prefix-refl, prefix-trans, grown, flat_map-append}
-use Rattle.log_laws.specs.Histories.{LogState, Logs, Repairs, Entered, Leadership, LogsHold, IsSlot, WordOf, Last, known, EnteredOk, ReportOk, LeadershipOk, UnledOk, SiteOk, KeepsOk, MemberOk, JoinerOk, LeadsIn, FollowsIn, SiteLetterOk, MeantFor, IsCounted, AckOk, CountedOk, AsksToJoin, ForeignOk, SiteWaitingOk, JoinsIn, asks_of_term, part, site_start, log_at, term_at, between, follows, line, line_of}
-use Rattle.log_laws.proofs.Kept.{after_site, LogsLater, JoinsOn, grown-at, been-later, word_of-later, ack-later, counted-later, ask-later, reached-later, stays, leadership-later, unled-later, running-slot, same-word, some-term, entered-start, running-in, sent-here, sent-there, words-after, foreign-after, views-after, still-same, member-keeps-with, at-most-same, put_at, put-both, put-here, put-there, site_turned, turned-later, turned-holds, waiting-turned, pending-turned}
+use Rattle.log_laws.proofs.Names.{◌≡◌, ◌<◌, true, false, List, [], ◌∷◌, ◌++◌, append-nil, refl, sym, subst, ap, ◌∙◌, inl, inr, ◌==◌, true≢false, arith, cases_eq, ℕ, ◌≤◌, length, drop, Option, Some, None, AllByRecursion, list_any, list_all, Membership, Actor, Agent, Site, term_of, term_in, leader, Letter, Sends, SiteState, Scanning, Joining, Joiner, Reported, site_term, start_in_view, other_copies, longest, lacks, repair_to, sent, In, Prefix, none-and-some, same-some, not-both, set-here, set-there, set-both, repair-all, repair_letter, prefix-length, prefix-refl, prefix-trans, grown, flat_map-append}
+use Rattle.log_laws.specs.Histories.{LogState, Logs, Repairs, Entered, Leadership, LogsHold, WordOf, Last, known, EnteredOk, ReportOk, LeadershipOk, UnledOk, SiteOk, KeepsOk, MemberOk, JoinerOk, LeadsIn, FollowsIn, SiteLetterOk, MeantFor, IsCounted, ForeignOk, JoinsIn, asks_of_term, part, site_start, log_at, term_at, between, follows, line, line_of}
+use Rattle.log_laws.proofs.Kept.{after_site, LogsLater, JoinsOn, grown-at, been-later, word_of-later, ask-later, reached-later, stays, leadership-later, unled-later, running-slot, same-word, some-term, entered-start, running-in, sent-here, sent-there, words-after, foreign-after, views-after, still-same, member-keeps-with, at-most-same, put_at, put-both, put-here, put-there, site_turned, turned-later, turned-holds, waiting-turned, pending-turned, asks-later, counteds-later, keeps-at, RunsOn, site-runs}
 use Rattle.log_laws.proofs.Kept.Moves.{Grown}
 use Rattle.log_laws.proofs.Kept.Turned.{Turned}
 use Rattle.log_laws.proofs.Plain.{repair-line, repair-line-other, repair-flow, repair-ends, start-in-view, follows-leader, leader-follows-none, leader-followed, flat-same, one-and-others}
@@ -322,39 +322,18 @@ module _ (S : LogState) (H : LogsHold S) (i : ℕ) (w : Membership) (up : 0 < si
   }
 
   own-keeps : KeepsOk T i
-  own-keeps = let k = (H.sites i).keeps up in record {
-    acks = rw here (all-mono (λ a. IsSlot S a.0 → AckOk S a.0 (term_at S i) a.1) (λ a. IsSlot S a.0 → AckOk T a.0 (term_at S i) a.1)
-        (λ a p slot. ack-later S T H later a.0 (term_at S i) a.1 (p slot)) (S.sites i).acks k.acks);
-    reports = subst (λ z. AllByRecursion (λ r. ReportOk T (part S i) r.slot (site_term z) r.position r.floor r.tail) z.reports) (sym here) tt;
-    joiners = rw here (all-mono (CountedOk S (part S i) (term_at S i)) (CountedOk T (part S i) (term_at S i))
-        (counted-later S T H later (part S i) (term_at S i)) (S.sites i).joiners k.joiners);
-    alone = rw here k.alone;
-    leads = rw here k.leads;
-    asks = rw here (all-mono (λ a. AsksToJoin S (part S i) a.slot (term_at S i) a.start) (λ a. AsksToJoin T (part S i) a.slot (term_at S i) a.start)
-        (λ a. ask-later S T H later (part S i) a.slot (term_at S i) a.start (on a.slot)) (S.sites i).asks k.asks);
-    waiting = subst (λ z. AllByRecursion (SiteWaitingOk T i) z.waiting) (sym here)
-        (waiting-turned S H i s ch S.logs.entered re S.logs.reach new turns i (running-slot S H i up) own-start k);
-    pending = pending-turned S H i s ch S.logs.entered re S.logs.reach new turns i (running-slot S H i up) own-start k;
-    on_disk = subst (λ z. z.on_disk ≤ length z.log) (sym here)
-        (let a = k.on_disk in let b = prefix-length (log_at S i) (begun_log (S.sites i)) (own-prefix S H i w up none view leads unrepaired all) in omega (arith, a, b));
-    held = rw here k.held;
-  }
+  own-keeps = let k = (H.sites i).keeps up in keeps-at S T H later i s here refl k.acks tt
+      (counteds-later S T H later (part S i) (term_at S i) (S.sites i).joiners k.joiners) k.alone k.leads (asks-later S T H later (part S i) (term_at S i) on (S.sites i).asks k.asks)
+      (waiting-turned S H i s ch S.logs.entered re S.logs.reach new turns i (running-slot S H i up) own-start k)
+      (pending-turned S H i s ch S.logs.entered re S.logs.reach new turns i (running-slot S H i up) own-start k)
+      (let a = k.on_disk in let b = prefix-length (log_at S i) (begun_log (S.sites i)) (own-prefix S H i w up none view leads unrepaired all) in omega (arith, a, b)) k.held
     where
       on : (c : ℕ) → JoinsOn S T c
       on c = set-both (λ c z. (u : Membership) → JoinsIn S c u → (j : Joining) × (z.joining ≡ Some j) × (z.view ≡ Some u)) S.sites i s (λ u j. j) (λ c _ u j. j) c
 
   own-site : SiteOk T i
-  own-site = let k = H.sites i in record {
-    environment = λ e. own-start ∙ k.environment e;
-    ran = λ _. let r = k.ran up in (r.0, r.1 ∙ ap (λ z. z ∷ r.0) (sym own-start));
-    term = rw here k.term;
-    earlier = rw here k.earlier;
-    member = λ _ _. (w, ap (λ z. z.view) here ∙ view, own-member);
-    joiner = λ j e. absurd (none-and-some none (sym (ap (λ z. z.joining) here) ∙ e));
-    keeps = λ _. own-keeps;
-    stopped = λ e. let z = sym own-start ∙ e in absurd (omega (arith, up, z));
-    blank = λ e. let z = sym own-start ∙ e in absurd (omega (arith, up, z));
-  }
+  own-site = site-runs S T H later i (subst (RunsOn (S.sites i)) (sym here) search) refl (λ _ _ v is _. subst (MemberOk T i) (same-some (sym view ∙ is)) own-member)
+      (λ j k is _ _. absurd (none-and-some none is)) (λ _ _. own-keeps) (λ z _. absurd (omega (arith, up, z))) (H.sites i)
 
   -- what holds, holds once it has begun
   pub begun-holds : LogsHold (after_site S i s out G)

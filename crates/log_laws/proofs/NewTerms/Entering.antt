@@ -1,5 +1,5 @@
 -- A site comes into a term as a member of its word: what was so before.
-use Rattle.log_laws.proofs.Names.{◌≡◌, ◌<◌, true, false, [], ◌++◌, append-nil, append_assoc, refl, sym, subst, ap, ◌∙◌, ◌⊎◌, inl, inr, ◌==◌, arith, cases_eq, and_from, eq-eqb, false_from_ne_true, ℕ, ◌≤◌, nat_lt, max, length, Option, Some, None, Membership, slots, term_of, term_in, start_of_slot, host_of_slot, SiteState, Joining, Streamed, In, Prefix, Admitted, names, HistoryOk, GoodWord, Recorded, AdmittedOk, none-and-some, same-some, all-at, not-both, admits-fresh, one-first, at-good, term-same, member-is, prefix-trans}
+use Rattle.log_laws.proofs.Names.{◌≡◌, ◌<◌, true, false, [], ◌++◌, append-nil, append_assoc, refl, sym, subst, ap, ◌∙◌, ◌⊎◌, inl, inr, ◌==◌, arith, cases_eq, and_from, eq-eqb, false_from_ne_true, ℕ, ◌≤◌, nat_lt, max, length, Option, Some, None, Membership, slots, term_of, term_in, start_of_slot, host_of_slot, SiteState, Joining, Streamed, In, Prefix, Admitted, names, HistoryOk, GoodWord, Recorded, none-and-some, same-some, all-at, not-both, admits-fresh, one-first, at-good, term-same, member-is, prefix-trans}
 use Rattle.log_laws.specs.Histories.{LogState, Entered, Streaming, Leadership, LogsHold, IsSlot, WordOf, WasIn, Last, Unled, Came, known, MemberOk, JoinerOk, InWord, Took, ViewIn, StreamIn, LeadsIn, FollowsIn, line, between, part, site_start, log_at, term_at}
 use Rattle.log_laws.proofs.Kept.{running-slot, took-not-named, base-least, entered-start, leadership-entered, running-in, was-in, last-below}
 use Rattle.log_laws.proofs.NewTerms.Since.{since-running}
@@ -19,7 +19,7 @@ ran-owner S H c a is = let h = host_of_slot S.words.deployment c in
 -- where a decided word names a start that took one as a joiner, it was admitted at the word that it took
 pub took-admitted : (S : LogState) → LogsHold S → (a : ℕ) (v w : Membership) → S.words.history.took a ≡ Some v → In w S.words.history.decided → names w a ≡ true
     → (x : Admitted) × In x S.words.history.admitted × (x.start ≡ a) × (x.at ≡ v)
-took-admitted S H a v w took decided named = (
+took-admitted S H a v w took decided named = let ok = h.admitted_ok r.entry r.is_one in (
   r.entry,
   r.is_one,
   r.same,
@@ -41,9 +41,6 @@ took-admitted S H a v w took decided named = (
 
     r : Recorded S.words w a
     r = gw.recorded a (admits-fresh v w a (one-first S.words h v w gv gw) (false_from_ne_true (names v a) (took-not-named S H a v took)) named)
-
-    ok : AdmittedOk S.words r.entry
-    ok = h.admitted_ok r.entry r.is_one
 
 -- who came before a term came before a later one
 pub came-up : (S : LogState) (c t u a : ℕ) → t ≤ u → Came S c t a → Came S c u a

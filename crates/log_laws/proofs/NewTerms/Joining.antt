@@ -1,8 +1,8 @@
 -- A joiner takes its word, which doesn't count it: it asks its partition's leader to join.
-use Rattle.log_laws.proofs.Names.{◌≡◌, ◌<◌, Bool, true, false, List, [], ◌∷◌, ◌++◌, append-nil, refl, sym, subst, ap, ◌∙◌, ◌⊎◌, inl, inr, ◌==◌, arith, cases_eq, eqb-true, eqb-false, ℕ, ◌≤◌, filter, if◌then◌else◌, Option, Some, None, length, AllByRecursion, Membership, Actor, Agent, Site, Deployment, term_of, term_in, leader, same, Letter, Sends, Waiting, letter_in, sending, SiteState, Joining, Joiner, site_term, start_in_view, in_new_term, asks_to_join, sent, In, none-and-some, same-some, not-both, all-at, all-filter, in-cases, in-none, in-map-from, in-filter, only-one, set-here, set-there, set-both, same-true, leader-view, flat_map-append}
+use Rattle.log_laws.proofs.Names.{◌≡◌, ◌<◌, Bool, true, false, List, [], ◌∷◌, ◌++◌, append-nil, refl, sym, subst, ap, ◌∙◌, ◌⊎◌, inl, inr, ◌==◌, arith, cases_eq, eqb-true, eqb-false, ℕ, ◌≤◌, filter, if◌then◌else◌, Option, Some, None, length, AllByRecursion, Membership, Actor, Agent, Site, Deployment, term_of, term_in, leader, same, Letter, Sends, Waiting, letter_in, sending, SiteState, Joining, Joiner, site_term, start_in_view, in_new_term, asks_to_join, sent, In, none-and-some, same-some, not-both, all-at, all-filter, in-cases, in-none, in-map-from, in-filter, only-one, set-here, set-there, set-both, same-true, leader-view, flat_map-append, cond_both}
 use Rattle.volt_wire.specs.declared.message.Msg.TheVariants as msg
 use Rattle.log_laws.specs.Histories.{LogState, LogsHold, IsSlot, Inert, Untaken, Wordless, InWord, StreamIn, JoinerOk, SiteOk, ViewIn, SiteLetterOk, SiteWaitingFrom, SiteWaitingOk, AsksToJoin, HeldOk, CountedOk, ForeignOk, line_of, flow_of, end_of, part, site_start, term_at, between, line, flow, stream_ends_in, ask_in, ask_of, asks_in, wait_of, asks_waiting, asks_kept, asks_of_term, asked, follows, log_at}
-use Rattle.log_laws.proofs.Kept.{after_site, site_popped, LogsLater, Turns, NoStreamStart, grown-same, enters-same, ask-later, stays, entered-later, same-leaderships, leaderships-later, unleds-later, AtMost, at-most-both, at-most-same, at-most-none, running-slot, took-decided, some-term, some-start, still-same, member-keeps, words-after, words-popped, site_turned, turned-later, turned-holds, fresh-keeps, said-same}
+use Rattle.log_laws.proofs.Kept.{after_site, site_popped, LogsLater, Turns, NoStreamStart, grown-same, enters-same, ask-later, same-leaderships, leaderships-later, unleds-later, AtMost, at-most-both, at-most-same, at-most-none, running-slot, took-decided, some-term, some-start, still-same, member-keeps, words-after, words-popped, site_turned, turned-later, turned-holds, fresh-keeps, said-same, entereds-later}
 use Rattle.log_laws.proofs.Kept.Turned.{Turned}
 use Rattle.log_laws.proofs.Plain.{flat-in, asks-here, if-none, follows-leader, leader-follows, leader-copy, start-in-view, flat-none, flat-same, if-empty}
 use Rattle.log_laws.proofs.NewTerms.Entering.{running-ran}
@@ -16,15 +16,12 @@ module _ (S : LogState) (H : LogsHold S) (a c t x : ℕ) (slot : IsSlot S c) whe
   asked-by l k is = elim l.body as (λ m. SiteLetterOk S a c (record l { body = m }) → In x (if l.term == t then ask_in m else []) → AsksToJoin S (part S c) a t x) [
     | msg.JoinAsk y slot-of ↦ λ p q. let o = only-one (l.term == t) y x q in
         subst (AsksToJoin S (part S c) a t) o.1 (subst (λ z. AsksToJoin S (part S c) a z y) (eqb-true l.term t o.0) p.2)
-    | m ↦ λ p q. absurd (none (l.term == t) q)
+    | m ↦ λ p q. absurd (cond_both (l.term == t) _ _ (λ z. In x z → ⊥) (λ _ q. q) (λ _ q. q) q)
   ] k is
-    where
-      none : (b : Bool) → In x (if b then [] else []) → ⊥
-      none true q = q
-      none false q = q
 
   waited-by : (y : Waiting) → SiteWaitingOk S c y → In x (wait_of a t y) → AsksToJoin S (part S c) a t x
-  waited-by y k is = choice (same y.from (Site a)) refl is
+  waited-by y k is = cond_both (same y.from (Site a)) _ _ (λ z. In x z → AsksToJoin S (part S c) a t x)
+      (λ e q. site (subst (λ z. SiteWaitingFrom S c z y.letter) (same-true y.from (Site a) e) k.1) q) (λ e q. absurd q) is
     where
       site : SiteWaitingFrom S c (Site a) y.letter → In x (ask_of t y.letter) → AsksToJoin S (part S c) a t x
       site p q = elim y.letter.body as (λ m. (SiteLetterOk S a c (record y.letter { body = m }) → In x (ask_of t (record y.letter { body = m })) → AsksToJoin S (part S c) a t x)
@@ -36,10 +33,6 @@ module _ (S : LogState) (H : LogsHold S) (a c t x : ℕ) (slot : IsSlot S c) whe
             | msg.StreamEnd count ↦ λ _ p. absurd p
             | m ↦ λ f. f
           ] (asked-by y.letter) p q
-
-      choice : (b : Bool) → same y.from (Site a) ≡ b → In x (if b then ask_of t y.letter else []) → AsksToJoin S (part S c) a t x
-      choice true e q = site (subst (λ z. SiteWaitingFrom S c z y.letter) (same-true y.from (Site a) e) k.1) q
-      choice false e q = absurd q
 
   -- all that was asked and not answered is so
   pub asked-ok : In x (asked S a c t) → AsksToJoin S (part S c) a t x
@@ -100,11 +93,7 @@ module _ (i : ℕ) (D : Deployment) (s : SiteState) where
 
   pub asks-agents : (o : Option ℕ) (g : ℕ) → asks_to_join i D s o (Agent g) ≡ []
   asks-agents None g = refl
-  asks-agents (Some l) g = choice (l == i)
-    where
-      choice : (b : Bool) → ◌≡◌ {A = List Letter} (if b then [] else []) []
-      choice true = refl
-      choice false = refl
+  asks-agents (Some l) g = cond_both (l == i) _ _ (λ z. ◌≡◌ {A = List Letter} z []) (λ _. refl) (λ _. refl)
 
   -- of whatever holds of that message
   pub asks-all : (P : Letter → Type 0) (o : Option ℕ) (c : ℕ) → (o ≡ Some c → (c ≡ i → ⊥) → P (ask_letter c)) → AllByRecursion P (asks_to_join i D s o (Site c))
@@ -263,15 +252,13 @@ module _ (S : LogState) (H : LogsHold S) (h i : ℕ) (l : Letter) (w : Membershi
   -- the leader was asked once
   asked-once : (c : ℕ) → leader D w (part S i) ≡ Some c → (c ≡ i → ⊥) → IsSlot S c → (S.sites i).earlier < term_of w → asked T i c (term_of w) ≡ site_start S i ∷ []
   asked-once c authoritative other sl low =
+      let t = term_of w in
       ap (λ z. asks_in t (ch (Site i) (Site c)) ++ asks_waiting i t z.waiting ++ asks_waiting i t (S.pending c) ++ asks_of_term i t z) (there c other)
       ∙ ap (λ z. asks_in t z ++ asks_waiting i t (S.sites c).waiting ++ asks_waiting i t (S.pending c) ++ asks_of_term i t (S.sites c)) channel
       ∙ ap (λ z. z ++ asks_waiting i t (S.sites c).waiting ++ asks_waiting i t (S.pending c) ++ asks_of_term i t (S.sites c))
       (flat_map-append (ask_of t) (between S i c) (ask_letter i D s c ∷ []) ∙ ap (λ z. asks_in t (between S i c) ++ (z ++ [])) (asks-here t (ask_letter i D s c) refl))
       ∙ empties (asks_in t (between S i c)) (asks_waiting i t (S.sites c).waiting) (asks_waiting i t (S.pending c)) (asks_of_term i t (S.sites c)) (none-asked c t sl low)
     where
-      t : ℕ
-      t = term_of w
-
       channel : ch (Site i) (Site c) ≡ between S i c ++ ask_letter i D s c ∷ []
       channel = mine-taken S H h i l w ls is start up out c ∙ ap (λ z. between S i c ++ z) (elim (asks-cases i D s (leader D w (part S i)) c) [
         | inl k ↦ k.2
@@ -392,9 +379,7 @@ module _ (S : LogState) (H : LogsHold S) (h i : ℕ) (l : Letter) (w : Membershi
       own-site
       (views-taken S H h i l w ls is start up out s S.logs later refl refl refl)
       (λ c sl. asks-all i D s (SiteLetterOk T i c) (leader D w (part S i)) c (λ authoritative _. asks-ok c authoritative))
-      (λ c t e m. entered-later S T H later c t e (H.entered c t e m) (same-leaderships S.logs T.logs refl) (λ runs.
-      let k = H.entered c t e m in let y = stays S T H later c e.start k.been.some k.been.ran runs in
-      let r = (k.running (sym y.start ∙ runs)).2 in let b = y.log in omega (arith, r, b)) (H.entered c t e m).since)
+      (entereds-later S T H later (same-leaderships S.logs T.logs refl) (λ p t. refl))
       (λ c t x m. (H.streamed c t x m).apart)
       (leaderships-later S T H later (same-leaderships S.logs T.logs refl) (λ p t g is. (H.leaderships p t g is).within))
       (λ p t m. unleds-later S T H later (same-leaderships S.logs T.logs refl) p t refl m)

@@ -1,5 +1,5 @@
 -- A site takes the first word that is under way to it: its channels after that, and what is left of its words.
-use Rattle.log_laws.proofs.Names.{◌≡◌, ◌+◌, ◌<◌, Bool, true, false, List, [], ◌∷◌, ◌++◌, append-nil, refl, sym, subst, ap, ◌∙◌, inl, inr, ◌==◌, arith, nat_tests, ℕ, ◌≤◌, ◌&&◌, if◌then◌else◌, Option, Some, None, AllByRecursion, Membership, Actor, Director, Client, Agent, Site, Scanner, term_of, term_in, host_of_slot, start_of_slot, Letter, Sends, AgentState, SiteState, sent, rest, starts_in, In, if-true, if-false, and-false, all-at, all-from, all-append, all-mono, eqb-same, set-here, took-all}
+use Rattle.log_laws.proofs.Names.{◌≡◌, ◌+◌, ◌<◌, false, List, [], ◌∷◌, ◌++◌, append-nil, refl, sym, subst, ap, ◌∙◌, inl, inr, ◌==◌, arith, nat_tests, ℕ, ◌≤◌, ◌&&◌, Option, Some, None, AllByRecursion, Membership, Actor, Director, Client, Agent, Site, Scanner, term_of, term_in, host_of_slot, start_of_slot, Letter, Sends, AgentState, SiteState, sent, rest, starts_in, In, if-true, if-false, and-false, all-at, all-from, all-append, all-mono, eqb-same, set-here, took-all, cond_both}
 use Rattle.volt_wire.specs.declared.message.Msg.TheVariants as msg
 use Rattle.log_laws.specs.Histories.{PlainView, LogState, Logs, LogsHold, ViewsOk, MemberViews, FirstViews, RunViews, Starting, ForeignOk, site_start, term_at, agent_to_site, between, views, IsSlot, MeantFor, SiteLetterOk, is_for, line_of, flow_of, end_of, line, flow, stream_ends_in, sent_term, end_in, flow_in, line_in}
 use Rattle.log_laws.proofs.Kept.{after_site, site_popped, LogsLater, LeavesViews, leaves-first, member_views-later, first_views-later}
@@ -106,20 +106,14 @@ module _ (S : LogState) (H : LogsHold S) (h i : ℕ) (l : Letter) (w : Membershi
         if-false (i == a) ((site_popped S (Agent h) i).words.channel (Site a) (Site c) ++ out (Site c)) ((site_popped S (Agent h) i).words.channel (Site a) (Site c)) e ∙ popped-sites a c
 
     pub tells-taken : ((g : ℕ) → out (Agent g) ≡ []) → (c g : ℕ) → ch (Site c) (Agent g) ≡ S.words.channel (Site c) (Agent g)
-    tells-taken inert c g = choice (i == c)
-      where
-        choice : (b : Bool) → (if b then S.words.channel (Site c) (Agent g) ++ out (Agent g) else S.words.channel (Site c) (Agent g)) ≡ S.words.channel (Site c) (Agent g)
-        choice true = rw (inert g) (append-nil (S.words.channel (Site c) (Agent g)))
-        choice false = refl
+    tells-taken inert c g = cond_both (i == c) _ _ (λ z. z ≡ S.words.channel (Site c) (Agent g))
+        (λ _. rw (inert g) (append-nil (S.words.channel (Site c) (Agent g)))) (λ _. refl)
 
     pub foreign-taken : ((c : ℕ) → AllByRecursion (ForeignOk S c (Site i)) (out (Site c))) → (from : Actor) (c : ℕ) → AllByRecursion (ForeignOk S c from) (ch from (Site c))
     foreign-taken new (Site a) c = one-and-others (λ a. AllByRecursion (ForeignOk S c (Site a)) (ch (Site a) (Site c))) i
         (rw (mine-taken c) (all-append (ForeignOk S c (Site i)) (between S i c) (out (Site c)) (H.foreign (Site i) c) (new c)))
         (λ a n. rw (theirs-taken a c n) (H.foreign (Site a) c)) a
-    foreign-taken new (Agent g) c = popped-foreign (Agent g) c
-    foreign-taken new Director c = popped-foreign Director c
-    foreign-taken new (Client n) c = popped-foreign (Client n) c
-    foreign-taken new (Scanner a) c = popped-foreign (Scanner a) c
+    foreign-taken new from c = popped-foreign from c
 
     -- ---- its words, once it has this one
 

@@ -1,5 +1,5 @@
 -- What is under way: items of lists of letters, of letters in the order in which a site sends them, and of what a site sends.
-use Rattle.log_laws.proofs.Names.{◌≡◌, Bool, true, false, List, [], ◌∷◌, ◌++◌, append-nil, refl, sym, subst, ap, ◌∙◌, inl, inr, ◌==◌, true≢false, and_parts, and_from, eqb-true, eq-eqb, false_from_ne_true, map-append, flat_map-append, filter-append, ℕ, if◌then◌else◌, map, filter, flat_map, drop, AllByRecursion, Entry, Deployment, is_in, Letter, SiteState, Reported, Joiner, Ask, site_term, start_in_view, order_of, of_order, put_to, tasks_to, repair_to, stream_ends_to, is_sent, In, Distinct, if-true, if-false, in-left, in-right, in-cases, in-filter, all-from, all-mono, in-none, in-map, in_order, put_letter, put-all, task_letter, tasks-all, repair_letter, repair-cases, repair-all, end_letter, stream_ends-all, cases_eq}
+use Rattle.log_laws.proofs.Names.{◌≡◌, Bool, true, false, List, [], ◌∷◌, ◌++◌, append-nil, refl, sym, subst, ap, ◌∙◌, inl, inr, ◌==◌, true≢false, and_parts, and_from, eqb-true, eq-eqb, false_from_ne_true, map-append, flat_map-append, filter-append, ℕ, if◌then◌else◌, map, filter, flat_map, drop, AllByRecursion, Entry, Deployment, is_in, Letter, SiteState, Reported, Joiner, Ask, site_term, start_in_view, order_of, of_order, put_to, tasks_to, repair_to, stream_ends_to, is_sent, In, Distinct, if-true, if-false, in-left, in-right, in-cases, in-filter, all-from, all-mono, in-none, in-map, in_order, put_letter, put-all, task_letter, tasks-all, repair_letter, repair-cases, repair-all, end_letter, stream_ends-all, cases_eq, cond_both}
 use Rattle.volt_wire.specs.declared.message.Msg.TheVariants as msg
 use Rattle.log_laws.specs.Histories.{Line, Repairs, Puts, Flow, Begins, Follows, is_for, line_in, line_of, line, flow_in, flow_of, flow, end_in, end_of, stream_ends_in, ask_in, ask_of, asks_in, asks_kept, view_in, view_of}
 use Rattle.log_laws.proofs.Kept.Moves.{NoStreamStart}
@@ -50,19 +50,12 @@ module _ {A B : Type 0} (f : A → List B) where
   -- of those that pass a test, where the others are empty, or they are
   pub flat-kept : (p : A → Bool) (xs : List A) → AllByRecursion (λ x. p x ≡ false → f x ≡ []) xs → flat_map f (filter p xs) ≡ flat_map f xs
   flat-kept p [] h = refl
-  flat-kept p (x ∷ xs) h = choice (p x) refl (flat-kept p xs h.1)
-    where
-      choice : (b : Bool) → p x ≡ b → flat_map f (filter p xs) ≡ flat_map f xs → flat_map f (if b then x ∷ filter p xs else filter p xs) ≡ f x ++ flat_map f xs
-      choice true e k = ap (λ ys. f x ++ ys) k
-      choice false e k = rw (h.0 e) k
+  flat-kept p (x ∷ xs) h = cond_both (p x) _ _ (λ z. flat_map f (filter p xs) ≡ flat_map f xs → flat_map f z ≡ f x ++ flat_map f xs)
+      (λ e k. ap (λ ys. f x ++ ys) k) (λ e k. rw (h.0 e) k) (flat-kept p xs h.1)
 
   pub flat-lost : (p : A → Bool) (xs : List A) → AllByRecursion (λ x. p x ≡ true → f x ≡ []) xs → flat_map f (filter p xs) ≡ []
   flat-lost p [] h = refl
-  flat-lost p (x ∷ xs) h = choice (p x) refl (flat-lost p xs h.1)
-    where
-      choice : (b : Bool) → p x ≡ b → flat_map f (filter p xs) ≡ [] → flat_map f (if b then x ∷ filter p xs else filter p xs) ≡ []
-      choice true e k = rw (h.0 e) k
-      choice false e k = k
+  flat-lost p (x ∷ xs) h = cond_both (p x) _ _ (λ z. flat_map f (filter p xs) ≡ [] → flat_map f z ≡ []) (λ e k. rw (h.0 e) k) (λ e k. k) (flat-lost p xs h.1)
 
 pub if-none : {A : Type 0} (c : Bool) → ◌≡◌ {A = List A} (if c then [] else []) []
 if-none true = refl

@@ -2,7 +2,7 @@
 use Rattle.log_laws.proofs.Names.{◌≡◌, ◌+◌, ◌<◌, ◌≤◌, Bool, true, false, List, [], ◌∷◌, append-nil, refl, sym, subst, ap, ◌∙◌, inl, inr, ◌==◌, arith, zero, suc, and_parts, and_from, cases_Bool, eq-eqb, eqb-true, false≢true, nat_tests, mod_below, ℕ, ◌*◌, ◌&&◌, not, nat_lt, if◌then◌else◌, length, map, Option, Some, None, AllByRecursion, Entry, Membership, Actor, Director, Client, Agent, Site, Scanner, Database, Deployment, slots, parts, part_of_slot, host_of_slot, is_host, is_in, term_of, copies, start_of_slot, Letter, AgentState, new_agent, starts_in, SiteState, Joining, site_term, is_joiner, is_member_site, no_site, stopped_site, member_site, World, Input, first_world, new_word, greatest_done, first_initiating, member_agent, start_from, is_of_host, new_channels, new_base, new_log, starts_anew, In, eqb-same, if-true, if-false, none-and-some, same-some, in-one, in-map-from, all-from, epoch_state, new_history, new_owner, boot-holds, recovery-holds, start_of-first, first-there}
 use Rattle.volt_wire.specs.declared.message.Msg.TheVariants as msg
 use Rattle.word_laws.specs.Histories as word
-use Rattle.log_laws.specs.Histories.{Entered, Streaming, Leadership, Logs, LogState, IsSlot, HasBeen, AckOk, EnteredOk, LeadershipOk, LeadsIn, FollowsIn, MemberOk, KeepsOk, SiteOk, ViewsOk, LoadsOk, ForeignOk, LogsHold, part, site_start, log_at, term_at, agent_to_site, between, line, views, sent_term}
+use Rattle.log_laws.specs.Histories.{Entered, Streaming, Leadership, Logs, LogState, IsSlot, HasBeen, AckOk, EnteredOk, LeadershipOk, LeadsIn, FollowsIn, MemberOk, KeepsOk, SiteOk, ViewsOk, LoadsOk, ForeignOk, LogsHold, part, site_start, log_at, term_at, agent_to_site, between, line, views, sent_term, asked}
 use Rattle.log_laws.proofs.Plain.{in-is_in, copy-member}
 use Rattle.log_laws.specs.Copies.{log_state, AuthoritativeOk, HasLogs}
 
@@ -322,9 +322,7 @@ module _ (D : Deployment) (base start number next : ℕ) (agents : ℕ → Agent
   foreign-ok : (from : Actor) (c : ℕ) → AllByRecursion (ForeignOk T c from) (channel from (Site c))
   foreign-ok Director c = k.foreign Director refl c
   foreign-ok (Client n) c = k.foreign (Client n) refl c
-  foreign-ok (Agent h) c = no-start (Agent h) c refl
-  foreign-ok (Site i) c = no-start (Site i) c refl
-  foreign-ok (Scanner i) c = no-start (Scanner i) c refl
+  foreign-ok from c = no-start from c refl
 
   -- an agent has nothing that waits, is queued, or has loaded
   loaded-none : (h : ℕ) (x : Bool) → is_host D h ≡ x → (agents h).loaded ≡ []
@@ -482,17 +480,13 @@ foreign-on : (S : LogState) (from : Actor) (c : ℕ) → is_of_host from ≡ fal
     → AllByRecursion NoStart (S.words.channel from (Site c))
 foreign-on S Director c e h = h
 foreign-on S (Client n) c e h = h
-foreign-on S (Agent n) c e h = absurd (cc)
-foreign-on S (Site n) c e h = absurd (cc)
-foreign-on S (Scanner n) c e h = absurd (cc)
+foreign-on S from c e h = absurd (cc)
 
 foreign-left : (D : Deployment) (start : ℕ) (channel : Actor → Actor → List Letter) (from : Actor) (c : ℕ) → is_of_host from ≡ false
     → AllByRecursion NoStart (channel from (Site c)) → AllByRecursion NoStart (new_channels D start channel from (Site c))
 foreign-left D start channel Director c e h = subst (AllByRecursion NoStart) (sym (append-nil (channel Director (Site c)))) h
 foreign-left D start channel (Client n) c e h = subst (AllByRecursion NoStart) (sym (append-nil (channel (Client n) (Site c)))) h
-foreign-left D start channel (Agent n) c e h = absurd (cc)
-foreign-left D start channel (Site n) c e h = absurd (cc)
-foreign-left D start channel (Scanner n) c e h = absurd (cc)
+foreign-left D start channel from c e h = absurd (cc)
 
 emptied : (D : Deployment) (start : ℕ) (channel : Actor → Actor → List Letter) (from : Actor) → is_of_host from ≡ true → (c : ℕ) → new_channels D start channel from (Site c) ≡ []
 emptied D start channel from e c = rw e

@@ -3,7 +3,7 @@
 use Rattle.log_laws.proofs.Names.{◌≡◌, false, List, refl, sym, subst, ◌∙◌, true≢false, fun_ext, ℕ, AllByRecursion, Actor, Director, Client, Agent, Site, Scanner, Shown, same, Letter, Queued, Job_, Admission, In, Admitted, all-mono, eqb-same, grows-same}
 use Rattle.volt_wire.specs.declared.message.Msg.TheVariants as msg
 use Rattle.word_laws.specs.Histories as word
-use Rattle.log_laws.specs.Histories.{LogState, views, ViewsOk, ForeignOk, AllLoaded, AskedOk, QueuedLoadedOk, LogsHold, site_start, agent_to_site}
+use Rattle.log_laws.specs.Histories.{LogState, views, ViewsOk, ForeignOk, AllLoaded, AskedOk, QueuedLoadedOk, LogsHold, site_start, agent_to_site, between}
 use Rattle.log_laws.proofs.Agents.Words.{sites-hold, sites-kept}
 use Rattle.log_laws.proofs.Runs.Boots.{NoStart}
 use Rattle.log_laws.proofs.Kept.{first_views-later, run_views-later}
@@ -43,9 +43,7 @@ module _ (S : LogState) (next : ℕ) (owner : ℕ → ℕ) (channel : Actor → 
   asked : (from : Actor) (l : Letter) → AskedOk S from l → AskedOk T from l
   asked (Agent h) l k = k
   asked (Site i) l k = k
-  asked Director l k = tt
-  asked (Client n) l k = tt
-  asked (Scanner x) l k = tt
+  asked from l k = tt
 
   -- What holds is kept, where the hosts of starts that were admitted are, and others send sites no start.
   framed-holds : LogsHold S → word.WordsHold T.words → ((x : Admitted) → In x S.words.history.admitted → owner x.start ≡ S.words.owner x.start)
@@ -123,7 +121,4 @@ frames-holds S next owner channel contents H agrees words owned foreign =
   where
     sent-by : (from : Actor) (c : ℕ) (l : Letter) → ForeignOk S c from l → ForeignOk (reframed S next owner channel contents) c from l
     sent-by Director c l k = k
-    sent-by (Client n) c l k = k
-    sent-by (Agent h) c l k = k
-    sent-by (Site i) c l k = k
-    sent-by (Scanner x) c l k = k
+    sent-by from c l k = k

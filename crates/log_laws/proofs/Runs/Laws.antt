@@ -183,4 +183,5 @@ module _ (w : World) (k : HasLogs w) where
   pub joiner-behind : (c l : ℕ) → HasLoaded w c → Leads w l → OfOneTerm w c l → Follows w c l
   joiner-behind c l h b a =
       let f = joiner-follows S k.holds c l (has-loaded S k.holds c h.0 h.1 h.2) (held-leadership S k.holds l b.runs b.leads) a.part a.term in
+
       record { prefix = f.0; firm = f.1 }

@@ -48,10 +48,7 @@ start-from S H from i l ls a is = each from (rw is at (H.foreign from i)).0
   where
     each : (b : Actor) → ForeignOk S i b (record l { body = msg.Start a }) → b ≡ Agent (host_of_slot S.words.deployment i)
     each (Agent h) k = ap Agent k
-    each Director k = absurd k
-    each (Client n) k = absurd k
-    each (Site j) k = absurd k
-    each (Scanner x) k = absurd k
+    each from k = absurd k
 
 module _ (E : Database) (stamp : ℕ) (S : LogState) (H : LogsHold S) (i : ℕ) (slot : IsSlot S i) (none : S.pending i ≡ []) (from : Actor) where
   -- All holds after a site has taken a message.
