@@ -1,5 +1,5 @@
 -- An agent takes a message: what holds, holds after all that it does then.
-use Rattle.log_laws.proofs.Names.{◌≡◌, ◌<◌, true, false, List, [], ◌∷◌, ◌++◌, refl, sym, subst, ap, ◌⊎◌, inl, inr, ◌==◌, arith, cases_eq, nat_tests, ℕ, ◌&&◌, not, nat_lt, None, AllByRecursion, Actor, Director, Client, Agent, Site, Scanner, Database, is_host, term_in, Letter, Sends, Turn, becomes, open_letter, ◌▸◌, arrival, Arrival, Taken, Refused, Waits, Waiting, of_term, above_term, AgentState, new_agent, stops, stops_with_host, agent_handler, handler_and_word, unless_stopped, agent_runs, agent_takes, agent_turn, start_taken, rest, start_in_letter, starts_in, Environment, NoFault, DiskFails, NoMemory, DisksShow, In, History, Admitted, CameOk, AgentWaitingFrom, AgentWaitingOk, all-mono, all-append, all-filter, all-if, Grows, grows-same, concludes, StopsSay, stops-say, stops_with_host-say, AgentTakes, Stops_, Ignores, Runs_, takes-cases, runs-taken, runs-waits, runs-refused, turn-cases, stopped-cases, unless-running, waiting-brings, pops, waiting-shrinks, with_began, start-grows, start-holds, start-stops-holds, WordsTurn, none-handler, handler-grows, handler-plain, handler-later, others-after, then-assoc, concludes-none, calm-event, handler-event, asked-waiting, came-still, none-taken, none-waited, waits-event, refused-event, ignored-event, stop-pops, stays-holds, comes-first, start-of-body}
+use Rattle.log_laws.proofs.Names.{◌≡◌, ◌<◌, true, false, List, [], ◌∷◌, ◌++◌, refl, sym, subst, ap, ◌⊎◌, inl, inr, ◌==◌, arith, cases_eq, nat_tests, ℕ, ◌&&◌, not, nat_lt, None, AllByRecursion, Actor, Director, Agent, Site, Database, is_host, term_in, Letter, Sends, Turn, becomes, open_letter, ◌▸◌, arrival, Arrival, Taken, Refused, Waits, Waiting, of_term, above_term, AgentState, new_agent, stops, stops_with_host, agent_handler, handler_and_word, unless_stopped, agent_runs, agent_takes, agent_turn, start_taken, rest, start_in_letter, starts_in, Environment, NoMemory, In, History, Admitted, CameOk, AgentWaitingFrom, AgentWaitingOk, all-mono, all-append, all-filter, all-if, Grows, grows-same, concludes, StopsSay, stops-say, stops_with_host-say, AgentTakes, Stops_, Ignores, Runs_, takes-cases, runs-taken, runs-waits, runs-refused, turn-cases, stopped-cases, unless-running, waiting-brings, pops, waiting-shrinks, with_began, start-grows, start-holds, start-stops-holds, WordsTurn, none-handler, handler-grows, handler-plain, handler-later, others-after, then-assoc, concludes-none, calm-event, handler-event, asked-waiting, came-still, none-taken, none-waited, waits-event, refused-event, ignored-event, stop-pops, stays-holds, comes-first, start-of-body}
 use Rattle.volt_wire.specs.declared.message.Msg.TheVariants as msg
 use Rattle.cluster_model.specs.Agent.{takes_each, takes_waiting, start_after, on_start}
 use Rattle.word_laws.specs.Histories as word

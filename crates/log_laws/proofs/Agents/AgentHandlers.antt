@@ -1,5 +1,5 @@
 -- The handler of a message that an agent takes, and what it says of a new word: what holds besides that of words, holds after it.
-use Rattle.log_laws.proofs.Names.{◌≡◌, ◌<◌, Bool, true, false, List, [], ◌++◌, refl, sym, subst, inl, inr, ◌==◌, eqb-true, ℕ, if◌then◌else◌, Option, Some, None, AllByRecursion, Membership, Actor, Director, Client, Agent, Site, Scanner, Database, Deployment, is_in, union, with_lost, with_number, Letter, Turn, becomes, ◌▸◌, AgentState, Queued, Job_, Admission, new_agent, stops_with_host, agent_handler, on_closed, on_word, on_decided, In, all-mono, all-append, all-at, all-from, in-left, in-cases, in-with_number, Calm, SaysNoWord, asked_by, loaded_by, handler-calm, stops_with_host-say, tells-state, on_decided-joiner, WordsTurn, cond_both}
+use Rattle.log_laws.proofs.Names.{◌≡◌, ◌<◌, Bool, true, false, List, [], ◌++◌, refl, sym, subst, inl, inr, ◌==◌, eqb-true, ℕ, if◌then◌else◌, Option, Some, None, AllByRecursion, Membership, Actor, Agent, Site, Database, Deployment, is_in, union, with_lost, with_number, Letter, Turn, becomes, ◌▸◌, AgentState, Queued, Job_, Admission, new_agent, stops_with_host, agent_handler, on_closed, on_word, on_decided, In, all-mono, all-append, all-at, all-from, in-left, in-cases, in-with_number, Calm, SaysNoWord, asked_by, loaded_by, handler-calm, stops_with_host-say, tells-state, on_decided-joiner, WordsTurn, cond_both}
 use Rattle.volt_wire.specs.declared.message.Msg.TheVariants as msg
 use Rattle.word_laws.specs.Histories as word
 use Rattle.word_laws.proofs.Turns.{tells}

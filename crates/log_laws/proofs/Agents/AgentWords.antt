@@ -1,5 +1,5 @@
 -- An agent starts, takes its first word as a joiner, or decides a word: what holds besides that of words, holds after it.
-use Rattle.log_laws.proofs.Names.{◌≡◌, ◌<◌, ◌≤◌, Bool, true, false, List, [], ◌∷◌, ◌++◌, append_assoc, append-nil, refl, sym, subst, ap, ◌∙◌, ◌⊎◌, inl, inr, ◌==◌, arith, true≢false, and_parts, cases_Bool, eqb-true, ℕ, filter, ◌&&◌, not, if◌then◌else◌, nat_lt, Option, Some, None, AllByRecursion, Membership, Agent, Site, slots, host_of_slot, start_of, is_slot_of, is_in, is_down, term_of, Letter, Sends, Turn, becomes, ◌▸◌, open_letter, letter_to, AgentState, new_agent, initiates, takes_word, decides_word, may_decide, In, names, all-mono, all-append, some-here, none-and-some, in-none, is_member-start, WordsTurn, handler-grows, agent-there, decides-handler, with_began, start-grows, Decides, decides-state, decides-sends, may_decide-cases, tells-state, concludes, concludes-not, concludes-is, cond_both}
+use Rattle.log_laws.proofs.Names.{◌≡◌, ◌<◌, ◌≤◌, Bool, true, false, List, [], ◌∷◌, ◌++◌, append_assoc, append-nil, refl, sym, subst, ap, ◌∙◌, ◌⊎◌, inl, inr, ◌==◌, arith, true≢false, and_parts, cases_Bool, eqb-true, ℕ, filter, ◌&&◌, not, if◌then◌else◌, nat_lt, Some, None, AllByRecursion, Membership, Agent, Site, slots, host_of_slot, start_of, is_slot_of, is_in, is_down, term_of, Letter, Sends, Turn, becomes, ◌▸◌, open_letter, letter_to, AgentState, new_agent, initiates, takes_word, decides_word, may_decide, In, names, all-mono, all-append, some-here, none-and-some, in-none, is_member-start, WordsTurn, handler-grows, agent-there, decides-handler, with_began, start-grows, Decides, decides-state, decides-sends, may_decide-cases, tells-state, concludes, concludes-not, concludes-is, cond_both}
 use Rattle.volt_wire.specs.declared.message.Msg.TheVariants as msg
 use Rattle.word_laws.specs.Histories as word
 use Rattle.word_laws.proofs.Turns.{tells}
@@ -9,6 +9,7 @@ use Rattle.log_laws.proofs.Agents.Decided.{decides-above}
 use Rattle.log_laws.proofs.Agents.Views.{agent_turned, Unsent, SentUpTo, ViewsIn, views-in, views-later, views-plainly, views-start, views-next}
 use Rattle.log_laws.proofs.Agents.Admits.{none-asked}
 use Rattle.log_laws.proofs.Agents.AgentTurns.{Rest, MayJoin, AgentHandler, rest-turned, plain-foreign, handler-admits, stay-agent}
+use Rattle.log_laws.proofs.Plain.{none-or-some}
 
 -- a slot of a host
 slot-host : (S : LogState) (n c : ℕ) → is_slot_of S.words.deployment n c ≡ true → host_of_slot S.words.deployment c ≡ n
@@ -178,22 +179,21 @@ module _ (S : LogState) (n : ℕ) (v : Membership) (h : word.WordsHold S.words) 
 
 -- It decides its word, or goes on as it was.
 pub concludes-agent : (S : LogState) (n : ℕ) → word.WordsHold S.words → Rest S → 0 < word.agent_start S.words n → AgentHandler S n (concludes S.words.deployment n (S.words.agents n))
-concludes-agent S n h r up = go (S.words.agents n).own refl
+concludes-agent S n h r up = elim (none-or-some (S.words.agents n).own) [
+  | inl e ↦ stays (concludes-not S.words.deployment n (S.words.agents n) (ap (λ z. may_decide n (S.words.agents n) z) e))
+  | inr (v, e) ↦ elim (cases_Bool (may_decide n (S.words.agents n) (Some v))) [
+    | inl m ↦
+        let handler = decides-handler S.words h n S.words.deployment up v e m in
+        subst (AgentHandler S n)
+        (sym (concludes-is S.words.deployment n (S.words.agents n) (ap (λ z. may_decide n (S.words.agents n) z) e ∙ m) ∙ ap
+        (decides_word S.words.deployment n (S.words.agents n)) e))
+        (record { handler = handler; rest = decides-rest S n v h r up e m handler })
+    | inr m ↦ stays (concludes-not S.words.deployment n (S.words.agents n) (ap (λ z. may_decide n (S.words.agents n) z) e ∙ m))
+  ]
+]
   where
     stays : concludes S.words.deployment n (S.words.agents n) ≡ becomes (S.words.agents n) → AgentHandler S n (concludes S.words.deployment n (S.words.agents n))
     stays e = subst (AgentHandler S n) (sym e) (stay-agent S n h r up)
-
-    go : (o : Option Membership) → (S.words.agents n).own ≡ o → AgentHandler S n (concludes S.words.deployment n (S.words.agents n))
-    go None e = stays (concludes-not S.words.deployment n (S.words.agents n) (ap (λ z. may_decide n (S.words.agents n) z) e))
-    go (Some v) e = elim (cases_Bool (may_decide n (S.words.agents n) (Some v))) [
-      | inl m ↦
-          let handler = decides-handler S.words h n S.words.deployment up v e m in
-          subst (AgentHandler S n)
-          (sym (concludes-is S.words.deployment n (S.words.agents n) (ap (λ z. may_decide n (S.words.agents n) z) e ∙ m) ∙ ap
-          (decides_word S.words.deployment n (S.words.agents n)) e))
-          (record { handler = handler; rest = decides-rest S n v h r up e m handler })
-      | inr m ↦ stays (concludes-not S.words.deployment n (S.words.agents n) (ap (λ z. may_decide n (S.words.agents n) z) e ∙ m))
-    ]
 
 -- ---- an agent starts
 

@@ -1,5 +1,5 @@
 -- The leader of a term that has begun appends an entry, and sends it to the copies and the joiners.
-use Rattle.log_laws.proofs.Names.{◌≡◌, ◌<◌, true, false, List, [], ◌∷◌, ◌++◌, append_assoc, append-nil, refl, sym, subst, ap, ◌∙◌, ◌⊎◌, inl, inr, true≢false, arith, cases_eq, ℕ, ◌≤◌, map, drop, length, Option, Some, None, AllByRecursion, Entry, Membership, Actor, Director, Client, Agent, Site, Scanner, Database, Deployment, is_in, leader, start_of_slot, term_of, term_in, SiteState, Joining, Joiner, Scanning, site_term, start_in_view, is_leader, leads, other_copies, Sends, leads_with, In, Prefix, all-append, not-both, same-some, none-and-some, all-at, set-both, put_letter, task_letter, leads-parts, leader-view, prefix-append, prefix-length, grown, Passed, leads-with, flat_map-append, map-append}
+use Rattle.log_laws.proofs.Names.{◌≡◌, ◌<◌, true, false, List, [], ◌∷◌, ◌++◌, append_assoc, append-nil, refl, sym, subst, ap, ◌∙◌, ◌⊎◌, inl, inr, true≢false, arith, cases_eq, ℕ, ◌≤◌, map, drop, length, Option, Some, None, AllByRecursion, Entry, Membership, Actor, Agent, Site, Database, Deployment, is_in, leader, start_of_slot, term_of, term_in, SiteState, Joining, Joiner, Scanning, site_term, start_in_view, is_leader, leads, other_copies, Sends, leads_with, In, Prefix, all-append, not-both, same-some, none-and-some, all-at, set-both, put_letter, task_letter, leads-parts, leader-view, prefix-append, prefix-length, grown, Passed, leads-with, flat_map-append, map-append}
 use Rattle.log_laws.specs.Histories.{LogState, Logs, Leadership, Line, Repairs, Puts, Flow, Begins, Follows, FollowsIn, LeadsIn, Coming, Took, Inert, InWord, JoinerOk, MemberOk, CountedOk, IsCounted, IsSlot, SiteLetterOk, ForeignOk, ToldOk, BeginsAt, LogsHold, follows, line, flow, stream_ends_in, asked, asks_in, asks_waiting, asks_of_term, between, part, site_start, log_at, term_at, end_of, flow_of, line_of}
 use Rattle.log_laws.proofs.Plain.{leader-follows-none, is-leader, start-in-view, other-copy, copy-other, follows-part, follows-one, leader-followed, passed-line, passed-line-other, passed-flow, passed-flow-other, passed-ends, passed-all, passed-follows, flat-same, one-and-others}
 use Rattle.log_laws.proofs.Kept.{LogsLater, SameLeaderships, NoStreamStart, LogsGo, after_site, grown-at, enters-same, sent-either, here, there, between-here, between-there, same-word, some-term, leadership-entered, took-decided, took-unnamed, at-most-is, SiteStays, SameFrom, SameTerm, SameRun, Uncounted, still-same, member-keeps-from, counted-from, inert-keeps, coming-keeps, took-keeps, in_word-keeps-with, joiner-keeps-with, put_at, put-both, put-here, put-there, Carries, grew-later, grew-member, grew-holds}

@@ -1,9 +1,9 @@
 -- What a leader counts as firm, and as its floor, is in each log.
-use Rattle.log_laws.proofs.Names.{◌≡◌, ◌<◌, ◌≤◌, true, List, [], refl, sym, subst, ap, ◌∙◌, inl, inr, ◌==◌, arith, cases_eq, and_parts, ℕ, ◌&&◌, nat_lt, nat_le, filter, max, length, Option, Some, None, AllByRecursion, Membership, Actor, Agent, Site, Deployment, term_of, term_in, start_of_slot, leader, same, Letter, SiteState, Held, Joiner, is_leader, leads, other_copies, own_ack, acked_in, firm_now, floor_now, answers_held, sends_firm, counts, In, all-at, all-from, all-filter, in-filter, in-map-from, same-some, none-and-some, not-both, same-true, leads-parts, leader-view, acked_in-from, reach_now, reach_now-own, reach_now-copy, reach_now-joiner, cond_both}
+use Rattle.log_laws.proofs.Names.{◌≡◌, ◌<◌, ◌≤◌, true, List, [], refl, sym, subst, ap, ◌∙◌, inl, inr, ◌==◌, arith, cases_eq, and_parts, ℕ, ◌&&◌, nat_lt, nat_le, filter, max, length, Some, None, AllByRecursion, Membership, Actor, Agent, Site, Deployment, term_of, term_in, start_of_slot, leader, same, Letter, SiteState, Held, Joiner, is_leader, leads, other_copies, own_ack, acked_in, firm_now, floor_now, answers_held, sends_firm, counts, In, all-at, all-from, all-filter, in-filter, in-map-from, same-some, none-and-some, not-both, same-true, leads-parts, leader-view, acked_in-from, reach_now, reach_now-own, reach_now-copy, reach_now-joiner, cond_both}
 use Rattle.volt_wire.specs.declared.message.Msg.TheVariants as msg
 use Rattle.log_laws.specs.Histories.{LogState, Entered, Streaming, Leadership, Flow, LogsHold, IsSlot, WordOf, AckOk, CountedOk, IsCounted, HeldFor, HeldOk, LeadsIn, MemberOk, KeepsOk, Coming, ToldOk, SiteLetterOk, end_of, part, site_start, log_at, term_at}
 use Rattle.log_laws.proofs.Kept.{LogsGo, same-word, entered-start, one-in, took-decided, goes-same, SiteRests, ReachRests, SaysRests, Bare, same-joiners, reach-same, rests-goes, put_at, put-both, put-here}
-use Rattle.log_laws.proofs.Plain.{is_in-in, copy-other, is-leader, flat-none}
+use Rattle.log_laws.proofs.Plain.{is_in-in, copy-other, is-leader, flat-none, none-or-some}
 use Rattle.log_laws.proofs.NewTerms.Since.{since-raised}
 
 -- ---- who leads
@@ -234,7 +234,17 @@ answers-rest T i firm ds h = record {
 
 counts-leads : (T : LogState) → LogsHold T → (i : ℕ) → 0 < site_start T i → leads T.words.deployment i (T.sites i) ≡ true
     → LogsGo T i (sends_firm (record (T.sites i) { firm = firm_now T.words.deployment i (T.sites i); floor = floor_now T.words.deployment i (T.sites i) }))
-counts-leads T H i up authoritative = begun (T.logs.leadership (part T i) (term_of w)) refl
+counts-leads T H i up authoritative = elim (none-or-some (T.logs.leadership (part T i) (term_of w))) [
+  | inl e ↦ absurd (not-both s.repaired parts.1 (subst (λ r. LeadsIn s r) e (o.member.leading o.first)))
+  | inr (g, e) ↦ rests-goes T H i (record s { firm = firm_now D i s; floor = floor_now D i s; held = filter (λ d. nat_lt (firm_now D i s) d.position) s.held })
+      (answers_held (firm_now D i s) s.held) (raised T.logs.reach (part T i) (term_of w) n) rests
+      (reach-raised T H (part T i) (term_of w) n g e (within g e)
+      (λ c e same is runs. reach_now-entered T H i up o c e same is runs)
+      (λ c x same is runs. reach_now-streamed T H i up o c x same is runs)
+      (reach_now-since T H i up o g e)
+      (λ c x fl same of below empty q. reach_now-coming T H i up o c x fl same of below empty q))
+      (answers-rest T i (firm_now D i s) s.held k.held)
+]
   where
     D : Deployment
     D = T.words.deployment
@@ -288,18 +298,6 @@ counts-leads T H i up authoritative = begun (T.logs.leadership (part T i) (term_
         let b = reach_now-entered T H i up o i o.member.entered refl o.member.is_entered (sym o.member.since) in
         let l = ap length (subst (λ r. LeadsIn s r) e (o.member.leading o.first)).1 in
         omega (arith, b, l)
-
-    begun : (r : Option Leadership) → T.logs.leadership (part T i) (term_of w) ≡ r
-        → LogsGo T i (sends_firm (record s { firm = firm_now D i s; floor = floor_now D i s }))
-    begun None e = absurd (not-both s.repaired parts.1 (subst (λ r. LeadsIn s r) e (o.member.leading o.first)))
-    begun (Some g) e = rests-goes T H i (record s { firm = firm_now D i s; floor = floor_now D i s; held = filter (λ d. nat_lt (firm_now D i s) d.position) s.held })
-        (answers_held (firm_now D i s) s.held) (raised T.logs.reach (part T i) (term_of w) n) rests
-        (reach-raised T H (part T i) (term_of w) n g e (within g e)
-        (λ c e same is runs. reach_now-entered T H i up o c e same is runs)
-        (λ c x same is runs. reach_now-streamed T H i up o c x same is runs)
-        (reach_now-since T H i up o g e)
-        (λ c x fl same of below empty q. reach_now-coming T H i up o c x fl same of below empty q))
-        (answers-rest T i (firm_now D i s) s.held k.held)
 
 pub counts-goes : (T : LogState) → LogsHold T → (i : ℕ) → 0 < site_start T i → LogsGo T i (counts T.words.deployment i (T.sites i))
 counts-goes T H i up = cond_both (leads T.words.deployment i (T.sites i)) _ _ (LogsGo T i) (λ e. counts-leads T H i up e) (λ e. goes-same T i H)

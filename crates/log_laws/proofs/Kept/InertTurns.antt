@@ -1,5 +1,5 @@
 -- Turns of a site in which nothing changes that is looked at: what holds, holds after them.
-use Rattle.log_laws.proofs.Names.{◌≡◌, Bool, true, false, List, [], ◌∷◌, refl, ◌==◌, ℕ, ◌&&◌, ◌+◌, not, nat_lt, if◌then◌else◌, replicate, Option, Some, None, AllByRecursion, Outcome, Actor, Director, Client, Agent, Site, Scanner, Database, Deployment, part_of_slot, Letter, Sends, Turn, becomes, sending, only, letter_in, open_in, last_done, nothing_open, SiteState, AskedCall, site_term, leads, is_joiner, tells_initiator, is_first_term, has_all_on_disk, initiator_in, shows, looked, on_look, on_power, all-from, all-if, all-mono, term_of, subst, sym}
+use Rattle.log_laws.proofs.Names.{◌≡◌, Bool, true, false, List, [], ◌∷◌, refl, ◌==◌, ℕ, ◌&&◌, ◌+◌, not, nat_lt, if◌then◌else◌, replicate, Option, Some, None, AllByRecursion, Outcome, Actor, Director, Agent, Site, Database, Deployment, part_of_slot, Letter, Sends, Turn, becomes, sending, only, letter_in, open_in, last_done, nothing_open, SiteState, AskedCall, site_term, leads, is_joiner, tells_initiator, is_first_term, has_all_on_disk, initiator_in, shows, looked, on_look, on_power, all-from, all-if, all-mono, term_of, subst, sym}
 use Rattle.volt_wire.specs.declared.message.Msg.TheVariants as msg
 use Rattle.cluster_model.specs.Site.{tells, standing}
 use Rattle.log_laws.specs.Histories.{LogState, LogsHold, HeldOk, SiteLetterOk, ToldOk, site_start, end_of, end_in}

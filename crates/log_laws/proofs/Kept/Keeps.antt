@@ -4,7 +4,7 @@ use Rattle.log_laws.specs.Histories.{LogState, LogsHold, Entered, Streaming, Lea
 use Rattle.log_laws.proofs.Kept.Moves.{LogsLater, Stays, JoinsOn}
 use Rattle.log_laws.proofs.Kept.Asked.{AtMost, at-most-none, at-most-one}
 use Rattle.log_laws.proofs.Kept.Laters.{part-later, slot-before, start-later, ask-later-on, waiting-later-on, counteds-later, keeps-at}
-use Rattle.log_laws.proofs.Plain.{follows-leader, one-and-others}
+use Rattle.log_laws.proofs.Plain.{follows-leader, one-and-others, none-or-some}
 
 -- ---- what is the same
 
@@ -33,18 +33,10 @@ pub record RunsOn (s t : SiteState) : Type 0 where
   pub joins : (j : Joining) → s.joining ≡ Some j → (k : Joining) × (t.joining ≡ Some k)
 
 pub was-member : (s t : SiteState) → RunsOn s t → t.joining ≡ None → s.joining ≡ None
-was-member s t on none = go s.joining refl
-  where
-    go : (o : Option Joining) → s.joining ≡ o → s.joining ≡ None
-    go None e = e
-    go (Some j) e = absurd (none-and-some none (on.joins j e).1)
+was-member s t on none = elim (none-or-some s.joining) [ inl e ↦ e | inr (j, e) ↦ absurd (none-and-some none (on.joins j e).1) ]
 
 pub was-joiner : (s t : SiteState) → RunsOn s t → (k : Joining) → t.joining ≡ Some k → (j : Joining) × (s.joining ≡ Some j)
-was-joiner s t on k is = go s.joining refl
-  where
-    go : (o : Option Joining) → s.joining ≡ o → (j : Joining) × (s.joining ≡ Some j)
-    go None e = absurd (none-and-some (on.member e) is)
-    go (Some j) e = (j, e)
+was-joiner s t on k is = elim (none-or-some s.joining) [ inl e ↦ absurd (none-and-some (on.member e) is) | inr (j, e) ↦ (j, e) ]
 
 -- slot l counts no joiner of this start of a slot
 abbrev pub Uncounted : LogState → ℕ → ℕ → ℕ → Type 0

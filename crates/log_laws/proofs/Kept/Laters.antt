@@ -1,8 +1,9 @@
 -- What is kept from one state to a later one.
-use Rattle.log_laws.proofs.Names.{◌≡◌, ◌<◌, List, refl, sym, subst, ap, ◌∙◌, ◌⊎◌, inl, inr, ◌==◌, arith, ℕ, ◌≤◌, max, length, Option, Some, None, AllByRecursion, list_any, Entry, Membership, Actor, Director, Client, Agent, Site, Scanner, start_of_slot, leader, Letter, Waiting, Queued, Job_, Admission, Joiner, Joining, In, Prefix, all-mono, none-and-some, same-some, prefix-length, prefix-refl, prefix-trans, Distinct, is_leader, map, Ask, SiteState, site_term, [], true}
+use Rattle.log_laws.proofs.Names.{◌≡◌, ◌<◌, List, refl, sym, subst, ap, ◌∙◌, ◌⊎◌, inl, inr, ◌==◌, arith, ℕ, ◌≤◌, max, length, Option, Some, None, AllByRecursion, list_any, Entry, Membership, Actor, Agent, Site, start_of_slot, leader, Letter, Waiting, Queued, Job_, Admission, Joiner, Joining, In, Prefix, all-mono, none-and-some, same-some, prefix-length, prefix-refl, prefix-trans, Distinct, is_leader, map, Ask, SiteState, site_term, [], true}
 use Rattle.volt_wire.specs.declared.message.Msg.TheVariants as msg
 use Rattle.log_laws.specs.Histories.{LogState, Logs, epoch_base, LogsHold, HasBeen, WasIn, AckOk, ReportOk, AsksToJoin, CountedOk, EndOk, MeantFor, LoadedOk, BeginsAt, SiteLetterOk, SiteWaitingFrom, SiteWaitingOk, ToldOk, AskedOk, QueuedLoadedOk, LoadsOk, IsSlot, AllLoaded, Entered, Streaming, Leadership, EnteredOk, StreamedOk, LeadershipOk, UnledOk, Last, Unled, Came, IsCounted, WordOf, part, site_start, log_at, term_at, flow, between, HeldOk, KeepsOk, asked}
 use Rattle.log_laws.proofs.Kept.Moves.{LogsLater, EntersNow, Stays, JoinsOn, SameLeaderships}
+use Rattle.log_laws.proofs.Plain.{none-or-some}
 
 -- the same terms are led where nothing of them changes
 pub same-leaderships : (G H : Logs) → H.leadership ≡ G.leadership → SameLeaderships G H
@@ -294,25 +295,24 @@ module _ (S T : LogState) (H : LogsHold S) (f : LogsLater S T) where
 
   -- the last leader's term is the same one, if the same terms were led
   pub last-before : (p q v t : ℕ) → q ≡ p → SameLeaderships S.logs T.logs → (l : Last T.logs q v t) → (k : Last S.logs p v t) × Prefix k.leadership.log l.leadership.log
-  last-before p q v t eq same l = go (S.logs.leadership p v) refl
+  last-before p q v t eq same l = elim (none-or-some (S.logs.leadership p v)) [
+    | inl e ↦ absurd (none-and-some (same.none p v e) led)
+    | inr (g, e) ↦ let h = same.kept p v g e in (
+      record {
+        leadership = g;
+        led = e;
+        below = l.below;
+        greatest = λ x k is. let r = same.kept p x k is in l.greatest x r.0 (at x r.0 r.1);
+      },
+      subst (λ z. Prefix g.log z.log) (same-some (sym h.1 ∙ led)) h.3,
+    )
+  ]
     where
       at : (x : ℕ) (g : Leadership) → T.logs.leadership p x ≡ Some g → T.logs.leadership q x ≡ Some g
       at x g is = ap (λ z. T.logs.leadership z x) eq ∙ is
 
       led : T.logs.leadership p v ≡ Some l.leadership
       led = ap (λ z. T.logs.leadership z v) (sym eq) ∙ l.led
-
-      go : (o : Option Leadership) → S.logs.leadership p v ≡ o → (k : Last S.logs p v t) × Prefix k.leadership.log l.leadership.log
-      go None e = absurd (none-and-some (same.none p v e) led)
-      go (Some g) e = let h = same.kept p v g e in (
-        record {
-          leadership = g;
-          led = e;
-          below = l.below;
-          greatest = λ x k is. let r = same.kept p x k is in l.greatest x r.0 (at x r.0 r.1);
-        },
-        subst (λ z. Prefix g.log z.log) (same-some (sym h.1 ∙ led)) h.3,
-      )
 
   pub unled-before : (p v t : ℕ) → SameLeaderships S.logs T.logs → Unled T.logs p v t → Unled S.logs p v t
   unled-before p v t same k x g is = let r = same.kept p x g is in k x r.0 r.1
@@ -355,33 +355,33 @@ module _ (S T : LogState) (H : LogsHold S) (f : LogsLater S T) where
       led-before v (Some h) old led below = since v h old below
 
   -- Of a slot that took the stream of a term, where it didn't enter it, what is everywhere is in its log still, and it is counted.
-  pub streamed-later : (c t : ℕ) (x : Streaming) → (k : StreamedOk S c t x) → SameLeaderships S.logs T.logs → T.logs.entered c t ≡ None
+  pub streamed-later : (c t : ℕ) (x : Streaming) → (k : StreamedOk S c t x)
+      → (h : Leadership) × (T.logs.leadership (part S c) t ≡ Some h) × (h.begun ≡ k.leadership.begun) × Prefix k.leadership.log h.log → T.logs.entered c t ≡ None
       → (site_start T c ≡ x.start → T.logs.reach (part T c) t ≤ length (log_at T c))
       → (IsCounted S c x.start x.stream_start k.word → IsCounted T c x.start x.stream_start k.word) → StreamedOk T c t x
-  streamed-later c t x k same apart reach counted =
-      let r = same.kept (part S c) t k.leadership k.led in record {
-        word = k.word;
-        took = f.words.took_word x.start k.word k.took;
-        term_is = k.term_is;
-        apart = apart;
-        later = λ u e is start. elim (f.entered_now c u e is) [
-          | inl old ↦ k.later u e old start
-          | inr new ↦ let r = k.running (sym new.start ∙ start) in let up = r.1 in let above = new.above in let n = r.3 in let m = new.log in
-              (omega (arith, up, above), omega (arith, n, m))
-        ];
-        leadership = r.0;
-        led = rw (part-later c) r.1;
-        behind = rw r.2 k.behind;
-        been = been-later c t x.start k.been;
-        running = λ is. let s = stays c x.start k.been.some k.been.ran is in
-            let o = k.running (sym s.start ∙ is) in (
-              rw s.earlier o.0,
-              (let a = o.1 in let b = s.term in omega (arith, a, b)),
-              reach is,
-              (let a = o.3 in let b = s.log in omega (arith, a, b)),
-            );
-        counted = counted k.counted;
-      }
+  streamed-later c t x k r apart reach counted = record {
+    word = k.word;
+    took = f.words.took_word x.start k.word k.took;
+    term_is = k.term_is;
+    apart = apart;
+    later = λ u e is start. elim (f.entered_now c u e is) [
+      | inl old ↦ k.later u e old start
+      | inr new ↦ let r = k.running (sym new.start ∙ start) in let up = r.1 in let above = new.above in let n = r.3 in let m = new.log in
+          (omega (arith, up, above), omega (arith, n, m))
+    ];
+    leadership = r.0;
+    led = rw (part-later c) r.1;
+    behind = rw r.2 k.behind;
+    been = been-later c t x.start k.been;
+    running = λ is. let s = stays c x.start k.been.some k.been.ran is in
+        let o = k.running (sym s.start ∙ is) in (
+          rw s.earlier o.0,
+          (let a = o.1 in let b = s.term in omega (arith, a, b)),
+          reach is,
+          (let a = o.3 in let b = s.log in omega (arith, a, b)),
+        );
+    counted = counted k.counted;
+  }
 
   -- So it is of all, where the same terms are led, and what is everywhere in them is the same.
   pub entereds-later : SameLeaderships S.logs T.logs → ((p t : ℕ) → T.logs.reach p t ≡ S.logs.reach p t) → (c t : ℕ) (e : Entered) → S.logs.entered c t ≡ Some e → EnteredOk T c t e
@@ -390,7 +390,7 @@ module _ (S T : LogState) (H : LogsHold S) (f : LogsLater S T) where
 
   pub streameds-later : SameLeaderships S.logs T.logs → ((p t : ℕ) → T.logs.reach p t ≡ S.logs.reach p t) → (c t : ℕ) (x : Streaming) (k : StreamedOk S c t x) → T.logs.entered c t ≡ None
       → (IsCounted S c x.start x.stream_start k.word → IsCounted T c x.start x.stream_start k.word) → StreamedOk T c t x
-  streameds-later same reach c t x k apart = streamed-later c t x k same apart (reach-later c t x.start k.been reach (λ runs. (k.running runs).2))
+  streameds-later same reach c t x k apart = streamed-later c t x k (same.kept (part S c) t k.leadership k.led) apart (reach-later c t x.start k.been reach (λ runs. (k.running runs).2))
 
   -- Of a term that a leader began.
   pub leadership-later : (p t : ℕ) (g h : Leadership) → h.begun ≡ g.begun → Prefix g.log h.log → T.logs.reach p t ≤ length g.log → LeadershipOk S p t g → LeadershipOk T p t h
@@ -408,13 +408,12 @@ module _ (S T : LogState) (H : LogsHold S) (f : LogsLater S T) where
   -- where what is everywhere is in its log still
   pub leaderships-later : SameLeaderships S.logs T.logs → ((p t : ℕ) (g : Leadership) → S.logs.leadership p t ≡ Some g → T.logs.reach p t ≤ length g.log)
       → (p t : ℕ) (h : Leadership) → T.logs.leadership p t ≡ Some h → LeadershipOk T p t h
-  leaderships-later same within p t h led = go (S.logs.leadership p t) refl
-    where
-      go : (o : Option Leadership) → S.logs.leadership p t ≡ o → LeadershipOk T p t h
-      go None e = absurd (none-and-some (same.none p t e) led)
-      go (Some g) e = let r = same.kept p t g e in
-          let is = same-some (sym r.1 ∙ led) in
-          leadership-later p t g h (ap (λ z. z.begun) (sym is) ∙ r.2) (subst (λ z. Prefix g.log z.log) is r.3) (within p t g e) (H.leaderships p t g e)
+  leaderships-later same within p t h led = elim (none-or-some (S.logs.leadership p t)) [
+    | inl e ↦ absurd (none-and-some (same.none p t e) led)
+    | inr (g, e) ↦ let r = same.kept p t g e in
+        let is = same-some (sym r.1 ∙ led) in
+        leadership-later p t g h (ap (λ z. z.begun) (sym is) ∙ r.2) (subst (λ z. Prefix g.log z.log) is r.3) (within p t g e) (H.leaderships p t g e)
+  ]
 
   -- Of one that none began.
   pub unled-later : (p t : ℕ) → T.logs.reach p t ≡ S.logs.reach p t → UnledOk S p t → UnledOk T p t
@@ -422,11 +421,10 @@ module _ (S T : LogState) (H : LogsHold S) (f : LogsLater S T) where
   unled-later p t same (inr (c, e, is, entered, reach)) = inr (c, e, part-later c ∙ is, f.entered c t e entered, same ∙ reach)
 
   pub unleds-later : SameLeaderships S.logs T.logs → (p t : ℕ) → T.logs.reach p t ≡ S.logs.reach p t → T.logs.leadership p t ≡ None → UnledOk T p t
-  unleds-later same p t reach led = go (S.logs.leadership p t) refl
-    where
-      go : (o : Option Leadership) → S.logs.leadership p t ≡ o → UnledOk T p t
-      go None e = unled-later p t reach (H.unled p t e)
-      go (Some g) e = absurd (none-and-some led (same.kept p t g e).1)
+  unleds-later same p t reach led = elim (none-or-some (S.logs.leadership p t)) [
+    | inl e ↦ unled-later p t reach (H.unled p t e)
+    | inr (g, e) ↦ absurd (none-and-some led (same.kept p t g e).1)
+  ]
 
   pub first-later : SameLeaderships S.logs T.logs → (p : ℕ) → (g : Leadership) × (T.logs.leadership p (epoch_base T) ≡ Some g)
   first-later same p = let o = H.first p in let r = same.kept p (epoch_base S) o.0 o.1 in (r.0, rw base-later r.1)

@@ -1,5 +1,5 @@
 -- A turn whose messages are put in order: what holds after it as they were sent, holds then.
-use Rattle.log_laws.proofs.Names.{◌≡◌, Bool, true, false, List, [], ◌∷◌, ◌++◌, append-nil, append_assoc, refl, sym, subst, ap, ◌∙◌, ◌==◌, eqb-true, eqb-false, fun_ext, filter-append, ℕ, filter, find, Option, Some, None, if◌then◌else◌, AllByRecursion, Actor, Director, Client, Agent, Site, Scanner, Database, Deployment, same, Letter, Sends, Turn, ◌▸◌, only, SiteState, Ask, ordered, order_of, of_order, takes_asks, takes_first_ask, can_take, sent, all-append, all-behind, all-if, all-mono, filter-all, channel-holds, in_order, all-order, flat_map-append}
+use Rattle.log_laws.proofs.Names.{◌≡◌, Bool, true, false, List, [], ◌∷◌, ◌++◌, append-nil, append_assoc, refl, sym, subst, ap, ◌∙◌, ◌==◌, eqb-true, eqb-false, fun_ext, filter-append, ℕ, filter, find, Option, Some, None, if◌then◌else◌, AllByRecursion, Actor, Agent, Site, Scanner, Database, Deployment, same, Letter, Sends, Turn, ◌▸◌, only, SiteState, Ask, ordered, order_of, of_order, takes_asks, takes_first_ask, can_take, sent, all-append, all-behind, all-if, all-mono, filter-all, channel-holds, in_order, all-order, flat_map-append}
 use Rattle.log_laws.specs.Histories.{LogState, Logs, LogsHold, SiteLetterOk, ForeignOk, ToldOk, site_start, term_at, between, agent_to_site, line, flow, stream_ends_in, asks_in, asks_waiting, asks_of_term, asked, ask_of, end_of, flow_of, line_of}
 use Rattle.log_laws.proofs.Kept.Moves.{after_site, NoStreamStart, Turns}
 use Rattle.log_laws.proofs.Plain.{line-order, flow-order, ends-order, asks-order}

@@ -1,5 +1,5 @@
 -- Turns of a site in which its log and its term stay: what it counts, acknowledges and has on disk may change.
-use Rattle.log_laws.proofs.Names.{◌≡◌, ◌<◌, ◌≤◌, true, false, List, [], ◌∷◌, ◌++◌, refl, sym, subst, ap, ◌∙◌, ◌⊎◌, inl, inr, append-nil, arith, fun_ext, ℕ, map, length, Option, Some, None, AllByRecursion, Membership, Actor, Director, Client, Agent, Site, Scanner, Deployment, term_of, Letter, Sends, no_sends, Turn, sending, SiteState, Streamed, Joining, Joiner, is_leader, sent, set_at, In, Distinct, not-both, in-none, in-map, in-map-from, all-append, all-mono, none-and-some, same-some, set-both, leader-same, leader-view}
+use Rattle.log_laws.proofs.Names.{◌≡◌, ◌<◌, ◌≤◌, true, false, List, [], ◌∷◌, ◌++◌, refl, sym, subst, ap, ◌∙◌, ◌⊎◌, inl, inr, append-nil, arith, fun_ext, ℕ, map, length, Option, Some, None, AllByRecursion, Membership, Actor, Agent, Site, Deployment, term_of, Letter, Sends, no_sends, Turn, sending, SiteState, Streamed, Joining, Joiner, is_leader, sent, set_at, In, Distinct, not-both, in-none, in-map, in-map-from, all-append, all-mono, none-and-some, same-some, set-both, leader-same, leader-view}
 use Rattle.volt_wire.specs.declared.message.Msg.TheVariants as msg
 use Rattle.log_laws.specs.Histories.{LogState, Entered, Streaming, Leadership, Flow, LogsHold, SiteOk, BeginsAt, agent_to_site, IsSlot, AckOk, CountedOk, IsCounted, HeldOk, MemberOk, JoinerOk, ViewIn, StreamIn, Inert, Coming, KeepsOk, ViewsOk, ForeignOk, LoadsOk, ToldOk, SiteLetterOk, JoinsIn, line_in, flow_in, ask_in, line_of, flow_of, ask_of, asks_waiting, asks_of_term, line, flow, stream_ends_in, asks_in, asked, follows, FollowsIn, part, site_start, log_at, term_at, between, end_of}
 use Rattle.log_laws.proofs.Kept.Moves.{after_site, LogsLater, LogsGo, NoStreamStart, JoinsOn, SameLeaderships}
@@ -319,7 +319,7 @@ module _ (S : LogState) (H : LogsHold S) (states : ℕ → SiteState) (i : ℕ) 
     loads = loads-rests;
     entered = λ c t e is. entered-later S T H later c t e (H.entered c t e is) same-leaderships (reaches.entered c t e is) (reaches.since c t e is);
     streamed = λ c t x is. let k = H.streamed c t x is in
-        streamed-later S T H later c t x k same-leaderships k.apart (reaches.streamed c t x is) (counted-rests c x.start x.stream_start k.word);
+        streamed-later S T H later c t x k (same-leaderships.kept (part S c) t k.leadership k.led) k.apart (reaches.streamed c t x is) (counted-rests c x.start x.stream_start k.word);
     leaderships = leaderships-later S T H later same-leaderships reaches.led;
     unled = λ p t none. unleds-later S T H later same-leaderships p t (reaches.unled p t none) none;
     some = H.some;

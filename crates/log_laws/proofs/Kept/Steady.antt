@@ -1,10 +1,11 @@
 -- Moves of sites that leave words, terms and what was entered as they are: what holds, holds after them.
-use Rattle.log_laws.proofs.Names.{List, ap, arith, inl, refl, sym, true, ◌≡◌, ◌∙◌, ◌⊎◌, ◌<◌, ◌≤◌, [], AllByRecursion, None, Option, Some, length, map, ℕ, Membership, Actor, Agent, Director, Site, starts_in, Letter, Waiting, Ask, Joiner, Joining, SiteState, is_leader, host_of_slot, term_of, all-mono, channel-holds, Distinct, term_in}
-use Rattle.log_laws.specs.Histories.{AsksToJoin, AskedOk, CountedOk, FirstViews, ForeignOk, LogsHold, IsCounted, IsSlot, JoinerOk, KeepsOk, LoadsOk, LogState, MemberOk, QueuedLoadedOk, RunViews, SiteLetterOk, SiteOk, StreamedOk, Streaming, ToldOk, ViewsOk, SiteWaitingOk, between, agent_to_site, line, part, site_start, term_at, views, asked}
+use Rattle.log_laws.proofs.Names.{List, ap, arith, inl, refl, sym, true, ◌≡◌, ◌∙◌, ◌⊎◌, ◌<◌, ◌≤◌, [], AllByRecursion, None, Option, Some, length, map, ℕ, Membership, Actor, Agent, Director, Site, starts_in, Letter, Waiting, Ask, Joiner, Joining, SiteState, is_leader, host_of_slot, term_of, channel-holds, Distinct, term_in}
+use Rattle.log_laws.specs.Histories.{AsksToJoin, CountedOk, ForeignOk, LogsHold, IsCounted, IsSlot, JoinerOk, KeepsOk, LogState, MemberOk, SiteLetterOk, SiteOk, StreamedOk, Streaming, SiteWaitingOk, between, line, part, site_start, term_at, views}
 use Rattle.log_laws.proofs.Kept.Keeps.{SameFrom, SameRun, SiteStays, joiner-keeps, member-keeps, RunsOn, site-runs}
-use Rattle.log_laws.proofs.Kept.Laters.{all_loaded-later, asked-later, loaded-later, queued-later, leaderships-later, same-leaderships, told-later, unleds-later, entereds-later, asks-later, counteds-later, keeps-at, waitings-later}
+use Rattle.log_laws.proofs.Kept.Laters.{leaderships-later, same-leaderships, unleds-later, entereds-later, asks-later, counteds-later, keeps-at, waitings-later, loads-later}
 use Rattle.log_laws.proofs.Kept.Moves.{JoinsOn, LogsLater, SameLeaderships, Unentered}
 use Rattle.log_laws.proofs.Kept.Plumbing.{words-later}
+use Rattle.log_laws.proofs.Kept.KeepsViews.{views-keeps}
 
 -- ---- a move
 
@@ -101,41 +102,6 @@ module _ (S : LogState) (ch : Actor → Actor → List Letter) (f : ℕ → Site
       (rw g.acks k.acks) (rw g.reports k.reports) counted alone leads asks (rw g.waiting (steady-waiting c (S.sites c).waiting k.waiting)) (steady-waiting c (pend c) pending) disk
       (rw g.held k.held)
 
-  -- words that are under way to a site
-  steady-views : (c : ℕ) → ViewsOk S c → ViewsOk (shifted S ch f pend st) c
-  steady-views c h = let same-channel = m.agents (host_of_slot S.words.deployment c) (Site c) in record {
-    plain = rw same-channel h.plain;
-    began = λ s i. h.began s (rw same-channel at i);
-    running = λ up. rw (g.view, g.start, same-channel) (run (S.sites c).view (views (site_start S c) (agent_to_site S c)) (h.running (rw g.start at up)));
-    starting = λ s i. let k = h.starting s (rw same-channel at i) in (k.0, rw same-channel k.1, rw same-channel (first s (views s (agent_to_site S c)) k.2));
-    wordless = λ up taken none. let k = h.wordless up taken none in (rw same-channel k.0, k.1, rw same-channel k.2);
-    below = λ up. let k = h.below up in (rw same-channel k.0, λ is. rw g.view (k.1 (sym g.start ∙ is)));
-  }
-    where
-      g : SiteGoesOn (S.sites c) (f c)
-      g = m.sites c
-
-      first : (s : ℕ) (ws : List Membership) → FirstViews S c s ws → FirstViews (shifted S ch f pend st) c s ws
-      first s ws k = record { first = k.first; later = k.later; views_are = k.views_are; took = k.took; members = k.members }
-
-      run : (o : Option Membership) (ws : List Membership) → RunViews S c o ws → RunViews (shifted S ch f pend st) c o ws
-      run None ws k = rw g.start (first (site_start S c) ws k)
-      run (Some w) ws k = rw g.start k
-
-  steady-loads : LoadsOk S → LoadsOk (shifted S ch f pend st)
-  steady-loads h = record {
-    told = λ c h'. rw (m.told c h') (all-mono (ToldOk S c) (ToldOk (shifted S ch f pend st) c) (told-later S (shifted S ch f pend st) H steady-later c)
-        (S.words.channel (Site c) (Agent h')) (h.told c h'));
-    heard = λ h' c up is. loaded-later S (shifted S ch f pend st) H steady-later c (S.words.agents h').start (h.heard h' c up is);
-    asked = λ h' g. rw (m.agents h' (Agent g)) (all-mono (AskedOk S (Agent h')) (AskedOk (shifted S ch f pend st) (Agent h'))
-        (asked-later S (shifted S ch f pend st) H steady-later (Agent h')) (S.words.channel (Agent h') (Agent g)) (h.asked h' g));
-    waiting = λ h'. all-mono (λ x. AskedOk S x.from x.letter) (λ x. AskedOk (shifted S ch f pend st) x.from x.letter)
-        (λ x. asked-later S (shifted S ch f pend st) H steady-later x.from x.letter) (S.words.agents h').waiting (h.waiting h');
-    queued = λ h'. all-mono (QueuedLoadedOk S) (QueuedLoadedOk (shifted S ch f pend st)) (queued-later S (shifted S ch f pend st) H steady-later)
-        (S.words.agents h').initiating.queue (h.queued h');
-    admitted = λ x i. all_loaded-later S (shifted S ch f pend st) H steady-later (S.words.owner x.start) x.start (h.admitted x i);
-  }
-
   -- All holds after it, where this holds of what it changes.
   pub steady-holds :
       ((c : ℕ) (w : Membership) → 0 < site_start S c → (S.sites c).joining ≡ None → MemberOk S c w → MemberOk (shifted S ch f pend st) c w)
@@ -149,10 +115,11 @@ module _ (S : LogState) (ch : Actor → Actor → List Letter) (f : ℕ → Site
   steady-holds members joiners keeps stopped letters foreign streamed = record {
     words = channel-holds S.words ch (λ h g. m.agents h (Agent g)) (λ h. ap starts_in (m.director h)) H.words;
     sites = site;
-    views = λ c. steady-views c (H.views c);
+    views = λ c. views-keeps S (shifted S ch f pend st) H steady-later c (m.sites c).start (m.sites c).view refl refl (λ s k. k)
+        (m.agents (host_of_slot S.words.deployment c) (Site c)) (H.views c);
     letters = letters;
     foreign = foreign;
-    loads = steady-loads H.loads;
+    loads = loads-later S (shifted S ch f pend st) H steady-later refl refl (λ c h. rw (m.told c h) (H.loads.told c h)) (λ h g. m.agents h (Agent g));
     entered = entereds-later S (shifted S ch f pend st) H steady-later steady-leaderships (λ p t. refl);
     streamed = streamed;
     leaderships = leaderships-later S (shifted S ch f pend st) H steady-later steady-leaderships (λ p t g is. (H.leaderships p t g is).within);

@@ -1,10 +1,10 @@
 -- Turns of one site by which the history of logs grows: what holds of the other slots, of messages and of what was loaded stays so.
-use Rattle.log_laws.proofs.Names.{◌≡◌, ◌<◌, List, [], ◌++◌, refl, sym, subst, ap, ◌∙◌, ◌⊎◌, inl, inr, ◌==◌, arith, ℕ, ◌≤◌, length, filter, map, Option, Some, None, AllByRecursion, Membership, Actor, Agent, Site, term_of, host_of_slot, Letter, Waiting, SiteState, Joining, Joiner, Ask, set_at, In, Distinct, all-from, all-at, all-append, all-mono, in-left, in-right, in-map, filter-in, eqb-same, set-here, set-there, set-both}
+use Rattle.log_laws.proofs.Names.{◌≡◌, ◌<◌, List, [], ◌++◌, refl, sym, subst, ap, ◌∙◌, ◌⊎◌, inl, inr, ◌==◌, arith, ℕ, ◌≤◌, length, filter, map, Option, Some, None, AllByRecursion, Membership, Actor, Agent, Site, term_of, host_of_slot, Letter, Waiting, SiteState, Joining, Joiner, Ask, set_at, In, Distinct, all-from, all-at, all-append, all-mono, in-left, in-right, in-map, filter-in, eqb-same, set-here, set-there, set-both, prefix-refl}
 use Rattle.volt_wire.specs.declared.message.Msg.TheVariants as msg
 use Rattle.word_laws.specs.Histories as word
-use Rattle.log_laws.specs.Histories.{LogState, LogsHold, Entered, Streaming, Leadership, EnteredOk, StreamedOk, LeadershipOk, UnledOk, SiteOk, KeepsOk, MemberOk, JoinerOk, InWord, Coming, ViewsOk, LoadsOk, ForeignOk, AckOk, ReportOk, CountedOk, HeldOk, SiteLetterOk, SiteWaitingOk, AsksToJoin, EndOk, MeantFor, IsCounted, IsSlot, ToldOk, AskedOk, QueuedLoadedOk, epoch_base, part, site_start, term_at, between, agent_to_site, line, flow, stream_ends_in, ask_of, wait_of, asks_in, asks_waiting, asks_kept, asks_of_term, asked, end_of, flow_of}
+use Rattle.log_laws.specs.Histories.{LogState, LogsHold, Entered, Streaming, Leadership, EnteredOk, StreamedOk, LeadershipOk, UnledOk, SiteOk, KeepsOk, MemberOk, JoinerOk, InWord, Coming, ViewsOk, LoadsOk, ForeignOk, AckOk, ReportOk, CountedOk, HeldOk, SiteLetterOk, SiteWaitingOk, AsksToJoin, EndOk, MeantFor, IsCounted, IsSlot, ToldOk, epoch_base, part, site_start, term_at, between, agent_to_site, line, flow, stream_ends_in, ask_of, wait_of, asks_in, asks_waiting, asks_kept, asks_of_term, asked, end_of, flow_of}
 use Rattle.log_laws.proofs.Kept.Moves.{SiteRises, site-stays, LogsLater, EntersNow}
-use Rattle.log_laws.proofs.Kept.Laters.{been-later, ask-later, loaded-later, all_loaded-later, end-later, told-later, asked-later, queued-later, stays, letter-later-with, waiting-later-with, counteds-later, keeps-at}
+use Rattle.log_laws.proofs.Kept.Laters.{ask-later, end-later, stays, letter-later-with, waiting-later-with, counteds-later, keeps-at, loads-later, streamed-later}
 use Rattle.log_laws.proofs.Plain.{in-flat, flat-same, one-and-others}
 use Rattle.log_laws.proofs.Kept.Asked.{AtMost, at-most-is, at-most-both, at-most-same, at-most-none}
 use Rattle.log_laws.proofs.Kept.Plumbing.{words-later}
@@ -255,45 +255,14 @@ module _ (S : LogState) (H : LogsHold S) (i : ℕ) (s : SiteState) (ch : Actor �
   -- ---- what was loaded, and streams
 
   loads-turned : LoadsOk T
-  loads-turned = record {
-    told = λ c h. subst (AllByRecursion (ToldOk T c)) (sym (F.tells c h))
-        (all-mono (ToldOk S c) (ToldOk T c) (told-later S T H F.later c) (S.words.channel (Site c) (Agent h)) (H.loads.told c h));
-    heard = λ h c up is. loaded-later S T H F.later c (S.words.agents h).start (H.loads.heard h c up is);
-    asked = λ h g. subst (AllByRecursion (AskedOk T (Agent h))) (sym (F.agreed h g))
-        (all-mono (AskedOk S (Agent h)) (AskedOk T (Agent h)) (asked-later S T H F.later (Agent h)) (S.words.channel (Agent h) (Agent g)) (H.loads.asked h g));
-    waiting = λ h. all-mono (λ x. AskedOk S x.from x.letter) (λ x. AskedOk T x.from x.letter) (λ x. asked-later S T H F.later x.from x.letter)
-        (S.words.agents h).waiting (H.loads.waiting h);
-    queued = λ h. all-mono (QueuedLoadedOk S) (QueuedLoadedOk T) (queued-later S T H F.later) (S.words.agents h).initiating.queue (H.loads.queued h);
-    admitted = λ x is. all_loaded-later S T H F.later (S.words.owner x.start) x.start (H.loads.admitted x is);
-  }
+  loads-turned = loads-later S T H F.later refl refl (λ c h. subst (AllByRecursion (ToldOk S c)) (sym (F.tells c h)) (H.loads.told c h)) F.agreed
 
   streamed-turned : (c t : ℕ) (x : Streaming) → S.logs.streamed c t ≡ Some x → en c t ≡ None → StreamedOk T c t x
-  streamed-turned c t x is apart =
-      let k = H.streamed c t x is in
-      let r = F.led (part S c) t k.leadership k.led in record {
-        word = k.word;
-        took = k.took;
-        term_is = k.term_is;
-        apart = apart;
-        later = λ u e now start. elim (F.later.entered_now c u e now) [
-          | inl old ↦ k.later u e old start
-          | inr fresh ↦ let o = k.running (sym fresh.start ∙ start) in let up = o.1 in let above = fresh.above in let n = o.3 in let m = fresh.log in
-              (omega (arith, up, above), omega (arith, n, m))
-        ];
-        leadership = k.leadership;
-        led = r.0 ∙ k.led;
-        behind = k.behind;
-        been = been-later S T H F.later c t x.start k.been;
-        running = λ runs.
-            let y = stays S T H F.later c x.start k.been.some k.been.ran runs in
-            let o = k.running (sym y.start ∙ runs) in (
-              rw y.earlier o.0,
-              (let a = o.1 in let b = y.term in omega (arith, a, b)),
-              (let a = o.2 in let b = y.log in let e = r.1 in omega (arith, a, b, e)),
-              (let a = o.3 in let b = y.log in omega (arith, a, b)),
-            );
-        counted = F.counted c x.start x.stream_start k.word k.leadership (took-decided S H x.start k.word k.took) (subst (λ z. S.logs.leadership (part S c) z ≡ Some k.leadership) (sym k.term_is) k.led) k.counted;
-      }
+  streamed-turned c t x is apart = let k = H.streamed c t x is in let r = F.led (part S c) t k.leadership k.led in
+      streamed-later S T H F.later c t x k (k.leadership, r.0 ∙ k.led, refl, prefix-refl k.leadership.log) apart
+      (λ runs. let y = stays S T H F.later c x.start k.been.some k.been.ran runs in
+      let o = (k.running (sym y.start ∙ runs)).2 in let b = y.log in let e = r.1 in omega (arith, o, b, e))
+      (F.counted c x.start x.stream_start k.word k.leadership (took-decided S H x.start k.word k.took) (subst (λ z. S.logs.leadership (part S c) z ≡ Some k.leadership) (sym k.term_is) k.led))
 
   -- ---- a site that keeps nothing but what waits
 

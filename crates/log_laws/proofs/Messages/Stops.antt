@@ -1,5 +1,5 @@
 -- A slot's site stops, or a start of it begins to run: what holds, holds after it.
-use Rattle.log_laws.proofs.Names.{◌≡◌, ◌<◌, List, [], ◌∷◌, ◌++◌, refl, sym, subst, ap, ◌∙◌, inl, inr, ◌==◌, arith, ◌⊎◌, and_parts, nat_tests, ℕ, ◌≤◌, ◌&&◌, max, nat_le, nat_lt, length, Some, None, AllByRecursion, Membership, Actor, Director, Client, Agent, Site, Scanner, Deployment, host_of_slot, is_slot_of, slots, Shown, same, Letter, Sends, Turn, becomes, no_sends, only, open_letter, SiteState, site_term, new_joiner, new_joining, stopped_site, stops_others, on_stop, stops_so, sent, rest, set_at, starts_in, In, all-if, all-mono, not-both, same-some, set-both, set-here, set-there, set-twice, cond_both}
+use Rattle.log_laws.proofs.Names.{◌≡◌, ◌<◌, List, [], ◌∷◌, ◌++◌, refl, sym, subst, ap, ◌∙◌, inl, inr, ◌==◌, arith, ◌⊎◌, and_parts, nat_tests, ℕ, ◌≤◌, ◌&&◌, max, nat_le, nat_lt, length, Some, None, AllByRecursion, Membership, Actor, Agent, Site, Scanner, Deployment, host_of_slot, is_slot_of, slots, Shown, same, Letter, Sends, Turn, becomes, no_sends, only, open_letter, SiteState, site_term, new_joiner, new_joining, stopped_site, stops_others, on_stop, stops_so, sent, rest, set_at, starts_in, In, all-if, all-mono, not-both, same-some, set-both, set-here, set-there, set-twice, cond_both}
 use Rattle.volt_wire.specs.declared.message.Msg.TheVariants as msg
 use Rattle.cluster_model.specs.Site.{on_start}
 use Rattle.log_laws.specs.Histories.{LogState, Logs, Entered, Streaming, LogsHold, IsCounted, SiteLetterOk, ForeignOk, IsSlot, SiteOk, KeepsOk, ViewsOk, JoinerOk, FirstViews, Starting, part, site_start, log_at, term_at, between, agent_to_site, views, asks_in, asks_waiting, asks_of_term}

@@ -2,7 +2,7 @@
 use Rattle.log_laws.proofs.Names.{◌≡◌, ◌<◌, Bool, true, false, List, [], ◌∷◌, ◌++◌, append-nil, refl, sym, subst, ap, ◌∙◌, ◌⊎◌, inl, inr, ◌==◌, drop-drop, arith, cases_eq, eqb-true, nat_tests, drop-append_seam, ℕ, ◌≤◌, ◌-◌, nat_lt, length, drop, if◌then◌else◌, Option, Some, None, AllByRecursion, list_any, list_all, Entry, Membership, term_of, term_in, start_of_slot, leader, SiteState, Reported, other_copies, longest, lacks, In, Prefix, none-and-some, same-some, all-at, not-both, list_all-at, list_any-from, prefixes-order}
 use Rattle.log_laws.specs.Histories.{LogState, Entered, Leadership, LogsHold, IsSlot, WordOf, Last, Unled, known, EnteredOk, ReportOk, MemberOk, LeadsIn, epoch_base, part, site_start, log_at, term_at}
 use Rattle.log_laws.proofs.Kept.{base-least, entered-start, member-or-joined, named-first, last-below}
-use Rattle.log_laws.proofs.Plain.{copy-other, is_in-in}
+use Rattle.log_laws.proofs.Plain.{copy-other, is_in-in, none-or-some}
 use Rattle.log_laws.proofs.NewTerms.Entering.{behind-at}
 
 -- ---- the longest of the logs
@@ -57,11 +57,10 @@ module _ (T : LogState) (H : LogsHold T) (i : ℕ) (w : Membership) (up : 0 < si
 
   -- nobody has led it
   pub not-begun : T.logs.leadership (part T i) (term_of w) ≡ None
-  not-begun = go (T.logs.leadership (part T i) (term_of w)) refl
-    where
-      go : (o : Option Leadership) → T.logs.leadership (part T i) (term_of w) ≡ o → T.logs.leadership (part T i) (term_of w) ≡ None
-      go None e = e
-      go (Some g) e = absurd (not-both (T.sites i).repaired (subst (LeadsIn (T.sites i)) e (leading-member.leading leads)).0 unrepaired)
+  not-begun = elim (none-or-some (T.logs.leadership (part T i) (term_of w))) [
+    | inl e ↦ e
+    | inr (g, e) ↦ absurd (not-both (T.sites i).repaired (subst (LeadsIn (T.sites i)) e (leading-member.leading leads)).0 unrepaired)
+  ]
 
   -- what was reported
   pub reported : (r : Reported) → In r (T.sites i).reports → ReportOk T (part T i) r.slot (term_of w) r.position r.floor r.tail

@@ -1,9 +1,9 @@
 -- A site comes into a term as a member of its word: what was so before.
 use Rattle.log_laws.proofs.Names.{◌≡◌, ◌<◌, true, false, [], ◌++◌, append-nil, append_assoc, refl, sym, subst, ap, ◌∙◌, ◌⊎◌, inl, inr, ◌==◌, arith, cases_eq, and_from, eq-eqb, false_from_ne_true, ℕ, ◌≤◌, nat_lt, max, length, Option, Some, None, Membership, slots, term_of, term_in, start_of_slot, host_of_slot, SiteState, Joining, Streamed, In, Prefix, Admitted, names, HistoryOk, GoodWord, Recorded, none-and-some, same-some, all-at, not-both, admits-fresh, one-first, at-good, term-same, member-is, prefix-trans}
-use Rattle.log_laws.specs.Histories.{LogState, Entered, Streaming, Leadership, LogsHold, IsSlot, WordOf, WasIn, Last, Unled, Came, known, MemberOk, JoinerOk, InWord, Took, ViewIn, StreamIn, LeadsIn, FollowsIn, line, between, part, site_start, log_at, term_at}
+use Rattle.log_laws.specs.Histories.{LogState, Entered, Leadership, LogsHold, IsSlot, WordOf, WasIn, Last, Unled, Came, known, MemberOk, JoinerOk, InWord, Took, ViewIn, StreamIn, LeadsIn, FollowsIn, line, between, part, site_start, log_at, term_at}
 use Rattle.log_laws.proofs.Kept.{running-slot, took-not-named, base-least, entered-start, leadership-entered, running-in, was-in, last-below}
 use Rattle.log_laws.proofs.NewTerms.Since.{since-running}
-use Rattle.log_laws.proofs.Plain.{leads-or-follows}
+use Rattle.log_laws.proofs.Plain.{leads-or-follows, none-or-some}
 
 -- ---- starts and words
 
@@ -113,7 +113,10 @@ module _ (S : LogState) (H : LogsHold S) (i : ℕ) (v w : Membership) (up : 0 < 
 
   -- Before, it was a member, or it is a joiner that has loaded all.
   pub was-member : MemberOk S i v ⊎ LoadedAll S i v
-  was-member = go (S.sites i).joining refl
+  was-member = elim (none-or-some (S.sites i).joining) [
+    | inl e ↦ let m = (H.sites i).member up e in inl (subst (MemberOk S i) (same-some (sym m.1 ∙ view)) m.2)
+    | inr (j, e) ↦ inr (joined j e)
+  ]
     where
       joined : (j : Joining) → (S.sites i).joining ≡ Some j → LoadedAll S i v
       joined j joins = streamed j.stream refl in_word.stream
@@ -138,10 +141,6 @@ module _ (S : LogState) (H : LogsHold S) (i : ℕ) (v w : Membership) (up : 0 < 
           streamed None e k = absurd (not-both j.is_loaded loaded k.loads)
           streamed (Some st) e k = record { joining = j; joins = joins; ok = ok; in_word = in_word; loaded = loaded; stream_start = st.stream_start; took = k }
 
-      go : (o : Option Joining) → (S.sites i).joining ≡ o → MemberOk S i v ⊎ LoadedAll S i v
-      go None e = let m = (H.sites i).member up e in inl (subst (MemberOk S i) (same-some (sym m.1 ∙ view)) m.2)
-      go (Some j) e = inr (joined j e)
-
   pub came : Came S i (term_of w) (site_start S i)
   came = elim was-member [
     | inl k ↦ came-up S i (term_of v) (term_of w) (site_start S i) (omega (arith, above))
@@ -158,30 +157,27 @@ module _ (S : LogState) (H : LogsHold S) (i : ℕ) (v w : Membership) (up : 0 < 
 
   -- it hasn't been in the term, and nobody leads it
   pub not-entered : S.logs.entered i (term_of w) ≡ None
-  not-entered = go (S.logs.entered i (term_of w)) refl
-    where
-      go : (o : Option Entered) → S.logs.entered i (term_of w) ≡ o → S.logs.entered i (term_of w) ≡ None
-      go None e = e
-      go (Some f) e =
-          let start = same-some (sym member ∙ entered-start S H i (term_of w) f e w word) in
-          let low = ((H.entered i (term_of w) f e).running start).1 in absurd (omega (arith, low, here, above))
+  not-entered = elim (none-or-some (S.logs.entered i (term_of w))) [
+    | inl e ↦ e
+    | inr (f, e) ↦ 
+        let start = same-some (sym member ∙ entered-start S H i (term_of w) f e w word) in
+        let low = ((H.entered i (term_of w) f e).running start).1 in absurd (omega (arith, low, here, above))
+  ]
 
   pub not-streamed : S.logs.streamed i (term_of w) ≡ None
-  not-streamed = go (S.logs.streamed i (term_of w)) refl
-    where
-      go : (o : Option Streaming) → S.logs.streamed i (term_of w) ≡ o → S.logs.streamed i (term_of w) ≡ None
-      go None e = e
-      go (Some x) e = let k = H.streamed i (term_of w) x e in elim (cases_eq (site_start S i) x.start) [
-        | inl same ↦ let low = (k.running same).1 in absurd (omega (arith, low, here, above))
-        | inr other ↦ let low = k.been.others up other in let b = earlier-below in absurd (omega (arith, low, b, above))
-      ]
+  not-streamed = elim (none-or-some (S.logs.streamed i (term_of w))) [
+    | inl e ↦ e
+    | inr (x, e) ↦ let k = H.streamed i (term_of w) x e in elim (cases_eq (site_start S i) x.start) [
+      | inl same ↦ let low = (k.running same).1 in absurd (omega (arith, low, here, above))
+      | inr other ↦ let low = k.been.others up other in let b = earlier-below in absurd (omega (arith, low, b, above))
+    ]
+  ]
 
   pub not-led : S.logs.leadership (part S i) (term_of w) ≡ None
-  not-led = go (S.logs.leadership (part S i) (term_of w)) refl
-    where
-      go : (o : Option Leadership) → S.logs.leadership (part S i) (term_of w) ≡ o → S.logs.leadership (part S i) (term_of w) ≡ None
-      go None e = e
-      go (Some g) e = absurd (none-and-some not-entered (leadership-entered S H (part S i) (term_of w) g e w word i (site_start S i) slot refl member).1)
+  not-led = elim (none-or-some (S.logs.leadership (part S i) (term_of w))) [
+    | inl e ↦ e
+    | inr (g, e) ↦ absurd (none-and-some not-entered (leadership-entered S H (part S i) (term_of w) g e w word i (site_start S i) slot refl member).1)
+  ]
 
   -- It was in the last term that was led, and no later one.
   pub was-last : (u : ℕ) → Last S.logs (part S i) u (term_of w) → WasIn S i u (site_start S i)
@@ -208,13 +204,12 @@ module _ (S : LogState) (H : LogsHold S) (i : ℕ) (v w : Membership) (up : 0 < 
       low = last-low u l
 
       lower : (k : MemberOk S i v) → (u ≡ term_of v → ⊥) → Prefix (log_at S i) l.leadership.log × (known (entering (S.sites i)) ≤ S.logs.reach (part S i) u)
-      lower k n = let same = unled-here k (none (S.logs.leadership (part S i) (term_of v)) refl) in
+      lower k n = let same = unled-here k (elim (none-or-some (S.logs.leadership (part S i) (term_of v))) [
+        | inl e ↦ e
+        | inr (g, e) ↦ let b = l.greatest (term_of v) g e above in absurd (n (omega (arith, low, b)))
+      ]) in
           rw (same.0, same.1) ((H.entered i (term_of v) k.entered k.is_entered).behind u
           (record { leadership = l.leadership; led = l.led; below = omega (arith, low, n); greatest = λ x g is b. l.greatest x g is (omega (arith, b, above)) }))
-        where
-          none : (o : Option Leadership) → S.logs.leadership (part S i) (term_of v) ≡ o → S.logs.leadership (part S i) (term_of v) ≡ None
-          none None e = e
-          none (Some g) e = let b = l.greatest (term_of v) g e above in absurd (n (omega (arith, low, b)))
 
       joined : (k : LoadedAll S i v) → Prefix (log_at S i) l.leadership.log × (known (entering (S.sites i)) ≤ S.logs.reach (part S i) u)
       joined k =

@@ -4,7 +4,7 @@ use Rattle.volt_wire.specs.declared.message.Msg.TheVariants as msg
 use Rattle.log_laws.specs.Histories.{LogState, LogsHold, IsSlot, Inert, Untaken, Wordless, InWord, StreamIn, JoinerOk, SiteOk, ViewIn, SiteLetterOk, SiteWaitingFrom, SiteWaitingOk, AsksToJoin, HeldOk, CountedOk, ForeignOk, line_of, flow_of, end_of, part, site_start, term_at, between, line, flow, stream_ends_in, ask_in, ask_of, asks_in, wait_of, asks_waiting, asks_kept, asks_of_term, asked, follows, log_at}
 use Rattle.log_laws.proofs.Kept.{after_site, site_popped, LogsLater, Turns, NoStreamStart, grown-same, enters-same, ask-later, same-leaderships, leaderships-later, unleds-later, AtMost, at-most-both, at-most-same, at-most-none, running-slot, took-decided, some-term, some-start, still-same, member-keeps, words-after, words-popped, site_turned, turned-later, turned-holds, fresh-keeps, said-same, entereds-later}
 use Rattle.log_laws.proofs.Kept.Turned.{Turned}
-use Rattle.log_laws.proofs.Plain.{flat-in, asks-here, if-none, follows-leader, leader-follows, leader-copy, start-in-view, flat-none, flat-same, if-empty}
+use Rattle.log_laws.proofs.Plain.{flat-in, asks-here, if-none, follows-leader, leader-follows, leader-copy, start-in-view, flat-none, flat-same, if-empty, none-or-some}
 use Rattle.log_laws.proofs.NewTerms.Entering.{running-ran}
 use Rattle.log_laws.proofs.NewTerms.Taking.{no-line, no-flow, no-end, first-word, popped-other, mine-taken, theirs-taken, tells-taken, foreign-taken, views-taken}
 
@@ -146,11 +146,7 @@ module _ (S : LogState) (H : LogsHold S) (h i : ℕ) (l : Letter) (w : Membershi
   above = let a = some-term S H w decided in let b = no-term in omega (arith, a, b)
 
   joined : (j : Joining) × ((S.sites i).joining ≡ Some j)
-  joined = go (S.sites i).joining refl
-    where
-      go : (o : Option Joining) → (S.sites i).joining ≡ o → (j : Joining) × ((S.sites i).joining ≡ Some j)
-      go None e = absurd (none-and-some none ((H.sites i).member up e).1)
-      go (Some j) e = (j, e)
+  joined = elim (none-or-some (S.sites i).joining) [ inl e ↦ absurd (none-and-some none ((H.sites i).member up e).1) | inr (j, e) ↦ (j, e) ]
 
   ok : JoinerOk S i joined.0
   ok = (H.sites i).joiner joined.0 joined.1

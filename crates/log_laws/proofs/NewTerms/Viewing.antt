@@ -3,7 +3,7 @@ use Rattle.log_laws.proofs.Names.{◌≡◌, ◌<◌, Bool, true, false, List, [
 use Rattle.volt_wire.specs.declared.message.Msg.TheVariants as msg
 use Rattle.log_laws.specs.Histories.{LogState, LogsHold, part, site_start, agent_to_site}
 use Rattle.log_laws.proofs.Kept.{site_popped, Turns, LogsGo, took-unnamed, turns-then-goes}
-use Rattle.log_laws.proofs.Plain.{leader-is}
+use Rattle.log_laws.proofs.Plain.{leader-is, none-or-some}
 use Rattle.log_laws.proofs.NewTerms.Reports.{repairs-goes}
 use Rattle.log_laws.proofs.NewTerms.Taking.{first-word, later-word}
 use Rattle.log_laws.proofs.NewTerms.Joining.{joins-turns}
@@ -64,7 +64,10 @@ module _ (E : Database) (S : LogState) (stamp : ℕ) (H : LogsHold S) (h i : ℕ
 
   -- A joiner takes its first word, and asks to join. With a word, the next one counts the site: it is a member from then on.
   pub view-turns : Turns (site_popped S (Agent h) i) i (on_view E S.words.deployment i stamp (S.sites i) w)
-  view-turns = go (S.sites i).view refl
+  view-turns = elim (none-or-some (S.sites i).view) [
+    | inl e ↦ subst (Turns (site_popped S (Agent h) i) i) (sym (if-true asks _ _ (not-counted e))) (joins-turns S H h i l w ls is start up e)
+    | inr (v, e) ↦ subst (Turns (site_popped S (Agent h) i) i) (sym (if-false asks _ _ (counted v e))) (member-turns v e)
+  ]
     where
       counted : (v : Membership) → (S.sites i).view ≡ Some v → asks ≡ false
       counted v view = ap (λ b. is_joiner (S.sites i) && b) (not_from_true counts
@@ -80,10 +83,6 @@ module _ (E : Database) (S : LogState) (stamp : ℕ) (H : LogsHold S) (h i : ℕ
         | inl m ↦ absurd (took-unnamed S H (site_start S i) w i (first-word S H h i l w ls is start up none) (is_member-start w (host_of_slot D i) (site_start S i) m))
         | inr m ↦ m
       ]))
-
-      go : (o : Option Membership) → (S.sites i).view ≡ o → Turns (site_popped S (Agent h) i) i (on_view E D i stamp (S.sites i) w)
-      go None e = subst (Turns (site_popped S (Agent h) i) i) (sym (if-true asks _ _ (not-counted e))) (joins-turns S H h i l w ls is start up e)
-      go (Some v) e = subst (Turns (site_popped S (Agent h) i) i) (sym (if-false asks _ _ (counted v e))) (member-turns v e)
 
 -- from its own host's agent
 pub on_view-turns : (E : Database) (S : LogState) → LogsHold S → (i stamp : ℕ) (l : Letter) (ls : List Letter) (w : Membership)

@@ -1,5 +1,5 @@
 -- What is under way: items of lists of letters, of letters in the order in which a site sends them, and of what a site sends.
-use Rattle.log_laws.proofs.Names.{◌≡◌, Bool, true, false, List, [], ◌∷◌, ◌++◌, append-nil, refl, sym, subst, ap, ◌∙◌, inl, inr, ◌==◌, true≢false, and_parts, and_from, eqb-true, eq-eqb, false_from_ne_true, map-append, flat_map-append, filter-append, ℕ, if◌then◌else◌, map, filter, flat_map, drop, AllByRecursion, Entry, Deployment, is_in, Letter, SiteState, Reported, Joiner, Ask, site_term, start_in_view, order_of, of_order, put_to, tasks_to, repair_to, stream_ends_to, is_sent, In, Distinct, if-true, if-false, in-left, in-right, in-cases, in-filter, all-from, all-mono, in-none, in-map, in_order, put_letter, put-all, task_letter, tasks-all, repair_letter, repair-cases, repair-all, end_letter, stream_ends-all, cases_eq, cond_both}
+use Rattle.log_laws.proofs.Names.{◌≡◌, Bool, true, false, List, [], ◌∷◌, ◌++◌, append-nil, refl, sym, subst, ap, ◌∙◌, inl, inr, ◌==◌, true≢false, and_parts, and_from, eqb-true, eq-eqb, false_from_ne_true, map-append, flat_map-append, filter-append, ℕ, if◌then◌else◌, map, filter, flat_map, drop, AllByRecursion, Entry, Deployment, is_in, Letter, SiteState, Reported, Joiner, Ask, site_term, start_in_view, order_of, of_order, put_to, tasks_to, repair_to, stream_ends_to, is_sent, In, Distinct, if-true, if-false, in-left, in-right, in-cases, in-filter, all-from, all-mono, in-none, in-map, in_order, put_letter, put-all, task_letter, tasks-all, repair_letter, repair-cases, repair-all, end_letter, stream_ends-all, cases_eq, cond_both, None, Option, Some, ◌⊎◌}
 use Rattle.volt_wire.specs.declared.message.Msg.TheVariants as msg
 use Rattle.log_laws.specs.Histories.{Line, Repairs, Puts, Flow, Begins, Follows, is_for, line_in, line_of, line, flow_in, flow_of, flow, end_in, end_of, stream_ends_in, ask_in, ask_of, asks_in, asks_kept, view_in, view_of}
 use Rattle.log_laws.proofs.Kept.Moves.{NoStreamStart}
@@ -9,6 +9,11 @@ use Rattle.log_laws.proofs.Kept.Moves.{NoStreamStart}
 -- what is so of this one, and of each other one, is so of all
 pub one-and-others : (P : ℕ → Type 0) (i : ℕ) → P i → ((c : ℕ) → (c ≡ i → ⊥) → P c) → (c : ℕ) → P c
 one-and-others P i here there c = elim (cases_eq c i) [ inl e ↦ subst P (sym e) here | inr n ↦ there c n ]
+
+-- a value that is there, or isn't
+pub none-or-some : {A : Type 0} (o : Option A) → (o ≡ None) ⊎ ((x : A) × (o ≡ Some x))
+none-or-some None = inl refl
+none-or-some (Some x) = inr (x, refl)
 
 -- ---- lists of lists
 

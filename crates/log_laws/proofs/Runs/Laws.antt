@@ -1,7 +1,7 @@
 -- The laws of logs, from what holds of a history.
 use Rattle.log_laws.proofs.Names.{◌≡◌, ◌<◌, ◌≤◌, true, false, List, ◌++◌, append_assoc, refl, sym, subst, ap, ◌∙◌, ◌⊎◌, inl, inr, arith, and_parts, nat_tests, ℕ, not, nat_lt, length, Option, Some, None, Membership, term_of, term_in, SiteState, Joining, Streamed, is_joiner, is_member_site, leads, World, not-both, same-some, none-and-some, Prefix, leads-parts, prefix-same, prefix-trans, prefixes-compare}
 use Rattle.log_laws.specs.Histories.{Logs, LogState, Line, line, between, Leadership, Last, FollowsIn, LeadsIn, MemberOk, StreamIn, ViewIn, Took, LogsHold, part, site_start, log_at, term_at, epoch_base}
-use Rattle.log_laws.proofs.Plain.{leads-or-follows, is-leader}
+use Rattle.log_laws.proofs.Plain.{leads-or-follows, is-leader, none-or-some}
 use Rattle.log_laws.proofs.Kept.{base-least, leadership-entered, last-below, running-slot}
 use Rattle.log_laws.specs.Copies.{OfOneTerm, AreCopies, Leads, HasLoaded, Follows, HasLogs, log_state}
 
@@ -64,18 +64,17 @@ module _ (S : LogState) (H : LogsHold S) where
   -- Two copies in one term.
   copies-meet : (c d : ℕ) (w v : Membership) → 0 < site_start S c → 0 < site_start S d → MemberOk S c w → MemberOk S d v → part S c ≡ part S d → term_of w ≡ term_of v
       → Prefix (log_at S c) (log_at S d) ⊎ Prefix (log_at S d) (log_at S c)
-  copies-meet c d w v up ud m n p t = choice (S.logs.leadership (part S c) (term_of w)) refl
+  copies-meet c d w v up ud m n p t = elim (none-or-some (S.logs.leadership (part S c) (term_of w))) [
+    | inl e ↦ 
+        let l = last-before c w m e in
+        prefixes-compare (log_at S c) (log_at S d) l.1.leadership.log
+        (copy-entered c w l.0 m e l.1)
+        (copy-entered d v l.0 n (there None e) (last-at S.logs (part S c) (part S d) l.0 (term_of w) (term_of v) p t l.1))
+    | inr (g, e) ↦ prefixes-compare (log_at S c) (log_at S d) g.log (copy-behind c w g up m e) (copy-behind d v g ud n (there (Some g) e))
+  ]
     where
       there : (o : Option Leadership) → S.logs.leadership (part S c) (term_of w) ≡ o → S.logs.leadership (part S d) (term_of v) ≡ o
       there o e = rw (← p, ← t) e
-
-      choice : (o : Option Leadership) → S.logs.leadership (part S c) (term_of w) ≡ o → Prefix (log_at S c) (log_at S d) ⊎ Prefix (log_at S d) (log_at S c)
-      choice (Some g) e = prefixes-compare (log_at S c) (log_at S d) g.log (copy-behind c w g up m e) (copy-behind d v g ud n (there (Some g) e))
-      choice None e =
-          let l = last-before c w m e in
-          prefixes-compare (log_at S c) (log_at S d) l.1.leadership.log
-          (copy-entered c w l.0 m e l.1)
-          (copy-entered d v l.0 n (there None e) (last-at S.logs (part S c) (part S d) l.0 (term_of w) (term_of v) p t l.1))
 
   -- A leader that has what its term begins with.
   record HeldLeadership (l : ℕ) : Type 0 where

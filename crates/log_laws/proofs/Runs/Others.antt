@@ -1,5 +1,5 @@
 -- Events that change nothing of sites: those of the director, of clients and scanners, and a recovery that fails.
-use Rattle.log_laws.proofs.Names.{◌≡◌, ◌+◌, ◌<◌, Bool, true, false, List, [], ◌∷◌, append-nil, refl, sym, subst, ap, ◌∙◌, ◌==◌, arith, ℕ, Option, Some, None, AllByRecursion, Actor, Director, Client, Agent, Site, Scanner, Item, TimedItem, Database, Deployment, is_host, is_slot_of, host_of_slot, same, Letter, Sends, Turn, no_sends, open_letter, only, new_agent, stops_others, ClientState, Due, submits, submit_to, target, DirectorState, stops_host, asks_recovery, does, does_next, ScannerState, Scan, scan_block, scans, scan_turn, scanner_turn, Environment, NoFault, DiskFails, NoMemory, DisksShow, World, took, sent, set_at, stop_noted, stamp_of, with_director, with_client, with_scanner, left_contents, stays_stopped, delivered, starts_in, takes-next, state_of, all-append, all-if, all-mono, set-there, starts-if, stops_all-starts, same-true, channel-holds, director-inert-holds, draws-holds, cond_both}
+use Rattle.log_laws.proofs.Names.{◌≡◌, ◌+◌, ◌<◌, Bool, true, false, List, [], ◌∷◌, append-nil, refl, sym, subst, ap, ◌∙◌, ◌==◌, arith, ℕ, Option, Some, None, AllByRecursion, Actor, Director, Client, Agent, Site, Scanner, Item, TimedItem, Database, Deployment, is_host, is_slot_of, host_of_slot, same, Letter, Sends, Turn, no_sends, open_letter, only, new_agent, stops_others, ClientState, Due, submits, submit_to, target, DirectorState, stops_host, asks_recovery, does, does_next, ScannerState, Scan, scan_block, scans, scan_turn, scanner_turn, Environment, NoMemory, World, took, sent, set_at, stop_noted, stamp_of, with_director, with_client, with_scanner, left_contents, stays_stopped, delivered, starts_in, takes-next, state_of, all-append, all-if, all-mono, set-there, starts-if, stops_all-starts, same-true, channel-holds, director-inert-holds, draws-holds, cond_both}
 use Rattle.volt_wire.specs.declared.item.Item.TheVariants as item
 use Rattle.volt_wire.specs.declared.message.Msg.TheVariants as msg
 use Rattle.word_laws.specs.Histories as word

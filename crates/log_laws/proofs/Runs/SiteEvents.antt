@@ -1,5 +1,5 @@
 -- A site takes a message, or syncs: all holds after it.
-use Rattle.log_laws.proofs.Names.{◌≡◌, ◌<◌, Bool, true, false, List, [], ◌∷◌, ◌++◌, refl, sym, subst, ap, ◌==◌, arith, inl, eqb-true, nat_tests, ℕ, take, if◌then◌else◌, Actor, Director, Client, Agent, Site, Scanner, Msg, Database, host_of_slot, after_parts, after_failure, Blocks, Letter, Turn, becomes, ◌▸◌, arrival, Arrival, Taken, Refused, Waits, SiteState, settles, ordered, site_handler, site_runs, site_takes, written, after_sync, syncs, parts_of_message, parts_of_sync, site_turn, sync_turn, Environment, NoFault, DiskFails, NoMemory, DisksShow}
+use Rattle.log_laws.proofs.Names.{◌≡◌, ◌<◌, Bool, true, false, List, [], ◌∷◌, ◌++◌, refl, sym, subst, ap, ◌==◌, arith, inl, eqb-true, nat_tests, ℕ, take, if◌then◌else◌, Actor, Agent, Site, Msg, Database, host_of_slot, after_parts, after_failure, Blocks, Letter, Turn, becomes, ◌▸◌, arrival, Arrival, Taken, Refused, Waits, SiteState, settles, ordered, site_handler, site_runs, site_takes, written, after_sync, syncs, parts_of_message, parts_of_sync, site_turn, sync_turn, Environment, NoFault, DiskFails, NoMemory, DisksShow}
 use Rattle.volt_wire.specs.declared.message.Msg.TheVariants as msg
 use Rattle.cluster_model.specs.Site.{takes_waiting, on_start}
 use Rattle.cluster_model.specs.Sync.{start_after}
