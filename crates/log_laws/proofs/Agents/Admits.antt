@@ -30,10 +30,7 @@ none-asked S n l p = elim l.body as (λ m. NoAdmit (record l { body = m }) → A
 pub asked-admission : (S : LogState) (from : Actor) (l : Letter) → AskedOk S from l → (j h term : ℕ) → In (Admission j h term) (asked_by from l) → AllLoaded S h j
 asked-admission S (Agent g) l p j h term i = (elim l.body as
     (λ m. AskedOk S (Agent g) (record l { body = m }) → In (Admission j h term) (asked_by (Agent g) (record l { body = m })) → AllLoaded S h j) [
-      | msg.Admit s ↦ λ k q. elim q [
-        | inl e ↦ subst (QueuedLoadedOk S) e k
-        | inr e ↦ absurd e
-      ]
+      | msg.Admit s ↦ λ k q. elim q [ inl e ↦ subst (QueuedLoadedOk S) e k | inr e ↦ absurd e ]
       | m ↦ λ k q. absurd q
     ]) p i
 asked-admission S from l p j h term i = absurd i

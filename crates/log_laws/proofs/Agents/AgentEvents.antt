@@ -195,10 +195,7 @@ handler-goes : (S : LogState) (n : ℕ) (from : Actor) (t : Turn AgentState) →
 handler-goes S n from t r = record {
   history = r.handler.history;
   grows = handler-grows r.handler;
-  goes = elim r.handler.goes [
-    | inl e ↦ inl e.0
-    | inr z ↦ inr (ap (λ a. a.own) z)
-  ];
+  goes = elim r.handler.goes [ inl e ↦ inl e.0 | inr z ↦ inr (ap (λ a. a.own) z) ];
   by = r.handler.by;
   holds = holds-of (agent_turned (agent_heard S from n) n t.state t.sends r.handler.history) r.handler.holds r.rest;
 }

@@ -11,10 +11,7 @@ use Rattle.log_laws.proofs.Agents.AgentWords.{takes-agent}
 
 -- the messages that bring a joiner its word
 abbrev pub BringsDecided : Actor → Letter → Type 0
-BringsDecided (Agent g) l = elim l.body as (λ _. Type 0) [
-  | msg.Decided w ↦ Unit {0}
-  | _ ↦ ⊥
-]
+BringsDecided (Agent g) l = elim l.body as (λ _. Type 0) [ msg.Decided w ↦ Unit {0} | _ ↦ ⊥ ]
 BringsDecided from l = ⊥
 
 -- ---- what a handler leaves and says

@@ -5,19 +5,11 @@ use Rattle.word_laws.proofs.Turns.{tells}
 
 -- to a site: neither its start nor a word, nor a stream
 abbrev pub NoView : Letter → Type 0
-NoView l = elim l.body as (λ _. Type 0) [
-  | msg.Start s ↦ ⊥
-  | msg.View w ↦ ⊥
-  | msg.StreamStart head ↦ ⊥
-  | _ ↦ Unit {0}
-]
+NoView l = elim l.body as (λ _. Type 0) [ msg.Start s ↦ ⊥ | msg.View w ↦ ⊥ | msg.StreamStart head ↦ ⊥ | _ ↦ Unit {0} ]
 
 -- to an agent: no wish to be admitted
 abbrev pub NoAdmit : Letter → Type 0
-NoAdmit l = elim l.body as (λ _. Type 0) [
-  | msg.Admit j ↦ ⊥
-  | _ ↦ Unit {0}
-]
+NoAdmit l = elim l.body as (λ _. Type 0) [ msg.Admit j ↦ ⊥ | _ ↦ Unit {0} ]
 
 -- ---- an agent says its word to the others
 

@@ -84,10 +84,7 @@ pub record AgentHandler (S : LogState) (n : ℕ) (t : Turn AgentState) : Type 0 
 -- who is admitted in it
 pub handler-admits : (S : LogState) (n : ℕ) (t : Turn AgentState) → Rest S → (r : WordsTurn (MayJoin S) S.words n t) → (x : Admitted) → In x r.history.admitted
     → AllLoaded S (S.words.owner x.start) x.start
-handler-admits S n t r handler x i = elim (handler.admits x i) [
-  | inl k ↦ r.loads.admitted x k
-  | inr k ↦ k
-]
+handler-admits S n t r handler x i = elim (handler.admits x i) [ inl k ↦ r.loads.admitted x k | inr k ↦ k ]
 
 -- neither a start nor a word
 pub plain-foreign : (S : LogState) (c n : ℕ) (ls : List Letter) → AllByRecursion NoView ls → AllByRecursion (ForeignOk S c (Agent n)) ls
@@ -117,10 +114,7 @@ sent_term-same : (a b : AgentState) → b.decided ≡ a.decided → b.taken ≡ 
 sent_term-same a b d t = ap (λ x. top x b.taken) d ∙ ap (top a.decided) t
   where
     top : Option Membership → Option Membership → ℕ
-    top d t = elim d as (λ _. ℕ) [
-      | Some w ↦ term_of w
-      | None ↦ term_in t
-    ]
+    top d t = elim d as (λ _. ℕ) [ Some w ↦ term_of w | None ↦ term_in t ]
 
 pub plain-rest : (S : LogState) (n : ℕ) (t : Turn AgentState) (G : History) → Rest S → Grows S.words.history G
     → ((x : Admitted) → In x G.admitted → AllLoaded S (S.words.owner x.start) x.start)

@@ -205,10 +205,7 @@ module _ (S : LogState) (n s k : ℕ) (out : Sends) (r : Rest S) (some : 0 < s) 
   V = agent_turned S n (new_agent k) out (with_began S.words.history n s)
 
   goes-on : 0 < k → k ≡ s
-  goes-on u = elim goes [
-    | inl e ↦ e
-    | inr z ↦ absurd (omega (arith, u, z))
-  ]
+  goes-on u = elim goes [ inl e ↦ e | inr z ↦ absurd (omega (arith, u, z)) ]
 
   -- nothing was sent by it
   unsent : (c : ℕ) → host_of_slot S.words.deployment c ≡ n → Unsent S c s (S.words.channel (Agent n) (Site c))

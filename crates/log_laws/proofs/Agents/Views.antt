@@ -18,16 +18,10 @@ agent_turned S n a out G = record S { words = word.after_agent S.words n a out G
 -- ---- messages that bring a site neither its start nor a word
 
 no-start : (l : Letter) → NoView l → start_in_letter l ≡ []
-no-start l h = elim l.body as (λ m. NoView (record l { body = m }) → start_in_letter (record l { body = m }) ≡ []) [
-  | msg.Start s ↦ λ k. absurd k
-  | m ↦ λ k. refl
-] h
+no-start l h = elim l.body as (λ m. NoView (record l { body = m }) → start_in_letter (record l { body = m }) ≡ []) [ msg.Start s ↦ λ k. absurd k | m ↦ λ k. refl ] h
 
 no-view : (l : Letter) → NoView l → view_in l.body ≡ []
-no-view l h = elim l.body as (λ m. NoView (record l { body = m }) → view_in m ≡ []) [
-  | msg.View w ↦ λ k. absurd k
-  | m ↦ λ k. refl
-] h
+no-view l h = elim l.body as (λ m. NoView (record l { body = m }) → view_in m ≡ []) [ msg.View w ↦ λ k. absurd k | m ↦ λ k. refl ] h
 
 no-starts : (ls : List Letter) → AllByRecursion NoView ls → starts_in ls ≡ []
 no-starts ls h = flat-none start_in_letter ls (all-mono NoView (λ l. start_in_letter l ≡ []) no-start ls h)
@@ -42,10 +36,7 @@ starting-left : (s : ℕ) (xs ys : List Letter) → (In s (starts_in ys) → ⊥
 starting-left s [] ys none k = absurd k
 starting-left s (l ∷ ls) ys none (inl k) = inl (
   k.0,
-  λ i. elim (in-cases s (starts_in ls) (starts_in ys) (subst (In s) (starts-append ls ys) i)) [
-    | inl j ↦ k.1 j
-    | inr j ↦ none j
-  ],
+  λ i. elim (in-cases s (starts_in ls) (starts_in ys) (subst (In s) (starts-append ls ys) i)) [ inl j ↦ k.1 j | inr j ↦ none j ],
 )
 starting-left s (l ∷ ls) ys none (inr k) = inr (k.0, k.1, starting-left s ls ys none k.2)
 
@@ -111,10 +102,7 @@ module _ (S : LogState) (c h : ℕ) (a : AgentState) (ls : List Letter) (k : Vie
   }
     where
       plainly : (l : Letter) → NoView l → PlainView l
-      plainly l p = elim l.body as (λ m. NoView (record l { body = m }) → PlainView (record l { body = m })) [
-        | msg.View w ↦ λ k. absurd k
-        | m ↦ λ k. tt
-      ] p
+      plainly l p = elim l.body as (λ m. NoView (record l { body = m }) → PlainView (record l { body = m })) [ msg.View w ↦ λ k. absurd k | m ↦ λ k. tt ] p
 
       none-in : (s : ℕ) → In s [] → ⊥
       none-in s i = i

@@ -54,10 +54,7 @@ module _ (S : LogState) (W : State) (contents : ℕ → List Shown) where
     empty = k.empty;
     floor = k.floor;
     never = k.never;
-    comes = λ l f e. elim (k.comes l f e) [
-      | inl q ↦ inl (inert c w l q)
-      | inr q ↦ inr (coming c w (flow (site_start S c) (term_of w) (between S l c)) q.0, q.1)
-    ];
+    comes = λ l f e. elim (k.comes l f e) [ inl q ↦ inl (inert c w l q) | inr q ↦ inr (coming c w (flow (site_start S c) (term_of w) (between S l c)) q.0, q.1) ];
   }
 
   stream : (c : ℕ) (w : Membership) (j : Joining) (st : Option Streamed) → StreamIn S c w j st → StreamIn T c w j st

@@ -330,10 +330,7 @@ module _ (T : LogState) (i : ℕ) (e : Entry) (H : LogsHold T) (up : 0 < site_st
     joiner-word : (w : Membership) → In w T.words.history.decided
         → ((part T c ≡ part T i) × (w ≡ k.word)) ⊎ (part T c ≡ part T i → term_of w ≡ term_of k.word → ⊥)
     joiner-word w d = elim (cases_eq (part T c) (part T i)) [
-      | inl p ↦ elim (cases_eq (term_of w) (term_of k.word)) [
-        | inl t ↦ inl (p, word-is w d t)
-        | inr n ↦ inr (λ _ t. n t)
-      ]
+      | inl p ↦ elim (cases_eq (term_of w) (term_of k.word)) [ inl t ↦ inl (p, word-is w d t) | inr n ↦ inr (λ _ t. n t) ]
       | inr n ↦ inr (λ p _. n p)
     ]
 

@@ -52,10 +52,7 @@ module _ (T : LogState) (H : LogsHold T) (i slot position : ℕ) (up : 0 < site_
         let r = in-map-from (with_position slot position) j (T.sites i).joiners here in
         subst (CountedOk T (part T i) (term_at T i)) r.2 (position-counted r.0 (all-at (CountedOk T (part T i) (term_at T i)) (T.sites i).joiners k.joiners r.0 r.1)));
     alone = λ _. subst Distinct (sym (map-slots (with_position slot position) (position-slot slot position) (T.sites i).joiners)) k.alone;
-    leads = λ _. elim k.leads [
-      | inl e ↦ inl (ap (map (with_position slot position)) e)
-      | inr e ↦ inr e
-    ];
+    leads = λ _. elim k.leads [ inl e ↦ inl (ap (map (with_position slot position)) e) | inr e ↦ inr e ];
     counted = map-joiners (with_position slot position) (position-slot slot position) (position-start slot position) (position-stream_start slot position) (T.sites i).joiners;
     on_disk = λ _. k.on_disk;
     held = λ _. k.held;

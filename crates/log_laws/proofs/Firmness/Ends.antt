@@ -31,10 +31,7 @@ module _ (T : LogState) (H : LogsHold T) (i : ℕ) (up : 0 < site_start T i) whe
   keeps = (H.sites i).keeps up
 
   counting : (j : Joiner) → In j (T.sites i).joiners → LeaderOf T i
-  counting j here = elim keeps.leads [
-    | inl e ↦ absurd (subst (In j) e here)
-    | inr e ↦ leader-of T H i up e
-  ]
+  counting j here = elim keeps.leads [ inl e ↦ absurd (subst (In j) e here) | inr e ↦ leader-of T H i up e ]
 
   module _ (j : Joiner) (here : In j (T.sites i).joiners) (sent : is_sent (T.sites i) j ≡ true) where
     o : LeaderOf T i
@@ -111,10 +108,7 @@ module _ (T : LogState) (H : LogsHold T) (i : ℕ) (up : 0 < site_start T i) whe
     sites = λ c. stream_ends-all (T.sites i) c (λ l. Bare l × SiteLetterOk T i c l) (λ j here same sent.
         ((refl, refl, refl, tt), subst (λ x. SiteLetterOk T i x (end_letter (T.sites i) x j)) same (end-ok j here sent)));
     ended = λ c w joins decided away. stream_ends-other (T.sites i) c (site_start T c) (term_of w) (λ j here same start is sent.
-        elim away [
-          | inl q ↦ q.uncounted j here same start
-          | inr f ↦ true≢false (sym (led j here c w same joins decided is) ∙ f)
-        ]);
+        elim away [ inl q ↦ q.uncounted j here same start | inr f ↦ true≢false (sym (led j here c w same joins decided is) ∙ f) ]);
     told = λ h. tt;
   }
     where
@@ -144,10 +138,7 @@ module _ (T : LogState) (H : LogsHold T) (i : ℕ) (up : 0 < site_start T i) whe
             subst (CountedOk T (part T i) (term_at T i)) r.2 (count-counted T (part T i) (term_at T i) (T.sites i) r.0
             (all-at (CountedOk T (part T i) (term_at T i)) (T.sites i).joiners keeps.joiners r.0 r.1)));
         alone = λ _. subst Distinct (sym (map-slots (without_count (T.sites i)) (count-same (λ j. j.slot) (λ j. refl) (T.sites i)) (T.sites i).joiners)) keeps.alone;
-        leads = λ _. elim keeps.leads [
-          | inl e ↦ inl (ap (map (without_count (T.sites i))) e)
-          | inr e ↦ inr e
-        ];
+        leads = λ _. elim keeps.leads [ inl e ↦ inl (ap (map (without_count (T.sites i))) e) | inr e ↦ inr e ];
         counted = map-joiners (without_count (T.sites i)) (count-same (λ j. j.slot) (λ j. refl) (T.sites i)) (count-same (λ j. j.start) (λ j. refl) (T.sites i))
             (count-same (λ j. j.stream_start) (λ j. refl) (T.sites i)) (T.sites i).joiners;
         on_disk = λ _. keeps.on_disk;

@@ -217,10 +217,7 @@ held-told : (T : LogState) (i h : ℕ) (d : Held) → HeldOk d → d.to ≡ Agen
 held-told T i h d ok e = go d.letter (subst (λ a. HeldFor a d.letter) e ok)
   where
     go : (l : Letter) → HeldFor (Agent h) l → ToldOk T i l
-    go l k = elim l.body as (λ m. HeldFor (Agent h) (record l { body = m }) → ToldOk T i (record l { body = m })) [
-      | msg.Loaded a ↦ λ p. absurd p
-      | m ↦ λ p. tt
-    ] k
+    go l k = elim l.body as (λ m. HeldFor (Agent h) (record l { body = m }) → ToldOk T i (record l { body = m })) [ msg.Loaded a ↦ λ p. absurd p | m ↦ λ p. tt ] k
 
 pub answers-rest : (T : LogState) (i firm : ℕ) (ds : List Held) → AllByRecursion HeldOk ds → SaysRests T i (answers_held firm ds)
 answers-rest T i firm ds h = record {

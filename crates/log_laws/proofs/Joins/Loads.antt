@@ -121,10 +121,7 @@ module _ (S : LogState) (H : LogsHold S) (i : ℕ) (up : 0 < site_start S i) (j 
             whole = ap (λ z. log_at S i ++ z) tasks;
             loading = λ no. h.loading (sym loads ∙ no);
             loaded = λ whole. tasks ∙ h.loaded (sym loads ∙ whole);
-            ends = λ some. elim some [
-              | inl whole ↦ h.ends (inl (sym loads ∙ whole))
-              | inr known ↦ ends w stream_start view h known
-            ];
+            ends = λ some. elim some [ inl whole ↦ h.ends (inl (sym loads ∙ whole)) | inr known ↦ ends w stream_start view h known ];
           }))
     where
       done : Joining

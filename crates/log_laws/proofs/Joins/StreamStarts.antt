@@ -101,16 +101,10 @@ module _ (S : LogState) (H : LogsHold S) (m i : ℕ) (l : Letter) (ls : List Let
     untaken = subst (StreamIn S i w j) none word.stream
 
     follows-it : follows S.words.deployment w i m ≡ true
-    follows-it = elim (cases_Bool (follows S.words.deployment w i m)) [
-      | inl f ↦ f
-      | inr f ↦ let z = sym (word.others m f).0 ∙ stream-first w view in absurd (cc)
-    ]
+    follows-it = elim (cases_Bool (follows S.words.deployment w i m)) [ inl f ↦ f | inr f ↦ let z = sym (word.others m f).0 ∙ stream-first w view in absurd (cc) ]
 
     coming : Coming S i w (flow (site_start S i) (term_of w) (between S m i)) × (asked S i m (term_of w) ≡ [])
-    coming = elim (untaken.comes m follows-it low) [
-      | inl q ↦ let z = sym q.flow_is ∙ stream-first w view in absurd (cc)
-      | inr q ↦ q
-    ]
+    coming = elim (untaken.comes m follows-it low) [ inl q ↦ let z = sym q.flow_is ∙ stream-first w view in absurd (cc) | inr q ↦ q ]
 
     begins : (l.past ≡ coming.0.past) × (head.stream_start ≡ length coming.0.past) × (flow (site_start S i) (term_of w) ls ≡ map Follows coming.0.more)
     begins = begins-same l.past coming.0.past head.stream_start (length coming.0.past) (flow (site_start S i) (term_of w) ls) (map Follows coming.0.more)

@@ -24,11 +24,7 @@ found-first p (x ∷ xs) a e = choice (p x) refl e (found-first p xs a)
 pub distinct-push : (xs : List ℕ) (x : ℕ) → Distinct xs → (In x xs → ⊥) → Distinct (xs ++ x ∷ [])
 distinct-push [] x h n = (λ i. i, tt)
 distinct-push (y ∷ ys) x h n = (
-  λ i. elim (in-cases y ys (x ∷ []) i) [
-    | inl k ↦ h.0 k
-    | inr (inl e) ↦ n (inl (sym e))
-    | inr (inr k) ↦ k
-  ],
+  λ i. elim (in-cases y ys (x ∷ []) i) [ inl k ↦ h.0 k | inr (inl e) ↦ n (inl (sym e)) | inr (inr k) ↦ k ],
   distinct-push ys x h.1 (λ i. n (inr i)),
 )
 
@@ -307,10 +303,7 @@ module _ (E : Database) (S : LogState) (H : LogsHold S) (i : ℕ) (up : 0 < site
 
     -- and it has asked no more
     new-asked : Inert S a.slot w i → asked T a.slot i (term_of w) ≡ []
-    new-asked q = elim (q.asks slot) [
-      | inl none ↦ absurd (unasked none)
-      | inr one ↦ nil_from_length (asked T a.slot i (term_of w)) (fewer (ap length one))
-    ]
+    new-asked q = elim (q.asks slot) [ inl none ↦ absurd (unasked none) | inr one ↦ nil_from_length (asked T a.slot i (term_of w)) (fewer (ap length one)) ]
       where
         kept-here : asks_of_term a.slot (term_of w) (S.sites i) ≡ asks_kept a.slot (pre ++ a ∷ post)
         kept-here = if-true (term_at S i == term_of w) (asks_kept a.slot (S.sites i).asks) [] (eq-eqb (term_at S i) (term_of w) same-term) ∙ ap (asks_kept a.slot) asks-are
@@ -360,10 +353,7 @@ module _ (E : Database) (S : LogState) (H : LogsHold S) (i : ℕ) (up : 0 < site
   asker : (c : ℕ) → ((c ≡ a.slot) × (site_start S c ≡ a.start)) ⊎ (c ≡ a.slot → site_start S c ≡ a.start → ⊥)
   asker c = elim (cases_eq c a.slot) [
     | inr n ↦ inr (λ e _. n e)
-    | inl e ↦ elim (cases_eq (site_start S c) a.start) [
-      | inl r ↦ inl (e, r)
-      | inr n ↦ inr (λ _ r. n r)
-    ]
+    | inl e ↦ elim (cases_eq (site_start S c) a.start) [ inl r ↦ inl (e, r) | inr n ↦ inr (λ _ r. n r) ]
   ]
 
   joiner-after : (c : ℕ) (k : Joining) → (set_at S.sites i turn.state c).joining ≡ Some k → JoinerOk T c k

@@ -107,10 +107,7 @@ module _ (S : LogState) (H : LogsHold S) (m i : ℕ) (l : Letter) (ls : List Let
           (λ some. u.ends (elim some [ inl whole' ↦ inl (sym loads ∙ whole') | inr known ↦ inr (ap is_some (sym count) ∙ known) ])) refl
         where
           follows-it : follows S.words.deployment w i m ≡ true
-          follows-it = elim (cases_Bool (follows S.words.deployment w i m)) [
-            | inl f ↦ f
-            | inr f ↦ let z = sym (h.others m f).0 ∙ task-first w view in absurd (cc)
-          ]
+          follows-it = elim (cases_Bool (follows S.words.deployment w i m)) [ inl f ↦ f | inr f ↦ let z = sym (h.others m f).0 ∙ task-first w view in absurd (cc) ]
 
           from : m ≡ u.from
           from = follows-one S.words.deployment w i m u.from follows-it u.following

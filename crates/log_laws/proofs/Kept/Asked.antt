@@ -19,36 +19,24 @@ pub at-most-is : (xs ys : List ℕ) → ys ≡ xs → AtMost xs ys
 at-most-is xs ys e = subst (λ z. AtMost xs z) (sym e) (at-most-same xs)
 
 pub at-most-then : (xs ys zs : List ℕ) → AtMost xs ys → AtMost ys zs → AtMost xs zs
-at-most-then xs ys zs h k = record {
-  shorter = let a = h.shorter in let b = k.shorter in omega (arith, a, b);
-  within = λ y i. h.within y (k.within y i);
-}
+at-most-then xs ys zs h k = record { shorter = let a = h.shorter in let b = k.shorter in omega (arith, a, b); within = λ y i. h.within y (k.within y i) }
 
 pub at-most-both : (xs ys as_ bs : List ℕ) → AtMost xs ys → AtMost as_ bs → AtMost (xs ++ as_) (ys ++ bs)
 at-most-both xs ys as_ bs h k = record {
   shorter = rw (length-append ys bs, length-append xs as_) (let a = h.shorter in let b = k.shorter in omega (arith, a, b));
-  within = λ y i. elim (in-cases y ys bs i) [
-    | inl j ↦ in-left y xs as_ (h.within y j)
-    | inr j ↦ in-right y xs as_ (k.within y j)
-  ];
+  within = λ y i. elim (in-cases y ys bs i) [ inl j ↦ in-left y xs as_ (h.within y j) | inr j ↦ in-right y xs as_ (k.within y j) ];
 }
 
 -- the other way round
 pub at-most-swap : (xs ys : List ℕ) → AtMost (xs ++ ys) (ys ++ xs)
 at-most-swap xs ys = record {
   shorter = rw (length-append ys xs, length-append xs ys) (omega arith);
-  within = λ y i. elim (in-cases y ys xs i) [
-    | inl j ↦ in-right y xs ys j
-    | inr j ↦ in-left y xs ys j
-  ];
+  within = λ y i. elim (in-cases y ys xs i) [ inl j ↦ in-right y xs ys j | inr j ↦ in-left y xs ys j ];
 }
 
 -- without what is ahead, or behind
 pub at-most-behind : (xs ys : List ℕ) → AtMost (xs ++ ys) ys
-at-most-behind xs ys = record {
-  shorter = rw (length-append xs ys) (omega arith);
-  within = λ y i. in-right y xs ys i;
-}
+at-most-behind xs ys = record { shorter = rw (length-append xs ys) (omega arith); within = λ y i. in-right y xs ys i }
 
 -- what is left of none, and of one
 pub at-most-none : (xs ys : List ℕ) → xs ≡ [] → AtMost xs ys → ys ≡ []
@@ -57,10 +45,7 @@ at-most-none xs (y ∷ ys) e h = absurd (subst (λ z. In y z) e (h.within y (inl
 
 pub at-most-one : (xs ys : List ℕ) (a : ℕ) → xs ≡ a ∷ [] → AtMost xs ys → (ys ≡ []) ⊎ (ys ≡ a ∷ [])
 at-most-one xs [] a e h = inl refl
-at-most-one xs (y ∷ []) a e h = elim (subst (λ z. In y z) e (h.within y (inl refl))) [
-  | inl k ↦ inr (ap (λ z. z ∷ []) (sym k))
-  | inr i ↦ absurd i
-]
+at-most-one xs (y ∷ []) a e h = elim (subst (λ z. In y z) e (h.within y (inl refl))) [ inl k ↦ inr (ap (λ z. z ∷ []) (sym k)) | inr i ↦ absurd i ]
 at-most-one xs (y ∷ z ∷ ys) a e h = let n = ap length e in let s = h.shorter in absurd (omega (arith, n, s))
 
 -- ---- one of several lists moves on

@@ -46,10 +46,7 @@ Silent (Site c) l = elim l.body as (λ _. Type 0) [
   | msg.Start a ↦ ⊥
   | _ ↦ Unit {0}
 ]
-Silent (Agent h) l = elim l.body as (λ _. Type 0) [
-  | msg.Loaded a ↦ ⊥
-  | _ ↦ Unit {0}
-]
+Silent (Agent h) l = elim l.body as (λ _. Type 0) [ msg.Loaded a ↦ ⊥ | _ ↦ Unit {0} ]
 Silent b l = Unit {0}
 
 -- such a message says nothing of logs, nor that a stream is whole
@@ -159,10 +156,7 @@ shows-goes E D S i H = goes-if S i (nat_lt 0 s.looks && nothing_open s.log) show
     s = S.sites i
 
     shown : Turn SiteState
-    shown = sending (record s { looks = 0 }) (λ b. elim b as (λ _. List Letter) [
-      | Director ↦ replicate s.looks (looked E D i s)
-      | _ ↦ []
-    ])
+    shown = sending (record s { looks = 0 }) (λ b. elim b as (λ _. List Letter) [ Director ↦ replicate s.looks (looked E D i s) | _ ↦ [] ])
 
     silent : (b : Actor) → AllByRecursion (Silent b) (shown.sends b)
     silent Director = all-from (Silent Director) (replicate s.looks (looked E D i s)) (λ l k. tt)

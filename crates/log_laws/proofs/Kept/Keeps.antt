@@ -207,10 +207,7 @@ module _ (S T : LogState) (H : LogsHold S) (f : LogsLater S T) (c : ℕ) (site :
           eqb_swap x y q = eq-eqb y x (sym (eqb-true x y q))
 
           self : (x y : ℕ) → (x == y && not (y == x)) ≡ false
-          self x y = elim (cases_Bool (x == y)) [
-            | inl q ↦ rw (q, eqb_swap x y q) refl
-            | inr q ↦ rw q refl
-          ]
+          self x y = elim (cases_Bool (x == y)) [ inl q ↦ rw (q, eqb_swap x y q) refl | inr q ↦ rw q refl ]
 
       following : (l : ℕ) → follows D w c l ≡ true → FollowsIn (S.sites c) (line (site_start S c) (term_of w) (between S l c)) (S.logs.leadership (part S c) (term_of w))
           → FollowsIn (S.sites c) (line (site_start S c) (term_of w) (between T l c)) (T.logs.leadership (part S c) (term_of w))

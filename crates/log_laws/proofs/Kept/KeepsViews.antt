@@ -64,10 +64,7 @@ leaves-first start l ls wordless = record {
   seen = λ s w i. in-right w (view_of s l) (views s ls) i;
   none = λ s e. behind (view_of s l) (views s ls) e;
   running = λ up. ap (λ z. z ++ views start ls) (sym (wordless up));
-  starting = λ s i k. elim k [
-    | inl e ↦ absurd (e.1 i)
-    | inr e ↦ (e.2, ap (λ z. z ++ views s ls) (sym e.0))
-  ];
+  starting = λ s i k. elim k [ inl e ↦ absurd (e.1 i) | inr e ↦ (e.2, ap (λ z. z ++ views s ls) (sym e.0)) ];
 }
   where
     behind : (xs ys : List Membership) → xs ++ ys ≡ [] → ys ≡ []

@@ -7,10 +7,7 @@ use Rattle.log_laws.proofs.Plain.{none-or-some}
 
 -- the same terms are led where nothing of them changes
 pub same-leaderships : (G H : Logs) → H.leadership ≡ G.leadership → SameLeaderships G H
-same-leaderships G H e = record {
-  kept = λ p t g is. (g, ap (λ r. r p t) e ∙ is, refl, prefix-refl g.log);
-  none = λ p t is. ap (λ r. r p t) e ∙ is;
-}
+same-leaderships G H e = record { kept = λ p t g is. (g, ap (λ r. r p t) e ∙ is, refl, prefix-refl g.log); none = λ p t is. ap (λ r. r p t) e ∙ is }
 
 -- who was in a term ran
 pub was-ran : (S : LogState) → LogsHold S → (c t a : ℕ) → WasIn S c t a → In a (S.logs.ran c)
@@ -104,10 +101,7 @@ module _ (S T : LogState) (H : LogsHold S) (f : LogsLater S T) where
         let r = k.position (sym s.start ∙ is) (rw s.earlier at below) in let m = s.log in omega (arith, r, m);
     later = λ x is start u e above now same. elim (f.streamed_now j.slot t x is) [
       | inr fresh ↦ absurd (fresh u e now (same ∙ sym start))
-      | inl old ↦ elim (f.entered_now j.slot u e now) [
-        | inl then ↦ k.later x old start u e above then same
-        | inr new ↦ entered-on x old start e same u new
-      ]
+      | inl old ↦ elim (f.entered_now j.slot u e now) [ inl then ↦ k.later x old start u e above then same | inr new ↦ entered-on x old start e same u new ]
     ];
   }
     where
@@ -298,12 +292,7 @@ module _ (S T : LogState) (H : LogsHold S) (f : LogsLater S T) where
   last-before p q v t eq same l = elim (none-or-some (S.logs.leadership p v)) [
     | inl e ↦ absurd (none-and-some (same.none p v e) led)
     | inr (g, e) ↦ let h = same.kept p v g e in (
-      record {
-        leadership = g;
-        led = e;
-        below = l.below;
-        greatest = λ x k is. let r = same.kept p x k is in l.greatest x r.0 (at x r.0 r.1);
-      },
+      record { leadership = g; led = e; below = l.below; greatest = λ x k is. let r = same.kept p x k is in l.greatest x r.0 (at x r.0 r.1) },
       subst (λ z. Prefix g.log z.log) (same-some (sym h.1 ∙ led)) h.3,
     )
   ]

@@ -114,10 +114,7 @@ pub record Enters (i low : ℕ) (F G : Logs) : Type 0 where
 
 -- no stream begins with this message
 abbrev pub NoStreamStart : Letter → Type 0
-NoStreamStart l = elim l.body as (λ _. Type 0) [
-  | msg.StreamStart head ↦ ⊥
-  | _ ↦ Unit {0}
-]
+NoStreamStart l = elim l.body as (λ _. Type 0) [ msg.StreamStart head ↦ ⊥ | _ ↦ Unit {0} ]
 
 -- A turn of the site of slot i, from a state: the site goes on with its start, begins no stream, and what holds, holds after it.
 pub record Turns (S : LogState) (i : ℕ) (t : Turn SiteState) : Type 0 where

@@ -163,10 +163,7 @@ module _ (S : LogState) (H : LogsHold S) (states : ℕ → SiteState) (i : ℕ) 
     flow_is = flows (site_start S c) (term_of w) l c ∙ q.flow_is;
     ends_are = ends-from c l w joins decided (inl q) q.ends_are;
     uncounted = λ k here slot start. let b = (rests l).counted.back k here in q.uncounted b.0 b.1 (b.2 ∙ slot) (b.3 ∙ start);
-    asks = λ slot. elim (q.asks slot) [
-      | inl e ↦ inl (askeds c l (term_of w) ∙ e)
-      | inr e ↦ inr (askeds c l (term_of w) ∙ e)
-    ];
+    asks = λ slot. elim (q.asks slot) [ inl e ↦ inl (askeds c l (term_of w) ∙ e) | inr e ↦ inr (askeds c l (term_of w) ∙ e) ];
   }
 
   coming-rests : (c : ℕ) (w : Membership) (fl : List Flow) → In w S.words.history.decided → log_at S c ≡ [] → (S.sites c).earlier < term_of w → Coming S c w fl → Coming T c w fl
@@ -183,10 +180,7 @@ module _ (S : LogState) (H : LogsHold S) (states : ℕ → SiteState) (i : ℕ) 
     since = m.since;
     earlier = m.earlier;
     grown = m.grown;
-    still = λ e. let o = m.still e in elim (rests c).counts [
-      | inl k ↦ (o.0, k.0 ∙ o.1, k.1 ∙ o.2)
-      | inr k ↦ absurd (not-both (S.sites c).repaired k.0 e)
-    ];
+    still = λ e. let o = m.still e in elim (rests c).counts [ inl k ↦ (o.0, k.0 ∙ o.1, k.1 ∙ o.2) | inr k ↦ absurd (not-both (S.sites c).repaired k.0 e) ];
     floor = known.0;
     firm = known.1;
     leading = m.leading;
@@ -205,10 +199,7 @@ module _ (S : LogState) (H : LogsHold S) (states : ℕ → SiteState) (i : ℕ) 
 
   module _ (c : ℕ) (j k : Joining) (some : (S.sites c).joining ≡ Some j) (r : JoiningRests j k) (here : (states c).joining ≡ Some k) where
     same-counts : ((states c).floor ≡ (S.sites c).floor) × ((states c).firm ≡ (S.sites c).firm)
-    same-counts = elim (rests c).counts [
-      | inl e ↦ e
-      | inr e ↦ absurd (none-and-some e.1 some)
-    ]
+    same-counts = elim (rests c).counts [ inl e ↦ e | inr e ↦ absurd (none-and-some e.1 some) ]
 
     stream-rests : (w : Membership) → (S.sites c).view ≡ Some w → In w S.words.history.decided → (o : Option Streamed) → StreamIn S c w j o → StreamIn T c w (flagged j k) o
     stream-rests w view decided None u = record {

@@ -7,10 +7,7 @@ module _ (S : LogState) (H : LogsHold S) where
 
   -- a site that runs is a slot's
   pub running-slot : (c : ℕ) → 0 < site_start S c → IsSlot S c
-  running-slot c up = elim (cases_Bool (nat_lt c (slots S.words.deployment))) [
-    | inl is ↦ is
-    | inr out ↦ absurd (omega (arith, up, (H.sites c).environment out))
-  ]
+  running-slot c up = elim (cases_Bool (nat_lt c (slots S.words.deployment))) [ inl is ↦ is | inr out ↦ absurd (omega (arith, up, (H.sites c).environment out)) ]
 
   -- ---- words
 

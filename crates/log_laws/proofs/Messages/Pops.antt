@@ -94,10 +94,7 @@ plain-flow l k = elim l.body as (λ m. BringsNone (record l { body = m }) → fl
 ] k
 
 plain-view : (l : Letter) → BringsNone l → view_in l.body ≡ []
-plain-view l k = elim l.body as (λ m. BringsNone (record l { body = m }) → view_in m ≡ []) [
-  | msg.View w ↦ λ k. absurd k
-  | m ↦ λ k. refl
-] k
+plain-view l k = elim l.body as (λ m. BringsNone (record l { body = m }) → view_in m ≡ []) [ msg.View w ↦ λ k. absurd k | m ↦ λ k. refl ] k
 
 module _ (S : LogState) (H : LogsHold S) (from : Actor) (i : ℕ) (l : Letter) (ls : List Letter) (is : S.words.channel from (Site i) ≡ l ∷ ls) where
   -- its channel without it
@@ -205,10 +202,7 @@ module _ (S : LogState) (H : LogsHold S) (from : Actor) (i : ℕ) (l : Letter) (
 
       -- it hasn't been in that term
       unreached : MeantFor S i l → ⊥
-      unreached r = elim high.0 [
-        | inl z ↦ let some = r.0.0 in omega (arith, some, z)
-        | inr is ↦ let low = r.2 (sym is) in let up = high.1 in omega (arith, low, up)
-      ]
+      unreached r = elim high.0 [ inl z ↦ let some = r.0.0 in omega (arith, some, z) | inr is ↦ let low = r.2 (sym is) in let up = high.1 in omega (arith, low, up) ]
 
       site : (j : ℕ) → SiteLetterOk S j i l → SiteWaitingFrom S i (Site j) l
       site j k = elim l.body as (λ m. (MeantFor S i (record l { body = m }) → ⊥) → SiteLetterOk S j i (record l { body = m }) → SiteWaitingFrom S i (Site j) (record l { body = m })) [

@@ -221,10 +221,7 @@ module _ (S : LogState) (H : LogsHold S) (i : ℕ) (l : Letter) (ls : List Lette
 
   -- the start isn't under way any more
   no-more : In a (starts_in (agent_to_site P i)) → ⊥
-  no-more k = elim (subst (Starting a) is starting.1) [
-    | inl e ↦ e.1 (subst (λ z. In a (starts_in z)) left-of k)
-    | inr e ↦ e.1 (inl refl)
-  ]
+  no-more k = elim (subst (Starting a) is starting.1) [ inl e ↦ e.1 (subst (λ z. In a (starts_in z)) left-of k) | inr e ↦ e.1 (inl refl) ]
 
   ran-here : ran i ≡ a ∷ S.logs.ran i
   ran-here = set-here S.logs.ran i (a ∷ S.logs.ran i)
@@ -312,10 +309,7 @@ module _ (S : LogState) (H : LogsHold S) (i : ℕ) (l : Letter) (ls : List Lette
     ];
     running = λ _. rw (ap (λ x. x.view) fresh) (first_run (site_start N i) (ap (λ x. x.start) fresh));
     starting = λ s m. let o = k.starting s m in (
-      (λ r. elim (subst (In s) ran-here r) [
-        | inl e ↦ no-more (subst (λ z. In z (starts_in (agent_to_site P i))) (sym e) m)
-        | inr v ↦ o.0 v
-      ]),
+      (λ r. elim (subst (In s) ran-here r) [ inl e ↦ no-more (subst (λ z. In z (starts_in (agent_to_site P i))) (sym e) m) | inr v ↦ o.0 v ]),
       o.1,
       first_views-later P N start-later.words.deployment start-later.words.decided start-later.words.took_word i s (views s (agent_to_site P i)) o.2,
     );

@@ -252,10 +252,7 @@ module _ (S : LogState) (H : LogsHold S) (i : ℕ) (w : Membership) (up : 0 < si
       behind : (v : ℕ) (l : Last T.logs (part S c) v u) → Prefix e.log l.leadership.log × (known e ≤ S.logs.reach (part S c) v)
       behind v l = elim (cases_eq (part S c) (part S i)) [
         | inr n ↦ plain (λ q _. n q)
-        | inl q ↦ elim (cases_eq v (term_of w)) [
-          | inr n ↦ plain (λ _ t. n t)
-          | inl t ↦ now q t
-        ]
+        | inl q ↦ elim (cases_eq v (term_of w)) [ inr n ↦ plain (λ _ t. n t) | inl t ↦ now q t ]
       ]
         where
           plain : (part S c ≡ part S i → v ≡ term_of w → ⊥) → Prefix e.log l.leadership.log × (known e ≤ S.logs.reach (part S c) v)

@@ -150,10 +150,7 @@ module _ (S : LogState) (H : LogsHold S) (i : ℕ) (v w : Membership) (up : 0 < 
 
   -- the slot's earlier starts had lower terms
   pub earlier-below : (S.sites i).earlier ≤ term_of v
-  earlier-below = elim was-member [
-    | inl k ↦ k.earlier
-    | inr k ↦ let r = ((H.streamed i (term_of v) _ k.took.streamed).running refl).0 in omega (arith, r)
-  ]
+  earlier-below = elim was-member [ inl k ↦ k.earlier | inr k ↦ let r = ((H.streamed i (term_of v) _ k.took.streamed).running refl).0 in omega (arith, r) ]
 
   -- it hasn't been in the term, and nobody leads it
   pub not-entered : S.logs.entered i (term_of w) ≡ None

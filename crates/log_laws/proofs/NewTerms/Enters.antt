@@ -30,10 +30,7 @@ pub record Reporting (D : Deployment) (i p : ℕ) (s : SiteState) (w : Membershi
 
 pub reports-all : (D : Deployment) (i p : ℕ) (s : SiteState) (w : Membership) (out : Sends) → Reporting D i p s w out → (P : Letter → Type 0) (c : ℕ)
     → (leader D w p ≡ Some c → (c ≡ i → ⊥) → P (report_letter D s w c)) → AllByRecursion P (out (Site c))
-reports-all D i p s w out k P c f = elim (k.sites c) [
-  | inl o ↦ subst (AllByRecursion P) (sym o.2) (f o.0 o.1, tt)
-  | inr e ↦ subst (AllByRecursion P) (sym e) tt
-]
+reports-all D i p s w out k P c f = elim (k.sites c) [ inl o ↦ subst (AllByRecursion P) (sym o.2) (f o.0 o.1, tt) | inr e ↦ subst (AllByRecursion P) (sym e) tt ]
 
 module _ (S : LogState) (H : LogsHold S) (h i : ℕ) (l : Letter) (w : Membership) (ls : List Letter) (is : S.words.channel (Agent h) (Site i) ≡ record l { body = msg.View w } ∷ ls)
     (start : l.start ≡ site_start S i) (up : 0 < site_start S i) (v : Membership) (view : (S.sites i).view ≡ Some v)
@@ -130,11 +127,7 @@ module _ (S : LogState) (H : LogsHold S) (h i : ℕ) (l : Letter) (w : Membershi
 
   -- an ask of it is one of an earlier start
   asks-gone : (c t a : ℕ) → IsSlot S c → In a (asked S i c t) → AsksToJoin S (part S c) i t a → AsksToJoin T (part S c) i t a
-  asks-gone c t a sl m k = record {
-    been = been-later S T H later i t a k.been;
-    part_is = k.part_is;
-    joins = λ e. absurd (clash (sym (ap (λ z. z.start) here) ∙ e));
-  }
+  asks-gone c t a sl m k = record { been = been-later S T H later i t a k.been; part_is = k.part_is; joins = λ e. absurd (clash (sym (ap (λ z. z.start) here) ∙ e)) }
     where
       clash : site_start S i ≡ a → ⊥
       clash e = let j = k.joins e in elim (was-member S H i v w up view decided member above) [
@@ -256,10 +249,7 @@ module _ (S : LogState) (H : LogsHold S) (h i : ℕ) (l : Letter) (w : Membershi
   reach-kept : (c u : ℕ) (e : Entered) → (c ≡ i → u ≡ term_of w → ⊥) → S.logs.entered c u ≡ Some e → site_start T c ≡ e.start → rc (part S c) u ≤ length (log_at T c)
   reach-kept c u e n m runs = elim (cases_eq (part S c) (part S i)) [
     | inr d ↦ plain (λ q _. d q)
-    | inl q ↦ elim (cases_eq u (term_of w)) [
-      | inr d ↦ plain (λ _ r. d r)
-      | inl r ↦ raised q r
-    ]
+    | inl q ↦ elim (cases_eq u (term_of w)) [ inr d ↦ plain (λ _ r. d r) | inl r ↦ raised q r ]
   ]
     where
       k : EnteredOk S c u e
@@ -303,10 +293,7 @@ module _ (S : LogState) (H : LogsHold S) (h i : ℕ) (l : Letter) (w : Membershi
           | inr more ↦ inr (c, e, part-is, later.entered c (term_of w) e at, omega (arith, more, reach))
         ]
       ])
-      (λ q x _ m. elim (H.unled q x m) [
-        | inl z ↦ inl z
-        | inr (c, e, part-is, at, reach) ↦ inr (c, e, part-is, later.entered c x e at, reach)
-      ])
+      (λ q x _ m. elim (H.unled q x m) [ inl z ↦ inl z | inr (c, e, part-is, at, reach) ↦ inr (c, e, part-is, later.entered c x e at, reach) ])
 
   -- its report is one that may be under way
   report-ok : (c : ℕ) → leader D w (part S i) ≡ Some c → (c ≡ i → ⊥) → SiteLetterOk T i c (report_letter D (S.sites i) w c)

@@ -97,10 +97,7 @@ module _ (i : ℕ) (D : Deployment) (s : SiteState) where
 
   -- of whatever holds of that message
   pub asks-all : (P : Letter → Type 0) (o : Option ℕ) (c : ℕ) → (o ≡ Some c → (c ≡ i → ⊥) → P (ask_letter c)) → AllByRecursion P (asks_to_join i D s o (Site c))
-  asks-all P o c f = elim (asks-cases o c) [
-    | inl k ↦ subst (AllByRecursion P) (sym k.2) (f k.0 k.1, tt)
-    | inr k ↦ subst (AllByRecursion P) (sym k.1) tt
-  ]
+  asks-all P o c f = elim (asks-cases o c) [ inl k ↦ subst (AllByRecursion P) (sym k.2) (f k.0 k.1, tt) | inr k ↦ subst (AllByRecursion P) (sym k.1) tt ]
 
 -- ---- a joiner without a word takes the first one
 
@@ -270,17 +267,11 @@ module _ (S : LogState) (H : LogsHold S) (h i : ℕ) (l : Letter) (w : Membershi
 
   -- where it isn't the leader, it isn't told
   new-none : (c : ℕ) → follows D w i c ≡ false → new c ≡ []
-  new-none c f = elim (asks-cases i D s (leader D w (part S i)) c) [
-    | inl k ↦ absurd (not-both (follows D w i c) (leader-follows D w i c k.0 k.1) f)
-    | inr k ↦ k.1
-  ]
+  new-none c f = elim (asks-cases i D s (leader D w (part S i)) c) [ inl k ↦ absurd (not-both (follows D w i c) (leader-follows D w i c k.0 k.1) f) | inr k ↦ k.1 ]
 
   -- no leader counts it
   uncounted : (c : ℕ) (j : Joiner) → In j (S.sites c).joiners → j.slot ≡ i → j.start ≡ site_start S i → ⊥
-  uncounted c j m q r = elim (cases_eq (site_start S c) 0) [
-    | inl z ↦ subst (In j) ((H.sites c).stopped z).2 m
-    | inr n ↦ counts (omega (arith, n))
-  ]
+  uncounted c j m q r = elim (cases_eq (site_start S c) 0) [ inl z ↦ subst (In j) ((H.sites c).stopped z).2 m | inr n ↦ counts (omega (arith, n)) ]
     where
       counts : 0 < site_start S c → ⊥
       counts runs = let k = (H.sites c).keeps runs in elim k.leads [

@@ -27,10 +27,7 @@ module _ (S : LogState) (H : LogsHold S) where
             let h = H.streamed c u x e in
             let same : h.word ≡ y = same-some (sym h.took ∙ ap S.words.history.took q ∙ took) in
             let low : v ≤ u = omega (arith, after, k.is_word.term_is, h.term_is, ap term_of same) in
-            elim (cases_eq u v) [
-              | inl at ↦ inl (inr (x, subst (λ z. S.logs.streamed c z ≡ Some x) at e, q))
-              | inr n ↦ inr (u, x, e, q, omega (arith, low, n), b)
-            ]
+            elim (cases_eq u v) [ inl at ↦ inl (inr (x, subst (λ z. S.logs.streamed c z ≡ Some x) at e, q)) | inr n ↦ inr (u, x, e, q, omega (arith, low, n), b) ]
       ]
 
   -- what isn't above the logs with which slots entered the term of a stream isn't above the position at which that began

@@ -13,10 +13,7 @@ in-is_in x xs i = list_any-in (λ y. y == x) xs x i (eqb-same x)
 
 pub range-in : (c a n : ℕ) → a ≤ c → c < a + n → In c (range_with_len a n)
 range-in c a zero low high = absurd (omega arith)
-range-in c a (suc n) low high = elim (cases_eq a c) [
-  | inl e ↦ inl e
-  | inr d ↦ inr (range-in c (a + 1) n (omega (arith, d)) (omega arith))
-]
+range-in c a (suc n) low high = elim (cases_eq a c) [ inl e ↦ inl e | inr d ↦ inr (range-in c (a + 1) n (omega (arith, d)) (omega arith)) ]
 
 pub in-range : (c a n : ℕ) → In c (range_with_len a n) → (a ≤ c) × (c < a + n)
 in-range c a zero i = absurd i
@@ -121,10 +118,7 @@ module _ (D : Deployment) (w : Membership) where
 
   -- a slot whose host is a member leads, or follows the leader
   pub leads-or-follows : (c a : ℕ) → start_of_slot D w c ≡ Some a → (leader D w (part_of_slot D c) ≡ Some c) ⊎ ((l : ℕ) × (follows D w c l ≡ true))
-  leads-or-follows c a e = let r = some-leader c a e in elim (cases_eq r.0 c) [
-    | inl q ↦ inl (r.1 ∙ ap Some q)
-    | inr n ↦ inr (r.0, leader-follows c r.0 r.1 n)
-  ]
+  leads-or-follows c a e = let r = some-leader c a e in elim (cases_eq r.0 c) [ inl q ↦ inl (r.1 ∙ ap Some q) | inr n ↦ inr (r.0, leader-follows c r.0 r.1 n) ]
 
   -- other slots of its partition follow a leader
   pub leader-followed : (i c : ℕ) → leader D w (part_of_slot D i) ≡ Some i → part_of_slot D c ≡ part_of_slot D i → (c ≡ i → ⊥) → follows D w c i ≡ true

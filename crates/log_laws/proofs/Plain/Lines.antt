@@ -42,10 +42,7 @@ module _ {A B : Type 0} (f : A → List B) where
   -- what is there comes from one of them
   pub flat-in : (y : B) (xs : List A) → In y (flat_map f xs) → (x : A) × In x xs × In y (f x)
   flat-in y [] i = absurd i
-  flat-in y (x ∷ xs) i = elim (in-cases y (f x) (flat_map f xs) i) [
-    | inl k ↦ (x, inl refl, k)
-    | inr k ↦ let r = flat-in y xs k in (r.0, inr r.1, r.2)
-  ]
+  flat-in y (x ∷ xs) i = elim (in-cases y (f x) (flat_map f xs) i) [ inl k ↦ (x, inl refl, k) | inr k ↦ let r = flat-in y xs k in (r.0, inr r.1, r.2) ]
 
   pub in-flat : (y : B) (x : A) (xs : List A) → In x xs → In y (f x) → In y (flat_map f xs)
   in-flat y x [] i k = absurd i

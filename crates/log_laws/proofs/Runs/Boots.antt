@@ -32,11 +32,7 @@ new_logs D base start log = record {
 
 -- no start is under way, and no stream
 abbrev pub NoStart : Letter → Type 0
-NoStart l = elim l.body as (λ _. Type 0) [
-  | msg.Start s ↦ ⊥
-  | msg.StreamStart head ↦ ⊥
-  | _ ↦ Unit {0}
-]
+NoStart l = elim l.body as (λ _. Type 0) [ msg.Start s ↦ ⊥ | msg.StreamStart head ↦ ⊥ | _ ↦ Unit {0} ]
 
 -- a site that isn't running
 pub record Rests (s : SiteState) : Type 0 where
@@ -135,10 +131,7 @@ module _ (D : Deployment) (base start number next : ℕ) (agents : ℕ → Agent
 
   -- who runs is a slot
   slot-runs : (c : ℕ) → 0 < site_start T c → IsSlot T c
-  slot-runs c up = elim (cases_Bool (nat_lt c (slots D))) [
-    | inl e ↦ e
-    | inr e ↦ absurd (omega (arith, up, (k.others c e).start))
-  ]
+  slot-runs c up = elim (cases_Bool (nat_lt c (slots D))) [ inl e ↦ e | inr e ↦ absurd (omega (arith, up, (k.others c e).start)) ]
 
   -- ---- the history
 
@@ -286,10 +279,7 @@ module _ (D : Deployment) (base start number next : ℕ) (agents : ℕ → Agent
   no-views c s = ap (views s) (no-letters c)
 
   agent-runs : (h : ℕ) → 0 < (agents h).start → agents h ≡ member_agent W number start h
-  agent-runs h up = elim (cases_Bool (is_host D h)) [
-    | inl q ↦ k.hosts h q
-    | inr q ↦ absurd (omega (arith, up, ap (λ a. a.start) (k.environment h q)))
-  ]
+  agent-runs h up = elim (cases_Bool (is_host D h)) [ inl q ↦ k.hosts h q | inr q ↦ absurd (omega (arith, up, ap (λ a. a.start) (k.environment h q))) ]
 
   began-first : (c s : ℕ) (x : Bool) → nat_lt c (slots D) ≡ x → In s (if x then s_of c ∷ [] else []) → In s (T.words.history.began (host_of_slot D c))
   began-first c s true q (inl e) = subst (λ z. In z (T.words.history.began (host_of_slot D c))) e (in-one (is_host D (host_of_slot D c)) (s_of c) (slot-host D c q))

@@ -12,10 +12,7 @@ use Rattle.log_laws.proofs.Entries.Leads.{Leading, leading}
 module _ (T : LogState) (H : LogsHold T) (i : ℕ) where
   -- one with a word runs
   runs-with-word : (w : Membership) → (T.sites i).view ≡ Some w → 0 < site_start T i
-  runs-with-word w e = elim (cases_eq (site_start T i) 0) [
-    | inl z ↦ absurd (none-and-some ((H.sites i).blank z) e)
-    | inr n ↦ omega (arith, n)
-  ]
+  runs-with-word w e = elim (cases_eq (site_start T i) 0) [ inl z ↦ absurd (none-and-some ((H.sites i).blank z) e) | inr n ↦ omega (arith, n) ]
 
   -- and so does one that leads
   pub leads-runs : leads T.words.deployment i (T.sites i) ≡ true → 0 < site_start T i
@@ -69,10 +66,7 @@ module _ (D : Deployment) (i : ℕ) (s : SiteState) (F G : Logs) (grown : Grown 
     leadership = k.leadership;
     led = led-still (none l.term);
     log = k.log;
-    greatest = λ t g is. elim (grown.led p t g is) [
-      | inl old ↦ k.greatest t g old
-      | inr new ↦ absurd (none t g is new)
-    ];
+    greatest = λ t g is. elim (grown.led p t g is) [ inl old ↦ k.greatest t g old | inr new ↦ absurd (none t g is new) ];
     firm = firm-still;
   }
 
