@@ -1,22 +1,5 @@
 -- How good contents are, what the parts of an event leave of them, and what a recovery chooses.
-use Rattle.std.proofs.Common.{◌≡◌, ◌<◌, ◌≤◌, Bool, true, false, List, [], ◌∷◌, ◌++◌, length, take, drop, take-append-drop, refl, sym, subst, ap, ◌∙◌, ◌⊎◌, inl, inr, ◌==◌, arith}
-use Rattle.std.proofs.lemmas.Bool.{or_parts, cases_eq, cases_lt, or_cases, and_parts}
-use Rattle.std.proofs.lemmas.Bool.Decides.{nat_tests}
-use Rattle.std.specs.Prelude.{ℕ, ◌&&◌, nat_lt, if◌then◌else◌, map, unwrap_or, Option, Some, None}
-use Rattle.std.specs.List.{AllByRecursion}
-use Rattle.volt_base.specs.declared.entry.Entry.TheVariants.{Done}
-use Rattle.volt_base.specs.declared.entry.Outcome.{Outcome}
-use Rattle.volt_base.specs.declared.entry.Outcome.TheVariants.{Dropped}
-use Rattle.partition_ring.specs.Placement.{slots_of_part}
-use Rattle.cluster_model.specs.Engine.{Database}
-use Rattle.cluster_model.specs.Words.{Deployment, part_of_slot, all_parts}
-use Rattle.cluster_model.specs.Log.{open_in}
-use Rattle.cluster_model.specs.Disk.{Content, Shown, after_parts, after_failure, is_better, better, best_of, shown_of_part, chosen, mark_of, greatest_mark, greatest_open, resolved, closed, recovered}
-use Rattle.cluster_steps.specs.Lists.{In, Prefix}
-use Rattle.cluster_steps.proofs.Lists.{in-left, in-right, in-cases, in-map, in-map-from, all-at, all-from, all-mono}
-use Rattle.log_laws.specs.Histories.{LogState, IsSlot, part}
-use Rattle.log_laws.proofs.Plain.Copies.{part-slots, slots-part}
-use Rattle.cluster_steps.proofs.Prefixes.{prefix-refl}
+use Rattle.disk_laws.proofs.Names.{one-and-others, cond_both, ◌≡◌, ◌<◌, ◌≤◌, Bool, true, false, List, [], ◌∷◌, ◌++◌, length, take, drop, take-append-drop, refl, sym, subst, ap, ◌∙◌, ◌⊎◌, inl, inr, ◌==◌, arith, or_parts, cases_eq, cases_lt, or_cases, and_parts, nat_tests, ℕ, ◌&&◌, nat_lt, if◌then◌else◌, map, unwrap_or, Option, Some, None, AllByRecursion, Done, Outcome, Dropped, slots_of_part, Database, Deployment, part_of_slot, all_parts, open_in, Content, Shown, after_parts, after_failure, is_better, better, best_of, shown_of_part, chosen, mark_of, greatest_mark, greatest_open, resolved, closed, recovered, In, Prefix, in-left, in-right, in-cases, in-map, in-map-from, all-at, all-from, all-mono, LogState, IsSlot, part, part-slots, slots-part, prefix-refl}
 use Rattle.disk_laws.specs.Disks.{AtLeast, Top, shown_at}
 
 -- ---- one content and another
@@ -52,18 +35,11 @@ in-drop n x xs i = subst (In x) (take-append-drop n xs) (in-right x (take n xs) 
 -- What is shown after them was shown before, or one of them left it.
 pub in-after_parts : (before parts : List Shown) (y : Shown) → In y (after_parts before parts) → In y before ⊎ In y parts
 in-after_parts before [] y i = inl i
-in-after_parts before (c ∷ cs) y i = elim (in-after_parts (c ∷ []) cs y i) [
-  | inl (inl e) ↦ inr (inl e)
-  | inl (inr n) ↦ absurd n
-  | inr k ↦ inr (inr k)
-]
+in-after_parts before (c ∷ cs) y i = elim (in-after_parts (c ∷ []) cs y i) [ inl (inl e) ↦ inr (inl e) | inl (inr n) ↦ absurd n | inr k ↦ inr (inr k) ]
 
 pub in-after_failure : (before parts : List Shown) (n : ℕ) (y : Shown) → In y (after_failure before parts n) → In y before ⊎ In y parts
 in-after_failure before parts n y i = elim (in-cases y (after_parts before (take n parts)) (take 1 (drop n parts)) i) [
-  | inl k ↦ elim (in-after_parts before (take n parts) y k) [
-    | inl b ↦ inl b
-    | inr p ↦ inr (in-take n y parts p)
-  ]
+  | inl k ↦ elim (in-after_parts before (take n parts) y k) [ inl b ↦ inl b | inr p ↦ inr (in-take n y parts p) ]
   | inr k ↦ inr (in-drop n y parts (in-take 1 y (drop n parts) k))
 ]
 
@@ -153,10 +129,7 @@ module _ (S T : LogState) (same : T.words.deployment ≡ S.words.deployment) whe
   -- where those of one slot are, and the others stay
   pub top-raise : (i : ℕ) → Raise (shown_at S i) (shown_at T i) → ((c : ℕ) → (c ≡ i → ⊥) → shown_at T c ≡ shown_at S c)
       → (p m n : ℕ) → Top S p m n → Top T p m n
-  top-raise i f others = top-later (λ c _. elim (cases_eq c i) [
-    | inl e ↦ subst (λ x. Raise (shown_at S x) (shown_at T x)) (sym e) f
-    | inr d ↦ raise-same (shown_at S c) (shown_at T c) (others c d)
-  ])
+  top-raise i f others = top-later (one-and-others _ i (λ _. f) (λ c d _. raise-same (shown_at S c) (shown_at T c) (others c d)))
 
   -- One slot's contents change, whose marks were all below that of some other slot of its partition.
   pub top-wipe : (i t : ℕ) → ((c : ℕ) → (c ≡ i → ⊥) → shown_at T c ≡ shown_at S c) → (shown_at S i ≡ [] → ⊥)
@@ -215,37 +188,23 @@ not-better a b e = elim (cases_lt b.mark a.mark) [
 ]
   where
     within : a.mark ≡ b.mark → (b.mark == a.mark && nat_lt (length a.log) (length b.log)) ≡ false → length b.log ≤ length a.log
-    within q f = elim (cases_lt (length a.log) (length b.log)) [
-      | inr l ↦ l
-      | inl l ↦ absurd (grind (arith, nat_tests, l, q, f))
-    ]
+    within q f = elim (cases_lt (length a.log) (length b.log)) [ inr l ↦ l | inl l ↦ absurd (grind (arith, nat_tests, l, q, f)) ]
 
 -- the better of two is no worse than either
 better-left : (a b : Shown) (m n : ℕ) → AtLeast m n a → AtLeast m n (better a b)
 better-left None b m n h = absurd h
 better-left (Some a) None m n h = h
-better-left (Some a) (Some b) m n h = choice (is_better b a) refl
-  where
-    choice : (t : Bool) → is_better b a ≡ t → AtLeast m n (if t then Some b else Some a)
-    choice true e = at_least-trans a (Some b) m n h (is-better a b e)
-    choice false e = h
+better-left (Some a) (Some b) m n h = cond_both (is_better b a) _ _ (AtLeast m n) (λ e. at_least-trans a (Some b) m n h (is-better a b e)) (λ e. h)
 
 better-right : (a b : Shown) (m n : ℕ) → AtLeast m n b → AtLeast m n (better a b)
 better-right None b m n h = h
 better-right (Some a) None m n h = absurd h
-better-right (Some a) (Some b) m n h = choice (is_better b a) refl
-  where
-    choice : (t : Bool) → is_better b a ≡ t → AtLeast m n (if t then Some b else Some a)
-    choice true e = h
-    choice false e = at_least-trans b (Some a) m n h (not-better a b e)
+better-right (Some a) (Some b) m n h = cond_both (is_better b a) _ _ (AtLeast m n) (λ e. h) (λ e. at_least-trans b (Some a) m n h (not-better a b e))
 
 -- The best is one of them, and no worse than any.
 pub best-in : (xs : List Shown) (y : Content) → best_of xs ≡ Some y → In (Some y) xs
 best-in [] y e = absurd (cc)
-best-in (c ∷ cs) y e = elim (better-is c (best_of cs)) [
-  | inl k ↦ inl (sym k ∙ e)
-  | inr k ↦ inr (best-in cs y (sym k ∙ e))
-]
+best-in (c ∷ cs) y e = elim (better-is c (best_of cs)) [ inl k ↦ inl (sym k ∙ e) | inr k ↦ inr (best-in cs y (sym k ∙ e)) ]
 
 pub best-at_least : (xs : List Shown) (x : Shown) (m n : ℕ) → In x xs → AtLeast m n x → AtLeast m n (best_of xs)
 best-at_least [] x m n i h = absurd i
@@ -284,6 +243,7 @@ module _ (D : Deployment) (shown : ℕ → Shown) where
       from None q k = absurd k
       from (Some x) q k =
           let r = shown-from p (Some x) (best-in (shown_of_part D shown p) x q) in
+
           record { slot = r.0; part_is = r.1; content = x; shows = r.2; log_is = rw q refl; good = k }
 
 -- so it is where each disk shows what it may

@@ -1,18 +1,7 @@
 -- Events that leave all sites as they are, and what is under way between them: those of agents, the director, clients and scanners.
-use Rattle.std.proofs.Common.{◌≡◌, Bool, true, List, refl, sym, subst, arith}
-use Rattle.std.specs.Prelude.{ℕ}
-use Rattle.std.specs.List.{AllByRecursion}
-use Rattle.volt_wire.specs.declared.actor.Actor.{Actor}
-use Rattle.volt_wire.specs.declared.actor.Actor.TheVariants.{Site}
+use Rattle.disk_laws.proofs.Names.{◌≡◌, Bool, true, List, refl, sym, subst, arith, ℕ, AllByRecursion, Actor, Site, Letter, Turn, AgentState, History, all-mono, LogState, part, site_start, between, prefix-refl, AgentGoes}
 use Rattle.volt_wire.specs.declared.message.Msg.TheVariants as msg
-use Rattle.cluster_model.specs.Letters.{Letter, Turn}
-use Rattle.cluster_model.specs.AgentState.{AgentState}
-use Rattle.word_laws.specs.Histories.{History}
-use Rattle.cluster_steps.proofs.Lists.{all-mono}
 use Rattle.word_laws.proofs.Moves as word_moves
-use Rattle.log_laws.specs.Histories.{LogState, part, site_start, between}
-use Rattle.cluster_steps.proofs.Prefixes.{prefix-refl}
-use Rattle.log_laws.proofs.Agents.AgentEvents.{AgentGoes}
 use Rattle.disk_laws.specs.Disks.{Top, Firm, ContentOk, DiskOk, StreamLetter, Halted, FirmOk, DisksHold}
 use Rattle.disk_laws.proofs.Contents.{rises-same, content-later}
 use Rattle.disk_laws.proofs.Own.{disk-own, own-disk, own-on}

@@ -1,19 +1,6 @@
 -- What a disk may show after parts of a Sync: each content was written in the epoch, and is no worse than what the disk showed.
-use Rattle.std.proofs.Common.{◌≡◌, ◌<◌, ◌≤◌, Bool, true, false, List, [], ◌++◌, length, take, length-take, append_assoc, refl, sym, subst, ap, ◌∙◌, ◌⊎◌, inl, inr, arith}
-use Rattle.std.proofs.lemmas.Bool.{cases_lt}
+use Rattle.disk_laws.proofs.Names.{◌≡◌, ◌<◌, ◌≤◌, Bool, true, false, List, [], ◌++◌, length, take, length-take, append_assoc, refl, sym, subst, ap, ◌∙◌, ◌⊎◌, inl, inr, arith, cases_lt, ℕ, Option, Some, None, AllByRecursion, Membership, Shown, mark_of, term_of, term_in, SiteState, Streamed, Joining, joiner_parts, parts_of_sync, all-mono, none-and-some, same-some, not-both, LogState, Leadership, Line, LogsHold, FollowsIn, LeadsIn, MemberOk, Took, StreamIn, ViewIn, StreamedOk, line, between, part, site_start, log_at, term_at, Prefix, leads-or-follows, prefix-trans, prefix-length, prefixes-order, prefix-take, take-prefix}
 use Rattle.std.proofs.lemmas.List.{take_all}
-use Rattle.std.specs.Prelude.{ℕ, Option, Some, None}
-use Rattle.std.specs.List.{AllByRecursion}
-use Rattle.volt_wire.specs.Word.{Membership}
-use Rattle.cluster_model.specs.Disk.{Shown, mark_of}
-use Rattle.cluster_model.specs.Words.{term_of, term_in}
-use Rattle.cluster_model.specs.SiteState.{SiteState, Streamed, Joining}
-use Rattle.cluster_model.specs.Sync.{joiner_parts, parts_of_sync}
-use Rattle.cluster_steps.proofs.Lists.{all-mono, none-and-some, same-some, not-both}
-use Rattle.log_laws.specs.Histories.{LogState, Leadership, Line, LogsHold, FollowsIn, LeadsIn, MemberOk, Took, StreamIn, ViewIn, StreamedOk, line, between, part, site_start, log_at, term_at}
-use Rattle.cluster_steps.specs.Lists.{Prefix}
-use Rattle.log_laws.proofs.Plain.Copies.{leads-or-follows}
-use Rattle.cluster_steps.proofs.Prefixes.{prefix-trans, prefix-length, prefixes-order, prefix-take, take-prefix}
 use Rattle.disk_laws.specs.Disks.{AtLeast, Firm, ContentOk, MemberDisk, StreamDisk, DiskOk, Written}
 use Rattle.disk_laws.proofs.Order.{Raise, raise-one, raise-blank}
 use Rattle.disk_laws.proofs.Contents.{member-written}
@@ -74,10 +61,7 @@ module _ (S : LogState) (H : LogsHold S) (i : ℕ) (up : 0 < site_start S i) (F 
 
     -- the mark that it owes is its term's
     pub owed-mark : (n : ℕ) → s.owes ≡ Some n → (n ≡ term_at S i) × (s.repaired ≡ true)
-    owed-mark n e = elim disk.owes [
-      | inl k ↦ absurd (none-and-some k e)
-      | inr k ↦ (same-some (sym e ∙ k.0), k.1)
-    ]
+    owed-mark n e = elim disk.owes [ inl k ↦ absurd (none-and-some k e) | inr k ↦ (same-some (sym e ∙ k.0), k.1) ]
 
     -- a mark of a part was led, and isn't below that which it has
     pub mark-begun : (n end : ℕ) → s.on_disk ≤ end → (n ≡ s.mark) ⊎ ((s.owes ≡ Some n) × (length s.log ≤ end)) → BegunContent S i n end
@@ -89,11 +73,7 @@ module _ (S : LogState) (H : LogsHold S) (i : ℕ) (up : 0 < site_start S i) (F 
     mark-begun n end from (inr (e, whole)) =
         let k = owed-mark n e in
         let g = term-begun k.1 in
-        record {
-          leadership = g.0;
-          led = ap (S.logs.leadership (part S i)) k.0 ∙ g.1;
-          begun = subst (Prefix g.0.begun) (sym (take_all end s.log whole)) g.2;
-        }
+        record { leadership = g.0; led = ap (S.logs.leadership (part S i)) k.0 ∙ g.1; begun = subst (Prefix g.0.begun) (sym (take_all end s.log whole)) g.2 }
 
     pub mark-rises : (n end : ℕ) → (n ≡ s.mark) ⊎ ((s.owes ≡ Some n) × (length s.log ≤ end)) → (s.mark ≤ n) × (n ≤ term_at S i)
     mark-rises n end (inl e) = let l = disk.mark in (omega (arith, e), omega (arith, e, l))

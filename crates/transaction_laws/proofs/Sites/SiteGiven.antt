@@ -20,7 +20,7 @@ use Rattle.cluster_steps.proofs.Lists.{all-at, all-from, not-both, all-both, all
 use Rattle.log_laws.specs.Histories.{LogState, LogsHold, ReportOk, SiteLetterOk, SiteWaitingFrom, SiteWaitingOk, IsSlot, line, line_in, between, part, site_start, term_at}
 use Rattle.cluster_steps.proofs.Leaders.{leader-view}
 use Rattle.log_laws.proofs.Plain.Copies.{is-leader, leader-follows-none}
-use Rattle.log_laws.proofs.Plain.Lines.{line-empty, for-true}
+use Rattle.log_laws.proofs.Plain.Lines.{flat-each, for-true}
 use Rattle.log_laws.proofs.Runs.SiteHandlers.{taken-here}
 use Rattle.disk_laws.specs.Disks.{Firm, StreamDisk, DisksHold}
 use Rattle.cluster_steps.proofs.SiteTurns.{KeepsWord, NoWord, anew, handler-keeps, stays_joiner, site_turn-cases, whole_turn, whole-keeps}
