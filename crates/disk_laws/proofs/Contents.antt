@@ -58,8 +58,7 @@ module _ (S T : LogState) (f : Rises S T) where
         leadership = g.0;
         led = g.1;
         begun = subst (λ b. Prefix b x.log) (sym g.2) w.begun;
-        term = w.term;
-        above = w.above;
+        term = w.term; above = w.above;
         later = h.0;
         later_led = h.1;
         prefix = prefix-trans x.log w.later.log h.0.log w.prefix h.3;

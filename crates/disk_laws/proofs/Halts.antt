@@ -123,8 +123,7 @@ module _ (S : LogState) (K : Halted S) (n : ℕ) (from : Actor) (t : Turn AgentS
   halted-agent = record {
     decided = still-undecided;
     unnamed = λ h up. let u = still-unnamed h up in (u.not_first, u.not_admitted);
-    joiners = K.joiners;
-    streams = K.streams;
+    joiners = K.joiners; streams = K.streams;
   }
 
 -- ---- a turn of a site
@@ -222,8 +221,7 @@ module _ (S : LogState) (H : LogsHold S) (K : Halted S) (ch : Actor → Actor �
     -- All stays stopped in a turn of a site.
     pub halted-site : Halted later
     halted-site = record {
-      decided = K.decided;
-      unnamed = K.unnamed;
+      decided = K.decided; unnamed = K.unnamed;
       joiners = still-joiners;
       streams = λ c m up. sent-either less i s out G (λ j ls. AllByRecursion (NoStreamFor (site_start later c)) ls) (Site c)
           (all-append (NoStreamFor (site_start later c)) (ch (Site i) (Site c)) (out (Site c)) (old-streams c i up) (new-streams c (site_start later c)))

@@ -32,14 +32,7 @@ pub record SameDisk (s u : SiteState) : Type 0 where
 -- the second site with all that of the first one
 abbrev pub with_disk : SiteState → SiteState → SiteState
 with_disk s u = record u {
-  start = s.start;
-  greatest = s.greatest;
-  earlier = s.earlier;
-  view = s.view;
-  contents = s.contents;
-  mark = s.mark;
-  base = s.base;
-  on_disk = s.on_disk;
+  start = s.start; greatest = s.greatest; earlier = s.earlier; view = s.view; contents = s.contents; mark = s.mark; base = s.base; on_disk = s.on_disk;
 }
 
 pub same-disk : (s u : SiteState) → SameDisk s (with_disk s u)

@@ -53,9 +53,7 @@ pub disks-plain : (S : LogState) (F : Firm) (halted : Bool) → DisksHold S F ha
     → ((i c : ℕ) → ch (Site i) (Site c) ≡ between S i c)
     → DisksHold (record S { words = record S.words { next = next; channel = ch; owner = owner } }) F halted
 disks-plain S F halted K next ch owner same = disks-worded S F halted K next S.words.agents ch owner S.words.history same (λ e. let k = K.halts e in record {
-  decided = k.decided;
-  unnamed = k.unnamed;
-  joiners = k.joiners;
+  decided = k.decided; unnamed = k.unnamed; joiners = k.joiners;
   streams = λ c i up. subst (AllByRecursion (NoStreamFor (site_start S c))) (sym (same i c)) (k.streams c i up);
 })
 

@@ -46,18 +46,14 @@ module _ (S : LogState) (F : Firm) (halted : Bool) (c : ℕ) where
   -- What is said of it is said of its site, and the other way round.
   pub disk-own : DiskOk S F halted c → OwnAt (S.sites c)
   disk-own k = record {
-    some = k.some;
-    contents = k.contents;
-    marks = k.marks;
+    some = k.some; contents = k.contents; marks = k.marks;
     member = λ up none. let m = k.member up none in search m.led;
     joiner = λ e j is. stream-own j j.stream (k.joiner e j is);
   }
 
   pub own-disk : (s : SiteState) → S.sites c ≡ s → OwnAt s → DiskOk S F halted c
   own-disk s e o = let k : OwnAt (S.sites c) = subst OwnAt (sym e) o in record {
-    some = k.some;
-    contents = k.contents;
-    marks = k.marks;
+    some = k.some; contents = k.contents; marks = k.marks;
     member = λ up none. let m = k.member up none in search m.is_led;
     joiner = λ e j is. own-stream j j.stream (k.joiner e j is);
   }
@@ -72,8 +68,7 @@ own-on halted C B led later top more s contents kept up k = record {
   contents = contents k.contents;
   marks = k.marks;
   member = λ run none. let m = k.member run none in let r = kept s.mark m.leadership m.is_led in record {
-    shows = m.shows;
-    mark = m.mark;
+    shows = m.shows; mark = m.mark;
     leadership = r.0;
     is_led = r.1;
     begun = rw (r.2) m.begun;

@@ -101,8 +101,7 @@ module _ (S : LogState) (H : LogsHold S) (F M : Firm) (halted : Bool) (K : Disks
       firm-raised : leads D i s ≡ true → M (part S i) ≡ s.firm → s.mark ≡ site_term s → s.firm ≤ s.on_disk → FirmOk later M (part S i)
       firm-raised l e mark disk = let marked : (later.sites i).mark ≡ term_of x.word = subst (λ z. z.mark ≡ site_term z) (sym site) mark ∙ ap term_in x.view in record {
         term = term_of x.word;
-        leadership = x.leadership;
-        led = x.led;
+        leadership = x.leadership; led = x.led;
         reach = let a = x.member.firm in let b = ap (λ z. z.firm) site in omega (arith, a, b, e);
         top = λ some. record {
           slot = i;

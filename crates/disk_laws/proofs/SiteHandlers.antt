@@ -8,14 +8,7 @@ use Rattle.disk_laws.proofs.Handlers.{DiskAt, DiskHandler, same-disk, BeginsStre
 -- the first site with what a disk doesn't go by of the second one
 abbrev pub with_unseen : SiteState → SiteState → SiteState
 with_unseen s u = record (with_rest s u) {
-  stop = u.stop;
-  log = u.log;
-  reports = u.reports;
-  acks = u.acks;
-  held = u.held;
-  joiners = u.joiners;
-  waiting = u.waiting;
-  plans = u.plans;
+  stop = u.stop; log = u.log; reports = u.reports; acks = u.acks; held = u.held; joiners = u.joiners; waiting = u.waiting; plans = u.plans;
 }
 
 -- what says nothing begins no stream
@@ -91,9 +84,7 @@ module _ (D : Deployment) (i : ℕ) where
     joiner = λ j e. (j, e, refl, refl);
     repaired = λ e. refl;
     owes = inr (refl, refl);
-    firm = inl refl;
-    held = λ h. h;
-    counted = λ c h. h;
+    firm = inl refl; held = λ h. h; counted = λ c h. h;
   })
 
   disk-moves : SmallSteps R
@@ -113,11 +104,7 @@ module _ (D : Deployment) (i : ℕ) where
     log = more;
     member = λ e. absurd (none-and-some e is);
     joiner = λ x e. let q : j ≡ x = same-some (sym is ∙ e) in (k, refl, stream ∙ ap (λ y. y.stream) q, based ∙ ap (λ y. y.is_based) q);
-    repaired = λ e. e;
-    owes = inl refl;
-    firm = inl refl;
-    held = λ h. h;
-    counted = λ c h. h;
+    repaired = λ e. e; owes = inl refl; firm = inl refl; held = λ h. h; counted = λ c h. h;
   })
 
   disk-counted : (s : SiteState) → leads D i s ≡ true → (acks : List (ℕ × ℕ)) (joiners : List Joiner) → AlikeJoiners joiners s.joiners
@@ -127,8 +114,7 @@ module _ (D : Deployment) (i : ℕ) where
     log = prefix-refl s.log;
     member = λ e. e;
     joiner = λ j e. (j, e, refl, refl);
-    repaired = λ e. e;
-    owes = inl refl;
+    repaired = λ e. e; owes = inl refl;
     firm = elim (firm-cases D i m) [ inl e ↦ inl e | inr r ↦ inr (record { leads = authoritative; mark = r.0; disk = r.1; above = r.2 }) ];
     held = all-filter HeldOk (λ d. nat_lt (firm_now D i m) d.position) s.held;
     counted = λ c. subst (In c) (sym same.slots);

@@ -172,8 +172,7 @@ module _ (S : LogState) (H : LogsHold S) (F : Firm) (halted : Bool) (K : DisksHo
 
         joins-own : (C : Shown → Type 0) (led : ℕ → Option Leadership) (top : ℕ) → Own halted C led top s → Own halted C led top (as_joiner s w)
         joins-own C led top o = record {
-          some = o.some;
-          contents = o.contents;
+          some = o.some; contents = o.contents;
           marks = λ e. all-mono (λ x. mark_of x ≤ s.greatest) (λ x. mark_of x ≤ max s.greatest (term_of w)) (λ x a. omega (arith, a)) (shown_at S i) (o.marks e);
           member = λ _ none. absurd (not-none s.joining (and_parts (is_joiner s) (not (is_member w (host_of_slot D i) (site_start S i))) stays).0 none);
           joiner = λ e j q.
@@ -283,12 +282,9 @@ module _ (S : LogState) (H : LogsHold S) (F : Firm) (halted : Bool) (K : DisksHo
             record {
               shows = m.shows;
               mark = let a = m.mark in omega (arith, a, above);
-              leadership = m.leadership;
-              is_led = m.is_led;
-              begun = m.begun;
+              leadership = m.leadership; is_led = m.is_led; begun = m.begun;
               marked = λ q. let a = m.mark in absurd (omega (arith, a, above, q));
-              firm = m.firm;
-              owes = inl refl;
+              firm = m.firm; owes = inl refl;
             }
 
         joiner-own : (j : Joining) → s.joining ≡ Some j → OwnMember (G.leadership (part S i)) (M (part S i)) (as_entered s w)

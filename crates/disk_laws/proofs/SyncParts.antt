@@ -28,8 +28,7 @@ module _ (s : SiteState) (low : s.on_disk ≤ length s.log) where
       all-append (PartOf s) (if nat_lt s.on_disk position && nat_lt position (length s.log) then content s.mark s.base s position ∷ [] else [])
       (content (mark_owed s) s.base s (length s.log) ∷ [])
       (all-one (PartOf s) (nat_lt s.on_disk position && nat_lt position (length s.log)) (content s.mark s.base s position) (λ e. record {
-        mark = s.mark;
-        base = s.base;
+        mark = s.mark; base = s.base;
         end = position;
         shows = refl;
         from = let k : s.on_disk < position = grind (arith, nat_tests, (and_parts (nat_lt s.on_disk position) (nat_lt position (length s.log)) e).0) in omega (arith, k);

@@ -87,8 +87,7 @@ noted : (w v : World) (trace : List Event) → DisksGoOn w v → DisksGoOn w (re
 noted w v trace g = let n = g.next.logs in record {
   next = record {
     logs = record { owner = n.owner; history = n.history; logs = n.logs; holds = n.holds; strangers = n.strangers; authoritative = n.authoritative; counted = n.counted };
-    halted = g.next.halted;
-    disks = g.next.disks;
+    halted = g.next.halted; disks = g.next.disks;
   };
   survives = λ p. let s = g.survives p in record { within = s.within; more = s.more; kept = s.kept };
 }
@@ -156,13 +155,9 @@ to_agent-goes E w n from (l ∷ ls) o d is host may =
     let t = agent_turn E w.deployment n (stamp_of w) (w.agents n) from l o in
     let r = agent-event E S n (stamp_of w) from l ls o is host (λ answered e. memory-runs w n answered from l ls o is may e) k.holds in
     let next : HasLogs v = record {
-      owner = k.owner;
-      history = r.history;
-      logs = k.logs;
-      holds = r.holds;
+      owner = k.owner; history = r.history; logs = k.logs; holds = r.holds;
       strangers = λ h e. if-false (h == n) t.state (w.agents h) (host-apart w.deployment n h host e) ∙ k.strangers h e;
-      authoritative = k.authoritative;
-      counted = k.counted;
+      authoritative = k.authoritative; counted = k.counted;
     } in
     record {
       next = record { logs = next; halted = d.halted; disks = disks-agent S (firm_in w) d.halted d.disks n from t r };

@@ -50,8 +50,7 @@ module _ (S : LogState) (H : LogsHold S) (i : ℕ) (up : 0 < site_start S i) (F 
       is_led = b.led;
       begun = b.begun;
       marked = marked;
-      firm = d.firm;
-      owes = inl refl;
+      firm = d.firm; owes = inl refl;
     }
 
   -- ---- a joiner

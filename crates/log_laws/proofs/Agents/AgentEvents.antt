@@ -98,11 +98,7 @@ waited-agent E S n stamp h r up = then-agent S n t (takes_each E S.words.deploym
 
     first : AgentHandler S n t
     first = plain-agent S n t r (handler-plain S.words n t (inl (refl, up)) (waiting-shrinks S.words n (λ w. nat_lt term w.letter.term) h) (λ b. tt)) (record {
-      start = refl;
-      decided = refl;
-      taken = refl;
-      sites = λ c. tt;
-      asked = λ g. tt;
+      start = refl; decided = refl; taken = refl; sites = λ c. tt; asked = λ g. tt;
       heard = λ u c i. r.loads.heard n c u i;
       waiting = all-filter (λ x. AskedOk S x.from x.letter) (λ w. nat_lt term w.letter.term) (S.words.agents n).waiting (r.loads.waiting n);
       queued = r.loads.queued n;
@@ -143,11 +139,7 @@ module _ (E : Database) (S : LogState) (n stamp : ℕ) (from : Actor) (l : Lette
   waits-agent : arrival a.start (term_in a.decided) l ≡ Waits → AgentHandler P n (becomes (record a { waiting = a.waiting ++ record { from = from; letter = l } ∷ [] }))
   waits-agent e = plain-agent P n (becomes (record a { waiting = a.waiting ++ record { from = from; letter = l } ∷ [] })) left
       (waits-event S.words n from l ls H.words up is e) (record {
-        start = refl;
-        decided = refl;
-        taken = refl;
-        sites = λ c. tt;
-        asked = λ g. tt;
+        start = refl; decided = refl; taken = refl; sites = λ c. tt; asked = λ g. tt;
         heard = λ u c i. left.loads.heard n c u i;
         waiting = all-append (λ x. AskedOk P x.from x.letter) a.waiting (record { from = from; letter = l } ∷ []) (left.loads.waiting n) (asks, tt);
         queued = left.loads.queued n;

@@ -68,11 +68,7 @@ module _ (S : LogState) (n : ℕ) (r : Rest S) (up : 0 < word.agent_start S.word
 
   calm-handled : (from : Actor) (l : Letter) (t : Turn AgentState) → AskedOk S from l → Calm D n a (asked_by from l) (loaded_by a from l) t → Handled S n from l t
   calm-handled from l t asked k = record {
-    start = k.start;
-    decided = k.decided;
-    taken = k.taken;
-    waiting = k.waiting;
-    queue = k.queue;
+    start = k.start; decided = k.decided; taken = k.taken; waiting = k.waiting; queue = k.queue;
     heard = λ c i. loaded-ok from l asked c (subst (λ x. is_in c x ≡ true) k.loads i);
     sites = λ c. all-mono (SaysNoWord D n a (loaded_by a from l) (Site c)) NoView (no-view D n a (loaded_by a from l) c) (t.sends (Site c)) (k.sends (Site c));
     asked = λ g. all-mono (SaysNoWord D n a (loaded_by a from l) (Agent g)) (AskedOk S (Agent n)) (asks-ok (loaded_by a from l) (loaded-ok from l asked) g)
@@ -82,14 +78,10 @@ module _ (S : LogState) (n : ℕ) (r : Rest S) (up : 0 < word.agent_start S.word
   -- an agent whose own word, or what it heard, is another
   spoken-handled : (from : Actor) (l : Letter) (own : Option Membership) (said : ℕ → Option Membership) → Handled S n from l (becomes (record a { own = own; said = said }))
   spoken-handled from l own said = record {
-    start = refl;
-    decided = refl;
-    taken = refl;
-    waiting = refl;
+    start = refl; decided = refl; taken = refl; waiting = refl;
     queue = λ j h term i. in-left (Admission j h term) a.initiating.queue (asked_by from l) i;
     heard = λ c i. r.loads.heard n c up i;
-    sites = λ c. tt;
-    asked = λ g. tt;
+    sites = λ c. tt; asked = λ g. tt;
   }
 
   closed-handled : (from : Actor) (l : Letter) (own : Option Membership) (start : ℕ) → Handled S n from l (becomes (on_closed a own start))
@@ -131,12 +123,7 @@ module _ (S : LogState) (n : ℕ) (r : Rest S) (up : 0 < word.agent_start S.word
       → AgentHandler S n (agent_handler E S.words.deployment n stamp (S.words.agents n) from l ▸ tells n (S.words.agents n).own)
   handler-agent E stamp from l none asked handler =
       plain-agent S n (t ▸ tells n (S.words.agents n).own) r handler (tells-plain S n t (S.words.agents n).own (record {
-        start = k.start;
-        decided = k.decided;
-        taken = k.taken;
-        sites = k.sites;
-        asked = k.asked;
-        heard = λ u. k.heard;
+        start = k.start; decided = k.decided; taken = k.taken; sites = k.sites; asked = k.asked; heard = λ u. k.heard;
         waiting = rw k.waiting (r.loads.waiting n);
         queued = all-from (QueuedLoadedOk S) t.state.initiating.queue waits;
       }))

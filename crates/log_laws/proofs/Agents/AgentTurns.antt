@@ -127,9 +127,7 @@ plain-rest S n t G r g admitted p = let T = agent_turned S n t.state t.sends G i
   foreign = λ c. plain-foreign S c n (t.sends (Site c)) (p.sites c);
   loads = record {
     heard = λ u c i. subst (LoadedOk S c) (sym p.start) (p.heard (subst (λ s. 0 < s) p.start u) c i);
-    asked = p.asked;
-    waiting = p.waiting;
-    queued = p.queued;
+    asked = p.asked; waiting = p.waiting; queued = p.queued;
     admitted = admitted;
   };
 })
@@ -179,11 +177,7 @@ stopped-agent S n t r handler z sites agents = let T = agent_turned S n t.state 
 -- the agent stays as it is
 pub stay-plain : (S : LogState) (n : ℕ) → Rest S → PlainTurn S n (becomes (S.words.agents n))
 stay-plain S n r = record {
-  start = refl;
-  decided = refl;
-  taken = refl;
-  sites = λ c. tt;
-  asked = λ g. tt;
+  start = refl; decided = refl; taken = refl; sites = λ c. tt; asked = λ g. tt;
   heard = λ u c i. r.loads.heard n c u i;
   waiting = r.loads.waiting n;
   queued = r.loads.queued n;

@@ -229,8 +229,6 @@ module _ (S : LogState) (n s k : ℕ) (out : Sends) (r : Rest S) (some : 0 < s) 
     loads = record {
       heard = λ u c i. absurd (true≢false (sym i));
       asked = λ g. all-mono NoAdmit (AskedOk S (Agent n)) (none-asked S n) (out (Agent g)) (agents g);
-      waiting = tt;
-      queued = tt;
-      admitted = r.loads.admitted;
+      waiting = tt; queued = tt; admitted = r.loads.admitted;
     };
   })

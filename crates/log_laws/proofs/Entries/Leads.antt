@@ -320,8 +320,7 @@ module _ (T : LogState) (i : ℕ) (e : Entry) (H : LogsHold T) (up : 0 < site_st
           whole = rw site.log (longer-log c (log_at T c ++ j.tasks) q.more q.leadership p q.led q.whole);
           streamed = q.streamed ∙ ap (λ a. Some (record { start = a; stream_start = stream_start })) (sym site.start);
           loading = λ x. rw site.log (q.loading x);
-          loaded = q.loaded;
-          ends = q.ends;
+          loaded = q.loaded; ends = q.ends;
           floor = site.floor ∙ q.floor;
           asks = λ l slot. asked-same c l (term_of k.word) other ∙ q.asks l slot;
         }
@@ -403,8 +402,7 @@ module _ (T : LogState) (i : ℕ) (e : Entry) (H : LogsHold T) (up : 0 < site_st
 
   carries : Carries T next.words.channel
   carries = record {
-    agents = λ h b. refl;
-    director = λ h. refl;
+    agents = λ h b. refl; director = λ h. refl;
     foreign = foreign;
     told = λ c h. sent-either T i state out logs (λ c ls. AllByRecursion (ToldOk T c) ls) (Agent h)
         (subst (λ ls. AllByRecursion (ToldOk T i) (T.words.channel (Site i) (Agent h) ++ ls)) (sym (passed.agents h))

@@ -27,9 +27,7 @@ module _ (T : LogState) (H : LogsHold T) (i slot position : ℕ) (up : 0 < site_
   position-counted : (j : Joiner) → CountedOk T (part T i) (term_at T i) j → CountedOk T (part T i) (term_at T i) (with_position slot position j)
   position-counted j k = cond_both (j.slot == slot) _ _ (CountedOk T (part T i) (term_at T i))
       (λ e. let mine = subst (λ c. AckOk T c (term_at T i) position) (sym (eqb-true j.slot slot e)) ack in record {
-        been = k.been;
-        part_is = k.part_is;
-        reached = k.reached;
+        been = k.been; part_is = k.part_is; reached = k.reached;
         position = λ runs low. let m = here mine runs low in omega (arith, m);
         later = λ x streamed start u f above entered same. let m = mine.later u f above entered
             (same ∙ sym start ∙ one-in T H j.slot (term_at T i) x.start mine.start (inr (x, streamed, refl)) mine.was) in omega (arith, m);
@@ -41,8 +39,7 @@ module _ (T : LogState) (H : LogsHold T) (i slot position : ℕ) (up : 0 < site_
 
   noted-rests : SiteRests T T.logs.reach i (noted T.words.deployment i (T.sites i) slot position)
   noted-rests = let k : KeepsOk T i = (H.sites i).keeps up in record {
-    is = refl;
-    member = λ e. e;
+    is = refl; member = λ e. e;
     joiner = (site-same T H i T.logs.reach i).joiner;
     counts = inl (refl, refl);
     acks = λ _. all-if (λ a. IsSlot T a.0 → AckOk T a.0 (term_at T i) a.1) (is_in slot (other_copies T.words.deployment i (T.sites i)))
@@ -54,8 +51,7 @@ module _ (T : LogState) (H : LogsHold T) (i slot position : ℕ) (up : 0 < site_
     alone = λ _. subst Distinct (sym (map-slots (with_position slot position) (position-slot slot position) (T.sites i).joiners)) k.alone;
     leads = λ _. elim k.leads [ inl e ↦ inl (ap (map (with_position slot position)) e) | inr e ↦ inr e ];
     counted = map-joiners (with_position slot position) (position-slot slot position) (position-start slot position) (position-stream_start slot position) (T.sites i).joiners;
-    on_disk = λ _. k.on_disk;
-    held = λ _. k.held;
+    on_disk = λ _. k.on_disk; held = λ _. k.held;
   }
 
   noted-goes : LogsGo T i (becomes (noted T.words.deployment i (T.sites i) slot position))

@@ -128,8 +128,7 @@ module _ (T : LogState) (H : LogsHold T) (i : ℕ) (up : 0 < site_start T i) whe
     where
       rests : SiteRests T T.logs.reach i (ends_streams (T.sites i)).state
       rests = record {
-        is = refl;
-        member = λ e. e;
+        is = refl; member = λ e. e;
         joiner = (site-same T H i T.logs.reach i).joiner;
         counts = inl (refl, refl);
         acks = λ _. keeps.acks;
@@ -141,6 +140,5 @@ module _ (T : LogState) (H : LogsHold T) (i : ℕ) (up : 0 < site_start T i) whe
         leads = λ _. elim keeps.leads [ inl e ↦ inl (ap (map (without_count (T.sites i))) e) | inr e ↦ inr e ];
         counted = map-joiners (without_count (T.sites i)) (count-same (λ j. j.slot) (λ j. refl) (T.sites i)) (count-same (λ j. j.start) (λ j. refl) (T.sites i))
             (count-same (λ j. j.stream_start) (λ j. refl) (T.sites i)) (T.sites i).joiners;
-        on_disk = λ _. keeps.on_disk;
-        held = λ _. keeps.held;
+        on_disk = λ _. keeps.on_disk; held = λ _. keeps.held;
       }

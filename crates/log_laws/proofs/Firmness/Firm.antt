@@ -270,8 +270,7 @@ counts-leads T H i up authoritative = elim (none-or-some (T.logs.leadership (par
     rests : SiteRests T (raised T.logs.reach (part T i) (term_of w) n) i
         (record s { firm = firm_now D i s; floor = floor_now D i s; held = filter (λ d. nat_lt (firm_now D i s) d.position) s.held })
     rests = record {
-      is = refl;
-      member = λ e. e;
+      is = refl; member = λ e. e;
       joiner = λ j e. absurd (none-and-some o.none e);
       counts = inr (
         parts.1,
@@ -280,10 +279,7 @@ counts-leads T H i up authoritative = elim (none-or-some (T.logs.leadership (par
             × (firm_now D i s ≤ raised T.logs.reach (part T i) (term_of w) n (part T i) (term_of z))) (same-some (sym o.view ∙ e))
             (omega (arith, here), omega (arith, here)),
       );
-      acks = λ up. k.acks;
-      joiners = λ up. k.joiners;
-      alone = λ up. k.alone;
-      leads = λ up. k.leads;
+      acks = λ up. k.acks; joiners = λ up. k.joiners; alone = λ up. k.alone; leads = λ up. k.leads;
       counted = same-joiners s.joiners;
       on_disk = λ up. k.on_disk;
       held = λ up. all-filter HeldOk (λ d. nat_lt (firm_now D i s) d.position) s.held k.held;

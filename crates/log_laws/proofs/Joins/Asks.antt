@@ -21,8 +21,7 @@ ask-noted : (S : LogState) → LogsHold S → (i a slot : ℕ) → AsksToJoin S 
 ask-noted S H i a slot ok up now pending = let o = notes-same S H i in record {
   waiting = o.waiting;
   asks = λ _. all-append (λ a. AsksToJoin S (part S i) a.slot (term_at S i) a.start) (S.sites i).asks (record { slot = slot; start = a } ∷ []) (o.asks up) (ok, tt);
-  reports = o.reports;
-  pending = λ _. pending;
+  reports = o.reports; pending = λ _. pending;
   none = λ z. absurd (omega (arith, up, z));
 }
 

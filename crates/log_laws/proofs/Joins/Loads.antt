@@ -11,12 +11,7 @@ module _ (S : LogState) (H : LogsHold S) (i : ℕ) (up : 0 < site_start S i) (s 
   alone-takes = record {
     up = up;
     goes = g;
-    others = λ a c n. refl;
-    agents = λ h b. refl;
-    told = λ c h. refl;
-    director = λ h. refl;
-    pending = λ c n. refl;
-    streamed = λ c t n. refl;
+    others = λ a c n. refl; agents = λ h b. refl; told = λ c h. refl; director = λ h. refl; pending = λ c n. refl; streamed = λ c t n. refl;
     stays = λ t x is. is;
     fresh = λ t x is. inl is;
     asks = asks-at S (with-site S i s S.words.channel S.pending S.logs.streamed) i (λ l n. (set-there S.sites i s l n, refl, λ c. refl)) (λ c t.
@@ -46,14 +41,7 @@ pub record LoadsOn (S : LogState) (i : ℕ) (j n : Joining) (log : List Entry) (
 pub load-on : (s : SiteState) (j n : Joining) (log : List Entry) → s.joining ≡ Some j → length s.log ≤ length log → (j.is_based ≡ true → n.is_based ≡ true)
     → SiteGoesOn s (with-load s n log)
 load-on s j n log is longer based = record {
-  start = refl;
-  greatest = refl;
-  earlier = refl;
-  view = refl;
-  acks = refl;
-  reports = refl;
-  held = refl;
-  waiting = refl;
+  start = refl; greatest = refl; earlier = refl; view = refl; acks = refl; reports = refl; held = refl; waiting = refl;
   log = longer;
   member = λ e. absurd (none-and-some e is);
   joins = λ x e. (n, refl);
@@ -187,17 +175,12 @@ module _ (f : Joiner → Joiner) (same : (j : Joiner) → SameJoiner j (f j)) wh
 scan_end-joiners : (S : LogState) → LogsHold S → (i slot count : ℕ) → LogsGo S i (becomes (record (S.sites i) { scanning = None; joiners = map (with_count slot count) (S.sites i).joiners }))
 scan_end-joiners S H i slot count = let o = site-same S H i S.logs.reach i in let f = with_count slot count in let same = with_count-same slot count in
     rests-goes S H i (record (S.sites i) { scanning = None; joiners = map f (S.sites i).joiners }) no_sends S.logs.reach (record {
-      is = refl;
-      member = o.member;
-      joiner = o.joiner;
-      counts = o.counts;
-      acks = o.acks;
+      is = refl; member = o.member; joiner = o.joiner; counts = o.counts; acks = o.acks;
       joiners = λ up. counted-mapped f same S (part S i) (term_at S i) (S.sites i).joiners (o.joiners up);
       alone = λ up. rw (map-slots f (λ j. (same j).slot) (S.sites i).joiners) (o.alone up);
       leads = λ up. elim (o.leads up) [ inl none ↦ inl (ap (map f) none) | inr is ↦ inr is ];
       counted = map-joiners f (λ j. (same j).slot) (λ j. (same j).start) (λ j. (same j).stream_start) (S.sites i).joiners;
-      on_disk = o.on_disk;
-      held = o.held;
+      on_disk = o.on_disk; held = o.held;
     }) (reach-same S H) (says-nothing S H i)
 
 -- the end of a scan

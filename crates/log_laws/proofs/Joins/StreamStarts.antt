@@ -131,14 +131,7 @@ module _ (S : LogState) (H : LogsHold S) (m i : ℕ) (l : Letter) (ls : List Let
 
     g : SiteGoesOn (S.sites i) s
     g = record {
-      start = refl;
-      greatest = refl;
-      earlier = refl;
-      view = refl;
-      acks = refl;
-      reports = refl;
-      held = refl;
-      waiting = refl;
+      start = refl; greatest = refl; earlier = refl; view = refl; acks = refl; reports = refl; held = refl; waiting = refl;
       log = subst (λ z. length z ≤ length l.past) (sym untaken.empty) (omega arith);
       member = λ no. absurd (none-and-some no is);
       joins = λ y e. (joined, refl);
@@ -178,9 +171,7 @@ module _ (S : LogState) (H : LogsHold S) (m i : ℕ) (l : Letter) (ls : List Let
     takes-it = record {
       from = m;
       following = follows-it;
-      more = coming.0.more;
-      leadership = coming.0.leadership;
-      led = coming.0.led;
+      more = coming.0.more; leadership = coming.0.leadership; led = coming.0.led;
       flow_is = rw start-is (ap (flow (site_start S i) (term_of w)) (without-here S m i x ls e) ∙ begins.2);
       whole = subst (λ z. z.log ++ j.tasks ++ coming.0.more ≡ coming.0.leadership.log) (sym site-is)
           (ap (λ z. l.past ++ z ++ coming.0.more) untaken.tasks ∙ ap (λ z. z ++ coming.0.more) (append-nil l.past ∙ begins.0) ∙ coming.0.whole);
@@ -198,12 +189,10 @@ module _ (S : LogState) (H : LogsHold S) (m i : ℕ) (l : Letter) (ls : List Let
     new-stream : StreamedOk T i (term_of w) (record { start = site_start S i; stream_start = head.stream_start })
     new-stream = record {
       word = w;
-      took = word.took;
-      term_is = refl;
+      took = word.took; term_is = refl;
       apart = apart (S.logs.entered i (term_of w)) refl;
       later = λ u y was own. absurd (old.unentered u y was own);
-      leadership = coming.0.leadership;
-      led = coming.0.led;
+      leadership = coming.0.leadership; led = coming.0.led;
       behind = subst (λ z. length coming.0.leadership.begun ≤ z) (sym begins.1) coming.0.behind;
       been = been-later S T H later i (term_of w) (site_start S i) own-been;
       running = λ at. let r = subst (λ z. (z.earlier < term_of w) × (term_of w ≤ site_term z) × (S.logs.reach (part S i) (term_of w) ≤ length z.log) × (head.stream_start ≤ length z.log))

@@ -177,8 +177,7 @@ module _ (E : Database) (S : LogState) (H : LogsHold S) (i : ℕ) (up : 0 < site
     sites = set-both (λ c x. SiteGoesOn (S.sites c) x) S.sites i turn.state goes-on (λ c n. goes-on-same (S.sites c));
     agents = λ h b. refl;
     told = λ c h. told (same (Site i) (Site c)) c h;
-    director = λ h. refl;
-    streamed = λ c t x is. is;
+    director = λ h. refl; streamed = λ c t x is. is;
     fresh = λ c t x is. inl is;
   }
     where
@@ -379,8 +378,7 @@ module _ (E : Database) (S : LogState) (H : LogsHold S) (i : ℕ) (up : 0 < site
   -- the one that is counted
   new-ok : CountedOk S (part S i) (term_at S i) new
   new-ok = record {
-    been = ok.been;
-    part_is = ok.part_is;
+    been = ok.been; part_is = ok.part_is;
     reached = λ runs. subst (λ o. term_at S i ≤ term_in o) (sym (joins runs).1.2) (let e = (joins runs).2 in omega (arith, e));
     position = λ _ _. omega arith;
     later = λ x is start u e above now own. omega arith;
@@ -418,8 +416,7 @@ module _ (E : Database) (S : LogState) (H : LogsHold S) (i : ℕ) (up : 0 < site
   -- who is told that its stream is whole was counted before
   end-after : (k c : ℕ) (y : Letter) → In y (between S k c) → (end_in y.body ≡ [] → ⊥) → EndOk S k c y → EndOk T k c y
   end-after k c y is some h = record {
-    stream_start = h.stream_start;
-    everywhere = h.everywhere;
+    stream_start = h.stream_start; everywhere = h.everywhere;
     begun = λ x joins start term low. begun (sym (still c).start ∙ start) (ap term_in (sym (still c).view) ∙ term) (subst (λ n. n < y.term) (still c).earlier low)
         (h.begun x (sym (still c).joining ∙ joins) (sym (still c).start ∙ start) (ap term_in (sym (still c).view) ∙ term) (subst (λ n. n < y.term) (still c).earlier low));
     taken = λ start term. h.taken (sym (still c).start ∙ start) (ap term_in (sym (still c).view) ∙ term);

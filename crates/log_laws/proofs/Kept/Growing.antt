@@ -38,12 +38,9 @@ module _ (S : LogState) (H : LogsHold S) (i : ℕ) (more : List Entry) (floor : 
 
   stays : (c : ℕ) → Stays S T c
   stays c = set-both (λ h x. SiteRises (S.sites h) x) S.sites i s (record {
-    start = refl;
-    earlier = refl;
-    greatest = omega arith;
+    start = refl; earlier = refl; greatest = omega arith;
     log = rw length-append (omega arith);
-    term = omega arith;
-    member = λ e. e;
+    term = omega arith; member = λ e. e;
     loaded = λ m e. (m, e, λ y. y);
   }) (λ h n. site-stays (S.sites h)) c
 
@@ -74,8 +71,7 @@ module _ (S : LogState) (H : LogsHold S) (i : ℕ) (more : List Entry) (floor : 
   grew-member w is below leading following others m = record {
     decided = m.decided;
     start_is = rw (own, site_start) m.start_is;
-    entered = m.entered;
-    is_entered = m.is_entered;
+    entered = m.entered; is_entered = m.is_entered;
     since = rw (own, site_start) m.since;
     earlier = rw own m.earlier;
     grown = rw (own, log_at) (prefix-grows m.entered.log (log_at S i) more m.grown);

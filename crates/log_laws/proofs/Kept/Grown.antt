@@ -50,9 +50,7 @@ module _ (D : Deployment) (i : ℕ) where
   heads-on a b start view p t h = record {
     word = h.word;
     view = view ∙ h.view;
-    part_is = h.part_is;
-    term_is = h.term_is;
-    first = h.first;
+    part_is = h.part_is; term_is = h.term_is; first = h.first;
     start_is = h.start_is ∙ ap Some (sym start);
   }
 

@@ -98,9 +98,7 @@ module _ (S : LogState) (ch : Actor → Actor → List Letter) (states : ℕ →
     entered = entereds-later S T H moved-later same (λ p t. refl);
     streamed = λ c t x i. let k = H.streamed c t x i in streameds-later S T H moved-later same (λ p t. refl) c t x k k.apart (λ k. k);
     leaderships = leaderships-later S T H moved-later same (λ p t g is. (H.leaderships p t g is).within);
-    unled = H.unled;
-    some = H.some;
-    first = H.first;
+    unled = H.unled; some = H.some; first = H.first;
   }
     where
       same : SameLeaderships S.logs T.logs

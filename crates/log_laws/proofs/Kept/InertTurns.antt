@@ -13,18 +13,8 @@ use Rattle.log_laws.proofs.Kept.Rests.{Bare, SaysRests, SiteRests, reach-same, r
 -- the first site with what isn't looked at of the second one
 abbrev pub with_unwatched : SiteState → SiteState → SiteState
 with_unwatched s t = record s {
-  stop = t.stop;
-  mark = t.mark;
-  base = t.base;
-  owes = t.owes;
-  held = t.held;
-  has_told = t.has_told;
-  calls = t.calls;
-  scans = t.scans;
-  scanning = t.scanning;
-  looks = t.looks;
-  contents = t.contents;
-  plans = t.plans;
+  stop = t.stop; mark = t.mark; base = t.base; owes = t.owes; held = t.held; has_told = t.has_told; calls = t.calls; scans = t.scans; scanning = t.scanning;
+  looks = t.looks; contents = t.contents; plans = t.plans;
 }
 
 -- A site is another one in that alone; answers that are held are for agents still.
@@ -76,16 +66,8 @@ silent-told S i h l k = elim l.body as (λ m. Silent (Agent h) (record l { body 
 module _ (S : LogState) (i : ℕ) (s : SiteState) (out : Sends) (H : LogsHold S) (u : Unwatched (S.sites i) s) (silent : (b : Actor) → AllByRecursion (Silent b) (out b)) where
   unwatched-rests : SiteRests S S.logs.reach i s
   unwatched-rests = subst (SiteRests S S.logs.reach i) (sym u.same) (let o = site-same S H i S.logs.reach i in record {
-    is = refl;
-    member = o.member;
-    joiner = o.joiner;
-    counts = o.counts;
-    acks = o.acks;
-    joiners = o.joiners;
-    alone = o.alone;
-    leads = o.leads;
-    counted = o.counted;
-    on_disk = o.on_disk;
+    is = refl; member = o.member; joiner = o.joiner; counts = o.counts; acks = o.acks; joiners = o.joiners; alone = o.alone; leads = o.leads;
+    counted = o.counted; on_disk = o.on_disk;
     held = λ up. u.held (o.held up);
   })
 

@@ -237,13 +237,9 @@ module _ (S T : LogState) (H : LogsHold S) (f : LogsLater S T) (c : ℕ) (site :
   pub coming-keeps : (w : Membership) (fl : List Flow) → SameTerm S T (part S c) (term_of w)
       → ((stream_start : ℕ) → IsCounted S c (site_start S c) stream_start w → IsCounted T c (site_start S c) stream_start w) → Coming S c w fl → Coming T c w fl
   coming-keeps w fl same counted k = record {
-    past = k.past;
-    more = k.more;
-    leadership = k.leadership;
-    flow_is = k.flow_is;
+    past = k.past; more = k.more; leadership = k.leadership; flow_is = k.flow_is;
     led = rw (part-later S T H f c) (same.leadership ∙ k.led);
-    whole = k.whole;
-    behind = k.behind;
+    whole = k.whole; behind = k.behind;
     reach = rw (part-later S T H f c, same.reach) k.reach;
     counted = rw (site.start) (counted (length k.past) k.counted);
   }
@@ -254,8 +250,7 @@ module _ (S T : LogState) (H : LogsHold S) (f : LogsLater S T) (c : ℕ) (site :
   took-keeps w j stream_start same each k = record {
     from = k.from;
     following = rw (f.words.deployment) k.following;
-    more = k.more;
-    leadership = k.leadership;
+    more = k.more; leadership = k.leadership;
     led = rw (part-later S T H f c) (same.leadership ∙ k.led);
     flow_is = rw (site.start) ((each k.from).flows ∙ k.flow_is);
     whole = rw (site.log) k.whole;
@@ -277,9 +272,7 @@ module _ (S T : LogState) (H : LogsHold S) (f : LogsLater S T) (c : ℕ) (site :
       → Inert T c w l ⊎ (Coming T c w (flow (site_start S c) (term_of w) (between T l c)) × (asked T c l (term_of w) ≡ [])))
       → Untaken S c w j → Untaken T c w j
   untaken-keeps-with w j run comes k = record {
-    loads = k.loads;
-    counts = k.counts;
-    tasks = k.tasks;
+    loads = k.loads; counts = k.counts; tasks = k.tasks;
     empty = site.log ∙ k.empty;
     floor = site.floor ∙ k.floor;
     never = never-keeps run k.never;
@@ -321,8 +314,7 @@ module _ (S T : LogState) (H : LogsHold S) (f : LogsLater S T) (c : ℕ) (site :
   joiner-keeps-with j run word k = record {
     runs = rw (site.start) k.runs;
     unentered = λ t e is start. k.unentered t e (run.entered t e is (start ∙ site.start)) (start ∙ site.start);
-    told = k.told;
-    based = k.based;
+    told = k.told; based = k.based;
     firm = site.firm ∙ k.firm;
     view = rw (site.view) (view (S.sites c).view refl k.view);
   }

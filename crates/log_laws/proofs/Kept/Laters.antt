@@ -53,8 +53,7 @@ module _ (S T : LogState) (H : LogsHold S) (f : LogsLater S T) where
 
   pub ack-later : (c t n : ℕ) → AckOk S c t n → AckOk T c t n
   ack-later c t n k = record {
-    start = k.start;
-    some = k.some;
+    start = k.start; some = k.some;
     was = was-later c t k.start k.was;
     now = λ is. let s = stays c k.start k.some (was-ran S H c t k.start k.was) is in
         let n = k.now (sym s.start ∙ is) in let m = s.log in omega (arith, n, m);
@@ -71,9 +70,7 @@ module _ (S T : LogState) (H : LogsHold S) (f : LogsLater S T) where
   report-later p c t n m tail k = record {
     entered = k.entered;
     is_entered = f.entered c t k.entered k.is_entered;
-    position_is = k.position_is;
-    floor_is = k.floor_is;
-    tail_is = k.tail_is;
+    position_is = k.position_is; floor_is = k.floor_is; tail_is = k.tail_is;
     part_is = part-later c ∙ k.part_is;
     word = k.word;
     is_word = word_of-later t k.word k.is_word;

@@ -38,9 +38,7 @@ module _ (S : LogState) (H : LogsHold S) (i : ℕ) (s : SiteState) (ch : Actor �
   pub takes-steady : Steady S ch (set_at S.sites i s) st
   takes-steady = record {
     sites = set-both (λ c x. SiteGoesOn (S.sites c) x) S.sites i s k.goes (λ c n. goes-on-same (S.sites c));
-    agents = k.agents;
-    told = k.told;
-    director = k.director;
+    agents = k.agents; told = k.told; director = k.director;
     streamed = one-and-others _ i k.stays (λ c n t x is. k.streamed c t n ∙ is);
     fresh = one-and-others _ i k.fresh (λ c n t x is. inl (sym (k.streamed c t n) ∙ is));
   }
@@ -219,11 +217,9 @@ module _ (S : LogState) (H : LogsHold S) (i : ℕ) (s : SiteState) (ch : Actor �
       → ((n.is_loaded ≡ true ⊎ is_some n.count ≡ true) → stream_start ≤ S.logs.reach (part S i) (term_of w))
       → s.floor ≡ (S.sites i).floor → Took (with-site S i s ch pend st) i w n stream_start
   takes-took w j n stream_start h more flowing whole loading loaded stream_ends_in floor = record {
-    from = h.from;
-    following = h.following;
+    from = h.from; following = h.following;
     more = more;
-    leadership = h.leadership;
-    led = h.led;
+    leadership = h.leadership; led = h.led;
     flow_is = rw start-here flowing;
     whole = subst (λ x. x.log ++ n.tasks ++ more ≡ h.leadership.log) (sym here) whole;
     streamed = rw start-here (k.stays (term_of w) (record { start = site_start S i; stream_start = stream_start }) h.streamed);
@@ -248,14 +244,7 @@ module _ (S : LogState) (H : LogsHold S) (i : ℕ) (s : SiteState) (ch : Actor �
 
   takes-coming : (w : Membership) (fl : List Flow) → Coming S i w fl → Coming (with-site S i s ch pend st) i w fl
   takes-coming w fl h = record {
-    past = h.past;
-    more = h.more;
-    leadership = h.leadership;
-    flow_is = h.flow_is;
-    led = h.led;
-    whole = h.whole;
-    behind = h.behind;
-    reach = h.reach;
+    past = h.past; more = h.more; leadership = h.leadership; flow_is = h.flow_is; led = h.led; whole = h.whole; behind = h.behind; reach = h.reach;
     counted = rw start-here (takes-counted S H i s ch pend st k i (site_start S i) (length h.past) w h.counted);
   }
 

@@ -82,13 +82,10 @@ order-holds S i s out G plain H = channels-hold T ch H
 
 pub ordered-turns : (S : LogState) (i : ℕ) (t : Turn SiteState) → Turns S i t → Turns S i (ordered t)
 ordered-turns S i t g = record {
-  logs = g.logs;
-  start = g.start;
+  logs = g.logs; start = g.start;
   plain = λ c. all-order NoStreamStart (t.sends (Site c)) (g.plain c);
   holds = order-holds S i t.state t.sends g.logs g.plain g.holds;
-  grown = g.grown;
-  enters = g.enters;
-  longer = g.longer;
+  grown = g.grown; enters = g.enters; longer = g.longer;
 }
 
 -- ---- what is sent last

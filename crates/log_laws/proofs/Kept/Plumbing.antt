@@ -218,10 +218,7 @@ goes-turns S i t g = record { logs = g.logs; start = g.start; plain = g.plain; h
 -- a turn in which nothing happens
 pub goes-same : (S : LogState) (i : ℕ) → LogsHold S → LogsGo S i (becomes (S.sites i))
 goes-same S i h = record {
-  logs = S.logs;
-  start = refl;
-  view = refl;
-  plain = λ c. tt;
+  logs = S.logs; start = refl; view = refl; plain = λ c. tt;
   holds = subst LogsHold (sym (after-same S i)) h;
   grown = grown-same S.words.deployment i (S.sites i) S.logs;
   enters = enters-same i (length (log_at S i)) S.logs S.logs refl;

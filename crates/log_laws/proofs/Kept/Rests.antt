@@ -15,14 +15,7 @@ use Rattle.log_laws.proofs.Kept.Keeps.{RunsOn, site-runs, was-joiner, was-member
 -- a site's state, where its log, its term and what it keeps of messages are those of the first one
 abbrev pub settled : SiteState → SiteState → SiteState
 settled a b = record b {
-  start = a.start;
-  greatest = a.greatest;
-  earlier = a.earlier;
-  view = a.view;
-  log = a.log;
-  repaired = a.repaired;
-  reports = a.reports;
-  asks = a.asks;
+  start = a.start; greatest = a.greatest; earlier = a.earlier; view = a.view; log = a.log; repaired = a.repaired; reports = a.reports; asks = a.asks;
   waiting = a.waiting;
 }
 
@@ -108,12 +101,7 @@ module _ (S : LogState) (H : LogsHold S) (states : ℕ → SiteState) (i : ℕ) 
   -- what is kept
   later : LogsLater S T
   later = later-by S T (words-later S T.words.channel) refl refl refl (λ c. record {
-    start = refl;
-    earlier = refl;
-    greatest = omega arith;
-    log = omega arith;
-    term = omega arith;
-    member = (rests c).member;
+    start = refl; earlier = refl; greatest = omega arith; log = omega arith; term = omega arith; member = (rests c).member;
     loaded = λ k e. let b = joins-before c k e in (b.0, b.1, b.2.still);
   }) reaches.rises
 
@@ -173,13 +161,7 @@ module _ (S : LogState) (H : LogsHold S) (states : ℕ → SiteState) (i : ℕ) 
 
   member-rests : (c : ℕ) (w : Membership) → (S.sites c).view ≡ Some w → MemberOk S c w → MemberOk T c w
   member-rests c w view m = record {
-    decided = m.decided;
-    start_is = m.start_is;
-    entered = m.entered;
-    is_entered = m.is_entered;
-    since = m.since;
-    earlier = m.earlier;
-    grown = m.grown;
+    decided = m.decided; start_is = m.start_is; entered = m.entered; is_entered = m.is_entered; since = m.since; earlier = m.earlier; grown = m.grown;
     still = λ e. let o = m.still e in elim (rests c).counts [ inl k ↦ (o.0, k.0 ∙ o.1, k.1 ∙ o.2) | inr k ↦ absurd (not-both (S.sites c).repaired k.0 e) ];
     floor = known.0;
     firm = known.1;
@@ -203,10 +185,7 @@ module _ (S : LogState) (H : LogsHold S) (states : ℕ → SiteState) (i : ℕ) 
 
     stream-rests : (w : Membership) → (S.sites c).view ≡ Some w → In w S.words.history.decided → (o : Option Streamed) → StreamIn S c w j o → StreamIn T c w (flagged j k) o
     stream-rests w view decided None u = record {
-      loads = u.loads;
-      counts = u.counts;
-      tasks = u.tasks;
-      empty = u.empty;
+      loads = u.loads; counts = u.counts; tasks = u.tasks; empty = u.empty;
       floor = same-counts.0 ∙ u.floor;
       never = u.never;
       comes = λ l f below. elim (u.comes l f below) [
@@ -218,16 +197,9 @@ module _ (S : LogState) (H : LogsHold S) (states : ℕ → SiteState) (i : ℕ) 
       ];
     }
     stream-rests w view decided (Some st) u = record {
-      from = u.from;
-      following = u.following;
-      more = u.more;
-      leadership = u.leadership;
-      led = u.led;
+      from = u.from; following = u.following; more = u.more; leadership = u.leadership; led = u.led;
       flow_is = flows (site_start S c) (term_of w) u.from c ∙ u.flow_is;
-      whole = u.whole;
-      streamed = u.streamed;
-      loading = u.loading;
-      loaded = u.loaded;
+      whole = u.whole; streamed = u.streamed; loading = u.loading; loaded = u.loaded;
       ends = λ e. let b = u.ends e in let m = reaches.rises (part S c) (term_of w) in omega (arith, b, m);
       floor = same-counts.0 ∙ u.floor;
       asks = λ l slot. askeds c l (term_of w) ∙ u.asks l slot;
@@ -313,8 +285,7 @@ module _ (S : LogState) (H : LogsHold S) (states : ℕ → SiteState) (i : ℕ) 
         streamed-later S T H later c t x k (same-leaderships.kept (part S c) t k.leadership k.led) k.apart (reaches.streamed c t x is) (counted-rests c x.start x.stream_start k.word);
     leaderships = leaderships-later S T H later same-leaderships reaches.led;
     unled = λ p t none. unleds-later S T H later same-leaderships p t (reaches.unled p t none) none;
-    some = H.some;
-    first = H.first;
+    some = H.some; first = H.first;
   }
 
 -- ---- a turn of one site
@@ -357,8 +328,7 @@ module _ (S : LogState) (H : LogsHold S) (i : ℕ) where
   -- of a site that stays as it is
   pub site-same : (reach : ℕ → ℕ → ℕ) (c : ℕ) → SiteRests S reach c (S.sites c)
   site-same reach c = record {
-    is = refl;
-    member = λ e. e;
+    is = refl; member = λ e. e;
     joiner = λ j e. let o = (H.sites c).joiner j e in (j, e, record { same = refl; told = o.told; based = o.based; still = λ b. b });
     counts = inl (refl, refl);
     acks = λ up. ((H.sites c).keeps up).acks;

@@ -58,13 +58,11 @@ module _ (S : LogState) (ch : Actor → Actor → List Letter) (f : ℕ → Site
     ran = λ c a i. i;
     greatest = λ c. let e = (m.sites c).greatest in omega (arith, e);
     sites = λ c. let g = m.sites c in inl (record {
-      start = g.start;
-      earlier = g.earlier;
+      start = g.start; earlier = g.earlier;
       greatest = let e = g.greatest in omega (arith, e);
       log = g.log;
       term = rw g.view (omega arith);
-      member = g.member;
-      loaded = g.loaded;
+      member = g.member; loaded = g.loaded;
     });
     entered = λ c t e is. is;
     entered_now = λ c t e is. inl is;
@@ -124,8 +122,7 @@ module _ (S : LogState) (ch : Actor → Actor → List Letter) (f : ℕ → Site
     streamed = streamed;
     leaderships = leaderships-later S (shifted S ch f pend st) H steady-later steady-leaderships (λ p t g is. (H.leaderships p t g is).within);
     unled = λ p t none. unleds-later S (shifted S ch f pend st) H steady-later steady-leaderships p t refl none;
-    some = H.some;
-    first = H.first;
+    some = H.some; first = H.first;
   }
     where
       site : (c : ℕ) → SiteOk (shifted S ch f pend st) c

@@ -191,8 +191,7 @@ module _ (S : LogState) (H : LogsHold S) where
   last-more p t None e (v, l) = (
     v,
     record {
-      leadership = l.leadership;
-      led = l.led;
+      leadership = l.leadership; led = l.led;
       below = omega (arith, l.below);
       greatest = λ x h k b. elim (cases_lt x t) [
         | inl s ↦ l.greatest x h k s

@@ -246,9 +246,7 @@ module _ (S : LogState) (H : LogsHold S) (from : Actor) (i : ℕ) (l : Letter) (
       }))
       (record {
         waiting = λ _. all-append (SiteWaitingOk S i) (S.sites i).waiting (record { from = from; letter = l } ∷ []) (o.waiting up) ((high.0, waiting-from up e), tt);
-        asks = o.asks;
-        reports = o.reports;
-        pending = o.pending;
+        asks = o.asks; reports = o.reports; pending = o.pending;
         none = λ z. absurd (omega (arith, up, z));
       })
       (subst (AsksLess S) (after-nothing (site_popped S from i) i keeping S.logs) (waits-asks S from i l ls is S.logs)))
@@ -266,9 +264,7 @@ pub leaves : (S : LogState) → LogsHold S → (i : ℕ) (x : Waiting) (ws : Lis
 leaves S H i x ws is = moved-holds S S.words.channel S.sites (set_at S.pending i ws) H (channels-same S H)
     (subst (AsksLess S) (after-same (left S i ws) i) (left-less S i ws S.logs x is (S.sites i) refl (λ c t. at-most-same (asks_of_term c t (S.sites i)))))
     (set-both (λ c p. NotesOk S c (S.sites c) p) S.pending i ws (let o = notes-same S H i in record {
-      waiting = o.waiting;
-      asks = o.asks;
-      reports = o.reports;
+      waiting = o.waiting; asks = o.asks; reports = o.reports;
       pending = λ up. (subst (AllByRecursion (SiteWaitingOk S i)) is (o.pending up)).1;
       none = λ z. let e = sym is ∙ (o.none z).2 in absurd (cc);
     }) (λ c n. notes-same S H c))
@@ -282,8 +278,7 @@ pub takes-up : (S : LogState) → LogsHold S → (i : ℕ) → S.pending i ≡ [
 takes-up S H i none term = let old = (S.sites i).waiting in let now = of_term term old in let s : SiteState = record (S.sites i) { waiting = above_term term old } in
     let o = notes-same S H i in noted-holds S i s S.words.channel now H refl (channels-same S H) (record {
       waiting = λ up. all-filter (SiteWaitingOk S i) (λ w. nat_lt term w.letter.term) old (o.waiting up);
-      asks = o.asks;
-      reports = o.reports;
+      asks = o.asks; reports = o.reports;
       pending = λ up. all-filter (SiteWaitingOk S i) (λ w. w.letter.term == term) old (o.waiting up);
       none = λ z. let e = o.none z in (ap (above_term term) e.0, e.1, ap (of_term term) e.0);
     }) (subst (AsksLess S) (after-nothing (left S i now) i s S.logs) (parted-asks S i now S.logs s term refl refl (λ c t. at-most-same (asks_of_term c t (S.sites i)))))

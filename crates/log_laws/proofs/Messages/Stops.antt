@@ -101,9 +101,7 @@ module _ (S : LogState) (H : LogsHold S) (i : ℕ) (s : SiteState) (ran : ℕ �
     entered = entereds-later S T H new.later leaderships (λ p t. refl);
     streamed = λ c t x k. let o = H.streamed c t x k in streameds-later S T H new.later leaderships (λ p t. refl) c t x o o.apart (counts c x.start x.stream_start o.word);
     leaderships = leaderships-later S T H new.later leaderships (λ p t g is. (H.leaderships p t g is).within);
-    unled = H.unled;
-    some = H.some;
-    first = H.first;
+    unled = H.unled; some = H.some; first = H.first;
   }
 
 -- ---- and what it sends
@@ -160,8 +158,7 @@ module _ (S : LogState) (H : LogsHold S) (i : ℕ) (none : S.pending i ≡ []) (
 
   stop-views : ViewsOk Q i
   stop-views = let k = H.views i in record {
-    plain = k.plain;
-    began = k.began;
+    plain = k.plain; began = k.began;
     running = λ up. let z = ap (λ x. x.start) gone in absurd (omega (arith, z, up));
     starting = λ a m. let o = k.starting a m in (o.0, o.1, first_views-later S Q stop-later.words.deployment stop-later.words.decided stop-later.words.took_word i a (views a (agent_to_site S i)) o.2);
     wordless = k.wordless;
@@ -172,11 +169,7 @@ module _ (S : LogState) (H : LogsHold S) (i : ℕ) (none : S.pending i ≡ []) (
   stopped-holds = renewed-holds S H i (stopped_so (S.sites i) stop contents plans) S.logs.ran (record {
     later = stop-later;
     ends = λ _ up. absurd (omega (arith, up));
-    joins = λ _. refl;
-    waiting = refl;
-    asks = refl;
-    joiners = refl;
-    others = λ c d. refl;
+    joins = λ _. refl; waiting = refl; asks = refl; joiners = refl; others = λ c d. refl;
   }) stop-site stop-views
 
   -- It sends nothing that is looked at.
@@ -262,10 +255,7 @@ module _ (S : LogState) (H : LogsHold S) (i : ℕ) (l : Letter) (ls : List Lette
     based = λ e. absurd (cc);
     firm = ap (λ x. x.firm) fresh;
     view = rw (ap (λ x. x.view) fresh) (record {
-      stream = refl;
-      loads = refl;
-      counts = refl;
-      tasks = refl;
+      stream = refl; loads = refl; counts = refl; tasks = refl;
       empty = ap (λ x. x.log) fresh;
       floor = ap (λ x. x.floor) fresh;
       never = λ t x k start. unstreamed t x k (start ∙ ap (λ x. x.start) fresh);
@@ -334,9 +324,7 @@ module _ (S : LogState) (H : LogsHold S) (i : ℕ) (l : Letter) (ls : List Lette
     later = start-later;
     ends = λ k _. let z = ap (λ x. x.start) (sym fresh) ∙ k.start in absurd (omega (arith, z, above));
     joins = λ e. absurd (cc);
-    waiting = refl;
-    asks = refl;
-    joiners = refl;
+    waiting = refl; asks = refl; joiners = refl;
     others = λ c d. set-there S.logs.ran i (a ∷ S.logs.ran i) c d;
   }) start-site start-views
 

@@ -71,9 +71,7 @@ module _ (S : LogState) (H : LogsHold S) (l i : ℕ) (x : Letter) (ls : List Let
       goes = g;
       others = without-to S l i;
       agents = without-agent S l i;
-      told = λ c h. refl;
-      director = λ h. refl;
-      pending = λ c n. refl;
+      told = λ c h. refl; director = λ h. refl; pending = λ c n. refl;
       streamed = streamed;
       stays = stays;
       fresh = fresh;

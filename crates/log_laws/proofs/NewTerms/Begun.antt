@@ -216,13 +216,11 @@ module _ (S : LogState) (H : LogsHold S) (i : ℕ) (w : Membership) (up : 0 < si
 
   entered : (c u : ℕ) (e : Entered) → S.logs.entered c u ≡ Some e → EnteredOk T c u e
   entered c u e is = let k = H.entered c u e is in record {
-    slot = k.slot;
-    word = k.word;
+    slot = k.slot; word = k.word;
     is_word = word_of-later S T H later u k.word k.is_word;
     start_is = k.start_is;
     been = been-later S T H later c u e.start k.been;
-    came = k.came;
-    reach = k.reach;
+    came = k.came; reach = k.reach;
     behind = behind;
     still = λ v f below then start unled. k.still v f below then start (λ x g led low high. unled x g (led-still (part S c) x g led ∙ led) low high);
     running = λ runs.
@@ -303,8 +301,7 @@ module _ (S : LogState) (H : LogsHold S) (i : ℕ) (w : Membership) (up : 0 < si
   own-member = record {
     decided = member.decided;
     start_is = member.start_is ∙ ap Some (sym own-start);
-    entered = member.entered;
-    is_entered = member.is_entered;
+    entered = member.entered; is_entered = member.is_entered;
     since = member.since ∙ sym own-start;
     earlier = rw here member.earlier;
     grown = subst (λ z. Prefix member.entered.log z.log) (sym here)

@@ -98,10 +98,7 @@ module _ (S : LogState) (H : LogsHold S) (h i : ℕ) (l : Letter) (w : Membershi
   later : LogsLater S T
   later = turned-later S i s ch en S.logs.leadership rc
       (record {
-        start = refl;
-        earlier = refl;
-        greatest = omega arith;
-        log = omega arith;
+        start = refl; earlier = refl; greatest = omega arith; log = omega arith;
         term = (let a = higher in omega (arith, a));
         member = λ _. refl;
         loaded = λ k e. absurd (none-and-some refl e);
@@ -302,9 +299,7 @@ module _ (S : LogState) (H : LogsHold S) (h i : ℕ) (l : Letter) (w : Membershi
     record {
       entered = entering (S.sites i);
       is_entered = entered-here;
-      position_is = refl;
-      floor_is = refl;
-      tail_is = refl;
+      position_is = refl; floor_is = refl; tail_is = refl;
       part_is = sym k.0;
       word = w;
       is_word = record { decided = decided; term_is = refl };

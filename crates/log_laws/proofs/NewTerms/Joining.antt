@@ -297,9 +297,7 @@ module _ (S : LogState) (H : LogsHold S) (h i : ℕ) (l : Letter) (w : Membershi
 
   untaken : Untaken T i w joined.0
   untaken = let k = wordless in record {
-    loads = k.loads;
-    counts = k.counts;
-    tasks = k.tasks;
+    loads = k.loads; counts = k.counts; tasks = k.tasks;
     empty = ap (λ z. z.log) here ∙ k.empty;
     floor = ap (λ z. z.floor) here ∙ k.floor;
     never = λ t x m q. k.never t x m (q ∙ own-start);
@@ -322,8 +320,7 @@ module _ (S : LogState) (H : LogsHold S) (h i : ℕ) (l : Letter) (w : Membershi
   own-joiner = let k = ok in record {
     runs = subst (λ z. 0 < z) (sym own-start) up;
     unentered = λ t e m q. k.unentered t e m (q ∙ own-start);
-    told = k.told;
-    based = k.based;
+    told = k.told; based = k.based;
     firm = ap (λ z. z.firm) here ∙ k.firm;
     view = subst (ViewIn T i joined.0) (sym (ap (λ z. z.view) here)) in_word;
   }
@@ -374,8 +371,7 @@ module _ (S : LogState) (H : LogsHold S) (h i : ℕ) (l : Letter) (w : Membershi
   -- the turn itself
   pub joins-turns : Turns (site_popped S (Agent h) i) i (sending s out)
   joins-turns = record {
-    logs = S.logs;
-    start = refl;
+    logs = S.logs; start = refl;
     plain = λ c. asks-all i D s NoStreamStart (leader D w (part S i)) c (λ _ _. tt);
     holds = joins-holds;
     grown = grown-same D i s S.logs;

@@ -99,12 +99,10 @@ on_report-goes E S H i stamp slot position floor tail up ok = cond_both (is_lead
     noted : LogsGo S i (becomes more)
     noted = let o = notes-same S H i in becomes-goes S i more S.logs.streamed refl refl (omega arith) (noted-same S i more S.words.channel H refl (channels-same S H)
         (record {
-          waiting = o.waiting;
-          asks = o.asks;
+          waiting = o.waiting; asks = o.asks;
           reports = λ _. all-append (λ r. ReportOk S (part S i) r.slot (term_at S i) r.position r.floor r.tail) (S.sites i).reports
               (record { slot = slot; position = position; floor = floor; tail = tail } ∷ []) (o.reports up) (ok, tt);
-          pending = o.pending;
-          none = o.none;
+          pending = o.pending; none = o.none;
         })
         (λ c l t. set-both (λ l z. AtMost (asked S c l t) (asks_in t (between S c l) ++ asks_waiting c t z.waiting ++ asks_waiting c t (S.pending l) ++ asks_of_term c t z)) S.sites i more
         (at-most-same (asked S c i t)) (λ l _. at-most-same (asked S c l t)) l))

@@ -258,8 +258,7 @@ module _ (D : Deployment) (base start number next : ℕ) (agents : ℕ → Agent
   site-ok c false q = let r = k.others c q in record {
     environment = λ e. r.start;
     ran = λ up. absurd (omega (arith, up, r.start));
-    term = r.term;
-    earlier = r.earlier;
+    term = r.term; earlier = r.earlier;
     member = λ up. absurd (omega (arith, up, r.start));
     joiner = λ j e. absurd (none-and-some r.joining e);
     keeps = λ up. absurd (omega (arith, up, r.start));
@@ -455,10 +454,7 @@ first-logs E I positive =
         environment = λ h e. if-false (is_host D h) (member_agent (new_word D I.base 1) number 1 h) (new_agent 0) e;
         members = sites-begin D I.base 1 (λ p. []) before before;
         others = λ c q. sites-rest D I.base 1 (λ p. []) before before c q (record { start = refl; term = omega arith; earlier = omega arith; joining = refl; view = refl; waiting = refl; asks = refl; joiners = refl });
-        agreed = λ h g. refl;
-        inert = λ from e c. refl;
-        told = λ c h. refl;
-        foreign = λ from e c. tt;
+        agreed = λ h g. refl; inert = λ from e c. refl; told = λ c h. refl; foreign = λ from e c. tt;
       });
       strangers = λ h e. if-false (is_host D h) (member_agent (new_word D I.base 1) number 1 h) (new_agent 0) e;
       authoritative = first-authoritative D I.base 1 (λ p. []);
@@ -485,8 +481,7 @@ emptied D start channel from e c = rw e
 stranger-rests : (S : LogState) → LogsHold S → (c : ℕ) → nat_lt c (slots S.words.deployment) ≡ false → Rests (S.sites c)
 stranger-rests S H c q = let kept = (H.sites c).stopped ((H.sites c).environment q) in record {
   start = (H.sites c).environment q;
-  term = (H.sites c).term;
-  earlier = (H.sites c).earlier;
+  term = (H.sites c).term; earlier = (H.sites c).earlier;
   joining = elim (none-or-some (S.sites c).joining) [ inl e ↦ e | inr (j, e) ↦ absurd (omega (arith, ((H.sites c).joiner j e).runs, (H.sites c).environment q)) ];
   view = (H.sites c).blank ((H.sites c).environment q);
   waiting = kept.0;

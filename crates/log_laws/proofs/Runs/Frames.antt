@@ -28,12 +28,10 @@ module _ (S : LogState) (next : ℕ) (owner : ℕ → ℕ) (channel : Actor → 
 
   views-ok : (c : ℕ) → ViewsOk S c → ViewsOk T c
   views-ok c k = record {
-    plain = k.plain;
-    began = k.began;
+    plain = k.plain; began = k.began;
     running = λ up. run_views-later S T refl (λ w i. i) (λ a w e. e) c (S.sites c).view (views (site_start S c) (agent_to_site S c)) refl (k.running up);
     starting = λ s i. let x = k.starting s i in (x.0, x.1, first_views-later S T refl (λ w i. i) (λ a w e. e) c s (views s (agent_to_site S c)) x.2);
-    wordless = k.wordless;
-    below = k.below;
+    wordless = k.wordless; below = k.below;
   }
 
   queued : (q : Queued) → QueuedLoadedOk S q → QueuedLoadedOk T q
@@ -57,19 +55,12 @@ module _ (S : LogState) (next : ℕ) (owner : ℕ → ℕ) (channel : Actor → 
         letters = k.letters;
         foreign = foreign;
         loads = record {
-          told = H.loads.told;
-          heard = H.loads.heard;
-          asked = H.loads.asked;
+          told = H.loads.told; heard = H.loads.heard; asked = H.loads.asked;
           waiting = λ h. all-mono _ _ (λ x p. asked x.from x.letter p) (S.words.agents h).waiting (H.loads.waiting h);
           queued = λ h. all-mono (QueuedLoadedOk S) (QueuedLoadedOk T) queued (S.words.agents h).initiating.queue (H.loads.queued h);
           admitted = λ x i. subst (λ h. AllLoaded S h x.start) (sym (owned x i)) (H.loads.admitted x i);
         };
-        entered = k.entered;
-        streamed = k.streamed;
-        leaderships = k.leaderships;
-        unled = k.unled;
-        some = k.some;
-        first = k.first;
+        entered = k.entered; streamed = k.streamed; leaderships = k.leaderships; unled = k.unled; some = k.some; first = k.first;
       }
 
 -- ---- in general

@@ -102,15 +102,13 @@ pub keeps : (w v : World) (k : HasLogs w) (owner : ℕ → ℕ) → v.authoritat
 keeps w v k owner authoritative counted holds strangers = record {
   next = record {
     owner = owner;
-    history = k.history;
-    logs = k.logs;
+    history = k.history; logs = k.logs;
     holds = holds;
     strangers = strangers;
     authoritative = λ p. subst (AuthoritativeOk k.logs p) (ap (λ f. f p) (sym authoritative)) (k.authoritative p);
     counted = counted;
   };
-  history = refl;
-  logs = refl;
+  history = refl; logs = refl;
   authoritative = authoritative;
 }
 

@@ -51,13 +51,7 @@ module _ (S : LogState) (ch : Actor → Actor → List Letter) (pend : ℕ → L
 
   report-moved : (p c t n m : ℕ) (tail : List Entry) → ReportOk S p c t n m tail → ReportOk (logs_moved S ch S.sites pend) p c t n m tail
   report-moved p c t n m tail k = record {
-    entered = k.entered;
-    is_entered = k.is_entered;
-    position_is = k.position_is;
-    floor_is = k.floor_is;
-    tail_is = k.tail_is;
-    part_is = k.part_is;
-    word = k.word;
+    entered = k.entered; is_entered = k.is_entered; position_is = k.position_is; floor_is = k.floor_is; tail_is = k.tail_is; part_is = k.part_is; word = k.word;
     is_word = record { decided = k.is_word.decided; term_is = k.is_word.term_is };
     follower = k.follower;
   }
@@ -87,8 +81,7 @@ module _ (E : Database) (stamp : ℕ) (S : LogState) (H : LogsHold S) (i : ℕ) 
     ended : (count : ℕ) → S.words.channel (Site slot) (Site i) ≡ record l { body = msg.StreamEnd count } ∷ ls → EndOk S slot i (record l { body = msg.StreamEnd count })
         → EndOk T slot i (record l { body = msg.StreamEnd count })
     ended count is k = record {
-      stream_start = k.stream_start;
-      everywhere = k.everywhere;
+      stream_start = k.stream_start; everywhere = k.everywhere;
       begun = λ j e s t b. subst (AllByRecursion (log.BeginsAt k.stream_start)) (same-flow) (k.begun j e s t b);
       taken = k.taken;
     }

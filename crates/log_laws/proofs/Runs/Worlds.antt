@@ -70,8 +70,7 @@ keeps-reaches w v c k n = record {
 noted : (w : World) (F : Logs) (c : Bool) (v : World) (trace : List Event) → LogsReach w F c v → LogsReach w F c (record v { trace = trace })
 noted w F c v trace r = let n = r.next in record {
   next = record { owner = n.owner; history = n.history; logs = n.logs; holds = n.holds; strangers = n.strangers; authoritative = n.authoritative; counted = n.counted };
-  onward = r.onward;
-  rises = r.rises;
+  onward = r.onward; rises = r.rises;
 }
 
 -- ---- events of sites
@@ -82,8 +81,7 @@ pub site-reaches : (w : World) (c : Bool) (k : HasLogs w) (channel : Actor → A
     → LogsReach w k.logs c (with_site (record w { channel = channel; stops = stops }) i t)
 site-reaches w c k channel stops i t G H grown = record {
   next = record {
-    owner = k.owner;
-    history = k.history;
+    owner = k.owner; history = k.history;
     logs = G;
     holds = H;
     strangers = k.strangers;
@@ -93,8 +91,7 @@ site-reaches w c k channel stops i t G H grown = record {
         (λ runs authoritative. subst (λ l. t.state.firm ≤ l.firm) (sym (set-here w.authoritative own after)) (authoritative-counted w.deployment i t.state (w.authoritative own) authoritative))
         (λ c n runs authoritative. let a = k.counted c runs authoritative in let b = (rises (part_of_slot w.deployment c)).firm in omega (arith, a, b));
   };
-  onward = λ e. grown.onward;
-  rises = λ e. rises;
+  onward = λ e. grown.onward; rises = λ e. rises;
 }
   where
     v : World
@@ -152,14 +149,10 @@ to_agent-reaches E w n from (l ∷ ls) o c k is host may =
     let r = agent-event E S n (stamp_of w) from l ls o is host (λ answered e. memory-runs w n answered from l ls o is may e) k.holds in
     record {
       next = record {
-        owner = k.owner;
-        history = r.history;
-        logs = k.logs;
-        holds = r.holds;
+        owner = k.owner; history = r.history; logs = k.logs; holds = r.holds;
         strangers = λ h e.
             if-false (h == n) (agent_turn E w.deployment n (stamp_of w) (w.agents n) from l o).state (w.agents h) (host-apart w.deployment n h host e) ∙ k.strangers h e;
-        authoritative = k.authoritative;
-        counted = k.counted;
+        authoritative = k.authoritative; counted = k.counted;
       };
       onward = λ e. onward-same k.logs;
       rises = λ e p. rises-same (w.authoritative p);
