@@ -17,7 +17,7 @@ use Rattle.cluster_model.specs.Environment.{Environment}
 use Rattle.cluster_model.specs.Sync.{site_turn}
 use Rattle.cluster_steps.specs.Lists.{In}
 use Rattle.cluster_steps.proofs.Lists.{all-at, all-from, not-both, all-both, all-mono, none-and-some, same-some}
-use Rattle.log_laws.specs.Histories.{LogState, LogsHold, ReportOk, SiteLetterOk, SiteWaitingFrom, SiteWaitingOk, IsSlot, line, line_in, between, part, site_start, term_at}
+use Rattle.log_laws.specs.Histories.{LogState, LogsHold, ReportOk, SiteLetterOk, SiteWaitingFrom, SiteWaitingOk, IsSlot, line, line_in, line_of, between, part, site_start, term_at}
 use Rattle.cluster_steps.proofs.Leaders.{leader-view}
 use Rattle.log_laws.proofs.Plain.Copies.{is-leader, leader-follows-none}
 use Rattle.log_laws.proofs.Plain.Lines.{flat-each, for-true}
