@@ -1,8 +1,7 @@
 -- What the disks show as an epoch begins: in the first world, and once a recovery has worked.
-use Rattle.disk_laws.proofs.Names.{◌≡◌, ◌<◌, ◌≤◌, Bool, true, false, List, [], ◌∷◌, length, take, refl, sym, subst, ap, ◌∙◌, inl, inr, ◌==◌, arith, false≢true, false_from_ne_true, cases_Bool, ℕ, nat_lt, map, unwrap_or, option_map, slice_index, Some, None, AllByRecursion, Entry, Database, Deployment, slots, part_of_slot, all_parts, open_in, Content, Shown, best_of, shown_of_part, chosen, mark_of, greatest_open, resolved, closed, recovered, SiteState, no_site, stopped_site, member_site, World, Input, first_world, new_word, start_from, shown_of, new_base, new_log, starts_anew, eqb-same, if-true, if-false, none-and-some, not-both, Prefix, LogState, IsSlot, part, between, log_state, HasLogs, prefix-refl, prefix-same, first_leadership, new_logs, first-logs, anew-logs, first-logs-are, anew-logs-are}
+use Rattle.disk_laws.proofs.Names.{◌≡◌, ◌<◌, ◌≤◌, Bool, true, false, List, [], ◌∷◌, length, take, refl, sym, subst, ap, ◌∙◌, inl, inr, ◌==◌, arith, false≢true, false_from_ne_true, cases_Bool, ℕ, nat_lt, map, unwrap_or, option_map, slice_index, Some, None, AllByRecursion, Entry, Database, Deployment, slots, part_of_slot, all_parts, open_in, Content, Shown, best_of, shown_of_part, chosen, mark_of, greatest_open, resolved, closed, recovered, SiteState, no_site, stopped_site, member_site, World, Input, first_world, new_word, start_from, shown_of, new_base, new_log, starts_anew, eqb-same, if-true, if-false, none-and-some, not-both, Prefix, LogState, IsSlot, part, between, log_state, HasLogs, prefix-refl, prefix-same, first_leadership, new_logs, first-logs, anew-logs, first-logs-are, anew-logs-are, Top, Written, Firm, MemberDisk, DiskOk, DisksHold, own_content, shown_at}
 use Rattle.std.proofs.Common.{take_all}
 use Rattle.word_laws.specs.Histories as word
-use Rattle.disk_laws.specs.Disks.{Top, Written, Firm, MemberDisk, DiskOk, DisksHold, own_content, shown_at}
 use Rattle.disk_laws.proofs.Order.{best-in, shown-from}
 use Rattle.disk_laws.proofs.Choices.{get-none}
 
@@ -48,9 +47,6 @@ module _ (S : LogState) (base start : ℕ) (log : ℕ → List Entry) (k : Disks
   whole : (xs : List Entry) → take (length xs) xs ≡ xs
   whole xs = take_all (length xs) xs (omega arith)
 
-  whole-prefix : (xs : List Entry) → Prefix xs (take (length xs) xs)
-  whole-prefix xs = prefix-same xs (take (length xs) xs) (sym (whole xs))
-
   own-is : (c : ℕ) (q : IsSlot S c) → own_content (site c q) ≡ Some (content (part S c))
   own-is c q = ap (λ l. Some (record { mark = base; base = length (log (part S c)); log = l })) (whole (log (part S c)))
 
@@ -62,7 +58,7 @@ module _ (S : LogState) (base start : ℕ) (log : ℕ → List Entry) (k : Disks
         mark = rw e (omega arith);
         leadership = first_leadership log (part S c);
         led = rw e (k.leadership (part S c));
-        begun = subst (λ s. Prefix (log (part S c)) (take s.on_disk s.log)) (sym e) (whole-prefix (log (part S c)));
+        begun = subst (λ s. Prefix (log (part S c)) (take s.on_disk s.log)) (sym e) (prefix-same (log (part S c)) (take (length (log (part S c))) (log (part S c))) (sym (whole (log (part S c)))));
         marked = λ _. ap (λ s. s.repaired) e;
         firm = rw e (omega arith);
         owes = inl (ap (λ s. s.owes) e);

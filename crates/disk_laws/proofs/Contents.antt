@@ -1,6 +1,5 @@
 -- Contents and firm positions from one state to a later one, and where the logs that stand behind them are.
-use Rattle.disk_laws.proofs.Names.{none-or-some, ◌≡◌, ◌<◌, ◌≤◌, Bool, true, false, List, length, take, refl, sym, subst, ap, ◌∙◌, inl, inr, arith, cases_eq, cases_lt, ℕ, Option, Some, None, AllByRecursion, Membership, Content, Shown, term_of, term_in, all-mono, same-some, none-and-some, LogState, LogsHold, Leadership, MemberOk, part, site_start, log_at, term_at, Prefix, prefix-refl, prefix-trans, prefix-take, take-prefix, take-grown, take-of-prefix, agrees-begun, copy-behind, copy-entered, last-before}
-use Rattle.disk_laws.specs.Disks.{Written, Firm, Rebuilt, ContentOk, Top, FirmOk}
+use Rattle.disk_laws.proofs.Names.{none-or-some, ◌≡◌, ◌<◌, ◌≤◌, Bool, true, false, List, length, take, refl, sym, subst, ap, ◌∙◌, inl, inr, arith, cases_eq, cases_lt, ℕ, Some, None, AllByRecursion, Membership, Content, Shown, term_of, term_in, all-mono, same-some, none-and-some, LogState, LogsHold, Leadership, MemberOk, part, site_start, log_at, term_at, Prefix, prefix-refl, prefix-trans, prefix-take, take-prefix, take-grown, take-of-prefix, agrees-begun, copy-behind, copy-entered, last-before, Written, Firm, Rebuilt, ContentOk, Top, FirmOk}
 
 -- ---- from a state to a later one
 
@@ -58,7 +57,8 @@ module _ (S T : LogState) (f : Rises S T) where
         leadership = g.0;
         led = g.1;
         begun = subst (λ b. Prefix b x.log) (sym g.2) w.begun;
-        term = w.term; above = w.above;
+        term = w.term;
+        above = w.above;
         later = h.0;
         later_led = h.1;
         prefix = prefix-trans x.log w.later.log h.0.log w.prefix h.3;
@@ -114,7 +114,7 @@ pub record Behind (S : LogState) (c mark : ℕ) : Type 0 where
 module _ (S : LogState) (H : LogsHold S) (c mark : ℕ) (r : Leadership) (led : S.logs.leadership (part S c) mark ≡ Some r) where
   word-behind : 0 < site_start S c → (w : Membership) → MemberOk S c w → mark ≤ term_of w → Behind S c mark
   word-behind up w m low = elim (none-or-some (S.logs.leadership (part S c) (term_of w))) [
-    | inl is ↦ 
+    | inl is ↦
         let unlike : mark ≡ term_of w → ⊥ = λ e. none-and-some is (ap (S.logs.leadership (part S c)) (sym e) ∙ led) in
         let l = last-before S H c w m is in
         record {

@@ -1,9 +1,8 @@
 -- After a recovery that was stopped nobody serves until one works: no agent has decided a word, and no site leads.
-use Rattle.disk_laws.proofs.Names.{◌≡◌, ◌<◌, Bool, true, false, List, refl, sym, subst, ap, ◌∙◌, ◌⊎◌, inl, inr, ◌==◌, arith, and_from, eq-eqb, ℕ, ◌||◌, Option, Some, None, AllByRecursion, list_any, Membership, Actor, Site, Deployment, host_of_slot, start_of_slot, is_slot_of, admits, Letter, Sends, Turn, AgentState, SiteState, Joining, Streamed, leads, In, Admitted, Unnamed, names, all-at, all-from, all-append, some-here, same-some, none-and-some, not-both, set-here, set-both, unnamed-not, agent-there, at-good, initiator-named, member-is, LogState, Logs, LogsHold, JoinerOk, StreamIn, ViewIn, RunViews, SiteLetterOk, IsSlot, site_start, between, agent_to_site, views, after_site, sent-either, AgentGoes, leader-view, leads-parts, took-not-named, leads-runs}
+use Rattle.disk_laws.proofs.Names.{◌≡◌, ◌<◌, Bool, true, false, List, refl, sym, subst, ap, ◌∙◌, ◌⊎◌, inl, inr, ◌==◌, arith, and_from, eq-eqb, ℕ, ◌||◌, Option, Some, None, AllByRecursion, list_any, Membership, Actor, Site, Deployment, host_of_slot, start_of_slot, is_slot_of, admits, Letter, Sends, Turn, AgentState, SiteState, Joining, Streamed, leads, In, Admitted, Unnamed, names, all-at, all-from, all-append, some-here, same-some, none-and-some, not-both, set-here, set-both, unnamed-not, agent-there, at-good, initiator-named, member-is, LogState, Logs, LogsHold, JoinerOk, StreamIn, ViewIn, RunViews, SiteLetterOk, IsSlot, site_start, between, agent_to_site, views, after_site, sent-either, AgentGoes, leader-view, leads-parts, took-not-named, leads-runs, Halted}
 use Rattle.volt_wire.specs.declared.message.Msg.TheVariants as msg
 use Rattle.word_laws.specs.Histories as word
 use Rattle.word_laws.proofs.Moves as word_moves
-use Rattle.disk_laws.specs.Disks.{Halted}
 
 -- ---- a joiner that has no stream
 
@@ -123,7 +122,8 @@ module _ (S : LogState) (K : Halted S) (n : ℕ) (from : Actor) (t : Turn AgentS
   halted-agent = record {
     decided = still-undecided;
     unnamed = λ h up. let u = still-unnamed h up in (u.not_first, u.not_admitted);
-    joiners = K.joiners; streams = K.streams;
+    joiners = K.joiners;
+    streams = K.streams;
   }
 
 -- ---- a turn of a site
@@ -174,9 +174,6 @@ module _ (S : LogState) (H : LogsHold S) (K : Halted S) (ch : Actor → Actor �
             let m = k j e in
             (j, e, m.2 ∙ ap (λ x. x.stream) (same-some (sym m.1 ∙ was.1)) ∙ was.2)
 
-    still-joiners : (c : ℕ) → 0 < site_start later c → (j : Joining) × ((later.sites c).joining ≡ Some j) × (j.stream ≡ None)
-    still-joiners = set-both (λ c x. 0 < x.start → (j : Joining) × (x.joining ≡ Some j) × (j.stream ≡ None)) S.sites i s goes-joins (λ c other up. K.joiners c up)
-
     -- So it doesn't lead.
     none-leads : leads S.words.deployment i s ≡ true → ⊥
     none-leads e =
@@ -221,8 +218,9 @@ module _ (S : LogState) (H : LogsHold S) (K : Halted S) (ch : Actor → Actor �
     -- All stays stopped in a turn of a site.
     pub halted-site : Halted later
     halted-site = record {
-      decided = K.decided; unnamed = K.unnamed;
-      joiners = still-joiners;
+      decided = K.decided;
+      unnamed = K.unnamed;
+      joiners = set-both (λ c x. 0 < x.start → (j : Joining) × (x.joining ≡ Some j) × (j.stream ≡ None)) S.sites i s goes-joins (λ c other up. K.joiners c up);
       streams = λ c m up. sent-either less i s out G (λ j ls. AllByRecursion (NoStreamFor (site_start later c)) ls) (Site c)
           (all-append (NoStreamFor (site_start later c)) (ch (Site i) (Site c)) (out (Site c)) (old-streams c i up) (new-streams c (site_start later c)))
           (λ j other. old-streams c j up) m;

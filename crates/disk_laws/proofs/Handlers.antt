@@ -1,5 +1,5 @@
 -- What a turn of a site leaves as it was of all that its disk shows, and of what the record of disks looks at.
-use Rattle.disk_laws.proofs.Names.{none-or-some, ◌≡◌, ◌≤◌, true, refl, sym, ap, ◌∙◌, ◌⊎◌, inl, inr, arith, and_parts, ℕ, not, map, Option, Some, None, AllByRecursion, Actor, Director, Client, Agent, Site, Scanner, Deployment, part_of_slot, is_some_of, term_in, Letter, Waiting, Turn, becomes, ◌▸◌, SiteState, Joining, Joiner, site_term, leader_in, is_joiner, leads, In, Prefix, all-append, all-mono, in-map-from, none-and-some, same-some, Plain, PlainWaiting, LogState, HeldOk, SiteWaitingFrom, SiteWaitingOk, leader-view, leads-parts, prefix-refl, prefix-trans}
+use Rattle.disk_laws.proofs.Names.{none-or-some, ◌≡◌, ◌≤◌, true, refl, sym, ap, ◌∙◌, ◌⊎◌, inl, inr, arith, and_parts, ℕ, not, map, Some, None, AllByRecursion, Actor, Agent, Site, Deployment, part_of_slot, is_some_of, term_in, Letter, Waiting, Turn, becomes, ◌▸◌, SiteState, Joining, Joiner, site_term, leader_in, is_joiner, leads, In, Prefix, all-append, all-mono, in-map-from, none-and-some, same-some, Plain, PlainWaiting, LogState, HeldOk, SiteWaitingFrom, SiteWaitingOk, leader-view, leads-parts, prefix-refl, prefix-trans}
 use Rattle.volt_wire.specs.declared.message.Msg.TheVariants as msg
 
 -- ---- the state behind a turn
@@ -32,7 +32,14 @@ pub record SameDisk (s u : SiteState) : Type 0 where
 -- the second site with all that of the first one
 abbrev pub with_disk : SiteState → SiteState → SiteState
 with_disk s u = record u {
-  start = s.start; greatest = s.greatest; earlier = s.earlier; view = s.view; contents = s.contents; mark = s.mark; base = s.base; on_disk = s.on_disk;
+  start = s.start;
+  greatest = s.greatest;
+  earlier = s.earlier;
+  view = s.view;
+  contents = s.contents;
+  mark = s.mark;
+  base = s.base;
+  on_disk = s.on_disk;
 }
 
 pub same-disk : (s u : SiteState) → SameDisk s (with_disk s u)
@@ -82,7 +89,7 @@ module _ (D : Deployment) (i : ℕ) (s u : SiteState) (h : DiskAt D i s u) where
   pub at-was-joiner : (k : Joining) → u.joining ≡ Some k → (j : Joining) × (s.joining ≡ Some j) × (k.stream ≡ j.stream) × (k.is_based ≡ j.is_based)
   at-was-joiner k e = elim (none-or-some s.joining) [
     | inl q ↦ absurd (none-and-some (h.member q) e)
-    | inr (j, q) ↦ 
+    | inr (j, q) ↦
         let r = h.joiner j q in
         let same : r.0 ≡ k = same-some (sym r.1 ∙ e) in
         (j, q, ap (λ x. x.stream) (sym same) ∙ r.2, ap (λ x. x.is_based) (sym same) ∙ r.3)
@@ -104,9 +111,15 @@ module _ (D : Deployment) (i : ℕ) (s u : SiteState) (h : DiskAt D i s u) where
 -- at the first state itself
 pub at-first : (D : Deployment) (i : ℕ) (s : SiteState) → DiskAt D i s s
 at-first D i s = record {
-  disk = same-disk s s; log = prefix-refl s.log;
-  member = λ e. e; joiner = λ j e. (j, e, refl, refl); repaired = λ e. e;
-  owes = inl refl; firm = inl refl; held = λ k. k; counted = λ c k. k
+  disk = same-disk s s;
+  log = prefix-refl s.log;
+  member = λ e. e;
+  joiner = λ j e. (j, e, refl, refl);
+  repaired = λ e. e;
+  owes = inl refl;
+  firm = inl refl;
+  held = λ k. k;
+  counted = λ c k. k;
 }
 
 module _ (D : Deployment) (i : ℕ) (s m u : SiteState) (h : DiskAt D i s m) (k : DiskAt D i m u) where

@@ -1,4 +1,4 @@
--- The names of other crates that the proofs use: what they know of lists and numbers, the model, the walk over it, and words.
+-- The names that the proofs use of other crates, and of this one's `specs`.
 pub use Rattle.std.proofs.Common.{Bool, List, [], ap, append-nil, append_assoc, arith, drop, false, inl, inr, length, length-take, refl, subst, suc, sym, take, take-append-drop, true, true≢false, zero, ◌++◌, ◌<◌, ◌==◌, ◌∙◌, ◌∷◌, ◌≡◌, ◌≤◌, ◌⊎◌}
 pub use Rattle.std.proofs.lemmas.Bool.{and_from, and_parts, cases_Bool, cases_eq, cases_lt, cond_both, eq-eqb, eqb-true, false_from_ne_true, false≢true, or_cases, or_parts}
 pub use Rattle.std.proofs.lemmas.Bool.Decides.{nat_tests}
@@ -30,7 +30,7 @@ pub use Rattle.cluster_model.specs.Recover.{all_shown, count_shown, left_content
 pub use Rattle.cluster_model.specs.Runs.{Happening, Reached, RunsTo, has_failed, may_happen}
 pub use Rattle.cluster_model.specs.Site.{at_least, copy_acks, firm_now, floor_now, from_agent, from_site, holds, holds_for, in_new_term, initiator_in, least_of, may_stream, on_start, on_stop, on_stream_start, ordered, own_ack, settles, site_handler, site_runs, site_takes, stream_head, takes_first_ask}
 pub use Rattle.cluster_model.specs.SiteState.{Ask, ForBase, ForJoiner, Joiner, Joining, Reported, Scanning, SiteState, Streamed, is_joiner, leader_in, leads, member_site, new_joiner, new_joining, no_site, site_term, stopped_site}
-pub use Rattle.cluster_model.specs.Sync.{after_sync, base_after, base_of, batches, content, joiner_base, joiner_owes, joiner_parts, joiner_written, mark_owed, may_stream_in, may_sync, member_written, owed_batches, owes_in, parts_of_message, parts_of_stream, parts_of_sync, site_turn, split_at, start_after, stops_so, sync_turn, syncs, written}
+pub use Rattle.cluster_model.specs.Sync.{after_sync, base_after, base_of, batches, content, joiner_base, joiner_owes, joiner_parts, joiner_written, mark_owed, may_stream_in, may_sync, member_written, owed_batches, owes_in, parts_of_message, parts_of_sync, site_turn, split_at, start_after, stops_so, sync_turn, syncs, written}
 pub use Rattle.cluster_model.specs.Words.{Deployment, admits, all_parts, host_of_slot, is_host, is_member, is_slot_of, is_some_of, part_of_slot, slots, start_of_slot, term_in, term_of}
 pub use Rattle.cluster_model.specs.World.{AuthoritativeLog, Input, Stopped, World, authoritative_after, first_world, new_word, set_at, stamp_of, start_from, stops_with, took, with_site}
 pub use Rattle.cluster_steps.proofs.Channels.{took-all}
@@ -42,7 +42,7 @@ pub use Rattle.cluster_steps.proofs.Prefixes.{prefix-append, prefix-length, pref
 pub use Rattle.cluster_steps.proofs.Sends.{all-order}
 pub use Rattle.cluster_steps.proofs.SiteTurns.{MayTakeAsks, Plain, PlainWaiting, as_entered, as_joiner, enters-walk, handler-known, joins-walk, settles-walk, site_runs-refused, site_runs-taken, site_runs-waits, stays_joiner, takes_asks-cases, turn-walk}
 pub use Rattle.cluster_steps.proofs.SiteWalk.{after_sync-walk, handler-walk}
-pub use Rattle.cluster_steps.proofs.Steps.{HandlerSteps, LetsGo, MayBeTold, SayingSteps, SmallSteps, with_acks, with_entry, with_stream}
+pub use Rattle.cluster_steps.proofs.Steps.{HandlerSteps, MayBeTold, SayingSteps, SmallSteps, with_acks, with_entry, with_stream}
 pub use Rattle.cluster_steps.specs.Lists.{In, Prefix}
 pub use Rattle.word_laws.proofs.Agreement.{at-good, initiator-named, member-is}
 pub use Rattle.word_laws.proofs.Hearings.{agent-there}
@@ -72,3 +72,5 @@ pub use Rattle.log_laws.proofs.Runs.SiteEvents.{sync-after, turn-after}
 pub use Rattle.log_laws.proofs.Runs.Worlds.{actor-slot, site-next, site-reaches}
 pub use Rattle.log_laws.specs.Copies.{AuthoritativeOk, HasLogs, log_state}
 pub use Rattle.log_laws.specs.Histories.{CountedOk, FollowsIn, HeldFor, HeldOk, InWord, IsSlot, JoinerOk, Leadership, LeadsIn, Line, LogState, Logs, LogsHold, MemberOk, RunViews, SiteLetterOk, SiteWaitingFrom, SiteWaitingOk, StreamIn, StreamedOk, Took, ViewIn, agent_to_site, between, line, log_at, part, site_start, term_at, views}
+pub use Rattle.disk_laws.specs.Survival.{GoesOnWithFirm, MayShow, Survives, firm_entries}
+pub use Rattle.disk_laws.specs.Disks.{AtLeast, ContentOk, DiskOk, DisksHold, Firm, FirmOk, Halted, MemberDisk, Rebuilt, Shows, StreamDisk, StreamLetter, StreamOk, Top, Written, own_content, shown_at}

@@ -1,6 +1,5 @@
 -- How good contents are, what the parts of an event leave of them, and what a recovery chooses.
-use Rattle.disk_laws.proofs.Names.{one-and-others, cond_both, ◌≡◌, ◌<◌, ◌≤◌, Bool, true, false, List, [], ◌∷◌, ◌++◌, length, take, drop, take-append-drop, refl, sym, subst, ap, ◌∙◌, ◌⊎◌, inl, inr, ◌==◌, arith, or_parts, cases_eq, cases_lt, or_cases, and_parts, nat_tests, ℕ, ◌&&◌, nat_lt, if◌then◌else◌, map, unwrap_or, Option, Some, None, AllByRecursion, Done, Outcome, Dropped, slots_of_part, Database, Deployment, part_of_slot, all_parts, open_in, Content, Shown, after_parts, after_failure, is_better, better, best_of, shown_of_part, chosen, mark_of, greatest_mark, greatest_open, resolved, closed, recovered, In, Prefix, in-left, in-right, in-cases, in-map, in-map-from, all-at, all-from, all-mono, LogState, IsSlot, part, part-slots, slots-part, prefix-refl}
-use Rattle.disk_laws.specs.Disks.{AtLeast, Top, shown_at}
+use Rattle.disk_laws.proofs.Names.{one-and-others, cond_both, ◌≡◌, ◌<◌, ◌≤◌, Bool, true, false, List, [], ◌∷◌, ◌++◌, length, take, drop, take-append-drop, refl, sym, subst, ap, ◌∙◌, ◌⊎◌, inl, inr, ◌==◌, arith, or_parts, cases_eq, cases_lt, or_cases, and_parts, nat_tests, ℕ, ◌&&◌, nat_lt, if◌then◌else◌, map, unwrap_or, Option, Some, None, AllByRecursion, Done, Outcome, Dropped, slots_of_part, Database, Deployment, part_of_slot, all_parts, open_in, Content, Shown, after_parts, after_failure, is_better, better, best_of, shown_of_part, chosen, mark_of, greatest_mark, greatest_open, resolved, closed, recovered, In, Prefix, in-left, in-right, in-cases, in-map, in-map-from, all-at, all-from, all-mono, LogState, IsSlot, part, part-slots, slots-part, prefix-refl, AtLeast, Top, shown_at}
 
 -- ---- one content and another
 
@@ -29,9 +28,6 @@ at_least-mark m n (Some x) (inr a) = omega (arith, a.0)
 pub in-take : {A : Type 0} (n : ℕ) (x : A) (xs : List A) → In x (take n xs) → In x xs
 in-take n x xs i = subst (In x) (take-append-drop n xs) (in-left x (take n xs) (drop n xs) i)
 
-pub in-drop : {A : Type 0} (n : ℕ) (x : A) (xs : List A) → In x (drop n xs) → In x xs
-in-drop n x xs i = subst (In x) (take-append-drop n xs) (in-right x (take n xs) (drop n xs) i)
-
 -- What is shown after them was shown before, or one of them left it.
 pub in-after_parts : (before parts : List Shown) (y : Shown) → In y (after_parts before parts) → In y before ⊎ In y parts
 in-after_parts before [] y i = inl i
@@ -40,7 +36,7 @@ in-after_parts before (c ∷ cs) y i = elim (in-after_parts (c ∷ []) cs y i) [
 pub in-after_failure : (before parts : List Shown) (n : ℕ) (y : Shown) → In y (after_failure before parts n) → In y before ⊎ In y parts
 in-after_failure before parts n y i = elim (in-cases y (after_parts before (take n parts)) (take 1 (drop n parts)) i) [
   | inl k ↦ elim (in-after_parts before (take n parts) y k) [ inl b ↦ inl b | inr p ↦ inr (in-take n y parts p) ]
-  | inr k ↦ inr (in-drop n y parts (in-take 1 y (drop n parts) k))
+  | inr k ↦ inr (subst (In y) (take-append-drop n parts) (in-right y (take n parts) (drop n parts) (in-take 1 y (drop n parts) k)))
 ]
 
 -- all that answered leave what the last of them leaves
@@ -92,10 +88,6 @@ raise-same xs ys e = subst (Raise xs) (sym e) (raise-refl xs)
 pub raise-one : (x : Content) (ys : List Shown) → AllByRecursion (AtLeast x.mark (length x.log)) ys → Raise (Some x ∷ []) ys
 raise-one x ys h y i = (Some x, inl refl, λ m n k. at_least-trans x y m n k (all-at (AtLeast x.mark (length x.log)) ys h y i))
 
--- what a blank disk comes to show is no worse
-pub raise-blank : (ys : List Shown) → Raise (None ∷ []) ys
-raise-blank ys y i = (None, inl refl, λ m n h. absurd h)
-
 -- if all parts raise what was shown, so does what is left
 module _ (before parts : List Shown) (f : Raise before parts) where
   raised : (y : Shown) → In y before ⊎ In y parts → (x : Shown) × In x before × ((m n : ℕ) → AtLeast m n x → AtLeast m n y)
@@ -111,10 +103,6 @@ module _ (before parts : List Shown) (f : Raise before parts) where
   pub raise-take : (n : ℕ) → Raise before (take n parts)
   raise-take n y i = f y (in-take n y parts i)
 
--- what all contents were at least, all are that were raised
-pub raise-all : (xs ys : List Shown) (m n : ℕ) → Raise xs ys → AllByRecursion (AtLeast m n) xs → AllByRecursion (AtLeast m n) ys
-raise-all xs ys m n f h = all-from (AtLeast m n) ys (λ y i. let r = f y i in r.2 m n (all-at (AtLeast m n) xs h r.0 r.1))
-
 -- ---- the best that a partition's disks show
 
 module _ (S T : LogState) (same : T.words.deployment ≡ S.words.deployment) where
@@ -124,7 +112,8 @@ module _ (S T : LogState) (same : T.words.deployment ≡ S.words.deployment) whe
 
   -- where each slot's contents are raised
   pub top-later : ((c : ℕ) → IsSlot S c → Raise (shown_at S c) (shown_at T c)) → (p m n : ℕ) → Top S p m n → Top T p m n
-  top-later f p m n t = top-on p m n t (raise-all (shown_at S t.slot) (shown_at T t.slot) m n (f t.slot t.is_slot) t.all)
+  top-later f p m n t = top-on p m n t
+      (all-from (AtLeast m n) (shown_at T t.slot) (λ y i. let r = f t.slot t.is_slot y i in r.2 m n (all-at (AtLeast m n) (shown_at S t.slot) t.all r.0 r.1)))
 
   -- where those of one slot are, and the others stay
   pub top-raise : (i : ℕ) → Raise (shown_at S i) (shown_at T i) → ((c : ℕ) → (c ≡ i → ⊥) → shown_at T c ≡ shown_at S c)
@@ -243,7 +232,6 @@ module _ (D : Deployment) (shown : ℕ → Shown) where
       from None q k = absurd k
       from (Some x) q k =
           let r = shown-from p (Some x) (best-in (shown_of_part D shown p) x q) in
-
           record { slot = r.0; part_is = r.1; content = x; shows = r.2; log_is = rw q refl; good = k }
 
 -- so it is where each disk shows what it may

@@ -1,6 +1,5 @@
 -- What is said of the disk of a running site, of its state alone: a turn that leaves its disk keeps it.
-use Rattle.disk_laws.proofs.Names.{◌≡◌, ◌<◌, ◌≤◌, Bool, true, false, [], ◌∷◌, length, take, refl, sym, subst, ap, ◌∙◌, ◌⊎◌, inl, inr, arith, ℕ, Option, Some, None, AllByRecursion, Shown, mark_of, Deployment, SiteState, Joining, Streamed, site_term, LogState, Leadership, part, Prefix, take-grown}
-use Rattle.disk_laws.specs.Disks.{Firm, ContentOk, StreamDisk, DiskOk, own_content}
+use Rattle.disk_laws.proofs.Names.{◌≡◌, ◌<◌, ◌≤◌, Bool, true, false, [], ◌∷◌, length, take, refl, sym, subst, ap, ◌∙◌, ◌⊎◌, inl, inr, arith, ℕ, Option, Some, None, AllByRecursion, Shown, mark_of, Deployment, SiteState, Joining, Streamed, site_term, LogState, Leadership, part, Prefix, take-grown, Firm, ContentOk, StreamDisk, DiskOk, own_content}
 use Rattle.disk_laws.proofs.Handlers.{DiskAt, FirmRises, at-term, at-was-member, at-was-joiner}
 
 -- Of a member, in whose partition these terms were led, and this was counted firm.
@@ -46,14 +45,18 @@ module _ (S : LogState) (F : Firm) (halted : Bool) (c : ℕ) where
   -- What is said of it is said of its site, and the other way round.
   pub disk-own : DiskOk S F halted c → OwnAt (S.sites c)
   disk-own k = record {
-    some = k.some; contents = k.contents; marks = k.marks;
+    some = k.some;
+    contents = k.contents;
+    marks = k.marks;
     member = λ up none. let m = k.member up none in search m.led;
     joiner = λ e j is. stream-own j j.stream (k.joiner e j is);
   }
 
   pub own-disk : (s : SiteState) → S.sites c ≡ s → OwnAt s → DiskOk S F halted c
   own-disk s e o = let k : OwnAt (S.sites c) = subst OwnAt (sym e) o in record {
-    some = k.some; contents = k.contents; marks = k.marks;
+    some = k.some;
+    contents = k.contents;
+    marks = k.marks;
     member = λ up none. let m = k.member up none in search m.is_led;
     joiner = λ e j is. own-stream j j.stream (k.joiner e j is);
   }
@@ -68,7 +71,8 @@ own-on halted C B led later top more s contents kept up k = record {
   contents = contents k.contents;
   marks = k.marks;
   member = λ run none. let m = k.member run none in let r = kept s.mark m.leadership m.is_led in record {
-    shows = m.shows; mark = m.mark;
+    shows = m.shows;
+    mark = m.mark;
     leadership = r.0;
     is_led = r.1;
     begun = rw (r.2) m.begun;

@@ -1,9 +1,8 @@
 -- A recovery that is stopped: what the disks show from then on, and that all hosts stay stopped.
-use Rattle.disk_laws.proofs.Names.{none-or-some, cond_both, ◌≡◌, ◌<◌, Bool, true, false, List, [], ◌∷◌, true≢false, refl, sym, subst, inl, inr, ◌==◌, arith, cases_Bool, and_parts, eqb-true, nat_tests, ℕ, ◌&&◌, nat_lt, if◌then◌else◌, slice_index, Option, Some, None, AllByRecursion, list_all, range_with_len, Membership, Msg, Database, slots, is_host, Blocks, Letter, Shown, mark_of, DisksShow, World, shown_of, all_shown, new_base, new_content, left_contents, stays_stopped, is_stopped, may_recover, is_shown, is_slot_or_none, allows, In, names, all-at, all-from, all-mono, in-map, list_all-at, some-here, LogState, IsSlot, part, between, log_state, HasLogs, range-in}
+use Rattle.disk_laws.proofs.Names.{none-or-some, cond_both, ◌≡◌, ◌<◌, Bool, true, false, List, [], ◌∷◌, true≢false, refl, sym, subst, inl, inr, ◌==◌, arith, cases_Bool, and_parts, eqb-true, nat_tests, ℕ, ◌&&◌, nat_lt, if◌then◌else◌, slice_index, Some, None, AllByRecursion, list_all, range_with_len, Msg, Database, slots, is_host, Blocks, Letter, Shown, mark_of, DisksShow, World, shown_of, all_shown, new_base, new_content, left_contents, stays_stopped, is_stopped, may_recover, is_shown, is_slot_or_none, allows, In, names, all-at, all-from, all-mono, in-map, list_all-at, some-here, LogState, IsSlot, part, between, log_state, HasLogs, range-in, AtLeast, Top, Firm, ContentOk, StreamOk, StreamLetter, Halted, DisksHold}
 use Rattle.volt_wire.specs.declared.message.Msg.TheVariants as msg
 use Rattle.volt_wire.specs.declared.event.Event.TheVariants as event
 use Rattle.word_laws.specs.Histories as word
-use Rattle.disk_laws.specs.Disks.{AtLeast, Top, Firm, ContentOk, StreamOk, StreamLetter, Halted, DisksHold}
 use Rattle.disk_laws.proofs.Order.{Raise, greatest_mark-above, at_least-mark, top-later}
 use Rattle.disk_laws.proofs.Contents.{rises-same, content-later, firm-later}
 use Rattle.disk_laws.proofs.Choices.{get-none, disk-shows, world-shows, recovered-firm}
@@ -144,7 +143,7 @@ module _ (E : Database) (w : World) (k : HasLogs w) (F : Firm) (halted : Bool) (
   undecided : is_stopped w ≡ true → (h : ℕ) → (w.agents h).decided ≡ None
   undecided s h = elim (none-or-some (w.agents h).decided) [
     | inl e ↦ e
-    | inr (v, e) ↦ 
+    | inr (v, e) ↦
         let d = some-here (λ x. In x k.history.decided × (names x (w.agents h).start ≡ true)) (w.agents h).decided v e (k.holds.words.agents h).decided in
         let named : names v 0 ≡ true = subst (λ n. names v n ≡ true) (agent-stopped s h) d.1 in
         absurd (omega (arith, ((k.holds.words.history.decided_good v d.0).named_begun 0 named).some))

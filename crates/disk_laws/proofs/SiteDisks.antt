@@ -1,9 +1,8 @@
 -- What disks show is kept when one site's state changes: the other sites, the letters, and what is firm.
-use Rattle.disk_laws.proofs.Names.{one-and-others, cond_both, ◌≡◌, ◌<◌, ◌≤◌, Bool, true, false, List, length, take, length-take, refl, sym, subst, ap, ◌∙◌, ◌⊎◌, inl, inr, arith, cases_Bool, cases_eq, cases_lt, ℕ, nat_le, max, if◌then◌else◌, None, AllByRecursion, Actor, Site, Shown, Deployment, part_of_slot, term_of, term_in, Letter, Sends, SiteState, site_term, leads, AuthoritativeLog, set_at, authoritative_after, In, all-at, all-from, all-append, none-and-some, if-false, set-here, set-there, LogState, Logs, LogsHold, IsSlot, part, site_start, log_at, between, leader-view, leads-parts, Leading, leading, Grown, after_site, here, there, sent-either, leads-runs}
+use Rattle.disk_laws.proofs.Names.{one-and-others, cond_both, ◌≡◌, ◌<◌, ◌≤◌, Bool, true, false, List, length, take, length-take, refl, sym, subst, ap, ◌∙◌, ◌⊎◌, inl, inr, arith, cases_Bool, cases_lt, ℕ, nat_le, max, if◌then◌else◌, None, AllByRecursion, Actor, Site, Shown, Deployment, part_of_slot, term_of, term_in, Letter, Sends, SiteState, site_term, leads, AuthoritativeLog, set_at, authoritative_after, In, all-at, all-from, all-append, none-and-some, if-false, set-here, set-there, LogState, Logs, LogsHold, IsSlot, part, site_start, log_at, between, leader-view, leads-parts, Leading, leading, Grown, after_site, here, there, sent-either, leads-runs, AtLeast, Top, Firm, ContentOk, DiskOk, StreamLetter, Halted, FirmOk, DisksHold}
 use Rattle.volt_wire.specs.declared.message.Msg.TheVariants as msg
 use Rattle.disk_laws.proofs.Contents.{Rises, contents-later, firm-later}
 use Rattle.disk_laws.proofs.Own.{OwnAt, disk-own, own-disk, own-on}
-use Rattle.disk_laws.specs.Disks.{AtLeast, Top, Firm, ContentOk, DiskOk, StreamLetter, Halted, FirmOk, DisksHold}
 
 -- ---- what is firm, after a turn of one site
 
@@ -63,9 +62,6 @@ module _ (S : LogState) (H : LogsHold S) (F M : Firm) (halted : Bool) (K : Disks
     firm-same : leads D i s ≡ false → (p : ℕ) → M p ≡ F p
     firm-same e = one-and-others _ (part S i) (raised.own ∙ if-false (leads D i s) (max (F (part S i)) s.firm) (F (part S i)) e) raised.others
 
-    halted-same : halted ≡ true → (p : ℕ) → M p ≡ F p
-    halted-same e = elim (cases_Bool (leads D i s)) [ inl l ↦ absurd (none-leads e l) | inr l ↦ firm-same l ]
-
     -- it never falls
     pub firm-up : (p : ℕ) → F p ≤ M p
     firm-up = one-and-others _ (part S i)
@@ -79,7 +75,7 @@ module _ (S : LogState) (H : LogsHold S) (F M : Firm) (halted : Bool) (K : Disks
 
     -- What a disk may show stays what it may show.
     pub contents-on : (p : ℕ) (xs : List Shown) → AllByRecursion (ContentOk S F halted p) xs → AllByRecursion (ContentOk later M halted p) xs
-    contents-on p = contents-later S later rises H L F M p (K.firm p) halted (λ e. halted-same e p)
+    contents-on p = contents-later S later rises H L F M p (K.firm p) halted (λ e. elim (cases_Bool (leads D i s)) [ inl l ↦ absurd (none-leads e l) | inr l ↦ firm-same l p ])
 
     -- ---- the other slots
 
@@ -101,7 +97,8 @@ module _ (S : LogState) (H : LogsHold S) (F M : Firm) (halted : Bool) (K : Disks
       firm-raised : leads D i s ≡ true → M (part S i) ≡ s.firm → s.mark ≡ site_term s → s.firm ≤ s.on_disk → FirmOk later M (part S i)
       firm-raised l e mark disk = let marked : (later.sites i).mark ≡ term_of x.word = subst (λ z. z.mark ≡ site_term z) (sym site) mark ∙ ap term_in x.view in record {
         term = term_of x.word;
-        leadership = x.leadership; led = x.led;
+        leadership = x.leadership;
+        led = x.led;
         reach = let a = x.member.firm in let b = ap (λ z. z.firm) site in omega (arith, a, b, e);
         top = λ some. record {
           slot = i;
@@ -132,9 +129,6 @@ module _ (S : LogState) (H : LogsHold S) (F M : Firm) (halted : Bool) (K : Disks
           ])
           (λ l e. firm-kept (part S i) e) raised.own
 
-      firm-on : (p : ℕ) → FirmOk later M p
-      firm-on = one-and-others _ (part S i) firm-own (λ p n. firm-kept p (raised.others p n))
-
       -- ---- letters
 
       letter-on : (c : ℕ) (l : Letter) → StreamLetter S c l → StreamLetter later c l
@@ -152,7 +146,7 @@ module _ (S : LogState) (H : LogsHold S) (F M : Firm) (halted : Bool) (K : Disks
         streams = λ j c is. sent-either less i s out G (λ j ls. AllByRecursion (StreamLetter later c) ls) (Site c)
             (all-append (StreamLetter later c) (ch (Site i) (Site c)) (out (Site c)) (old i c is) (new c is))
             (λ k n. old k c is) j;
-        firm = firm-on;
+        firm = one-and-others _ (part S i) firm-own (λ p n. firm-kept p (raised.others p n));
         halts = halts;
       }
         where

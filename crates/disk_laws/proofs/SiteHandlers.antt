@@ -1,5 +1,5 @@
 -- What a turn of a site leaves of its disk: it goes on over each small step.
-use Rattle.disk_laws.proofs.Names.{cond_both, ◌≡◌, ◌≤◌, Bool, true, false, List, [], ◌∷◌, ◌++◌, refl, sym, subst, ap, ◌∙◌, ◌⊎◌, inl, inr, ◌==◌, arith, cases_lt, eqb-true, map-append, ℕ, ◌+◌, map, max, filter, length, nat_lt, if◌then◌else◌, Option, Some, None, AllByRecursion, Entry, Sp, Frag, Done, StreamHead, Membership, Actor, Agent, Site, Msg, Database, Deployment, Blocks, Letter, Turn, becomes, ◌▸◌, letter_in, only, Arrival, arrival, Taken, Refused, Waits, SiteState, Joining, Reported, Joiner, Ask, leads, site_term, holds, holds_for, initiator_in, own_ack, copy_acks, least_of, at_least, firm_now, floor_now, in_new_term, stream_head, takes_first_ask, on_stream_start, settles, ordered, from_agent, from_site, site_handler, site_runs, after_sync, In, Prefix, all-append, all-filter, all-mono, in-left, in-right, in-map, none-and-some, same-some, prefix-refl, prefix-append, least_of-below, all-order, InertLetter, AlikeJoiners, holds_for-cases, mapped-joiners, with_rest, LetsGo, SmallSteps, SayingSteps, HandlerSteps, MayBeTold, with_acks, with_entry, after_sync-walk, handler-walk, Plain, PlainWaiting, MayTakeAsks, as_entered, as_joiner, takes_asks-cases, enters-walk, handler-known, joins-walk, site_runs-refused, site_runs-taken, site_runs-waits, settles-walk, stays_joiner, turn-walk, HeldOk, HeldFor, answers-all, held-away}
+use Rattle.disk_laws.proofs.Names.{cond_both, ◌≡◌, ◌≤◌, Bool, true, false, List, [], ◌∷◌, ◌++◌, refl, sym, subst, ap, ◌∙◌, ◌⊎◌, inl, inr, ◌==◌, arith, cases_lt, eqb-true, map-append, ℕ, ◌+◌, map, max, filter, length, nat_lt, if◌then◌else◌, Option, Some, None, AllByRecursion, Entry, Sp, Frag, Done, StreamHead, Membership, Actor, Agent, Site, Msg, Database, Deployment, Blocks, Letter, Turn, becomes, ◌▸◌, letter_in, only, Arrival, arrival, Taken, Refused, Waits, SiteState, Joining, Reported, Joiner, Ask, leads, site_term, holds, holds_for, initiator_in, own_ack, copy_acks, least_of, at_least, firm_now, floor_now, in_new_term, stream_head, takes_first_ask, on_stream_start, settles, ordered, from_agent, from_site, site_handler, site_runs, after_sync, In, Prefix, all-append, all-filter, all-mono, in-left, in-right, in-map, none-and-some, same-some, prefix-refl, prefix-append, least_of-below, all-order, InertLetter, AlikeJoiners, holds_for-cases, mapped-joiners, with_rest, SmallSteps, SayingSteps, HandlerSteps, MayBeTold, with_acks, with_entry, after_sync-walk, handler-walk, Plain, PlainWaiting, MayTakeAsks, as_entered, as_joiner, takes_asks-cases, enters-walk, handler-known, joins-walk, site_runs-refused, site_runs-taken, site_runs-waits, settles-walk, stays_joiner, turn-walk, HeldOk, HeldFor, answers-all, held-away}
 use Rattle.volt_wire.specs.declared.message.Msg.TheVariants as msg
 use Rattle.disk_laws.proofs.Handlers.{DiskAt, DiskHandler, same-disk, BeginsStream, Counts, at-first, handler-becomes, handler-then}
 
@@ -8,7 +8,14 @@ use Rattle.disk_laws.proofs.Handlers.{DiskAt, DiskHandler, same-disk, BeginsStre
 -- the first site with what a disk doesn't go by of the second one
 abbrev pub with_unseen : SiteState → SiteState → SiteState
 with_unseen s u = record (with_rest s u) {
-  stop = u.stop; log = u.log; reports = u.reports; acks = u.acks; held = u.held; joiners = u.joiners; waiting = u.waiting; plans = u.plans;
+  stop = u.stop;
+  log = u.log;
+  reports = u.reports;
+  acks = u.acks;
+  held = u.held;
+  joiners = u.joiners;
+  waiting = u.waiting;
+  plans = u.plans;
 }
 
 -- what says nothing begins no stream
@@ -47,9 +54,15 @@ module _ (D : Deployment) (i : ℕ) where
 
   at-rest : (s u : SiteState) → Prefix s.log u.log → (AllByRecursion HeldOk s.held → AllByRecursion HeldOk u.held) → ((c : ℕ) → Counts s c → Counts u c) → DiskAt D i s (with_unseen s u)
   at-rest s u log held counted = record {
-    disk = same-disk s (with_unseen s u); log = log;
-    member = λ e. e; joiner = λ j e. (j, e, refl, refl); repaired = λ e. e;
-    owes = inl refl; firm = inl refl; held = held; counted = counted
+    disk = same-disk s (with_unseen s u);
+    log = log;
+    member = λ e. e;
+    joiner = λ j e. (j, e, refl, refl);
+    repaired = λ e. e;
+    owes = inl refl;
+    firm = inl refl;
+    held = held;
+    counted = counted;
   }
 
   disk-rest : (s u : SiteState) → Prefix s.log u.log → (AllByRecursion HeldOk s.held → AllByRecursion HeldOk u.held) → ((c : ℕ) → Counts s c → Counts u c) → R s (becomes (with_unseen s u))
@@ -84,7 +97,9 @@ module _ (D : Deployment) (i : ℕ) where
     joiner = λ j e. (j, e, refl, refl);
     repaired = λ e. refl;
     owes = inr (refl, refl);
-    firm = inl refl; held = λ h. h; counted = λ c h. h;
+    firm = inl refl;
+    held = λ h. h;
+    counted = λ c h. h;
   })
 
   disk-moves : SmallSteps R
@@ -104,7 +119,11 @@ module _ (D : Deployment) (i : ℕ) where
     log = more;
     member = λ e. absurd (none-and-some e is);
     joiner = λ x e. let q : j ≡ x = same-some (sym is ∙ e) in (k, refl, stream ∙ ap (λ y. y.stream) q, based ∙ ap (λ y. y.is_based) q);
-    repaired = λ e. e; owes = inl refl; firm = inl refl; held = λ h. h; counted = λ c h. h;
+    repaired = λ e. e;
+    owes = inl refl;
+    firm = inl refl;
+    held = λ h. h;
+    counted = λ c h. h;
   })
 
   disk-counted : (s : SiteState) → leads D i s ≡ true → (acks : List (ℕ × ℕ)) (joiners : List Joiner) → AlikeJoiners joiners s.joiners
@@ -114,7 +133,8 @@ module _ (D : Deployment) (i : ℕ) where
     log = prefix-refl s.log;
     member = λ e. e;
     joiner = λ j e. (j, e, refl, refl);
-    repaired = λ e. e; owes = inl refl;
+    repaired = λ e. e;
+    owes = inl refl;
     firm = elim (firm-cases D i m) [ inl e ↦ inl e | inr r ↦ inr (record { leads = authoritative; mark = r.0; disk = r.1; above = r.2 }) ];
     held = all-filter HeldOk (λ d. nat_lt (firm_now D i m) d.position) s.held;
     counted = λ c. subst (In c) (sym same.slots);
@@ -145,9 +165,6 @@ module _ (D : Deployment) (i : ℕ) where
     repair = λ s slot l from entries k. disk-repaired s _ s.reports;
     stream = λ s slot l head j k is may. absurd k;
   }
-
-  disk-lets : LetsGo R
-  disk-lets s ws less = disk-same s (record s { waiting = ws }) refl refl refl
 
 -- ---- a joiner that is taken: its stream begins, under a mark that is on the leader's disk
 
@@ -199,7 +216,7 @@ module _ (E : Database) (D : Deployment) (i : ℕ) where
     -- whose handler is from b on
     taken-handler : arrival s.start (site_term s) l ≡ Taken → (b : SiteState) → DiskHandler D i b (site_handler E D stamp i s from l) → DiskHandler D i b (site_runs E D stamp i s from l)
     taken-handler takes b handler = subst (DiskHandler D i b) (sym (site_runs-taken E D stamp i s from l takes)) (ordered-handler b _
-        (turn-walk E D stamp i (λ _ from l. Plain from l) (DiskHandler D i) (disk-steps D i E stamp) (disk-lets D i) disk-tells disk-asks b (site_handler E D stamp i s from l) handler
+        (turn-walk E D stamp i (λ _ from l. Plain from l) (DiskHandler D i) (disk-steps D i E stamp) (λ s ws less. disk-same D i s (record s { waiting = ws }) refl refl refl) disk-tells disk-asks b (site_handler E D stamp i s from l) handler
         (handler-known E D stamp i s from l plain)))
 
     pub refused-handler : arrival s.start (site_term s) l ≡ Refused → DiskHandler D i s (site_runs E D stamp i s from l)

@@ -1,7 +1,6 @@
 -- Disks hold after a site has taken a message, whatever the environment's share is.
-use Rattle.disk_laws.proofs.Names.{none-or-some, cond_both, ◌≡◌, ◌<◌, ◌≤◌, Bool, true, false, List, [], ◌∷◌, ◌++◌, length, take, length-take, append_assoc, refl, sym, subst, ap, ◌∙◌, ◌⊎◌, inl, inr, ◌==◌, arith, cases_Bool, and_parts, nat_tests, ℕ, ◌&&◌, not, nat_lt, nat_le, is_none, is_some, max, if◌then◌else◌, Option, Some, None, AllByRecursion, StreamHead, Membership, Actor, Director, Client, Agent, Site, Scanner, Msg, Database, Deployment, host_of_slot, is_member, term_of, term_in, Shown, mark_of, after_parts, after_failure, Blocks, Letter, Turn, becomes, sending, only, open_letter, Arrival, arrival, Taken, Refused, Waits, SiteState, Joining, Streamed, new_joiner, stopped_site, site_term, is_joiner, in_new_term, may_stream, on_stream_start, on_start, on_stop, site_runs, site_takes, may_stream_in, parts_of_stream, parts_of_message, stops_so, start_after, site_turn, starts_in, Environment, NoFault, DiskFails, NoMemory, DisksShow, In, Prefix, all-mono, none-and-some, same-some, not-both, start-is_member, LogState, Logs, Leadership, LogsHold, IsSlot, SiteLetterOk, SiteWaitingOk, JoinerOk, ViewIn, StreamIn, InWord, Took, HeldOk, StreamedOk, agent_to_site, part, site_start, log_at, term_at, prefixes-order, prefix-trans, prefix-take, Grown, after_site, site_popped, here, taken-for, waits-for, later-word, with_stream, Plain, PlainWaiting, as_entered, as_joiner, stays_joiner}
+use Rattle.disk_laws.proofs.Names.{none-or-some, cond_both, ◌≡◌, ◌<◌, ◌≤◌, Bool, true, false, List, [], ◌∷◌, ◌++◌, length, take, length-take, append_assoc, refl, sym, subst, ap, ◌∙◌, ◌⊎◌, inl, inr, ◌==◌, arith, cases_Bool, and_parts, nat_tests, ℕ, ◌&&◌, not, nat_lt, nat_le, is_none, is_some, max, if◌then◌else◌, Option, Some, None, AllByRecursion, StreamHead, Membership, Actor, Agent, Site, Msg, Database, Deployment, host_of_slot, is_member, term_of, term_in, Shown, mark_of, after_parts, after_failure, Blocks, Letter, Turn, becomes, Arrival, arrival, Taken, Refused, Waits, SiteState, Joining, Streamed, stopped_site, site_term, is_joiner, in_new_term, may_stream, on_stream_start, on_start, on_stop, site_runs, site_takes, may_stream_in, parts_of_message, stops_so, start_after, site_turn, starts_in, Environment, NoFault, DiskFails, NoMemory, DisksShow, In, Prefix, all-mono, none-and-some, same-some, not-both, start-is_member, LogState, Logs, Leadership, LogsHold, IsSlot, SiteLetterOk, SiteWaitingOk, JoinerOk, ViewIn, StreamIn, InWord, Took, HeldOk, StreamedOk, agent_to_site, part, site_start, log_at, term_at, prefixes-order, prefix-trans, prefix-take, Grown, after_site, site_popped, here, taken-for, waits-for, later-word, with_stream, Plain, PlainWaiting, as_entered, as_joiner, stays_joiner, Firm, ContentOk, StreamDisk, StreamOk, StreamLetter, Halted, DisksHold, shown_at}
 use Rattle.volt_wire.specs.declared.message.Msg.TheVariants as msg
-use Rattle.disk_laws.specs.Disks.{Firm, ContentOk, StreamDisk, StreamOk, StreamLetter, Halted, DisksHold, shown_at}
 use Rattle.disk_laws.proofs.Order.{Raise, in-take, in-after_parts, in-after_failure, some-after_parts, some-after_failure, raise-take, raise-after_parts, raise-after_failure}
 use Rattle.disk_laws.proofs.Handlers.{DiskHandler, waiting-plain}
 use Rattle.disk_laws.proofs.SiteHandlers.{plain-handler, refused-handler, stream-handler, joins-handler, enters-handler, entered-held}
@@ -81,14 +80,12 @@ module _ (S : LogState) (H : LogsHold S) (F : Firm) (halted : Bool) (K : DisksHo
       above : s.earlier < l.term
       above = let e = (and_parts (is_none j.stream) (nat_lt s.earlier l.term) may).1 in grind (arith, nat_tests, e)
 
-      old-marks : AllByRecursion (λ x. mark_of x ≤ s.earlier) (shown_at S i)
-      old-marks = subst (StreamDisk S i j) fresh ((K.disks i slot).joiner goes-on j joins)
-
       -- its disk may be wiped
       pub wiped : Wiped S i
       wiped = record {
         mark = l.term;
-        marks = all-mono (λ x. mark_of x ≤ s.earlier) (λ x. mark_of x < l.term) (λ x a. let b = above in omega (arith, a, b)) (shown_at S i) old-marks;
+        marks = all-mono (λ x. mark_of x ≤ s.earlier) (λ x. mark_of x < l.term) (λ x a. let b = above in omega (arith, a, b)) (shown_at S i)
+            (subst (StreamDisk S i j) fresh ((K.disks i slot).joiner goes-on j joins));
         top = letter.top;
       }
 
@@ -151,9 +148,6 @@ module _ (S : LogState) (H : LogsHold S) (F : Firm) (halted : Bool) (K : DisksHo
       abbrev word-for : l.start ≡ site_start S i
       word-for = word-start S H i slot up h l w ls is take-it
 
-      later-named : (v : Membership) → s.view ≡ Some v → is_member w (host_of_slot D i) (site_start S i) ≡ true
-      later-named v e = start-is_member w (host_of_slot D i) (site_start S i) (later-word S H h i l w ls is word-for up v e).1
-
       higher : term_at S i < term_of w
       higher = later-term S H i slot up h l w ls is take-it
 
@@ -167,12 +161,13 @@ module _ (S : LogState) (H : LogsHold S) (F : Firm) (halted : Bool) (K : DisksHo
           where
             choice : (o : Option Membership) → s.view ≡ o → o ≡ None
             choice None e = refl
-            choice (Some v) e = absurd (both-not (is_member w (host_of_slot D i) (site_start S i)) (later-named v e)
+            choice (Some v) e = absurd (both-not (is_member w (host_of_slot D i) (site_start S i)) (start-is_member w (host_of_slot D i) (site_start S i) (later-word S H h i l w ls is word-for up v e).1)
                 (and_parts (is_joiner s) (not (is_member w (host_of_slot D i) (site_start S i))) stays).1)
 
         joins-own : (C : Shown → Type 0) (led : ℕ → Option Leadership) (top : ℕ) → Own halted C led top s → Own halted C led top (as_joiner s w)
         joins-own C led top o = record {
-          some = o.some; contents = o.contents;
+          some = o.some;
+          contents = o.contents;
           marks = λ e. all-mono (λ x. mark_of x ≤ s.greatest) (λ x. mark_of x ≤ max s.greatest (term_of w)) (λ x a. omega (arith, a)) (shown_at S i) (o.marks e);
           member = λ _ none. absurd (not-none s.joining (and_parts (is_joiner s) (not (is_member w (host_of_slot D i) (site_start S i))) stays).0 none);
           joiner = λ e j q.
@@ -282,9 +277,12 @@ module _ (S : LogState) (H : LogsHold S) (F : Firm) (halted : Bool) (K : DisksHo
             record {
               shows = m.shows;
               mark = let a = m.mark in omega (arith, a, above);
-              leadership = m.leadership; is_led = m.is_led; begun = m.begun;
+              leadership = m.leadership;
+              is_led = m.is_led;
+              begun = m.begun;
               marked = λ q. let a = m.mark in absurd (omega (arith, a, above, q));
-              firm = m.firm; owes = inl refl;
+              firm = m.firm;
+              owes = inl refl;
             }
 
         joiner-own : (j : Joining) → s.joining ≡ Some j → OwnMember (G.leadership (part S i)) (M (part S i)) (as_entered s w)

@@ -1,6 +1,5 @@
 -- What a Sync writes: what a disk shows after each of its parts, and after all of them.
-use Rattle.disk_laws.proofs.Names.{cond_both, ◌≡◌, ◌<◌, ◌≤◌, Bool, true, false, List, [], ◌∷◌, ◌++◌, length, append-nil, refl, ap, ◌∙◌, ◌⊎◌, inl, inr, true≢false, arith, or_parts, and_parts, nat_tests, ℕ, ◌&&◌, ◌||◌, nat_lt, if◌then◌else◌, Option, Some, None, is_some, unwrap_or, AllByRecursion, Shown, after_parts, SiteState, Streamed, Joining, Scanning, ForJoiner, ForBase, content, mark_owed, split_at, batches, owed_batches, parts_of_sync, base_of, base_after, joiner_base, joiner_parts, all-append, all-one, all-if, not-both}
-use Rattle.disk_laws.specs.Disks.{own_content}
+use Rattle.disk_laws.proofs.Names.{cond_both, ◌≡◌, ◌<◌, ◌≤◌, Bool, true, false, List, [], ◌∷◌, ◌++◌, length, append-nil, refl, ap, ◌∙◌, ◌⊎◌, inl, inr, true≢false, arith, or_parts, and_parts, nat_tests, ℕ, ◌&&◌, ◌||◌, nat_lt, if◌then◌else◌, Option, Some, None, is_some, unwrap_or, AllByRecursion, Shown, after_parts, SiteState, Streamed, Joining, Scanning, ForJoiner, ForBase, content, mark_owed, split_at, batches, owed_batches, parts_of_sync, base_of, base_after, joiner_base, joiner_parts, all-append, all-one, all-if, not-both, own_content}
 use Rattle.disk_laws.proofs.Order.{after_parts-last}
 
 -- ---- a member
@@ -28,7 +27,8 @@ module _ (s : SiteState) (low : s.on_disk ≤ length s.log) where
       all-append (PartOf s) (if nat_lt s.on_disk position && nat_lt position (length s.log) then content s.mark s.base s position ∷ [] else [])
       (content (mark_owed s) s.base s (length s.log) ∷ [])
       (all-one (PartOf s) (nat_lt s.on_disk position && nat_lt position (length s.log)) (content s.mark s.base s position) (λ e. record {
-        mark = s.mark; base = s.base;
+        mark = s.mark;
+        base = s.base;
         end = position;
         shows = refl;
         from = let k : s.on_disk < position = grind (arith, nat_tests, (and_parts (nat_lt s.on_disk position) (nat_lt position (length s.log)) e).0) in omega (arith, k);
@@ -132,7 +132,7 @@ module _ (s : SiteState) (j : Joining) (st : Streamed) (based : j.is_based ≡ t
   stream-last low before shows loaded from = cond_both j.is_based _ _ (λ z. after_parts before z ≡ content st.mark st.stream_start s (length s.log) ∷ [])
       (λ e. based-last (based e) (shows e) (nat_lt s.on_disk (length s.log)) refl)
       (λ e. ap (λ b. after_parts before (if b then joiner_base s st else [])) loaded ∙ cond_both (nat_lt st.stream_start (length s.log)) _ _ (λ z. after_parts before (content st.mark st.stream_start s st.stream_start ∷ z) ≡ content st.mark st.stream_start s (length s.log) ∷ [])
-          (λ e. refl) (λ e. let end : st.stream_start ≡ length s.log = grind (arith, nat_tests, from, e) in ap (λ n. content st.mark st.stream_start s n ∷ []) end))
+      (λ e. refl) (λ e. let end : st.stream_start ≡ length s.log = grind (arith, nat_tests, from, e) in ap (λ n. content st.mark st.stream_start s n ∷ []) end))
     where
       based-last : BaseShown s st → before ≡ own_content s ∷ [] → (b : Bool) → nat_lt s.on_disk (length s.log) ≡ b
           → after_parts before (if b then content s.mark s.base s (length s.log) ∷ [] else []) ≡ content st.mark st.stream_start s (length s.log) ∷ []

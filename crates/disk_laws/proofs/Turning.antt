@@ -1,7 +1,6 @@
 -- Disks hold after a turn with which a site takes a message, by what the turn makes of the site.
-use Rattle.disk_laws.proofs.Names.{one-and-others, none-or-some, ◌≡◌, ◌<◌, ◌≤◌, Bool, true, false, true≢false, List, [], ◌∷◌, length, refl, sym, subst, ap, ◌∙◌, ◌⊎◌, inl, inr, ◌==◌, arith, cases_eq, ℕ, max, Option, Some, None, AllByRecursion, Actor, Site, Scanner, Shown, mark_of, stops_others, Deployment, host_of_slot, is_slot_of, Letter, Turn, becomes, sending, only, open_letter, SiteState, Joining, new_joiner, new_joining, site_term, leads, stops_so, took, In, took-all, all-if, all-at, all-from, all-mono, if-true, same-some, LogState, Logs, LogsHold, IsSlot, HeldOk, CountedOk, part, site_start, term_at, leader-view, leads-parts, Grown, NoStreamStart, after_site, site_popped, here, there, leads-runs}
+use Rattle.disk_laws.proofs.Names.{one-and-others, none-or-some, ◌≡◌, ◌<◌, ◌≤◌, Bool, true, false, true≢false, List, [], ◌∷◌, length, refl, sym, subst, ap, ◌∙◌, ◌⊎◌, inl, inr, ◌==◌, arith, cases_eq, ℕ, max, Some, None, AllByRecursion, Actor, Site, Scanner, Shown, mark_of, stops_others, Deployment, host_of_slot, is_slot_of, Letter, Turn, becomes, sending, only, open_letter, SiteState, Joining, new_joiner, new_joining, site_term, leads, stops_so, took, In, took-all, all-if, all-at, all-from, all-mono, if-true, same-some, LogState, Logs, LogsHold, IsSlot, HeldOk, CountedOk, part, site_start, term_at, leader-view, leads-parts, Grown, NoStreamStart, after_site, site_popped, here, there, leads-runs, AtLeast, Top, Firm, ContentOk, DiskOk, StreamLetter, Halted, DisksHold, shown_at}
 use Rattle.volt_wire.specs.declared.message.Msg.TheVariants as msg
-use Rattle.disk_laws.specs.Disks.{AtLeast, Top, Firm, ContentOk, DiskOk, StreamLetter, Halted, DisksHold, shown_at}
 use Rattle.disk_laws.proofs.Order.{Raise, raise-refl, raise-same, top-raise, top-wipe}
 use Rattle.disk_laws.proofs.SiteHandlers.{disk-same}
 use Rattle.disk_laws.proofs.Handlers.{DiskHandler, Counts, counts-joiner, BeginsStream, at-term, at-was-joiner}

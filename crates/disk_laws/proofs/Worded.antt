@@ -41,7 +41,7 @@ module _ (S : LogState) (H : LogsHold S) (i : ℕ) where
       -- it is of a later term
       pub later-term : term_at S i < term_of w
       later-term = elim (none-or-some s.view) [
-        | inl e ↦ 
+        | inl e ↦
             let a = some-term S H w (took-decided S H (site_start S i) w (first-word S H h i l w ls is word-start up e)) in
             let b : term_at S i ≡ 0 = ap term_in e in
             omega (arith, a, b)

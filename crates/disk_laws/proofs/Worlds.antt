@@ -1,9 +1,7 @@
 -- In each world of a run what disks show is well, and what was counted firm survives each event.
-use Rattle.disk_laws.proofs.Names.{◌≡◌, ◌≤◌, Bool, true, false, List, [], ◌∷◌, ◌++◌, length, refl, sym, subst, ap, ◌∙◌, ◌==◌, arith, and_parts, length-take-le, ℕ, ◌&&◌, not, nat_lt, Some, None, Actor, Director, Client, Agent, Site, Scanner, Event, Database, slots, is_host, Letter, Turn, SiteState, agent_turn, may_sync, site_turn, sync_turn, Environment, NoFault, DiskFails, NoMemory, DisksShow, World, Stopped, Input, stamp_of, took, with_site, stops_with, starts_anew, stays_stopped, is_actor, is_some_letter, is_shown, is_slot_or_none, may_recover, can, allows, delivered, recovered_with, may_do, happens, step, Happening, Reached, RunsTo, has_failed, may_happen, reached-kept, runs-kept, if-false, actor-host, host-apart, memory-runs, Logs, LogState, LogsHold, log_state, HasLogs, prefix-trans, prefix-length, prefixes-order, prefix-take, Grown, Onward, onward-same, AuthoritativeRises, first-logs, anew-logs, Keeps, to_client-logs, to_director-logs, to_scanner-logs, scan-logs, submit-logs, next-logs, stopped-logs, agent-event, turn-after, sync-after, actor-slot, site-reaches, site-next, keeps-firm}
+use Rattle.disk_laws.proofs.Names.{◌≡◌, ◌≤◌, Bool, true, false, List, [], ◌∷◌, ◌++◌, length, refl, sym, subst, ap, ◌∙◌, ◌==◌, arith, and_parts, length-take-le, ℕ, ◌&&◌, not, nat_lt, Some, None, Actor, Director, Client, Agent, Site, Scanner, Event, Database, slots, is_host, Letter, Turn, SiteState, agent_turn, may_sync, site_turn, sync_turn, Environment, DisksShow, World, Stopped, Input, stamp_of, took, with_site, stops_with, starts_anew, stays_stopped, is_actor, is_some_letter, is_shown, is_slot_or_none, may_recover, can, allows, delivered, recovered_with, may_do, happens, step, Happening, Reached, RunsTo, has_failed, may_happen, reached-kept, runs-kept, if-false, actor-host, host-apart, memory-runs, Logs, LogState, LogsHold, log_state, HasLogs, prefix-trans, prefix-length, prefixes-order, prefix-take, Grown, Onward, onward-same, AuthoritativeRises, first-logs, anew-logs, Keeps, to_client-logs, to_director-logs, to_scanner-logs, scan-logs, submit-logs, next-logs, stopped-logs, agent-event, turn-after, sync-after, actor-slot, site-reaches, site-next, keeps-firm, Survives, firm_entries, DisksHold}
 use Rattle.volt_wire.specs.declared.event.Event.TheVariants as event
 use Rattle.log_laws.proofs.Runs.Leading.{rises-same}
-use Rattle.disk_laws.specs.Disks.{DisksHold}
-use Rattle.disk_laws.specs.Survival.{Survives, firm_entries}
 use Rattle.disk_laws.proofs.SiteDisks.{authoritative-raised}
 use Rattle.disk_laws.proofs.Syncs.{sync-disks, sync-runs}
 use Rattle.disk_laws.proofs.Choices.{no-choice-lacks}
@@ -87,7 +85,8 @@ noted : (w v : World) (trace : List Event) → DisksGoOn w v → DisksGoOn w (re
 noted w v trace g = let n = g.next.logs in record {
   next = record {
     logs = record { owner = n.owner; history = n.history; logs = n.logs; holds = n.holds; strangers = n.strangers; authoritative = n.authoritative; counted = n.counted };
-    halted = g.next.halted; disks = g.next.disks;
+    halted = g.next.halted;
+    disks = g.next.disks;
   };
   survives = λ p. let s = g.survives p in record { within = s.within; more = s.more; kept = s.kept };
 }
@@ -155,9 +154,13 @@ to_agent-goes E w n from (l ∷ ls) o d is host may =
     let t = agent_turn E w.deployment n (stamp_of w) (w.agents n) from l o in
     let r = agent-event E S n (stamp_of w) from l ls o is host (λ answered e. memory-runs w n answered from l ls o is may e) k.holds in
     let next : HasLogs v = record {
-      owner = k.owner; history = r.history; logs = k.logs; holds = r.holds;
+      owner = k.owner;
+      history = r.history;
+      logs = k.logs;
+      holds = r.holds;
       strangers = λ h e. if-false (h == n) t.state (w.agents h) (host-apart w.deployment n h host e) ∙ k.strangers h e;
-      authoritative = k.authoritative; counted = k.counted;
+      authoritative = k.authoritative;
+      counted = k.counted;
     } in
     record {
       next = record { logs = next; halted = d.halted; disks = disks-agent S (firm_in w) d.halted d.disks n from t r };

@@ -1,10 +1,9 @@
 -- What a site's disk shows once it has written all that it owed, and what the site knows of it.
-use Rattle.disk_laws.proofs.Names.{◌≡◌, ◌<◌, ◌≤◌, Bool, true, false, List, [], ◌∷◌, length, refl, sym, subst, ap, ◌∙◌, ◌⊎◌, inl, inr, true≢false, arith, cases_Bool, cond_both, ℕ, if◌then◌else◌, unwrap_or, Option, Some, None, AllByRecursion, Shown, after_parts, mark_of, SiteState, Streamed, Joining, site_term, content, mark_owed, joiner_parts, joiner_written, member_written, written, parts_of_sync, none-and-some, same-some, not-both, LogState, LogsHold, HeldOk, part, site_start, term_at}
-use Rattle.disk_laws.specs.Disks.{Firm, ContentOk, MemberDisk, StreamDisk, DiskOk, own_content}
+use Rattle.disk_laws.proofs.Names.{◌≡◌, ◌<◌, ◌≤◌, Bool, true, false, List, [], ◌∷◌, length, refl, sym, subst, ap, ◌∙◌, ◌⊎◌, inl, inr, true≢false, arith, cases_Bool, cond_both, ℕ, if◌then◌else◌, unwrap_or, Option, Some, None, AllByRecursion, Shown, after_parts, mark_of, SiteState, Streamed, Joining, site_term, content, mark_owed, joiner_parts, joiner_written, member_written, written, parts_of_sync, none-and-some, same-some, not-both, LogState, LogsHold, HeldOk, part, site_start, term_at, Firm, ContentOk, MemberDisk, StreamDisk, DiskOk, own_content}
 use Rattle.disk_laws.proofs.Order.{some-after_parts, all-after_parts}
 use Rattle.disk_laws.proofs.Own.{OwnAt, OwnMember, OwnStream}
 use Rattle.disk_laws.proofs.SyncParts.{member-last, stream-last, stream-waits}
-use Rattle.disk_laws.proofs.SyncContents.{PartsOk, BegunContent, disk, owed-mark, mark-begun, mark-rises, stream-disk, base-shown, stream-within, parts-ok}
+use Rattle.disk_laws.proofs.SyncContents.{BegunContent, disk, owed-mark, mark-begun, mark-rises, stream-disk, base-shown, stream-within, parts-ok}
 
 -- ---- what it shows once all is written
 
@@ -50,7 +49,8 @@ module _ (S : LogState) (H : LogsHold S) (i : ℕ) (up : 0 < site_start S i) (F 
       is_led = b.led;
       begun = b.begun;
       marked = marked;
-      firm = d.firm; owes = inl refl;
+      firm = d.firm;
+      owes = inl refl;
     }
 
   -- ---- a joiner

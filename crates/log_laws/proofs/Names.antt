@@ -1,4 +1,4 @@
--- The names of other crates that the proofs use: what they know of lists and numbers, the model, the walk over it, and words.
+-- The names that the proofs use of other crates, and of this one's `specs`: lists and numbers, the model, the walk over it, words, and what the laws say.
 pub use Rattle.std.proofs.Common.{Bool, List, [], ap, append-nil, append_assoc, arith, drop-drop, false, inl, inr, refl, subst, suc, sym, take, true, true≢false, zero, ◌++◌, ◌+◌, ◌<◌, ◌==◌, ◌∙◌, ◌∷◌, ◌≡◌, ◌≤◌, ◌⊎◌}
 pub use Rattle.std.proofs.Math.Path.{fun_ext}
 pub use Rattle.std.proofs.Math.Seq.{drop-append_seam}
@@ -71,3 +71,5 @@ pub use Rattle.word_laws.proofs.Turns.{Decides, StopsSay, concludes, concludes-i
 pub use Rattle.word_laws.proofs.Worlds.{actor-host, grows-same, host-apart, memory-runs}
 pub use Rattle.word_laws.specs.Chain.{state_of}
 pub use Rattle.word_laws.specs.Histories.{Admitted, AgentWaitingFrom, AgentWaitingOk, CameOk, Comparable, Distinct, Falls, GoodWord, History, HistoryOk, OwnOk, Recorded, State, Within, WordsHold, agent_start, names}
+pub use Rattle.log_laws.specs.Histories.{AckOk, AllLoaded, AskedOk, AsksToJoin, Begins, BeginsAt, Came, Coming, CountedOk, EndOk, Entered, EnteredOk, FirstViews, Flow, Follows, FollowsIn, ForeignOk, HasBeen, HeldFor, HeldOk, InWord, Inert, IsCounted, IsSlot, JoinerOk, JoinsIn, KeepsOk, Last, Leadership, LeadershipOk, LeadsIn, Line, LoadedOk, LoadsOk, LogState, Logs, LogsHold, MeantFor, MemberOk, MemberViews, NoStream, PlainView, Puts, QueuedLoadedOk, Repairs, ReportOk, RunViews, SiteLetterOk, SiteOk, SiteWaitingFrom, SiteWaitingOk, Starting, StreamIn, StreamedOk, Streaming, ToldOk, Took, Unled, UnledOk, Untaken, ViewIn, ViewsOk, WasIn, WordOf, Wordless, agent_to_site, ask_in, ask_of, asked, asks_in, asks_kept, asks_of_term, asks_waiting, between, end_in, end_of, epoch_base, flow, flow_in, flow_of, follows, is_for, known, line, line_in, line_of, log_at, part, sent_term, site_start, stream_ends_in, term_at, view_in, view_of, views, wait_of}
+pub use Rattle.log_laws.specs.Copies.{AreCopies, AuthoritativeOk, CountedIn, HasLoaded, HasLogs, IsInAuthoritative, KeepsFirm, Leads, LeadsNext, OfOneTerm, authoritative_for, log_of, log_state}

@@ -1,8 +1,7 @@
 -- Who asks to be admitted has loaded all, and has it on disk: what holds of that, holds after an agent's turns.
-use Rattle.log_laws.proofs.Names.{◌≡◌, ◌+◌, ◌<◌, Bool, true, List, subst, inl, inr, ◌==◌, arith, and_parts, nat_tests, ℕ, nat_lt, AllByRecursion, list_all, range_with_len, Actor, Agent, Site, Deployment, slots, host_of_slot, is_slot_of, slots_of_host, is_in, Letter, Sends, AgentState, Queued, Job_, Admission, took, In, History, Admitted, all-mono, all-append, list_all-at, filter-in, set-both, sent-both, took-all, asked_by}
+use Rattle.log_laws.proofs.Names.{◌≡◌, ◌+◌, ◌<◌, Bool, true, List, subst, inl, inr, ◌==◌, arith, and_parts, nat_tests, ℕ, nat_lt, AllByRecursion, list_all, range_with_len, Actor, Agent, Site, Deployment, slots, host_of_slot, is_slot_of, slots_of_host, is_in, Letter, Sends, AgentState, Queued, Job_, Admission, took, In, History, Admitted, all-mono, all-append, list_all-at, filter-in, set-both, sent-both, took-all, asked_by, LogState, LoadedOk, AllLoaded, ToldOk, AskedOk, QueuedLoadedOk, LoadsOk}
 use Rattle.volt_wire.specs.declared.message.Msg.TheVariants as msg
 use Rattle.word_laws.proofs.Moves as word
-use Rattle.log_laws.specs.Histories.{LogState, LoadedOk, AllLoaded, ToldOk, AskedOk, QueuedLoadedOk, LoadsOk}
 use Rattle.log_laws.proofs.Agents.AgentSends.{NoAdmit}
 use Rattle.log_laws.proofs.Agents.Views.{worded, agent_turned}
 use Rattle.log_laws.proofs.Plain.{range-in}

@@ -1,12 +1,11 @@
 -- An agent takes a message: what holds, holds after all that it does then.
-use Rattle.log_laws.proofs.Names.{◌≡◌, ◌<◌, true, false, List, [], ◌∷◌, ◌++◌, refl, sym, subst, ap, ◌⊎◌, inl, inr, ◌==◌, arith, cases_eq, nat_tests, ℕ, ◌&&◌, not, nat_lt, None, AllByRecursion, Actor, Director, Agent, Site, Database, is_host, term_in, Letter, Sends, Turn, becomes, open_letter, ◌▸◌, arrival, Arrival, Taken, Refused, Waits, Waiting, of_term, above_term, AgentState, new_agent, stops, stops_with_host, agent_handler, handler_and_word, unless_stopped, agent_runs, agent_takes, agent_turn, start_taken, rest, start_in_letter, starts_in, Environment, NoMemory, In, History, Admitted, CameOk, AgentWaitingFrom, AgentWaitingOk, all-mono, all-append, all-filter, all-if, Grows, grows-same, concludes, StopsSay, stops-say, stops_with_host-say, AgentTakes, Stops_, Ignores, Runs_, takes-cases, runs-taken, runs-waits, runs-refused, turn-cases, stopped-cases, unless-running, waiting-brings, pops, waiting-shrinks, with_began, start-grows, start-holds, start-stops-holds, WordsTurn, none-handler, handler-grows, handler-plain, handler-later, others-after, then-assoc, concludes-none, calm-event, handler-event, asked-waiting, came-still, none-taken, none-waited, waits-event, refused-event, ignored-event, stop-pops, stays-holds, comes-first, start-of-body}
+use Rattle.log_laws.proofs.Names.{◌≡◌, ◌<◌, true, false, List, [], ◌∷◌, ◌++◌, refl, sym, subst, ap, ◌⊎◌, inl, inr, ◌==◌, arith, cases_eq, nat_tests, ℕ, ◌&&◌, not, nat_lt, None, AllByRecursion, Actor, Director, Agent, Site, Database, is_host, term_in, Letter, Sends, Turn, becomes, open_letter, ◌▸◌, arrival, Arrival, Taken, Refused, Waits, Waiting, of_term, above_term, AgentState, new_agent, stops, stops_with_host, agent_handler, handler_and_word, unless_stopped, agent_runs, agent_takes, agent_turn, start_taken, rest, start_in_letter, starts_in, Environment, NoMemory, In, History, Admitted, CameOk, AgentWaitingFrom, AgentWaitingOk, all-mono, all-append, all-filter, all-if, Grows, grows-same, concludes, StopsSay, stops-say, stops_with_host-say, AgentTakes, Stops_, Ignores, Runs_, takes-cases, runs-taken, runs-waits, runs-refused, turn-cases, stopped-cases, unless-running, waiting-brings, pops, waiting-shrinks, with_began, start-grows, start-holds, start-stops-holds, WordsTurn, none-handler, handler-grows, handler-plain, handler-later, others-after, then-assoc, concludes-none, calm-event, handler-event, asked-waiting, came-still, none-taken, none-waited, waits-event, refused-event, ignored-event, stop-pops, stays-holds, comes-first, start-of-body, LogState, AskedOk, LogsHold, asked}
 use Rattle.volt_wire.specs.declared.message.Msg.TheVariants as msg
 use Rattle.cluster_model.specs.Agent.{takes_each, takes_waiting, start_after, on_start}
 use Rattle.word_laws.specs.Histories as word
 use Rattle.word_laws.proofs.Moves as word_moves
 use Rattle.word_laws.proofs.Laters.{waiting-later}
 use Rattle.word_laws.proofs.Turns.{tells}
-use Rattle.log_laws.specs.Histories.{LogState, AskedOk, LogsHold, asked}
 use Rattle.log_laws.proofs.Agents.AgentSends.{NoView, NoAdmit, stops-plain, stops-none}
 use Rattle.log_laws.proofs.Agents.Views.{agent_turned}
 use Rattle.log_laws.proofs.Agents.Admits.{asked-worded}
@@ -98,7 +97,11 @@ waited-agent E S n stamp h r up = then-agent S n t (takes_each E S.words.deploym
 
     first : AgentHandler S n t
     first = plain-agent S n t r (handler-plain S.words n t (inl (refl, up)) (waiting-shrinks S.words n (λ w. nat_lt term w.letter.term) h) (λ b. tt)) (record {
-      start = refl; decided = refl; taken = refl; sites = λ c. tt; asked = λ g. tt;
+      start = refl;
+      decided = refl;
+      taken = refl;
+      sites = λ c. tt;
+      asked = λ g. tt;
       heard = λ u c i. r.loads.heard n c u i;
       waiting = all-filter (λ x. AskedOk S x.from x.letter) (λ w. nat_lt term w.letter.term) (S.words.agents n).waiting (r.loads.waiting n);
       queued = r.loads.queued n;
@@ -139,7 +142,11 @@ module _ (E : Database) (S : LogState) (n stamp : ℕ) (from : Actor) (l : Lette
   waits-agent : arrival a.start (term_in a.decided) l ≡ Waits → AgentHandler P n (becomes (record a { waiting = a.waiting ++ record { from = from; letter = l } ∷ [] }))
   waits-agent e = plain-agent P n (becomes (record a { waiting = a.waiting ++ record { from = from; letter = l } ∷ [] })) left
       (waits-event S.words n from l ls H.words up is e) (record {
-        start = refl; decided = refl; taken = refl; sites = λ c. tt; asked = λ g. tt;
+        start = refl;
+        decided = refl;
+        taken = refl;
+        sites = λ c. tt;
+        asked = λ g. tt;
         heard = λ u c i. left.loads.heard n c u i;
         waiting = all-append (λ x. AskedOk P x.from x.letter) a.waiting (record { from = from; letter = l } ∷ []) (left.loads.waiting n) (asks, tt);
         queued = left.loads.queued n;

@@ -1,9 +1,8 @@
 -- The handler of a message that an agent takes, and what it says of a new word: what holds besides that of words, holds after it.
-use Rattle.log_laws.proofs.Names.{◌≡◌, ◌<◌, Bool, true, false, List, [], ◌++◌, refl, sym, subst, inl, inr, ◌==◌, eqb-true, ℕ, if◌then◌else◌, Option, Some, None, AllByRecursion, Membership, Actor, Agent, Site, Database, Deployment, is_in, union, with_lost, with_number, Letter, Turn, becomes, ◌▸◌, AgentState, Queued, Job_, Admission, new_agent, stops_with_host, agent_handler, on_closed, on_word, on_decided, In, all-mono, all-append, all-at, all-from, in-left, in-cases, in-with_number, Calm, SaysNoWord, asked_by, loaded_by, handler-calm, stops_with_host-say, tells-state, on_decided-joiner, WordsTurn, cond_both}
+use Rattle.log_laws.proofs.Names.{◌≡◌, ◌<◌, Bool, true, false, List, [], ◌++◌, refl, sym, subst, inl, inr, ◌==◌, eqb-true, ℕ, if◌then◌else◌, Option, Some, None, AllByRecursion, Membership, Actor, Agent, Site, Database, Deployment, is_in, union, with_lost, with_number, Letter, Turn, becomes, ◌▸◌, AgentState, Queued, Job_, Admission, new_agent, stops_with_host, agent_handler, on_closed, on_word, on_decided, In, all-mono, all-append, all-at, all-from, in-left, in-cases, in-with_number, Calm, SaysNoWord, asked_by, loaded_by, handler-calm, stops_with_host-say, tells-state, on_decided-joiner, WordsTurn, cond_both, LogState, LoadedOk, AskedOk, QueuedLoadedOk, AllLoaded}
 use Rattle.volt_wire.specs.declared.message.Msg.TheVariants as msg
 use Rattle.word_laws.specs.Histories as word
 use Rattle.word_laws.proofs.Turns.{tells}
-use Rattle.log_laws.specs.Histories.{LogState, LoadedOk, AskedOk, QueuedLoadedOk, AllLoaded}
 use Rattle.log_laws.proofs.Agents.AgentSends.{NoView, NoAdmit, Tells, tells-says, stops-plain, stops-none}
 use Rattle.log_laws.proofs.Agents.Admits.{asked-admission, all-slots}
 use Rattle.log_laws.proofs.Agents.AgentTurns.{Rest, MayJoin, AgentHandler, plain-agent, stay-plain, tells-plain, stopped-agent}
@@ -68,7 +67,11 @@ module _ (S : LogState) (n : ℕ) (r : Rest S) (up : 0 < word.agent_start S.word
 
   calm-handled : (from : Actor) (l : Letter) (t : Turn AgentState) → AskedOk S from l → Calm D n a (asked_by from l) (loaded_by a from l) t → Handled S n from l t
   calm-handled from l t asked k = record {
-    start = k.start; decided = k.decided; taken = k.taken; waiting = k.waiting; queue = k.queue;
+    start = k.start;
+    decided = k.decided;
+    taken = k.taken;
+    waiting = k.waiting;
+    queue = k.queue;
     heard = λ c i. loaded-ok from l asked c (subst (λ x. is_in c x ≡ true) k.loads i);
     sites = λ c. all-mono (SaysNoWord D n a (loaded_by a from l) (Site c)) NoView (no-view D n a (loaded_by a from l) c) (t.sends (Site c)) (k.sends (Site c));
     asked = λ g. all-mono (SaysNoWord D n a (loaded_by a from l) (Agent g)) (AskedOk S (Agent n)) (asks-ok (loaded_by a from l) (loaded-ok from l asked) g)
@@ -78,10 +81,14 @@ module _ (S : LogState) (n : ℕ) (r : Rest S) (up : 0 < word.agent_start S.word
   -- an agent whose own word, or what it heard, is another
   spoken-handled : (from : Actor) (l : Letter) (own : Option Membership) (said : ℕ → Option Membership) → Handled S n from l (becomes (record a { own = own; said = said }))
   spoken-handled from l own said = record {
-    start = refl; decided = refl; taken = refl; waiting = refl;
+    start = refl;
+    decided = refl;
+    taken = refl;
+    waiting = refl;
     queue = λ j h term i. in-left (Admission j h term) a.initiating.queue (asked_by from l) i;
     heard = λ c i. r.loads.heard n c up i;
-    sites = λ c. tt; asked = λ g. tt;
+    sites = λ c. tt;
+    asked = λ g. tt;
   }
 
   closed-handled : (from : Actor) (l : Letter) (own : Option Membership) (start : ℕ) → Handled S n from l (becomes (on_closed a own start))
@@ -123,7 +130,12 @@ module _ (S : LogState) (n : ℕ) (r : Rest S) (up : 0 < word.agent_start S.word
       → AgentHandler S n (agent_handler E S.words.deployment n stamp (S.words.agents n) from l ▸ tells n (S.words.agents n).own)
   handler-agent E stamp from l none asked handler =
       plain-agent S n (t ▸ tells n (S.words.agents n).own) r handler (tells-plain S n t (S.words.agents n).own (record {
-        start = k.start; decided = k.decided; taken = k.taken; sites = k.sites; asked = k.asked; heard = λ u. k.heard;
+        start = k.start;
+        decided = k.decided;
+        taken = k.taken;
+        sites = k.sites;
+        asked = k.asked;
+        heard = λ u. k.heard;
         waiting = rw k.waiting (r.loads.waiting n);
         queued = all-from (QueuedLoadedOk S) t.state.initiating.queue waits;
       }))

@@ -30,7 +30,8 @@ tells-says n before a = choice (is_other_word before a.own) a.own
     choice false own = record { same = refl; sites = λ c. tt; agents = λ g. tt }
     choice true None = record { same = refl; sites = λ c. tt; agents = λ g. tt }
     choice true (Some w) = record {
-      same = refl; sites = λ c. tt;
+      same = refl;
+      sites = λ c. tt;
       agents = λ g. all-if NoAdmit (is_member w n a.start && not (g == n)) (word_to w (start_of w g)) [] (one w (start_of w g)) tt;
     }
 

@@ -1,11 +1,10 @@
 -- Turns of an agent: what holds besides that of words, holds after them.
-use Rattle.log_laws.proofs.Names.{◌≡◌, ◌<◌, true, List, ◌++◌, refl, sym, subst, ap, ◌∙◌, inl, inr, arith, ℕ, Option, Some, None, AllByRecursion, Membership, Actor, Director, Agent, Site, host_of_slot, is_in, term_of, term_in, Letter, Sends, Turn, becomes, ◌▸◌, AgentState, new_agent, In, History, Admitted, all-mono, all-append, sent-both, Grows, grows-same, tells-state, WordsTurn, handler-grows, stay-handler, agent-there, after-handler, then-inert}
+use Rattle.log_laws.proofs.Names.{◌≡◌, ◌<◌, true, List, ◌++◌, refl, sym, subst, ap, ◌∙◌, inl, inr, arith, ℕ, Option, Some, None, AllByRecursion, Membership, Actor, Director, Agent, Site, host_of_slot, is_in, term_of, term_in, Letter, Sends, Turn, becomes, ◌▸◌, AgentState, new_agent, In, History, Admitted, all-mono, all-append, sent-both, Grows, grows-same, tells-state, WordsTurn, handler-grows, stay-handler, agent-there, after-handler, then-inert, LogState, LoadedOk, AllLoaded, AskedOk, QueuedLoadedOk, ForeignOk, LoadsOk, ViewsOk, LogsHold, sent_term, agent_to_site, between}
 use Rattle.volt_wire.specs.declared.message.Msg.TheVariants as msg
 use Rattle.word_laws.specs.Histories as word
 use Rattle.word_laws.proofs.Moves as word_moves
 use Rattle.word_laws.proofs.Turns.{tells}
 use Rattle.word_laws.proofs.Steps.{after-after}
-use Rattle.log_laws.specs.Histories.{LogState, LoadedOk, AllLoaded, AskedOk, QueuedLoadedOk, ForeignOk, LoadsOk, ViewsOk, LogsHold, sent_term, agent_to_site, between}
 use Rattle.log_laws.proofs.Agents.Words.{SitesHold, sites-hold, sites-kept}
 use Rattle.log_laws.proofs.Agents.AgentSends.{NoView, NoAdmit, tells-says}
 use Rattle.log_laws.proofs.Agents.Views.{worded, agent_turned, Unsent, SentUpTo, ViewsIn, views-in, views-of, views-later, views-turned, views-plainly}
@@ -127,7 +126,9 @@ plain-rest S n t G r g admitted p = let T = agent_turned S n t.state t.sends G i
   foreign = λ c. plain-foreign S c n (t.sends (Site c)) (p.sites c);
   loads = record {
     heard = λ u c i. subst (LoadedOk S c) (sym p.start) (p.heard (subst (λ s. 0 < s) p.start u) c i);
-    asked = p.asked; waiting = p.waiting; queued = p.queued;
+    asked = p.asked;
+    waiting = p.waiting;
+    queued = p.queued;
     admitted = admitted;
   };
 })
@@ -177,7 +178,11 @@ stopped-agent S n t r handler z sites agents = let T = agent_turned S n t.state 
 -- the agent stays as it is
 pub stay-plain : (S : LogState) (n : ℕ) → Rest S → PlainTurn S n (becomes (S.words.agents n))
 stay-plain S n r = record {
-  start = refl; decided = refl; taken = refl; sites = λ c. tt; asked = λ g. tt;
+  start = refl;
+  decided = refl;
+  taken = refl;
+  sites = λ c. tt;
+  asked = λ g. tt;
   heard = λ u c i. r.loads.heard n c u i;
   waiting = r.loads.waiting n;
   queued = r.loads.queued n;

@@ -1,8 +1,7 @@
 -- The words that an agent sends to its sites: what holds of them, holds after its turns.
-use Rattle.log_laws.proofs.Names.{◌==◌, ◌≡◌, ◌+◌, ◌<◌, ◌≤◌, List, [], ◌∷◌, ◌++◌, append-nil, refl, sym, subst, ap, ◌∙◌, ◌⊎◌, inl, inr, arith, cases_eq, map-append, ℕ, map, Option, Some, None, AllByRecursion, Membership, Actor, Agent, Site, host_of_slot, start_of_slot, term_of, term_in, Letter, Sends, open_letter, letter_to, AgentState, RiseFrom, start_in_letter, starts_in, In, History, all-mono, all-append, eqb-same, in-left, in-right, in-cases, none-and-some, set-here, set-there, rise-append, starts-append, sent-both, Grows, flat_map-append}
+use Rattle.log_laws.proofs.Names.{◌==◌, ◌≡◌, ◌+◌, ◌<◌, ◌≤◌, List, [], ◌∷◌, ◌++◌, append-nil, refl, sym, subst, ap, ◌∙◌, ◌⊎◌, inl, inr, arith, cases_eq, map-append, ℕ, map, Option, Some, None, AllByRecursion, Membership, Actor, Agent, Site, host_of_slot, start_of_slot, term_of, term_in, Letter, Sends, open_letter, letter_to, AgentState, RiseFrom, start_in_letter, starts_in, In, History, all-mono, all-append, eqb-same, in-left, in-right, in-cases, none-and-some, set-here, set-there, rise-append, starts-append, sent-both, Grows, flat_map-append, PlainView, LogState, view_in, view_of, views, MemberViews, FirstViews, RunViews, Starting, ViewsOk, sent_term, site_start, term_at, agent_to_site}
 use Rattle.volt_wire.specs.declared.message.Msg.TheVariants as msg
 use Rattle.word_laws.proofs.Moves as word
-use Rattle.log_laws.specs.Histories.{PlainView, LogState, view_in, view_of, views, MemberViews, FirstViews, RunViews, Starting, ViewsOk, sent_term, site_start, term_at, agent_to_site}
 use Rattle.log_laws.proofs.Plain.{flat-none, views-here, views-other, flat-same, if-empty}
 use Rattle.log_laws.proofs.Agents.AgentSends.{NoView}
 use Rattle.log_laws.proofs.Kept.{first_views-later, run_views-later}

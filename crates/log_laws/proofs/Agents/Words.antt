@@ -1,8 +1,7 @@
 -- An event that changes words, what is under way between others than sites, and what disks hold: what holds of sites and logs,
 -- holds after it.
-use Rattle.log_laws.proofs.Names.{◌≡◌, ◌<◌, List, refl, sym, subst, ap, ◌∙◌, inl, inr, fun_ext, ℕ, Option, Some, None, AllByRecursion, Entry, Membership, Actor, Director, Client, Agent, Site, Scanner, Deployment, term_of, Shown, Letter, Waiting, Streamed, Joining, Joiner, State, all-mono, Grows}
+use Rattle.log_laws.proofs.Names.{◌≡◌, ◌<◌, List, refl, sym, subst, ap, ◌∙◌, inl, inr, fun_ext, ℕ, Option, Some, None, AllByRecursion, Entry, Membership, Actor, Director, Client, Agent, Site, Scanner, Deployment, term_of, Shown, Letter, Waiting, Streamed, Joining, Joiner, State, all-mono, Grows, LogState, Entered, Streaming, Leadership, Flow, IsSlot, HasBeen, AckOk, ReportOk, AsksToJoin, CountedOk, EndOk, SiteLetterOk, MemberOk, Coming, Took, Inert, Untaken, StreamIn, InWord, Wordless, ViewIn, JoinerOk, SiteWaitingFrom, SiteWaitingOk, KeepsOk, SiteOk, Came, EnteredOk, StreamedOk, LeadershipOk, UnledOk, WordOf, LogsHold, epoch_base, part, site_start, term_at, between, flow}
 use Rattle.volt_wire.specs.declared.message.Msg.TheVariants as msg
-use Rattle.log_laws.specs.Histories.{LogState, Entered, Streaming, Leadership, Flow, IsSlot, HasBeen, AckOk, ReportOk, AsksToJoin, CountedOk, EndOk, SiteLetterOk, MemberOk, Coming, Took, Inert, Untaken, StreamIn, InWord, Wordless, ViewIn, JoinerOk, SiteWaitingFrom, SiteWaitingOk, KeepsOk, SiteOk, Came, EnteredOk, StreamedOk, LeadershipOk, UnledOk, WordOf, LogsHold, epoch_base, part, site_start, term_at, between, flow}
 
 -- what is under way between sites as in the first one, and else as in the second one
 abbrev between_sites : (Actor → Actor → List Letter) → (Actor → Actor → List Letter) → Actor → Actor → List Letter
@@ -48,7 +47,12 @@ module _ (S : LogState) (W : State) (contents : ℕ → List Shown) where
 
   untaken : (c : ℕ) (w : Membership) (j : Joining) → Untaken S c w j → Untaken T c w j
   untaken c w j k = record {
-    loads = k.loads; counts = k.counts; tasks = k.tasks; empty = k.empty; floor = k.floor; never = k.never;
+    loads = k.loads;
+    counts = k.counts;
+    tasks = k.tasks;
+    empty = k.empty;
+    floor = k.floor;
+    never = k.never;
     comes = λ l f e. elim (k.comes l f e) [ inl q ↦ inl (inert c w l q) | inr q ↦ inr (coming c w (flow (site_start S c) (term_of w) (between S l c)) q.0, q.1) ];
   }
 
@@ -95,11 +99,13 @@ module _ (S : LogState) (W : State) (contents : ℕ → List Shown) where
       acks = all-mono _ _ (λ a f i. ack a.0 (term_at S c) a.1 (f i)) (S.sites c).acks k.acks;
       reports = all-mono _ _ (λ r f. report (part S c) r.slot (term_at S c) r.position r.floor r.tail f) (S.sites c).reports k.reports;
       joiners = all-mono _ _ (counted (part S c) (term_at S c)) (S.sites c).joiners k.joiners;
-      alone = k.alone; leads = k.leads;
+      alone = k.alone;
+      leads = k.leads;
       asks = all-mono _ _ (λ a f. ask (part S c) a.slot (term_at S c) a.start f) (S.sites c).asks k.asks;
       waiting = all-mono (SiteWaitingOk S c) (SiteWaitingOk T c) (waiting c) (S.sites c).waiting k.waiting;
       pending = all-mono (SiteWaitingOk S c) (SiteWaitingOk T c) (waiting c) (S.pending c) k.pending;
-      on_disk = k.on_disk; held = k.held;
+      on_disk = k.on_disk;
+      held = k.held;
     }
 
     member : (c : ℕ) (w : Membership) → MemberOk S c w → MemberOk T c w
@@ -117,11 +123,15 @@ module _ (S : LogState) (W : State) (contents : ℕ → List Shown) where
 
     site : (c : ℕ) → SiteOk S c → SiteOk T c
     site c k = record {
-      environment = k.environment; ran = k.ran; term = k.term; earlier = k.earlier;
+      environment = k.environment;
+      ran = k.ran;
+      term = k.term;
+      earlier = k.earlier;
       member = λ u e. let m = k.member u e in (m.0, m.1, member c m.0 m.2);
       joiner = λ j e. joiner c j (k.joiner j e);
       keeps = λ u. keeps c (k.keeps u);
-      stopped = k.stopped; blank = k.blank;
+      stopped = k.stopped;
+      blank = k.blank;
     }
 
     came : (c t a : ℕ) → Came S c t a → Came T c t a

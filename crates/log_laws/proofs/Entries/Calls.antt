@@ -1,7 +1,6 @@
 -- A leader runs the calls that wait, and takes rounds and ends of transactions.
-use Rattle.log_laws.proofs.Names.{◌≡◌, ◌<◌, true, List, [], ◌∷◌, ◌++◌, refl, sym, subst, and_parts, ℕ, ◌&&◌, ◌+◌, length, Option, Some, None, Entry, Sp, Frag, Done, Outcome, Agent, Msg, Database, nothing_open, answer_behind, Deployment, part_of_slot, Blocks, Letter, Turn, becomes, letter_to, letter_in, SiteState, AskedCall, site_term, leads, leads_with, holds, holds_for, initiator_in, runs_call, runs_calls, works_calls, on_sp_call, on_frag, on_done, end_of_reply, all-append, cond_both}
+use Rattle.log_laws.proofs.Names.{◌≡◌, ◌<◌, true, List, [], ◌∷◌, ◌++◌, refl, sym, subst, and_parts, ℕ, ◌&&◌, ◌+◌, length, Option, Some, None, Entry, Sp, Frag, Done, Outcome, Agent, Msg, Database, nothing_open, answer_behind, Deployment, part_of_slot, Blocks, Letter, Turn, becomes, letter_to, letter_in, SiteState, AskedCall, site_term, leads, leads_with, holds, holds_for, initiator_in, runs_call, runs_calls, works_calls, on_sp_call, on_frag, on_done, end_of_reply, all-append, cond_both, LogState, HeldOk, HeldFor, LogsHold, site_start}
 use Rattle.volt_wire.specs.declared.message.Msg.TheVariants as msg
-use Rattle.log_laws.specs.Histories.{LogState, HeldOk, HeldFor, LogsHold, site_start}
 use Rattle.log_laws.proofs.Kept.{LogsGo, GoesFrom, goes-then, goes-same, inert-becomes, calls-goes, part-from}
 use Rattle.log_laws.proofs.Entries.Leads.{leads-goes, leads-on}
 
@@ -54,8 +53,8 @@ runs-goes E stamp (c ∷ cs) T i H up authoritative =
 pub works-goes : (E : Database) (T : LogState) (i stamp : ℕ) → LogsHold T → 0 < site_start T i → LogsGo T i (works_calls E T.words.deployment i stamp (T.sites i))
 works-goes E T i stamp H up = cond_both (leads T.words.deployment i (T.sites i) && nothing_open (T.sites i).log) _ _ (LogsGo T i)
     (λ q. goes-then T i (becomes (record (T.sites i) { calls = [] })) (runs_calls E T.words.deployment i stamp (T.sites i).calls) (calls-goes T i [] H)
-        (authoritative-from T i (record (T.sites i) { calls = [] }) (λ D. runs_calls E D i stamp (T.sites i).calls) (λ S. runs-goes E stamp (T.sites i).calls S i) up
-        (and_parts (leads T.words.deployment i (T.sites i)) (nothing_open (T.sites i).log) q).0))
+    (authoritative-from T i (record (T.sites i) { calls = [] }) (λ D. runs_calls E D i stamp (T.sites i).calls) (λ S. runs-goes E stamp (T.sites i).calls S i) up
+    (and_parts (leads T.words.deployment i (T.sites i)) (nothing_open (T.sites i).log) q).0))
     (λ q. goes-same T i H)
 
 -- from whatever state in which the site is so
@@ -93,9 +92,9 @@ on_frag-goes E T H i m round body up = cond_both (leads T.words.deployment i (T.
 
 pub on_done-goes : (E : Database) (T : LogState) → LogsHold T → (i stamp m : ℕ) (o : Outcome) → 0 < site_start T i → LogsGo T i (on_done E T.words.deployment i stamp (T.sites i) m o)
 on_done-goes E T H i stamp m o up = cond_both (leads T.words.deployment i (T.sites i)) _ _ (LogsGo T i)
-    (λ q. 
-        let g = entry-goes E T i (Done m o) (initiator_in (T.sites i).view) (msg.Finished m) (λ h term start. tt) H up q in
-        goes-then T i t (works_calls E T.words.deployment i stamp) g (works-from E stamp T i t.state (subst (λ x. 0 < x) (sym g.start) up)))
+    (λ q.
+    let g = entry-goes E T i (Done m o) (initiator_in (T.sites i).view) (msg.Finished m) (λ h term start. tt) H up q in
+    goes-then T i t (works_calls E T.words.deployment i stamp) g (works-from E stamp T i t.state (subst (λ x. 0 < x) (sym g.start) up)))
     (λ q. goes-same T i H)
   where
     t : Turn SiteState

@@ -1,8 +1,7 @@
 -- The leader of a term that has begun appends an entry, and sends it to the copies and the joiners.
-use Rattle.log_laws.proofs.Names.{◌≡◌, ◌<◌, true, false, List, [], ◌∷◌, ◌++◌, append_assoc, append-nil, refl, sym, subst, ap, ◌∙◌, ◌⊎◌, inl, inr, true≢false, arith, cases_eq, ℕ, ◌≤◌, map, drop, length, Option, Some, None, AllByRecursion, Entry, Membership, Actor, Agent, Site, Database, Deployment, is_in, leader, start_of_slot, term_of, term_in, SiteState, Joining, Joiner, Scanning, site_term, start_in_view, is_leader, leads, other_copies, Sends, leads_with, In, Prefix, all-append, not-both, same-some, none-and-some, all-at, set-both, put_letter, task_letter, leads-parts, leader-view, prefix-append, prefix-length, grown, Passed, leads-with, flat_map-append, map-append}
-use Rattle.log_laws.specs.Histories.{LogState, Logs, Leadership, Line, Repairs, Puts, Flow, Begins, Follows, FollowsIn, LeadsIn, Coming, Took, Inert, InWord, JoinerOk, MemberOk, CountedOk, IsCounted, IsSlot, SiteLetterOk, ForeignOk, ToldOk, BeginsAt, LogsHold, follows, line, flow, stream_ends_in, asked, asks_in, asks_waiting, asks_of_term, between, part, site_start, log_at, term_at, end_of, flow_of, line_of}
+use Rattle.log_laws.proofs.Names.{◌≡◌, ◌<◌, true, false, List, [], ◌∷◌, ◌++◌, append_assoc, append-nil, refl, sym, subst, ap, ◌∙◌, ◌⊎◌, inl, inr, true≢false, arith, cases_eq, ℕ, ◌≤◌, map, drop, length, Option, Some, None, AllByRecursion, Entry, Membership, Actor, Agent, Site, Database, Deployment, is_in, leader, start_of_slot, term_of, term_in, SiteState, Joining, Joiner, Scanning, site_term, start_in_view, is_leader, leads, other_copies, Sends, leads_with, In, Prefix, all-append, not-both, same-some, none-and-some, all-at, set-both, put_letter, task_letter, leads-parts, leader-view, prefix-append, prefix-length, grown, Passed, leads-with, flat_map-append, map-append, LogState, Logs, Leadership, Line, Repairs, Puts, Flow, Begins, Follows, FollowsIn, LeadsIn, Coming, Took, Inert, InWord, JoinerOk, MemberOk, CountedOk, IsCounted, IsSlot, SiteLetterOk, ForeignOk, ToldOk, BeginsAt, LogsHold, follows, line, flow, stream_ends_in, asked, between, part, site_start, log_at, term_at, end_of, flow_of, line_of}
 use Rattle.log_laws.proofs.Plain.{leader-follows-none, is-leader, start-in-view, other-copy, copy-other, follows-part, follows-one, leader-followed, passed-line, passed-line-other, passed-flow, passed-flow-other, passed-ends, passed-all, passed-follows, flat-same, one-and-others}
-use Rattle.log_laws.proofs.Kept.{LogsLater, SameLeaderships, NoStreamStart, LogsGo, after_site, grown-at, enters-same, sent-either, here, there, between-here, between-there, same-word, some-term, leadership-entered, took-decided, took-unnamed, at-most-is, SiteStays, SameFrom, SameTerm, SameRun, Uncounted, still-same, member-keeps-from, counted-from, inert-keeps, coming-keeps, took-keeps, in_word-keeps-with, joiner-keeps-with, put_at, put-both, put-here, put-there, Carries, grew-later, grew-member, grew-holds}
+use Rattle.log_laws.proofs.Kept.{LogsLater, SameLeaderships, NoStreamStart, LogsGo, after_site, grown-at, enters-same, sent-either, here, there, between-here, between-there, same-word, some-term, leadership-entered, took-decided, took-unnamed, at-most-is, SiteStays, SameFrom, SameTerm, SameRun, Uncounted, still-same, member-keeps-from, counted-from, inert-keeps, coming-keeps, took-keeps, in_word-keeps-with, joiner-keeps-with, put_at, put-both, put-here, put-there, Carries, grew-later, grew-member, grew-holds, asked_of}
 use Rattle.log_laws.proofs.Kept.Moves.{Grown}
 
 -- ---- the history of the leader's term
@@ -206,11 +205,8 @@ module _ (T : LogState) (i : ℕ) (e : Entry) (H : LogsHold T) (up : 0 < site_st
 
   -- nobody asks, and what was asked is kept
   asked-same : (c l t : ℕ) → (c ≡ i → ⊥) → asked next c l t ≡ asked T c l t
-  asked-same c l t other =
-      ap (λ ls. asks_in t ls ++ asks_waiting c t (next.sites l).waiting ++ asks_waiting c t (T.pending l) ++ asks_of_term c t (next.sites l))
-      (between-there T i state out logs c l other)
-      ∙ set-both (λ h s. asks_in t (between T c l) ++ asks_waiting c t s.waiting ++ asks_waiting c t (T.pending l) ++ asks_of_term c t s
-      ≡ asks_in t (between T c l) ++ asks_waiting c t (T.sites h).waiting ++ asks_waiting c t (T.pending l) ++ asks_of_term c t (T.sites h)) T.sites i state refl (λ h n. refl) l
+  asked-same c l t other = ap (λ ls. asked_of c t ls (next.sites l) (T.pending l)) (between-there T i state out logs c l other)
+      ∙ set-both (λ h s. asked_of c t (between T c l) s (T.pending l) ≡ asked_of c t (between T c l) (T.sites h) (T.pending l)) T.sites i state refl (λ h n. refl) l
 
   -- who follows nobody of its term, or isn't counted, sees nothing of it
   same-from : (c l t : ℕ) → (c ≡ i → ⊥) → (l ≡ i → line (site_start T c) t (out (Site c)) ≡ []) → (l ≡ i → flow (site_start T c) t (out (Site c)) ≡ []) → SameFrom T next c l t
@@ -320,7 +316,8 @@ module _ (T : LogState) (i : ℕ) (e : Entry) (H : LogsHold T) (up : 0 < site_st
           whole = rw site.log (longer-log c (log_at T c ++ j.tasks) q.more q.leadership p q.led q.whole);
           streamed = q.streamed ∙ ap (λ a. Some (record { start = a; stream_start = stream_start })) (sym site.start);
           loading = λ x. rw site.log (q.loading x);
-          loaded = q.loaded; ends = q.ends;
+          loaded = q.loaded;
+          ends = q.ends;
           floor = site.floor ∙ q.floor;
           asks = λ l slot. asked-same c l (term_of k.word) other ∙ q.asks l slot;
         }
@@ -332,10 +329,6 @@ module _ (T : LogState) (i : ℕ) (e : Entry) (H : LogsHold T) (up : 0 < site_st
       | inl p ↦ elim (cases_eq (term_of w) (term_of k.word)) [ inl t ↦ inl (p, word-is w d t) | inr n ↦ inr (λ _ t. n t) ]
       | inr n ↦ inr (λ p _. n p)
     ]
-
-    -- of another leader nothing changes
-    not-its : (l : ℕ) → part T c ≡ part T i → follows T.words.deployment k.word c l ≡ true → l ≡ i
-    not-its l p f = follows-one T.words.deployment k.word c l i f (leader-followed T.words.deployment k.word i c k.first p other)
 
     in_word-keeps : (w : Membership) (j : Joining) → InWord T c w j → InWord next c w j
     in_word-keeps w j m = let decided = took-decided T H (site_start T c) w m.took in in_word-keeps-with T next H later c site w j run
@@ -356,7 +349,8 @@ module _ (T : LogState) (i : ℕ) (e : Entry) (H : LogsHold T) (up : 0 < site_st
             (same-from c l (term_of w) other (λ _. joiner-line c w j m) (λ _. uncounted-flow c (term_of w) (inr n)))
         comes l f (inl (p, q)) = subst (λ v. line (site_start T c) (term_of v) (out (Site c)) ≡ [] → ComesNext T (site_start T c) c v l → ComesNext next (site_start T c) c v l) (sym q)
             (subst (λ x. line (site_start T c) (term_of k.word) (out (Site c)) ≡ [] → ComesNext T (site_start T c) c k.word x → ComesNext next (site_start T c) c k.word x)
-            (sym (not-its l p (subst (λ v. follows T.words.deployment v c l ≡ true) q f))) (coming-own p)) (joiner-line c w j m)
+            (sym (follows-one T.words.deployment k.word c l i (subst (λ v. follows T.words.deployment v c l ≡ true) q f)
+            (leader-followed T.words.deployment k.word i c k.first p other))) (coming-own p)) (joiner-line c w j m)
 
         took : (stream_start : ℕ) → ((part T c ≡ part T i) × (w ≡ k.word)) ⊎ (part T c ≡ part T i → term_of w ≡ term_of k.word → ⊥) → Took T c w j stream_start → Took next c w j stream_start
         took stream_start (inr n) = took-keeps T next H later c site w j stream_start (same-term (term_of w) n)
@@ -402,7 +396,8 @@ module _ (T : LogState) (i : ℕ) (e : Entry) (H : LogsHold T) (up : 0 < site_st
 
   carries : Carries T next.words.channel
   carries = record {
-    agents = λ h b. refl; director = λ h. refl;
+    agents = λ h b. refl;
+    director = λ h. refl;
     foreign = foreign;
     told = λ c h. sent-either T i state out logs (λ c ls. AllByRecursion (ToldOk T c) ls) (Agent h)
         (subst (λ ls. AllByRecursion (ToldOk T i) (T.words.channel (Site i) (Agent h) ++ ls)) (sym (passed.agents h))

@@ -1,9 +1,8 @@
 -- A copy takes what its leader sent it to append: one entry more, or what it lacks of what its term begins with.
-use Rattle.log_laws.proofs.Names.{◌≡◌, ◌<◌, true, false, List, [], ◌∷◌, ◌++◌, append_assoc, append-nil, refl, sym, subst, ap, ◌∙◌, inl, inr, ◌==◌, arith, cases_Bool, ne_eqb, ℕ, ◌≤◌, ◌-◌, ◌&&◌, max, map, drop, length, Option, Some, None, AllByRecursion, Entry, Membership, Actor, Agent, Site, Scanner, Database, term_of, term_in, same, Letter, Sends, SiteState, Joining, Joiner, Scanning, site_term, on_put, on_repair, took, sent, rest, In, Prefix, and-false, eqb-same, if-false, not-both, same-some, set-here, set-there, set-both, took-all, prefix-append, prefix-grows, prefix-length, prefix-refl, prefix-rest, Appended, appends-one, appends-all, cond_both}
+use Rattle.log_laws.proofs.Names.{◌≡◌, ◌<◌, true, false, List, [], ◌∷◌, ◌++◌, append_assoc, append-nil, refl, sym, subst, ap, ◌∙◌, inl, inr, ◌==◌, arith, cases_Bool, ne_eqb, ℕ, ◌≤◌, ◌-◌, ◌&&◌, max, map, drop, length, Option, Some, None, AllByRecursion, Entry, Membership, Actor, Agent, Site, Scanner, Database, term_of, term_in, same, Letter, Sends, SiteState, Joining, Joiner, Scanning, site_term, on_put, on_repair, took, sent, rest, In, Prefix, and-false, eqb-same, if-false, not-both, same-some, set-here, set-there, set-both, took-all, prefix-append, prefix-grows, prefix-length, prefix-refl, prefix-rest, Appended, appends-one, appends-all, cond_both, LogState, Leadership, Line, Puts, Repairs, FollowsIn, JoinerOk, ViewIn, MemberOk, MeantFor, ForeignOk, ToldOk, SiteLetterOk, BeginsAt, LogsHold, line_in, flow_in, ask_in, follows, line, flow, stream_ends_in, asks_in, asks_waiting, asks_of_term, asked, between, part, site_start, term_at, log_at, is_for}
 use Rattle.volt_wire.specs.declared.message.Msg.TheVariants as msg
-use Rattle.log_laws.specs.Histories.{LogState, Leadership, Line, Puts, Repairs, FollowsIn, JoinerOk, ViewIn, MemberOk, MeantFor, ForeignOk, ToldOk, SiteLetterOk, BeginsAt, LogsHold, line_in, flow_in, ask_in, follows, line, flow, stream_ends_in, asks_in, asks_waiting, asks_of_term, asked, between, part, site_start, term_at, log_at, is_for}
 use Rattle.log_laws.proofs.Plain.{puts-cons, puts-not-repairs, repairs-not-put, repairs-same, leader-follows-none, follows-one, for-here, if-empty}
-use Rattle.log_laws.proofs.Kept.{running-slot, leadership-entered, LogsLater, after_site, site_popped, NoStreamStart, LogsGo, grown-same, enters-same, same-leaderships, taken-either, at-most-is, SiteStays, SameFrom, Uncounted, still-same, member-keeps, counted-from, Carries, grew, grew-later, grew-member, grew-holds}
+use Rattle.log_laws.proofs.Kept.{running-slot, leadership-entered, LogsLater, after_site, site_popped, NoStreamStart, LogsGo, grown-same, enters-same, same-leaderships, taken-either, at-most-is, SiteStays, SameFrom, Uncounted, still-same, member-keeps, counted-from, Carries, grew, grew-later, grew-member, grew-holds, asked_of}
 use Rattle.log_laws.proofs.Kept.Keeps as keeps
 
 -- ---- who takes it
@@ -146,8 +145,7 @@ module _ (S : LogState) (H : LogsHold S) (k i : ℕ) (l : Letter) (ls : List Let
     asked-same : (a t : ℕ) → asked next c a t ≡ asked S c a t
     asked-same a t =
         ap (λ ys. ys ++ asks_waiting c t (next.sites a).waiting ++ asks_waiting c t (S.pending a) ++ asks_of_term c t (next.sites a)) (asks-kept c a t)
-        ∙ set-both (λ h y. asks_in t (between S c a) ++ asks_waiting c t y.waiting ++ asks_waiting c t (S.pending a) ++ asks_of_term c t y
-        ≡ asks_in t (between S c a) ++ asks_waiting c t (S.sites h).waiting ++ asks_waiting c t (S.pending a) ++ asks_of_term c t (S.sites h)) S.sites i state refl (λ h n. refl) a
+        ∙ set-both (λ h y. asked_of c t (between S c a) y (S.pending a) ≡ asked_of c t (between S c a) (S.sites h) (S.pending a)) S.sites i state refl (λ h n. refl) a
 
     same-from : (a t : ℕ) → SameFrom S next c a t
     same-from a t = record {

@@ -1,6 +1,5 @@
 -- A joiner is told that its stream is whole, once the position at which that began is everywhere.
-use Rattle.log_laws.proofs.Names.{◌≡◌, ◌<◌, ◌≤◌, true, List, [], ◌∷◌, refl, sym, subst, ap, ◌∙◌, inl, inr, true≢false, arith, and_parts, leb-true, ℕ, nat_le, map, length, Option, Some, None, is_some, AllByRecursion, Entry, Membership, term_of, term_in, leader, SiteState, Streamed, Joining, Joiner, is_sent, without_count, ends_streams, In, Distinct, all-at, all-from, in-map, in-map-from, none-and-some, end_letter, stream_ends-all, cond_both}
-use Rattle.log_laws.specs.Histories.{LogState, LogsHold, Follows, WordOf, CountedOk, IsCounted, BeginsAt, SiteLetterOk, JoinsIn, ViewIn, StreamIn, KeepsOk, flow, follows, part, site_start, term_at, between}
+use Rattle.log_laws.proofs.Names.{◌≡◌, ◌<◌, ◌≤◌, true, List, [], ◌∷◌, refl, sym, subst, ap, ◌∙◌, inl, inr, true≢false, arith, and_parts, leb-true, ℕ, nat_le, map, length, Option, Some, None, is_some, AllByRecursion, Entry, Membership, term_of, term_in, leader, SiteState, Streamed, Joining, Joiner, is_sent, without_count, ends_streams, In, Distinct, all-at, all-from, in-map, in-map-from, none-and-some, end_letter, stream_ends-all, cond_both, LogState, LogsHold, Follows, WordOf, CountedOk, IsCounted, BeginsAt, SiteLetterOk, JoinsIn, ViewIn, StreamIn, KeepsOk, flow, follows, part, site_start, term_at, between}
 use Rattle.log_laws.proofs.Kept.{LogsGo, same-word, some-term, took-decided, SiteRests, SaysRests, Bare, map-joiners, map-slots, reach-same, site-same, rests-goes}
 use Rattle.log_laws.proofs.Plain.{stream_ends-other, follows-one, leader-followed}
 use Rattle.log_laws.proofs.Firmness.Firm.{LeaderOf, leader-of}
@@ -128,7 +127,8 @@ module _ (T : LogState) (H : LogsHold T) (i : ℕ) (up : 0 < site_start T i) whe
     where
       rests : SiteRests T T.logs.reach i (ends_streams (T.sites i)).state
       rests = record {
-        is = refl; member = λ e. e;
+        is = refl;
+        member = λ e. e;
         joiner = (site-same T H i T.logs.reach i).joiner;
         counts = inl (refl, refl);
         acks = λ _. keeps.acks;
@@ -140,5 +140,6 @@ module _ (T : LogState) (H : LogsHold T) (i : ℕ) (up : 0 < site_start T i) whe
         leads = λ _. elim keeps.leads [ inl e ↦ inl (ap (map (without_count (T.sites i))) e) | inr e ↦ inr e ];
         counted = map-joiners (without_count (T.sites i)) (count-same (λ j. j.slot) (λ j. refl) (T.sites i)) (count-same (λ j. j.start) (λ j. refl) (T.sites i))
             (count-same (λ j. j.stream_start) (λ j. refl) (T.sites i)) (T.sites i).joiners;
-        on_disk = λ _. keeps.on_disk; held = λ _. keeps.held;
+        on_disk = λ _. keeps.on_disk;
+        held = λ _. keeps.held;
       }

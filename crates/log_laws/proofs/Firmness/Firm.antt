@@ -1,7 +1,6 @@
 -- What a leader counts as firm, and as its floor, is in each log.
-use Rattle.log_laws.proofs.Names.{◌≡◌, ◌<◌, ◌≤◌, true, List, [], refl, sym, subst, ap, ◌∙◌, inl, inr, ◌==◌, arith, cases_eq, and_parts, ℕ, ◌&&◌, nat_lt, nat_le, filter, max, length, Some, None, AllByRecursion, Membership, Actor, Agent, Site, Deployment, term_of, term_in, start_of_slot, leader, same, Letter, SiteState, Held, Joiner, is_leader, leads, other_copies, own_ack, acked_in, firm_now, floor_now, answers_held, sends_firm, counts, In, all-at, all-from, all-filter, in-filter, in-map-from, same-some, none-and-some, not-both, same-true, leads-parts, leader-view, acked_in-from, reach_now, reach_now-own, reach_now-copy, reach_now-joiner, cond_both}
+use Rattle.log_laws.proofs.Names.{◌≡◌, ◌<◌, ◌≤◌, true, List, [], refl, sym, subst, ap, ◌∙◌, inl, inr, ◌==◌, arith, cases_eq, and_parts, ℕ, ◌&&◌, nat_lt, nat_le, filter, max, length, Some, None, AllByRecursion, Membership, Actor, Agent, Site, Deployment, term_of, term_in, start_of_slot, leader, same, Letter, SiteState, Held, Joiner, is_leader, leads, other_copies, own_ack, acked_in, firm_now, floor_now, answers_held, sends_firm, counts, In, all-at, all-from, all-filter, in-filter, in-map-from, same-some, none-and-some, not-both, same-true, leads-parts, leader-view, acked_in-from, reach_now, reach_now-own, reach_now-copy, reach_now-joiner, cond_both, LogState, Entered, Streaming, Leadership, Flow, LogsHold, IsSlot, WordOf, AckOk, CountedOk, IsCounted, HeldFor, HeldOk, LeadsIn, MemberOk, KeepsOk, Coming, ToldOk, SiteLetterOk, end_of, part, site_start, log_at, term_at}
 use Rattle.volt_wire.specs.declared.message.Msg.TheVariants as msg
-use Rattle.log_laws.specs.Histories.{LogState, Entered, Streaming, Leadership, Flow, LogsHold, IsSlot, WordOf, AckOk, CountedOk, IsCounted, HeldFor, HeldOk, LeadsIn, MemberOk, KeepsOk, Coming, ToldOk, SiteLetterOk, end_of, part, site_start, log_at, term_at}
 use Rattle.log_laws.proofs.Kept.{LogsGo, same-word, entered-start, one-in, took-decided, goes-same, SiteRests, ReachRests, SaysRests, Bare, same-joiners, reach-same, rests-goes, put_at, put-both, put-here}
 use Rattle.log_laws.proofs.Plain.{is_in-in, copy-other, is-leader, flat-none, none-or-some}
 use Rattle.log_laws.proofs.NewTerms.Since.{since-raised}
@@ -20,7 +19,6 @@ pub leader-of : (T : LogState) → LogsHold T → (i : ℕ) → 0 < site_start T
 leader-of T H i up e =
     let v = leader-view T.words.deployment i (T.sites i) e in
     let m = (H.sites i).member up v.0 in
-
     record { word = m.0; none = v.0; view = m.1; first = (is-leader T.words.deployment i (T.sites i) m.0 m.1 e).1; member = m.2 }
 
 -- ---- what a leader counts
@@ -46,10 +44,6 @@ module _ (T : LogState) (H : LogsHold T) (i : ℕ) (up : 0 < site_start T i) (o 
   acked-ok c e is v acked = subst (λ t. AckOk T c t v) here
       (all-at (λ a. IsSlot T a.0 → AckOk T a.0 (term_at T i) a.1) (T.sites i).acks keeps.acks (c, v)
       (acked_in-from (T.sites i).acks c v acked) (H.entered c (term_of w) e is).slot)
-
-  acked-log : (c : ℕ) (e : Entered) → T.logs.entered c (term_of w) ≡ Some e → site_start T c ≡ e.start
-      → (v : ℕ) → acked_in (T.sites i).acks c ≡ Some v → v ≤ length (log_at T c)
-  acked-log c e is runs v acked = let k = acked-ok c e is v acked in k.now (runs ∙ one-in T H c (term_of w) e.start k.start (inl (e, is, refl)) k.was)
 
   -- and in that with which it entered a later term
   acked-since : (c t : ℕ) (e f : Entered) → T.logs.entered c (term_of w) ≡ Some f → T.logs.entered c t ≡ Some e → f.start ≡ e.start → term_of w < t
@@ -80,7 +74,8 @@ module _ (T : LogState) (H : LogsHold T) (i : ℕ) (up : 0 < site_start T i) (o 
   reach_now-entered c e same is runs = let low = known-below c (length (log_at T c)) same ((H.entered c (term_of w) e is).running runs).2 in elim (cases_eq c i) [
     | inl q ↦ reach_now-own T.words.deployment i (T.sites i) (length (log_at T c)) low.0 low.1
         (λ v own. subst (λ x. v ≤ length (log_at T x)) (sym q) (own-log v own))
-    | inr n ↦ reach_now-copy T.words.deployment i (T.sites i) (length (log_at T c)) low.0 low.1 c (other c e same is n) (acked-log c e is runs)
+    | inr n ↦ reach_now-copy T.words.deployment i (T.sites i) (length (log_at T c)) low.0 low.1 c (other c e same is n)
+        (λ v acked. let k = acked-ok c e is v acked in k.now (runs ∙ one-in T H c (term_of w) e.start k.start (inl (e, is, refl)) k.was))
   ]
 
   -- a start that is counted
@@ -172,9 +167,6 @@ pub raised-both : (P : ℕ → Type 0) (f : ℕ → ℕ → ℕ) (p t n q u : �
 raised-both P f p t n q u = put-both (λ q u m. (q ≡ p → u ≡ t → P (max (f q u) n)) → P (f q u) → P m) f p t (max (f p t) n)
     (λ here _. here refl refl) (λ q u _ _ there. there) q u
 
-pub raised-here : (f : ℕ → ℕ → ℕ) (p t n : ℕ) → n ≤ raised f p t n p t
-raised-here f p t n = subst (λ m. n ≤ m) (sym (put-here f p t (max (f p t) n))) (omega arith)
-
 -- In a term that was led it may rise to what is in each log that was in that term, in those with which slots entered later terms, and in the past of each stream under way.
 pub reach-raised : (S : LogState) → LogsHold S → (p t n : ℕ) (g : Leadership) → S.logs.leadership p t ≡ Some g → n ≤ length g.log
     → ((c : ℕ) (e : Entered) → part S c ≡ p → S.logs.entered c t ≡ Some e → site_start S c ≡ e.start → n ≤ length (log_at S c))
@@ -265,12 +257,13 @@ counts-leads T H i up authoritative = elim (none-or-some (T.logs.leadership (par
     k = (H.sites i).keeps up
 
     here : n ≤ raised T.logs.reach (part T i) (term_of w) n (part T i) (term_of w)
-    here = raised-here T.logs.reach (part T i) (term_of w) n
+    here = subst (λ m. n ≤ m) (sym (put-here T.logs.reach (part T i) (term_of w) (max (T.logs.reach (part T i) (term_of w)) n))) (omega arith)
 
     rests : SiteRests T (raised T.logs.reach (part T i) (term_of w) n) i
         (record s { firm = firm_now D i s; floor = floor_now D i s; held = filter (λ d. nat_lt (firm_now D i s) d.position) s.held })
     rests = record {
-      is = refl; member = λ e. e;
+      is = refl;
+      member = λ e. e;
       joiner = λ j e. absurd (none-and-some o.none e);
       counts = inr (
         parts.1,
@@ -279,7 +272,10 @@ counts-leads T H i up authoritative = elim (none-or-some (T.logs.leadership (par
             × (firm_now D i s ≤ raised T.logs.reach (part T i) (term_of w) n (part T i) (term_of z))) (same-some (sym o.view ∙ e))
             (omega (arith, here), omega (arith, here)),
       );
-      acks = λ up. k.acks; joiners = λ up. k.joiners; alone = λ up. k.alone; leads = λ up. k.leads;
+      acks = λ up. k.acks;
+      joiners = λ up. k.joiners;
+      alone = λ up. k.alone;
+      leads = λ up. k.leads;
       counted = same-joiners s.joiners;
       on_disk = λ up. k.on_disk;
       held = λ up. all-filter HeldOk (λ d. nat_lt (firm_now D i s) d.position) s.held k.held;

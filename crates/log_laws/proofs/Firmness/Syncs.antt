@@ -1,7 +1,6 @@
 -- A site has written what it owed: a leader counts what is firm, a copy and a joiner acknowledge, and a joiner says once that it has loaded.
-use Rattle.log_laws.proofs.Names.{◌≡◌, ◌<◌, Bool, true, false, List, [], refl, sym, subst, ap, ◌∙◌, inl, inr, ◌==◌, arith, ℕ, if◌then◌else◌, length, Option, Some, None, Membership, Agent, Site, Deployment, host_of_slot, term_of, term_in, Letter, becomes, no_sends, only, letter_in, letter_to, Shown, SiteState, Streamed, Joining, leader_in, start_in_view, is_leader, counts, member_written, joiner_written, written, acknowledges, says_loaded, after_sync, In, all-one, same-some, none-and-some, not-both, cond_both}
+use Rattle.log_laws.proofs.Names.{◌≡◌, ◌<◌, Bool, true, false, List, [], refl, sym, subst, ap, ◌∙◌, inl, inr, ◌==◌, arith, ℕ, if◌then◌else◌, length, Option, Some, None, Membership, Agent, Site, Deployment, host_of_slot, term_of, term_in, Letter, becomes, no_sends, only, letter_in, letter_to, Shown, SiteState, Streamed, Joining, leader_in, start_in_view, is_leader, counts, member_written, joiner_written, written, acknowledges, says_loaded, after_sync, In, all-one, same-some, none-and-some, not-both, cond_both, LogState, LogsHold, WasIn, AckOk, LoadedOk, ToldOk, SiteLetterOk, ViewIn, StreamIn, MemberOk, JoinerOk, KeepsOk, end_of, part, site_start, log_at, term_at}
 use Rattle.volt_wire.specs.declared.message.Msg.TheVariants as msg
-use Rattle.log_laws.specs.Histories.{LogState, LogsHold, WasIn, AckOk, LoadedOk, ToldOk, SiteLetterOk, ViewIn, StreamIn, MemberOk, JoinerOk, KeepsOk, end_of, part, site_start, log_at, term_at}
 use Rattle.log_laws.proofs.Kept.{LogsGo, some-start, some-term, took-decided, goes-then, goes-same, GoesFrom, SiteRests, JoiningRests, Bare, part-from, reach-same, site-same, site-rests, says-nothing, rests-goes}
 use Rattle.log_laws.proofs.Plain.{leader-copy, start-in-view, flat-none, if-empty}
 use Rattle.log_laws.proofs.Firmness.Firm.{counts-goes}
@@ -55,11 +54,11 @@ module _ (T : LogState) (H : LogsHold T) (i : ℕ) (up : 0 < site_start T i) whe
   says_loaded-goes j some based = cond_both j.has_told _ _ (LogsGo T i)
       (λ _. goes-same T i H)
       (λ _. rests-goes T H i (record (T.sites i) { joining = Some (record j { has_told = true }) })
-          (only (Agent (host_of_slot T.words.deployment i)) (letter_to (site_start T i) (msg.Loaded (site_start T i)))) T.logs.reach rests (reach-same T H) (record {
-            sites = λ c. tt;
-            ended = λ c v joins of away. refl;
-            told = λ h. all-one (ToldOk T i) (host_of_slot T.words.deployment i == h) (letter_to (site_start T i) (msg.Loaded (site_start T i))) (λ _. loaded-ok j some based);
-          }))
+      (only (Agent (host_of_slot T.words.deployment i)) (letter_to (site_start T i) (msg.Loaded (site_start T i)))) T.logs.reach rests (reach-same T H) (record {
+        sites = λ c. tt;
+        ended = λ c v joins of away. refl;
+        told = λ h. all-one (ToldOk T i) (host_of_slot T.words.deployment i == h) (letter_to (site_start T i) (msg.Loaded (site_start T i))) (λ _. loaded-ok j some based);
+      }))
     where
       loaded : j.is_loaded ≡ true
       loaded = ((H.sites i).joiner j some).based based
@@ -103,12 +102,12 @@ acknowledges-state D i s (Some slot) = refl
 module _ (T : LogState) (H : LogsHold T) (i : ℕ) (up : 0 < site_start T i) where
   joiner-goes : (j : Joining) → (T.sites i).joining ≡ Some j → LogsGo T i (after_sync T.words.deployment i (T.sites i) (Some j))
   joiner-goes j some = cond_both j.is_based _ _ (LogsGo T i)
-      (λ e. 
-          let o = leader_in T.words.deployment (T.sites i).view (part T i) in
-          let k = loaded-took T H i up j some (((H.sites i).joiner j some).based e) in
-          goes-then T i (acknowledges T.words.deployment i (T.sites i) o) (λ x. says_loaded T.words.deployment i x j)
-          (acknowledges-goes T H i up k.0 k.1 k.2 k.3 o refl)
-          (then-loaded e (acknowledges T.words.deployment i (T.sites i) o).state (acknowledges-state T.words.deployment i (T.sites i) o)))
+      (λ e.
+      let o = leader_in T.words.deployment (T.sites i).view (part T i) in
+      let k = loaded-took T H i up j some (((H.sites i).joiner j some).based e) in
+      goes-then T i (acknowledges T.words.deployment i (T.sites i) o) (λ x. says_loaded T.words.deployment i x j)
+      (acknowledges-goes T H i up k.0 k.1 k.2 k.3 o refl)
+      (then-loaded e (acknowledges T.words.deployment i (T.sites i) o).state (acknowledges-state T.words.deployment i (T.sites i) o)))
       (λ e. goes-same T i H)
     where
       then-loaded : j.is_based ≡ true → (s : SiteState) → s ≡ T.sites i → GoesFrom T i s (says_loaded T.words.deployment i s j)
@@ -150,18 +149,18 @@ module _ (T : LogState) (H : LogsHold T) (i : ℕ) (up : 0 < site_start T i) whe
       (λ e. e) (site-same T H i T.logs.reach i).joiner (λ _. ((H.sites i).keeps up).on_disk)
   joiner-rests j some (Some st) contents = cond_both j.is_loaded _ _ (λ z. SiteRests T T.logs.reach i (record z { contents = contents }))
       (λ e. site-rests T H i T.logs.reach
-          (record (T.sites i) {
-            joining = Some (record j { written = j.blocks; is_based = true });
-            on_disk = length (log_at T i);
-            mark = st.mark;
-            base = st.stream_start;
-            contents = contents;
-          })
-          refl refl refl refl refl refl (λ none. absurd (none-and-some none some))
-          (joins (record j { written = j.blocks; is_based = true }) (record { same = refl; told = o.told; based = λ _. e; still = λ _. refl })) (λ _. omega arith))
+      (record (T.sites i) {
+        joining = Some (record j { written = j.blocks; is_based = true });
+        on_disk = length (log_at T i);
+        mark = st.mark;
+        base = st.stream_start;
+        contents = contents;
+      })
+      refl refl refl refl refl refl (λ none. absurd (none-and-some none some))
+      (joins (record j { written = j.blocks; is_based = true }) (record { same = refl; told = o.told; based = λ _. e; still = λ _. refl })) (λ _. omega arith))
       (λ e. site-rests T H i T.logs.reach (record (T.sites i) { joining = Some (record j { written = j.blocks }); contents = contents })
-          refl refl refl refl refl refl (λ none. absurd (none-and-some none some))
-          (joins (record j { written = j.blocks }) (record { same = refl; told = o.told; based = o.based; still = λ b. b })) (λ _. ((H.sites i).keeps up).on_disk))
+      refl refl refl refl refl refl (λ none. absurd (none-and-some none some))
+      (joins (record j { written = j.blocks }) (record { same = refl; told = o.told; based = o.based; still = λ b. b })) (λ _. ((H.sites i).keeps up).on_disk))
     where
       joins : (k : Joining) → JoiningRests j k → (x : Joining) → (T.sites i).joining ≡ Some x → (y : Joining) × (Some k ≡ Some y) × JoiningRests x y
       joins k r x here = (k, refl, subst (λ y. JoiningRests y k) (same-some (sym some ∙ here)) r)

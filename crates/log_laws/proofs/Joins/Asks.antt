@@ -1,7 +1,6 @@
 -- A site takes a JoinAsk: it keeps it until it can take the joiner.
-use Rattle.log_laws.proofs.Names.{List, ap, arith, refl, subst, sym, ◌≡◌, ◌∷◌, ◌<◌, [], AllByRecursion, ℕ, Site, Letter, Waiting, becomes, on_join_ask, SiteState, all-append}
+use Rattle.log_laws.proofs.Names.{List, ap, arith, refl, subst, sym, ◌≡◌, ◌∷◌, ◌<◌, [], AllByRecursion, ℕ, Site, Letter, Waiting, becomes, on_join_ask, SiteState, all-append, AsksToJoin, LogsHold, LogState, SiteLetterOk, SiteWaitingFrom, SiteWaitingOk, between, flow, part, site_start, term_at}
 use Rattle.volt_wire.specs.declared.message.Msg.TheVariants as msg
-use Rattle.log_laws.specs.Histories.{AsksToJoin, LogsHold, LogState, SiteLetterOk, SiteWaitingFrom, SiteWaitingOk, between, flow, part, site_start, term_at}
 use Rattle.log_laws.proofs.Kept.{running-slot, AsksLess, left-kept, popped-kept, LogsGo, left, site_popped, becomes-goes, NotesOk, after-nothing, channels-same, noted-holds, noted-same, notes-same}
 use Rattle.log_laws.proofs.Plain.{if-empty}
 use Rattle.log_laws.proofs.Messages.Pops.{channels-popped}
@@ -21,7 +20,8 @@ ask-noted : (S : LogState) → LogsHold S → (i a slot : ℕ) → AsksToJoin S 
 ask-noted S H i a slot ok up now pending = let o = notes-same S H i in record {
   waiting = o.waiting;
   asks = λ _. all-append (λ a. AsksToJoin S (part S i) a.slot (term_at S i) a.start) (S.sites i).asks (record { slot = slot; start = a } ∷ []) (o.asks up) (ok, tt);
-  reports = o.reports; pending = λ _. pending;
+  reports = o.reports;
+  pending = λ _. pending;
   none = λ z. absurd (omega (arith, up, z));
 }
 

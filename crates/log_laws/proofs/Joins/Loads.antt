@@ -1,7 +1,6 @@
 -- A site takes a block, the end of a stream or of a scan: a joiner may have loaded all then.
-use Rattle.log_laws.proofs.Names.{List, ap, append-nil, arith, false, inl, inr, refl, subst, sym, true, true≢false, ◌≡◌, ◌++◌, ◌∷◌, ◌∙◌, ◌⊎◌, ◌<◌, ◌≤◌, ◌==◌, [], ◌+◌, and_parts, length-append, AllByRecursion, None, Option, Some, is_some, length, map, not, ◌&&◌, ℕ, Entry, Membership, Letter, becomes, finishes_load, may_finish, on_chunk, on_scan_end, on_stream_end, with_count, ForBase, ForJoiner, Joiner, Joining, Scanning, SiteState, Streamed, is_some_of, term_in, term_of, none-and-some, same-some, set-here, set-there, no_sends, cond_both}
-use Rattle.log_laws.specs.Histories.{CountedOk, EndOk, LogsHold, JoinerOk, LogState, StreamIn, Took, asked, asks_in, asks_of_term, asks_waiting, between, log_at, part, site_start, term_at}
-use Rattle.log_laws.proofs.Kept.{AtMost, asks-at, asks-of-same, at-most-same, LogsGo, LessTo, SiteTakes, becomes-goes, counts-on, same-counts, same-uncounts, takes-joined, takes-joiner, takes-letters, takes-stream, takes-took, takes-untaken, takes-word, takes-wordless, uncounts-on, with-site, goes-same, SiteGoesOn, map-joiners, map-slots, inert-becomes, reach-same, rests-goes, says-nothing, site-same}
+use Rattle.log_laws.proofs.Names.{List, ap, append-nil, arith, false, inl, inr, refl, subst, sym, true, true≢false, ◌≡◌, ◌++◌, ◌∷◌, ◌∙◌, ◌⊎◌, ◌<◌, ◌≤◌, ◌==◌, [], ◌+◌, and_parts, length-append, AllByRecursion, None, Option, Some, is_some, length, map, not, ◌&&◌, ℕ, Entry, Membership, Letter, becomes, finishes_load, may_finish, on_chunk, on_scan_end, on_stream_end, with_count, ForBase, ForJoiner, Joiner, Joining, Scanning, SiteState, Streamed, is_some_of, term_in, term_of, none-and-some, same-some, set-here, set-there, no_sends, cond_both, CountedOk, EndOk, LogsHold, JoinerOk, LogState, StreamIn, Took, asked, between, log_at, part, site_start, term_at}
+use Rattle.log_laws.proofs.Kept.{AtMost, asks-at, asks-of-same, at-most-same, LogsGo, LessTo, SiteTakes, becomes-goes, counts-on, same-counts, same-uncounts, takes-joined, takes-joiner, takes-letters, takes-stream, takes-took, takes-untaken, takes-word, takes-wordless, uncounts-on, with-site, goes-same, SiteGoesOn, map-joiners, map-slots, inert-becomes, reach-same, rests-goes, says-nothing, site-same, asked_of}
 
 -- ---- a site changes with nothing under way
 
@@ -11,19 +10,20 @@ module _ (S : LogState) (H : LogsHold S) (i : ℕ) (up : 0 < site_start S i) (s 
   alone-takes = record {
     up = up;
     goes = g;
-    others = λ a c n. refl; agents = λ h b. refl; told = λ c h. refl; director = λ h. refl; pending = λ c n. refl; streamed = λ c t n. refl;
+    others = λ a c n. refl;
+    agents = λ h b. refl;
+    told = λ c h. refl;
+    director = λ h. refl;
+    pending = λ c n. refl;
+    streamed = λ c t n. refl;
     stays = λ t x is. is;
     fresh = λ t x is. inl is;
     asks = asks-at S (with-site S i s S.words.channel S.pending S.logs.streamed) i (λ l n. (set-there S.sites i s l n, refl, λ c. refl)) (λ c t.
-        subst (λ x. AtMost (asked S c i t) (asks_in t (between S c i) ++ asks_waiting c t x.waiting ++ asks_waiting c t (S.pending i) ++ asks_of_term c t x))
-        (sym (set-here S.sites i s))
+        subst (λ x. AtMost (asked S c i t) (asked_of c t (between S c i) x (S.pending i))) (sym (set-here S.sites i s))
         (rw (g.waiting, asks-of-same c t (S.sites i) s g.view asks) (at-most-same (asked S c i t))));
     counted = counts-on S i s S.words.channel S.pending S.logs.streamed g (same-counts (S.sites i).joiners s.joiners joiners);
     uncounted = uncounts-on S i s S.words.channel S.pending S.logs.streamed g (same-uncounts (S.sites i).joiners s.joiners joiners);
   }
-
-  pub alone-less : LessTo S i S.words.channel
-  alone-less = record { lines = λ l a t. refl; flows = λ l a t e. e; ends = λ l a t e. e }
 
 -- ---- a joiner loads
 
@@ -41,7 +41,14 @@ pub record LoadsOn (S : LogState) (i : ℕ) (j n : Joining) (log : List Entry) (
 pub load-on : (s : SiteState) (j n : Joining) (log : List Entry) → s.joining ≡ Some j → length s.log ≤ length log → (j.is_based ≡ true → n.is_based ≡ true)
     → SiteGoesOn s (with-load s n log)
 load-on s j n log is longer based = record {
-  start = refl; greatest = refl; earlier = refl; view = refl; acks = refl; reports = refl; held = refl; waiting = refl;
+  start = refl;
+  greatest = refl;
+  earlier = refl;
+  view = refl;
+  acks = refl;
+  reports = refl;
+  held = refl;
+  waiting = refl;
   log = longer;
   member = λ e. absurd (none-and-some e is);
   joins = λ x e. (n, refl);
@@ -76,7 +83,7 @@ module _ (S : LogState) (H : LogsHold S) (i : ℕ) (up : 0 < site_start S i) (j 
       k = alone-takes S H i up s (load-on (S.sites i) j n log is longer (λ b. based ∙ b)) refl refl
 
       less : LessTo S i S.words.channel
-      less = alone-less S H i up s (load-on (S.sites i) j n log is longer (λ b. based ∙ b)) refl refl
+      less = record { lines = λ l a t. refl; flows = λ l a t e. e; ends = λ l a t e. e }
 
       old : JoinerOk S i j
       old = (H.sites i).joiner j is
@@ -96,21 +103,21 @@ module _ (S : LogState) (H : LogsHold S) (i : ℕ) (up : 0 < site_start S i) (j 
   finish-goes : LogsGo S i (becomes (finishes_load (S.sites i) n))
   finish-goes = cond_both (may_finish n) _ _ (λ z. LogsGo S i (becomes z))
       (λ e. load-goes S H i up j done (log_at S i ++ n.tasks) is (rw (length-append (log_at S i) n.tasks) (omega arith)) (λ _. refl) told based stream
-          (λ none. absurd (true≢false (sym (parts e).0 ∙ ap is_some (stream ∙ none))))
-          (λ w stream_start view h. record {
-            whole = append-nil (log_at S i ++ n.tasks) ∙ ap (λ z. log_at S i ++ z) tasks;
-            loading = λ no. absurd (true≢false no);
-            loaded = λ _. refl;
-            ends = λ _. ends w stream_start view h (parts e).1;
-          }))
+      (λ none. absurd (true≢false (sym (parts e).0 ∙ ap is_some (stream ∙ none))))
+      (λ w stream_start view h. record {
+        whole = append-nil (log_at S i ++ n.tasks) ∙ ap (λ z. log_at S i ++ z) tasks;
+        loading = λ no. absurd (true≢false no);
+        loaded = λ _. refl;
+        ends = λ _. ends w stream_start view h (parts e).1;
+      }))
       (λ e. load-goes S H i up j n (log_at S i) is (omega arith) (λ l. loads ∙ l) told based stream
-          (λ none. (loads, counts none, tasks, refl))
-          (λ w stream_start view h. record {
-            whole = ap (λ z. log_at S i ++ z) tasks;
-            loading = λ no. h.loading (sym loads ∙ no);
-            loaded = λ whole. tasks ∙ h.loaded (sym loads ∙ whole);
-            ends = λ some. elim some [ inl whole ↦ h.ends (inl (sym loads ∙ whole)) | inr known ↦ ends w stream_start view h known ];
-          }))
+      (λ none. (loads, counts none, tasks, refl))
+      (λ w stream_start view h. record {
+        whole = ap (λ z. log_at S i ++ z) tasks;
+        loading = λ no. h.loading (sym loads ∙ no);
+        loaded = λ whole. tasks ∙ h.loaded (sym loads ∙ whole);
+        ends = λ some. elim some [ inl whole ↦ h.ends (inl (sym loads ∙ whole)) | inr known ↦ ends w stream_start view h known ];
+      }))
     where
       done : Joining
       done = record n { is_loaded = true; tasks = [] }
@@ -175,12 +182,17 @@ module _ (f : Joiner → Joiner) (same : (j : Joiner) → SameJoiner j (f j)) wh
 scan_end-joiners : (S : LogState) → LogsHold S → (i slot count : ℕ) → LogsGo S i (becomes (record (S.sites i) { scanning = None; joiners = map (with_count slot count) (S.sites i).joiners }))
 scan_end-joiners S H i slot count = let o = site-same S H i S.logs.reach i in let f = with_count slot count in let same = with_count-same slot count in
     rests-goes S H i (record (S.sites i) { scanning = None; joiners = map f (S.sites i).joiners }) no_sends S.logs.reach (record {
-      is = refl; member = o.member; joiner = o.joiner; counts = o.counts; acks = o.acks;
+      is = refl;
+      member = o.member;
+      joiner = o.joiner;
+      counts = o.counts;
+      acks = o.acks;
       joiners = λ up. counted-mapped f same S (part S i) (term_at S i) (S.sites i).joiners (o.joiners up);
       alone = λ up. rw (map-slots f (λ j. (same j).slot) (S.sites i).joiners) (o.alone up);
       leads = λ up. elim (o.leads up) [ inl none ↦ inl (ap (map f) none) | inr is ↦ inr is ];
       counted = map-joiners f (λ j. (same j).slot) (λ j. (same j).start) (λ j. (same j).stream_start) (S.sites i).joiners;
-      on_disk = o.on_disk; held = o.held;
+      on_disk = o.on_disk;
+      held = o.held;
     }) (reach-same S H) (says-nothing S H i)
 
 -- the end of a scan

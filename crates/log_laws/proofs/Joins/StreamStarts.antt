@@ -1,7 +1,6 @@
 -- A joiner takes the stream that its leader began for it, or drops it.
-use Rattle.log_laws.proofs.Names.{List, ap, append-nil, arith, false, inl, inr, refl, subst, sym, true, true≢false, ◌≡◌, ◌++◌, ◌∷◌, ◌∙◌, ◌⊎◌, ◌<◌, ◌≤◌, [], and_parts, cases_Bool, cases_eq, nat_tests, AllByRecursion, None, Option, Some, is_none, is_some, length, map, nat_lt, ◌&&◌, ℕ, StreamHead, Membership, Site, Letter, becomes, may_stream, on_stream_start, Joining, SiteState, Streamed, site_term, term_in, term_of, set_at, all-at, all-from, none-and-some, same-some, set-here, set-there, is_none-none, In, cond_both}
+use Rattle.log_laws.proofs.Names.{List, ap, append-nil, arith, false, inl, inr, refl, subst, sym, true, true≢false, ◌≡◌, ◌++◌, ◌∷◌, ◌∙◌, ◌⊎◌, ◌<◌, ◌≤◌, [], and_parts, cases_Bool, cases_eq, nat_tests, AllByRecursion, None, Option, Some, is_none, is_some, length, map, nat_lt, ◌&&◌, ℕ, StreamHead, Membership, Site, Letter, becomes, may_stream, on_stream_start, Joining, SiteState, Streamed, site_term, term_in, term_of, set_at, all-at, all-from, none-and-some, same-some, set-here, set-there, is_none-none, In, cond_both, Begins, BeginsAt, Coming, EndOk, Entered, Follows, HasBeen, LogsHold, InWord, IsCounted, IsSlot, JoinerOk, LogState, MeantFor, SiteLetterOk, StreamIn, StreamedOk, Streaming, Took, Untaken, ViewIn, asked, asks_of_term, between, end_in, stream_ends_in, flow, follows, known, part, site_start, term_at, end_of, flow_in}
 use Rattle.volt_wire.specs.declared.message.Msg.TheVariants as msg
-use Rattle.log_laws.specs.Histories.{Begins, BeginsAt, Coming, EndOk, Entered, Follows, HasBeen, LogsHold, InWord, IsCounted, IsSlot, JoinerOk, LogState, MeantFor, SiteLetterOk, StreamIn, StreamedOk, Streaming, Took, Untaken, ViewIn, asked, asks_of_term, between, end_in, stream_ends_in, flow, follows, known, part, site_start, term_at, end_of, flow_in}
 use Rattle.log_laws.proofs.Kept.{running-slot, at-most-none, at-most-same, popped-less, ack-later, ask-later, been-later, end-later-if, part-later, reached-later, report-later, LogsGo, JoinsOn, LogsLater, site_popped, LessTo, SiteTakes, becomes-goes, takes-counted, takes-joined, takes-joiner, takes-steady, takes-stream, takes-word, with-site, SiteGoesOn, steady-joins, steady-later}
 use Rattle.log_laws.proofs.Plain.{follows-one, begins-same, follows-not-begins, flat-each, for-here, one-and-others}
 use Rattle.log_laws.proofs.Messages.Taken.{first-begun, first-foreign, first-less, first-takes, without, without-each, without-here}
@@ -131,7 +130,14 @@ module _ (S : LogState) (H : LogsHold S) (m i : ℕ) (l : Letter) (ls : List Let
 
     g : SiteGoesOn (S.sites i) s
     g = record {
-      start = refl; greatest = refl; earlier = refl; view = refl; acks = refl; reports = refl; held = refl; waiting = refl;
+      start = refl;
+      greatest = refl;
+      earlier = refl;
+      view = refl;
+      acks = refl;
+      reports = refl;
+      held = refl;
+      waiting = refl;
       log = subst (λ z. length z ≤ length l.past) (sym untaken.empty) (omega arith);
       member = λ no. absurd (none-and-some no is);
       joins = λ y e. (joined, refl);
@@ -171,7 +177,9 @@ module _ (S : LogState) (H : LogsHold S) (m i : ℕ) (l : Letter) (ls : List Let
     takes-it = record {
       from = m;
       following = follows-it;
-      more = coming.0.more; leadership = coming.0.leadership; led = coming.0.led;
+      more = coming.0.more;
+      leadership = coming.0.leadership;
+      led = coming.0.led;
       flow_is = rw start-is (ap (flow (site_start S i) (term_of w)) (without-here S m i x ls e) ∙ begins.2);
       whole = subst (λ z. z.log ++ j.tasks ++ coming.0.more ≡ coming.0.leadership.log) (sym site-is)
           (ap (λ z. l.past ++ z ++ coming.0.more) untaken.tasks ∙ ap (λ z. z ++ coming.0.more) (append-nil l.past ∙ begins.0) ∙ coming.0.whole);
@@ -189,10 +197,12 @@ module _ (S : LogState) (H : LogsHold S) (m i : ℕ) (l : Letter) (ls : List Let
     new-stream : StreamedOk T i (term_of w) (record { start = site_start S i; stream_start = head.stream_start })
     new-stream = record {
       word = w;
-      took = word.took; term_is = refl;
+      took = word.took;
+      term_is = refl;
       apart = apart (S.logs.entered i (term_of w)) refl;
       later = λ u y was own. absurd (old.unentered u y was own);
-      leadership = coming.0.leadership; led = coming.0.led;
+      leadership = coming.0.leadership;
+      led = coming.0.led;
       behind = subst (λ z. length coming.0.leadership.begun ≤ z) (sym begins.1) coming.0.behind;
       been = been-later S T H later i (term_of w) (site_start S i) own-been;
       running = λ at. let r = subst (λ z. (z.earlier < term_of w) × (term_of w ≤ site_term z) × (S.logs.reach (part S i) (term_of w) ≤ length z.log) × (head.stream_start ≤ length z.log))

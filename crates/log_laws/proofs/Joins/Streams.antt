@@ -1,8 +1,7 @@
 -- A leader takes a joiner: it counts it, and its stream begins.
-use Rattle.log_laws.proofs.Names.{Bool, List, ap, append-nil, arith, false, inl, inr, refl, subst, sym, true, true≢false, ◌≡◌, ◌++◌, ◌∷◌, ◌∙◌, ◌⊎◌, ◌<◌, ◌≤◌, ◌==◌, [], ◌+◌, and_parts, cases_eq, eq-eqb, eqb-true, not-true, length-append, map-append, nil_from_length, AllByRecursion, list_any, None, Option, Some, filter, find, is_none, length, map, not, ◌&&◌, if◌then◌else◌, ℕ, Membership, Actor, Agent, Site, Database, Letter, Turn, letter_in, same, nothing_open, can_take, is_lost_in, stream_head, takes_asks, takes_first_ask, takes_joiner, without_first, Ask, Joiner, Joining, SiteState, Streamed, is_leader, leads, site_term, leader, term_in, term_of, sent, set_at, all-append, all-at, all-from, eqb-same, filter-in, if-true, in-cases, in-left, in-map, in-map-from, in-right, list_any-in, none-and-some, same-some, set-both, set-here, set-there, Distinct, In, leader-view, leads-parts, prefix-length}
+use Rattle.log_laws.proofs.Names.{Bool, List, ap, append-nil, arith, false, inl, inr, refl, subst, sym, true, true≢false, ◌≡◌, ◌++◌, ◌∷◌, ◌∙◌, ◌⊎◌, ◌<◌, ◌≤◌, ◌==◌, [], ◌+◌, and_parts, cases_eq, eq-eqb, eqb-true, not-true, length-append, map-append, nil_from_length, AllByRecursion, list_any, None, Option, Some, filter, find, is_none, length, map, not, ◌&&◌, if◌then◌else◌, ℕ, Membership, Actor, Agent, Site, Database, Letter, Turn, letter_in, same, nothing_open, can_take, is_lost_in, stream_head, takes_asks, takes_first_ask, takes_joiner, without_first, Ask, Joiner, Joining, SiteState, Streamed, is_leader, leads, site_term, leader, term_in, term_of, sent, set_at, all-append, all-at, all-from, eqb-same, filter-in, if-true, in-cases, in-left, in-map, in-map-from, in-right, list_any-in, none-and-some, same-some, set-both, set-here, set-there, Distinct, In, leader-view, leads-parts, prefix-length, AsksToJoin, BeginsAt, Coming, CountedOk, EndOk, ForeignOk, LogsHold, InWord, IsCounted, IsSlot, JoinerOk, JoinsIn, KeepsOk, LeadsIn, LogState, MemberOk, Inert, Leadership, SiteLetterOk, StreamIn, Took, ViewIn, asked, asks_in, asks_kept, asks_of_term, asks_waiting, between, end_in, stream_ends_in, flow, flow_of, follows, line, log_at, part, site_start, term_at, ask_of, end_of, flow_in, line_of}
 use Rattle.volt_wire.specs.declared.message.Msg.TheVariants as msg
-use Rattle.log_laws.specs.Histories.{AsksToJoin, BeginsAt, Coming, CountedOk, EndOk, ForeignOk, LogsHold, InWord, IsCounted, IsSlot, JoinerOk, JoinsIn, KeepsOk, LeadsIn, LogState, MemberOk, Inert, Leadership, SiteLetterOk, StreamIn, Took, ViewIn, asked, asks_in, asks_kept, asks_of_term, asks_waiting, between, end_in, stream_ends_in, flow, flow_of, follows, line, log_at, part, site_start, term_at, ask_of, end_of, flow_in, line_of}
-use Rattle.log_laws.proofs.Kept.{AsksLess, AtMost, at-most-behind, at-most-both, at-most-is, at-most-same, CountedBy, SiteStays, Uncounted, counted-from, in_word-keeps-with, joiner-keeps-with, streamed-later, LogsLater, after_site, counts-on, with-site, after-same, SiteGoesOn, goes-on-same, steady-asks, steady-counted, steady-holds, steady-joiner, steady-joins, steady-keeps, steady-later, steady-member, steady-leaderships, running-slot, same-word, some-term, took-decided, still-same}
+use Rattle.log_laws.proofs.Kept.{AsksLess, AtMost, at-most-behind, at-most-both, at-most-same, CountedBy, SiteStays, Uncounted, counted-from, in_word-keeps-with, joiner-keeps-with, streamed-later, LogsLater, after_site, counts-on, with-site, after-same, SiteGoesOn, goes-on-same, steady-asks, steady-counted, steady-holds, steady-joiner, steady-joins, steady-keeps, steady-later, steady-member, steady-leaderships, running-slot, same-word, some-term, took-decided, still-same, asked_of, in-asked, keeps-less}
 use Rattle.log_laws.proofs.Kept.Steady.{Steady}
 use Rattle.log_laws.proofs.Plain.{follows-one, is-leader, leader-followed, kept-append, flat-each, flat-push, flat-same, for-here, for-other, if-empty, one-and-others}
 use Rattle.log_laws.proofs.Joins.StreamStarts.{letter-later-ends}
@@ -177,7 +176,8 @@ module _ (E : Database) (S : LogState) (H : LogsHold S) (i : ℕ) (up : 0 < site
     sites = set-both (λ c x. SiteGoesOn (S.sites c) x) S.sites i turn.state goes-on (λ c n. goes-on-same (S.sites c));
     agents = λ h b. refl;
     told = λ c h. told (same (Site i) (Site c)) c h;
-    director = λ h. refl; streamed = λ c t x is. is;
+    director = λ h. refl;
+    streamed = λ c t x is. is;
     fresh = λ c t x is. inl is;
   }
     where
@@ -190,22 +190,13 @@ module _ (E : Database) (S : LogState) (H : LogsHold S) (i : ℕ) (up : 0 < site
 
   -- the asks that it keeps
   asks-less : AsksLess S T
-  asks-less c l t = set-both (λ l x. AtMost (asked S c l t) (asks_in t (between T c l) ++ asks_waiting c t x.waiting ++ asks_waiting c t (S.pending l) ++ asks_of_term c t x))
-      S.sites i turn.state here (λ l n. at-most-is (asked S c l t) (asks_in t (between T c l) ++ rest l ++ asks_waiting c t (S.pending l) ++ asks_of_term c t (S.sites l))
-      (ap (λ z. z ++ rest l ++ asks_waiting c t (S.pending l) ++ asks_of_term c t (S.sites l)) (same-asks c l t))) l
+  asks-less c l t = set-both (λ l x. AtMost (asked S c l t) (asked_of c t (between T c l) x (S.pending l))) S.sites i turn.state
+      (rw (same-asks c i t) (keeps-less c t (between S c i) (S.sites i) turn.state (S.pending i) refl (fewer (site_term (S.sites i) == t))))
+      (λ l n. rw (same-asks c l t) (at-most-same (asked S c l t))) l
     where
-      rest : ℕ → List ℕ
-      rest l = asks_waiting c t (S.sites l).waiting
-
       fewer : (b : Bool) → AtMost (if b then asks_kept c (S.sites i).asks else []) (if b then asks_kept c (pre ++ post) else [])
       fewer true = subst (λ z. AtMost (asks_kept c z) (asks_kept c (pre ++ post))) (sym asks-are) (kept-fewer c pre post a)
       fewer false = at-most-same []
-
-      here : AtMost (asked S c i t) (asks_in t (between T c i) ++ asks_waiting c t turn.state.waiting ++ asks_waiting c t (S.pending i) ++ asks_of_term c t turn.state)
-      here = subst (λ z. AtMost (asked S c i t) (z ++ rest i ++ asks_waiting c t (S.pending i) ++ asks_of_term c t turn.state)) (sym (same-asks c i t))
-          (at-most-both (asks_in t (between S c i) ++ rest i ++ asks_waiting c t (S.pending i)) (asks_in t (between S c i) ++ rest i ++ asks_waiting c t (S.pending i))
-          (asks_of_term c t (S.sites i)) (asks_of_term c t turn.state)
-          (at-most-same (asks_in t (between S c i) ++ rest i ++ asks_waiting c t (S.pending i))) (fewer (site_term (S.sites i) == t)))
 
   -- whom it counted it counts
   counted : (c b stream_start : ℕ) (v : Membership) → IsCounted S c b stream_start v → IsCounted T c b stream_start v
@@ -227,10 +218,9 @@ module _ (E : Database) (S : LogState) (H : LogsHold S) (i : ℕ) (up : 0 < site
   ok = all-at (λ a. AsksToJoin S (part S i) a.slot (term_at S i) a.start) (S.sites i).asks ((H.sites i).keeps up).asks a (subst (In a) (sym asks-are) (in-middle a pre post))
 
   asked-it : In a.start (asked S a.slot i (term_of w))
-  asked-it = in-right a.start (asks_in (term_of w) (between S a.slot i) ++ asks_waiting a.slot (term_of w) (S.sites i).waiting ++ asks_waiting a.slot (term_of w) (S.pending i))
-      (asks_of_term a.slot (term_of w) (S.sites i))
+  asked-it = in-asked S a.slot i (term_of w) a.start (inr (inr
       (subst (In a.start) (sym (if-true (term_at S i == term_of w) (asks_kept a.slot (S.sites i).asks) [] (eq-eqb (term_at S i) (term_of w) same-term)))
-      (kept-in (S.sites i).asks a (subst (In a) (sym asks-are) (in-middle a pre post))))
+      (kept-in (S.sites i).asks a (subst (In a) (sym asks-are) (in-middle a pre post))))))
 
   unasked : asked S a.slot i (term_of w) ≡ [] → ⊥
   unasked e = subst (In a.start) e asked-it
@@ -249,9 +239,6 @@ module _ (E : Database) (S : LogState) (H : LogsHold S) (i : ℕ) (up : 0 < site
     in-own : InWord S a.slot joins.0 j
     in-own = subst (ViewIn S a.slot j) joins.1.2 joiner-is.view
 
-    not-itself : a.slot ≡ i → ⊥
-    not-itself e = none-and-some (subst (λ z. (S.sites z).joining ≡ None) (sym e) no-joiner) joins.1.1
-
     word-is : joins.0 ≡ w
     word-is = same-word S H (term_of w) joins.0 w (record { decided = took-decided S H (site_start S a.slot) joins.0 in-own.took; term_is = joins.2 ∙ same-term })
         (record { decided = found.2.decided; term_is = refl })
@@ -263,7 +250,8 @@ module _ (E : Database) (S : LogState) (H : LogsHold S) (i : ℕ) (up : 0 < site
     in-word = subst (λ v. InWord S a.slot v j) word-is in-own
 
     follows-it : follows S.words.deployment w a.slot i ≡ true
-    follows-it = leader-followed S.words.deployment w i a.slot authoritative ok.part_is not-itself
+    follows-it = leader-followed S.words.deployment w i a.slot authoritative ok.part_is
+        (λ e. none-and-some (subst (λ z. (S.sites z).joining ≡ None) (sym e) no-joiner) joins.1.1)
 
     untook : (stream_start : ℕ) → Took S a.slot w j stream_start → ⊥
     untook stream_start u = unasked (u.asks i slot)
@@ -313,8 +301,7 @@ module _ (E : Database) (S : LogState) (H : LogsHold S) (i : ℕ) (up : 0 < site
         asked-after : asked T a.slot i (term_of w)
             ≡ asks_in (term_of w) (between S a.slot i) ++ asks_waiting a.slot (term_of w) (S.sites i).waiting ++ asks_waiting a.slot (term_of w) (S.pending i)
             ++ asks_kept a.slot (pre ++ post)
-        asked-after = ap (λ x. asks_in (term_of w) (between T a.slot i) ++ asks_waiting a.slot (term_of w) x.waiting ++ asks_waiting a.slot (term_of w) (S.pending i)
-            ++ asks_of_term a.slot (term_of w) x) (set-here S.sites i turn.state)
+        asked-after = ap (λ x. asked_of a.slot (term_of w) (between T a.slot i) x (S.pending i)) (set-here S.sites i turn.state)
             ∙ ap (λ z. z ++ asks_waiting a.slot (term_of w) (S.sites i).waiting ++ asks_waiting a.slot (term_of w) (S.pending i) ++ asks_of_term a.slot (term_of w) turn.state)
             (same-asks a.slot i (term_of w))
             ∙ ap (λ z. asks_in (term_of w) (between S a.slot i) ++ asks_waiting a.slot (term_of w) (S.sites i).waiting ++ asks_waiting a.slot (term_of w) (S.pending i) ++ z)
@@ -378,7 +365,8 @@ module _ (E : Database) (S : LogState) (H : LogsHold S) (i : ℕ) (up : 0 < site
   -- the one that is counted
   new-ok : CountedOk S (part S i) (term_at S i) new
   new-ok = record {
-    been = ok.been; part_is = ok.part_is;
+    been = ok.been;
+    part_is = ok.part_is;
     reached = λ runs. subst (λ o. term_at S i ≤ term_in o) (sym (joins runs).1.2) (let e = (joins runs).2 in omega (arith, e));
     position = λ _ _. omega arith;
     later = λ x is start u e above now own. omega arith;
@@ -386,10 +374,10 @@ module _ (E : Database) (S : LogState) (H : LogsHold S) (i : ℕ) (up : 0 < site
 
   keeps-after : (c : ℕ) → KeepsOk S c → KeepsOk T c
   keeps-after = one-and-others _ i own (λ c n k. steady-keeps S channels (set_at S.sites i turn.state) S.pending S.logs.streamed H steady c k
-        (rw (there c n) (steady-counted S channels (set_at S.sites i turn.state) S.pending S.logs.streamed H steady (part S c) (term_at S c) (S.sites c).joiners k.joiners))
-        (rw (there c n) k.alone) (rw (there c n) k.leads)
-        (rw (there c n) (steady-asks S channels (set_at S.sites i turn.state) S.pending S.logs.streamed H steady (part S c) (term_at S c) (S.sites c).asks k.asks))
-        k.pending (rw (there c n) k.on_disk))
+      (rw (there c n) (steady-counted S channels (set_at S.sites i turn.state) S.pending S.logs.streamed H steady (part S c) (term_at S c) (S.sites c).joiners k.joiners))
+      (rw (there c n) k.alone) (rw (there c n) k.leads)
+      (rw (there c n) (steady-asks S channels (set_at S.sites i turn.state) S.pending S.logs.streamed H steady (part S c) (term_at S c) (S.sites c).asks k.asks))
+      k.pending (rw (there c n) k.on_disk))
     where
       here : set_at S.sites i turn.state i ≡ turn.state
       here = set-here S.sites i turn.state
@@ -416,7 +404,8 @@ module _ (E : Database) (S : LogState) (H : LogsHold S) (i : ℕ) (up : 0 < site
   -- who is told that its stream is whole was counted before
   end-after : (k c : ℕ) (y : Letter) → In y (between S k c) → (end_in y.body ≡ [] → ⊥) → EndOk S k c y → EndOk T k c y
   end-after k c y is some h = record {
-    stream_start = h.stream_start; everywhere = h.everywhere;
+    stream_start = h.stream_start;
+    everywhere = h.everywhere;
     begun = λ x joins start term low. begun (sym (still c).start ∙ start) (ap term_in (sym (still c).view) ∙ term) (subst (λ n. n < y.term) (still c).earlier low)
         (h.begun x (sym (still c).joining ∙ joins) (sym (still c).start ∙ start) (ap term_in (sym (still c).view) ∙ term) (subst (λ n. n < y.term) (still c).earlier low));
     taken = λ start term. h.taken (sym (still c).start ∙ start) (ap term_in (sym (still c).view) ∙ term);

@@ -1,7 +1,6 @@
 -- A joiner takes an entry that its leader sent it behind its stream.
-use Rattle.log_laws.proofs.Names.{Bool, List, ap, append-nil, append_assoc, arith, false, inl, inr, refl, subst, sym, true, true≢false, ◌≡◌, ◌++◌, ◌∷◌, ◌∙◌, ◌<◌, ◌≤◌, [], cases_Bool, length-append, None, Option, Some, is_some, length, map, if◌then◌else◌, ℕ, Entry, Membership, Site, Letter, becomes, on_task, with_joining, Joining, SiteState, Streamed, term_in, term_of, none-and-some, same-some}
+use Rattle.log_laws.proofs.Names.{Bool, List, ap, append-nil, append_assoc, arith, false, inl, inr, refl, subst, sym, true, true≢false, ◌≡◌, ◌++◌, ◌∷◌, ◌∙◌, ◌<◌, ◌≤◌, [], cases_Bool, length-append, None, Option, Some, is_some, length, map, if◌then◌else◌, ℕ, Entry, Membership, Site, Letter, becomes, on_task, with_joining, Joining, SiteState, Streamed, term_in, term_of, none-and-some, same-some, Follows, LogsHold, InWord, JoinerOk, LogState, StreamIn, Took, ViewIn, asks_of_term, between, flow, follows, line_in, log_at, part, site_start, term_at, flow_in}
 use Rattle.volt_wire.specs.declared.message.Msg.TheVariants as msg
-use Rattle.log_laws.specs.Histories.{Follows, LogsHold, InWord, JoinerOk, LogState, StreamIn, Took, ViewIn, asks_of_term, between, flow, follows, line_in, log_at, part, site_start, term_at, flow_in}
 use Rattle.log_laws.proofs.Kept.{at-most-same, popped-less, still-same, LogsGo, site_popped, LessTo, SiteTakes, becomes-goes, takes-holds, takes-joined, takes-joiner, takes-joiner-same, takes-kept, takes-member, takes-stream, takes-took, takes-word, with-site, SiteGoesOn, goes-on-same}
 use Rattle.log_laws.proofs.Plain.{follows-one, begins-not-follows, follows-cons, for-here}
 use Rattle.log_laws.proofs.Joins.Loads.{load-on, with-load}

@@ -1,8 +1,7 @@
 -- A turn in which the log of a member grows: what holds, holds after it, where the messages and the copies of its partition allow it.
-use Rattle.log_laws.proofs.Names.{◌≡◌, ◌<◌, Bool, true, false, List, [], ◌++◌, refl, sym, subst, ap, ◌∙◌, inl, true≢false, arith, length-append, ℕ, ◌≤◌, Option, Some, None, AllByRecursion, Entry, Membership, Actor, Director, Agent, Site, host_of_slot, term_of, leader, Letter, Waiting, SiteState, Joining, Joiner, Scanning, set_at, starts_in, In, all-mono, none-and-some, set-here, set-there, set-both, channel-holds, prefix-grows, same-some}
-use Rattle.log_laws.specs.Histories.{LogState, Leadership, FollowsIn, LeadsIn, MemberOk, JoinerOk, SiteWaitingOk, KeepsOk, SiteOk, SiteLetterOk, ForeignOk, ToldOk, BeginsAt, IsSlot, IsCounted, LogsHold, agent_to_site, follows, line, flow, between, part, site_start, log_at, term_at}
+use Rattle.log_laws.proofs.Names.{◌≡◌, ◌<◌, Bool, true, false, List, [], ◌++◌, refl, sym, subst, ap, ◌∙◌, inl, true≢false, arith, length-append, ℕ, ◌≤◌, Option, Some, None, AllByRecursion, Entry, Membership, Actor, Director, Agent, Site, host_of_slot, term_of, leader, Letter, Waiting, SiteState, Joining, Joiner, Scanning, set_at, starts_in, In, all-mono, none-and-some, set-here, set-there, set-both, channel-holds, prefix-grows, same-some, LogState, Leadership, FollowsIn, LeadsIn, MemberOk, JoinerOk, SiteWaitingOk, KeepsOk, SiteOk, SiteLetterOk, ForeignOk, ToldOk, BeginsAt, IsSlot, IsCounted, LogsHold, agent_to_site, follows, line, flow, between, part, site_start, log_at, term_at}
 use Rattle.log_laws.proofs.Kept.Moves.{SiteRises, site-stays, Stays, LogsLater, SameLeaderships, JoinsOn}
-use Rattle.log_laws.proofs.Kept.Laters.{letter-later, ask-later, leaderships-later, unleds-later, first-later, loads-later, entereds-later, streameds-later, asks-later, counteds-later, keeps-at, waitings-later}
+use Rattle.log_laws.proofs.Kept.Laters.{letter-later, ask-later, leaderships-later, unleds-later, loads-later, entereds-later, streameds-later, asks-later, counteds-later, keeps-at, waitings-later, first-later}
 use Rattle.log_laws.proofs.Kept.Plumbing.{words-later, later-by}
 use Rattle.log_laws.proofs.Kept.Keeps.{still-same, kept-same, counted-from, keeps-with, site-keeps-with, RunsOn, site-runs}
 use Rattle.log_laws.proofs.Kept.KeepsViews.{views-keeps-with, leaves-same}
@@ -38,9 +37,12 @@ module _ (S : LogState) (H : LogsHold S) (i : ℕ) (more : List Entry) (floor : 
 
   stays : (c : ℕ) → Stays S T c
   stays c = set-both (λ h x. SiteRises (S.sites h) x) S.sites i s (record {
-    start = refl; earlier = refl; greatest = omega arith;
+    start = refl;
+    earlier = refl;
+    greatest = omega arith;
     log = rw length-append (omega arith);
-    term = omega arith; member = λ e. e;
+    term = omega arith;
+    member = λ e. e;
     loaded = λ m e. (m, e, λ y. y);
   }) (λ h n. site-stays (S.sites h)) c
 
@@ -71,7 +73,8 @@ module _ (S : LogState) (H : LogsHold S) (i : ℕ) (more : List Entry) (floor : 
   grew-member w is below leading following others m = record {
     decided = m.decided;
     start_is = rw (own, site_start) m.start_is;
-    entered = m.entered; is_entered = m.is_entered;
+    entered = m.entered;
+    is_entered = m.is_entered;
     since = rw (own, site_start) m.since;
     earlier = rw own m.earlier;
     grown = rw (own, log_at) (prefix-grows m.entered.log (log_at S i) more m.grown);

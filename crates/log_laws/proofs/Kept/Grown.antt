@@ -1,7 +1,6 @@
 -- What turns of sites add to the history of terms that are led: nothing, at one place, and one turn behind another.
-use Rattle.log_laws.proofs.Names.{◌≡◌, sym, subst, ap, ◌∙◌, inl, inr, refl, arith, cases_eq, ℕ, ◌≤◌, Some, length, Deployment, SiteState, prefix-refl, prefix-trans}
-use Rattle.log_laws.specs.Histories.{LogState, Logs, log_at}
-use Rattle.log_laws.proofs.Kept.Moves.{LogsLater, Onward, Heads, Grown, Enters}
+use Rattle.log_laws.proofs.Names.{◌≡◌, sym, subst, ap, ◌∙◌, inl, inr, refl, arith, cases_eq, ℕ, ◌≤◌, Some, Deployment, SiteState, prefix-refl, prefix-trans, Logs}
+use Rattle.log_laws.proofs.Kept.Moves.{Onward, Heads, Grown, Enters}
 
 -- ---- a later history
 
@@ -34,23 +33,17 @@ enters-then i low high F G H longer first second = record {
   now = λ t e is. elim (second.now t e is) [ inl old ↦ first.now t e old | inr long ↦ inr (omega (arith, longer, long)) ];
 }
 
--- in a later state
-pub enters-later : (S T : LogState) (i : ℕ) → LogsLater S T → Enters i (length (log_at S i)) S.logs T.logs
-enters-later S T i f = record { kept = f.entered; now = λ t e is. elim (f.entered_now i t e is) [ inl old ↦ inl old | inr new ↦ inr new.log ] }
-
 -- ---- turns of a site
 
 module _ (D : Deployment) (i : ℕ) where
-  -- of another place that is the same one
-  heads-at : (s : SiteState) (p t q u : ℕ) → q ≡ p → u ≡ t → Heads D i s p t → Heads D i s q u
-  heads-at s p t q u e f h = subst (λ z. Heads D i s z u) (sym e) (subst (Heads D i s p) (sym f) h)
-
   -- where the site goes on with its start in its word
   heads-on : (a b : SiteState) → b.start ≡ a.start → b.view ≡ a.view → (p t : ℕ) → Heads D i a p t → Heads D i b p t
   heads-on a b start view p t h = record {
     word = h.word;
     view = view ∙ h.view;
-    part_is = h.part_is; term_is = h.term_is; first = h.first;
+    part_is = h.part_is;
+    term_is = h.term_is;
+    first = h.first;
     start_is = h.start_is ∙ ap Some (sym start);
   }
 
@@ -68,7 +61,7 @@ module _ (D : Deployment) (i : ℕ) where
     onward = onward;
     led = λ q u h is. elim (cases_eq q p) [
       | inr n ↦ inl (sym (apart q u (λ e _. n e)) ∙ is)
-      | inl e ↦ elim (cases_eq u t) [ inr n ↦ inl (sym (apart q u (λ _ f. n f)) ∙ is) | inl f ↦ inr (heads-at s p t q u e f heads) ]
+      | inl e ↦ elim (cases_eq u t) [ inr n ↦ inl (sym (apart q u (λ _ f. n f)) ∙ is) | inl f ↦ inr (subst (λ z. Heads D i s z u) (sym e) (subst (Heads D i s p) (sym f) heads)) ]
     ];
   }
 

@@ -1,7 +1,6 @@
 -- States in which other messages are under way, and sites know of others that wait, of other asks and reports: what holds, holds in them.
-use Rattle.log_laws.proofs.Names.{◌≡◌, ◌<◌, List, [], refl, sym, subst, inl, arith, ℕ, AllByRecursion, Actor, Agent, Site, host_of_slot, Letter, Waiting, set_at, all-mono, set-both, fun_ext, set-here, set-there, set-same, SiteState}
+use Rattle.log_laws.proofs.Names.{◌≡◌, ◌<◌, List, [], refl, sym, subst, inl, arith, ℕ, AllByRecursion, Actor, Agent, Site, host_of_slot, Letter, Waiting, set_at, all-mono, set-both, fun_ext, set-here, set-there, set-same, SiteState, LogState, LogsHold, SiteLetterOk, ForeignOk, ToldOk, SiteWaitingOk, BeginsAt, MeantFor, IsSlot, site_start, term_at, between, agent_to_site, line, flow, stream_ends_in, part, AsksToJoin, KeepsOk, ReportOk}
 use Rattle.word_laws.specs.Histories as word
-use Rattle.log_laws.specs.Histories.{LogState, LogsHold, SiteLetterOk, ForeignOk, ToldOk, SiteWaitingOk, BeginsAt, MeantFor, IsSlot, site_start, term_at, between, agent_to_site, line, flow, stream_ends_in, part, AsksToJoin, KeepsOk, ReportOk}
 use Rattle.log_laws.proofs.Kept.Moves.{LogsLater, JoinsOn, SameLeaderships}
 use Rattle.log_laws.proofs.Kept.Asked.{AsksLess}
 use Rattle.log_laws.proofs.Kept.Laters.{same-leaderships, ask-later, letter-later-with, end-later-if, loads-later, leaderships-later, entereds-later, streameds-later, waitings-later, asks-later, counteds-later, keeps-at}
@@ -98,7 +97,9 @@ module _ (S : LogState) (ch : Actor → Actor → List Letter) (states : ℕ →
     entered = entereds-later S T H moved-later same (λ p t. refl);
     streamed = λ c t x i. let k = H.streamed c t x i in streameds-later S T H moved-later same (λ p t. refl) c t x k k.apart (λ k. k);
     leaderships = leaderships-later S T H moved-later same (λ p t g is. (H.leaderships p t g is).within);
-    unled = H.unled; some = H.some; first = H.first;
+    unled = H.unled;
+    some = H.some;
+    first = H.first;
   }
     where
       same : SameLeaderships S.logs T.logs

@@ -1,8 +1,7 @@
 -- Turns of a site in which nothing changes that is looked at: what holds, holds after them.
-use Rattle.log_laws.proofs.Names.{◌≡◌, Bool, true, false, List, [], ◌∷◌, refl, ◌==◌, ℕ, ◌&&◌, ◌+◌, not, nat_lt, if◌then◌else◌, replicate, Option, Some, None, AllByRecursion, Outcome, Actor, Director, Agent, Site, Database, Deployment, part_of_slot, Letter, Sends, Turn, becomes, sending, only, letter_in, open_in, last_done, nothing_open, SiteState, AskedCall, site_term, leads, is_joiner, tells_initiator, is_first_term, has_all_on_disk, initiator_in, shows, looked, on_look, on_power, all-from, all-if, all-mono, term_of, subst, sym}
+use Rattle.log_laws.proofs.Names.{◌≡◌, Bool, true, false, List, [], ◌∷◌, refl, ◌==◌, ℕ, ◌&&◌, ◌+◌, not, nat_lt, if◌then◌else◌, replicate, Option, Some, None, AllByRecursion, Outcome, Actor, Director, Agent, Site, Database, Deployment, part_of_slot, Letter, Sends, Turn, becomes, sending, only, letter_in, open_in, last_done, nothing_open, SiteState, AskedCall, site_term, leads, is_joiner, tells_initiator, is_first_term, has_all_on_disk, initiator_in, shows, looked, on_look, on_power, all-from, all-if, all-mono, term_of, subst, sym, LogState, LogsHold, HeldOk, SiteLetterOk, ToldOk, site_start, end_of, end_in}
 use Rattle.volt_wire.specs.declared.message.Msg.TheVariants as msg
 use Rattle.cluster_model.specs.Site.{tells, standing}
-use Rattle.log_laws.specs.Histories.{LogState, LogsHold, HeldOk, SiteLetterOk, ToldOk, site_start, end_of, end_in}
 use Rattle.log_laws.proofs.Kept.Moves.{after_site, LogsGo}
 use Rattle.log_laws.proofs.Plain.{flat-none, if-empty}
 use Rattle.log_laws.proofs.Kept.Plumbing.{goes-same}
@@ -13,8 +12,18 @@ use Rattle.log_laws.proofs.Kept.Rests.{Bare, SaysRests, SiteRests, reach-same, r
 -- the first site with what isn't looked at of the second one
 abbrev pub with_unwatched : SiteState → SiteState → SiteState
 with_unwatched s t = record s {
-  stop = t.stop; mark = t.mark; base = t.base; owes = t.owes; held = t.held; has_told = t.has_told; calls = t.calls; scans = t.scans; scanning = t.scanning;
-  looks = t.looks; contents = t.contents; plans = t.plans;
+  stop = t.stop;
+  mark = t.mark;
+  base = t.base;
+  owes = t.owes;
+  held = t.held;
+  has_told = t.has_told;
+  calls = t.calls;
+  scans = t.scans;
+  scanning = t.scanning;
+  looks = t.looks;
+  contents = t.contents;
+  plans = t.plans;
 }
 
 -- A site is another one in that alone; answers that are held are for agents still.
@@ -66,8 +75,16 @@ silent-told S i h l k = elim l.body as (λ m. Silent (Agent h) (record l { body 
 module _ (S : LogState) (i : ℕ) (s : SiteState) (out : Sends) (H : LogsHold S) (u : Unwatched (S.sites i) s) (silent : (b : Actor) → AllByRecursion (Silent b) (out b)) where
   unwatched-rests : SiteRests S S.logs.reach i s
   unwatched-rests = subst (SiteRests S S.logs.reach i) (sym u.same) (let o = site-same S H i S.logs.reach i in record {
-    is = refl; member = o.member; joiner = o.joiner; counts = o.counts; acks = o.acks; joiners = o.joiners; alone = o.alone; leads = o.leads;
-    counted = o.counted; on_disk = o.on_disk;
+    is = refl;
+    member = o.member;
+    joiner = o.joiner;
+    counts = o.counts;
+    acks = o.acks;
+    joiners = o.joiners;
+    alone = o.alone;
+    leads = o.leads;
+    counted = o.counted;
+    on_disk = o.on_disk;
     held = λ up. u.held (o.held up);
   })
 

@@ -1,6 +1,5 @@
 -- What holds of a slot that isn't the one that moves: it stays so.
-use Rattle.log_laws.proofs.Names.{◌≡◌, ◌<◌, Bool, true, false, List, [], ◌∷◌, refl, sym, subst, ap, ◌∙◌, ◌⊎◌, inl, inr, ◌==◌, arith, cases_Bool, eqb-true, eq-eqb, ne_eqb, ℕ, ◌&&◌, not, length, Option, Some, None, AllByRecursion, Membership, Deployment, term_of, term_in, leader, SiteState, Streamed, Joining, Joiner, Ask, In, all-mono, none-and-some, same-some}
-use Rattle.log_laws.specs.Histories.{LogState, LogsHold, Entered, Streaming, Leadership, Line, Flow, FollowsIn, LeadsIn, HeldOk, AsksToJoin, SiteWaitingOk, KeepsOk, SiteOk, MemberOk, JoinerOk, InWord, Wordless, ViewIn, StreamIn, Untaken, Took, Coming, Inert, NoStream, IsCounted, part, site_start, term_at, between, follows, line, flow, stream_ends_in, asked}
+use Rattle.log_laws.proofs.Names.{◌≡◌, ◌<◌, Bool, true, false, List, [], ◌∷◌, refl, sym, subst, ap, ◌∙◌, ◌⊎◌, inl, inr, ◌==◌, arith, cases_Bool, eqb-true, eq-eqb, ne_eqb, ℕ, ◌&&◌, not, length, Option, Some, None, AllByRecursion, Membership, Deployment, term_of, term_in, leader, SiteState, Streamed, Joining, Joiner, Ask, In, all-mono, none-and-some, same-some, LogState, LogsHold, Entered, Streaming, Leadership, Line, Flow, FollowsIn, LeadsIn, HeldOk, AsksToJoin, SiteWaitingOk, KeepsOk, SiteOk, MemberOk, JoinerOk, InWord, ViewIn, StreamIn, Untaken, Took, Coming, Inert, NoStream, IsCounted, part, site_start, term_at, between, follows, line, flow, stream_ends_in, asked}
 use Rattle.log_laws.proofs.Kept.Moves.{LogsLater, Stays, JoinsOn}
 use Rattle.log_laws.proofs.Kept.Asked.{AtMost, at-most-none, at-most-one}
 use Rattle.log_laws.proofs.Kept.Laters.{part-later, slot-before, start-later, ask-later-on, waiting-later-on, counteds-later, keeps-at}
@@ -237,9 +236,13 @@ module _ (S T : LogState) (H : LogsHold S) (f : LogsLater S T) (c : ℕ) (site :
   pub coming-keeps : (w : Membership) (fl : List Flow) → SameTerm S T (part S c) (term_of w)
       → ((stream_start : ℕ) → IsCounted S c (site_start S c) stream_start w → IsCounted T c (site_start S c) stream_start w) → Coming S c w fl → Coming T c w fl
   coming-keeps w fl same counted k = record {
-    past = k.past; more = k.more; leadership = k.leadership; flow_is = k.flow_is;
+    past = k.past;
+    more = k.more;
+    leadership = k.leadership;
+    flow_is = k.flow_is;
     led = rw (part-later S T H f c) (same.leadership ∙ k.led);
-    whole = k.whole; behind = k.behind;
+    whole = k.whole;
+    behind = k.behind;
     reach = rw (part-later S T H f c, same.reach) k.reach;
     counted = rw (site.start) (counted (length k.past) k.counted);
   }
@@ -250,7 +253,8 @@ module _ (S T : LogState) (H : LogsHold S) (f : LogsLater S T) (c : ℕ) (site :
   took-keeps w j stream_start same each k = record {
     from = k.from;
     following = rw (f.words.deployment) k.following;
-    more = k.more; leadership = k.leadership;
+    more = k.more;
+    leadership = k.leadership;
     led = rw (part-later S T H f c) (same.leadership ∙ k.led);
     flow_is = rw (site.start) ((each k.from).flows ∙ k.flow_is);
     whole = rw (site.log) k.whole;
@@ -272,16 +276,15 @@ module _ (S T : LogState) (H : LogsHold S) (f : LogsLater S T) (c : ℕ) (site :
       → Inert T c w l ⊎ (Coming T c w (flow (site_start S c) (term_of w) (between T l c)) × (asked T c l (term_of w) ≡ [])))
       → Untaken S c w j → Untaken T c w j
   untaken-keeps-with w j run comes k = record {
-    loads = k.loads; counts = k.counts; tasks = k.tasks;
+    loads = k.loads;
+    counts = k.counts;
+    tasks = k.tasks;
     empty = site.log ∙ k.empty;
     floor = site.floor ∙ k.floor;
     never = never-keeps run k.never;
     comes = λ l e low. let below = rw site.earlier at low in
         rw (site.start) (comes l (follows-before w l true e) below (k.comes l (follows-before w l true e) below));
   }
-
-  pub wordless-keeps : (j : Joining) → SameRun S T c → Wordless S c j → Wordless T c j
-  wordless-keeps j run k = search (site.log ∙ k.empty, site.floor ∙ k.floor, never-keeps run k.never)
 
   -- where what it looks at is given anew
   pub in_word-keeps-with : (w : Membership) (j : Joining) → SameRun S T c
@@ -314,13 +317,14 @@ module _ (S T : LogState) (H : LogsHold S) (f : LogsLater S T) (c : ℕ) (site :
   joiner-keeps-with j run word k = record {
     runs = rw (site.start) k.runs;
     unentered = λ t e is start. k.unentered t e (run.entered t e is (start ∙ site.start)) (start ∙ site.start);
-    told = k.told; based = k.based;
+    told = k.told;
+    based = k.based;
     firm = site.firm ∙ k.firm;
     view = rw (site.view) (view (S.sites c).view refl k.view);
   }
     where
       view : (o : Option Membership) → (S.sites c).view ≡ o → ViewIn S c j o → ViewIn T c j o
-      view None e v = wordless-keeps j run v
+      view None e v = search (site.log ∙ v.empty, site.floor ∙ v.floor, never-keeps run v.never)
       view (Some w) e v = word w e v
 
   -- where all is the same

@@ -1,7 +1,6 @@
 -- What holds between a slot's site and its host's agent stays so, also when the site takes a message that is no word for it.
-use Rattle.log_laws.proofs.Names.{◌≡◌, ◌<◌, List, [], ◌∷◌, ◌++◌, sym, subst, ap, ◌∙◌, ◌⊎◌, inl, inr, ◌+◌, ℕ, ◌≤◌, Option, Some, None, Membership, Actor, Agent, Site, term_of, host_of_slot, start_of_slot, Letter, AgentState, start_in_letter, starts_in, In, all-mono, all-at, all-from, in-right}
+use Rattle.log_laws.proofs.Names.{◌≡◌, ◌<◌, List, [], ◌∷◌, ◌++◌, sym, subst, ap, ◌∙◌, ◌⊎◌, inl, inr, ◌+◌, ℕ, ◌≤◌, Option, Some, None, Membership, Actor, Agent, Site, term_of, host_of_slot, start_of_slot, Letter, AgentState, start_in_letter, starts_in, In, all-mono, all-at, all-from, in-right, LogState, LogsHold, MemberViews, FirstViews, RunViews, Starting, ViewsOk, ForeignOk, site_start, agent_to_site, views, view_of, sent_term}
 use Rattle.volt_wire.specs.declared.message.Msg.TheVariants as msg
-use Rattle.log_laws.specs.Histories.{LogState, LogsHold, MemberViews, FirstViews, RunViews, Starting, ViewsOk, ForeignOk, site_start, agent_to_site, views, view_of, sent_term}
 use Rattle.log_laws.proofs.Kept.Moves.{LogsLater}
 
 -- ---- words that are under way

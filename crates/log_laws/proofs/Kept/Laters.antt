@@ -1,7 +1,6 @@
 -- What is kept from one state to a later one.
-use Rattle.log_laws.proofs.Names.{◌≡◌, ◌<◌, List, refl, sym, subst, ap, ◌∙◌, ◌⊎◌, inl, inr, ◌==◌, arith, ℕ, ◌≤◌, max, length, Option, Some, None, AllByRecursion, list_any, Entry, Membership, Actor, Agent, Site, start_of_slot, leader, Letter, Waiting, Queued, Job_, Admission, Joiner, Joining, In, Prefix, all-mono, none-and-some, same-some, prefix-length, prefix-refl, prefix-trans, Distinct, is_leader, map, Ask, SiteState, site_term, [], true}
+use Rattle.log_laws.proofs.Names.{◌≡◌, ◌<◌, List, refl, sym, subst, ap, ◌∙◌, ◌⊎◌, inl, inr, ◌==◌, arith, ℕ, ◌≤◌, max, length, Option, Some, None, AllByRecursion, list_any, Entry, Membership, Actor, Agent, Site, start_of_slot, leader, Letter, Waiting, Queued, Job_, Admission, Joiner, Joining, In, Prefix, all-mono, none-and-some, same-some, prefix-length, prefix-refl, prefix-trans, Distinct, is_leader, map, Ask, SiteState, site_term, [], true, LogState, Logs, epoch_base, LogsHold, HasBeen, WasIn, AckOk, ReportOk, AsksToJoin, CountedOk, EndOk, MeantFor, LoadedOk, BeginsAt, SiteLetterOk, SiteWaitingFrom, SiteWaitingOk, ToldOk, AskedOk, QueuedLoadedOk, LoadsOk, IsSlot, AllLoaded, Entered, Streaming, Leadership, EnteredOk, StreamedOk, LeadershipOk, UnledOk, Last, Came, IsCounted, WordOf, part, site_start, log_at, term_at, flow, between, HeldOk, KeepsOk, asked}
 use Rattle.volt_wire.specs.declared.message.Msg.TheVariants as msg
-use Rattle.log_laws.specs.Histories.{LogState, Logs, epoch_base, LogsHold, HasBeen, WasIn, AckOk, ReportOk, AsksToJoin, CountedOk, EndOk, MeantFor, LoadedOk, BeginsAt, SiteLetterOk, SiteWaitingFrom, SiteWaitingOk, ToldOk, AskedOk, QueuedLoadedOk, LoadsOk, IsSlot, AllLoaded, Entered, Streaming, Leadership, EnteredOk, StreamedOk, LeadershipOk, UnledOk, Last, Unled, Came, IsCounted, WordOf, part, site_start, log_at, term_at, flow, between, HeldOk, KeepsOk, asked}
 use Rattle.log_laws.proofs.Kept.Moves.{LogsLater, EntersNow, Stays, JoinsOn, SameLeaderships}
 use Rattle.log_laws.proofs.Plain.{none-or-some}
 
@@ -53,7 +52,8 @@ module _ (S T : LogState) (H : LogsHold S) (f : LogsLater S T) where
 
   pub ack-later : (c t n : ℕ) → AckOk S c t n → AckOk T c t n
   ack-later c t n k = record {
-    start = k.start; some = k.some;
+    start = k.start;
+    some = k.some;
     was = was-later c t k.start k.was;
     now = λ is. let s = stays c k.start k.some (was-ran S H c t k.start k.was) is in
         let n = k.now (sym s.start ∙ is) in let m = s.log in omega (arith, n, m);
@@ -70,7 +70,9 @@ module _ (S T : LogState) (H : LogsHold S) (f : LogsLater S T) where
   report-later p c t n m tail k = record {
     entered = k.entered;
     is_entered = f.entered c t k.entered k.is_entered;
-    position_is = k.position_is; floor_is = k.floor_is; tail_is = k.tail_is;
+    position_is = k.position_is;
+    floor_is = k.floor_is;
+    tail_is = k.tail_is;
     part_is = part-later c ∙ k.part_is;
     word = k.word;
     is_word = word_of-later t k.word k.is_word;
@@ -300,9 +302,6 @@ module _ (S T : LogState) (H : LogsHold S) (f : LogsLater S T) where
       led : T.logs.leadership p v ≡ Some l.leadership
       led = ap (λ z. T.logs.leadership z v) (sym eq) ∙ l.led
 
-  pub unled-before : (p v t : ℕ) → SameLeaderships S.logs T.logs → Unled T.logs p v t → Unled S.logs p v t
-  unled-before p v t same k x g is = let r = same.kept p x g is in k x r.0 r.1
-
   -- What is everywhere in a term in which a start was is in its log still.
   reach-later : (c t a : ℕ) → HasBeen S c t a → ((p t : ℕ) → T.logs.reach p t ≡ S.logs.reach p t) → (site_start S c ≡ a → S.logs.reach (part S c) t ≤ length (log_at S c))
       → site_start T c ≡ a → T.logs.reach (part T c) t ≤ length (log_at T c)
@@ -327,7 +326,7 @@ module _ (S T : LogState) (H : LogsHold S) (f : LogsLater S T) where
           rw (part-later c) (let r = f.reach (part S c) v in let n = b.1 in omega (arith, r, n)),
         );
     still = λ v g below then start none. elim (f.entered_now c v g then) [
-      | inl old ↦ k.still v g below old start (unled-before (part S c) v t same (rw (part-later c) at none))
+      | inl old ↦ k.still v g below old start (let u = rw (part-later c) at none in λ x g is. let r = same.kept (part S c) x g is in u x r.0 r.1)
       | inr new ↦ let up = (k.running (sym new.start ∙ start)).1 in let low = new.above in absurd (omega (arith, up, low, below))
     ];
     running = λ at_start. let s = stays c e.start k.been.some k.been.ran at_start in

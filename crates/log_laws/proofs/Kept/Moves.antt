@@ -1,8 +1,7 @@
 -- Of what the proofs speak: the state after a turn of a site, what is kept in a later one, and what a turn adds to the history.
-use Rattle.log_laws.proofs.Names.{refl, ◌≡◌, ◌<◌, List, ◌⊎◌, arith, ℕ, ◌≤◌, length, Some, None, true, AllByRecursion, Membership, Actor, Site, Deployment, part_of_slot, term_of, leader, start_of_slot, Letter, Sends, Turn, Waiting, SiteState, Joining, site_term, took, sent, set_at, In, Prefix}
+use Rattle.log_laws.proofs.Names.{refl, ◌≡◌, ◌<◌, List, ◌⊎◌, arith, ℕ, ◌≤◌, length, Some, None, true, AllByRecursion, Membership, Actor, Site, Deployment, part_of_slot, term_of, leader, start_of_slot, Letter, Sends, Turn, Waiting, SiteState, Joining, site_term, took, sent, set_at, In, Prefix, LogState, Logs, Entered, Streaming, Leadership, LogsHold, site_start, log_at, term_at, JoinsIn}
 use Rattle.volt_wire.specs.declared.message.Msg.TheVariants as msg
 use Rattle.word_laws.proofs.Moves as word
-use Rattle.log_laws.specs.Histories.{LogState, Logs, Entered, Streaming, Leadership, LogsHold, site_start, log_at, term_at, JoinsIn}
 
 -- ---- states
 

@@ -1,6 +1,5 @@
 -- One site changes, with what is under way to it: all that holds of the others holds after it.
-use Rattle.log_laws.proofs.Names.{List, ap, arith, false, inl, inr, refl, subst, sym, true, ◌≡◌, ◌++◌, ◌∙◌, ◌⊎◌, ◌<◌, ◌≤◌, [], AllByRecursion, None, Option, Some, is_some, length, map, ℕ, Entry, Membership, Actor, Agent, Director, Site, Letter, Waiting, becomes, Ask, Joiner, Joining, SiteState, Streamed, is_leader, term_of, set_at, all-mono, none-and-some, same-some, set-here, set-there, sent-nothing, Distinct, In, leader-view, set-both}
-use Rattle.log_laws.specs.Histories.{AsksToJoin, BeginsAt, Coming, CountedOk, Flow, Follows, ForeignOk, LogsHold, InWord, IsCounted, IsSlot, JoinerOk, KeepsOk, LogState, MemberOk, Inert, SiteLetterOk, StreamIn, StreamedOk, Streaming, Took, Untaken, ViewIn, SiteWaitingOk, Wordless, asked, between, stream_ends_in, flow, follows, line, part, site_start, term_at, log_at}
+use Rattle.log_laws.proofs.Names.{List, ap, arith, false, inl, inr, refl, subst, sym, true, ◌≡◌, ◌++◌, ◌∙◌, ◌⊎◌, ◌<◌, ◌≤◌, [], AllByRecursion, None, Option, Some, is_some, length, map, ℕ, Entry, Membership, Actor, Agent, Director, Site, Letter, Waiting, becomes, Joiner, Joining, SiteState, Streamed, is_leader, term_of, set_at, all-mono, none-and-some, same-some, set-here, set-there, sent-nothing, Distinct, In, leader-view, set-both, AsksToJoin, BeginsAt, Coming, CountedOk, Flow, Follows, ForeignOk, LogsHold, InWord, IsCounted, IsSlot, JoinerOk, KeepsOk, LogState, MemberOk, Inert, SiteLetterOk, StreamIn, StreamedOk, Streaming, Took, Untaken, ViewIn, SiteWaitingOk, Wordless, asked, between, stream_ends_in, flow, follows, line, part, site_start, term_at, log_at}
 use Rattle.log_laws.proofs.Kept.Asked.{AsksLess, at-most-none, at-most-one}
 use Rattle.log_laws.proofs.Kept.Keeps.{CountedBy, SameFrom, SiteStays, Uncounted, counted-from, still-same, was-member}
 use Rattle.log_laws.proofs.Kept.Laters.{letter-later, streameds-later}
@@ -38,7 +37,9 @@ module _ (S : LogState) (H : LogsHold S) (i : ℕ) (s : SiteState) (ch : Actor �
   pub takes-steady : Steady S ch (set_at S.sites i s) st
   takes-steady = record {
     sites = set-both (λ c x. SiteGoesOn (S.sites c) x) S.sites i s k.goes (λ c n. goes-on-same (S.sites c));
-    agents = k.agents; told = k.told; director = k.director;
+    agents = k.agents;
+    told = k.told;
+    director = k.director;
     streamed = one-and-others _ i k.stays (λ c n t x is. k.streamed c t n ∙ is);
     fresh = one-and-others _ i k.fresh (λ c n t x is. inl (sym (k.streamed c t n) ∙ is));
   }
@@ -142,24 +143,17 @@ module _ (S : LogState) (H : LogsHold S) (i : ℕ) (s : SiteState) (ch : Actor �
       (subst (λ x. AllByRecursion (λ a. AsksToJoin (with-site S i s ch pend st) (part S i) a.slot (term_at S i) a.start) x.asks) (sym here) asks)
       pending (subst (λ x. x.on_disk ≤ length x.log) (sym here) disk)
 
-  -- those that it counted, and asks that it kept
-  pub takes-joiners : (js : List Joiner) → AllByRecursion (CountedOk S (part S i) (term_at S i)) js
-      → AllByRecursion (CountedOk (with-site S i s ch pend st) (part S i) (term_at S i)) js
-  takes-joiners = steady-counted S ch (set_at S.sites i s) pend st H (takes-steady S H i s ch pend st k) (part S i) (term_at S i)
-
-  pub takes-asks : (as_ : List Ask) → AllByRecursion (λ a. AsksToJoin S (part S i) a.slot (term_at S i) a.start) as_
-      → AllByRecursion (λ a. AsksToJoin (with-site S i s ch pend st) (part S i) a.slot (term_at S i) a.start) as_
-  takes-asks = steady-asks S ch (set_at S.sites i s) pend st H (takes-steady S H i s ch pend st k) (part S i) (term_at S i)
-
   -- where it counts the same joiners and keeps the same asks
   pub takes-kept : s.joiners ≡ (S.sites i).joiners → s.asks ≡ (S.sites i).asks → (is_leader S.words.deployment i (S.sites i) ≡ true → is_leader S.words.deployment i s ≡ true)
       → (KeepsOk S i → s.on_disk ≤ length s.log) → (AllByRecursion (SiteWaitingOk S i) (S.pending i) → AllByRecursion (SiteWaitingOk S i) (pend i))
       → KeepsOk S i → KeepsOk (with-site S i s ch pend st) i
   takes-kept joiners asks leads disk pending h = takes-keeps h
-      (subst (AllByRecursion (CountedOk (with-site S i s ch pend st) (part S i) (term_at S i))) (sym joiners) (takes-joiners (S.sites i).joiners h.joiners))
+      (subst (AllByRecursion (CountedOk (with-site S i s ch pend st) (part S i) (term_at S i))) (sym joiners)
+      (steady-counted S ch (set_at S.sites i s) pend st H (takes-steady S H i s ch pend st k) (part S i) (term_at S i) (S.sites i).joiners h.joiners))
       (subst (λ js. Distinct (map (λ j. j.slot) js)) (sym joiners) h.alone)
       (elim h.leads [ inl none ↦ inl (joiners ∙ none) | inr is ↦ inr (leads is) ])
-      (subst (AllByRecursion (λ a. AsksToJoin (with-site S i s ch pend st) (part S i) a.slot (term_at S i) a.start)) (sym asks) (takes-asks (S.sites i).asks h.asks))
+      (subst (AllByRecursion (λ a. AsksToJoin (with-site S i s ch pend st) (part S i) a.slot (term_at S i) a.start)) (sym asks)
+      (steady-asks S ch (set_at S.sites i s) pend st H (takes-steady S H i s ch pend st k) (part S i) (term_at S i) (S.sites i).asks h.asks))
       (pending h.pending) (disk h)
 
   -- a joiner, with what is given of it in its word, and without one
@@ -217,9 +211,11 @@ module _ (S : LogState) (H : LogsHold S) (i : ℕ) (s : SiteState) (ch : Actor �
       → ((n.is_loaded ≡ true ⊎ is_some n.count ≡ true) → stream_start ≤ S.logs.reach (part S i) (term_of w))
       → s.floor ≡ (S.sites i).floor → Took (with-site S i s ch pend st) i w n stream_start
   takes-took w j n stream_start h more flowing whole loading loaded stream_ends_in floor = record {
-    from = h.from; following = h.following;
+    from = h.from;
+    following = h.following;
     more = more;
-    leadership = h.leadership; led = h.led;
+    leadership = h.leadership;
+    led = h.led;
     flow_is = rw start-here flowing;
     whole = subst (λ x. x.log ++ n.tasks ++ more ≡ h.leadership.log) (sym here) whole;
     streamed = rw start-here (k.stays (term_of w) (record { start = site_start S i; stream_start = stream_start }) h.streamed);
@@ -244,7 +240,14 @@ module _ (S : LogState) (H : LogsHold S) (i : ℕ) (s : SiteState) (ch : Actor �
 
   takes-coming : (w : Membership) (fl : List Flow) → Coming S i w fl → Coming (with-site S i s ch pend st) i w fl
   takes-coming w fl h = record {
-    past = h.past; more = h.more; leadership = h.leadership; flow_is = h.flow_is; led = h.led; whole = h.whole; behind = h.behind; reach = h.reach;
+    past = h.past;
+    more = h.more;
+    leadership = h.leadership;
+    flow_is = h.flow_is;
+    led = h.led;
+    whole = h.whole;
+    behind = h.behind;
+    reach = h.reach;
     counted = rw start-here (takes-counted S H i s ch pend st k i (site_start S i) (length h.past) w h.counted);
   }
 

@@ -1,6 +1,5 @@
 -- A turn whose messages are put in order: what holds after it as they were sent, holds then.
-use Rattle.log_laws.proofs.Names.{◌≡◌, Bool, true, false, List, [], ◌∷◌, ◌++◌, append-nil, append_assoc, refl, sym, subst, ap, ◌∙◌, ◌==◌, eqb-true, eqb-false, fun_ext, filter-append, ℕ, filter, find, Option, Some, None, if◌then◌else◌, AllByRecursion, Actor, Agent, Site, Scanner, Database, Deployment, same, Letter, Sends, Turn, ◌▸◌, only, SiteState, Ask, ordered, order_of, of_order, takes_asks, takes_first_ask, can_take, sent, all-append, all-behind, all-if, all-mono, filter-all, channel-holds, in_order, all-order, flat_map-append}
-use Rattle.log_laws.specs.Histories.{LogState, Logs, LogsHold, SiteLetterOk, ForeignOk, ToldOk, site_start, term_at, between, agent_to_site, line, flow, stream_ends_in, asks_in, asks_waiting, asks_of_term, asked, ask_of, end_of, flow_of, line_of}
+use Rattle.log_laws.proofs.Names.{◌≡◌, Bool, true, false, List, [], ◌∷◌, ◌++◌, append-nil, append_assoc, refl, sym, subst, ap, ◌∙◌, ◌==◌, eqb-true, eqb-false, fun_ext, filter-append, ℕ, filter, find, Option, Some, None, if◌then◌else◌, AllByRecursion, Actor, Agent, Site, Scanner, Database, Deployment, same, Letter, Sends, Turn, ◌▸◌, only, SiteState, Ask, ordered, order_of, of_order, takes_asks, takes_first_ask, can_take, sent, all-append, all-behind, all-if, all-mono, filter-all, channel-holds, in_order, all-order, flat_map-append, LogState, Logs, LogsHold, SiteLetterOk, ForeignOk, ToldOk, site_start, term_at, between, agent_to_site, line, flow, stream_ends_in, asks_in, asks_waiting, asks_of_term, asked, ask_of, end_of, flow_of, line_of}
 use Rattle.log_laws.proofs.Kept.Moves.{after_site, NoStreamStart, Turns}
 use Rattle.log_laws.proofs.Plain.{line-order, flow-order, ends-order, asks-order}
 use Rattle.log_laws.proofs.Kept.Asked.{at-most-is}
@@ -82,10 +81,13 @@ order-holds S i s out G plain H = channels-hold T ch H
 
 pub ordered-turns : (S : LogState) (i : ℕ) (t : Turn SiteState) → Turns S i t → Turns S i (ordered t)
 ordered-turns S i t g = record {
-  logs = g.logs; start = g.start;
+  logs = g.logs;
+  start = g.start;
   plain = λ c. all-order NoStreamStart (t.sends (Site c)) (g.plain c);
   holds = order-holds S i t.state t.sends g.logs g.plain g.holds;
-  grown = g.grown; enters = g.enters; longer = g.longer;
+  grown = g.grown;
+  enters = g.enters;
+  longer = g.longer;
 }
 
 -- ---- what is sent last
@@ -134,6 +136,3 @@ takes_asks-last E D i s b = go (find (can_take D i s) s.asks)
     go : (o : Option Ask) → AllByRecursion IsLast ((takes_first_ask E D i s o).sends b)
     go None = tt
     go (Some a) = all-append IsLast _ _ (one (Site a.slot) _ refl) (one (Scanner i) _ refl)
-
-pub ordered-asks : (E : Database) (D : Deployment) (i : ℕ) (t : Turn SiteState) → ordered (t ▸ takes_asks E D i) ≡ ordered t ▸ takes_asks E D i
-ordered-asks E D i t = ordered-then t (takes_asks E D i) (takes_asks-last E D i t.state)

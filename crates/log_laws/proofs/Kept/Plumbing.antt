@@ -1,9 +1,8 @@
 -- States after turns: their channels, their words, and one turn behind another.
-use Rattle.log_laws.proofs.Names.{◌≡◌, true, false, List, ◌∷◌, ◌++◌, refl, sym, subst, ap, ◌∙◌, ◌==◌, arith, eqb-true, and_parts, nat_tests, ℕ, ◌≤◌, ◌&&◌, length, AllByRecursion, Actor, Director, Client, Agent, Site, Scanner, same, Letter, Sends, no_sends, Turn, becomes, ◌▸◌, SiteState, sent, rest, set_at, In, all-append, all-at, all-from, all-mono, eqb-same, set-here, set-there, set-both, set-same, set-twice, sent-nothing, sent-twice, cond_both, inl}
+use Rattle.log_laws.proofs.Names.{◌≡◌, true, false, List, ◌∷◌, ◌++◌, refl, sym, subst, ap, ◌∙◌, ◌==◌, arith, eqb-true, and_parts, nat_tests, ℕ, ◌≤◌, ◌&&◌, length, AllByRecursion, Actor, Director, Client, Agent, Site, Scanner, same, Letter, Sends, no_sends, Turn, becomes, ◌▸◌, SiteState, sent, rest, set_at, In, all-append, all-at, all-from, all-mono, eqb-same, set-here, set-there, set-both, set-same, set-twice, sent-nothing, sent-twice, cond_both, inl, LogState, Logs, LogsHold, IsSlot, SiteLetterOk, ForeignOk, ViewsOk, site_start, log_at, between}
 use Rattle.word_laws.specs.Histories as word
 use Rattle.word_laws.proofs.Moves as word_moves
 use Rattle.word_laws.proofs.Steps as word_steps
-use Rattle.log_laws.specs.Histories.{LogState, Logs, LogsHold, IsSlot, SiteLetterOk, ForeignOk, ViewsOk, site_start, log_at, between}
 use Rattle.log_laws.proofs.Kept.Moves.{after_site, site_popped, LogsLater, Grown, Enters, Turns, LogsGo, NoStreamStart, SiteRises}
 use Rattle.log_laws.proofs.Kept.Grown.{grown-same, grown-then, enters-same, enters-then}
 use Rattle.log_laws.proofs.Kept.KeepsViews.{foreign-later, views-keeps}
@@ -86,7 +85,7 @@ pub taken-either : (S : LogState) (from : Actor) (i : ℕ) (P : Actor → ℕ �
     → (a : Actor) (c : ℕ) → P a c (S.words.channel a (Site c)) → P a c ((site_popped S from i).words.channel a (Site c))
 taken-either S from i P mine a c other = cond_both (i == c && same from a) _ _ (P a c)
     (λ e. let p = and_parts (i == c) (same from a) e in
-        subst (λ z. P z c (rest (S.words.channel z (Site c)))) (word_steps.same-true from a p.1) (mine c (sym (eqb-true i c p.0))))
+    subst (λ z. P z c (rest (S.words.channel z (Site c)))) (word_steps.same-true from a p.1) (mine c (sym (eqb-true i c p.0))))
     (λ e. other)
 
 same-self : (a : Actor) → same a a ≡ true
@@ -218,7 +217,10 @@ goes-turns S i t g = record { logs = g.logs; start = g.start; plain = g.plain; h
 -- a turn in which nothing happens
 pub goes-same : (S : LogState) (i : ℕ) → LogsHold S → LogsGo S i (becomes (S.sites i))
 goes-same S i h = record {
-  logs = S.logs; start = refl; view = refl; plain = λ c. tt;
+  logs = S.logs;
+  start = refl;
+  view = refl;
+  plain = λ c. tt;
   holds = subst LogsHold (sym (after-same S i)) h;
   grown = grown-same S.words.deployment i (S.sites i) S.logs;
   enters = enters-same i (length (log_at S i)) S.logs S.logs refl;

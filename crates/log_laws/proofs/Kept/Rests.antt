@@ -1,7 +1,6 @@
 -- Turns of a site in which its log and its term stay: what it counts, acknowledges and has on disk may change.
-use Rattle.log_laws.proofs.Names.{◌≡◌, ◌<◌, ◌≤◌, true, false, List, [], ◌∷◌, ◌++◌, refl, sym, subst, ap, ◌∙◌, ◌⊎◌, inl, inr, append-nil, arith, fun_ext, ℕ, map, length, Option, Some, None, AllByRecursion, Membership, Actor, Agent, Site, Deployment, term_of, Letter, Sends, no_sends, Turn, sending, SiteState, Streamed, Joining, Joiner, is_leader, sent, set_at, In, Distinct, not-both, in-none, in-map, in-map-from, all-append, all-mono, none-and-some, same-some, set-both, leader-same, leader-view}
+use Rattle.log_laws.proofs.Names.{◌≡◌, ◌<◌, ◌≤◌, true, false, List, [], ◌∷◌, ◌++◌, refl, sym, subst, ap, ◌∙◌, ◌⊎◌, inl, inr, append-nil, arith, fun_ext, ℕ, map, length, Option, Some, None, AllByRecursion, Membership, Actor, Agent, Site, Deployment, term_of, Letter, Sends, no_sends, Turn, sending, SiteState, Streamed, Joining, Joiner, is_leader, sent, set_at, In, Distinct, not-both, in-none, in-map, in-map-from, all-append, all-mono, none-and-some, same-some, set-both, leader-same, leader-view, LogState, Entered, Streaming, Leadership, Flow, LogsHold, SiteOk, BeginsAt, agent_to_site, IsSlot, AckOk, CountedOk, IsCounted, HeldOk, MemberOk, JoinerOk, ViewIn, StreamIn, Inert, Coming, KeepsOk, ForeignOk, LoadsOk, ToldOk, SiteLetterOk, JoinsIn, line_in, flow_in, ask_in, line_of, flow_of, ask_of, asks_waiting, asks_of_term, line, flow, stream_ends_in, asks_in, asked, follows, FollowsIn, part, site_start, log_at, term_at, between, end_of}
 use Rattle.volt_wire.specs.declared.message.Msg.TheVariants as msg
-use Rattle.log_laws.specs.Histories.{LogState, Entered, Streaming, Leadership, Flow, LogsHold, SiteOk, BeginsAt, agent_to_site, IsSlot, AckOk, CountedOk, IsCounted, HeldOk, MemberOk, JoinerOk, ViewIn, StreamIn, Inert, Coming, KeepsOk, ViewsOk, ForeignOk, LoadsOk, ToldOk, SiteLetterOk, JoinsIn, line_in, flow_in, ask_in, line_of, flow_of, ask_of, asks_waiting, asks_of_term, line, flow, stream_ends_in, asks_in, asked, follows, FollowsIn, part, site_start, log_at, term_at, between, end_of}
 use Rattle.log_laws.proofs.Kept.Moves.{after_site, LogsLater, LogsGo, NoStreamStart, JoinsOn, SameLeaderships}
 use Rattle.log_laws.proofs.Kept.Grown.{grown-reach, enters-same}
 use Rattle.log_laws.proofs.Kept.Laters.{letter-later, loads-later, entered-later, streamed-later, leaderships-later, unleds-later, asks-later, counteds-later, keeps-at, waitings-later}
@@ -15,7 +14,14 @@ use Rattle.log_laws.proofs.Kept.Keeps.{RunsOn, site-runs, was-joiner, was-member
 -- a site's state, where its log, its term and what it keeps of messages are those of the first one
 abbrev pub settled : SiteState → SiteState → SiteState
 settled a b = record b {
-  start = a.start; greatest = a.greatest; earlier = a.earlier; view = a.view; log = a.log; repaired = a.repaired; reports = a.reports; asks = a.asks;
+  start = a.start;
+  greatest = a.greatest;
+  earlier = a.earlier;
+  view = a.view;
+  log = a.log;
+  repaired = a.repaired;
+  reports = a.reports;
+  asks = a.asks;
   waiting = a.waiting;
 }
 
@@ -101,7 +107,12 @@ module _ (S : LogState) (H : LogsHold S) (states : ℕ → SiteState) (i : ℕ) 
   -- what is kept
   later : LogsLater S T
   later = later-by S T (words-later S T.words.channel) refl refl refl (λ c. record {
-    start = refl; earlier = refl; greatest = omega arith; log = omega arith; term = omega arith; member = (rests c).member;
+    start = refl;
+    earlier = refl;
+    greatest = omega arith;
+    log = omega arith;
+    term = omega arith;
+    member = (rests c).member;
     loaded = λ k e. let b = joins-before c k e in (b.0, b.1, b.2.still);
   }) reaches.rises
 
@@ -161,7 +172,13 @@ module _ (S : LogState) (H : LogsHold S) (states : ℕ → SiteState) (i : ℕ) 
 
   member-rests : (c : ℕ) (w : Membership) → (S.sites c).view ≡ Some w → MemberOk S c w → MemberOk T c w
   member-rests c w view m = record {
-    decided = m.decided; start_is = m.start_is; entered = m.entered; is_entered = m.is_entered; since = m.since; earlier = m.earlier; grown = m.grown;
+    decided = m.decided;
+    start_is = m.start_is;
+    entered = m.entered;
+    is_entered = m.is_entered;
+    since = m.since;
+    earlier = m.earlier;
+    grown = m.grown;
     still = λ e. let o = m.still e in elim (rests c).counts [ inl k ↦ (o.0, k.0 ∙ o.1, k.1 ∙ o.2) | inr k ↦ absurd (not-both (S.sites c).repaired k.0 e) ];
     floor = known.0;
     firm = known.1;
@@ -185,7 +202,10 @@ module _ (S : LogState) (H : LogsHold S) (states : ℕ → SiteState) (i : ℕ) 
 
     stream-rests : (w : Membership) → (S.sites c).view ≡ Some w → In w S.words.history.decided → (o : Option Streamed) → StreamIn S c w j o → StreamIn T c w (flagged j k) o
     stream-rests w view decided None u = record {
-      loads = u.loads; counts = u.counts; tasks = u.tasks; empty = u.empty;
+      loads = u.loads;
+      counts = u.counts;
+      tasks = u.tasks;
+      empty = u.empty;
       floor = same-counts.0 ∙ u.floor;
       never = u.never;
       comes = λ l f below. elim (u.comes l f below) [
@@ -197,9 +217,16 @@ module _ (S : LogState) (H : LogsHold S) (states : ℕ → SiteState) (i : ℕ) 
       ];
     }
     stream-rests w view decided (Some st) u = record {
-      from = u.from; following = u.following; more = u.more; leadership = u.leadership; led = u.led;
+      from = u.from;
+      following = u.following;
+      more = u.more;
+      leadership = u.leadership;
+      led = u.led;
       flow_is = flows (site_start S c) (term_of w) u.from c ∙ u.flow_is;
-      whole = u.whole; streamed = u.streamed; loading = u.loading; loaded = u.loaded;
+      whole = u.whole;
+      streamed = u.streamed;
+      loading = u.loading;
+      loaded = u.loaded;
       ends = λ e. let b = u.ends e in let m = reaches.rises (part S c) (term_of w) in omega (arith, b, m);
       floor = same-counts.0 ∙ u.floor;
       asks = λ l slot. askeds c l (term_of w) ∙ u.asks l slot;
@@ -245,9 +272,6 @@ module _ (S : LogState) (H : LogsHold S) (states : ℕ → SiteState) (i : ℕ) 
 
   -- ---- what comes from agents, and goes to them
 
-  views-rests : (c : ℕ) → ViewsOk S c → ViewsOk T c
-  views-rests c v = views-keeps-with S T H later c refl refl refl refl (λ s k. k) (leaves-same (site_start S c) (agent_to_site S c) (agent_to_site S c) refl) v
-
   foreign-rests : (from : Actor) (c : ℕ) → AllByRecursion (ForeignOk T c from) (T.words.channel from (Site c))
   foreign-rests (Site j) c = sent-either S i (S.sites i) out S.logs (λ j ls. AllByRecursion (ForeignOk T c (Site j)) ls) (Site c)
       (all-append (ForeignOk T c (Site i)) (between S i c) (out (Site c)) (H.foreign (Site i) c)
@@ -272,7 +296,7 @@ module _ (S : LogState) (H : LogsHold S) (states : ℕ → SiteState) (i : ℕ) 
   holds-rests = record {
     words = words-after S i (S.sites i) out S.logs H.words;
     sites = λ c. site_ok-rests c (H.sites c);
-    views = λ c. views-rests c (H.views c);
+    views = λ c. views-keeps-with S T H later c refl refl refl refl (λ s k. k) (leaves-same (site_start S c) (agent_to_site S c) (agent_to_site S c) refl) (H.views c);
     letters = λ j c slot. sent-either S i (S.sites i) out S.logs (λ j ls. AllByRecursion (SiteLetterOk T j c) ls) (Site c)
         (all-append (SiteLetterOk T i c) (between S i c) (out (Site c))
         (all-mono (SiteLetterOk S i c) (SiteLetterOk T i c) (letter-rests i c) (between S i c) (H.letters i c slot))
@@ -285,7 +309,8 @@ module _ (S : LogState) (H : LogsHold S) (states : ℕ → SiteState) (i : ℕ) 
         streamed-later S T H later c t x k (same-leaderships.kept (part S c) t k.leadership k.led) k.apart (reaches.streamed c t x is) (counted-rests c x.start x.stream_start k.word);
     leaderships = leaderships-later S T H later same-leaderships reaches.led;
     unled = λ p t none. unleds-later S T H later same-leaderships p t (reaches.unled p t none) none;
-    some = H.some; first = H.first;
+    some = H.some;
+    first = H.first;
   }
 
 -- ---- a turn of one site
@@ -328,7 +353,8 @@ module _ (S : LogState) (H : LogsHold S) (i : ℕ) where
   -- of a site that stays as it is
   pub site-same : (reach : ℕ → ℕ → ℕ) (c : ℕ) → SiteRests S reach c (S.sites c)
   site-same reach c = record {
-    is = refl; member = λ e. e;
+    is = refl;
+    member = λ e. e;
     joiner = λ j e. let o = (H.sites c).joiner j e in (j, e, record { same = refl; told = o.told; based = o.based; still = λ b. b });
     counts = inl (refl, refl);
     acks = λ up. ((H.sites c).keeps up).acks;

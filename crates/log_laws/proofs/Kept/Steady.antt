@@ -1,7 +1,6 @@
 -- Moves of sites that leave words, terms and what was entered as they are: what holds, holds after them.
-use Rattle.log_laws.proofs.Names.{List, ap, arith, inl, refl, sym, true, ◌≡◌, ◌∙◌, ◌⊎◌, ◌<◌, ◌≤◌, [], AllByRecursion, None, Option, Some, length, map, ℕ, Membership, Actor, Agent, Director, Site, starts_in, Letter, Waiting, Ask, Joiner, Joining, SiteState, is_leader, host_of_slot, term_of, channel-holds, Distinct, term_in}
-use Rattle.log_laws.specs.Histories.{AsksToJoin, CountedOk, ForeignOk, LogsHold, IsCounted, IsSlot, JoinerOk, KeepsOk, LogState, MemberOk, SiteLetterOk, SiteOk, StreamedOk, Streaming, SiteWaitingOk, between, line, part, site_start, term_at, views}
-use Rattle.log_laws.proofs.Kept.Keeps.{SameFrom, SameRun, SiteStays, joiner-keeps, member-keeps, RunsOn, site-runs}
+use Rattle.log_laws.proofs.Names.{List, ap, arith, inl, refl, sym, true, ◌≡◌, ◌∙◌, ◌⊎◌, ◌<◌, ◌≤◌, [], AllByRecursion, None, Option, Some, length, map, ℕ, Membership, Actor, Agent, Director, Site, starts_in, Letter, Waiting, Ask, Joiner, Joining, SiteState, is_leader, host_of_slot, term_of, channel-holds, Distinct, term_in, AsksToJoin, CountedOk, ForeignOk, LogsHold, IsCounted, IsSlot, JoinerOk, KeepsOk, LogState, MemberOk, SiteLetterOk, SiteOk, StreamedOk, Streaming, SiteWaitingOk, between, line, part, site_start, term_at, views}
+use Rattle.log_laws.proofs.Kept.Keeps.{SameFrom, SiteStays, joiner-keeps, member-keeps, RunsOn, site-runs}
 use Rattle.log_laws.proofs.Kept.Laters.{leaderships-later, same-leaderships, unleds-later, entereds-later, asks-later, counteds-later, keeps-at, waitings-later, loads-later}
 use Rattle.log_laws.proofs.Kept.Moves.{JoinsOn, LogsLater, SameLeaderships, Unentered}
 use Rattle.log_laws.proofs.Kept.Plumbing.{words-later}
@@ -58,11 +57,13 @@ module _ (S : LogState) (ch : Actor → Actor → List Letter) (f : ℕ → Site
     ran = λ c a i. i;
     greatest = λ c. let e = (m.sites c).greatest in omega (arith, e);
     sites = λ c. let g = m.sites c in inl (record {
-      start = g.start; earlier = g.earlier;
+      start = g.start;
+      earlier = g.earlier;
       greatest = let e = g.greatest in omega (arith, e);
       log = g.log;
       term = rw g.view (omega arith);
-      member = g.member; loaded = g.loaded;
+      member = g.member;
+      loaded = g.loaded;
     });
     entered = λ c t e is. is;
     entered_now = λ c t e is. inl is;
@@ -122,7 +123,8 @@ module _ (S : LogState) (ch : Actor → Actor → List Letter) (f : ℕ → Site
     streamed = streamed;
     leaderships = leaderships-later S (shifted S ch f pend st) H steady-later steady-leaderships (λ p t g is. (H.leaderships p t g is).within);
     unled = λ p t none. unleds-later S (shifted S ch f pend st) H steady-later steady-leaderships p t refl none;
-    some = H.some; first = H.first;
+    some = H.some;
+    first = H.first;
   }
     where
       site : (c : ℕ) → SiteOk (shifted S ch f pend st) c
@@ -137,12 +139,9 @@ module _ (S : LogState) (ch : Actor → Actor → List Letter) (f : ℕ → Site
       → (w : Membership) → MemberOk S c w → MemberOk (shifted S ch f pend st) c w
   steady-member lines w k = member-keeps S (shifted S ch f pend st) H (steady-later S ch f pend st H m) c site w k (λ l. lines l (site_start S c) (term_of w)) refl
 
-  pub steady-run : ((t : ℕ) (x : Streaming) → st c t ≡ Some x → x.start ≡ site_start S c → S.logs.streamed c t ≡ Some x) → SameRun S (shifted S ch f pend st) c
-  steady-run streamed = record { entered = λ t e is start. is; streamed = streamed }
-
   pub steady-joiner : ((t : ℕ) (x : Streaming) → st c t ≡ Some x → x.start ≡ site_start S c → S.logs.streamed c t ≡ Some x)
       → ((l : ℕ) → SameFrom S (shifted S ch f pend st) c l (term_at S c))
       → ((stream_start : ℕ) (w : Membership) → IsCounted S c (site_start S c) stream_start w → IsCounted (shifted S ch f pend st) c (site_start S c) stream_start w)
       → (k : Joining) → (f c).joining ≡ Some k → JoinerOk (shifted S ch f pend st) c k
-  steady-joiner streamed from counted k e = joiner-keeps S (shifted S ch f pend st) H (steady-later S ch f pend st H m) c site k (steady-run streamed)
+  steady-joiner streamed from counted k e = joiner-keeps S (shifted S ch f pend st) H (steady-later S ch f pend st H m) c site k (record { entered = λ t e is start. is; streamed = streamed })
       (record { leadership = refl; reach = refl }) from counted ((H.sites c).joiner k (sym site.joining ∙ e))

@@ -1,12 +1,11 @@
 -- Turns of one site by which the history of logs grows: what holds of the other slots, of messages and of what was loaded stays so.
-use Rattle.log_laws.proofs.Names.{◌≡◌, ◌<◌, List, [], ◌++◌, refl, sym, subst, ap, ◌∙◌, ◌⊎◌, inl, inr, ◌==◌, arith, ℕ, ◌≤◌, length, filter, map, Option, Some, None, AllByRecursion, Membership, Actor, Agent, Site, term_of, host_of_slot, Letter, Waiting, SiteState, Joining, Joiner, Ask, set_at, In, Distinct, all-from, all-at, all-append, all-mono, in-left, in-right, in-map, filter-in, eqb-same, set-here, set-there, set-both, prefix-refl}
+use Rattle.log_laws.proofs.Names.{◌≡◌, ◌<◌, List, [], ◌++◌, refl, sym, subst, ap, ◌∙◌, ◌⊎◌, inl, inr, ◌==◌, arith, ℕ, ◌≤◌, length, filter, map, Option, Some, None, AllByRecursion, Membership, Actor, Agent, Site, term_of, host_of_slot, Letter, Waiting, SiteState, Joining, Joiner, Ask, set_at, In, Distinct, all-from, all-at, all-append, all-mono, in-map, filter-in, eqb-same, set-here, set-there, set-both, prefix-refl, LogState, LogsHold, Entered, Streaming, Leadership, EnteredOk, StreamedOk, LeadershipOk, UnledOk, SiteOk, KeepsOk, MemberOk, JoinerOk, InWord, Coming, ViewsOk, LoadsOk, ForeignOk, AckOk, ReportOk, CountedOk, HeldOk, SiteLetterOk, SiteWaitingOk, AsksToJoin, EndOk, MeantFor, IsCounted, IsSlot, ToldOk, epoch_base, part, site_start, term_at, between, agent_to_site, line, flow, stream_ends_in, ask_of, wait_of, asks_waiting, asks_kept, asks_of_term, asked, end_of, flow_of}
 use Rattle.volt_wire.specs.declared.message.Msg.TheVariants as msg
 use Rattle.word_laws.specs.Histories as word
-use Rattle.log_laws.specs.Histories.{LogState, LogsHold, Entered, Streaming, Leadership, EnteredOk, StreamedOk, LeadershipOk, UnledOk, SiteOk, KeepsOk, MemberOk, JoinerOk, InWord, Coming, ViewsOk, LoadsOk, ForeignOk, AckOk, ReportOk, CountedOk, HeldOk, SiteLetterOk, SiteWaitingOk, AsksToJoin, EndOk, MeantFor, IsCounted, IsSlot, ToldOk, epoch_base, part, site_start, term_at, between, agent_to_site, line, flow, stream_ends_in, ask_of, wait_of, asks_in, asks_waiting, asks_kept, asks_of_term, asked, end_of, flow_of}
 use Rattle.log_laws.proofs.Kept.Moves.{SiteRises, site-stays, LogsLater, EntersNow}
 use Rattle.log_laws.proofs.Kept.Laters.{ask-later, end-later, stays, letter-later-with, waiting-later-with, counteds-later, keeps-at, loads-later, streamed-later}
 use Rattle.log_laws.proofs.Plain.{in-flat, flat-same, one-and-others}
-use Rattle.log_laws.proofs.Kept.Asked.{AtMost, at-most-is, at-most-both, at-most-same, at-most-none}
+use Rattle.log_laws.proofs.Kept.Asked.{AtMost, at-most-is, at-most-none, asks-moved, in-asked, keeps-less}
 use Rattle.log_laws.proofs.Kept.Plumbing.{words-later}
 use Rattle.log_laws.proofs.Kept.Terms.{running-slot, took-decided}
 use Rattle.log_laws.proofs.Kept.Keeps.{SiteStays, SameFrom, SameTerm, SameRun, still-same, site-keeps-with, joiner-keeps-with, in_word-keeps-with, inert-keeps, coming-keeps, took-keeps}
@@ -120,16 +119,13 @@ module _ (S : LogState) (H : LogsHold S) (i : ℕ) (s : SiteState) (ch : Actor �
   end-kept a c l r k = end-later S T H F.later a c l r k (subst (AllByRecursion _) (sym (flows-same a c l.start l.term))) (λ x e start. inl e)
 
   letters-kept : (a c : ℕ) → IsSlot S c → AllByRecursion (SiteLetterOk T a c) (between S a c)
-  letters-kept a c slot = all-from (SiteLetterOk T a c) (between S a c) (λ l is. letter-later-with S T H F.later a c l (λ x slot-of e. ask-kept a c l.term x slot (in-asked l is x slot-of e))
+  letters-kept a c slot = all-from (SiteLetterOk T a c) (between S a c) (λ l is. letter-later-with S T H F.later a c l (λ x slot-of e. ask-kept a c l.term x slot (asked-letter l is x slot-of e))
       (end-kept a c l) (all-at (SiteLetterOk S a c) (between S a c) (H.letters a c slot) l is))
     where
-      in-asked : (l : Letter) → In l (between S a c) → (x slot-of : ℕ) → l.body ≡ msg.JoinAsk x slot-of → In x (asked S a c l.term)
-      in-asked l is x slot-of e =
+      asked-letter : (l : Letter) → In l (between S a c) → (x slot-of : ℕ) → l.body ≡ msg.JoinAsk x slot-of → In x (asked S a c l.term)
+      asked-letter l is x slot-of e =
           let one : In x (ask_of l.term l) = rw (eqb-same l.term, e) (inl refl) in
-          let all = in-flat (ask_of l.term) x l (between S a c) is one in
-          in-left x (asks_in l.term (between S a c) ++ asks_waiting a l.term (S.sites c).waiting ++ asks_waiting a l.term (S.pending c)) (asks_of_term a l.term (S.sites c))
-          (in-left x (asks_in l.term (between S a c) ++ asks_waiting a l.term (S.sites c).waiting) (asks_waiting a l.term (S.pending c))
-          (in-left x (asks_in l.term (between S a c)) (asks_waiting a l.term (S.sites c).waiting) all))
+          in-asked S a c l.term x (inl (inl (in-flat (ask_of l.term) x l (between S a c) is one)))
 
   pub letters-turned : ((c : ℕ) → IsSlot S c → AllByRecursion (SiteLetterOk T i c) (new c)) → (a c : ℕ) → IsSlot S c → AllByRecursion (SiteLetterOk T a c) (ch (Site a) (Site c))
   letters-turned more a c slot = one-and-others (λ a. AllByRecursion (SiteLetterOk T a c) (ch (Site a) (Site c))) i
@@ -137,53 +133,30 @@ module _ (S : LogState) (H : LogsHold S) (i : ℕ) (s : SiteState) (ch : Actor �
       (λ a n. rw (F.theirs a c n) (letters-kept a c slot)) a
 
   -- what waits
+  waits-turned : (c : ℕ) → IsSlot S c → site_start T c ≡ site_start S c → (ws : List Waiting) → ((a t x : ℕ) → In x (asks_waiting a t ws) → In x (asked S a c t))
+      → AllByRecursion (SiteWaitingOk S c) ws → AllByRecursion (SiteWaitingOk T c) ws
+  waits-turned c slot start ws within k = all-from (SiteWaitingOk T c) ws (λ x is. waiting-later-with S T H F.later c start x
+      (λ a y slot-of e b. let one : In y (wait_of a x.letter.term x) = rw (e, eqb-same a, eqb-same x.letter.term, b) (inl refl) in
+      ask-kept a c x.letter.term y slot (within a x.letter.term y (in-flat (wait_of a x.letter.term) y x ws is one))) (all-at (SiteWaitingOk S c) ws k x is))
+
   pub waiting-turned : (c : ℕ) → IsSlot S c → site_start T c ≡ site_start S c → KeepsOk S c → AllByRecursion (SiteWaitingOk T c) (S.sites c).waiting
-  waiting-turned c slot start k = all-from (SiteWaitingOk T c) (S.sites c).waiting (λ x is. waiting-later-with S T H F.later c start x
-      (λ a y slot-of e b. ask-kept a c x.letter.term y slot (in-asked x is a y slot-of e b)) (all-at (SiteWaitingOk S c) (S.sites c).waiting k.waiting x is))
-    where
-      in-asked : (x : Waiting) → In x (S.sites c).waiting → (a y slot-of : ℕ) → x.from ≡ Site a → x.letter.body ≡ msg.JoinAsk y slot-of → In y (asked S a c x.letter.term)
-      in-asked x is a y slot-of e b =
-          let t = x.letter.term in
-          let one : In y (wait_of a t x) = rw (e, eqb-same a, eqb-same t, b) (inl refl) in
-          in-left y (asks_in t (between S a c) ++ asks_waiting a t (S.sites c).waiting ++ asks_waiting a t (S.pending c)) (asks_of_term a t (S.sites c))
-          (in-left y (asks_in t (between S a c) ++ asks_waiting a t (S.sites c).waiting) (asks_waiting a t (S.pending c))
-          (in-right y (asks_in t (between S a c)) (asks_waiting a t (S.sites c).waiting) (in-flat (wait_of a t) y x (S.sites c).waiting is one)))
+  waiting-turned c slot start k = waits-turned c slot start (S.sites c).waiting (λ a t x i. in-asked S a c t x (inl (inr i))) k.waiting
 
   pub pending-turned : (c : ℕ) → IsSlot S c → site_start T c ≡ site_start S c → KeepsOk S c → AllByRecursion (SiteWaitingOk T c) (S.pending c)
-  pending-turned c slot start k = all-from (SiteWaitingOk T c) (S.pending c) (λ x is. waiting-later-with S T H F.later c start x
-      (λ a y slot-of e b. ask-kept a c x.letter.term y slot (in-asked x is a y slot-of e b)) (all-at (SiteWaitingOk S c) (S.pending c) k.pending x is))
-    where
-      in-asked : (x : Waiting) → In x (S.pending c) → (a y slot-of : ℕ) → x.from ≡ Site a → x.letter.body ≡ msg.JoinAsk y slot-of → In y (asked S a c x.letter.term)
-      in-asked x is a y slot-of e b =
-          let t = x.letter.term in
-          let one : In y (wait_of a t x) = rw (e, eqb-same a, eqb-same t, b) (inl refl) in
-          in-left y (asks_in t (between S a c) ++ asks_waiting a t (S.sites c).waiting ++ asks_waiting a t (S.pending c)) (asks_of_term a t (S.sites c))
-          (in-right y (asks_in t (between S a c) ++ asks_waiting a t (S.sites c).waiting) (asks_waiting a t (S.pending c))
-          (in-flat (wait_of a t) y x (S.pending c) is one))
+  pending-turned c slot start k = waits-turned c slot start (S.pending c) (λ a t x i. in-asked S a c t x (inr (inl i))) k.pending
 
   -- ---- other slots
 
   asked-less : (c l t : ℕ) → (c ≡ i → ⊥) → AtMost (asked S c l t) (asked T c l t)
-  asked-less c l t other = one-and-others (λ l. AtMost (asked S c l t) (asked T c l t)) i mine (λ l n. at-most-is (asked S c l t) (asked T c l t)
-      (ap (λ z. asks_in t z ++ asks_waiting c t (T.sites l).waiting ++ asks_waiting c t (S.pending l) ++ asks_of_term c t (T.sites l)) (F.theirs c l other)
-      ∙ ap (λ z. asks_in t (between S c l) ++ asks_waiting c t z.waiting ++ asks_waiting c t (S.pending l) ++ asks_of_term c t z) (there l n))) l
-    where
-      asked-is : asked T c i t ≡ asks_in t (between S c i) ++ asks_waiting c t (S.sites i).waiting ++ asks_waiting c t (S.pending i) ++ asks_of_term c t s
-      asked-is = ap (λ z. asks_in t z ++ asks_waiting c t (T.sites i).waiting ++ asks_waiting c t (S.pending i) ++ asks_of_term c t (T.sites i)) (F.theirs c i other)
-          ∙ ap (λ z. asks_in t (between S c i) ++ asks_waiting c t z.waiting ++ asks_waiting c t (S.pending i) ++ asks_of_term c t z) here
-          ∙ ap (λ z. asks_in t (between S c i) ++ asks_waiting c t z ++ asks_waiting c t (S.pending i) ++ asks_of_term c t s) F.waiting
-
-      mine : AtMost (asked S c i t) (asked T c i t)
-      mine = subst (AtMost (asked S c i t)) (sym asked-is)
-          (at-most-both (asks_in t (between S c i) ++ asks_waiting c t (S.sites i).waiting ++ asks_waiting c t (S.pending i))
-          (asks_in t (between S c i) ++ asks_waiting c t (S.sites i).waiting ++ asks_waiting c t (S.pending i))
-          (asks_of_term c t (S.sites i)) (asks_of_term c t s)
-          (at-most-same (asks_in t (between S c i) ++ asks_waiting c t (S.sites i).waiting ++ asks_waiting c t (S.pending i))) (F.asks c t))
+  asked-less c l t other = one-and-others (λ l. AtMost (asked S c l t) (asked T c l t)) i
+      (subst (AtMost (asked S c i t)) (sym (asks-moved c t (between S c i) (between T c i) s (T.sites i) (S.pending i) (F.theirs c i other) here))
+      (keeps-less c t (between S c i) (S.sites i) s (S.pending i) F.waiting (F.asks c t)))
+      (λ l n. at-most-is (asked S c l t) (asked T c l t) (asks-moved c t (between S c l) (between T c l) (S.sites l) (T.sites l) (S.pending l) (F.theirs c l other) (there l n))) l
 
   keeps-other : (c : ℕ) → (c ≡ i → ⊥) → 0 < site_start S c → KeepsOk S c → KeepsOk T c
   keeps-other c other up k = keeps-at S T H F.later c (S.sites c) (there c other) refl k.acks k.reports
       (counteds-later S T H F.later (part S c) (term_at S c) (S.sites c).joiners k.joiners) k.alone k.leads
-      (all-from (λ a. AsksToJoin T (part S c) a.slot (term_at S c) a.start) (S.sites c).asks (λ a is. ask-kept a.slot c (term_at S c) a.start slot (in-asked a is)
+      (all-from (λ a. AsksToJoin T (part S c) a.slot (term_at S c) a.start) (S.sites c).asks (λ a is. ask-kept a.slot c (term_at S c) a.start slot (asked-kept a is)
       (all-at (λ a. AsksToJoin S (part S c) a.slot (term_at S c) a.start) (S.sites c).asks k.asks a is)))
       (waiting-turned c slot start k) (pending-turned c slot start k) k.on_disk k.held
     where
@@ -193,14 +166,13 @@ module _ (S : LogState) (H : LogsHold S) (i : ℕ) (s : SiteState) (ch : Actor �
       start : site_start T c ≡ site_start S c
       start = ap (λ z. z.start) (there c other)
 
-      in-asked : (a : Ask) → In a (S.sites c).asks → In a.start (asked S a.slot c (term_at S c))
-      in-asked a is =
+      asked-kept : (a : Ask) → In a (S.sites c).asks → In a.start (asked S a.slot c (term_at S c))
+      asked-kept a is =
           let t = term_at S c in
           let one : In a.start (asks_kept a.slot (S.sites c).asks) = in-map (λ z. z.start) a (filter (λ z. z.slot == a.slot) (S.sites c).asks)
           (filter-in (λ z. z.slot == a.slot) a (S.sites c).asks is (eqb-same a.slot)) in
           let kept : In a.start (asks_of_term a.slot t (S.sites c)) = rw (eqb-same t) one in
-          in-right a.start (asks_in t (between S a.slot c) ++ asks_waiting a.slot t (S.sites c).waiting ++ asks_waiting a.slot t (S.pending c))
-          (asks_of_term a.slot t (S.sites c)) kept
+          in-asked S a.slot c t a.start (inr (inr kept))
 
   same-run : (c : ℕ) → (c ≡ i → ⊥) → SameRun S T c
   same-run c other = record { entered = λ t e is start. sym (F.entered c t other) ∙ is; streamed = λ t x is start. is }

@@ -1,7 +1,6 @@
 -- A message leaves its channel, or what waited is taken up, where what is looked at of it is nothing: what holds, holds then.
-use Rattle.log_laws.proofs.Names.{◌≡◌, ◌<◌, Bool, true, false, List, [], ◌∷◌, ◌++◌, refl, sym, subst, ap, ◌∙◌, ◌⊎◌, inl, inr, ◌==◌, arith, eqb-true, eqb-false, nat_tests, ℕ, ◌||◌, nat_lt, if◌then◌else◌, AllByRecursion, Actor, Agent, Site, host_of_slot, Letter, Waiting, of_term, above_term, Taken, Refused, Waits, arrival, in_term, no_sends, becomes, SiteState, set_at, took-all, all-append, all-filter, set-both}
+use Rattle.log_laws.proofs.Names.{◌≡◌, ◌<◌, Bool, true, false, List, [], ◌∷◌, ◌++◌, refl, sym, subst, ap, ◌∙◌, ◌⊎◌, inl, inr, ◌==◌, arith, eqb-true, eqb-false, nat_tests, ℕ, ◌||◌, nat_lt, if◌then◌else◌, AllByRecursion, Actor, Agent, Site, host_of_slot, Letter, Waiting, of_term, above_term, Taken, Refused, Waits, arrival, in_term, no_sends, becomes, SiteState, set_at, took-all, all-append, all-filter, set-both, LogState, LogsHold, SiteLetterOk, ForeignOk, SiteWaitingOk, IsSlot, MeantFor, site_start, term_at, agent_to_site, line, line_of, flow, flow_of, stream_ends_in, end_of, line_in, flow_in, view_in, SiteWaitingFrom, view_of, asks_of_term, asked}
 use Rattle.volt_wire.specs.declared.message.Msg.TheVariants as msg
-use Rattle.log_laws.specs.Histories.{LogState, LogsHold, SiteLetterOk, ForeignOk, SiteWaitingOk, IsSlot, MeantFor, site_start, term_at, agent_to_site, line, line_of, flow, flow_of, stream_ends_in, end_of, line_in, flow_in, view_in, SiteWaitingFrom, view_of, asks_of_term, asked}
 use Rattle.log_laws.proofs.Kept.{after_site, site_popped, left, LogsGo, AsksLess, at-most-same, popped-less, left-less, parted-asks, waits-asks, LeavesViews, leaves-same, leaves-first, after-same, taken-either, words-popped, ChannelsOk, channels-same, running-slot, channels-hold, moved-holds, NotesOk, after-nothing, becomes-goes, noted-holds, noted-same, notes-same}
 use Rattle.log_laws.proofs.Plain.{views-other, both-empty, for-other, if-empty}
 
@@ -200,10 +199,6 @@ module _ (S : LogState) (H : LogsHold S) (from : Actor) (i : ℕ) (l : Letter) (
       slot : IsSlot S i
       slot = running-slot S H i up
 
-      -- it hasn't been in that term
-      unreached : MeantFor S i l → ⊥
-      unreached r = elim high.0 [ inl z ↦ let some = r.0.0 in omega (arith, some, z) | inr is ↦ let low = r.2 (sym is) in let up = high.1 in omega (arith, low, up) ]
-
       site : (j : ℕ) → SiteLetterOk S j i l → SiteWaitingFrom S i (Site j) l
       site j k = elim l.body as (λ m. (MeantFor S i (record l { body = m }) → ⊥) → SiteLetterOk S j i (record l { body = m }) → SiteWaitingFrom S i (Site j) (record l { body = m })) [
         | msg.Put position e floor ↦ λ u p. u p.0
@@ -212,7 +207,7 @@ module _ (S : LogState) (H : LogsHold S) (from : Actor) (i : ℕ) (l : Letter) (
         | msg.StreamStart head ↦ λ u p. u p
         | msg.StreamEnd count ↦ λ u p. u p.0
         | m ↦ λ u p. p
-      ] unreached k
+      ] (λ r. elim high.0 [ inl z ↦ let some = r.0.0 in omega (arith, some, z) | inr is ↦ let low = r.2 (sym is) in let up = high.1 in omega (arith, low, up) ]) k
 
       agent : (h : ℕ) → ForeignOk S i (Agent h) l → (h ≡ host_of_slot S.words.deployment i → view_in l.body ≡ []) → SiteWaitingFrom S i (Agent h) l
       agent h k = elim l.body as (λ m. ForeignOk S i (Agent h) (record l { body = m }) → (h ≡ host_of_slot S.words.deployment i → view_in m ≡ [])
@@ -246,7 +241,9 @@ module _ (S : LogState) (H : LogsHold S) (from : Actor) (i : ℕ) (l : Letter) (
       }))
       (record {
         waiting = λ _. all-append (SiteWaitingOk S i) (S.sites i).waiting (record { from = from; letter = l } ∷ []) (o.waiting up) ((high.0, waiting-from up e), tt);
-        asks = o.asks; reports = o.reports; pending = o.pending;
+        asks = o.asks;
+        reports = o.reports;
+        pending = o.pending;
         none = λ z. absurd (omega (arith, up, z));
       })
       (subst (AsksLess S) (after-nothing (site_popped S from i) i keeping S.logs) (waits-asks S from i l ls is S.logs)))
@@ -264,7 +261,9 @@ pub leaves : (S : LogState) → LogsHold S → (i : ℕ) (x : Waiting) (ws : Lis
 leaves S H i x ws is = moved-holds S S.words.channel S.sites (set_at S.pending i ws) H (channels-same S H)
     (subst (AsksLess S) (after-same (left S i ws) i) (left-less S i ws S.logs x is (S.sites i) refl (λ c t. at-most-same (asks_of_term c t (S.sites i)))))
     (set-both (λ c p. NotesOk S c (S.sites c) p) S.pending i ws (let o = notes-same S H i in record {
-      waiting = o.waiting; asks = o.asks; reports = o.reports;
+      waiting = o.waiting;
+      asks = o.asks;
+      reports = o.reports;
       pending = λ up. (subst (AllByRecursion (SiteWaitingOk S i)) is (o.pending up)).1;
       none = λ z. let e = sym is ∙ (o.none z).2 in absurd (cc);
     }) (λ c n. notes-same S H c))
@@ -278,7 +277,8 @@ pub takes-up : (S : LogState) → LogsHold S → (i : ℕ) → S.pending i ≡ [
 takes-up S H i none term = let old = (S.sites i).waiting in let now = of_term term old in let s : SiteState = record (S.sites i) { waiting = above_term term old } in
     let o = notes-same S H i in noted-holds S i s S.words.channel now H refl (channels-same S H) (record {
       waiting = λ up. all-filter (SiteWaitingOk S i) (λ w. nat_lt term w.letter.term) old (o.waiting up);
-      asks = o.asks; reports = o.reports;
+      asks = o.asks;
+      reports = o.reports;
       pending = λ up. all-filter (SiteWaitingOk S i) (λ w. w.letter.term == term) old (o.waiting up);
       none = λ z. let e = o.none z in (ap (above_term term) e.0, e.1, ap (of_term term) e.0);
     }) (subst (AsksLess S) (after-nothing (left S i now) i s S.logs) (parted-asks S i now S.logs s term refl refl (λ c t. at-most-same (asks_of_term c t (S.sites i)))))

@@ -1,8 +1,7 @@
 -- A slot's site stops, or a start of it begins to run: what holds, holds after it.
-use Rattle.log_laws.proofs.Names.{◌≡◌, ◌<◌, List, [], ◌∷◌, ◌++◌, refl, sym, subst, ap, ◌∙◌, inl, inr, ◌==◌, arith, ◌⊎◌, and_parts, nat_tests, ℕ, ◌≤◌, ◌&&◌, max, nat_le, nat_lt, length, Some, None, AllByRecursion, Membership, Actor, Agent, Site, Scanner, Deployment, host_of_slot, is_slot_of, slots, Shown, same, Letter, Sends, Turn, becomes, no_sends, only, open_letter, SiteState, site_term, new_joiner, new_joining, stopped_site, stops_others, on_stop, stops_so, sent, rest, set_at, starts_in, In, all-if, all-mono, not-both, same-some, set-both, set-here, set-there, set-twice, cond_both}
+use Rattle.log_laws.proofs.Names.{◌≡◌, ◌<◌, List, [], ◌∷◌, ◌++◌, refl, sym, subst, ap, ◌∙◌, inl, inr, ◌==◌, arith, ◌⊎◌, and_parts, nat_tests, ℕ, ◌≤◌, ◌&&◌, max, nat_le, nat_lt, length, Some, None, AllByRecursion, Membership, Actor, Agent, Site, Scanner, Deployment, host_of_slot, is_slot_of, slots, Shown, same, Letter, Sends, Turn, becomes, no_sends, only, open_letter, SiteState, site_term, new_joiner, new_joining, stopped_site, stops_others, on_stop, stops_so, sent, rest, set_at, starts_in, In, all-if, all-mono, not-both, same-some, set-both, set-here, set-there, set-twice, cond_both, LogState, Logs, Entered, Streaming, LogsHold, IsCounted, SiteLetterOk, ForeignOk, IsSlot, SiteOk, KeepsOk, ViewsOk, JoinerOk, FirstViews, Starting, part, site_start, log_at, term_at, between, agent_to_site, views, asks_in, asks_waiting, asks_of_term}
 use Rattle.volt_wire.specs.declared.message.Msg.TheVariants as msg
 use Rattle.cluster_model.specs.Site.{on_start}
-use Rattle.log_laws.specs.Histories.{LogState, Logs, Entered, Streaming, LogsHold, IsCounted, SiteLetterOk, ForeignOk, IsSlot, SiteOk, KeepsOk, ViewsOk, JoinerOk, FirstViews, Starting, part, site_start, log_at, term_at, between, agent_to_site, views, asks_in, asks_waiting, asks_of_term}
 use Rattle.log_laws.proofs.Kept.{SiteRises, site-stays, Enters, after_site, site_popped, LogsLater, SiteLater, Stays, JoinsOn, grown-same, grown-reach, enters-same, same-leaderships, ask-later-on, letter-later-with, end-later-if, loads-later, leaderships-later, AtMost, AsksLess, asks-at, at-most-both, at-most-same, SiteStays, still-same, Uncounted, counted-from, site-keeps, keeps-later, foreign-later, first_views-later, views-keeps, words-later, goes-same, here, popped-here, popped-after, first-after, Silent, Unwatched, inert-after, entereds-later, streameds-later}
 use Rattle.log_laws.proofs.Kept.Moves.{Grown}
 use Rattle.log_laws.proofs.Plain.{if-none, one-and-others}
@@ -101,7 +100,9 @@ module _ (S : LogState) (H : LogsHold S) (i : ℕ) (s : SiteState) (ran : ℕ �
     entered = entereds-later S T H new.later leaderships (λ p t. refl);
     streamed = λ c t x k. let o = H.streamed c t x k in streameds-later S T H new.later leaderships (λ p t. refl) c t x o o.apart (counts c x.start x.stream_start o.word);
     leaderships = leaderships-later S T H new.later leaderships (λ p t g is. (H.leaderships p t g is).within);
-    unled = H.unled; some = H.some; first = H.first;
+    unled = H.unled;
+    some = H.some;
+    first = H.first;
   }
 
 -- ---- and what it sends
@@ -158,7 +159,8 @@ module _ (S : LogState) (H : LogsHold S) (i : ℕ) (none : S.pending i ≡ []) (
 
   stop-views : ViewsOk Q i
   stop-views = let k = H.views i in record {
-    plain = k.plain; began = k.began;
+    plain = k.plain;
+    began = k.began;
     running = λ up. let z = ap (λ x. x.start) gone in absurd (omega (arith, z, up));
     starting = λ a m. let o = k.starting a m in (o.0, o.1, first_views-later S Q stop-later.words.deployment stop-later.words.decided stop-later.words.took_word i a (views a (agent_to_site S i)) o.2);
     wordless = k.wordless;
@@ -169,7 +171,11 @@ module _ (S : LogState) (H : LogsHold S) (i : ℕ) (none : S.pending i ≡ []) (
   stopped-holds = renewed-holds S H i (stopped_so (S.sites i) stop contents plans) S.logs.ran (record {
     later = stop-later;
     ends = λ _ up. absurd (omega (arith, up));
-    joins = λ _. refl; waiting = refl; asks = refl; joiners = refl; others = λ c d. refl;
+    joins = λ _. refl;
+    waiting = refl;
+    asks = refl;
+    joiners = refl;
+    others = λ c d. refl;
   }) stop-site stop-views
 
   -- It sends nothing that is looked at.
@@ -255,7 +261,10 @@ module _ (S : LogState) (H : LogsHold S) (i : ℕ) (l : Letter) (ls : List Lette
     based = λ e. absurd (cc);
     firm = ap (λ x. x.firm) fresh;
     view = rw (ap (λ x. x.view) fresh) (record {
-      stream = refl; loads = refl; counts = refl; tasks = refl;
+      stream = refl;
+      loads = refl;
+      counts = refl;
+      tasks = refl;
       empty = ap (λ x. x.log) fresh;
       floor = ap (λ x. x.floor) fresh;
       never = λ t x k start. unstreamed t x k (start ∙ ap (λ x. x.start) fresh);
@@ -324,7 +333,9 @@ module _ (S : LogState) (H : LogsHold S) (i : ℕ) (l : Letter) (ls : List Lette
     later = start-later;
     ends = λ k _. let z = ap (λ x. x.start) (sym fresh) ∙ k.start in absurd (omega (arith, z, above));
     joins = λ e. absurd (cc);
-    waiting = refl; asks = refl; joiners = refl;
+    waiting = refl;
+    asks = refl;
+    joiners = refl;
     others = λ c d. set-there S.logs.ran i (a ∷ S.logs.ran i) c d;
   }) start-site start-views
 
@@ -353,47 +364,30 @@ stops_others-silent D h start from = tt
 pub stops_so-silent : (D : Deployment) (i : ℕ) (s : SiteState) (start : ℕ) (contents : List Shown) (b : Actor) → AllByRecursion (Silent b) ((stops_so D i s start contents).sends b)
 stops_so-silent D i s start contents b = all-if (Silent b) (same (Site i) b) [] (stops_others D (host_of_slot D i) start b) tt (stops_others-silent D (host_of_slot D i) start b)
 
+-- The history stays.
+same-after : (S : LogState) (i : ℕ) (t : Turn SiteState) → LogsHold (after_site S i t.state t.sends S.logs) → (t.state.start ≡ site_start S i) ⊎ (t.state.view ≡ None) → AfterTurn S i t
+same-after S i t holds runs = (S.logs, holds, grown-same S.words.deployment i t.state S.logs, enters-same i (length (log_at S i)) S.logs S.logs refl, runs)
+
 -- Its disk fails in a Sync, or it finds no memory.
 pub stops_so-after : (S : LogState) → LogsHold S → (i : ℕ) → S.pending i ≡ [] → (D : Deployment) (start : ℕ) (contents : List Shown)
     → AfterTurn S i (stops_so D i (S.sites i) start contents)
-stops_so-after S H i none D start contents = (
-  S.logs,
-  stops-holds S H i none (S.sites i).stop contents (S.sites i).plans (stops_so D i (S.sites i) start contents).sends (stops_so-silent D i (S.sites i) start contents),
-  grown-same S.words.deployment i (stops_so D i (S.sites i) start contents).state S.logs,
-  enters-same i (length (log_at S i)) S.logs S.logs refl,
-  inr refl,
-)
+stops_so-after S H i none D start contents = let t = stops_so D i (S.sites i) start contents in
+    same-after S i t (stops-holds S H i none (S.sites i).stop contents (S.sites i).plans t.sends (stops_so-silent D i (S.sites i) start contents)) (inr refl)
 
 -- or it does so as it takes a message
 pub stops_so-message : (S : LogState) → LogsHold S → (from : Actor) (i : ℕ) (l : Letter) (ls : List Letter) → S.words.channel from (Site i) ≡ l ∷ ls → S.pending i ≡ []
     → (D : Deployment) (start : ℕ) (contents : List Shown) → AfterTurn (site_popped S from i) i (stops_so D i (S.sites i) start contents)
-stops_so-message S H from i l ls is none D start contents = (
-  S.logs,
-  stops-message S H from i l ls is none (S.sites i).stop contents (S.sites i).plans (stops_so D i (S.sites i) start contents).sends
-      (stops_so-silent D i (S.sites i) start contents),
-  grown-same S.words.deployment i (stops_so D i (S.sites i) start contents).state S.logs,
-  enters-same i (length (log_at S i)) S.logs S.logs refl,
-  inr refl,
-)
+stops_so-message S H from i l ls is none D start contents = let t = stops_so D i (S.sites i) start contents in
+    same-after (site_popped S from i) i t (stops-message S H from i l ls is none (S.sites i).stop contents (S.sites i).plans t.sends (stops_so-silent D i (S.sites i) start contents)) (inr refl)
 
 -- Stop comes to it.
 pub on_stop-after : (S : LogState) → LogsHold S → (from : Actor) (i : ℕ) (l : Letter) (ls : List Letter) (a : ℕ) → S.words.channel from (Site i) ≡ record l { body = msg.Stop a } ∷ ls
     → S.pending i ≡ [] → AfterTurn (site_popped S from i) i (becomes (on_stop (S.sites i) a))
 on_stop-after S H from i l ls a is none = cond_both (nat_le (S.sites i).start a) _ _ (λ z. AfterTurn (site_popped S from i) i (becomes z))
-    (λ _. (
-      S.logs,
-      stops-message S H from i (record l { body = msg.Stop a }) ls is none (max (S.sites i).stop a) (S.sites i).contents (S.sites i).plans no_sends (λ b. tt),
-      grown-same S.words.deployment i (stopped_site noted) S.logs,
-      enters-same i (length (log_at S i)) S.logs S.logs refl,
-      inr refl,
-    ))
-    (λ _. (
-      S.logs,
-      inert-after (site_popped S from i) i noted no_sends (pops-kind S H from i (record l { body = msg.Stop a }) ls is tt) (record { same = refl; held = λ k. k }) (λ b. tt),
-      grown-same S.words.deployment i noted S.logs,
-      enters-same i (length (log_at S i)) S.logs S.logs refl,
-      inl refl,
-    ))
+    (λ _. same-after (site_popped S from i) i (becomes (stopped_site noted))
+    (stops-message S H from i (record l { body = msg.Stop a }) ls is none (max (S.sites i).stop a) (S.sites i).contents (S.sites i).plans no_sends (λ b. tt)) (inr refl))
+    (λ _. same-after (site_popped S from i) i (becomes noted)
+    (inert-after (site_popped S from i) i noted no_sends (pops-kind S H from i (record l { body = msg.Stop a }) ls is tt) (record { same = refl; held = λ k. k }) (λ b. tt)) (inl refl))
   where
     noted : SiteState
     noted = record (S.sites i) { stop = max (S.sites i).stop a }

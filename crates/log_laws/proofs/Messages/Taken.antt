@@ -1,6 +1,5 @@
 -- A site takes the first message that another site sent it, or one that waited: what is under way to it then, and what holds.
-use Rattle.log_laws.proofs.Names.{Bool, List, ap, false, refl, subst, sym, true, ◌≡◌, ◌++◌, ◌∷◌, ◌<◌, ◌==◌, [], ◌⊎◌, eqb-true, AllByRecursion, Option, Some, ◌&&◌, if◌then◌else◌, ℕ, Actor, Agent, Site, Letter, no_sends, same, SiteState, rest, took, took-all, sent-nothing, all-behind, and-false, eqb-same}
-use Rattle.log_laws.specs.Histories.{BeginsAt, ForeignOk, LogsHold, IsSlot, LogState, SiteLetterOk, Streaming, between, end_of, stream_ends_in, flow, flow_of, line, line_in, site_start}
+use Rattle.log_laws.proofs.Names.{Bool, List, ap, false, refl, subst, sym, true, ◌≡◌, ◌++◌, ◌∷◌, ◌<◌, ◌==◌, [], ◌⊎◌, eqb-true, AllByRecursion, Option, Some, ◌&&◌, if◌then◌else◌, ℕ, Actor, Agent, Site, Letter, no_sends, same, SiteState, rest, took, took-all, sent-nothing, all-behind, and-false, eqb-same, BeginsAt, ForeignOk, LogsHold, IsSlot, LogState, SiteLetterOk, Streaming, between, end_of, stream_ends_in, flow, flow_of, line, line_in, site_start}
 use Rattle.log_laws.proofs.Kept.{AsksLess, after_site, site_popped, Unentered, LessTo, SiteTakes, counts-on, same-counts, same-uncounts, takes-letters, uncounts-on, with-site, SiteGoesOn}
 use Rattle.log_laws.proofs.Plain.{both-empty, if-empty, one-and-others}
 
@@ -71,7 +70,9 @@ module _ (S : LogState) (H : LogsHold S) (l i : ℕ) (x : Letter) (ls : List Let
       goes = g;
       others = without-to S l i;
       agents = without-agent S l i;
-      told = λ c h. refl; director = λ h. refl; pending = λ c n. refl;
+      told = λ c h. refl;
+      director = λ h. refl;
+      pending = λ c n. refl;
       streamed = streamed;
       stays = stays;
       fresh = fresh;

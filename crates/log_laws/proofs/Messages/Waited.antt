@@ -1,7 +1,6 @@
 -- A site that has come to a term takes what waited for that, one after another: what holds, holds after it.
-use Rattle.log_laws.proofs.Names.{◌≡◌, ◌<◌, List, [], ◌∷◌, sym, subst, ap, ◌∙◌, ◌==◌, arith, eqb-true, ℕ, length, AllByRecursion, Site, Database, Deployment, term_in, Waiting, Turn, ◌▸◌, no_sends, of_term, above_term, SiteState, site_term, site_handler, all-append, all-from, in-filter, set-here, set-same, set-twice}
+use Rattle.log_laws.proofs.Names.{◌≡◌, ◌<◌, List, [], ◌∷◌, sym, subst, ap, ◌∙◌, ◌==◌, arith, eqb-true, ℕ, length, AllByRecursion, Site, Database, Deployment, term_in, Waiting, Turn, ◌▸◌, no_sends, of_term, above_term, SiteState, site_term, site_handler, all-append, all-from, in-filter, set-here, set-same, set-twice, LogState, LogsHold, SiteWaitingOk, site_start, log_at, term_at}
 use Rattle.cluster_model.specs.Site.{takes_each, takes_waiting}
-use Rattle.log_laws.specs.Histories.{LogState, LogsHold, SiteWaitingOk, site_start, log_at, term_at}
 use Rattle.log_laws.proofs.Kept.{after_site, left, Enters, LogsGo, NoStreamStart, grown-then, enters-then, here, after-after, log-here, then-longer, goes-same}
 use Rattle.log_laws.proofs.Messages.Pops.{takes-up-after}
 

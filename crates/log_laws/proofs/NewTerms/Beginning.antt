@@ -1,6 +1,5 @@
 -- A leader that has all reports begins its term: the log with which it does, and what that means for each copy.
-use Rattle.log_laws.proofs.Names.{◌≡◌, ◌<◌, Bool, true, false, List, [], ◌∷◌, ◌++◌, append-nil, refl, sym, subst, ap, ◌∙◌, ◌⊎◌, inl, inr, ◌==◌, drop-drop, arith, cases_eq, eqb-true, nat_tests, drop-append_seam, ℕ, ◌≤◌, ◌-◌, nat_lt, length, drop, if◌then◌else◌, Option, Some, None, AllByRecursion, list_any, list_all, Entry, Membership, term_of, term_in, start_of_slot, leader, SiteState, Reported, other_copies, longest, lacks, In, Prefix, none-and-some, same-some, all-at, not-both, list_all-at, list_any-from, prefixes-order}
-use Rattle.log_laws.specs.Histories.{LogState, Entered, Leadership, LogsHold, IsSlot, WordOf, Last, Unled, known, EnteredOk, ReportOk, MemberOk, LeadsIn, epoch_base, part, site_start, log_at, term_at}
+use Rattle.log_laws.proofs.Names.{◌≡◌, ◌<◌, Bool, true, false, List, [], ◌∷◌, ◌++◌, append-nil, refl, sym, subst, ap, ◌∙◌, ◌⊎◌, inl, inr, ◌==◌, drop-drop, arith, cases_eq, eqb-true, nat_tests, drop-append_seam, ℕ, ◌≤◌, ◌-◌, nat_lt, length, drop, if◌then◌else◌, Option, Some, None, AllByRecursion, list_any, list_all, Entry, Membership, term_of, term_in, start_of_slot, leader, SiteState, Reported, other_copies, longest, lacks, In, Prefix, none-and-some, same-some, all-at, not-both, list_all-at, list_any-from, prefixes-order, LogState, Entered, Leadership, LogsHold, IsSlot, WordOf, Last, Unled, known, EnteredOk, ReportOk, MemberOk, LeadsIn, epoch_base, part, site_start, log_at, term_at}
 use Rattle.log_laws.proofs.Kept.{base-least, entered-start, member-or-joined, named-first, last-below}
 use Rattle.log_laws.proofs.Plain.{copy-other, is_in-in, none-or-some}
 use Rattle.log_laws.proofs.NewTerms.Entering.{behind-at}

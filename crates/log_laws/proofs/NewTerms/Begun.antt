@@ -1,6 +1,5 @@
 -- A leader that has all reports begins its term: what holds, holds after it.
-use Rattle.log_laws.proofs.Names.{◌≡◌, ◌<◌, true, false, List, [], ◌∷◌, ◌++◌, append-nil, refl, sym, subst, ap, ◌∙◌, inl, inr, ◌==◌, true≢false, arith, cases_eq, ℕ, ◌≤◌, length, drop, Option, Some, None, AllByRecursion, list_any, list_all, Membership, Actor, Agent, Site, term_of, term_in, leader, Letter, Sends, SiteState, Scanning, Joining, Joiner, Reported, site_term, start_in_view, other_copies, longest, lacks, repair_to, sent, In, Prefix, none-and-some, same-some, not-both, set-here, set-there, set-both, repair-all, repair_letter, prefix-length, prefix-refl, prefix-trans, grown, flat_map-append}
-use Rattle.log_laws.specs.Histories.{LogState, Logs, Repairs, Entered, Leadership, LogsHold, WordOf, Last, known, EnteredOk, ReportOk, LeadershipOk, UnledOk, SiteOk, KeepsOk, MemberOk, JoinerOk, LeadsIn, FollowsIn, SiteLetterOk, MeantFor, IsCounted, ForeignOk, JoinsIn, asks_of_term, part, site_start, log_at, term_at, between, follows, line, line_of}
+use Rattle.log_laws.proofs.Names.{◌≡◌, ◌<◌, true, false, List, [], ◌∷◌, ◌++◌, append-nil, refl, sym, subst, ap, ◌∙◌, inl, inr, ◌==◌, true≢false, arith, cases_eq, ℕ, ◌≤◌, length, drop, Option, Some, None, AllByRecursion, list_any, list_all, Membership, Actor, Agent, Site, term_of, term_in, leader, Letter, Sends, SiteState, Scanning, Joining, Joiner, Reported, site_term, start_in_view, other_copies, longest, lacks, repair_to, sent, In, Prefix, none-and-some, same-some, not-both, set-here, set-there, set-both, repair-all, repair_letter, prefix-length, prefix-refl, prefix-trans, grown, flat_map-append, LogState, Logs, Repairs, Entered, Leadership, LogsHold, WordOf, Last, known, EnteredOk, ReportOk, LeadershipOk, UnledOk, SiteOk, KeepsOk, MemberOk, JoinerOk, LeadsIn, FollowsIn, SiteLetterOk, MeantFor, IsCounted, ForeignOk, JoinsIn, asks_of_term, part, site_start, log_at, term_at, between, follows, line, line_of}
 use Rattle.log_laws.proofs.Kept.{after_site, LogsLater, JoinsOn, grown-at, been-later, word_of-later, ask-later, reached-later, stays, leadership-later, unled-later, running-slot, same-word, some-term, entered-start, running-in, sent-here, sent-there, words-after, foreign-after, views-after, still-same, member-keeps-with, at-most-same, put_at, put-both, put-here, put-there, site_turned, turned-later, turned-holds, waiting-turned, pending-turned, asks-later, counteds-later, keeps-at, RunsOn, site-runs}
 use Rattle.log_laws.proofs.Kept.Moves.{Grown}
 use Rattle.log_laws.proofs.Kept.Turned.{Turned}
@@ -216,11 +215,13 @@ module _ (S : LogState) (H : LogsHold S) (i : ℕ) (w : Membership) (up : 0 < si
 
   entered : (c u : ℕ) (e : Entered) → S.logs.entered c u ≡ Some e → EnteredOk T c u e
   entered c u e is = let k = H.entered c u e is in record {
-    slot = k.slot; word = k.word;
+    slot = k.slot;
+    word = k.word;
     is_word = word_of-later S T H later u k.word k.is_word;
     start_is = k.start_is;
     been = been-later S T H later c u e.start k.been;
-    came = k.came; reach = k.reach;
+    came = k.came;
+    reach = k.reach;
     behind = behind;
     still = λ v f below then start unled. k.still v f below then start (λ x g led low high. unled x g (led-still (part S c) x g led ∙ led) low high);
     running = λ runs.
@@ -301,7 +302,8 @@ module _ (S : LogState) (H : LogsHold S) (i : ℕ) (w : Membership) (up : 0 < si
   own-member = record {
     decided = member.decided;
     start_is = member.start_is ∙ ap Some (sym own-start);
-    entered = member.entered; is_entered = member.is_entered;
+    entered = member.entered;
+    is_entered = member.is_entered;
     since = member.since ∙ sym own-start;
     earlier = rw here member.earlier;
     grown = subst (λ z. Prefix member.entered.log z.log) (sym here)

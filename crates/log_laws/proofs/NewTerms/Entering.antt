@@ -1,6 +1,5 @@
 -- A site comes into a term as a member of its word: what was so before.
-use Rattle.log_laws.proofs.Names.{◌≡◌, ◌<◌, true, false, [], ◌++◌, append-nil, append_assoc, refl, sym, subst, ap, ◌∙◌, ◌⊎◌, inl, inr, ◌==◌, arith, cases_eq, and_from, eq-eqb, false_from_ne_true, ℕ, ◌≤◌, nat_lt, max, length, Option, Some, None, Membership, slots, term_of, term_in, start_of_slot, host_of_slot, SiteState, Joining, Streamed, In, Prefix, Admitted, names, HistoryOk, GoodWord, Recorded, none-and-some, same-some, all-at, not-both, admits-fresh, one-first, at-good, term-same, member-is, prefix-trans}
-use Rattle.log_laws.specs.Histories.{LogState, Entered, Leadership, LogsHold, IsSlot, WordOf, WasIn, Last, Unled, Came, known, MemberOk, JoinerOk, InWord, Took, ViewIn, StreamIn, LeadsIn, FollowsIn, line, between, part, site_start, log_at, term_at}
+use Rattle.log_laws.proofs.Names.{◌≡◌, ◌<◌, true, false, [], ◌++◌, append-nil, append_assoc, refl, sym, subst, ap, ◌∙◌, ◌⊎◌, inl, inr, ◌==◌, arith, cases_eq, and_from, eq-eqb, false_from_ne_true, ℕ, ◌≤◌, nat_lt, max, length, Option, Some, None, Membership, slots, term_of, term_in, start_of_slot, host_of_slot, SiteState, Joining, Streamed, In, Prefix, Admitted, names, HistoryOk, GoodWord, Recorded, none-and-some, same-some, all-at, not-both, admits-fresh, one-first, at-good, term-same, member-is, prefix-trans, LogState, Entered, Leadership, LogsHold, IsSlot, WordOf, WasIn, Last, Unled, Came, known, MemberOk, JoinerOk, InWord, Took, ViewIn, StreamIn, LeadsIn, FollowsIn, line, between, part, site_start, log_at, term_at}
 use Rattle.log_laws.proofs.Kept.{running-slot, took-not-named, base-least, entered-start, leadership-entered, running-in, was-in, last-below}
 use Rattle.log_laws.proofs.NewTerms.Since.{since-running}
 use Rattle.log_laws.proofs.Plain.{leads-or-follows, none-or-some}
@@ -156,7 +155,7 @@ module _ (S : LogState) (H : LogsHold S) (i : ℕ) (v w : Membership) (up : 0 < 
   pub not-entered : S.logs.entered i (term_of w) ≡ None
   not-entered = elim (none-or-some (S.logs.entered i (term_of w))) [
     | inl e ↦ e
-    | inr (f, e) ↦ 
+    | inr (f, e) ↦
         let start = same-some (sym member ∙ entered-start S H i (term_of w) f e w word) in
         let low = ((H.entered i (term_of w) f e).running start).1 in absurd (omega (arith, low, here, above))
   ]
@@ -180,9 +179,6 @@ module _ (S : LogState) (H : LogsHold S) (i : ℕ) (v w : Membership) (up : 0 < 
   pub was-last : (u : ℕ) → Last S.logs (part S i) u (term_of w) → WasIn S i u (site_start S i)
   was-last u l = was-in S H i (term_of w) (site_start S i) w slot word member came u l
 
-  last-low : (u : ℕ) → Last S.logs (part S i) u (term_of w) → u ≤ term_of v
-  last-low u l = let b = (running-in S H i u (site_start S i) (was-last u l) refl).1 in omega (arith, b, here)
-
   -- as a member, in a term that nobody led
   unled-here : (k : MemberOk S i v) → S.logs.leadership (part S i) (term_of v) ≡ None → (log_at S i ≡ k.entered.log) × (known (entering (S.sites i)) ≡ known k.entered)
   unled-here k none = let s = k.still (unled-repaired S i v k none) in (s.0, λ n. max (s.1 n) (s.2 n))
@@ -198,7 +194,7 @@ module _ (S : LogState) (H : LogsHold S) (i : ℕ) (v w : Membership) (up : 0 < 
   ]
     where
       low : u ≤ term_of v
-      low = last-low u l
+      low = let b = (running-in S H i u (site_start S i) (was-last u l) refl).1 in omega (arith, b, here)
 
       lower : (k : MemberOk S i v) → (u ≡ term_of v → ⊥) → Prefix (log_at S i) l.leadership.log × (known (entering (S.sites i)) ≤ S.logs.reach (part S i) u)
       lower k n = let same = unled-here k (elim (none-or-some (S.logs.leadership (part S i) (term_of v))) [

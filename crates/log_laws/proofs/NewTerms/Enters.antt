@@ -1,8 +1,7 @@
 -- A site takes a word that counts its start, and enters its term: what holds, holds after it.
-use Rattle.log_laws.proofs.Names.{◌≡◌, ◌<◌, List, [], ◌∷◌, refl, sym, subst, ap, ◌∙◌, ◌⊎◌, inl, inr, ◌==◌, arith, cases_eq, cases_lt, ℕ, ◌≤◌, length, drop, max, Option, Some, None, AllByRecursion, Membership, Actor, Agent, Site, Deployment, term_of, term_in, start_of_slot, leader, Letter, Sends, letter_in, sending, SiteState, Joiner, site_term, start_in_view, in_new_term, sent, In, Prefix, none-and-some, same-some, all-filter, set-here, set-there, set-both, prefix-refl}
+use Rattle.log_laws.proofs.Names.{◌≡◌, ◌<◌, List, [], ◌∷◌, refl, sym, subst, ap, ◌∙◌, ◌⊎◌, inl, inr, ◌==◌, arith, cases_eq, cases_lt, ℕ, ◌≤◌, length, drop, max, Option, Some, None, AllByRecursion, Membership, Actor, Agent, Site, Deployment, term_of, term_in, start_of_slot, leader, Letter, Sends, letter_in, sending, SiteState, Joiner, site_term, start_in_view, in_new_term, sent, In, Prefix, none-and-some, same-some, all-filter, set-here, set-there, set-both, prefix-refl, LogState, Logs, LogsHold, Entered, Streaming, IsSlot, known, EnteredOk, UnledOk, MemberOk, SiteOk, LeadsIn, FollowsIn, SiteLetterOk, AsksToJoin, HasBeen, HeldOk, ForeignOk, part, site_start, log_at, term_at, between, line, line_of, flow_of, end_of, asks_of_term, asked}
 use Rattle.volt_wire.specs.declared.message.Msg.TheVariants as msg
-use Rattle.log_laws.specs.Histories.{LogState, Logs, LogsHold, Entered, Streaming, IsSlot, known, EnteredOk, UnledOk, MemberOk, SiteOk, LeadsIn, FollowsIn, SiteLetterOk, AsksToJoin, HasBeen, HeldOk, ForeignOk, part, site_start, log_at, term_at, between, line, line_of, flow_of, end_of, asks_of_term, asked}
-use Rattle.log_laws.proofs.Kept.{after_site, site_popped, LogsLater, Stays, EntersNow, Turns, NoStreamStart, grown-reach, enters-later, been-later, stays, entered-later, same-leaderships, leaderships-later, AtMost, running-slot, some-term, some-start, words-after, words-popped, still-same, member-keeps, put_at, put-both, put-here, put-there, site_turned, turned-later, turned-holds, fresh-keeps, said-same}
+use Rattle.log_laws.proofs.Kept.{after_site, site_popped, LogsLater, Stays, EntersNow, Turns, NoStreamStart, grown-reach, been-later, stays, entered-later, same-leaderships, leaderships-later, AtMost, running-slot, some-term, some-start, words-after, words-popped, still-same, member-keeps, put_at, put-both, put-here, put-there, site_turned, turned-later, turned-holds, fresh-keeps, said-same}
 use Rattle.log_laws.proofs.Kept.Turned.{Turned}
 use Rattle.log_laws.proofs.Plain.{if-none, leader-copy, start-in-view, flat-none, flat-same, if-empty}
 use Rattle.log_laws.proofs.NewTerms.Entering.{since-within, running-ran, entering, was-member, came, earlier-below, not-entered, not-streamed, not-led, behind, still, known-within, reach-within, others-within}
@@ -27,10 +26,6 @@ report_letter D s w c = letter_in (term_of w) (start_in_view D (Some w) c) (msg.
 pub record Reporting (D : Deployment) (i p : ℕ) (s : SiteState) (w : Membership) (out : Sends) : Type 0 where
   pub sites : (c : ℕ) → ((leader D w p ≡ Some c) × (c ≡ i → ⊥) × (out (Site c) ≡ report_letter D s w c ∷ [])) ⊎ (out (Site c) ≡ [])
   pub agents : (h : ℕ) → out (Agent h) ≡ []
-
-pub reports-all : (D : Deployment) (i p : ℕ) (s : SiteState) (w : Membership) (out : Sends) → Reporting D i p s w out → (P : Letter → Type 0) (c : ℕ)
-    → (leader D w p ≡ Some c → (c ≡ i → ⊥) → P (report_letter D s w c)) → AllByRecursion P (out (Site c))
-reports-all D i p s w out k P c f = elim (k.sites c) [ inl o ↦ subst (AllByRecursion P) (sym o.2) (f o.0 o.1, tt) | inr e ↦ subst (AllByRecursion P) (sym e) tt ]
 
 module _ (S : LogState) (H : LogsHold S) (h i : ℕ) (l : Letter) (w : Membership) (ls : List Letter) (is : S.words.channel (Agent h) (Site i) ≡ record l { body = msg.View w } ∷ ls)
     (start : l.start ≡ site_start S i) (up : 0 < site_start S i) (v : Membership) (view : (S.sites i).view ≡ Some v)
@@ -60,7 +55,7 @@ module _ (S : LogState) (H : LogsHold S) (h i : ℕ) (l : Letter) (w : Membershi
   new c = out (Site c)
 
   says-all : (P : Letter → Type 0) (c : ℕ) → (leader D w (part S i) ≡ Some c → (c ≡ i → ⊥) → P (report_letter D (S.sites i) w c)) → AllByRecursion P (new c)
-  says-all P c f = reports-all D i (part S i) (S.sites i) w out says P c f
+  says-all P c f = elim (says.sites c) [ inl o ↦ subst (AllByRecursion P) (sym o.2) (f o.0 o.1, tt) | inr e ↦ subst (AllByRecursion P) (sym e) tt ]
 
   here : T.sites i ≡ s
   here = set-here S.sites i s
@@ -98,7 +93,10 @@ module _ (S : LogState) (H : LogsHold S) (h i : ℕ) (l : Letter) (w : Membershi
   later : LogsLater S T
   later = turned-later S i s ch en S.logs.leadership rc
       (record {
-        start = refl; earlier = refl; greatest = omega arith; log = omega arith;
+        start = refl;
+        earlier = refl;
+        greatest = omega arith;
+        log = omega arith;
         term = (let a = higher in omega (arith, a));
         member = λ _. refl;
         loaded = λ k e. absurd (none-and-some refl e);
@@ -215,9 +213,6 @@ module _ (S : LogState) (H : LogsHold S) (h i : ℕ) (l : Letter) (w : Membershi
   reach-there : (p t : ℕ) → (p ≡ part S i → t ≡ term_of w → ⊥) → rc p t ≡ S.logs.reach p t
   reach-there p t n = put-there S.logs.reach (part S i) (term_of w) (max (S.logs.reach (part S i) (term_of w)) (known (entering (S.sites i)))) p t n
 
-  entered-there : (c t : ℕ) → (c ≡ i → t ≡ term_of w → ⊥) → en c t ≡ S.logs.entered c t
-  entered-there c t n = put-there S.logs.entered i (term_of w) (Some (entering (S.sites i))) c t n
-
   own-entered : EnteredOk T i (term_of w) (entering (S.sites i))
   own-entered = record {
     slot = slot;
@@ -231,7 +226,7 @@ module _ (S : LogState) (H : LogsHold S) (h i : ℕ) (l : Letter) (w : Membershi
         let b = behind S H i v w up view decided member above u (record { leadership = l.leadership; led = l.led; below = l.below; greatest = l.greatest }) in
         (b.0, (let a = later.reach (part S i) u in let n = b.1 in omega (arith, a, n)));
     still = λ u f below then same none. still S H i v w up view decided member above u f below
-        (sym (entered-there i u (λ _ e. let a = below in absurd (omega (arith, a, e)))) ∙ then) same none;
+        (sym (put-there S.logs.entered i (term_of w) (Some (entering (S.sites i))) i u (λ _ e. let a = below in absurd (omega (arith, a, e)))) ∙ then) same none;
     running = λ _. (
       ap (λ z. z.joining) here,
       subst (λ z. term_of w ≤ site_term z) (sym here) (omega arith),
@@ -299,7 +294,9 @@ module _ (S : LogState) (H : LogsHold S) (h i : ℕ) (l : Letter) (w : Membershi
     record {
       entered = entering (S.sites i);
       is_entered = entered-here;
-      position_is = refl; floor_is = refl; tail_is = refl;
+      position_is = refl;
+      floor_is = refl;
+      tail_is = refl;
       part_is = sym k.0;
       word = w;
       is_word = record { decided = decided; term_is = refl };
@@ -327,6 +324,6 @@ module _ (S : LogState) (H : LogsHold S) (h i : ℕ) (l : Letter) (w : Membershi
     plain = λ c. says-all NoStreamStart c (λ _ _. tt);
     holds = enters-holds;
     grown = grown-reach D i s S.logs G refl later.reach;
-    enters = enters-later S T i later;
+    enters = record { kept = later.entered; now = λ t e is. elim (later.entered_now i t e is) [ inl old ↦ inl old | inr new ↦ inr new.log ] };
     longer = omega arith;
   }

@@ -1,8 +1,7 @@
 -- A joiner takes its word, which doesn't count it: it asks its partition's leader to join.
-use Rattle.log_laws.proofs.Names.{◌≡◌, ◌<◌, Bool, true, false, List, [], ◌∷◌, ◌++◌, append-nil, refl, sym, subst, ap, ◌∙◌, ◌⊎◌, inl, inr, ◌==◌, arith, cases_eq, eqb-true, eqb-false, ℕ, ◌≤◌, filter, if◌then◌else◌, Option, Some, None, length, AllByRecursion, Membership, Actor, Agent, Site, Deployment, term_of, term_in, leader, same, Letter, Sends, Waiting, letter_in, sending, SiteState, Joining, Joiner, site_term, start_in_view, in_new_term, asks_to_join, sent, In, none-and-some, same-some, not-both, all-at, all-filter, in-cases, in-none, in-map-from, in-filter, only-one, set-here, set-there, set-both, same-true, leader-view, flat_map-append, cond_both}
+use Rattle.log_laws.proofs.Names.{◌≡◌, ◌<◌, Bool, true, false, List, [], ◌∷◌, ◌++◌, append-nil, refl, sym, subst, ap, ◌∙◌, ◌⊎◌, inl, inr, ◌==◌, arith, cases_eq, eqb-true, eqb-false, ℕ, ◌≤◌, filter, if◌then◌else◌, Option, Some, None, length, AllByRecursion, Membership, Actor, Agent, Site, Deployment, term_of, term_in, leader, same, Letter, Sends, Waiting, letter_in, sending, SiteState, Joining, Joiner, site_term, start_in_view, in_new_term, asks_to_join, sent, In, none-and-some, same-some, not-both, all-at, all-filter, in-cases, in-none, in-map-from, in-filter, only-one, set-here, set-there, set-both, same-true, leader-view, flat_map-append, cond_both, LogState, LogsHold, IsSlot, Inert, Untaken, Wordless, InWord, StreamIn, JoinerOk, SiteOk, ViewIn, SiteLetterOk, SiteWaitingFrom, SiteWaitingOk, AsksToJoin, HeldOk, CountedOk, ForeignOk, line_of, flow_of, end_of, part, site_start, term_at, between, line, flow, stream_ends_in, ask_in, ask_of, asks_in, wait_of, asks_waiting, asks_kept, asks_of_term, asked, follows, log_at}
 use Rattle.volt_wire.specs.declared.message.Msg.TheVariants as msg
-use Rattle.log_laws.specs.Histories.{LogState, LogsHold, IsSlot, Inert, Untaken, Wordless, InWord, StreamIn, JoinerOk, SiteOk, ViewIn, SiteLetterOk, SiteWaitingFrom, SiteWaitingOk, AsksToJoin, HeldOk, CountedOk, ForeignOk, line_of, flow_of, end_of, part, site_start, term_at, between, line, flow, stream_ends_in, ask_in, ask_of, asks_in, wait_of, asks_waiting, asks_kept, asks_of_term, asked, follows, log_at}
-use Rattle.log_laws.proofs.Kept.{after_site, site_popped, LogsLater, Turns, NoStreamStart, grown-same, enters-same, ask-later, same-leaderships, leaderships-later, unleds-later, AtMost, at-most-both, at-most-same, at-most-none, running-slot, took-decided, some-term, some-start, still-same, member-keeps, words-after, words-popped, site_turned, turned-later, turned-holds, fresh-keeps, said-same, entereds-later}
+use Rattle.log_laws.proofs.Kept.{after_site, site_popped, LogsLater, Turns, NoStreamStart, grown-same, enters-same, ask-later, same-leaderships, leaderships-later, unleds-later, AtMost, at-most-same, at-most-none, running-slot, took-decided, some-term, some-start, still-same, member-keeps, words-after, words-popped, site_turned, turned-later, turned-holds, fresh-keeps, said-same, entereds-later, asked_of, asks-moved, keeps-less}
 use Rattle.log_laws.proofs.Kept.Turned.{Turned}
 use Rattle.log_laws.proofs.Plain.{flat-in, asks-here, if-none, follows-leader, leader-follows, leader-copy, start-in-view, flat-none, flat-same, if-empty, none-or-some}
 use Rattle.log_laws.proofs.NewTerms.Entering.{running-ran}
@@ -168,9 +167,6 @@ module _ (S : LogState) (H : LogsHold S) (h i : ℕ) (l : Letter) (w : Membershi
 
   -- ---- what it sent says nothing but that it asks
 
-  new-line : (c a t : ℕ) → line a t (new c) ≡ []
-  new-line c a t = flat-none (line_of a t) (new c) (asks-all i D s (λ x. line_of a t x ≡ []) (leader D w (part S i)) c (λ _ _. if-empty _ _ refl))
-
   new-flow : (c a t : ℕ) → flow a t (new c) ≡ []
   new-flow c a t = flat-none (flow_of a t) (new c) (asks-all i D s (λ x. flow_of a t x ≡ []) (leader D w (part S i)) c (λ _ _. if-empty _ _ refl))
 
@@ -179,7 +175,8 @@ module _ (S : LogState) (H : LogsHold S) (h i : ℕ) (l : Letter) (w : Membershi
 
   line-there : (a c start t : ℕ) → line start t (ch (Site a) (Site c)) ≡ line start t (between S a c)
   line-there a c b t = said-same (line b t) S i ch new (mine-taken S H h i l w ls is start up out) (theirs-taken S H h i l w ls is start up out) a c
-      (flat-same (line_of b t) (between S i c) (new c) (new-line c b t))
+      (flat-same (line_of b t) (between S i c) (new c)
+      (flat-none (line_of b t) (new c) (asks-all i D s (λ x. line_of b t x ≡ []) (leader D w (part S i)) c (λ _ _. if-empty _ _ refl))))
 
   flow-there : (a c start t : ℕ) → flow start t (ch (Site a) (Site c)) ≡ flow start t (between S a c)
   flow-there a c b t = said-same (flow b t) S i ch new (mine-taken S H h i l w ls is start up out) (theirs-taken S H h i l w ls is start up out) a c
@@ -189,11 +186,8 @@ module _ (S : LogState) (H : LogsHold S) (h i : ℕ) (l : Letter) (w : Membershi
   ends-there a c b t = said-same (stream_ends_in b t) S i ch new (mine-taken S H h i l w ls is start up out) (theirs-taken S H h i l w ls is start up out) a c
       (flat-same (end_of b t) (between S i c) (new c) (new-ends c b t))
 
-  no-asks : (c t : ℕ) → asks_of_term c t s ≡ []
-  no-asks c t = if-none (site_term s == t)
-
   fewer : (c t : ℕ) → AtMost (asks_of_term c t (S.sites i)) (asks_of_term c t s)
-  fewer c t = subst (AtMost (asks_of_term c t (S.sites i))) (sym (no-asks c t)) (record { shorter = omega arith; within = λ y m. absurd m })
+  fewer c t = subst (AtMost (asks_of_term c t (S.sites i))) (sym (if-none (site_term s == t))) (record { shorter = omega arith; within = λ y m. absurd m })
 
   turns : Turned S i s ch S.logs.entered S.logs.leadership S.logs.reach new
   turns = record {
@@ -228,12 +222,8 @@ module _ (S : LogState) (H : LogsHold S) (h i : ℕ) (l : Letter) (w : Membershi
 
   -- nobody was asked but its leader
   asked-less : (c t : ℕ) → new c ≡ [] → AtMost (asked S i c t) (asked T i c t)
-  asked-less c t e = set-both (λ c z. new c ≡ [] → AtMost (asked S i c t)
-      (asks_in t (ch (Site i) (Site c)) ++ asks_waiting i t z.waiting ++ asks_waiting i t (S.pending c) ++ asks_of_term i t z)) S.sites i s
-      (λ e. rw (channel i e) (at-most-both (asks_in t (between S i i) ++ asks_waiting i t (S.sites i).waiting ++ asks_waiting i t (S.pending i))
-      (asks_in t (between S i i) ++ asks_waiting i t (S.sites i).waiting ++ asks_waiting i t (S.pending i))
-      (asks_of_term i t (S.sites i)) (asks_of_term i t s)
-      (at-most-same (asks_in t (between S i i) ++ asks_waiting i t (S.sites i).waiting ++ asks_waiting i t (S.pending i))) (fewer i t)))
+  asked-less c t e = set-both (λ c z. new c ≡ [] → AtMost (asked S i c t) (asked_of i t (ch (Site i) (Site c)) z (S.pending c))) S.sites i s
+      (λ e. rw (channel i e) (keeps-less i t (between S i i) (S.sites i) s (S.pending i) refl (fewer i t)))
       (λ c _ e. rw (channel c e) (at-most-same (asked S i c t))) c e
     where
       channel : (c : ℕ) → new c ≡ [] → ch (Site i) (Site c) ≡ between S i c
@@ -246,8 +236,7 @@ module _ (S : LogState) (H : LogsHold S) (h i : ℕ) (l : Letter) (w : Membershi
   asked-once : (c : ℕ) → leader D w (part S i) ≡ Some c → (c ≡ i → ⊥) → IsSlot S c → (S.sites i).earlier < term_of w → asked T i c (term_of w) ≡ site_start S i ∷ []
   asked-once c authoritative other sl low =
       let t = term_of w in
-      ap (λ z. asks_in t (ch (Site i) (Site c)) ++ asks_waiting i t z.waiting ++ asks_waiting i t (S.pending c) ++ asks_of_term i t z) (there c other)
-      ∙ ap (λ z. asks_in t z ++ asks_waiting i t (S.sites c).waiting ++ asks_waiting i t (S.pending c) ++ asks_of_term i t (S.sites c)) channel
+      asks-moved i t (between S i c ++ ask_letter i D s c ∷ []) (ch (Site i) (Site c)) (S.sites c) (T.sites c) (S.pending c) channel (there c other)
       ∙ ap (λ z. z ++ asks_waiting i t (S.sites c).waiting ++ asks_waiting i t (S.pending c) ++ asks_of_term i t (S.sites c))
       (flat_map-append (ask_of t) (between S i c) (ask_letter i D s c ∷ []) ∙ ap (λ z. asks_in t (between S i c) ++ (z ++ [])) (asks-here t (ask_letter i D s c) refl))
       ∙ empties (asks_in t (between S i c)) (asks_waiting i t (S.sites c).waiting) (asks_waiting i t (S.pending c)) (asks_of_term i t (S.sites c)) (none-asked c t sl low)
@@ -297,7 +286,9 @@ module _ (S : LogState) (H : LogsHold S) (h i : ℕ) (l : Letter) (w : Membershi
 
   untaken : Untaken T i w joined.0
   untaken = let k = wordless in record {
-    loads = k.loads; counts = k.counts; tasks = k.tasks;
+    loads = k.loads;
+    counts = k.counts;
+    tasks = k.tasks;
     empty = ap (λ z. z.log) here ∙ k.empty;
     floor = ap (λ z. z.floor) here ∙ k.floor;
     never = λ t x m q. k.never t x m (q ∙ own-start);
@@ -320,7 +311,8 @@ module _ (S : LogState) (H : LogsHold S) (h i : ℕ) (l : Letter) (w : Membershi
   own-joiner = let k = ok in record {
     runs = subst (λ z. 0 < z) (sym own-start) up;
     unentered = λ t e m q. k.unentered t e m (q ∙ own-start);
-    told = k.told; based = k.based;
+    told = k.told;
+    based = k.based;
     firm = ap (λ z. z.firm) here ∙ k.firm;
     view = subst (ViewIn T i joined.0) (sym (ap (λ z. z.view) here)) in_word;
   }
@@ -371,7 +363,8 @@ module _ (S : LogState) (H : LogsHold S) (h i : ℕ) (l : Letter) (w : Membershi
   -- the turn itself
   pub joins-turns : Turns (site_popped S (Agent h) i) i (sending s out)
   joins-turns = record {
-    logs = S.logs; start = refl;
+    logs = S.logs;
+    start = refl;
     plain = λ c. asks-all i D s NoStreamStart (leader D w (part S i)) c (λ _ _. tt);
     holds = joins-holds;
     grown = grown-same D i s S.logs;

@@ -1,7 +1,6 @@
 -- Reports in a new term: a leader notes one, and begins its term once it has all.
-use Rattle.log_laws.proofs.Names.{◌≡◌, ◌<◌, true, false, List, [], ◌∷◌, ◌++◌, refl, sym, subst, ap, ◌∙◌, ◌==◌, arith, and_parts, not-true, ℕ, ◌≤◌, ◌&&◌, not, length, Some, None, AllByRecursion, list_any, list_all, Entry, Membership, Agent, Site, Database, Deployment, term_of, leader, Letter, Sends, Turn, becomes, sending, ◌▸◌, SiteState, site_term, is_leader, other_copies, longest, lacks, appends_all, repair_to, repairs, works_calls, on_report, all-append, set-both, then-assoc, prefix-append, prefix-length, repair-all, Appended, appends-all, leader-view, leader-same, cond_both}
-use Rattle.log_laws.specs.Histories.{LogState, LogsHold, ReportOk, part, site_start, log_at, term_at, between, asked, asks_in, asks_waiting, asks_of_term}
-use Rattle.log_laws.proofs.Kept.{after_site, LogsGo, NoStreamStart, enters-same, AtMost, at-most-same, goes-then, goes-same, becomes-goes, channels-same, noted-same, notes-same}
+use Rattle.log_laws.proofs.Names.{◌≡◌, ◌<◌, true, false, List, [], ◌∷◌, ◌++◌, refl, sym, subst, ap, ◌∙◌, ◌==◌, arith, and_parts, not-true, ℕ, ◌≤◌, ◌&&◌, not, length, Some, None, AllByRecursion, list_any, list_all, Entry, Membership, Agent, Site, Database, Deployment, term_of, leader, Letter, Sends, Turn, becomes, sending, ◌▸◌, SiteState, site_term, is_leader, other_copies, longest, lacks, appends_all, repair_to, repairs, works_calls, on_report, all-append, set-both, then-assoc, prefix-append, prefix-length, repair-all, Appended, appends-all, leader-view, leader-same, cond_both, LogState, LogsHold, ReportOk, part, site_start, log_at, term_at, between, asked}
+use Rattle.log_laws.proofs.Kept.{after_site, LogsGo, NoStreamStart, enters-same, AtMost, at-most-same, goes-then, goes-same, becomes-goes, channels-same, noted-same, notes-same, asked_of}
 use Rattle.log_laws.proofs.Kept.Moves.{Grown}
 use Rattle.log_laws.proofs.Plain.{is-leader}
 use Rattle.log_laws.proofs.Entries.Calls.{works-goes}
@@ -65,9 +64,9 @@ module _ (E : Database) (S : LogState) (i stamp : ℕ) (H : LogsHold S) (up : 0 
   pub repairs-goes : LogsGo S i (repairs E S.words.deployment i stamp (S.sites i))
   repairs-goes = cond_both (list_all (λ c. list_any (λ r. r.slot == c) (S.sites i).reports) (other_copies S.words.deployment i (S.sites i))) _ _ (LogsGo S i)
       (λ e. subst (LogsGo S i) (then-assoc first (begins D) (works_calls E D i stamp))
-          (goes-then S i (first ▸ begins D) (works_calls E D i stamp) (begins-goes e) (λ T site same _ h.
-          subst (λ z. LogsGo T i (works_calls E D i stamp z)) site (subst (λ z. LogsGo T i (works_calls E z i stamp (T.sites i))) same
-          (works-goes E T i stamp h (subst (λ z. 0 < z) (sym (ap (λ z. z.start) site ∙ (begins-goes e).start)) up))))))
+      (goes-then S i (first ▸ begins D) (works_calls E D i stamp) (begins-goes e) (λ T site same _ h.
+      subst (λ z. LogsGo T i (works_calls E D i stamp z)) site (subst (λ z. LogsGo T i (works_calls E z i stamp (T.sites i))) same
+      (works-goes E T i stamp h (subst (λ z. 0 < z) (sym (ap (λ z. z.start) site ∙ (begins-goes e).start)) up))))))
       (λ e. goes-same S i H)
     where
       D : Deployment
@@ -83,11 +82,11 @@ pub on_report-goes : (E : Database) (S : LogState) → LogsHold S → (i stamp s
     → ReportOk S (part S i) slot (term_at S i) position floor tail → LogsGo S i (on_report E S.words.deployment i stamp (S.sites i) slot position floor tail)
 on_report-goes E S H i stamp slot position floor tail up ok = cond_both (is_leader D i (S.sites i) && not (S.sites i).repaired) _ _ (LogsGo S i)
     (λ e. let p = and_parts (is_leader D i (S.sites i)) (not (S.sites i).repaired) e in
-        goes-then S i (becomes more) (repairs E D i stamp) noted (λ T site same _ h.
-        subst (λ z. LogsGo T i (repairs E D i stamp z)) site (subst (λ z. LogsGo T i (repairs E z i stamp (T.sites i))) same
-        (repairs-goes E T i stamp h (subst (λ z. 0 < z) (sym (ap (λ z. z.start) site)) up)
-        (ap (λ z. is_leader z i (T.sites i)) same ∙ ap (is_leader D i) site ∙ leader-same D i (S.sites i) more refl refl ∙ p.0)
-        (ap (λ z. z.repaired) site ∙ not-true (S.sites i).repaired p.1)))))
+    goes-then S i (becomes more) (repairs E D i stamp) noted (λ T site same _ h.
+    subst (λ z. LogsGo T i (repairs E D i stamp z)) site (subst (λ z. LogsGo T i (repairs E z i stamp (T.sites i))) same
+    (repairs-goes E T i stamp h (subst (λ z. 0 < z) (sym (ap (λ z. z.start) site)) up)
+    (ap (λ z. is_leader z i (T.sites i)) same ∙ ap (is_leader D i) site ∙ leader-same D i (S.sites i) more refl refl ∙ p.0)
+    (ap (λ z. z.repaired) site ∙ not-true (S.sites i).repaired p.1)))))
     (λ e. goes-same S i H)
   where
     D : Deployment
@@ -99,10 +98,12 @@ on_report-goes E S H i stamp slot position floor tail up ok = cond_both (is_lead
     noted : LogsGo S i (becomes more)
     noted = let o = notes-same S H i in becomes-goes S i more S.logs.streamed refl refl (omega arith) (noted-same S i more S.words.channel H refl (channels-same S H)
         (record {
-          waiting = o.waiting; asks = o.asks;
+          waiting = o.waiting;
+          asks = o.asks;
           reports = λ _. all-append (λ r. ReportOk S (part S i) r.slot (term_at S i) r.position r.floor r.tail) (S.sites i).reports
               (record { slot = slot; position = position; floor = floor; tail = tail } ∷ []) (o.reports up) (ok, tt);
-          pending = o.pending; none = o.none;
+          pending = o.pending;
+          none = o.none;
         })
-        (λ c l t. set-both (λ l z. AtMost (asked S c l t) (asks_in t (between S c l) ++ asks_waiting c t z.waiting ++ asks_waiting c t (S.pending l) ++ asks_of_term c t z)) S.sites i more
+        (λ c l t. set-both (λ l z. AtMost (asked S c l t) (asked_of c t (between S c l) z (S.pending l))) S.sites i more
         (at-most-same (asked S c i t)) (λ l _. at-most-same (asked S c l t)) l))

@@ -1,6 +1,5 @@
 -- What was everywhere in a term that was led is in each log with which a slot entered a later one.
-use Rattle.log_laws.proofs.Names.{◌≡◌, ◌+◌, ◌<◌, ◌≤◌, zero, suc, length, refl, sym, subst, ap, ◌∙◌, ◌⊎◌, inl, inr, arith, cases_eq, ℕ, Some, None, Membership, term_of, start_of_slot, In, none-and-some, same-some}
-use Rattle.log_laws.specs.Histories.{LogState, LogsHold, Entered, Streaming, Leadership, WordOf, WasIn, Last, Came, LeadershipOk, IsSlot, epoch_base, part, site_start, log_at}
+use Rattle.log_laws.proofs.Names.{◌≡◌, ◌+◌, ◌<◌, ◌≤◌, zero, suc, length, refl, sym, subst, ap, ◌∙◌, ◌⊎◌, inl, inr, arith, cases_eq, ℕ, Some, None, Membership, term_of, start_of_slot, In, none-and-some, same-some, LogState, LogsHold, Entered, Streaming, Leadership, WordOf, WasIn, Last, Came, LeadershipOk, IsSlot, epoch_base, part, site_start, log_at}
 use Rattle.log_laws.proofs.Kept.{base-least, named-first, member-or-joined, running-in, last-below}
 
 module _ (S : LogState) (H : LogsHold S) where

@@ -1,7 +1,6 @@
 -- A site takes the first word that is under way to it: its channels after that, and what is left of its words.
-use Rattle.log_laws.proofs.Names.{◌≡◌, ◌+◌, ◌<◌, false, List, [], ◌∷◌, ◌++◌, append-nil, refl, sym, subst, ap, ◌∙◌, inl, inr, ◌==◌, arith, nat_tests, ℕ, ◌≤◌, ◌&&◌, Option, Some, None, AllByRecursion, Membership, Actor, Agent, Site, term_of, term_in, host_of_slot, start_of_slot, Letter, Sends, AgentState, SiteState, sent, rest, starts_in, In, if-true, if-false, and-false, all-at, all-from, all-append, all-mono, eqb-same, set-here, took-all, cond_both}
+use Rattle.log_laws.proofs.Names.{◌≡◌, ◌+◌, ◌<◌, false, List, [], ◌∷◌, ◌++◌, append-nil, refl, sym, subst, ap, ◌∙◌, inl, inr, ◌==◌, arith, nat_tests, ℕ, ◌≤◌, ◌&&◌, Option, Some, None, AllByRecursion, Membership, Actor, Agent, Site, term_of, term_in, host_of_slot, start_of_slot, Letter, Sends, AgentState, SiteState, sent, rest, starts_in, In, if-true, if-false, and-false, all-at, all-from, all-append, all-mono, eqb-same, set-here, took-all, cond_both, PlainView, LogState, Logs, LogsHold, ViewsOk, MemberViews, FirstViews, RunViews, Starting, ForeignOk, site_start, term_at, agent_to_site, between, views, IsSlot, MeantFor, SiteLetterOk, is_for, line_of, flow_of, end_of, line, flow, stream_ends_in, sent_term, end_in, flow_in, line_in}
 use Rattle.volt_wire.specs.declared.message.Msg.TheVariants as msg
-use Rattle.log_laws.specs.Histories.{PlainView, LogState, Logs, LogsHold, ViewsOk, MemberViews, FirstViews, RunViews, Starting, ForeignOk, site_start, term_at, agent_to_site, between, views, IsSlot, MeantFor, SiteLetterOk, is_for, line_of, flow_of, end_of, line, flow, stream_ends_in, sent_term, end_in, flow_in, line_in}
 use Rattle.log_laws.proofs.Kept.{after_site, site_popped, LogsLater, LeavesViews, leaves-first, member_views-later, first_views-later}
 use Rattle.log_laws.proofs.Plain.{views-here, if-none, flat-none, for-other, one-and-others}
 

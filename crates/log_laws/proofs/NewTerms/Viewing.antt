@@ -1,7 +1,6 @@
 -- The turn of a site that takes a word.
-use Rattle.log_laws.proofs.Names.{◌≡◌, ◌<◌, Bool, true, false, List, [], ◌∷◌, refl, sym, subst, ap, ◌∙◌, ◌⊎◌, inl, inr, ◌==◌, cases_Bool, eqb-true, and_from, not_from_false, not_from_true, ℕ, ◌&&◌, not, if◌then◌else◌, Option, Some, None, Membership, Agent, Site, Database, Deployment, host_of_slot, leader, is_member, Letter, no_sends, becomes, SiteState, Joining, is_joiner, is_leader, as_member, reports_to, repairs, on_view, none-and-some, not-both, and-false, if-true, if-false, is_member-start, start-is_member, a-joiner, cond_both}
+use Rattle.log_laws.proofs.Names.{◌≡◌, ◌<◌, Bool, true, false, List, [], ◌∷◌, refl, sym, subst, ap, ◌∙◌, ◌⊎◌, inl, inr, ◌==◌, cases_Bool, eqb-true, and_from, not_from_false, not_from_true, ℕ, ◌&&◌, not, if◌then◌else◌, Option, Some, None, Membership, Agent, Site, Database, Deployment, host_of_slot, leader, is_member, Letter, no_sends, becomes, SiteState, Joining, is_joiner, is_leader, as_member, reports_to, repairs, on_view, none-and-some, not-both, and-false, if-true, if-false, is_member-start, start-is_member, a-joiner, cond_both, LogState, LogsHold, part, site_start, agent_to_site}
 use Rattle.volt_wire.specs.declared.message.Msg.TheVariants as msg
-use Rattle.log_laws.specs.Histories.{LogState, LogsHold, part, site_start, agent_to_site}
 use Rattle.log_laws.proofs.Kept.{site_popped, Turns, LogsGo, took-unnamed, turns-then-goes}
 use Rattle.log_laws.proofs.Plain.{leader-is, none-or-some}
 use Rattle.log_laws.proofs.NewTerms.Reports.{repairs-goes}
@@ -53,14 +52,14 @@ module _ (E : Database) (S : LogState) (stamp : ℕ) (H : LogsHold S) (h i : ℕ
   member-turns : (v : Membership) → (S.sites i).view ≡ Some v → Turns (site_popped S (Agent h) i) i (as_member E D i stamp (entered_site (S.sites i) w))
   member-turns v view = cond_both (is_leader D i (entered_site (S.sites i) w)) _ _ (Turns (site_popped S (Agent h) i) i)
       (λ e. turns-then-goes (site_popped S (Agent h) i) i (becomes (entered_site (S.sites i) w)) (repairs E D i stamp)
-          (enters-turns S H h i l w ls is start up v view no_sends (says-nothing D i (part S i) (S.sites i) w))
-          (λ T site same _ k. subst (λ z. LogsGo T i (repairs E D i stamp z)) site (subst (λ z. LogsGo T i (repairs E z i stamp (T.sites i))) same
-          (repairs-goes E T i stamp k (subst (λ z. 0 < z) (sym (ap (λ z. z.start) site)) up)
-          (ap (λ z. is_leader z i (T.sites i)) same ∙ ap (is_leader D i) site ∙ e)
-          (ap (λ z. z.repaired) site)))))
+      (enters-turns S H h i l w ls is start up v view no_sends (says-nothing D i (part S i) (S.sites i) w))
+      (λ T site same _ k. subst (λ z. LogsGo T i (repairs E D i stamp z)) site (subst (λ z. LogsGo T i (repairs E z i stamp (T.sites i))) same
+      (repairs-goes E T i stamp k (subst (λ z. 0 < z) (sym (ap (λ z. z.start) site)) up)
+      (ap (λ z. is_leader z i (T.sites i)) same ∙ ap (is_leader D i) site ∙ e)
+      (ap (λ z. z.repaired) site)))))
       (λ e. enters-turns S H h i l w ls is start up v view (reports_to D (entered_site (S.sites i) w) (leader D w (part S i)))
-          (reports D i (part S i) (S.sites i) w (λ q. not-both (is_leader D i (entered_site (S.sites i) w))
-          (leader-is D i (entered_site (S.sites i) w) w refl refl q) e)))
+      (reports D i (part S i) (S.sites i) w (λ q. not-both (is_leader D i (entered_site (S.sites i) w))
+      (leader-is D i (entered_site (S.sites i) w) w refl refl q) e)))
 
   -- A joiner takes its first word, and asks to join. With a word, the next one counts the site: it is a member from then on.
   pub view-turns : Turns (site_popped S (Agent h) i) i (on_view E S.words.deployment i stamp (S.sites i) w)

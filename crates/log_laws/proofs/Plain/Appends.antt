@@ -1,6 +1,5 @@
 -- What an entry that a leader passes on comes to, for the copies and the joiners to which it goes.
-use Rattle.log_laws.proofs.Names.{◌≡◌, true, [], ◌∷◌, ◌++◌, refl, subst, ap, ◌∙◌, ℕ, map, AllByRecursion, Entry, Site, Deployment, is_in, Letter, Sends, SiteState, Joiner, site_term, start_in_view, other_copies, put_to, tasks_to, In, Distinct, all-append, all-at, all-from, only-one, Passed, put_letter, put-all, task_letter, tasks-all, flat_map-append}
-use Rattle.log_laws.specs.Histories.{Puts, Flow, Follows, is_for, line_of, line, flow_of, flow, end_of, stream_ends_in, flow_in, line_in}
+use Rattle.log_laws.proofs.Names.{◌≡◌, true, [], ◌∷◌, ◌++◌, refl, subst, ap, ◌∙◌, ℕ, map, AllByRecursion, Entry, Site, Deployment, is_in, Letter, Sends, SiteState, Joiner, site_term, start_in_view, other_copies, put_to, tasks_to, In, Distinct, all-append, all-at, all-from, only-one, Passed, put_letter, put-all, task_letter, tasks-all, flat_map-append, Puts, Flow, Follows, is_for, line_of, line, flow_of, flow, end_of, stream_ends_in, flow_in, line_in}
 use Rattle.log_laws.proofs.Plain.Lines.{flat-in, put-line, put-flow, tasks-line, tasks-flow, flat-none, flat-same, for-other, if-empty, if-none}
 
 module _ (D : Deployment) (i : ℕ) (e : Entry) (s : SiteState) (out : Sends) (k : Passed D i e s out) (c : ℕ) where

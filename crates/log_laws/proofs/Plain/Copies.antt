@@ -1,7 +1,6 @@
 -- Copies of a partition by a word, and who leads them.
-use Rattle.log_laws.proofs.Names.{◌≡◌, ◌+◌, ◌<◌, ◌≤◌, zero, suc, true, false, List, [], ◌∷◌, refl, sym, subst, ap, ◌∙◌, ◌⊎◌, inl, inr, ◌==◌, true≢false, arith, cases_eq, and_parts, and_from, not-true, not_from_true, not_from_false, eqb-true, eq-eqb, false_from_ne_true, ℕ, ◌||◌, not, map, option_map, unwrap_or, is_some, Option, Some, None, list_any, range_with_len, cons_option, Membership, slot_of, part_of, host_of, slots_of_part, start_in, ordered_copies, same_copies, Deployment, part_of_slot, is_in, members, start_of_slot, copies, leader, first_of, is_some_of, SiteState, is_joiner, leader_in, start_in_view, copies_in, is_leader, other_copies, In, eqb-same, same-some, in-filter, filter-in, list_any-in, list_any-from, is_some_of-is, first-in, not-joiner}
+use Rattle.log_laws.proofs.Names.{◌≡◌, ◌+◌, ◌<◌, ◌≤◌, zero, suc, true, false, List, [], ◌∷◌, refl, sym, subst, ap, ◌∙◌, ◌⊎◌, inl, inr, ◌==◌, true≢false, arith, cases_eq, and_parts, and_from, not-true, not_from_true, not_from_false, eqb-true, eq-eqb, false_from_ne_true, ℕ, ◌||◌, not, map, option_map, unwrap_or, is_some, Option, Some, None, list_any, range_with_len, cons_option, Membership, slot_of, part_of, host_of, slots_of_part, start_in, ordered_copies, same_copies, Deployment, part_of_slot, is_in, members, start_of_slot, copies, leader, first_of, is_some_of, SiteState, is_joiner, leader_in, start_in_view, copies_in, is_leader, other_copies, In, eqb-same, same-some, in-filter, filter-in, list_any-in, list_any-from, is_some_of-is, first-in, not-joiner, follows, between}
 use Rattle.partition_ring.specs.Placement.{standing}
-use Rattle.log_laws.specs.Histories.{follows, between}
 
 -- ---- numbers in lists
 

@@ -1,7 +1,6 @@
 -- What is under way: items of lists of letters, of letters in the order in which a site sends them, and of what a site sends.
-use Rattle.log_laws.proofs.Names.{◌≡◌, Bool, true, false, List, [], ◌∷◌, ◌++◌, append-nil, refl, sym, subst, ap, ◌∙◌, inl, inr, ◌==◌, true≢false, and_parts, and_from, eqb-true, eq-eqb, false_from_ne_true, map-append, flat_map-append, filter-append, ℕ, if◌then◌else◌, map, filter, flat_map, drop, AllByRecursion, Entry, Deployment, is_in, Letter, SiteState, Reported, Joiner, Ask, site_term, start_in_view, order_of, of_order, put_to, tasks_to, repair_to, stream_ends_to, is_sent, In, Distinct, if-true, if-false, in-left, in-right, in-cases, in-filter, all-from, all-mono, in-none, in-map, in_order, put_letter, put-all, task_letter, tasks-all, repair_letter, repair-cases, repair-all, end_letter, stream_ends-all, cases_eq, cond_both, None, Option, Some, ◌⊎◌}
+use Rattle.log_laws.proofs.Names.{◌≡◌, Bool, true, false, List, [], ◌∷◌, ◌++◌, append-nil, refl, sym, subst, ap, ◌∙◌, inl, inr, ◌==◌, true≢false, and_parts, and_from, eqb-true, eq-eqb, false_from_ne_true, map-append, flat_map-append, filter-append, ℕ, if◌then◌else◌, map, filter, flat_map, drop, AllByRecursion, Entry, Deployment, is_in, Letter, SiteState, Reported, Joiner, Ask, site_term, start_in_view, order_of, of_order, put_to, tasks_to, repair_to, stream_ends_to, is_sent, In, Distinct, if-true, if-false, in-left, in-right, in-cases, in-filter, all-from, all-mono, in-none, in-map, in_order, put_letter, put-all, task_letter, tasks-all, repair_letter, repair-cases, repair-all, end_letter, stream_ends-all, cases_eq, cond_both, None, Option, Some, ◌⊎◌, Line, Repairs, Puts, Flow, Begins, Follows, is_for, line_in, line_of, line, flow_in, flow_of, flow, end_in, end_of, stream_ends_in, ask_in, ask_of, asks_in, asks_kept, view_in, view_of}
 use Rattle.volt_wire.specs.declared.message.Msg.TheVariants as msg
-use Rattle.log_laws.specs.Histories.{Line, Repairs, Puts, Flow, Begins, Follows, is_for, line_in, line_of, line, flow_in, flow_of, flow, end_in, end_of, stream_ends_in, ask_in, ask_of, asks_in, asks_kept, view_in, view_of}
 use Rattle.log_laws.proofs.Kept.Moves.{NoStreamStart}
 
 -- ---- one number, and others

@@ -1,6 +1,5 @@
 -- What was everywhere in a term that was led is a prefix of the log of each later one.
-use Rattle.log_laws.proofs.Names.{◌≡◌, ◌+◌, ◌<◌, ◌≤◌, zero, suc, List, length, take, sym, subst, ap, ◌∙◌, inl, inr, arith, cases_eq, ℕ, Some, Entry, same-some, Prefix, prefix-trans, prefixes-order, prefix-take, take-short}
-use Rattle.log_laws.specs.Histories.{LogState, LogsHold, Entered, Leadership, EnteredOk, Last, IsSlot, known, epoch_base, part, between}
+use Rattle.log_laws.proofs.Names.{◌≡◌, ◌+◌, ◌<◌, ◌≤◌, zero, suc, List, length, take, sym, subst, ap, ◌∙◌, inl, inr, arith, cases_eq, ℕ, Some, Entry, same-some, Prefix, prefix-trans, prefixes-order, prefix-take, take-short, LogState, LogsHold, Entered, Leadership, EnteredOk, Last, IsSlot, known, epoch_base, part, between}
 use Rattle.log_laws.proofs.Kept.{base-least, last-below}
 
 module _ (S : LogState) (H : LogsHold S) (p v : ℕ) (g : Leadership) (led : S.logs.leadership p v ≡ Some g) where

@@ -1,10 +1,8 @@
 -- How an epoch begins: all holds of logs in the first world, and once a recovery has worked.
-use Rattle.log_laws.proofs.Names.{◌≡◌, ◌+◌, ◌<◌, ◌≤◌, Bool, true, false, List, [], ◌∷◌, append-nil, refl, sym, subst, ap, ◌∙◌, inl, inr, ◌==◌, arith, zero, suc, and_parts, and_from, cases_Bool, eq-eqb, eqb-true, false≢true, nat_tests, mod_below, ℕ, ◌*◌, ◌&&◌, not, nat_lt, if◌then◌else◌, length, map, Some, None, AllByRecursion, Entry, Membership, Actor, Director, Client, Agent, Site, Database, Deployment, slots, parts, part_of_slot, host_of_slot, is_host, is_in, term_of, copies, start_of_slot, Letter, AgentState, new_agent, starts_in, SiteState, site_term, is_joiner, is_member_site, no_site, stopped_site, member_site, World, Input, first_world, new_word, greatest_done, first_initiating, member_agent, start_from, is_of_host, new_channels, new_base, new_log, starts_anew, In, eqb-same, if-true, if-false, none-and-some, same-some, in-one, in-map-from, all-from, epoch_state, new_history, new_owner, boot-holds, recovery-holds, start_of-first, first-there}
+use Rattle.log_laws.proofs.Names.{◌≡◌, ◌+◌, ◌<◌, ◌≤◌, Bool, true, false, List, [], ◌∷◌, append-nil, refl, sym, subst, ap, ◌∙◌, inl, inr, ◌==◌, arith, zero, suc, and_parts, and_from, cases_Bool, eq-eqb, eqb-true, false≢true, nat_tests, mod_below, ℕ, ◌*◌, ◌&&◌, not, nat_lt, if◌then◌else◌, length, map, Some, None, AllByRecursion, Entry, Membership, Actor, Director, Client, Agent, Site, Database, Deployment, slots, parts, part_of_slot, host_of_slot, is_host, is_in, term_of, copies, start_of_slot, Letter, AgentState, new_agent, starts_in, SiteState, site_term, is_joiner, is_member_site, no_site, stopped_site, member_site, World, Input, first_world, new_word, greatest_done, first_initiating, member_agent, start_from, is_of_host, new_channels, new_base, new_log, starts_anew, In, eqb-same, if-true, if-false, none-and-some, same-some, in-one, in-map-from, all-from, epoch_state, new_history, new_owner, boot-holds, recovery-holds, start_of-first, first-there, Entered, Streaming, Leadership, Logs, LogState, IsSlot, HasBeen, AckOk, EnteredOk, LeadershipOk, LeadsIn, FollowsIn, MemberOk, KeepsOk, SiteOk, ViewsOk, LoadsOk, ForeignOk, LogsHold, part, site_start, log_at, term_at, agent_to_site, between, line, views, sent_term, asked, log_state, AuthoritativeOk, HasLogs}
 use Rattle.volt_wire.specs.declared.message.Msg.TheVariants as msg
 use Rattle.word_laws.specs.Histories as word
-use Rattle.log_laws.specs.Histories.{Entered, Streaming, Leadership, Logs, LogState, IsSlot, HasBeen, AckOk, EnteredOk, LeadershipOk, LeadsIn, FollowsIn, MemberOk, KeepsOk, SiteOk, ViewsOk, LoadsOk, ForeignOk, LogsHold, part, site_start, log_at, term_at, agent_to_site, between, line, views, sent_term, asked}
 use Rattle.log_laws.proofs.Plain.{in-is_in, copy-member, none-or-some}
-use Rattle.log_laws.specs.Copies.{log_state, AuthoritativeOk, HasLogs}
 
 -- ---- the history with which an epoch begins
 
@@ -258,7 +256,8 @@ module _ (D : Deployment) (base start number next : ℕ) (agents : ℕ → Agent
   site-ok c false q = let r = k.others c q in record {
     environment = λ e. r.start;
     ran = λ up. absurd (omega (arith, up, r.start));
-    term = r.term; earlier = r.earlier;
+    term = r.term;
+    earlier = r.earlier;
     member = λ up. absurd (omega (arith, up, r.start));
     joiner = λ j e. absurd (none-and-some r.joining e);
     keeps = λ up. absurd (omega (arith, up, r.start));
@@ -454,7 +453,10 @@ first-logs E I positive =
         environment = λ h e. if-false (is_host D h) (member_agent (new_word D I.base 1) number 1 h) (new_agent 0) e;
         members = sites-begin D I.base 1 (λ p. []) before before;
         others = λ c q. sites-rest D I.base 1 (λ p. []) before before c q (record { start = refl; term = omega arith; earlier = omega arith; joining = refl; view = refl; waiting = refl; asks = refl; joiners = refl });
-        agreed = λ h g. refl; inert = λ from e c. refl; told = λ c h. refl; foreign = λ from e c. tt;
+        agreed = λ h g. refl;
+        inert = λ from e c. refl;
+        told = λ c h. refl;
+        foreign = λ from e c. tt;
       });
       strangers = λ h e. if-false (is_host D h) (member_agent (new_word D I.base 1) number 1 h) (new_agent 0) e;
       authoritative = first-authoritative D I.base 1 (λ p. []);
@@ -481,7 +483,8 @@ emptied D start channel from e c = rw e
 stranger-rests : (S : LogState) → LogsHold S → (c : ℕ) → nat_lt c (slots S.words.deployment) ≡ false → Rests (S.sites c)
 stranger-rests S H c q = let kept = (H.sites c).stopped ((H.sites c).environment q) in record {
   start = (H.sites c).environment q;
-  term = (H.sites c).term; earlier = (H.sites c).earlier;
+  term = (H.sites c).term;
+  earlier = (H.sites c).earlier;
   joining = elim (none-or-some (S.sites c).joining) [ inl e ↦ e | inr (j, e) ↦ absurd (omega (arith, ((H.sites c).joiner j e).runs, (H.sites c).environment q)) ];
   view = (H.sites c).blank ((H.sites c).environment q);
   waiting = kept.0;

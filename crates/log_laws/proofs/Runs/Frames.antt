@@ -1,9 +1,8 @@
 -- What the law of logs doesn't look at may be another: the disks' contents, the next start, and what others than sites and agents
 -- have sent.
-use Rattle.log_laws.proofs.Names.{◌≡◌, false, List, refl, sym, subst, ◌∙◌, true≢false, fun_ext, ℕ, AllByRecursion, Actor, Director, Client, Agent, Site, Scanner, Shown, same, Letter, Queued, Job_, Admission, In, Admitted, all-mono, eqb-same, grows-same}
+use Rattle.log_laws.proofs.Names.{◌≡◌, false, List, refl, sym, subst, ◌∙◌, true≢false, fun_ext, ℕ, AllByRecursion, Actor, Director, Client, Agent, Site, Scanner, Shown, same, Letter, Queued, Job_, Admission, In, Admitted, all-mono, eqb-same, grows-same, LogState, views, ViewsOk, ForeignOk, AllLoaded, AskedOk, QueuedLoadedOk, LogsHold, site_start, agent_to_site, between}
 use Rattle.volt_wire.specs.declared.message.Msg.TheVariants as msg
 use Rattle.word_laws.specs.Histories as word
-use Rattle.log_laws.specs.Histories.{LogState, views, ViewsOk, ForeignOk, AllLoaded, AskedOk, QueuedLoadedOk, LogsHold, site_start, agent_to_site, between}
 use Rattle.log_laws.proofs.Agents.Words.{sites-hold, sites-kept}
 use Rattle.log_laws.proofs.Runs.Boots.{NoStart}
 use Rattle.log_laws.proofs.Kept.{first_views-later, run_views-later}
@@ -28,10 +27,12 @@ module _ (S : LogState) (next : ℕ) (owner : ℕ → ℕ) (channel : Actor → 
 
   views-ok : (c : ℕ) → ViewsOk S c → ViewsOk T c
   views-ok c k = record {
-    plain = k.plain; began = k.began;
+    plain = k.plain;
+    began = k.began;
     running = λ up. run_views-later S T refl (λ w i. i) (λ a w e. e) c (S.sites c).view (views (site_start S c) (agent_to_site S c)) refl (k.running up);
     starting = λ s i. let x = k.starting s i in (x.0, x.1, first_views-later S T refl (λ w i. i) (λ a w e. e) c s (views s (agent_to_site S c)) x.2);
-    wordless = k.wordless; below = k.below;
+    wordless = k.wordless;
+    below = k.below;
   }
 
   queued : (q : Queued) → QueuedLoadedOk S q → QueuedLoadedOk T q
@@ -55,12 +56,19 @@ module _ (S : LogState) (next : ℕ) (owner : ℕ → ℕ) (channel : Actor → 
         letters = k.letters;
         foreign = foreign;
         loads = record {
-          told = H.loads.told; heard = H.loads.heard; asked = H.loads.asked;
+          told = H.loads.told;
+          heard = H.loads.heard;
+          asked = H.loads.asked;
           waiting = λ h. all-mono _ _ (λ x p. asked x.from x.letter p) (S.words.agents h).waiting (H.loads.waiting h);
           queued = λ h. all-mono (QueuedLoadedOk S) (QueuedLoadedOk T) queued (S.words.agents h).initiating.queue (H.loads.queued h);
           admitted = λ x i. subst (λ h. AllLoaded S h x.start) (sym (owned x i)) (H.loads.admitted x i);
         };
-        entered = k.entered; streamed = k.streamed; leaderships = k.leaderships; unled = k.unled; some = k.some; first = k.first;
+        entered = k.entered;
+        streamed = k.streamed;
+        leaderships = k.leaderships;
+        unled = k.unled;
+        some = k.some;
+        first = k.first;
       }
 
 -- ---- in general

@@ -1,7 +1,5 @@
 -- What is firm in the authoritative log of a partition is never lost, and all that a leader counts firm is firm in it.
-use Rattle.log_laws.proofs.Names.{◌≡◌, ◌<◌, ◌≤◌, length, take, refl, sym, subst, ap, ◌∙◌, inl, inr, arith, cases_eq, and_parts, nat_tests, ℕ, nat_lt, not, Some, Database, term_of, term_in, is_joiner, World, Input, AuthoritativeLog, Reached, RunsInEpoch, same-some, Prefix, prefix-trans, prefix-length, prefix-take, take-prefix, take-grown, take-of-prefix}
-use Rattle.log_laws.specs.Histories.{LogState, Leadership, LogsHold, part, term_at}
-use Rattle.log_laws.specs.Copies.{Leads, LeadsNext, AuthoritativeOk, KeepsFirm, IsInAuthoritative, HasLogs, log_state, log_of, authoritative_for}
+use Rattle.log_laws.proofs.Names.{◌≡◌, ◌<◌, ◌≤◌, length, take, refl, sym, subst, ap, ◌∙◌, inl, inr, arith, cases_eq, and_parts, nat_tests, ℕ, nat_lt, not, Some, Database, term_of, term_in, is_joiner, World, Input, AuthoritativeLog, Reached, RunsInEpoch, same-some, Prefix, prefix-trans, prefix-length, prefix-take, take-prefix, take-grown, take-of-prefix, LogState, Leadership, LogsHold, part, term_at, Leads, LeadsNext, AuthoritativeOk, KeepsFirm, IsInAuthoritative, HasLogs, log_state, log_of, authoritative_for}
 use Rattle.log_laws.proofs.Runs.Agreeing.{agrees-begun}
 use Rattle.log_laws.proofs.Kept.{Onward}
 use Rattle.log_laws.proofs.Runs.Leading.{AuthoritativeRises}

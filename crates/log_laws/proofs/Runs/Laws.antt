@@ -1,9 +1,8 @@
 -- The laws of logs, from what holds of a history.
-use Rattle.log_laws.proofs.Names.{◌≡◌, ◌<◌, ◌≤◌, true, false, List, ◌++◌, append_assoc, refl, sym, subst, ap, ◌∙◌, ◌⊎◌, inl, inr, arith, and_parts, nat_tests, ℕ, not, nat_lt, length, Option, Some, None, Membership, term_of, term_in, SiteState, Joining, Streamed, is_joiner, is_member_site, leads, World, not-both, same-some, none-and-some, Prefix, leads-parts, prefix-same, prefix-trans, prefixes-compare}
-use Rattle.log_laws.specs.Histories.{Logs, LogState, Line, line, between, Leadership, Last, FollowsIn, LeadsIn, MemberOk, StreamIn, ViewIn, Took, LogsHold, part, site_start, log_at, term_at, epoch_base}
+use Rattle.log_laws.proofs.Names.{◌≡◌, ◌<◌, ◌≤◌, true, false, List, ◌++◌, append_assoc, refl, sym, subst, ap, ◌∙◌, ◌⊎◌, inl, inr, arith, and_parts, nat_tests, ℕ, not, nat_lt, length, Option, Some, None, Membership, term_of, term_in, SiteState, Joining, Streamed, is_joiner, is_member_site, leads, World, not-both, same-some, none-and-some, Prefix, leads-parts, prefix-same, prefix-trans, prefixes-compare, Logs, LogState, Line, line, between, Leadership, Last, FollowsIn, LeadsIn, MemberOk, StreamIn, ViewIn, Took, LogsHold, part, site_start, log_at, term_at, epoch_base, OfOneTerm, AreCopies, Leads, HasLoaded, HasLogs, log_state}
+use Rattle.log_laws.specs.Copies.{Follows}
 use Rattle.log_laws.proofs.Plain.{leads-or-follows, is-leader, none-or-some}
 use Rattle.log_laws.proofs.Kept.{base-least, leadership-entered, last-below, running-slot}
-use Rattle.log_laws.specs.Copies.{OfOneTerm, AreCopies, Leads, HasLoaded, Follows, HasLogs, log_state}
 
 -- ---- sites
 
@@ -65,7 +64,7 @@ module _ (S : LogState) (H : LogsHold S) where
   copies-meet : (c d : ℕ) (w v : Membership) → 0 < site_start S c → 0 < site_start S d → MemberOk S c w → MemberOk S d v → part S c ≡ part S d → term_of w ≡ term_of v
       → Prefix (log_at S c) (log_at S d) ⊎ Prefix (log_at S d) (log_at S c)
   copies-meet c d w v up ud m n p t = elim (none-or-some (S.logs.leadership (part S c) (term_of w))) [
-    | inl e ↦ 
+    | inl e ↦
         let l = last-before c w m e in
         prefixes-compare (log_at S c) (log_at S d) l.1.leadership.log
         (copy-entered c w l.0 m e l.1)
@@ -171,7 +170,7 @@ module _ (w : World) (k : HasLogs w) where
       let q = runs-member (S.sites d) a.second in
       let m = (k.holds.sites c).member r.0 r.1 in
       let n = (k.holds.sites d).member q.0 q.1 in
-      (search (r.0, q.0, m.0, n.0, m.2, n.2, sym (view-term S k.holds c m.0 m.1) ∙ a.alike.term ∙ view-term S k.holds d n.0 n.1))
+      search (r.0, q.0, m.2, n.2, sym (view-term S k.holds c m.0 m.1) ∙ a.alike.term ∙ view-term S k.holds d n.0 n.1)
 
   pub firm-in : (c d : ℕ) → AreCopies w c d → (S.sites d).firm ≤ length (log_at S c)
   firm-in c d a = let x = words-of c d a in firm-there S k.holds c d x.first x.second x.member x.member_too a.alike.part x.term
@@ -182,5 +181,4 @@ module _ (w : World) (k : HasLogs w) where
   pub joiner-behind : (c l : ℕ) → HasLoaded w c → Leads w l → OfOneTerm w c l → Follows w c l
   joiner-behind c l h b a =
       let f = joiner-follows S k.holds c l (has-loaded S k.holds c h.0 h.1 h.2) (held-leadership S k.holds l b.runs b.leads) a.part a.term in
-
       record { prefix = f.0; firm = f.1 }

@@ -1,7 +1,5 @@
 -- The authoritative log of a partition, which the world keeps: what the history says of it stays so in turns of sites.
-use Rattle.log_laws.proofs.Names.{◌≡◌, ◌<◌, ◌≤◌, Bool, true, false, refl, sym, subst, ap, ◌∙◌, inl, inr, arith, cases_eq, cases_lt, and_from, leb-true, nat_tests, ℕ, nat_le, max, if◌then◌else◌, Some, Membership, Deployment, term_of, term_in, leader, SiteState, Joining, site_term, is_leader, leads, AuthoritativeLog, authoritative_after, none-and-some, same-some, not-both, leader-view, leads-parts}
-use Rattle.log_laws.specs.Histories.{LogState, Logs, Leadership, LogsHold, ViewIn, LeadsIn, part, site_start, log_at, term_at}
-use Rattle.log_laws.specs.Copies.{AuthoritativeOk}
+use Rattle.log_laws.proofs.Names.{◌≡◌, ◌<◌, ◌≤◌, Bool, true, false, refl, sym, subst, ap, ◌∙◌, inl, inr, arith, cases_eq, cases_lt, and_from, leb-true, nat_tests, ℕ, nat_le, max, if◌then◌else◌, Some, Membership, Deployment, term_of, term_in, leader, SiteState, Joining, site_term, is_leader, leads, AuthoritativeLog, authoritative_after, none-and-some, same-some, not-both, leader-view, leads-parts, LogState, Logs, Leadership, LogsHold, ViewIn, LeadsIn, part, site_start, log_at, term_at, AuthoritativeOk}
 use Rattle.log_laws.proofs.Plain.{leader-is, none-or-some}
 use Rattle.log_laws.proofs.Kept.{took-unnamed, Heads}
 use Rattle.log_laws.proofs.Kept.Moves.{Grown}
@@ -23,7 +21,7 @@ module _ (T : LogState) (H : LogsHold T) (i : ℕ) where
   -- By its word it leads: once its term has begun, it does so with what that begins with.
   pub heads-authoritative : (p t : ℕ) (g : Leadership) → Heads T.words.deployment i (T.sites i) p t → T.logs.leadership p t ≡ Some g → leads T.words.deployment i (T.sites i) ≡ true
   heads-authoritative p t g h led = elim (none-or-some (T.sites i).joining) [
-    | inl e ↦ 
+    | inl e ↦
         let m = (H.sites i).member up e in
         let same : m.0 ≡ h.word = same-some (sym m.1 ∙ h.view) in
         let leading : LeadsIn (T.sites i) (T.logs.leadership (part T i) (term_of h.word)) =

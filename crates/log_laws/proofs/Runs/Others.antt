@@ -1,10 +1,8 @@
 -- Events that change nothing of sites: those of the director, of clients and scanners, and a recovery that fails.
-use Rattle.log_laws.proofs.Names.{◌≡◌, ◌+◌, ◌<◌, Bool, true, false, List, [], ◌∷◌, append-nil, refl, sym, subst, ap, ◌∙◌, ◌==◌, arith, ℕ, Option, Some, None, AllByRecursion, Actor, Director, Client, Agent, Site, Scanner, Item, TimedItem, Database, Deployment, is_host, is_slot_of, host_of_slot, same, Letter, Sends, Turn, no_sends, open_letter, only, new_agent, stops_others, ClientState, Due, submits, submit_to, target, DirectorState, stops_host, asks_recovery, does, does_next, ScannerState, Scan, scan_block, scans, scan_turn, scanner_turn, Environment, NoMemory, World, took, sent, set_at, stop_noted, stamp_of, with_director, with_client, with_scanner, left_contents, stays_stopped, delivered, starts_in, takes-next, state_of, all-append, all-if, all-mono, set-there, starts-if, stops_all-starts, same-true, channel-holds, director-inert-holds, draws-holds, cond_both}
+use Rattle.log_laws.proofs.Names.{◌≡◌, ◌+◌, ◌<◌, Bool, true, false, List, [], ◌∷◌, append-nil, refl, sym, subst, ap, ◌∙◌, ◌==◌, arith, ℕ, Option, Some, None, AllByRecursion, Actor, Director, Client, Agent, Site, Scanner, Item, TimedItem, Database, Deployment, is_host, is_slot_of, host_of_slot, same, Letter, Sends, Turn, no_sends, open_letter, only, new_agent, stops_others, ClientState, Due, submits, submit_to, target, DirectorState, stops_host, asks_recovery, does, does_next, ScannerState, Scan, scan_block, scans, scan_turn, scanner_turn, Environment, NoMemory, World, took, sent, set_at, stop_noted, stamp_of, with_director, with_client, with_scanner, left_contents, stays_stopped, delivered, starts_in, takes-next, state_of, all-append, all-if, all-mono, set-there, starts-if, stops_all-starts, same-true, channel-holds, director-inert-holds, draws-holds, cond_both, LogState, ForeignOk, LogsHold, log_state, AuthoritativeOk, CountedIn, HasLogs}
 use Rattle.volt_wire.specs.declared.item.Item.TheVariants as item
 use Rattle.volt_wire.specs.declared.message.Msg.TheVariants as msg
 use Rattle.word_laws.specs.Histories as word
-use Rattle.log_laws.specs.Histories.{LogState, ForeignOk, LogsHold}
-use Rattle.log_laws.specs.Copies.{log_state, AuthoritativeOk, CountedIn, HasLogs}
 use Rattle.log_laws.proofs.Runs.Boots.{NoStart}
 use Rattle.log_laws.proofs.Runs.Frames.{Agrees, foreign-plain, frames-holds}
 
@@ -23,8 +21,8 @@ sent-foreign : (S : LogState) (channel : Actor → Actor → List Letter) (a : A
     → (from : Actor) (c : ℕ) → AllByRecursion (ForeignOk S c from) (sent channel a out from (Site c))
 sent-foreign S channel a out far before more from c = cond_both (same a from) _ _ (AllByRecursion (ForeignOk S c from))
     (λ e. all-append (ForeignOk S c from) (channel from (Site c)) (out (Site c)) (before from c)
-        (subst (λ x. AllByRecursion (ForeignOk S c x) (out (Site c))) (same-true a from e)
-        (all-mono NoStart (ForeignOk S c a) (λ l k. foreign-plain S c a l (apart a far) k) (out (Site c)) (more c))))
+    (subst (λ x. AllByRecursion (ForeignOk S c x) (out (Site c))) (same-true a from e)
+    (all-mono NoStart (ForeignOk S c a) (λ l k. foreign-plain S c a l (apart a far) k) (out (Site c)) (more c))))
     (λ e. before from c)
   where
     apart : (b : Actor) → Foreign b → (h : ℕ) → same b (Agent h) ≡ false
@@ -102,13 +100,15 @@ pub keeps : (w v : World) (k : HasLogs w) (owner : ℕ → ℕ) → v.authoritat
 keeps w v k owner authoritative counted holds strangers = record {
   next = record {
     owner = owner;
-    history = k.history; logs = k.logs;
+    history = k.history;
+    logs = k.logs;
     holds = holds;
     strangers = strangers;
     authoritative = λ p. subst (AuthoritativeOk k.logs p) (ap (λ f. f p) (sym authoritative)) (k.authoritative p);
     counted = counted;
   };
-  history = refl; logs = refl;
+  history = refl;
+  logs = refl;
   authoritative = authoritative;
 }
 

@@ -1,9 +1,8 @@
 -- A site takes a message, or syncs: all holds after it.
-use Rattle.log_laws.proofs.Names.{◌≡◌, ◌<◌, Bool, true, false, List, [], ◌∷◌, ◌++◌, refl, sym, subst, ap, ◌==◌, arith, inl, eqb-true, nat_tests, ℕ, take, if◌then◌else◌, Actor, Agent, Site, Msg, Database, host_of_slot, after_parts, after_failure, Blocks, Letter, Turn, becomes, ◌▸◌, arrival, Arrival, Taken, Refused, Waits, SiteState, settles, ordered, site_handler, site_runs, site_takes, written, after_sync, syncs, parts_of_message, parts_of_sync, site_turn, sync_turn, Environment, NoFault, DiskFails, NoMemory, DisksShow}
+use Rattle.log_laws.proofs.Names.{◌≡◌, ◌<◌, Bool, true, false, List, [], ◌∷◌, ◌++◌, refl, sym, subst, ap, ◌==◌, arith, inl, eqb-true, nat_tests, ℕ, take, if◌then◌else◌, Actor, Agent, Site, Msg, Database, host_of_slot, after_parts, after_failure, Blocks, Letter, Turn, becomes, ◌▸◌, arrival, Arrival, Taken, Refused, Waits, SiteState, settles, ordered, site_handler, site_runs, site_takes, written, after_sync, syncs, parts_of_message, parts_of_sync, site_turn, sync_turn, Environment, NoFault, DiskFails, NoMemory, DisksShow, LogState, LogsHold, IsSlot, ForeignOk, site_start, term_at}
 use Rattle.volt_wire.specs.declared.message.Msg.TheVariants as msg
 use Rattle.cluster_model.specs.Site.{takes_waiting, on_start}
 use Rattle.cluster_model.specs.Sync.{start_after}
-use Rattle.log_laws.specs.Histories.{LogState, LogsHold, IsSlot, ForeignOk, site_start, term_at}
 use Rattle.log_laws.proofs.Kept.{site_popped, LogsGo, goes-same, goes-turns, power-goes}
 use Rattle.log_laws.proofs.Messages.Pops.{pops-kind, pops-refused, pops-stopped, waits-goes}
 use Rattle.log_laws.proofs.Firmness.Syncs.{sync-goes}

@@ -1,8 +1,7 @@
 -- What a site does with a message that it takes, from its channel and of those that waited: all holds after its handler.
-use Rattle.log_laws.proofs.Names.{◌≡◌, ◌<◌, List, [], ◌∷◌, ◌++◌, refl, sym, subst, ap, ◌∙◌, ◌⊎◌, inl, inr, arith, ℕ, AllByRecursion, Entry, Membership, Actor, Director, Client, Agent, Site, Scanner, Msg, Database, host_of_slot, Blocks, Letter, becomes, arrival, Taken, Waiting, on_view, from_agent, from_site, from_scanner, from_director, site_handler, rest, eqb-same, set_at}
+use Rattle.log_laws.proofs.Names.{◌≡◌, ◌<◌, List, [], ◌∷◌, ◌++◌, refl, sym, subst, ap, ◌∙◌, ◌⊎◌, inl, inr, arith, ℕ, AllByRecursion, Entry, Membership, Actor, Director, Client, Agent, Site, Scanner, Msg, Database, host_of_slot, Blocks, Letter, becomes, arrival, Taken, Waiting, on_view, from_agent, from_site, from_scanner, from_director, site_handler, rest, eqb-same, set_at, LogState, LogsHold, AckOk, ReportOk, EndOk, SiteLetterOk, SiteWaitingFrom, SiteWaitingOk, ForeignOk, part, site_start, term_at, between, flow, flow_in, is_for, line_in, view_in}
 use Rattle.volt_wire.specs.declared.message.Msg.TheVariants as msg
 use Rattle.log_laws.specs.Histories as log
-use Rattle.log_laws.specs.Histories.{LogState, LogsHold, AckOk, ReportOk, EndOk, SiteLetterOk, SiteWaitingFrom, SiteWaitingOk, ForeignOk, part, site_start, term_at, between, flow, flow_in, is_for, line_in, view_in}
 use Rattle.log_laws.proofs.Kept.{site_popped, left, Turns, LogsGo, look-goes, goes-same, goes-turns, running-slot, logs_moved}
 use Rattle.log_laws.proofs.Plain.{if-none}
 use Rattle.log_laws.proofs.Messages.Pops.{taken-for, pops-plain, leaves}
@@ -51,7 +50,13 @@ module _ (S : LogState) (ch : Actor → Actor → List Letter) (pend : ℕ → L
 
   report-moved : (p c t n m : ℕ) (tail : List Entry) → ReportOk S p c t n m tail → ReportOk (logs_moved S ch S.sites pend) p c t n m tail
   report-moved p c t n m tail k = record {
-    entered = k.entered; is_entered = k.is_entered; position_is = k.position_is; floor_is = k.floor_is; tail_is = k.tail_is; part_is = k.part_is; word = k.word;
+    entered = k.entered;
+    is_entered = k.is_entered;
+    position_is = k.position_is;
+    floor_is = k.floor_is;
+    tail_is = k.tail_is;
+    part_is = k.part_is;
+    word = k.word;
     is_word = record { decided = k.is_word.decided; term_is = k.is_word.term_is };
     follower = k.follower;
   }
@@ -81,7 +86,8 @@ module _ (E : Database) (stamp : ℕ) (S : LogState) (H : LogsHold S) (i : ℕ) 
     ended : (count : ℕ) → S.words.channel (Site slot) (Site i) ≡ record l { body = msg.StreamEnd count } ∷ ls → EndOk S slot i (record l { body = msg.StreamEnd count })
         → EndOk T slot i (record l { body = msg.StreamEnd count })
     ended count is k = record {
-      stream_start = k.stream_start; everywhere = k.everywhere;
+      stream_start = k.stream_start;
+      everywhere = k.everywhere;
       begun = λ j e s t b. subst (AllByRecursion (log.BeginsAt k.stream_start)) (same-flow) (k.begun j e s t b);
       taken = k.taken;
     }

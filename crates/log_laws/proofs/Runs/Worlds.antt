@@ -1,8 +1,6 @@
 -- Each world of a run has a history of which all holds, and from one recovery that works to the next it only grows.
-use Rattle.log_laws.proofs.Names.{◌≡◌, ◌+◌, ◌<◌, Bool, true, false, List, [], ◌∷◌, ◌++◌, refl, sym, subst, ap, ◌∙◌, ◌==◌, inl, inr, arith, zero, suc, and_parts, eqb-true, false≢true, or_cases, nat_tests, list_any-append, ℕ, ◌≤◌, ◌&&◌, ◌||◌, not, nat_lt, map, Some, None, list_any, range_with_len, Actor, Director, Client, Agent, Site, Scanner, Event, Database, Deployment, slots, part_of_slot, is_host, same, Letter, Turn, SiteState, is_member_site, leads, agent_turn, owes_in, may_sync, site_turn, sync_turn, Environment, NoFault, DiskFails, NoMemory, DisksShow, World, AuthoritativeLog, Stopped, Input, stamp_of, took, authoritative_after, with_site, stops_with, stays_stopped, is_actor, is_some_letter, can, allows, delivered, recovered_with, may_do, happens, step, Happening, Reached, RunsInEpoch, has_failed, may_happen, renews_by, renews_at, renews, reached-kept, in-epoch-kept, if-false, set-here, set-both, actor-host, host-apart, memory-runs}
+use Rattle.log_laws.proofs.Names.{◌≡◌, ◌+◌, ◌<◌, Bool, true, false, List, [], ◌∷◌, ◌++◌, refl, sym, subst, ap, ◌∙◌, ◌==◌, inl, inr, arith, zero, suc, and_parts, eqb-true, false≢true, or_cases, nat_tests, list_any-append, ℕ, ◌≤◌, ◌&&◌, ◌||◌, not, nat_lt, map, Some, None, list_any, range_with_len, Actor, Director, Client, Agent, Site, Scanner, Event, Database, Deployment, slots, part_of_slot, is_host, same, Letter, Turn, SiteState, is_member_site, leads, agent_turn, owes_in, may_sync, site_turn, sync_turn, Environment, NoFault, DiskFails, NoMemory, DisksShow, World, AuthoritativeLog, Stopped, Input, stamp_of, took, authoritative_after, with_site, stops_with, stays_stopped, is_actor, is_some_letter, can, allows, delivered, recovered_with, may_do, happens, step, Happening, Reached, RunsInEpoch, has_failed, may_happen, renews_by, renews_at, renews, reached-kept, in-epoch-kept, if-false, set-here, set-both, actor-host, host-apart, memory-runs, Logs, LogState, LogsHold, site_start, log_state, AuthoritativeOk, HasLogs}
 use Rattle.volt_wire.specs.declared.event.Event.TheVariants as event
-use Rattle.log_laws.specs.Histories.{Logs, LogState, LogsHold, site_start}
-use Rattle.log_laws.specs.Copies.{log_state, AuthoritativeOk, HasLogs}
 use Rattle.log_laws.proofs.Kept.{Onward, onward-same, onward-then}
 use Rattle.log_laws.proofs.Kept.Moves.{Grown}
 use Rattle.log_laws.proofs.Runs.Leading.{AuthoritativeRises, rises-same, rises-then, authoritative-still, authoritative-turned, authoritative-rises, authoritative-counted}
@@ -70,7 +68,8 @@ keeps-reaches w v c k n = record {
 noted : (w : World) (F : Logs) (c : Bool) (v : World) (trace : List Event) → LogsReach w F c v → LogsReach w F c (record v { trace = trace })
 noted w F c v trace r = let n = r.next in record {
   next = record { owner = n.owner; history = n.history; logs = n.logs; holds = n.holds; strangers = n.strangers; authoritative = n.authoritative; counted = n.counted };
-  onward = r.onward; rises = r.rises;
+  onward = r.onward;
+  rises = r.rises;
 }
 
 -- ---- events of sites
@@ -81,7 +80,8 @@ pub site-reaches : (w : World) (c : Bool) (k : HasLogs w) (channel : Actor → A
     → LogsReach w k.logs c (with_site (record w { channel = channel; stops = stops }) i t)
 site-reaches w c k channel stops i t G H grown = record {
   next = record {
-    owner = k.owner; history = k.history;
+    owner = k.owner;
+    history = k.history;
     logs = G;
     holds = H;
     strangers = k.strangers;
@@ -91,7 +91,8 @@ site-reaches w c k channel stops i t G H grown = record {
         (λ runs authoritative. subst (λ l. t.state.firm ≤ l.firm) (sym (set-here w.authoritative own after)) (authoritative-counted w.deployment i t.state (w.authoritative own) authoritative))
         (λ c n runs authoritative. let a = k.counted c runs authoritative in let b = (rises (part_of_slot w.deployment c)).firm in omega (arith, a, b));
   };
-  onward = λ e. grown.onward; rises = λ e. rises;
+  onward = λ e. grown.onward;
+  rises = λ e. rises;
 }
   where
     v : World
@@ -149,10 +150,14 @@ to_agent-reaches E w n from (l ∷ ls) o c k is host may =
     let r = agent-event E S n (stamp_of w) from l ls o is host (λ answered e. memory-runs w n answered from l ls o is may e) k.holds in
     record {
       next = record {
-        owner = k.owner; history = r.history; logs = k.logs; holds = r.holds;
+        owner = k.owner;
+        history = r.history;
+        logs = k.logs;
+        holds = r.holds;
         strangers = λ h e.
             if-false (h == n) (agent_turn E w.deployment n (stamp_of w) (w.agents n) from l o).state (w.agents h) (host-apart w.deployment n h host e) ∙ k.strangers h e;
-        authoritative = k.authoritative; counted = k.counted;
+        authoritative = k.authoritative;
+        counted = k.counted;
       };
       onward = λ e. onward-same k.logs;
       rises = λ e p. rises-same (w.authoritative p);
