@@ -1,5 +1,5 @@
 -- Turns of an agent: what holds besides that of words, holds after them.
-use Rattle.log_laws.proofs.Names.{◌≡◌, ◌<◌, true, List, ◌++◌, refl, sym, subst, ap, ◌∙◌, inl, inr, arith, ℕ, Option, Some, None, AllByRecursion, Membership, Actor, Director, Agent, Site, host_of_slot, is_in, term_of, term_in, Letter, Sends, Turn, becomes, ◌▸◌, AgentState, new_agent, In, History, Admitted, all-mono, all-append, sent-both, Grows, grows-same, tells-state, WordsTurn, handler-grows, stay-handler, agent-there, after-handler, then-inert, LogState, LoadedOk, AllLoaded, AskedOk, QueuedLoadedOk, ForeignOk, LoadsOk, ViewsOk, LogsHold, sent_term, agent_to_site, between}
+use Rattle.log_laws.proofs.Names.{◌≡◌, ◌<◌, true, List, ◌++◌, refl, sym, subst, ap, ◌∙◌, inl, inr, arith, ℕ, Option, Some, None, AllByRecursion, Membership, Actor, Director, Agent, Site, host_of_slot, is_in, term_of, term_in, Letter, Sends, Turn, becomes, ◌▸◌, AgentState, new_agent, In, History, Admitted, all-mono, all-append, sent-both, Grows, grows-same, tells-state, WordsTurn, handler-grows, stay-handler, agent-there, after-handler, then-inert, LogState, LoadedOk, AllLoaded, AskedOk, QueuedLoadedOk, ForeignOk, LoadsOk, ViewsOk, LogsHold, sent_term, agent_to_site}
 use Rattle.volt_wire.specs.declared.message.Msg.TheVariants as msg
 use Rattle.word_laws.specs.Histories as word
 use Rattle.word_laws.proofs.Moves as word_moves

@@ -1,5 +1,5 @@
 -- An agent starts, takes its first word as a joiner, or decides a word: what holds besides that of words, holds after it.
-use Rattle.log_laws.proofs.Names.{◌≡◌, ◌<◌, ◌≤◌, Bool, true, false, List, [], ◌∷◌, ◌++◌, append_assoc, append-nil, refl, sym, subst, ap, ◌∙◌, ◌⊎◌, inl, inr, ◌==◌, arith, true≢false, and_parts, cases_Bool, eqb-true, ℕ, filter, ◌&&◌, not, if◌then◌else◌, nat_lt, Some, None, AllByRecursion, Membership, Agent, Site, slots, host_of_slot, start_of, is_slot_of, is_in, is_down, term_of, Letter, Sends, Turn, becomes, ◌▸◌, open_letter, letter_to, AgentState, new_agent, initiates, takes_word, decides_word, may_decide, In, names, all-mono, all-append, some-here, none-and-some, in-none, is_member-start, WordsTurn, handler-grows, agent-there, decides-handler, with_began, start-grows, Decides, decides-state, decides-sends, may_decide-cases, tells-state, concludes, concludes-not, concludes-is, cond_both, LogState, LoadedOk, AskedOk, ForeignOk, sent_term, site_start, views, asked}
+use Rattle.log_laws.proofs.Names.{◌≡◌, ◌<◌, ◌≤◌, Bool, true, false, List, [], ◌∷◌, ◌++◌, append_assoc, append-nil, refl, sym, subst, ap, ◌∙◌, ◌⊎◌, inl, inr, ◌==◌, arith, true≢false, and_parts, cases_Bool, eqb-true, ℕ, filter, ◌&&◌, not, if◌then◌else◌, nat_lt, Some, None, AllByRecursion, Membership, Agent, Site, slots, host_of_slot, start_of, is_slot_of, is_in, is_down, term_of, Letter, Sends, Turn, becomes, ◌▸◌, open_letter, letter_to, AgentState, new_agent, initiates, takes_word, decides_word, may_decide, In, names, all-mono, all-append, some-here, none-and-some, in-none, is_member-start, WordsTurn, handler-grows, agent-there, decides-handler, with_began, start-grows, Decides, decides-state, decides-sends, may_decide-cases, tells-state, concludes, concludes-not, concludes-is, cond_both, LogState, LoadedOk, AskedOk, ForeignOk, sent_term, site_start, views}
 use Rattle.volt_wire.specs.declared.message.Msg.TheVariants as msg
 use Rattle.word_laws.specs.Histories as word
 use Rattle.word_laws.proofs.Turns.{tells}

@@ -1,5 +1,5 @@
 -- A site takes a JoinAsk: it keeps it until it can take the joiner.
-use Rattle.log_laws.proofs.Names.{List, ap, arith, refl, subst, sym, ◌≡◌, ◌∷◌, ◌<◌, [], AllByRecursion, ℕ, Site, Letter, Waiting, becomes, on_join_ask, SiteState, all-append, AsksToJoin, LogsHold, LogState, SiteLetterOk, SiteWaitingFrom, SiteWaitingOk, between, flow, part, site_start, term_at}
+use Rattle.log_laws.proofs.Names.{List, ap, arith, refl, subst, sym, ◌≡◌, ◌∷◌, ◌<◌, [], AllByRecursion, ℕ, Site, Letter, Waiting, becomes, on_join_ask, SiteState, all-append, AsksToJoin, LogsHold, LogState, SiteLetterOk, SiteWaitingFrom, SiteWaitingOk, between, part, site_start, term_at}
 use Rattle.volt_wire.specs.declared.message.Msg.TheVariants as msg
 use Rattle.log_laws.proofs.Kept.{running-slot, AsksLess, left-kept, popped-kept, LogsGo, left, site_popped, becomes-goes, NotesOk, after-nothing, channels-same, noted-holds, noted-same, notes-same}
 use Rattle.log_laws.proofs.Plain.{if-empty}

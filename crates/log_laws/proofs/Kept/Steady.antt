@@ -1,5 +1,5 @@
 -- Moves of sites that leave words, terms and what was entered as they are: what holds, holds after them.
-use Rattle.log_laws.proofs.Names.{List, ap, arith, inl, refl, sym, true, ◌≡◌, ◌∙◌, ◌⊎◌, ◌<◌, ◌≤◌, [], AllByRecursion, None, Option, Some, length, map, ℕ, Membership, Actor, Agent, Director, Site, starts_in, Letter, Waiting, Ask, Joiner, Joining, SiteState, is_leader, host_of_slot, term_of, channel-holds, Distinct, term_in, AsksToJoin, CountedOk, ForeignOk, LogsHold, IsCounted, IsSlot, JoinerOk, KeepsOk, LogState, MemberOk, SiteLetterOk, SiteOk, StreamedOk, Streaming, SiteWaitingOk, between, line, part, site_start, term_at, views}
+use Rattle.log_laws.proofs.Names.{List, ap, arith, inl, refl, sym, true, ◌≡◌, ◌∙◌, ◌⊎◌, ◌<◌, ◌≤◌, [], AllByRecursion, None, Option, Some, length, map, ℕ, Membership, Actor, Agent, Director, Site, starts_in, Letter, Waiting, Ask, Joiner, Joining, SiteState, is_leader, host_of_slot, term_of, channel-holds, Distinct, term_in, AsksToJoin, CountedOk, ForeignOk, LogsHold, IsCounted, IsSlot, JoinerOk, KeepsOk, LogState, MemberOk, SiteLetterOk, SiteOk, StreamedOk, Streaming, SiteWaitingOk, between, line, part, site_start, term_at}
 use Rattle.log_laws.proofs.Kept.Keeps.{SameFrom, SiteStays, joiner-keeps, member-keeps, RunsOn, site-runs}
 use Rattle.log_laws.proofs.Kept.Laters.{leaderships-later, same-leaderships, unleds-later, entereds-later, asks-later, counteds-later, keeps-at, waitings-later, loads-later}
 use Rattle.log_laws.proofs.Kept.Moves.{JoinsOn, LogsLater, SameLeaderships, Unentered}

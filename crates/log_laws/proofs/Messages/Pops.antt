@@ -1,5 +1,5 @@
 -- A message leaves its channel, or what waited is taken up, where what is looked at of it is nothing: what holds, holds then.
-use Rattle.log_laws.proofs.Names.{◌≡◌, ◌<◌, Bool, true, false, List, [], ◌∷◌, ◌++◌, refl, sym, subst, ap, ◌∙◌, ◌⊎◌, inl, inr, ◌==◌, arith, eqb-true, eqb-false, nat_tests, ℕ, ◌||◌, nat_lt, if◌then◌else◌, AllByRecursion, Actor, Agent, Site, host_of_slot, Letter, Waiting, of_term, above_term, Taken, Refused, Waits, arrival, in_term, no_sends, becomes, SiteState, set_at, took-all, all-append, all-filter, set-both, LogState, LogsHold, SiteLetterOk, ForeignOk, SiteWaitingOk, IsSlot, MeantFor, site_start, term_at, agent_to_site, line, line_of, flow, flow_of, stream_ends_in, end_of, line_in, flow_in, view_in, SiteWaitingFrom, view_of, asks_of_term, asked}
+use Rattle.log_laws.proofs.Names.{◌≡◌, ◌<◌, Bool, true, false, List, [], ◌∷◌, ◌++◌, refl, sym, subst, ap, ◌∙◌, ◌⊎◌, inl, inr, ◌==◌, arith, eqb-true, eqb-false, nat_tests, ℕ, ◌||◌, nat_lt, if◌then◌else◌, AllByRecursion, Actor, Agent, Site, host_of_slot, Letter, Waiting, of_term, above_term, Taken, Refused, Waits, arrival, in_term, no_sends, becomes, SiteState, set_at, took-all, all-append, all-filter, set-both, LogState, LogsHold, SiteLetterOk, ForeignOk, SiteWaitingOk, IsSlot, MeantFor, site_start, term_at, agent_to_site, line, line_of, flow, flow_of, stream_ends_in, end_of, line_in, flow_in, view_in, SiteWaitingFrom, view_of, asks_of_term}
 use Rattle.volt_wire.specs.declared.message.Msg.TheVariants as msg
 use Rattle.log_laws.proofs.Kept.{after_site, site_popped, left, LogsGo, AsksLess, at-most-same, popped-less, left-less, parted-asks, waits-asks, LeavesViews, leaves-same, leaves-first, after-same, taken-either, words-popped, ChannelsOk, channels-same, running-slot, channels-hold, moved-holds, NotesOk, after-nothing, becomes-goes, noted-holds, noted-same, notes-same}
 use Rattle.log_laws.proofs.Plain.{views-other, both-empty, for-other, if-empty}

@@ -1,5 +1,5 @@
 -- How an epoch begins: all holds of logs in the first world, and once a recovery has worked.
-use Rattle.log_laws.proofs.Names.{◌≡◌, ◌+◌, ◌<◌, ◌≤◌, Bool, true, false, List, [], ◌∷◌, append-nil, refl, sym, subst, ap, ◌∙◌, inl, inr, ◌==◌, arith, zero, suc, and_parts, and_from, cases_Bool, eq-eqb, eqb-true, false≢true, nat_tests, mod_below, ℕ, ◌*◌, ◌&&◌, not, nat_lt, if◌then◌else◌, length, map, Some, None, AllByRecursion, Entry, Membership, Actor, Director, Client, Agent, Site, Database, Deployment, slots, parts, part_of_slot, host_of_slot, is_host, is_in, term_of, copies, start_of_slot, Letter, AgentState, new_agent, starts_in, SiteState, site_term, is_joiner, is_member_site, no_site, stopped_site, member_site, World, Input, first_world, new_word, greatest_done, first_initiating, member_agent, start_from, is_of_host, new_channels, new_base, new_log, starts_anew, In, eqb-same, if-true, if-false, none-and-some, same-some, in-one, in-map-from, all-from, epoch_state, new_history, new_owner, boot-holds, recovery-holds, start_of-first, first-there, Entered, Streaming, Leadership, Logs, LogState, IsSlot, HasBeen, AckOk, EnteredOk, LeadershipOk, LeadsIn, FollowsIn, MemberOk, KeepsOk, SiteOk, ViewsOk, LoadsOk, ForeignOk, LogsHold, part, site_start, log_at, term_at, agent_to_site, between, line, views, sent_term, asked, log_state, AuthoritativeOk, HasLogs}
+use Rattle.log_laws.proofs.Names.{◌≡◌, ◌+◌, ◌<◌, ◌≤◌, Bool, true, false, List, [], ◌∷◌, append-nil, refl, sym, subst, ap, ◌∙◌, inl, inr, ◌==◌, arith, zero, suc, and_parts, and_from, cases_Bool, eq-eqb, eqb-true, false≢true, nat_tests, mod_below, ℕ, ◌*◌, ◌&&◌, not, nat_lt, if◌then◌else◌, length, map, Some, None, AllByRecursion, Entry, Membership, Actor, Director, Client, Agent, Site, Database, Deployment, slots, parts, part_of_slot, host_of_slot, is_host, is_in, term_of, copies, start_of_slot, Letter, AgentState, new_agent, starts_in, SiteState, site_term, is_joiner, is_member_site, no_site, stopped_site, member_site, World, Input, first_world, new_word, greatest_done, first_initiating, member_agent, start_from, is_of_host, new_channels, new_base, new_log, starts_anew, In, eqb-same, if-true, if-false, none-and-some, same-some, in-one, in-map-from, all-from, epoch_state, new_history, new_owner, boot-holds, recovery-holds, start_of-first, first-there, Entered, Streaming, Leadership, Logs, LogState, IsSlot, HasBeen, AckOk, EnteredOk, LeadershipOk, LeadsIn, FollowsIn, MemberOk, KeepsOk, SiteOk, ViewsOk, LoadsOk, ForeignOk, LogsHold, part, site_start, log_at, term_at, agent_to_site, between, line, views, sent_term, log_state, AuthoritativeOk, HasLogs}
 use Rattle.volt_wire.specs.declared.message.Msg.TheVariants as msg
 use Rattle.word_laws.specs.Histories as word
 use Rattle.log_laws.proofs.Plain.{in-is_in, copy-member, none-or-some}

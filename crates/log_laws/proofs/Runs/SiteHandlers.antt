@@ -1,5 +1,5 @@
 -- What a site does with a message that it takes, from its channel and of those that waited: all holds after its handler.
-use Rattle.log_laws.proofs.Names.{◌≡◌, ◌<◌, List, [], ◌∷◌, ◌++◌, refl, sym, subst, ap, ◌∙◌, ◌⊎◌, inl, inr, arith, ℕ, AllByRecursion, Entry, Membership, Actor, Director, Client, Agent, Site, Scanner, Msg, Database, host_of_slot, Blocks, Letter, becomes, arrival, Taken, Waiting, on_view, from_agent, from_site, from_scanner, from_director, site_handler, rest, eqb-same, set_at, LogState, LogsHold, AckOk, ReportOk, EndOk, SiteLetterOk, SiteWaitingFrom, SiteWaitingOk, ForeignOk, part, site_start, term_at, between, flow, flow_in, is_for, line_in, view_in}
+use Rattle.log_laws.proofs.Names.{◌≡◌, ◌<◌, List, [], ◌∷◌, ◌++◌, refl, sym, subst, ap, ◌∙◌, ◌⊎◌, inl, inr, arith, ℕ, AllByRecursion, Entry, Membership, Actor, Director, Client, Agent, Site, Scanner, Msg, Database, host_of_slot, Blocks, Letter, becomes, arrival, Taken, Waiting, on_view, from_agent, from_site, from_scanner, from_director, site_handler, rest, eqb-same, set_at, LogState, LogsHold, AckOk, ReportOk, EndOk, SiteLetterOk, SiteWaitingFrom, SiteWaitingOk, ForeignOk, part, site_start, term_at, between, flow, is_for}
 use Rattle.volt_wire.specs.declared.message.Msg.TheVariants as msg
 use Rattle.log_laws.specs.Histories as log
 use Rattle.log_laws.proofs.Kept.{site_popped, left, Turns, LogsGo, look-goes, goes-same, goes-turns, running-slot, logs_moved}
