@@ -1,15 +1,5 @@
 -- What a site makes of entries that it appends, and what a leader sends of them.
-use Rattle.std.proofs.Common.{◌≡◌, Bool, true, false, List, [], ◌∷◌, ◌++◌, append_assoc, append-nil, refl, sym, ap, ◌∙◌}
-use Rattle.std.specs.Prelude.{ℕ, ◌&&◌, not, if◌then◌else◌, Option, is_none}
-use Rattle.volt_base.specs.declared.entry.Entry.{Entry}
-use Rattle.volt_wire.specs.declared.actor.Actor.{Actor}
-use Rattle.volt_wire.specs.declared.actor.Actor.TheVariants.{Agent, Site, Scanner}
-use Rattle.cluster_model.specs.Engine.{Database}
-use Rattle.cluster_model.specs.Log.{is_snapshot}
-use Rattle.cluster_model.specs.Words.{Deployment}
-use Rattle.cluster_model.specs.Letters.{same, Sends, Turn, becomes}
-use Rattle.cluster_model.specs.SiteState.{SiteState, Scanning, is_joiner, other_copies}
-use Rattle.cluster_model.specs.Site.{begins_base, appends, appends_all, put_to, tasks_to, passes_on, leads_with}
+use Rattle.cluster_steps.proofs.Names.{◌≡◌, false, List, [], ◌∷◌, ◌++◌, append_assoc, append-nil, refl, sym, ap, ◌∙◌, ℕ, ◌&&◌, not, Option, is_none, Entry, Actor, Agent, Site, Scanner, Database, is_snapshot, Deployment, same, Sends, Turn, SiteState, Scanning, is_joiner, other_copies, appends, appends_all, put_to, tasks_to, passes_on, leads_with, cond_both}
 use Rattle.cluster_steps.proofs.Lists.{all-append, all-if}
 use Rattle.cluster_steps.proofs.Frames.{InertLetter, InertSends}
 
@@ -28,14 +18,12 @@ pub record Appended (i : ℕ) (s : SiteState) (es : List Entry) (t : Turn SiteSt
   pub plain : InertSends t.sends
 
 pub appends-one : (E : Database) (D : Deployment) (i : ℕ) (e : Entry) (s : SiteState) → Appended i s (e ∷ []) (appends E D i e s)
-appends-one E D i e s = choice (is_snapshot e && is_none s.scanning && not (is_joiner s))
+appends-one E D i e s = cond_both (is_snapshot e && is_none s.scanning && not (is_joiner s)) _ _ (Appended i s (e ∷ []))
+    (λ _. record { scans = _; scanning = _; state = refl; inert = λ a q. rw q; plain = λ a. all-if InertLetter (same (Scanner i) a) _ [] (tt, tt) tt })
+    (λ _. record { scans = _; scanning = _; state = refl; inert = λ a q. refl; plain = λ a. tt })
   where
     b : SiteState
     b = record s { log = s.log ++ e ∷ [] }
-
-    choice : (c : Bool) → Appended i s (e ∷ []) (if c then begins_base E D i b else becomes b)
-    choice true = record { scans = _; scanning = _; state = refl; inert = λ a q. rw q; plain = λ a. all-if InertLetter (same (Scanner i) a) _ [] (tt, tt) tt }
-    choice false = record { scans = _; scanning = _; state = refl; inert = λ a q. refl; plain = λ a. tt }
 
 pub appends-all : (E : Database) (D : Deployment) (i : ℕ) (es : List Entry) (s : SiteState) → Appended i s es (appends_all E D i es s)
 appends-all E D i [] s = record {

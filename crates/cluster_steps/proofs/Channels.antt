@@ -1,18 +1,6 @@
 -- What is under way behind a turn: what was sent, and what was taken.
-use Rattle.std.proofs.Common.{◌≡◌, Bool, true, false, List, [], ◌∷◌, ◌++◌, append_assoc, refl, sym, ap, ◌∙◌, ◌==◌, arith, append-nil}
-use Rattle.std.proofs.lemmas.Bool.{and_parts, eqb-true}
-use Rattle.std.proofs.lemmas.Bool.Decides.{nat_tests}
-use Rattle.std.proofs.Math.Path.{fun_ext}
-use Rattle.std.specs.Prelude.{ℕ, ◌&&◌, if◌then◌else◌}
-use Rattle.std.specs.List.{AllByRecursion}
-use Rattle.volt_wire.specs.declared.actor.Actor.{Actor}
-use Rattle.volt_wire.specs.declared.actor.Actor.TheVariants.{Director, Agent}
+use Rattle.cluster_steps.proofs.Names.{◌≡◌, Bool, true, false, List, [], ◌∷◌, ◌++◌, append_assoc, refl, sym, ap, ◌∙◌, ◌==◌, arith, append-nil, and_parts, eqb-true, nat_tests, fun_ext, ℕ, ◌&&◌, if◌then◌else◌, AllByRecursion, Actor, Director, Agent, Deployment, is_host, same, Letter, Sends, open_letter, no_sends, took, sent, rest, stops_host, stops_all, RiseFrom, starts_in, start_in_letter, cond_both}
 use Rattle.volt_wire.specs.declared.message.Msg.TheVariants as msg
-use Rattle.cluster_model.specs.Words.{Deployment, is_host}
-use Rattle.cluster_model.specs.Letters.{same, Letter, Sends, open_letter, no_sends}
-use Rattle.cluster_model.specs.World.{took, sent, rest}
-use Rattle.cluster_model.specs.Director.{stops_host, stops_all}
-use Rattle.cluster_model.specs.Laws.{RiseFrom, starts_in, start_in_letter}
 use Rattle.cluster_steps.proofs.Lists.{all-if, all-rest, all-behind, rise-behind}
 
 -- ---- channels behind a turn
@@ -20,11 +8,7 @@ use Rattle.cluster_steps.proofs.Lists.{all-if, all-rest, all-behind, rise-behind
 -- of a channel of the agent that sent, and of another's
 pub sent-both : (P : List Letter → Type 0) (ch : Actor → Actor → List Letter) (n : ℕ) (out : Sends) (h : ℕ) (b : Actor)
     → (n ≡ h → P (ch (Agent h) b ++ out b)) → ((n ≡ h → ⊥) → P (ch (Agent h) b)) → P (sent ch (Agent n) out (Agent h) b)
-sent-both P ch n out h b here other = choice (n == h) refl
-  where
-    choice : (c : Bool) → (n == h) ≡ c → P (if c then ch (Agent h) b ++ out b else ch (Agent h) b)
-    choice true q = here (eqb-true n h q)
-    choice false q = other (λ e. grind (arith, nat_tests, q, e))
+sent-both P ch n out h b here other = cond_both (n == h) _ _ P (λ q. here (eqb-true n h q)) (λ q. other (λ e. grind (arith, nat_tests, q, e)))
 
 -- of each channel, where it is kept by what comes behind
 pub sent-keep : (P : List Letter → Type 0) → ((xs ys : List Letter) → P xs → P (xs ++ ys)) → (ch : Actor → Actor → List Letter) (n : ℕ) (out : Sends) (h : ℕ) (b : Actor) → P (ch (Agent h) b) → P (sent ch (Agent n) out (Agent h) b)
@@ -50,11 +34,8 @@ sent-twice ch from out more = fun_ext (λ x. fun_ext (λ y. letters (same from x
 -- of the channel itself, and of others
 pub taken-both : (P : List Letter → Type 0) (ch : Actor → Actor → List Letter) (k n h g : ℕ)
     → (k ≡ h → n ≡ g → P (rest (ch (Agent h) (Agent g)))) → P (ch (Agent h) (Agent g)) → P (took ch (Agent k) (Agent n) (Agent h) (Agent g))
-taken-both P ch k n h g here other = choice (n == g && k == h) refl
-  where
-    choice : (c : Bool) → (n == g && k == h) ≡ c → P (if c then rest (ch (Agent h) (Agent g)) else ch (Agent h) (Agent g))
-    choice true q = let e = and_parts (n == g) (k == h) q in here (eqb-true k h e.1) (eqb-true n g e.0)
-    choice false q = other
+taken-both P ch k n h g here other = cond_both (n == g && k == h) _ _ P
+    (λ q. let e = and_parts (n == g) (k == h) q in here (eqb-true k h e.1) (eqb-true n g e.0)) (λ q. other)
 
 pub took-all : (P : Letter → Type 0) (ch : Actor → Actor → List Letter) (from to a b : Actor) → AllByRecursion P (ch a b) → AllByRecursion P (took ch from to a b)
 took-all P ch from to a b h = all-if P (same to b && same from a) (rest (ch a b)) (ch a b) (all-rest P (ch a b) h) h
@@ -86,23 +67,15 @@ stops_all-starts D last g = starts-if (is_host D g) (stops_host D last g (Agent 
 -- those that are left once a message was taken
 pub starts-all : (P : ℕ → Type 0) (ch : Actor → Actor → List Letter) (from to : Actor) (g : ℕ) → AllByRecursion P (starts_in (ch Director (Agent g)))
     → AllByRecursion P (starts_in (took ch from to Director (Agent g)))
-starts-all P ch from to g h = choice (same to (Agent g) && same from Director)
+starts-all P ch from to g h = cond_both (same to (Agent g) && same from Director) _ _ (λ z. AllByRecursion P (starts_in z)) (λ _. left (ch Director (Agent g)) h) (λ _. h)
   where
     left : (ls : List Letter) → AllByRecursion P (starts_in ls) → AllByRecursion P (starts_in (rest ls))
     left [] h = h
     left (l ∷ ls) h = all-behind P (start_in_letter l) (starts_in ls) h
 
-    choice : (c : Bool) → AllByRecursion P (starts_in (if c then rest (ch Director (Agent g)) else ch Director (Agent g)))
-    choice true = left (ch Director (Agent g)) h
-    choice false = h
-
 pub starts-rise : (ch : Actor → Actor → List Letter) (from to : Actor) (g : ℕ) → RiseFrom 0 (starts_in (ch Director (Agent g))) → RiseFrom 0 (starts_in (took ch from to Director (Agent g)))
-starts-rise ch from to g h = choice (same to (Agent g) && same from Director)
+starts-rise ch from to g h = cond_both (same to (Agent g) && same from Director) _ _ (λ z. RiseFrom 0 (starts_in z)) (λ _. left (ch Director (Agent g)) h) (λ _. h)
   where
     left : (ls : List Letter) → RiseFrom 0 (starts_in ls) → RiseFrom 0 (starts_in (rest ls))
     left [] h = h
     left (l ∷ ls) h = rise-behind 0 (start_in_letter l) (starts_in ls) h
-
-    choice : (c : Bool) → RiseFrom 0 (starts_in (if c then rest (ch Director (Agent g)) else ch Director (Agent g)))
-    choice true = left (ch Director (Agent g)) h
-    choice false = h

@@ -1,15 +1,6 @@
 -- What a small step of a site changes and says, where no law goes by it, and what it leaves of the joiners that are counted.
-use Rattle.std.proofs.Common.{◌≡◌, Bool, true, false, List, [], ◌∷◌, append_assoc, refl, ap, zero, suc, ◌==◌}
-use Rattle.std.proofs.Math.Path.{fun_ext}
-use Rattle.std.specs.Prelude.{ℕ, map, replicate, if◌then◌else◌, Option, Some, None}
-use Rattle.std.specs.List.{AllByRecursion}
-use Rattle.volt_wire.specs.declared.actor.Actor.{Actor}
-use Rattle.volt_wire.specs.declared.actor.Actor.TheVariants.{Agent}
-use Rattle.volt_wire.specs.declared.message.Msg.{Msg}
+use Rattle.cluster_steps.proofs.Names.{◌≡◌, Bool, true, false, List, [], ◌∷◌, append_assoc, refl, ap, zero, suc, ◌==◌, fun_ext, ℕ, map, replicate, if◌then◌else◌, Option, Some, None, AllByRecursion, Actor, Agent, Msg, Blocks, Letter, Sends, Turn, ◌▸◌, letter_in, SiteState, Joiner, site_term, holds, holds_for, with_position, with_count, without_count, is_sent, cond_both}
 use Rattle.volt_wire.specs.declared.message.Msg.TheVariants as msg
-use Rattle.cluster_model.specs.Letters.{Blocks, Letter, Sends, Turn, ◌▸◌, letter_in}
-use Rattle.cluster_model.specs.SiteState.{SiteState, Joiner, site_term}
-use Rattle.cluster_model.specs.Site.{holds, holds_for, with_position, with_count, without_count, is_sent}
 
 -- ---- what is sent
 
@@ -73,10 +64,7 @@ map-field g f e [] = refl
 map-field g f e (j ∷ js) = rw (e j, map-field g f e js)
 
 pub mapped-joiners : (f : Joiner → Joiner) → ((j : Joiner) → AlikeJoiner (f j) j) → (js : List Joiner) → AlikeJoiners (map f js) js
-mapped-joiners f e js = record {
-  slots = map-field (λ j. j.slot) f (λ j. (e j).slot) js;
-  begins = map-field (λ j. j.stream_start) f (λ j. (e j).stream_start) js;
-}
+mapped-joiners f e js = record { slots = map-field (λ j. j.slot) f (λ j. (e j).slot) js; begins = map-field (λ j. j.stream_start) f (λ j. (e j).stream_start) js }
 
 pub positioned : (slot position : ℕ) (js : List Joiner) → AlikeJoiners (map (with_position slot position) js) js
 positioned slot position js = record {
@@ -93,18 +81,12 @@ positioned slot position js = record {
     begin-of j false = refl
 
 pub counted-alike : (slot count : ℕ) (j : Joiner) → AlikeJoiner (with_count slot count j) j
-counted-alike slot count j = choice (j.slot == slot)
-  where
-    choice : (b : Bool) → AlikeJoiner (if b then record j { count = Some count } else j) j
-    choice true = record { slot = refl; stream_start = refl; position = refl }
-    choice false = record { slot = refl; stream_start = refl; position = refl }
+counted-alike slot count j = cond_both (j.slot == slot) _ _ (λ z. AlikeJoiner z j)
+    (λ _. record { slot = refl; stream_start = refl; position = refl }) (λ _. record { slot = refl; stream_start = refl; position = refl })
 
 pub uncounted-alike : (s : SiteState) (j : Joiner) → AlikeJoiner (without_count s j) j
-uncounted-alike s j = choice (is_sent s j)
-  where
-    choice : (b : Bool) → AlikeJoiner (if b then record j { count = None } else j) j
-    choice true = record { slot = refl; stream_start = refl; position = refl }
-    choice false = record { slot = refl; stream_start = refl; position = refl }
+uncounted-alike s j = cond_both (is_sent s j) _ _ (λ z. AlikeJoiner z j)
+    (λ _. record { slot = refl; stream_start = refl; position = refl }) (λ _. record { slot = refl; stream_start = refl; position = refl })
 
 -- ---- an answer that is held, where there is an initiator
 

@@ -1,10 +1,5 @@
 -- Who leads, and who is a joiner.
-use Rattle.std.proofs.Common.{◌≡◌, true, false, refl, sym, ap, true≢false}
-use Rattle.std.proofs.lemmas.Bool.{and_parts, and_from, not-true}
-use Rattle.std.specs.Prelude.{ℕ, not, is_some, Option, Some, None}
-use Rattle.volt_wire.specs.Word.{Membership}
-use Rattle.cluster_model.specs.Words.{Deployment, part_of_slot, is_some_of}
-use Rattle.cluster_model.specs.SiteState.{SiteState, Joining, is_joiner, leader_in, is_leader, leads}
+use Rattle.cluster_steps.proofs.Names.{◌≡◌, true, false, refl, sym, ap, true≢false, and_parts, and_from, not-true, ℕ, not, is_some, Option, Some, None, Membership, Deployment, part_of_slot, is_some_of, SiteState, Joining, is_joiner, leader_in, is_leader, leads}
 
 -- whether it is a joiner
 pub not-joiner : (s : SiteState) → is_joiner s ≡ false → s.joining ≡ None

@@ -1,11 +1,5 @@
 -- What a leader counts: the least of the positions that copies and joiners acknowledged.
-use Rattle.std.proofs.Common.{◌≡◌, ◌≤◌, Bool, true, false, List, [], ◌∷◌, ◌++◌, refl, sym, ◌∙◌, inl, inr, ◌==◌, arith}
-use Rattle.std.proofs.lemmas.Bool.{eqb-true}
-use Rattle.std.specs.Prelude.{ℕ, map, max, min, if◌then◌else◌, Option, Some, None}
-use Rattle.cluster_model.specs.Words.{Deployment}
-use Rattle.cluster_model.specs.SiteState.{SiteState, Joiner, other_copies}
-use Rattle.cluster_model.specs.Site.{acked_in, own_ack, copy_acks, lesser, least, least_of, at_least, firm_now, floor_now}
-use Rattle.cluster_steps.specs.Lists.{In}
+use Rattle.cluster_steps.proofs.Names.{◌≡◌, ◌≤◌, List, [], ◌∷◌, ◌++◌, refl, sym, ◌∙◌, inl, inr, ◌==◌, arith, eqb-true, ℕ, map, max, min, Option, Some, None, Deployment, SiteState, Joiner, other_copies, acked_in, own_ack, copy_acks, lesser, least, least_of, at_least, firm_now, floor_now, In, cond_both}
 use Rattle.cluster_steps.proofs.Lists.{in-left, in-right, in-map}
 
 -- ---- the least of these positions
@@ -45,12 +39,8 @@ at_least-above before (Some x) = omega arith
 
 pub acked_in-from : (acks : List (ℕ × ℕ)) (slot v : ℕ) → acked_in acks slot ≡ Some v → In (slot, v) acks
 acked_in-from [] slot v e = absurd (cc)
-acked_in-from (a ∷ acks) slot v e = choice (a.0 == slot) refl (acked_in-from acks slot v) e
-  where
-    choice : (b : Bool) → (a.0 == slot) ≡ b → (acked_in acks slot ≡ Some v → In (slot, v) acks)
-        → (if b then Some a.1 else acked_in acks slot) ≡ Some v → In (slot, v) (a ∷ acks)
-    choice true q later k = let p : a.1 ≡ v = cc in inl (rw (← eqb-true a.0 slot q, ← p))
-    choice false q later k = inr (later k)
+acked_in-from (a ∷ acks) slot v e = cond_both (a.0 == slot) _ _ (λ z. (acked_in acks slot ≡ Some v → In (slot, v) acks) → z ≡ Some v → In (slot, v) (a ∷ acks))
+    (λ q later k. let p : a.1 ≡ v = cc in inl (rw (← eqb-true a.0 slot q, ← p))) (λ q later k. inr (later k)) (acked_in-from acks slot v) e
 
 -- ---- what is firm, and the floor
 

@@ -1,13 +1,5 @@
 -- What the proofs need of lists, options, choices and functions that were changed at one place.
-use Rattle.std.proofs.Common.{◌≡◌, ◌+◌, ◌<◌, ◌≤◌, Bool, true, false, List, [], ◌∷◌, ◌++◌, refl, sym, subst, ap, ◌∙◌, ◌⊎◌, inl, inr, ◌==◌, true≢false, arith}
-use Rattle.std.proofs.lemmas.Bool.{cond_both, or_cases, and_parts, and_from, or_left, or_right, eq-eqb, eqb-true}
-use Rattle.std.proofs.Math.Path.{fun_ext}
-use Rattle.std.proofs.lemmas.Bool.Decides.{nat_tests}
-use Rattle.std.specs.Prelude.{ℕ, ◌&&◌, ◌||◌, filter, map, if◌then◌else◌, Option, Some, None, is_none}
-use Rattle.std.specs.List.{AllByRecursion, list_any, list_all}
-use Rattle.cluster_model.specs.World.{rest, set_at}
-use Rattle.cluster_model.specs.Laws.{RiseFrom}
-use Rattle.cluster_steps.specs.Lists.{In, OnSome}
+use Rattle.cluster_steps.proofs.Names.{◌≡◌, ◌<◌, ◌≤◌, Bool, true, false, List, [], ◌∷◌, ◌++◌, refl, sym, subst, ap, ◌∙◌, ◌⊎◌, inl, inr, ◌==◌, true≢false, arith, cond_both, or_cases, and_parts, and_from, or_left, or_right, eq-eqb, eqb-true, fun_ext, nat_tests, ℕ, ◌&&◌, ◌||◌, filter, map, if◌then◌else◌, Option, Some, None, is_none, AllByRecursion, list_any, list_all, rest, set_at, RiseFrom, In, OnSome, ◌+◌}
 
 -- ---- choices
 
@@ -68,10 +60,7 @@ in-right x (y ∷ xs) ys i = inr (in-right x xs ys i)
 pub in-cases : {A : Type 0} (x : A) (xs ys : List A) → In x (xs ++ ys) → In x xs ⊎ In x ys
 in-cases x [] ys i = inr i
 in-cases x (y ∷ xs) ys (inl e) = inl (inl e)
-in-cases x (y ∷ xs) ys (inr i) = elim (in-cases x xs ys i) [
-  | inl k ↦ inl (inr k)
-  | inr k ↦ inr k
-]
+in-cases x (y ∷ xs) ys (inr i) = elim (in-cases x xs ys i) [ inl k ↦ inl (inr k) | inr k ↦ inr k ]
 
 pub in-map : {A B : Type 0} (f : A → B) (x : A) (xs : List A) → In x xs → In (f x) (map f xs)
 in-map f x [] i = absurd i
@@ -87,23 +76,14 @@ in-map-from f y (x ∷ xs) (inr i) = let r = in-map-from f y xs i in (r.0, inr r
 pub in-filter : {A : Type 0} (p : A → Bool) (x : A) (xs : List A) → In x (filter p xs) → In x xs × (p x ≡ true)
 in-filter p x [] i = absurd i
 in-filter p x (y ∷ ys) i = cond_both (p y) (y ∷ filter p ys) (filter p ys) (λ l. In x l → In x (y ∷ ys) × (p x ≡ true))
-    (λ e j. elim j [
-      | inl k ↦ (inl k, ap p (sym k) ∙ e)
-      | inr k ↦ let r = in-filter p x ys k in (inr r.0, r.1)
-    ])
+    (λ e j. elim j [ inl k ↦ (inl k, ap p (sym k) ∙ e) | inr k ↦ let r = in-filter p x ys k in (inr r.0, r.1) ])
     (λ _ k. let r = in-filter p x ys k in (inr r.0, r.1)) i
 
 pub filter-in : {A : Type 0} (p : A → Bool) (x : A) (xs : List A) → In x xs → p x ≡ true → In x (filter p xs)
 filter-in p x [] i e = absurd i
 filter-in p x (y ∷ ys) i e = cond_both (p y) (y ∷ filter p ys) (filter p ys) (λ l. In x l)
-    (λ _. elim i [
-      | inl k ↦ inl k
-      | inr k ↦ inr (filter-in p x ys k e)
-    ])
-    (λ n. elim i [
-      | inl k ↦ absurd (true≢false (sym e ∙ ap p (sym k) ∙ n))
-      | inr k ↦ filter-in p x ys k e
-    ])
+    (λ _. elim i [ inl k ↦ inl k | inr k ↦ inr (filter-in p x ys k e) ])
+    (λ n. elim i [ inl k ↦ absurd (true≢false (sym e ∙ ap p (sym k) ∙ n)) | inr k ↦ filter-in p x ys k e ])
 
 pub in-none : {A : Type 0} (xs : List A) → ((x : A) → In x xs → ⊥) → xs ≡ []
 in-none [] f = refl
@@ -223,10 +203,7 @@ list_any-in p (y ∷ ys) x (inr k) e = or_right (p y) (list_any p ys) (list_any-
 -- one that passes
 pub list_any-from : {A : Type 0} (p : A → Bool) (xs : List A) → list_any p xs ≡ true → (x : A) × In x xs × (p x ≡ true)
 list_any-from p [] e = absurd (true≢false (sym e))
-list_any-from p (x ∷ xs) e = elim (or_cases (p x) (list_any p xs) e) [
-  | inl k ↦ (x, inl refl, k)
-  | inr k ↦ let r = list_any-from p xs k in (r.0, inr r.1, r.2)
-]
+list_any-from p (x ∷ xs) e = elim (or_cases (p x) (list_any p xs) e) [ inl k ↦ (x, inl refl, k) | inr k ↦ let r = list_any-from p xs k in (r.0, inr r.1, r.2) ]
 
 -- of a list whose elements pass the first test, and one of them the second: one that passes both
 pub list_all-any : {A : Type 0} (p q : A → Bool) (xs : List A) → list_all p xs ≡ true → list_any q xs ≡ true → (x : A) × (p x ≡ true) × (q x ≡ true)
@@ -243,11 +220,7 @@ set-there f n v g d = let e : (g == n) ≡ false = grind (arith, nat_tests, d) i
 
 -- of the new value at that place, and of the old ones elsewhere
 pub set-both : {A : Type 0} (P : ℕ → A → Type 0) (f : ℕ → A) (n : ℕ) (v : A) → P n v → ((h : ℕ) → (h ≡ n → ⊥) → P h (f h)) → (h : ℕ) → P h (set_at f n v h)
-set-both P f n v p q h = choice (h == n) refl
-  where
-    choice : (b : Bool) → (h == n) ≡ b → P h (if b then v else f h)
-    choice true e = subst (λ z. P z v) (sym (eqb-true h n e)) p
-    choice false e = q h (λ d. grind (arith, nat_tests, e, d))
+set-both P f n v p q h = cond_both (h == n) _ _ (P h) (λ e. subst (λ z. P z v) (sym (eqb-true h n e)) p) (λ e. q h (λ d. grind (arith, nat_tests, e, d)))
 
 -- changed once more there, and changed to what it is there
 pub set-twice : {A : Type 0} (f : ℕ → A) (n : ℕ) (v w : A) → set_at (set_at f n v) n w ≡ set_at f n w

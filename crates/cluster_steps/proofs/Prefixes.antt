@@ -1,11 +1,5 @@
 -- Logs that are a prefix of others, and what is behind a position.
-use Rattle.std.proofs.Common.{◌≡◌, ◌+◌, ◌-◌, ◌≤◌, List, [], ◌∷◌, ◌++◌, length, drop, append_assoc, append-nil, drop-drop, refl, sym, subst, ap, ◌∙◌, ◌⊎◌, inl, inr, arith, take, length-take, take_all, take-append-drop}
-use Rattle.std.proofs.lemmas.Bool.{cases_lt}
-use Rattle.std.proofs.lemmas.List.{drop-append-le, take-append-le}
-use Rattle.std.proofs.lemmas.List.Prefix.{front_rest, front_fits}
-use Rattle.std.specs.Prelude.{ℕ}
-use Rattle.volt_base.specs.declared.entry.Entry.{Entry}
-use Rattle.cluster_steps.specs.Lists.{Prefix}
+use Rattle.cluster_steps.proofs.Names.{◌≡◌, ◌≤◌, List, [], ◌∷◌, ◌++◌, append_assoc, append-nil, drop-drop, refl, sym, subst, ap, ◌∙◌, ◌⊎◌, inl, inr, arith, take, length-take, take_all, take-append-drop, cases_lt, drop-append-le, take-append-le, front_rest, front_fits, ℕ, Entry, Prefix, ◌+◌, ◌-◌, length, drop}
 
 -- ---- prefixes
 

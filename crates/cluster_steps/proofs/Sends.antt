@@ -1,15 +1,6 @@
 -- What a site sends of its state: to copies, to joiners, and in which order.
-use Rattle.std.proofs.Common.{◌≡◌, Bool, true, false, List, [], ◌∷◌, ◌++◌, refl, sym, subst, ap, ◌∙◌, ◌⊎◌, inl, inr, ◌==◌}
-use Rattle.std.proofs.lemmas.Bool.{and_parts, eqb-true, eqb-false}
-use Rattle.std.specs.Prelude.{ℕ, ◌&&◌, if◌then◌else◌, filter, drop, length, unwrap_or}
-use Rattle.std.specs.List.{AllByRecursion}
-use Rattle.volt_base.specs.declared.entry.Entry.{Entry}
+use Rattle.cluster_steps.proofs.Names.{◌≡◌, Bool, true, false, List, [], ◌∷◌, ◌++◌, refl, sym, subst, ap, ◌∙◌, ◌⊎◌, inl, inr, ◌==◌, and_parts, eqb-true, eqb-false, ℕ, ◌&&◌, if◌then◌else◌, filter, drop, length, unwrap_or, AllByRecursion, Entry, Deployment, is_in, Letter, letter_in, SiteState, Reported, Joiner, site_term, start_in_view, order_of, of_order, put_to, tasks_to, repair_to, stream_ends_to, is_sent, In}
 use Rattle.volt_wire.specs.declared.message.Msg.TheVariants as msg
-use Rattle.cluster_model.specs.Words.{Deployment, is_in}
-use Rattle.cluster_model.specs.Letters.{Letter, letter_in}
-use Rattle.cluster_model.specs.SiteState.{SiteState, Reported, Joiner, site_term, start_in_view}
-use Rattle.cluster_model.specs.Site.{order_of, of_order, put_to, tasks_to, repair_to, stream_ends_to, is_sent}
-use Rattle.cluster_steps.specs.Lists.{In}
 use Rattle.cluster_steps.proofs.Lists.{in-map-from, in-filter, all-at, all-from, all-append, all-filter, all-one}
 
 -- ---- in the order in which a site sends
@@ -71,20 +62,11 @@ module _ (D : Deployment) (s : SiteState) (slot : ℕ) where
           → (((k : Reported) → In k (r ∷ rs) → k.slot ≡ slot → ⊥) × ((if b then repair_letter r ∷ [] else repair_to D s slot rs) ≡ []))
           ⊎ ((k : Reported) × In k (r ∷ rs) × (k.slot ≡ slot) × ((if b then repair_letter r ∷ [] else repair_to D s slot rs) ≡ repair_letter k ∷ []))
       choice true e c = inr (r, inl refl, eqb-true r.slot slot e, refl)
-      choice false e (inl c) = inl (
-        (λ k i q. elim i [
-          | inl p ↦ eqb-false r.slot slot e (ap (λ x. x.slot) p ∙ q)
-          | inr p ↦ c.0 k p q
-        ]),
-        c.1,
-      )
+      choice false e (inl c) = inl ((λ k i q. elim i [ inl p ↦ eqb-false r.slot slot e (ap (λ x. x.slot) p ∙ q) | inr p ↦ c.0 k p q ]), c.1)
       choice false e (inr c) = inr (c.0, inr c.1, c.2, c.3)
 
   pub repair-all : (P : Letter → Type 0) (rs : List Reported) → ((r : Reported) → In r rs → r.slot ≡ slot → P (repair_letter r)) → AllByRecursion P (repair_to D s slot rs)
-  repair-all P rs f = elim (repair-cases rs) [
-    | inl c ↦ subst (AllByRecursion P) (sym c.1) tt
-    | inr c ↦ subst (AllByRecursion P) (sym c.3) (f c.0 c.1 c.2, tt)
-  ]
+  repair-all P rs f = elim (repair-cases rs) [ inl c ↦ subst (AllByRecursion P) (sym c.1) tt | inr c ↦ subst (AllByRecursion P) (sym c.3) (f c.0 c.1 c.2, tt) ]
 
 -- ---- that a stream is whole
 

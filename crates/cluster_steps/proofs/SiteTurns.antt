@@ -1,28 +1,6 @@
 -- What goes on over each small step of a site goes on over its whole turn, and what a message or a Sync makes of a site, by cases.
-use Rattle.std.proofs.Common.{◌≡◌, ◌<◌, Bool, true, false, List, [], ◌∷◌, ◌++◌, refl, sym, subst, ap, ◌∙◌, ◌==◌, arith}
-use Rattle.std.proofs.lemmas.Bool.{and_parts, eqb-true}
-use Rattle.std.proofs.lemmas.Bool.Decides.{nat_tests}
-use Rattle.std.specs.Prelude.{ℕ, ◌&&◌, not, max, find, take, length, nat_lt, nat_le, if◌then◌else◌, Option, Some, None, is_none}
-use Rattle.std.specs.List.{AllByRecursion, list_any}
-use Rattle.volt_base.specs.declared.entry.Entry.{Entry}
-use Rattle.volt_base.specs.declared.entry.Entry.TheVariants.{Frag, Done}
-use Rattle.volt_wire.specs.Stream.{StreamHead}
-use Rattle.volt_wire.specs.Word.{Membership}
-use Rattle.volt_wire.specs.declared.actor.Actor.{Actor}
-use Rattle.volt_wire.specs.declared.actor.Actor.TheVariants.{Director, Client, Agent, Site, Scanner}
-use Rattle.volt_wire.specs.declared.message.Msg.{Msg}
+use Rattle.cluster_steps.proofs.Names.{◌≡◌, ◌<◌, Bool, true, false, List, [], ◌∷◌, ◌++◌, refl, sym, subst, ap, ◌∙◌, ◌==◌, arith, and_parts, eqb-true, nat_tests, ℕ, ◌&&◌, not, max, find, nat_lt, nat_le, if◌then◌else◌, Option, Some, None, is_none, AllByRecursion, list_any, Entry, Frag, Done, StreamHead, Membership, Actor, Agent, Site, Scanner, Msg, Database, Shown, after_parts, after_failure, Environment, DiskFails, NoMemory, nothing_open, Deployment, part_of_slot, host_of_slot, is_slot_of, is_member, Blocks, same, Letter, Sends, Waiting, Turn, becomes, sending, ◌▸◌, arrival, Arrival, Taken, Refused, Waits, of_term, above_term, stops_others, SiteState, Streamed, Joining, Ask, emptied, new_joining, is_joiner, leads, leader_in, site_term, holds_for, initiator_in, may_stream, on_stream_start, in_new_term, asks_to_join, on_view, is_lost_in, can_take, takes_first_ask, takes_asks, settles, ordered, site_handler, takes_each, takes_waiting, on_start, on_stop, site_runs, site_takes, after_sync, written, joiner_written, syncs, parts_of_sync, parts_of_message, start_after, stops_so, site_turn, sync_turn, In, cond_both, take}
 use Rattle.volt_wire.specs.declared.message.Msg.TheVariants as msg
-use Rattle.cluster_model.specs.Engine.{Database}
-use Rattle.cluster_model.specs.Disk.{Shown, after_parts, after_failure}
-use Rattle.cluster_model.specs.Environment.{Environment, NoFault, DiskFails, NoMemory, DisksShow}
-use Rattle.cluster_model.specs.Log.{nothing_open}
-use Rattle.cluster_model.specs.Words.{Deployment, part_of_slot, host_of_slot, is_slot_of, is_member}
-use Rattle.cluster_model.specs.Letters.{Blocks, same, Letter, Sends, Waiting, Turn, becomes, sending, ◌▸◌, open_letter, only, arrival, Arrival, Taken, Refused, Waits, of_term, above_term}
-use Rattle.cluster_model.specs.AgentState.{stops_others}
-use Rattle.cluster_model.specs.SiteState.{SiteState, Streamed, Joining, Ask, emptied, new_joining, new_joiner, stopped_site, is_joiner, leads, leader_in, site_term}
-use Rattle.cluster_model.specs.Site.{holds_for, initiator_in, may_stream, on_stream_start, in_new_term, asks_to_join, on_view, is_lost_in, can_take, takes_first_ask, takes_asks, settles, ordered, site_handler, takes_each, takes_waiting, on_start, on_stop, site_runs, site_takes}
-use Rattle.cluster_model.specs.Sync.{after_sync, written, joiner_written, syncs, parts_of_sync, parts_of_message, start_after, stops_so, site_turn, sync_turn}
-use Rattle.cluster_steps.specs.Lists.{In}
 use Rattle.cluster_steps.proofs.Lists.{all-append, all-at, all-from, all-if, all-mono, all-one, in-filter, same-some}
 use Rattle.cluster_steps.proofs.Frames.{InertLetter, InertSends, holds_for-cases}
 use Rattle.cluster_steps.proofs.Steps.{KnownOf, LetsGo, SmallSteps, SayingSteps, HandlerSteps, MayBeTold, with_entry, with_stream}
@@ -33,11 +11,8 @@ use Rattle.cluster_steps.proofs.SiteWalk.{after_sync-walk, as_member-walk, asks_
 -- one that is found passes the test
 found-passes : (test : Ask → Bool) (xs : List Ask) (a : Ask) → find test xs ≡ Some a → test a ≡ true
 found-passes test [] a e = absurd (cc)
-found-passes test (x ∷ xs) a e = choice (test x) refl (found-passes test xs a) e
-  where
-    choice : (b : Bool) → test x ≡ b → (find test xs ≡ Some a → test a ≡ true) → (if b then Some x else find test xs) ≡ Some a → test a ≡ true
-    choice true q later k = ap test (sym (same-some k)) ∙ q
-    choice false q later k = later k
+found-passes test (x ∷ xs) a e = cond_both (test x) _ _ (λ z. (find test xs ≡ Some a → test a ≡ true) → z ≡ Some a → test a ≡ true)
+    (λ q later k. ap test (sym (same-some k)) ∙ q) (λ q later k. later k) (found-passes test xs a) e
 
 module _ (E : Database) (D : Deployment) (i : ℕ) (s : SiteState) where
   -- whom it can take, it takes as a leader whose mark is on its disk
@@ -141,10 +116,7 @@ module _ (E : Database) (D : Deployment) (stamp i : ℕ) (K : SiteState → Acto
 
 -- no word
 abbrev pub NoWord : Actor → Letter → Type 0
-NoWord (Agent h) l = elim l.body as (λ _. Type 0) [
-  | msg.View w ↦ ⊥
-  | _ ↦ Unit {0}
-]
+NoWord (Agent h) l = elim l.body as (λ _. Type 0) [ msg.View w ↦ ⊥ | _ ↦ Unit {0} ]
 NoWord from l = Unit {0}
 
 pub record KeepsWord (s : SiteState) (t : Turn SiteState) : Type 0 where
@@ -195,15 +167,13 @@ module _ (E : Database) (D : Deployment) (i : ℕ) where
 
   pub worked-keeps : (stamp : ℕ) (t : Turn SiteState) → AllByRecursion (λ x. NoWord x.from x.letter) t.state.waiting → KeepsWord t.state (worked_turn E D stamp i t)
   worked-keeps stamp t quiet =
+      let known = all-mono (λ x. NoWord x.from x.letter) (KnownOf (λ s from l. NoWord from l) (site_term t.state)) (λ x k _ _. k) t.state.waiting in
       let s = t.state in
       let k = worked-walk E D stamp i (λ s from l. NoWord from l) KeepsWord (keeps-steps stamp) lets (λ s may first. keeps-same s _ refl refl refl) s (becomes s) (keeps-same s (becomes s) refl refl refl) (known quiet) in
       record { start = k.start; view = k.view; waits = k.waits }
     where
       lets : LetsGo KeepsWord
       lets s ws less = record { start = refl; view = refl; waits = less }
-
-      known : AllByRecursion (λ x. NoWord x.from x.letter) t.state.waiting → KnownAt (λ s from l. NoWord from l) t.state
-      known = all-mono (λ x. NoWord x.from x.letter) (KnownOf (λ s from l. NoWord from l) (site_term t.state)) (λ x k _ _. k) t.state.waiting
 
   -- behind a whole turn, that of what waited and a joiner that is taken among it
   pub whole-keeps : (stamp : ℕ) (t : Turn SiteState) → AllByRecursion (λ x. NoWord x.from x.letter) t.state.waiting → KeepsWord t.state (whole_turn E D stamp i t)
@@ -235,10 +205,7 @@ handler-stays E D stamp i s from l = go from l
       | msg.View w ↦ view w (stays_joiner D i s w) refl
       | m ↦ plain (Agent h) (record l { body = m }) tt
     ]
-    go (Site slot) l = plain (Site slot) l tt
-    go (Scanner x) l = plain (Scanner x) l tt
-    go Director l = plain Director l tt
-    go (Client n) l = plain (Client n) l tt
+    go from l = plain from l tt
 
 pub taken-stays : (E : Database) (D : Deployment) (stamp i : ℕ) (s : SiteState) (from : Actor) (l : Letter) → AllByRecursion (λ x. NoWord x.from x.letter) s.waiting
     → StaysUp s (whole_turn E D stamp i (site_handler E D stamp i s from l)).state
@@ -252,14 +219,8 @@ taken-stays E D stamp i s from l quiet =
 
 -- neither a word, nor a stream
 abbrev pub Plain : Actor → Letter → Type 0
-Plain (Site slot) l = elim l.body as (λ _. Type 0) [
-  | msg.StreamStart head ↦ ⊥
-  | _ ↦ Unit {0}
-]
-Plain (Agent h) l = elim l.body as (λ _. Type 0) [
-  | msg.View w ↦ ⊥
-  | _ ↦ Unit {0}
-]
+Plain (Site slot) l = elim l.body as (λ _. Type 0) [ msg.StreamStart head ↦ ⊥ | _ ↦ Unit {0} ]
+Plain (Agent h) l = elim l.body as (λ _. Type 0) [ msg.View w ↦ ⊥ | _ ↦ Unit {0} ]
 Plain from l = Unit {0}
 
 abbrev pub PlainWaiting : Waiting → Type 0
@@ -270,10 +231,7 @@ plain-word x = go x.from x.letter
   where
     go : (from : Actor) (l : Letter) → Plain from l → NoWord from l
     go (Agent h) l k = k
-    go (Site slot) l k = tt
-    go (Scanner x) l k = tt
-    go Director l k = tt
-    go (Client n) l k = tt
+    go from l k = tt
 
 -- what waits, behind the handler of a message
 pub handler-known : (E : Database) (D : Deployment) (stamp i : ℕ) (s : SiteState) (from : Actor) (l : Letter) → AllByRecursion PlainWaiting s.waiting
@@ -318,9 +276,7 @@ module _ (E : Database) (D : Deployment) (stamp i : ℕ) (R : SiteState → Turn
     | msg.StreamStart head ↦ from-stream slot (record l { body = msg.StreamStart head }) head
     | m ↦ from-plain (Site slot) (record l { body = m }) tt
   ]
-  handler-from (Scanner x) l = from-plain (Scanner x) l tt
-  handler-from Director l = from-plain Director l tt
-  handler-from (Client n) l = from-plain (Client n) l tt
+  handler-from from l = from-plain from l tt
 
 -- ---- what a message makes of a site, by cases
 
@@ -349,12 +305,7 @@ anew s start joining stop contents = record (emptied s start joining) { stop = s
 
 -- what is for the host, and no message that a site takes in its term
 abbrev pub ForHost : Letter → Type 0
-ForHost l = elim l.body as (λ _. Type 0) [
-  | msg.Start start ↦ Unit {0}
-  | msg.Stop start ↦ Unit {0}
-  | msg.Power call choice ↦ Unit {0}
-  | _ ↦ ⊥
-]
+ForHost l = elim l.body as (λ _. Type 0) [ msg.Start start ↦ Unit {0} | msg.Stop start ↦ Unit {0} | msg.Power call choice ↦ Unit {0} | _ ↦ ⊥ ]
 
 stops_so-inert : (D : Deployment) (i : ℕ) (s : SiteState) (start : ℕ) (contents : List Shown) → InertSends (stops_so D i s start contents).sends
 stops_so-inert D i s start contents b = all-if InertLetter (same (Site i) b) [] (stops_others D (host_of_slot D i) start b) tt (others b)
@@ -363,8 +314,7 @@ stops_so-inert D i s start contents b = all-if InertLetter (same (Site i) b) [] 
     others (Agent g) = all-one InertLetter (g == host_of_slot D i) _ (λ _. tt)
     others (Site c) = all-one InertLetter (is_slot_of D (host_of_slot D i) c) _ (λ _. tt)
     others (Scanner x) = all-one InertLetter (is_slot_of D (host_of_slot D i) x) _ (λ _. tt)
-    others Director = tt
-    others (Client n) = tt
+    others from = tt
 
 module _ (E : Database) (D : Deployment) (stamp i : ℕ) (s : SiteState) (from : Actor) (G : Turn SiteState → Type 0)
     (ends : (start stop : ℕ) (joining : Option Joining) (contents : List Shown) (out : Sends) → InertSends out → G (sending (anew s start joining stop contents) out))
@@ -387,28 +337,16 @@ module _ (E : Database) (D : Deployment) (stamp i : ℕ) (s : SiteState) (from :
           go Refused e = aside s.stop s.plans (λ _ q. let r = sym e ∙ q in absurd (cc))
 
       running : G (if s.start == 0 then becomes s else site_runs E D stamp i s from l)
-      running = go (s.start == 0) refl
-        where
-          go : (c : Bool) → (s.start == 0) ≡ c → G (if c then becomes s else site_runs E D stamp i s from l)
-          go true e = aside s.stop s.plans (λ up. absurd (let z = eqb-true s.start 0 e in omega (arith, up, z)))
-          go false e = runs (grind (arith, nat_tests, e))
+      running = cond_both (s.start == 0) _ _ G
+          (λ e. aside s.stop s.plans (λ up. absurd (let z = eqb-true s.start 0 e in omega (arith, up, z)))) (λ e. runs (grind (arith, nat_tests, e)))
 
       starts : (start : ℕ) → ForHost l → G (on_start i s start)
-      starts start k = go (nat_lt s.start start && nat_lt s.stop start)
-        where
-          go : (c : Bool) → G (if c then sending (new_joiner s start) (only (Scanner i) (open_letter (msg.Start start))) else becomes s)
-          go true = ends start s.stop (Some new_joining) s.contents _ (λ b. all-one InertLetter (same (Scanner i) b) _ (λ _. tt))
-          go false = aside s.stop s.plans (λ _ _. k)
+      starts start k = cond_both (nat_lt s.start start && nat_lt s.stop start) _ _ G
+          (λ _. ends start s.stop (Some new_joining) s.contents _ (λ b. all-one InertLetter (same (Scanner i) b) _ (λ _. tt))) (λ _. aside s.stop s.plans (λ _ _. k))
 
       stops : (start : ℕ) → ForHost l → G (becomes (on_stop s start))
-      stops start k = go (nat_le s.start start)
-        where
-          b : SiteState
-          b = record s { stop = max s.stop start }
-
-          go : (c : Bool) → G (becomes (if c then stopped_site b else b))
-          go true = ends 0 (max s.stop start) None s.contents _ (λ b. tt)
-          go false = aside (max s.stop start) s.plans (λ _ _. k)
+      stops start k = cond_both (nat_le s.start start) _ _ (λ z. G (becomes z))
+          (λ _. ends 0 (max s.stop start) None s.contents _ (λ b. tt)) (λ _. aside (max s.stop start) s.plans (λ _ _. k))
 
     abbrev Cases : Letter → Turn SiteState → Type 0
     Cases l t =
@@ -425,10 +363,9 @@ module _ (E : Database) (D : Deployment) (stamp i : ℕ) (s : SiteState) (from :
     ]
 
     pub site_turn-cases : (l : Letter) (o : Environment) → Cases l (site_turn E D stamp i s from l o)
-    site_turn-cases l NoFault = takes-cases l
-    site_turn-cases l (DisksShow shown failed) = takes-cases l
     site_turn-cases l (DiskFails answered) = λ aside waits taken. let xs = after_failure s.contents (parts_of_message s l) answered in ends 0 s.stop None xs (stops_so D i s s.start xs).sends (stops_so-inert D i s s.start xs)
     site_turn-cases l (NoMemory answered) = λ aside waits taken. let xs = after_parts s.contents (take answered (parts_of_message s l)) in ends 0 s.stop None xs (stops_so D i s (start_after s l) xs).sends (stops_so-inert D i s (start_after s l) xs)
+    site_turn-cases l x = takes-cases l
 
 -- ---- a Sync
 
@@ -439,10 +376,9 @@ written_site s = record (written s s.joining) { contents = after_parts s.content
 -- it stops, or says what it has written
 pub sync_turn-cases : (E : Database) (D : Deployment) (i : ℕ) (s : SiteState) (o : Environment) (G : Turn SiteState → Type 0)
     → ((stop : ℕ) (contents : List Shown) (out : Sends) → InertSends out → G (sending (anew s 0 None stop contents) out)) → G (syncs E D i s) → G (sync_turn E D i s o)
-sync_turn-cases E D i s NoFault G ends says = says
-sync_turn-cases E D i s (DisksShow shown failed) G ends says = says
 sync_turn-cases E D i s (DiskFails answered) G ends says = let xs = after_failure s.contents (parts_of_sync s s.joining) answered in ends s.stop xs (stops_so D i s s.start xs).sends (stops_so-inert D i s s.start xs)
 sync_turn-cases E D i s (NoMemory answered) G ends says = let xs = after_parts s.contents (take answered (parts_of_sync s s.joining)) in ends s.stop xs (stops_so D i s s.start xs).sends (stops_so-inert D i s s.start xs)
+sync_turn-cases E D i s x G ends says = says
 
 -- What it has written leaves all this as it was.
 pub record Wrote (s b : SiteState) : Type 0 where
@@ -468,13 +404,8 @@ wrote s = go s.joining refl
 
     streams : (j : Joining) → s.joining ≡ Some j → (o : Option Streamed) → Wrote s (record (joiner_written s j o) { contents = shown })
     streams j e None = same _ refl refl refl refl refl refl refl (λ none. none)
-    streams j e (Some st) = choice j.is_loaded
-      where
-        choice : (c : Bool) → Wrote s (record (if c
-            then record s { joining = Some (record j { written = j.blocks; is_based = true }); on_disk = length s.log; mark = st.mark; base = st.stream_start }
-            else record s { joining = Some (record j { written = j.blocks }) }) { contents = shown })
-        choice true = same _ refl refl refl refl refl refl refl (λ none. absurd (cc))
-        choice false = same _ refl refl refl refl refl refl refl (λ none. absurd (cc))
+    streams j e (Some st) = cond_both j.is_loaded _ _ (λ (z : SiteState). Wrote s (record z { contents = shown }))
+        (λ _. same _ refl refl refl refl refl refl refl (λ none. absurd (cc))) (λ _. same _ refl refl refl refl refl refl refl (λ none. absurd (cc)))
 
     go : (o : Option Joining) → s.joining ≡ o → Wrote s (record (written s o) { contents = shown })
     go None e = same _ refl refl refl refl refl refl refl (λ none. none)

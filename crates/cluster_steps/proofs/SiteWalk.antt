@@ -1,27 +1,11 @@
 -- What goes on over each small step of a site goes on over each of its handlers, and over what follows one.
-use Rattle.std.proofs.Common.{◌≡◌, Bool, true, false, List, [], ◌∷◌, ◌++◌, refl, sym, subst, ap, ◌∙◌, ◌==◌}
-use Rattle.std.proofs.lemmas.Bool.{and_parts, not-true}
-use Rattle.std.specs.Prelude.{ℕ, ◌+◌, ◌&&◌, ◌-◌, not, map, max, filter, drop, length, replicate, nat_lt, if◌then◌else◌, Option, Some, None, is_none, is_some}
-use Rattle.std.specs.List.{AllByRecursion, list_any, list_all}
-use Rattle.volt_base.specs.declared.entry.Entry.{Entry}
-use Rattle.volt_base.specs.declared.entry.Entry.TheVariants.{Sp, Frag, Done}
-use Rattle.volt_base.specs.declared.entry.Outcome.{Outcome}
-use Rattle.volt_wire.specs.Stream.{StreamHead}
-use Rattle.volt_wire.specs.declared.actor.Actor.{Actor}
-use Rattle.volt_wire.specs.declared.actor.Actor.TheVariants.{Director, Client, Agent, Site, Scanner}
+use Rattle.cluster_steps.proofs.Names.{◌≡◌, Bool, true, false, List, [], ◌∷◌, ◌++◌, refl, sym, subst, ap, ◌∙◌, ◌==◌, and_parts, not-true, ℕ, ◌+◌, ◌&&◌, ◌-◌, not, map, max, filter, drop, length, replicate, nat_lt, if◌then◌else◌, Option, Some, None, is_none, is_some, AllByRecursion, list_any, list_all, Entry, Sp, Frag, Done, Outcome, StreamHead, Actor, Director, Client, Agent, Site, Scanner, Database, is_snapshot, answer_behind, nothing_open, open_behind, Deployment, part_of_slot, host_of_slot, is_in, same, Letter, Sends, Turn, becomes, sending, ◌▸◌, only, SiteState, Joining, Joiner, Reported, AskedCall, Scanning, ForJoiner, ForBase, is_joiner, is_leader, leads, leader_in, other_copies, site_term, begins_base, appends, appends_all, put_to, tasks_to, passes_on, leads_with, holds, runs_call, runs_calls, works_calls, on_sp_call, holds_for, initiator_in, on_frag, on_done, counts, noted, on_ack, repair_to, is_repaired, longest, lacks, repairs, on_report, reports_to, asks_to_join, as_member, on_put, on_repair, on_join_ask, is_sent, without_count, ends_streams, with_count, on_scan_end, may_finish, may_stream, on_stream_start, finishes_load, on_chunk, on_stream_end, on_task, is_first_term, has_all_on_disk, tells, tells_initiator, looked, shows, from_agent, from_site, from_scanner, from_director, site_handler, acknowledges, says_loaded, after_sync, cond_both}
 use Rattle.volt_wire.specs.declared.message.Msg.TheVariants as msg
-use Rattle.cluster_model.specs.Engine.{Database}
-use Rattle.cluster_model.specs.Log.{is_snapshot, answer_behind, nothing_open, open_behind}
-use Rattle.cluster_model.specs.Words.{Deployment, part_of_slot, host_of_slot, is_in}
-use Rattle.cluster_model.specs.Letters.{same, Letter, Sends, Turn, becomes, sending, ◌▸◌, only}
-use Rattle.cluster_model.specs.SiteState.{SiteState, Joining, Joiner, Reported, AskedCall, Scanning, ForJoiner, ForBase, is_joiner, is_leader, leads, leader_in, other_copies, site_term}
-use Rattle.cluster_model.specs.Site.{begins_base, appends, appends_all, put_to, tasks_to, passes_on, leads_with, holds, runs_call, runs_calls, works_calls, on_sp_call, holds_for, initiator_in, on_frag, on_done, counts, noted, on_ack, repair_to, is_repaired, longest, lacks, repairs, on_report, reports_to, asks_to_join, as_member, on_put, on_repair, on_join_ask, is_sent, without_count, ends_streams, with_count, on_scan_end, may_finish, may_stream, on_stream_start, finishes_load, on_chunk, on_stream_end, on_task, is_first_term, has_all_on_disk, tells, tells_initiator, looked, shows, from_agent, from_site, from_scanner, from_director, site_handler}
-use Rattle.cluster_model.specs.Sync.{acknowledges, says_loaded, after_sync}
 use Rattle.cluster_steps.proofs.Lists.{all-append, all-if, all-map, all-one}
 use Rattle.cluster_steps.proofs.Prefixes.{prefix-append, prefix-refl}
 use Rattle.cluster_steps.proofs.Frames.{InertLetter, InertSends, AlikeJoiners, all-replicate, counted-alike, positioned, turn-assoc, uncounted-alike, with_rest}
 use Rattle.cluster_steps.proofs.Appends.{Appended, appends-all, grown}
-use Rattle.cluster_steps.proofs.Steps.{MayTell, SmallSteps, SayingSteps, HandlerSteps, MayBeTold, reply_to, with_acks, with_entry, with_reported, with_stream}
+use Rattle.cluster_steps.proofs.Steps.{MayTell, SmallSteps, SayingSteps, HandlerSteps, MayBeTold, reply_to, with_acks, with_entry, with_reported}
 
 -- ---- calls and tests
 
@@ -60,17 +44,11 @@ passes_on-inert : (D : Deployment) (i : ℕ) (e : Entry) (s : SiteState) → Ine
 passes_on-inert D i e s (Site c) =
     all-append InertLetter (put_to D s e c (other_copies D i s)) (tasks_to s e c s.joiners)
     (all-one InertLetter (is_in c (other_copies D i s)) _ (λ _. tt)) (all-map InertLetter _ (λ j. tt) (filter (λ j. j.slot == c) s.joiners))
-passes_on-inert D i e s Director = tt
-passes_on-inert D i e s (Client n) = tt
-passes_on-inert D i e s (Agent h) = tt
-passes_on-inert D i e s (Scanner x) = tt
+passes_on-inert D i e s from = tt
 
 ends_streams-inert : (s : SiteState) → InertSends (ends_streams s).sends
 ends_streams-inert s (Site c) = all-map InertLetter _ (λ j. tt) (filter (λ j. j.slot == c && is_sent s j) s.joiners)
-ends_streams-inert s Director = tt
-ends_streams-inert s (Client n) = tt
-ends_streams-inert s (Agent h) = tt
-ends_streams-inert s (Scanner x) = tt
+ends_streams-inert s from = tt
 
 -- ---- what follows a handler, and a Sync
 
@@ -113,15 +91,9 @@ module _ (E : Database) (D : Deployment) (i : ℕ) (R : SiteState → Turn SiteS
   shows-walk : (s : SiteState) → R s (shows E D i s)
   shows-walk s = walk-if R W s (nat_lt 0 s.looks && nothing_open s.log) _ (becomes s) (λ _. rest-says R W s (record s { looks = 0 }) _ shown) (λ _. W.first s)
     where
-      shown : InertSends (λ b. elim b as (λ _. List Letter) [
-        | Director ↦ replicate s.looks (looked E D i s)
-        | _ ↦ []
-      ])
+      shown : InertSends (λ b. elim b as (λ _. List Letter) [ Director ↦ replicate s.looks (looked E D i s) | _ ↦ [] ])
       shown Director = all-replicate InertLetter s.looks (looked E D i s) tt
-      shown (Client n) = tt
-      shown (Agent h) = tt
-      shown (Site c) = tt
-      shown (Scanner x) = tt
+      shown from = tt
 
   pub settled-walk : MayBeTold E D i R → (s : SiteState) → R s (settled_turn E D i s)
   settled-walk told s =
@@ -149,11 +121,8 @@ module _ (D : Deployment) (i : ℕ) (R : SiteState → Turn SiteState → Type 0
   acknowledges-walk s (Some slot) = M.says s _ (only-inert (Site slot) _ tt)
 
   says_loaded-walk : (s : SiteState) (j : Joining) → s.joining ≡ Some j → R s (says_loaded D i s j)
-  says_loaded-walk s j e = walk-if R M s j.has_told (becomes s) _ (λ _. M.first s)
+  says_loaded-walk s j e = let u : SiteState = record s { joining = Some (record j { has_told = true }) } in walk-if R M s j.has_told (becomes s) _ (λ _. M.first s)
       (λ _. walk-behind R M s u _ (W.joins s j (record j { has_told = true }) s.log e refl refl (prefix-refl s.log)) (M.says u _ (only-inert (Agent (host_of_slot D i)) _ tt)))
-    where
-      u : SiteState
-      u = record s { joining = Some (record j { has_told = true }) }
 
   pub after_sync-walk : (s : SiteState) → R s (after_sync D i s s.joining)
   after_sync-walk s = go s.joining refl
@@ -259,6 +228,7 @@ module _ (E : Database) (D : Deployment) (stamp i : ℕ) (K : SiteState → Acto
   begins-walk : (s : SiteState) → is_leader D i s ≡ true → s.repaired ≡ false → list_all (λ c. list_any (λ r. r.slot == c) s.reports) (other_copies D i s) ≡ true
       → R s (appends_all E D i (lacks (length s.log) (longest (length s.log) None s.reports)) s ▸ is_repaired E D i stamp)
   begins-walk s authoritative un all =
+      let behind : R s (t ▸ repaired) = subst (λ a. R s (sending (repaired a).state (out a))) (sym one.state) from-grown in
       subst (R s) (turn-assoc t repaired (works_calls E D i stamp)) (S.next s (t ▸ repaired) (works_calls E D i stamp) behind (works_calls-walk (repaired t.state).state))
     where
       es : List Entry
@@ -275,10 +245,7 @@ module _ (E : Database) (D : Deployment) (stamp i : ℕ) (K : SiteState → Acto
 
       repaired-inert : (a : SiteState) → InertSends (repaired a).sends
       repaired-inert a (Site slot) = repair_to-inert D a slot a.reports
-      repaired-inert a Director = tt
-      repaired-inert a (Client n) = tt
-      repaired-inert a (Agent h) = tt
-      repaired-inert a (Scanner x) = tt
+      repaired-inert a from = tt
 
       one : Appended i s es t
       one = appends-all E D i es s
@@ -294,9 +261,6 @@ module _ (E : Database) (D : Deployment) (stamp i : ℕ) (K : SiteState → Acto
           let m = with_reported s in
           walk-behind R S s m (sending (repaired g).state (out g)) (W.begun s authoritative un all)
           (rest-says R S m (repaired g).state (out g) (λ b. all-append InertLetter (t.sends b) ((repaired g).sends b) (one.plain b) (repaired-inert g b)))
-
-      behind : R s (t ▸ repaired)
-      behind = subst (λ a. R s (sending (repaired a).state (out a))) (sym one.state) from-grown
 
   repairs-walk : (s : SiteState) → is_leader D i s ≡ true → s.repaired ≡ false → R s (repairs E D i stamp s)
   repairs-walk s authoritative un =
@@ -360,11 +324,7 @@ module _ (E : Database) (D : Deployment) (stamp i : ℕ) (K : SiteState → Acto
       → R s (becomes (on_stream_start s o l head))
   on_stream_start-walk s slot None l head is k = S.first s
   on_stream_start-walk s slot (Some j) l head is k =
-      walk-if-may (may_stream s j l) refl
-    where
-      walk-if-may : (b : Bool) → may_stream s j l ≡ b → R s (becomes (if b then with_stream s j l head else s))
-      walk-if-may true e = W.stream s slot l head j k is e
-      walk-if-may false e = S.first s
+      cond_both (may_stream s j l) _ _ (λ z. R s (becomes z)) (λ e. W.stream s slot l head j k is e) (λ e. S.first s)
 
   on_stream_end-walk : (s : SiteState) (o : Option Joining) (count : ℕ) → s.joining ≡ o → R s (becomes (on_stream_end s o count))
   on_stream_end-walk s None count is = S.first s

@@ -1,18 +1,6 @@
 -- Relations of a site's states alone, whatever it sends: the steps over which they go on, and that they so go on over a turn.
-use Rattle.std.proofs.Common.{◌≡◌, ◌<◌, true, false, List, [], ◌∷◌, ◌++◌, refl, ap, ◌==◌}
-use Rattle.std.proofs.lemmas.Bool.{false_from_ne_true}
-use Rattle.std.specs.Prelude.{ℕ, ◌&&◌, map, filter, length, nat_lt, not, Some, None, is_some}
-use Rattle.std.specs.List.{list_any, list_all}
-use Rattle.volt_base.specs.declared.entry.Entry.TheVariants.{Sp}
-use Rattle.volt_wire.specs.declared.actor.Actor.{Actor}
-use Rattle.volt_wire.specs.declared.actor.Actor.TheVariants.{Agent, Site}
+use Rattle.cluster_steps.proofs.Names.{◌≡◌, ◌<◌, true, false, List, [], ◌∷◌, ◌++◌, refl, ap, ◌==◌, false_from_ne_true, ℕ, ◌&&◌, map, filter, length, nat_lt, not, Some, None, is_some, list_any, list_all, Sp, Actor, Agent, Site, Database, nothing_open, Deployment, part_of_slot, is_some_of, term_of, Letter, Turn, SiteState, Joining, Reported, Joiner, is_leader, leads, leader_in, other_copies, site_term, holds, firm_now, floor_now, longest, lacks}
 use Rattle.volt_wire.specs.declared.message.Msg.TheVariants as msg
-use Rattle.cluster_model.specs.Engine.{Database}
-use Rattle.cluster_model.specs.Log.{nothing_open}
-use Rattle.cluster_model.specs.Words.{Deployment, part_of_slot, is_some_of, term_of}
-use Rattle.cluster_model.specs.Letters.{Letter, Turn}
-use Rattle.cluster_model.specs.SiteState.{SiteState, Joining, Reported, Joiner, is_leader, leads, leader_in, other_copies, site_term}
-use Rattle.cluster_model.specs.Site.{holds, firm_now, floor_now, longest, lacks}
 use Rattle.cluster_steps.proofs.Frames.{begins_at, with_rest}
 use Rattle.cluster_steps.proofs.Steps.{SmallSteps, SayingSteps, HandlerSteps, MayBeTold, reply_to, with_acks, with_entry, with_repair, with_reported, with_stream}
 
@@ -25,10 +13,7 @@ Comes D i s (Site slot) l = elim l.body as (λ _. Type 0) [
   | msg.Repair from entries ↦ is_leader D i s ≡ true → ⊥
   | _ ↦ Unit {0}
 ]
-Comes D i s (Agent h) l = elim l.body as (λ _. Type 0) [
-  | msg.View w ↦ site_term s < term_of w
-  | _ ↦ Unit {0}
-]
+Comes D i s (Agent h) l = elim l.body as (λ _. Type 0) [ msg.View w ↦ site_term s < term_of w | _ ↦ Unit {0} ]
 Comes D i s from l = Unit {0}
 
 -- P of what a Report says
@@ -41,12 +26,7 @@ ReportOf P from l = Unit {0}
 
 -- neither a word, nor a round or an end
 abbrev pub Plainly : Actor → Letter → Type 0
-Plainly (Agent h) l = elim l.body as (λ _. Type 0) [
-  | msg.View w ↦ ⊥
-  | msg.Frag m round body ↦ ⊥
-  | msg.Done m o ↦ ⊥
-  | _ ↦ Unit {0}
-]
+Plainly (Agent h) l = elim l.body as (λ _. Type 0) [ msg.View w ↦ ⊥ | msg.Frag m round body ↦ ⊥ | msg.Done m o ↦ ⊥ | _ ↦ Unit {0} ]
 Plainly from l = Unit {0}
 
 abbrev pub ComesPlainly : Deployment → ℕ → (Reported → Type 0) → SiteState → Actor → Letter → Type 0

@@ -1,23 +1,6 @@
 -- The small steps of which each turn of a site consists: a relation that goes on over each of them goes on over the turn.
-use Rattle.std.proofs.Common.{◌≡◌, true, false, List, [], ◌∷◌, ◌++◌, ◌==◌}
-use Rattle.std.specs.Prelude.{ℕ, map, drop, length, ◌-◌, Some, None}
-use Rattle.std.specs.List.{list_any, list_all}
-use Rattle.volt_base.specs.declared.entry.Entry.{Entry}
-use Rattle.volt_base.specs.declared.entry.Entry.TheVariants.{Sp, Frag, Done}
-use Rattle.volt_base.specs.declared.entry.Outcome.{Outcome}
-use Rattle.volt_wire.specs.Stream.{StreamHead}
-use Rattle.volt_wire.specs.Word.{Membership}
-use Rattle.volt_wire.specs.declared.actor.Actor.{Actor}
-use Rattle.volt_wire.specs.declared.actor.Actor.TheVariants.{Agent, Site}
+use Rattle.cluster_steps.proofs.Names.{◌≡◌, true, false, List, [], ◌∷◌, ◌++◌, ◌==◌, ℕ, map, drop, length, ◌-◌, Some, None, list_any, list_all, Entry, Sp, Frag, Done, Outcome, StreamHead, Membership, Actor, Agent, Site, Database, answer_behind, nothing_open, Deployment, part_of_slot, Letter, Sends, Waiting, Turn, becomes, sending, ◌▸◌, letter_to, SiteState, Joining, Joiner, AskedCall, is_leader, leads, other_copies, site_term, holds, holds_for, initiator_in, firm_now, floor_now, sends_firm, longest, lacks, may_stream, is_first_term, has_all_on_disk, tells_initiator, end_of_reply, In, Prefix}
 use Rattle.volt_wire.specs.declared.message.Msg.TheVariants as msg
-use Rattle.cluster_model.specs.Engine.{Database}
-use Rattle.cluster_model.specs.Log.{answer_behind, nothing_open}
-use Rattle.cluster_model.specs.Words.{Deployment, part_of_slot}
-use Rattle.cluster_model.specs.Letters.{Letter, Sends, Waiting, Turn, becomes, sending, ◌▸◌, letter_to}
-use Rattle.cluster_model.specs.SiteState.{SiteState, Joining, Joiner, AskedCall, is_leader, leads, other_copies, site_term}
-use Rattle.cluster_model.specs.Site.{holds, holds_for, initiator_in, firm_now, floor_now, sends_firm, longest, lacks, may_stream, is_first_term, has_all_on_disk, tells_initiator}
-use Rattle.cluster_model.specs.Initiator.{end_of_reply}
-use Rattle.cluster_steps.specs.Lists.{In, Prefix}
 use Rattle.cluster_steps.proofs.Frames.{InertSends, AlikeJoiner, AlikeJoiners, with_rest}
 
 -- ---- states behind a step

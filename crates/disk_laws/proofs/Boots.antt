@@ -1,24 +1,7 @@
 -- What the disks show as an epoch begins: in the first world, and once a recovery has worked.
-use Rattle.std.proofs.Common.{◌≡◌, ◌<◌, ◌≤◌, Bool, true, false, List, [], ◌∷◌, length, take, take_all, refl, sym, subst, ap, ◌∙◌, inl, inr, ◌==◌, arith}
-use Rattle.std.proofs.lemmas.Bool.{false≢true, false_from_ne_true, cases_Bool}
-use Rattle.std.specs.Prelude.{ℕ, nat_lt, map, unwrap_or, option_map, slice_index, Some, None}
-use Rattle.std.specs.List.{AllByRecursion}
-use Rattle.volt_base.specs.declared.entry.Entry.{Entry}
-use Rattle.cluster_model.specs.Engine.{Database}
-use Rattle.cluster_model.specs.Words.{Deployment, slots, part_of_slot, all_parts}
-use Rattle.cluster_model.specs.Log.{open_in}
-use Rattle.cluster_model.specs.Disk.{Content, Shown, best_of, shown_of_part, chosen, mark_of, greatest_open, resolved, closed, recovered}
-use Rattle.cluster_model.specs.SiteState.{SiteState, no_site, stopped_site, member_site}
-use Rattle.cluster_model.specs.World.{World, Input, first_world, new_word, start_from}
-use Rattle.cluster_model.specs.Recover.{shown_of, new_base, new_log, starts_anew}
+use Rattle.disk_laws.proofs.Names.{◌≡◌, ◌<◌, ◌≤◌, Bool, true, false, List, [], ◌∷◌, length, take, refl, sym, subst, ap, ◌∙◌, inl, inr, ◌==◌, arith, false≢true, false_from_ne_true, cases_Bool, ℕ, nat_lt, map, unwrap_or, option_map, slice_index, Some, None, AllByRecursion, Entry, Database, Deployment, slots, part_of_slot, all_parts, open_in, Content, Shown, best_of, shown_of_part, chosen, mark_of, greatest_open, resolved, closed, recovered, SiteState, no_site, stopped_site, member_site, World, Input, first_world, new_word, start_from, shown_of, new_base, new_log, starts_anew, eqb-same, if-true, if-false, none-and-some, not-both, Prefix, LogState, IsSlot, part, between, log_state, HasLogs, prefix-refl, prefix-same, first_leadership, new_logs, first-logs, anew-logs, first-logs-are, anew-logs-are, Top, Written, Firm, MemberDisk, DiskOk, DisksHold, own_content, shown_at}
+use Rattle.std.proofs.Common.{take_all}
 use Rattle.word_laws.specs.Histories as word
-use Rattle.cluster_steps.proofs.Lists.{eqb-same, if-true, if-false, none-and-some, not-both}
-use Rattle.cluster_steps.specs.Lists.{Prefix}
-use Rattle.log_laws.specs.Histories.{LogState, IsSlot, part, between}
-use Rattle.log_laws.specs.Copies.{log_state, HasLogs}
-use Rattle.cluster_steps.proofs.Prefixes.{prefix-refl, prefix-same}
-use Rattle.log_laws.proofs.Runs.Boots.{first_leadership, new_logs, first-logs, anew-logs, first-logs-are, anew-logs-are}
-use Rattle.disk_laws.specs.Disks.{Top, Written, Firm, MemberDisk, DiskOk, DisksHold, own_content, shown_at}
 use Rattle.disk_laws.proofs.Order.{best-in, shown-from}
 use Rattle.disk_laws.proofs.Choices.{get-none}
 
@@ -58,23 +41,11 @@ module _ (S : LogState) (base start : ℕ) (log : ℕ → List Entry) (k : Disks
   shown-is c q = ap (λ s. s.contents) (site-is c q)
 
   content-written : (p : ℕ) → Written S p (content p)
-  content-written p = record {
-    leadership = first_leadership log p;
-    led = k.leadership p;
-    begun = prefix-refl (log p);
-    term = base;
-    above = omega arith;
-    later = first_leadership log p;
-    later_led = k.leadership p;
-    prefix = prefix-refl (log p);
-  }
+  content-written p = search (first_leadership log p, k.leadership p, prefix-refl (log p), base, arith)
 
   -- it is the log that the site has
   whole : (xs : List Entry) → take (length xs) xs ≡ xs
   whole xs = take_all (length xs) xs (omega arith)
-
-  whole-prefix : (xs : List Entry) → Prefix xs (take (length xs) xs)
-  whole-prefix xs = prefix-same xs (take (length xs) xs) (sym (whole xs))
 
   own-is : (c : ℕ) (q : IsSlot S c) → own_content (site c q) ≡ Some (content (part S c))
   own-is c q = ap (λ l. Some (record { mark = base; base = length (log (part S c)); log = l })) (whole (log (part S c)))
@@ -87,7 +58,7 @@ module _ (S : LogState) (base start : ℕ) (log : ℕ → List Entry) (k : Disks
         mark = rw e (omega arith);
         leadership = first_leadership log (part S c);
         led = rw e (k.leadership (part S c));
-        begun = subst (λ s. Prefix (log (part S c)) (take s.on_disk s.log)) (sym e) (whole-prefix (log (part S c)));
+        begun = subst (λ s. Prefix (log (part S c)) (take s.on_disk s.log)) (sym e) (prefix-same (log (part S c)) (take (length (log (part S c))) (log (part S c))) (sym (whole (log (part S c)))));
         marked = λ _. ap (λ s. s.repaired) e;
         firm = rw e (omega arith);
         owes = inl (ap (λ s. s.owes) e);
@@ -108,25 +79,14 @@ module _ (S : LogState) (base start : ℕ) (log : ℕ → List Entry) (k : Disks
   top-begins : (p : ℕ) → 0 < length (log p) → Top S p base (length (log p))
   top-begins p some =
       let r = k.slots p some in
-      record {
-        slot = r.0;
-        is_slot = r.1;
-        part_is = r.2;
-        all = rw (shown-is r.0 r.1, r.2) (inr (refl, omega arith), tt);
-      }
+      record { slot = r.0; is_slot = r.1; part_is = r.2; all = rw (shown-is r.0 r.1, r.2) (inr (refl, omega arith), tt) }
 
   pub disks-begin : DisksHold S all_firm false
   disks-begin = record {
     disks = disk-begins;
     environment = k.environment;
     streams = λ i c q. rw (k.inert i c) tt;
-    firm = λ p. record {
-      term = base;
-      leadership = first_leadership log p;
-      led = k.leadership p;
-      reach = omega (arith, k.reach p);
-      top = top-begins p;
-    };
+    firm = λ p. record { term = base; leadership = first_leadership log p; led = k.leadership p; reach = omega (arith, k.reach p); top = top-begins p };
     halts = λ e. absurd (false≢true e);
   }
 

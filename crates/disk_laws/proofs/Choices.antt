@@ -1,24 +1,6 @@
 -- What a recovery may choose: whatever contents the disks show, the log that it goes on with has all that was counted firm.
-use Rattle.std.proofs.Common.{◌≡◌, ◌<◌, ◌≤◌, zero, suc, Bool, true, false, List, [], ◌∷◌, length, take, refl, sym, subst, ap, ◌∙◌, inl, inr, arith}
-use Rattle.std.proofs.lemmas.Bool.{cases_Bool, cases_eq}
-use Rattle.std.proofs.lemmas.Bool.Decides.{nat_tests}
-use Rattle.std.specs.Prelude.{ℕ, nat_lt, slice_get, slice_index, option_and_then, Option, Some, None}
-use Rattle.std.specs.List.{AllByRecursion, range_with_len}
-use Rattle.volt_base.specs.declared.entry.Entry.{Entry}
-use Rattle.cluster_model.specs.Engine.{Database}
-use Rattle.cluster_model.specs.Words.{slots}
-use Rattle.cluster_model.specs.Disk.{Content, Shown, chosen, recovered}
-use Rattle.cluster_model.specs.World.{World, AuthoritativeLog}
-use Rattle.cluster_model.specs.Recover.{shown_of, count_shown, new_log}
-use Rattle.cluster_model.specs.Events.{is_shown}
+use Rattle.disk_laws.proofs.Names.{◌≡◌, ◌<◌, ◌≤◌, zero, suc, Bool, true, false, List, [], ◌∷◌, length, take, refl, sym, subst, ap, ◌∙◌, inl, inr, arith, cases_Bool, cases_eq, nat_tests, ℕ, nat_lt, slice_get, slice_index, option_and_then, Option, Some, None, AllByRecursion, range_with_len, Entry, Database, slots, Content, Shown, chosen, recovered, World, AuthoritativeLog, shown_of, count_shown, new_log, is_shown, In, Prefix, none-and-some, not-both, all-at, list_all-at, Logs, LogState, LogsHold, Leadership, IsSlot, part, log_state, HasLogs, AuthoritativeOk, range-in, prefix-none, prefix-trans, prefixes-order, take-of-prefix, take-short, AtLeast, Written, Firm, ContentOk, DisksHold, Shows, shown_at}
 use Rattle.word_laws.specs.Histories as word
-use Rattle.cluster_steps.specs.Lists.{In, Prefix}
-use Rattle.cluster_steps.proofs.Lists.{none-and-some, not-both, all-at, list_all-at}
-use Rattle.log_laws.specs.Histories.{Logs, LogState, LogsHold, Leadership, IsSlot, part}
-use Rattle.log_laws.specs.Copies.{log_state, HasLogs, AuthoritativeOk}
-use Rattle.log_laws.proofs.Plain.Copies.{range-in}
-use Rattle.cluster_steps.proofs.Prefixes.{prefix-none, prefix-trans, prefixes-order, take-of-prefix, take-short}
-use Rattle.disk_laws.specs.Disks.{AtLeast, Written, Firm, ContentOk, DisksHold, Shows, shown_at}
 use Rattle.disk_laws.proofs.Order.{top-chosen, chosen-recovered}
 use Rattle.disk_laws.proofs.Contents.{firm-within, firm-begun, firm-prefix, firm-same}
 

@@ -1,18 +1,5 @@
 -- Contents and firm positions from one state to a later one, and where the logs that stand behind them are.
-use Rattle.std.proofs.Common.{◌≡◌, ◌<◌, ◌≤◌, Bool, true, false, List, length, take, refl, sym, subst, ap, ◌∙◌, inl, inr, arith}
-use Rattle.std.proofs.lemmas.Bool.{cases_eq, cases_lt}
-use Rattle.std.specs.Prelude.{ℕ, Option, Some, None}
-use Rattle.std.specs.List.{AllByRecursion}
-use Rattle.volt_wire.specs.Word.{Membership}
-use Rattle.cluster_model.specs.Disk.{Content, Shown}
-use Rattle.cluster_model.specs.Words.{term_of, term_in}
-use Rattle.cluster_steps.proofs.Lists.{all-mono, same-some, none-and-some}
-use Rattle.log_laws.specs.Histories.{LogState, LogsHold, Leadership, MemberOk, part, site_start, log_at, term_at}
-use Rattle.cluster_steps.specs.Lists.{Prefix}
-use Rattle.cluster_steps.proofs.Prefixes.{prefix-refl, prefix-trans, prefix-take, take-prefix, take-grown, take-of-prefix}
-use Rattle.log_laws.proofs.Runs.Agreeing.{agrees-begun}
-use Rattle.log_laws.proofs.Runs.Laws.{copy-behind, copy-entered, last-before}
-use Rattle.disk_laws.specs.Disks.{Written, Firm, Rebuilt, ContentOk, Top, FirmOk}
+use Rattle.disk_laws.proofs.Names.{none-or-some, ◌≡◌, ◌<◌, ◌≤◌, Bool, true, false, List, length, take, refl, sym, subst, ap, ◌∙◌, inl, inr, arith, cases_eq, cases_lt, ℕ, Some, None, AllByRecursion, Membership, Content, Shown, term_of, term_in, all-mono, same-some, none-and-some, LogState, LogsHold, Leadership, MemberOk, part, site_start, log_at, term_at, Prefix, prefix-refl, prefix-trans, prefix-take, take-prefix, take-grown, take-of-prefix, agrees-begun, copy-behind, copy-entered, last-before, Written, Firm, Rebuilt, ContentOk, Top, FirmOk}
 
 -- ---- from a state to a later one
 
@@ -126,20 +113,19 @@ pub record Behind (S : LogState) (c mark : ℕ) : Type 0 where
 
 module _ (S : LogState) (H : LogsHold S) (c mark : ℕ) (r : Leadership) (led : S.logs.leadership (part S c) mark ≡ Some r) where
   word-behind : 0 < site_start S c → (w : Membership) → MemberOk S c w → mark ≤ term_of w → Behind S c mark
-  word-behind up w m low = choice (S.logs.leadership (part S c) (term_of w)) refl
-    where
-      choice : (o : Option Leadership) → S.logs.leadership (part S c) (term_of w) ≡ o → Behind S c mark
-      choice (Some g) is = record { term = term_of w; above = low; later = g; led = is; prefix = copy-behind S H c w g up m is }
-      choice None is =
-          let unlike : mark ≡ term_of w → ⊥ = λ e. none-and-some is (ap (S.logs.leadership (part S c)) (sym e) ∙ led) in
-          let l = last-before S H c w m is in
-          record {
-            term = l.0;
-            above = l.1.greatest mark r led (omega (arith, low, unlike));
-            later = l.1.leadership;
-            led = l.1.led;
-            prefix = copy-entered S H c w l.0 m is l.1;
-          }
+  word-behind up w m low = elim (none-or-some (S.logs.leadership (part S c) (term_of w))) [
+    | inl is ↦
+        let unlike : mark ≡ term_of w → ⊥ = λ e. none-and-some is (ap (S.logs.leadership (part S c)) (sym e) ∙ led) in
+        let l = last-before S H c w m is in
+        record {
+          term = l.0;
+          above = l.1.greatest mark r led (omega (arith, low, unlike));
+          later = l.1.leadership;
+          led = l.1.led;
+          prefix = copy-entered S H c w l.0 m is l.1;
+        }
+    | inr (g, is) ↦ record { term = term_of w; above = low; later = g; led = is; prefix = copy-behind S H c w g up m is }
+  ]
 
   -- A member's log is a prefix of that of a term that was led: its own, or the last one before.
   pub member-behind : 0 < site_start S c → (S.sites c).joining ≡ None → mark ≤ term_at S c → Behind S c mark

@@ -1,41 +1,14 @@
 -- After a recovery that was stopped nobody serves until one works: no agent has decided a word, and no site leads.
-use Rattle.std.proofs.Common.{◌≡◌, ◌<◌, Bool, true, false, List, refl, sym, subst, ap, ◌∙◌, ◌⊎◌, inl, inr, ◌==◌, arith}
-use Rattle.std.proofs.lemmas.Bool.{and_from, eq-eqb}
-use Rattle.std.specs.Prelude.{ℕ, ◌||◌, Option, Some, None}
-use Rattle.std.specs.List.{AllByRecursion, list_any}
-use Rattle.volt_wire.specs.Word.{Membership}
-use Rattle.volt_wire.specs.declared.actor.Actor.{Actor}
-use Rattle.volt_wire.specs.declared.actor.Actor.TheVariants.{Site}
+use Rattle.disk_laws.proofs.Names.{◌≡◌, ◌<◌, Bool, true, false, List, refl, sym, subst, ap, ◌∙◌, ◌⊎◌, inl, inr, ◌==◌, arith, and_from, eq-eqb, ℕ, ◌||◌, Option, Some, None, AllByRecursion, list_any, Membership, Actor, Site, Deployment, host_of_slot, start_of_slot, is_slot_of, admits, Letter, Sends, Turn, AgentState, SiteState, Joining, Streamed, leads, In, Admitted, Unnamed, names, all-at, all-from, all-append, some-here, same-some, none-and-some, not-both, set-here, set-both, unnamed-not, agent-there, at-good, initiator-named, member-is, LogState, Logs, LogsHold, JoinerOk, StreamIn, ViewIn, RunViews, SiteLetterOk, IsSlot, site_start, between, agent_to_site, views, after_site, sent-either, AgentGoes, leader-view, leads-parts, took-not-named, leads-runs, Halted}
 use Rattle.volt_wire.specs.declared.message.Msg.TheVariants as msg
-use Rattle.cluster_model.specs.Words.{Deployment, host_of_slot, start_of_slot, is_slot_of, admits}
-use Rattle.cluster_model.specs.Letters.{Letter, Sends, Turn}
-use Rattle.cluster_model.specs.AgentState.{AgentState}
-use Rattle.cluster_model.specs.SiteState.{SiteState, Joining, Streamed, leads}
 use Rattle.word_laws.specs.Histories as word
-use Rattle.cluster_steps.specs.Lists.{In}
-use Rattle.word_laws.specs.Histories.{Admitted, Unnamed, names}
-use Rattle.cluster_steps.proofs.Lists.{all-at, all-from, all-append, some-here, same-some, none-and-some, not-both, set-here, set-both}
 use Rattle.word_laws.proofs.Moves as word_moves
-use Rattle.word_laws.proofs.Steps.{unnamed-not}
-use Rattle.word_laws.proofs.Hearings.{agent-there}
-use Rattle.word_laws.proofs.Agreement.{at-good, initiator-named, member-is}
-use Rattle.log_laws.specs.Histories.{LogState, Logs, LogsHold, JoinerOk, StreamIn, ViewIn, RunViews, SiteLetterOk, IsSlot, site_start, between, agent_to_site, views}
-use Rattle.log_laws.proofs.Kept.Moves.{after_site}
-use Rattle.log_laws.proofs.Kept.Plumbing.{sent-either}
-use Rattle.log_laws.proofs.Agents.AgentEvents.{AgentGoes}
-use Rattle.cluster_steps.proofs.Leaders.{leader-view, leads-parts}
-use Rattle.log_laws.proofs.Kept.Terms.{took-not-named}
-use Rattle.log_laws.proofs.Runs.Leading.{leads-runs}
-use Rattle.disk_laws.specs.Disks.{Halted}
 
 -- ---- a joiner that has no stream
 
 -- no stream for this start begins with a message
 abbrev pub NoStreamFor : ℕ → Letter → Type 0
-NoStreamFor start l = elim l.body as (λ _. Type 0) [
-  | msg.StreamStart head ↦ l.start ≡ start → ⊥
-  | _ ↦ Unit {0}
-]
+NoStreamFor start l = elim l.body as (λ _. Type 0) [ msg.StreamStart head ↦ l.start ≡ start → ⊥ | _ ↦ Unit {0} ]
 
 -- It has loaded nothing.
 unloaded : (S : LogState) (c : ℕ) (j : Joining) → JoinerOk S c j → j.stream ≡ None → j.is_loaded ≡ false
@@ -164,10 +137,7 @@ SiteGoes S i s =
 
 -- Only one that leads begins a stream.
 abbrev pub LeadersBegin : Deployment → ℕ → SiteState → Letter → Type 0
-LeadersBegin D i s l = elim l.body as (λ _. Type 0) [
-  | msg.StreamStart head ↦ leads D i s ≡ true
-  | _ ↦ Unit {0}
-]
+LeadersBegin D i s l = elim l.body as (λ _. Type 0) [ msg.StreamStart head ↦ leads D i s ≡ true | _ ↦ Unit {0} ]
 
 module _ (S : LogState) (H : LogsHold S) (K : Halted S) (ch : Actor → Actor → List Letter)
     (fewer : (a b : Actor) (l : Letter) → In l (ch a b) → In l (S.words.channel a b)) (i : ℕ) (slot : IsSlot S i) (s : SiteState) (out : Sends) (G : Logs) where
@@ -193,11 +163,7 @@ module _ (S : LogState) (H : LogsHold S) (K : Halted S) (ch : Actor → Actor �
         (joiner-unnamed S H i slot (subst (λ n. 0 < n) same up) j.0 j.1 j.2)
 
     goes-joins : 0 < s.start → (j : Joining) × (s.joining ≡ Some j) × (j.stream ≡ None)
-    goes-joins up = elim goes [
-      | inl z ↦ absurd (omega (arith, up, z))
-      | inr (inl k) ↦ on s.joining refl k.0 k.1
-      | inr (inr k) ↦ k.0
-    ]
+    goes-joins up = elim goes [ inl z ↦ absurd (omega (arith, up, z)) | inr (inl k) ↦ on s.joining refl k.0 k.1 | inr (inr k) ↦ k.0 ]
       where
         on : (o : Option Joining) → s.joining ≡ o → s.start ≡ site_start S i
             → ((k : Joining) → s.joining ≡ Some k → (j : Joining) × ((S.sites i).joining ≡ Some j) × (k.stream ≡ j.stream))
@@ -207,9 +173,6 @@ module _ (S : LogState) (H : LogsHold S) (K : Halted S) (ch : Actor → Actor �
             let was = K.joiners i (subst (λ n. 0 < n) same up) in
             let m = k j e in
             (j, e, m.2 ∙ ap (λ x. x.stream) (same-some (sym m.1 ∙ was.1)) ∙ was.2)
-
-    still-joiners : (c : ℕ) → 0 < site_start later c → (j : Joining) × ((later.sites c).joining ≡ Some j) × (j.stream ≡ None)
-    still-joiners = set-both (λ c x. 0 < x.start → (j : Joining) × (x.joining ≡ Some j) × (j.stream ≡ None)) S.sites i s goes-joins (λ c other up. K.joiners c up)
 
     -- So it doesn't lead.
     none-leads : leads S.words.deployment i s ≡ true → ⊥
@@ -257,7 +220,7 @@ module _ (S : LogState) (H : LogsHold S) (K : Halted S) (ch : Actor → Actor �
     halted-site = record {
       decided = K.decided;
       unnamed = K.unnamed;
-      joiners = still-joiners;
+      joiners = set-both (λ c x. 0 < x.start → (j : Joining) × (x.joining ≡ Some j) × (j.stream ≡ None)) S.sites i s goes-joins (λ c other up. K.joiners c up);
       streams = λ c m up. sent-either less i s out G (λ j ls. AllByRecursion (NoStreamFor (site_start later c)) ls) (Site c)
           (all-append (NoStreamFor (site_start later c)) (ch (Site i) (Site c)) (out (Site c)) (old-streams c i up) (new-streams c (site_start later c)))
           (λ j other. old-streams c j up) m;

@@ -1,20 +1,6 @@
 -- What a turn of a site leaves as it was of all that its disk shows, and of what the record of disks looks at.
-use Rattle.std.proofs.Common.{◌≡◌, ◌≤◌, true, refl, sym, ap, ◌∙◌, ◌⊎◌, inl, inr, arith}
-use Rattle.std.proofs.lemmas.Bool.{and_parts}
-use Rattle.std.specs.Prelude.{ℕ, not, map, Option, Some, None}
-use Rattle.std.specs.List.{AllByRecursion}
-use Rattle.volt_wire.specs.declared.actor.Actor.{Actor}
-use Rattle.volt_wire.specs.declared.actor.Actor.TheVariants.{Director, Client, Agent, Site, Scanner}
+use Rattle.disk_laws.proofs.Names.{none-or-some, ◌≡◌, ◌≤◌, true, refl, sym, ap, ◌∙◌, ◌⊎◌, inl, inr, arith, and_parts, ℕ, not, map, Some, None, AllByRecursion, Actor, Agent, Site, Deployment, part_of_slot, is_some_of, term_in, Letter, Waiting, Turn, becomes, ◌▸◌, SiteState, Joining, Joiner, site_term, leader_in, is_joiner, leads, In, Prefix, all-append, all-mono, in-map-from, none-and-some, same-some, Plain, PlainWaiting, LogState, HeldOk, SiteWaitingFrom, SiteWaitingOk, leader-view, leads-parts, prefix-refl, prefix-trans}
 use Rattle.volt_wire.specs.declared.message.Msg.TheVariants as msg
-use Rattle.cluster_model.specs.Words.{Deployment, part_of_slot, is_some_of, term_in}
-use Rattle.cluster_model.specs.Letters.{Letter, Waiting, Turn, becomes, ◌▸◌}
-use Rattle.cluster_model.specs.SiteState.{SiteState, Joining, Joiner, site_term, leader_in, is_joiner, leads}
-use Rattle.cluster_steps.specs.Lists.{In, Prefix}
-use Rattle.cluster_steps.proofs.Lists.{all-append, all-mono, in-map-from, none-and-some, same-some}
-use Rattle.cluster_steps.proofs.SiteTurns.{Plain, PlainWaiting}
-use Rattle.log_laws.specs.Histories.{LogState, HeldOk, SiteWaitingFrom, SiteWaitingOk}
-use Rattle.cluster_steps.proofs.Leaders.{leader-view, leads-parts}
-use Rattle.cluster_steps.proofs.Prefixes.{prefix-refl, prefix-trans}
 
 -- ---- the state behind a turn
 
@@ -83,10 +69,7 @@ pub record BeginsOk (D : Deployment) (i c : ℕ) (s u : SiteState) (l : Letter) 
   pub counted : Counts u c
 
 abbrev pub BeginsStream : Deployment → ℕ → ℕ → SiteState → SiteState → Letter → Type 0
-BeginsStream D i c s u l = elim l.body as (λ _. Type 0) [
-  | msg.StreamStart head ↦ BeginsOk D i c s u l head.mark
-  | _ ↦ Unit {0}
-]
+BeginsStream D i c s u l = elim l.body as (λ _. Type 0) [ msg.StreamStart head ↦ BeginsOk D i c s u l head.mark | _ ↦ Unit {0} ]
 
 -- A turn of the site of slot i from s on: its disk and its word stay.
 pub record DiskHandler (D : Deployment) (i : ℕ) (s : SiteState) (t : Turn SiteState) : Type 0 where
@@ -101,21 +84,16 @@ module _ (D : Deployment) (i : ℕ) (s u : SiteState) (h : DiskAt D i s u) where
 
   -- who is a member then was one, and who is a joiner was one
   pub at-was-member : u.joining ≡ None → s.joining ≡ None
-  at-was-member e = choice s.joining refl
-    where
-      choice : (o : Option Joining) → s.joining ≡ o → s.joining ≡ None
-      choice None q = q
-      choice (Some j) q = absurd (none-and-some e (h.joiner j q).1)
+  at-was-member e = elim (none-or-some s.joining) [ inl q ↦ q | inr (j, q) ↦ absurd (none-and-some e (h.joiner j q).1) ]
 
   pub at-was-joiner : (k : Joining) → u.joining ≡ Some k → (j : Joining) × (s.joining ≡ Some j) × (k.stream ≡ j.stream) × (k.is_based ≡ j.is_based)
-  at-was-joiner k e = choice s.joining refl
-    where
-      choice : (o : Option Joining) → s.joining ≡ o → (j : Joining) × (s.joining ≡ Some j) × (k.stream ≡ j.stream) × (k.is_based ≡ j.is_based)
-      choice None q = absurd (none-and-some (h.member q) e)
-      choice (Some j) q =
-          let r = h.joiner j q in
-          let same : r.0 ≡ k = same-some (sym r.1 ∙ e) in
-          (j, q, ap (λ x. x.stream) (sym same) ∙ r.2, ap (λ x. x.is_based) (sym same) ∙ r.3)
+  at-was-joiner k e = elim (none-or-some s.joining) [
+    | inl q ↦ absurd (none-and-some (h.member q) e)
+    | inr (j, q) ↦
+        let r = h.joiner j q in
+        let same : r.0 ≡ k = same-some (sym r.1 ∙ e) in
+        (j, q, ap (λ x. x.stream) (sym same) ∙ r.2, ap (λ x. x.is_based) (sym same) ∙ r.3)
+  ]
 
   -- a leader goes on to lead
   pub at-leads : leads D i s ≡ true → leads D i u ≡ true
@@ -126,10 +104,7 @@ module _ (D : Deployment) (i : ℕ) (s u : SiteState) (h : DiskAt D i s u) where
       rw (h.member m, h.view, h.repaired p.1) (rw q.1 refl)
 
   pub at-firm : s.firm ≤ u.firm
-  at-firm = elim h.firm [
-    | inl e ↦ omega (arith, e)
-    | inr r ↦ r.above
-  ]
+  at-firm = elim h.firm [ inl e ↦ omega (arith, e) | inr r ↦ r.above ]
 
 -- ---- one after the other
 
@@ -162,25 +137,11 @@ module _ (D : Deployment) (i : ℕ) (s m u : SiteState) (h : DiskAt D i s m) (k 
     above = omega (arith, y.above, at-firm D i s m h);
   })
   then-firm (inl x) (inl y) = inl (y ∙ x)
-  then-firm (inr x) (inl y) = inr (record {
-    leads = at-leads D i m u k x.leads;
-    mark = x.mark;
-    disk = omega (arith, x.disk, y);
-    above = omega (arith, x.above, y);
-  })
+  then-firm (inr x) (inl y) = inr (record { leads = at-leads D i m u k x.leads; mark = x.mark; disk = omega (arith, x.disk, y); above = omega (arith, x.above, y) })
 
   pub at-then : DiskAt D i s u
   at-then = record {
-    disk = record {
-      start = k.start ∙ h.start;
-      greatest = k.greatest ∙ h.greatest;
-      earlier = k.earlier ∙ h.earlier;
-      view = k.view ∙ h.view;
-      contents = k.contents ∙ h.contents;
-      mark = k.mark ∙ h.mark;
-      base = k.base ∙ h.base;
-      on_disk = k.on_disk ∙ h.on_disk;
-    };
+    disk = search (k.start ∙ h.start, k.greatest ∙ h.greatest, k.earlier ∙ h.earlier, k.view ∙ h.view, k.contents ∙ h.contents, k.mark ∙ h.mark, k.base ∙ h.base, k.on_disk ∙ h.on_disk);
     log = prefix-trans s.log m.log u.log h.log k.log;
     member = λ e. k.member (h.member e);
     joiner = λ j e. let a = h.joiner j e in let b = k.joiner a.0 a.1 in (b.0, b.1, b.2 ∙ a.2, b.3 ∙ a.3);
@@ -194,25 +155,13 @@ module _ (D : Deployment) (i : ℕ) (s m u : SiteState) (h : DiskAt D i s m) (k 
   -- what was sent on the way, and what is sent then
   then-before : (c : ℕ) (l : Letter) → BeginsStream D i c s m l → BeginsStream D i c s u l
   then-before c l = elim l.body as (λ b. BeginsStream D i c s m (record l { body = b }) → BeginsStream D i c s u (record l { body = b })) [
-    | msg.StreamStart head ↦ λ x. record {
-      mark_is = x.mark_is;
-      term_is = x.term_is;
-      own = x.own;
-      leads = at-leads D i m u k x.leads;
-      counted = k.counted c x.counted;
-    }
+    | msg.StreamStart head ↦ λ x. (search (at-leads D i m u k x.leads, k.counted c x.counted))
     | b ↦ λ x. tt
   ]
 
   then-behind : (c : ℕ) (l : Letter) → BeginsStream D i c m u l → BeginsStream D i c s u l
   then-behind c l = elim l.body as (λ b. BeginsStream D i c m u (record l { body = b }) → BeginsStream D i c s u (record l { body = b })) [
-    | msg.StreamStart head ↦ λ x. record {
-      mark_is = x.mark_is ∙ at-term D i s m h;
-      term_is = x.term_is ∙ at-term D i s m h;
-      own = sym h.mark ∙ x.own ∙ at-term D i s m h;
-      leads = x.leads;
-      counted = x.counted;
-    }
+    | msg.StreamStart head ↦ λ x. (search (x.mark_is ∙ at-term D i s m h, x.term_is ∙ at-term D i s m h, sym h.mark ∙ x.own ∙ at-term D i s m h))
     | b ↦ λ x. tt
   ]
 
@@ -245,6 +194,4 @@ waiting-plain S c x k = go x.from x.letter k.1
       | msg.View w ↦ λ x. x
       | b ↦ λ x. tt
     ]
-    go Director l = λ x. tt
-    go (Client n) l = λ x. tt
-    go (Scanner j) l = λ x. tt
+    go from l = λ x. tt

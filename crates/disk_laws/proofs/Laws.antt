@@ -1,9 +1,5 @@
 -- The laws of disks, from what holds of each world.
-use Rattle.std.specs.Prelude.{ℕ, List}
-use Rattle.cluster_model.specs.Engine.{Database}
-use Rattle.cluster_model.specs.World.{World, Input}
-use Rattle.cluster_model.specs.Runs.{Reached, RunsTo}
-use Rattle.disk_laws.specs.Survival.{Survives, MayShow, GoesOnWithFirm}
+use Rattle.disk_laws.proofs.Names.{ℕ, List, Database, World, Input, Reached, RunsTo, Survives, MayShow, GoesOnWithFirm}
 use Rattle.disk_laws.proofs.Boots.{firm_in}
 use Rattle.disk_laws.proofs.Choices.{no-choice-lacks}
 use Rattle.disk_laws.proofs.Worlds.{runs-go, disks-agree}

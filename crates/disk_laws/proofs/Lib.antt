@@ -1,3 +1,4 @@
+pub mod Names
 pub mod Boots
 pub mod Choices
 pub mod Contents

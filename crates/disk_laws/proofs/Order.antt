@@ -1,23 +1,5 @@
 -- How good contents are, what the parts of an event leave of them, and what a recovery chooses.
-use Rattle.std.proofs.Common.{◌≡◌, ◌<◌, ◌≤◌, Bool, true, false, List, [], ◌∷◌, ◌++◌, length, take, drop, take-append-drop, refl, sym, subst, ap, ◌∙◌, ◌⊎◌, inl, inr, ◌==◌, arith}
-use Rattle.std.proofs.lemmas.Bool.{or_parts, cases_eq, cases_lt, or_cases, and_parts}
-use Rattle.std.proofs.lemmas.Bool.Decides.{nat_tests}
-use Rattle.std.specs.Prelude.{ℕ, ◌&&◌, nat_lt, if◌then◌else◌, map, unwrap_or, Option, Some, None}
-use Rattle.std.specs.List.{AllByRecursion}
-use Rattle.volt_base.specs.declared.entry.Entry.TheVariants.{Done}
-use Rattle.volt_base.specs.declared.entry.Outcome.{Outcome}
-use Rattle.volt_base.specs.declared.entry.Outcome.TheVariants.{Dropped}
-use Rattle.partition_ring.specs.Placement.{slots_of_part}
-use Rattle.cluster_model.specs.Engine.{Database}
-use Rattle.cluster_model.specs.Words.{Deployment, part_of_slot, all_parts}
-use Rattle.cluster_model.specs.Log.{open_in}
-use Rattle.cluster_model.specs.Disk.{Content, Shown, after_parts, after_failure, is_better, better, best_of, shown_of_part, chosen, mark_of, greatest_mark, greatest_open, resolved, closed, recovered}
-use Rattle.cluster_steps.specs.Lists.{In, Prefix}
-use Rattle.cluster_steps.proofs.Lists.{in-left, in-right, in-cases, in-map, in-map-from, all-at, all-from, all-mono}
-use Rattle.log_laws.specs.Histories.{LogState, IsSlot, part}
-use Rattle.log_laws.proofs.Plain.Copies.{part-slots, slots-part}
-use Rattle.cluster_steps.proofs.Prefixes.{prefix-refl}
-use Rattle.disk_laws.specs.Disks.{AtLeast, Top, shown_at}
+use Rattle.disk_laws.proofs.Names.{one-and-others, cond_both, ◌≡◌, ◌<◌, ◌≤◌, Bool, true, false, List, [], ◌∷◌, ◌++◌, length, take, drop, take-append-drop, refl, sym, subst, ap, ◌∙◌, ◌⊎◌, inl, inr, ◌==◌, arith, or_parts, cases_eq, cases_lt, or_cases, and_parts, nat_tests, ℕ, ◌&&◌, nat_lt, if◌then◌else◌, map, unwrap_or, Option, Some, None, AllByRecursion, Done, Outcome, Dropped, slots_of_part, Database, Deployment, part_of_slot, all_parts, open_in, Content, Shown, after_parts, after_failure, is_better, better, best_of, shown_of_part, chosen, mark_of, greatest_mark, greatest_open, resolved, closed, recovered, In, Prefix, in-left, in-right, in-cases, in-map, in-map-from, all-at, all-from, all-mono, LogState, IsSlot, part, part-slots, slots-part, prefix-refl, AtLeast, Top, shown_at}
 
 -- ---- one content and another
 
@@ -46,25 +28,15 @@ at_least-mark m n (Some x) (inr a) = omega (arith, a.0)
 pub in-take : {A : Type 0} (n : ℕ) (x : A) (xs : List A) → In x (take n xs) → In x xs
 in-take n x xs i = subst (In x) (take-append-drop n xs) (in-left x (take n xs) (drop n xs) i)
 
-pub in-drop : {A : Type 0} (n : ℕ) (x : A) (xs : List A) → In x (drop n xs) → In x xs
-in-drop n x xs i = subst (In x) (take-append-drop n xs) (in-right x (take n xs) (drop n xs) i)
-
 -- What is shown after them was shown before, or one of them left it.
 pub in-after_parts : (before parts : List Shown) (y : Shown) → In y (after_parts before parts) → In y before ⊎ In y parts
 in-after_parts before [] y i = inl i
-in-after_parts before (c ∷ cs) y i = elim (in-after_parts (c ∷ []) cs y i) [
-  | inl (inl e) ↦ inr (inl e)
-  | inl (inr n) ↦ absurd n
-  | inr k ↦ inr (inr k)
-]
+in-after_parts before (c ∷ cs) y i = elim (in-after_parts (c ∷ []) cs y i) [ inl (inl e) ↦ inr (inl e) | inl (inr n) ↦ absurd n | inr k ↦ inr (inr k) ]
 
 pub in-after_failure : (before parts : List Shown) (n : ℕ) (y : Shown) → In y (after_failure before parts n) → In y before ⊎ In y parts
 in-after_failure before parts n y i = elim (in-cases y (after_parts before (take n parts)) (take 1 (drop n parts)) i) [
-  | inl k ↦ elim (in-after_parts before (take n parts) y k) [
-    | inl b ↦ inl b
-    | inr p ↦ inr (in-take n y parts p)
-  ]
-  | inr k ↦ inr (in-drop n y parts (in-take 1 y (drop n parts) k))
+  | inl k ↦ elim (in-after_parts before (take n parts) y k) [ inl b ↦ inl b | inr p ↦ inr (in-take n y parts p) ]
+  | inr k ↦ inr (subst (In y) (take-append-drop n parts) (in-right y (take n parts) (drop n parts) (in-take 1 y (drop n parts) k)))
 ]
 
 -- all that answered leave what the last of them leaves
@@ -116,10 +88,6 @@ raise-same xs ys e = subst (Raise xs) (sym e) (raise-refl xs)
 pub raise-one : (x : Content) (ys : List Shown) → AllByRecursion (AtLeast x.mark (length x.log)) ys → Raise (Some x ∷ []) ys
 raise-one x ys h y i = (Some x, inl refl, λ m n k. at_least-trans x y m n k (all-at (AtLeast x.mark (length x.log)) ys h y i))
 
--- what a blank disk comes to show is no worse
-pub raise-blank : (ys : List Shown) → Raise (None ∷ []) ys
-raise-blank ys y i = (None, inl refl, λ m n h. absurd h)
-
 -- if all parts raise what was shown, so does what is left
 module _ (before parts : List Shown) (f : Raise before parts) where
   raised : (y : Shown) → In y before ⊎ In y parts → (x : Shown) × In x before × ((m n : ℕ) → AtLeast m n x → AtLeast m n y)
@@ -135,10 +103,6 @@ module _ (before parts : List Shown) (f : Raise before parts) where
   pub raise-take : (n : ℕ) → Raise before (take n parts)
   raise-take n y i = f y (in-take n y parts i)
 
--- what all contents were at least, all are that were raised
-pub raise-all : (xs ys : List Shown) (m n : ℕ) → Raise xs ys → AllByRecursion (AtLeast m n) xs → AllByRecursion (AtLeast m n) ys
-raise-all xs ys m n f h = all-from (AtLeast m n) ys (λ y i. let r = f y i in r.2 m n (all-at (AtLeast m n) xs h r.0 r.1))
-
 -- ---- the best that a partition's disks show
 
 module _ (S T : LogState) (same : T.words.deployment ≡ S.words.deployment) where
@@ -148,15 +112,13 @@ module _ (S T : LogState) (same : T.words.deployment ≡ S.words.deployment) whe
 
   -- where each slot's contents are raised
   pub top-later : ((c : ℕ) → IsSlot S c → Raise (shown_at S c) (shown_at T c)) → (p m n : ℕ) → Top S p m n → Top T p m n
-  top-later f p m n t = top-on p m n t (raise-all (shown_at S t.slot) (shown_at T t.slot) m n (f t.slot t.is_slot) t.all)
+  top-later f p m n t = top-on p m n t
+      (all-from (AtLeast m n) (shown_at T t.slot) (λ y i. let r = f t.slot t.is_slot y i in r.2 m n (all-at (AtLeast m n) (shown_at S t.slot) t.all r.0 r.1)))
 
   -- where those of one slot are, and the others stay
   pub top-raise : (i : ℕ) → Raise (shown_at S i) (shown_at T i) → ((c : ℕ) → (c ≡ i → ⊥) → shown_at T c ≡ shown_at S c)
       → (p m n : ℕ) → Top S p m n → Top T p m n
-  top-raise i f others = top-later (λ c _. elim (cases_eq c i) [
-    | inl e ↦ subst (λ x. Raise (shown_at S x) (shown_at T x)) (sym e) f
-    | inr d ↦ raise-same (shown_at S c) (shown_at T c) (others c d)
-  ])
+  top-raise i f others = top-later (one-and-others _ i (λ _. f) (λ c d _. raise-same (shown_at S c) (shown_at T c) (others c d)))
 
   -- One slot's contents change, whose marks were all below that of some other slot of its partition.
   pub top-wipe : (i t : ℕ) → ((c : ℕ) → (c ≡ i → ⊥) → shown_at T c ≡ shown_at S c) → (shown_at S i ≡ [] → ⊥)
@@ -215,37 +177,23 @@ not-better a b e = elim (cases_lt b.mark a.mark) [
 ]
   where
     within : a.mark ≡ b.mark → (b.mark == a.mark && nat_lt (length a.log) (length b.log)) ≡ false → length b.log ≤ length a.log
-    within q f = elim (cases_lt (length a.log) (length b.log)) [
-      | inr l ↦ l
-      | inl l ↦ absurd (grind (arith, nat_tests, l, q, f))
-    ]
+    within q f = elim (cases_lt (length a.log) (length b.log)) [ inr l ↦ l | inl l ↦ absurd (grind (arith, nat_tests, l, q, f)) ]
 
 -- the better of two is no worse than either
 better-left : (a b : Shown) (m n : ℕ) → AtLeast m n a → AtLeast m n (better a b)
 better-left None b m n h = absurd h
 better-left (Some a) None m n h = h
-better-left (Some a) (Some b) m n h = choice (is_better b a) refl
-  where
-    choice : (t : Bool) → is_better b a ≡ t → AtLeast m n (if t then Some b else Some a)
-    choice true e = at_least-trans a (Some b) m n h (is-better a b e)
-    choice false e = h
+better-left (Some a) (Some b) m n h = cond_both (is_better b a) _ _ (AtLeast m n) (λ e. at_least-trans a (Some b) m n h (is-better a b e)) (λ e. h)
 
 better-right : (a b : Shown) (m n : ℕ) → AtLeast m n b → AtLeast m n (better a b)
 better-right None b m n h = h
 better-right (Some a) None m n h = absurd h
-better-right (Some a) (Some b) m n h = choice (is_better b a) refl
-  where
-    choice : (t : Bool) → is_better b a ≡ t → AtLeast m n (if t then Some b else Some a)
-    choice true e = h
-    choice false e = at_least-trans b (Some a) m n h (not-better a b e)
+better-right (Some a) (Some b) m n h = cond_both (is_better b a) _ _ (AtLeast m n) (λ e. h) (λ e. at_least-trans b (Some a) m n h (not-better a b e))
 
 -- The best is one of them, and no worse than any.
 pub best-in : (xs : List Shown) (y : Content) → best_of xs ≡ Some y → In (Some y) xs
 best-in [] y e = absurd (cc)
-best-in (c ∷ cs) y e = elim (better-is c (best_of cs)) [
-  | inl k ↦ inl (sym k ∙ e)
-  | inr k ↦ inr (best-in cs y (sym k ∙ e))
-]
+best-in (c ∷ cs) y e = elim (better-is c (best_of cs)) [ inl k ↦ inl (sym k ∙ e) | inr k ↦ inr (best-in cs y (sym k ∙ e)) ]
 
 pub best-at_least : (xs : List Shown) (x : Shown) (m n : ℕ) → In x xs → AtLeast m n x → AtLeast m n (best_of xs)
 best-at_least [] x m n i h = absurd i

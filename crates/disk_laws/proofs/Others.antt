@@ -1,19 +1,7 @@
 -- Events that leave all sites as they are, and what is under way between them: those of agents, the director, clients and scanners.
-use Rattle.std.proofs.Common.{◌≡◌, Bool, true, List, refl, sym, subst, arith}
-use Rattle.std.specs.Prelude.{ℕ}
-use Rattle.std.specs.List.{AllByRecursion}
-use Rattle.volt_wire.specs.declared.actor.Actor.{Actor}
-use Rattle.volt_wire.specs.declared.actor.Actor.TheVariants.{Site}
+use Rattle.disk_laws.proofs.Names.{◌≡◌, Bool, true, List, refl, sym, subst, arith, ℕ, AllByRecursion, Actor, Site, Letter, Turn, AgentState, History, all-mono, LogState, part, site_start, between, prefix-refl, AgentGoes, Top, Firm, ContentOk, DiskOk, StreamLetter, Halted, DisksHold}
 use Rattle.volt_wire.specs.declared.message.Msg.TheVariants as msg
-use Rattle.cluster_model.specs.Letters.{Letter, Turn}
-use Rattle.cluster_model.specs.AgentState.{AgentState}
-use Rattle.word_laws.specs.Histories.{History}
-use Rattle.cluster_steps.proofs.Lists.{all-mono}
 use Rattle.word_laws.proofs.Moves as word_moves
-use Rattle.log_laws.specs.Histories.{LogState, part, site_start, between}
-use Rattle.cluster_steps.proofs.Prefixes.{prefix-refl}
-use Rattle.log_laws.proofs.Agents.AgentEvents.{AgentGoes}
-use Rattle.disk_laws.specs.Disks.{Top, Firm, ContentOk, DiskOk, StreamLetter, Halted, FirmOk, DisksHold}
 use Rattle.disk_laws.proofs.Contents.{rises-same, content-later}
 use Rattle.disk_laws.proofs.Own.{disk-own, own-disk, own-on}
 use Rattle.disk_laws.proofs.Halts.{NoStreamFor, halted-agent}
@@ -42,9 +30,6 @@ module _ (S : LogState) (F : Firm) (halted : Bool) (K : DisksHold S F halted) (n
     | m ↦ λ k. tt
   ] k
 
-  firm-worded : (p : ℕ) → FirmOk S F p → FirmOk worded F p
-  firm-worded p k = record { term = k.term; leadership = k.leadership; led = k.led; reach = k.reach; top = λ some. top-worded p k.term (F p) (k.top some) }
-
   module _ (same : (i c : ℕ) → ch (Site i) (Site c) ≡ between S i c) where
     -- What disks show is kept.
     pub disks-worded : (halted ≡ true → Halted worded) → DisksHold worded F halted
@@ -53,7 +38,7 @@ module _ (S : LogState) (F : Firm) (halted : Bool) (K : DisksHold S F halted) (n
       environment = K.environment;
       streams = λ i c slot. subst (AllByRecursion (StreamLetter worded c)) (sym (same i c))
           (all-mono (StreamLetter S c) (StreamLetter worded c) (stream-worded c) (between S i c) (K.streams i c slot));
-      firm = λ p. firm-worded p (K.firm p);
+      firm = λ p. let k = K.firm p in record { term = k.term; leadership = k.leadership; led = k.led; reach = k.reach; top = λ some. top-worded p k.term (F p) (k.top some) };
       halts = halts;
     }
 

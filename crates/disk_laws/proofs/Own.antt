@@ -1,15 +1,6 @@
 -- What is said of the disk of a running site, of its state alone: a turn that leaves its disk keeps it.
-use Rattle.std.proofs.Common.{◌≡◌, ◌<◌, ◌≤◌, Bool, true, false, [], ◌∷◌, length, take, refl, sym, subst, ap, ◌∙◌, ◌⊎◌, inl, inr, arith}
-use Rattle.std.specs.Prelude.{ℕ, Option, Some, None}
-use Rattle.std.specs.List.{AllByRecursion}
-use Rattle.cluster_model.specs.Disk.{Shown, mark_of}
-use Rattle.cluster_model.specs.Words.{Deployment}
-use Rattle.cluster_model.specs.SiteState.{SiteState, Joining, Streamed, site_term}
-use Rattle.log_laws.specs.Histories.{LogState, Leadership, part}
-use Rattle.cluster_steps.specs.Lists.{Prefix}
-use Rattle.disk_laws.specs.Disks.{Firm, ContentOk, StreamDisk, DiskOk, own_content}
+use Rattle.disk_laws.proofs.Names.{◌≡◌, ◌<◌, ◌≤◌, Bool, true, false, [], ◌∷◌, length, take, refl, sym, subst, ap, ◌∙◌, ◌⊎◌, inl, inr, arith, ℕ, Option, Some, None, AllByRecursion, Shown, mark_of, Deployment, SiteState, Joining, Streamed, site_term, LogState, Leadership, part, Prefix, take-grown, Firm, ContentOk, StreamDisk, DiskOk, own_content}
 use Rattle.disk_laws.proofs.Handlers.{DiskAt, FirmRises, at-term, at-was-member, at-was-joiner}
-use Rattle.cluster_steps.proofs.Prefixes.{take-grown}
 
 -- Of a member, in whose partition these terms were led, and this was counted firm.
 pub record OwnMember (led : ℕ → Option Leadership) (top : ℕ) (s : SiteState) : Type 0 where
@@ -57,39 +48,18 @@ module _ (S : LogState) (F : Firm) (halted : Bool) (c : ℕ) where
     some = k.some;
     contents = k.contents;
     marks = k.marks;
-    member = λ up none. let m = k.member up none in record {
-      shows = m.shows;
-      mark = m.mark;
-      leadership = m.leadership;
-      is_led = m.led;
-      begun = m.begun;
-      marked = m.marked;
-      firm = m.firm;
-      owes = m.owes;
-    };
+    member = λ up none. let m = k.member up none in search m.led;
     joiner = λ e j is. stream-own j j.stream (k.joiner e j is);
   }
 
   pub own-disk : (s : SiteState) → S.sites c ≡ s → OwnAt s → DiskOk S F halted c
-  own-disk s e o = record {
+  own-disk s e o = let k : OwnAt (S.sites c) = subst OwnAt (sym e) o in record {
     some = k.some;
     contents = k.contents;
     marks = k.marks;
-    member = λ up none. let m = k.member up none in record {
-      shows = m.shows;
-      mark = m.mark;
-      leadership = m.leadership;
-      led = m.is_led;
-      begun = m.begun;
-      marked = m.marked;
-      firm = m.firm;
-      owes = m.owes;
-    };
+    member = λ up none. let m = k.member up none in search m.is_led;
     joiner = λ e j is. own-stream j j.stream (k.joiner e j is);
   }
-    where
-      k : OwnAt (S.sites c)
-      k = subst OwnAt (sym e) o
 
 -- It stays so with a history that has grown, and with more that was counted firm.
 pub own-on : (halted : Bool) (C B : Shown → Type 0) (led later : ℕ → Option Leadership) (top more : ℕ) (s : SiteState)
@@ -131,16 +101,10 @@ module _ (D : Deployment) (i : ℕ) (s u : SiteState) (h : DiskAt D i s u) (whol
     is_led = ap led h.mark ∙ k.is_led;
     begun = subst (Prefix k.leadership.begun) (sym taken-same) k.begun;
     marked = λ e. h.repaired (k.marked (sym h.mark ∙ e ∙ at-term D i s u h));
-    firm = elim h.firm [
-      | inl e ↦ omega (arith, e, k.firm)
-      | inr r ↦ rises r
-    ];
+    firm = elim h.firm [ inl e ↦ omega (arith, e, k.firm) | inr r ↦ rises r ];
     owes = elim h.owes [
       | inr x ↦ inr (x.0 ∙ ap Some (sym (at-term D i s u h)), x.1)
-      | inl e ↦ elim k.owes [
-        | inl none ↦ inl (e ∙ none)
-        | inr x ↦ inr (e ∙ x.0 ∙ ap Some (sym (at-term D i s u h)), h.repaired x.1)
-      ]
+      | inl e ↦ elim k.owes [ inl none ↦ inl (e ∙ none) | inr x ↦ inr (e ∙ x.0 ∙ ap Some (sym (at-term D i s u h)), h.repaired x.1) ]
     ];
   }
 

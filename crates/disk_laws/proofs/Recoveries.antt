@@ -1,29 +1,8 @@
 -- A recovery that is stopped: what the disks show from then on, and that all hosts stay stopped.
-use Rattle.std.proofs.Common.{◌≡◌, ◌<◌, Bool, true, false, List, [], ◌∷◌, true≢false, refl, sym, subst, inl, inr, ◌==◌, arith}
-use Rattle.std.proofs.lemmas.Bool.{cases_Bool, and_parts, eqb-true}
-use Rattle.std.proofs.lemmas.Bool.Decides.{nat_tests}
-use Rattle.std.specs.Prelude.{ℕ, ◌&&◌, nat_lt, if◌then◌else◌, slice_index, Option, Some, None}
-use Rattle.std.specs.List.{AllByRecursion, list_all, range_with_len}
-use Rattle.volt_wire.specs.Word.{Membership}
-use Rattle.volt_wire.specs.declared.message.Msg.{Msg}
+use Rattle.disk_laws.proofs.Names.{none-or-some, cond_both, ◌≡◌, ◌<◌, Bool, true, false, List, [], ◌∷◌, true≢false, refl, sym, subst, inl, inr, ◌==◌, arith, cases_Bool, and_parts, eqb-true, nat_tests, ℕ, ◌&&◌, nat_lt, if◌then◌else◌, slice_index, Some, None, AllByRecursion, list_all, range_with_len, Msg, Database, slots, is_host, Blocks, Letter, Shown, mark_of, DisksShow, World, shown_of, all_shown, new_base, new_content, left_contents, stays_stopped, is_stopped, may_recover, is_shown, is_slot_or_none, allows, In, names, all-at, all-from, all-mono, in-map, list_all-at, some-here, LogState, IsSlot, part, between, log_state, HasLogs, range-in, AtLeast, Top, Firm, ContentOk, StreamOk, StreamLetter, Halted, DisksHold}
 use Rattle.volt_wire.specs.declared.message.Msg.TheVariants as msg
 use Rattle.volt_wire.specs.declared.event.Event.TheVariants as event
-use Rattle.cluster_model.specs.Engine.{Database}
-use Rattle.cluster_model.specs.Words.{slots, is_host}
-use Rattle.cluster_model.specs.Letters.{Blocks, Letter}
-use Rattle.cluster_model.specs.Disk.{Shown, mark_of}
-use Rattle.cluster_model.specs.Environment.{DisksShow}
-use Rattle.cluster_model.specs.World.{World}
-use Rattle.cluster_model.specs.Recover.{shown_of, all_shown, new_base, new_content, left_contents, stays_stopped}
-use Rattle.cluster_model.specs.Events.{is_stopped, may_recover, is_shown, is_slot_or_none, allows}
 use Rattle.word_laws.specs.Histories as word
-use Rattle.cluster_steps.specs.Lists.{In}
-use Rattle.word_laws.specs.Histories.{names}
-use Rattle.cluster_steps.proofs.Lists.{all-at, all-from, all-mono, in-map, list_all-at, some-here}
-use Rattle.log_laws.specs.Histories.{LogState, IsSlot, part, between}
-use Rattle.log_laws.specs.Copies.{log_state, HasLogs}
-use Rattle.log_laws.proofs.Plain.Copies.{range-in}
-use Rattle.disk_laws.specs.Disks.{AtLeast, Top, Firm, ContentOk, StreamOk, StreamLetter, Halted, DisksHold}
 use Rattle.disk_laws.proofs.Order.{Raise, greatest_mark-above, at_least-mark, top-later}
 use Rattle.disk_laws.proofs.Contents.{rises-same, content-later, firm-later}
 use Rattle.disk_laws.proofs.Choices.{get-none, disk-shows, world-shows, recovered-firm}
@@ -55,11 +34,8 @@ module _ (E : Database) (w : World) (k : HasLogs w) (F : Firm) (halted : Bool) (
       written true y = (n refl, tt)
       written false true = (old, (n refl, tt))
       written false false = (old, tt)
-  left-all P c q false e h n = read (nat_lt c f) refl
-    where
-      read : (x : Bool) → nat_lt c f ≡ x → AllByRecursion P (if x then shown_of w shown c ∷ [] else (w.sites c).contents)
-      read true t = (all-at P (w.sites c).contents h (shown_of w shown c) (disk-shows w shown (Some (f, false)) e c (grind (arith, nat_tests, t))), tt)
-      read false t = h
+  left-all P c q false e h n = cond_both (nat_lt c f) _ _ (AllByRecursion P)
+      (λ t. (all-at P (w.sites c).contents h (shown_of w shown c) (disk-shows w shown (Some (f, false)) e c (grind (arith, nat_tests, t))), tt)) (λ t. h)
 
   -- it shows something
   left-some : (c : ℕ) (b : Bool) → ((w.sites c).contents ≡ [] → ⊥) → left_contents E w shown (f, b) c ≡ [] → ⊥
@@ -70,11 +46,7 @@ module _ (E : Database) (w : World) (k : HasLogs w) (F : Firm) (halted : Bool) (
       written true y e = absurd (cc)
       written false true e = absurd (cc)
       written false false e = absurd (cc)
-  left-some c false some = read (nat_lt c f)
-    where
-      read : (x : Bool) → (if x then shown_of w shown c ∷ [] else (w.sites c).contents) ≡ [] → ⊥
-      read true e = absurd (cc)
-      read false e = some e
+  left-some c false some = cond_both (nat_lt c f) _ _ (λ z. z ≡ [] → ⊥) (λ _ e. absurd (cc)) (λ _ e. some e)
 
   -- where there is no slot, nothing
   left-none : (c : ℕ) → (IsSlot S c → ⊥) → (b : Bool) → is_slot_or_none w.deployment (Some (f, b)) ≡ true
@@ -135,10 +107,7 @@ module _ (E : Database) (w : World) (k : HasLogs w) (F : Firm) (halted : Bool) (
 
   -- of a stream's letter, by its body
   abbrev Streams : ℕ → Letter → LogState → Msg Blocks → Type 0
-  Streams c l T m = elim m as (λ _. Type 0) [
-    | msg.StreamStart head ↦ StreamOk T c l head.mark
-    | _ ↦ Unit {0}
-  ]
+  Streams c l T m = elim m as (λ _. Type 0) [ msg.StreamStart head ↦ StreamOk T c l head.mark | _ ↦ Unit {0} ]
 
   left-stream : (b : Bool) → is_shown w shown (Some (f, b)) ≡ true → (c : ℕ) (l : Letter) → StreamLetter S c l → StreamLetter (after b) c l
   left-stream b e c l h = elim l.body as (λ m. Streams c l S m → Streams c l (after b) m) [
@@ -172,14 +141,13 @@ module _ (E : Database) (w : World) (k : HasLogs w) (F : Firm) (halted : Bool) (
 
   -- an agent that has stopped has decided no word, since a word names starts alone
   undecided : is_stopped w ≡ true → (h : ℕ) → (w.agents h).decided ≡ None
-  undecided s h = choice (w.agents h).decided refl
-    where
-      choice : (o : Option Membership) → (w.agents h).decided ≡ o → (w.agents h).decided ≡ None
-      choice None e = e
-      choice (Some v) e =
-          let d = some-here (λ x. In x k.history.decided × (names x (w.agents h).start ≡ true)) (w.agents h).decided v e (k.holds.words.agents h).decided in
-          let named : names v 0 ≡ true = subst (λ n. names v n ≡ true) (agent-stopped s h) d.1 in
-          absurd (omega (arith, ((k.holds.words.history.decided_good v d.0).named_begun 0 named).some))
+  undecided s h = elim (none-or-some (w.agents h).decided) [
+    | inl e ↦ e
+    | inr (v, e) ↦
+        let d = some-here (λ x. In x k.history.decided × (names x (w.agents h).start ≡ true)) (w.agents h).decided v e (k.holds.words.agents h).decided in
+        let named : names v 0 ≡ true = subst (λ n. names v n ≡ true) (agent-stopped s h) d.1 in
+        absurd (omega (arith, ((k.holds.words.history.decided_good v d.0).named_begun 0 named).some))
+  ]
 
   stopped-halts : (b : Bool) → is_stopped w ≡ true → Halted (after b)
   stopped-halts b s = record {

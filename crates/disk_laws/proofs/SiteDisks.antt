@@ -1,27 +1,8 @@
 -- What disks show is kept when one site's state changes: the other sites, the letters, and what is firm.
-use Rattle.std.proofs.Common.{◌≡◌, ◌<◌, ◌≤◌, Bool, true, false, List, length, take, length-take, refl, sym, subst, ap, ◌∙◌, ◌⊎◌, inl, inr, arith}
-use Rattle.std.proofs.lemmas.Bool.{cases_Bool, cases_eq, cases_lt}
-use Rattle.std.specs.Prelude.{ℕ, nat_le, max, if◌then◌else◌, None}
-use Rattle.std.specs.List.{AllByRecursion}
-use Rattle.volt_wire.specs.declared.actor.Actor.{Actor}
-use Rattle.volt_wire.specs.declared.actor.Actor.TheVariants.{Site}
+use Rattle.disk_laws.proofs.Names.{one-and-others, cond_both, ◌≡◌, ◌<◌, ◌≤◌, Bool, true, false, List, length, take, length-take, refl, sym, subst, ap, ◌∙◌, ◌⊎◌, inl, inr, arith, cases_Bool, cases_lt, ℕ, nat_le, max, if◌then◌else◌, None, AllByRecursion, Actor, Site, Shown, Deployment, part_of_slot, term_of, term_in, Letter, Sends, SiteState, site_term, leads, AuthoritativeLog, set_at, authoritative_after, In, all-at, all-from, all-append, none-and-some, if-false, set-here, set-there, LogState, Logs, LogsHold, IsSlot, part, site_start, log_at, between, leader-view, leads-parts, Leading, leading, Grown, after_site, here, there, sent-either, leads-runs, AtLeast, Top, Firm, ContentOk, DiskOk, StreamLetter, Halted, FirmOk, DisksHold}
 use Rattle.volt_wire.specs.declared.message.Msg.TheVariants as msg
-use Rattle.cluster_model.specs.Disk.{Shown}
-use Rattle.cluster_model.specs.Words.{Deployment, part_of_slot, term_of, term_in}
-use Rattle.cluster_model.specs.Letters.{Letter, Sends}
-use Rattle.cluster_model.specs.SiteState.{SiteState, site_term, leads}
-use Rattle.cluster_model.specs.World.{AuthoritativeLog, set_at, authoritative_after}
-use Rattle.cluster_steps.specs.Lists.{In}
-use Rattle.cluster_steps.proofs.Lists.{all-at, all-from, all-append, none-and-some, if-false, set-here, set-there}
-use Rattle.log_laws.specs.Histories.{LogState, Logs, LogsHold, IsSlot, part, site_start, log_at, between}
-use Rattle.cluster_steps.proofs.Leaders.{leader-view, leads-parts}
-use Rattle.log_laws.proofs.Entries.Leads.{Leading, leading}
-use Rattle.log_laws.proofs.Kept.Moves.{Grown, after_site}
-use Rattle.log_laws.proofs.Kept.Plumbing.{here, there, sent-either}
-use Rattle.log_laws.proofs.Runs.Leading.{leads-runs}
 use Rattle.disk_laws.proofs.Contents.{Rises, contents-later, firm-later}
 use Rattle.disk_laws.proofs.Own.{OwnAt, disk-own, own-disk, own-on}
-use Rattle.disk_laws.specs.Disks.{AtLeast, Top, Firm, ContentOk, DiskOk, StreamLetter, Halted, FirmOk, DisksHold}
 
 -- ---- what is firm, after a turn of one site
 
@@ -79,27 +60,13 @@ module _ (S : LogState) (H : LogsHold S) (F M : Firm) (halted : Bool) (K : Disks
         none-and-some (leader-view D i s (leads-parts D i s l).0).0 (ap (λ x. x.joining) (sym site) ∙ j.1)
 
     firm-same : leads D i s ≡ false → (p : ℕ) → M p ≡ F p
-    firm-same e p = elim (cases_eq p (part S i)) [
-      | inl q ↦ subst (λ z. M z ≡ F z) (sym q) (raised.own ∙ if-false (leads D i s) (max (F (part S i)) s.firm) (F (part S i)) e)
-      | inr n ↦ raised.others p n
-    ]
-
-    halted-same : halted ≡ true → (p : ℕ) → M p ≡ F p
-    halted-same e = elim (cases_Bool (leads D i s)) [
-      | inl l ↦ absurd (none-leads e l)
-      | inr l ↦ firm-same l
-    ]
+    firm-same e = one-and-others _ (part S i) (raised.own ∙ if-false (leads D i s) (max (F (part S i)) s.firm) (F (part S i)) e) raised.others
 
     -- it never falls
     pub firm-up : (p : ℕ) → F p ≤ M p
-    firm-up p = elim (cases_eq p (part S i)) [
-      | inl q ↦ subst (λ z. F z ≤ M z) (sym q) (own (leads D i s) raised.own)
-      | inr n ↦ let e = raised.others p n in omega (arith, e)
-    ]
-      where
-        own : (b : Bool) → M (part S i) ≡ (if b then max (F (part S i)) s.firm else F (part S i)) → F (part S i) ≤ M (part S i)
-        own true e = omega (arith, e)
-        own false e = omega (arith, e)
+    firm-up = one-and-others _ (part S i)
+        (cond_both (leads D i s) _ _ (λ z. M (part S i) ≡ z → F (part S i) ≤ M (part S i)) (λ _ e. omega (arith, e)) (λ _ e. omega (arith, e)) raised.own)
+        (λ p n. let e = raised.others p n in omega (arith, e))
 
     -- ---- contents
 
@@ -108,7 +75,7 @@ module _ (S : LogState) (H : LogsHold S) (F M : Firm) (halted : Bool) (K : Disks
 
     -- What a disk may show stays what it may show.
     pub contents-on : (p : ℕ) (xs : List Shown) → AllByRecursion (ContentOk S F halted p) xs → AllByRecursion (ContentOk later M halted p) xs
-    contents-on p = contents-later S later rises H L F M p (K.firm p) halted (λ e. halted-same e p)
+    contents-on p = contents-later S later rises H L F M p (K.firm p) halted (λ e. elim (cases_Bool (leads D i s)) [ inl l ↦ absurd (none-leads e l) | inr l ↦ firm-same l p ])
 
     -- ---- the other slots
 
@@ -128,7 +95,7 @@ module _ (S : LogState) (H : LogsHold S) (F M : Firm) (halted : Bool) (K : Disks
 
       -- a leader that raised it has it on its own disk
       firm-raised : leads D i s ≡ true → M (part S i) ≡ s.firm → s.mark ≡ site_term s → s.firm ≤ s.on_disk → FirmOk later M (part S i)
-      firm-raised l e mark disk = record {
+      firm-raised l e mark disk = let marked : (later.sites i).mark ≡ term_of x.word = subst (λ z. z.mark ≡ site_term z) (sym site) mark ∙ ap term_in x.view in record {
         term = term_of x.word;
         leadership = x.leadership;
         led = x.led;
@@ -147,9 +114,6 @@ module _ (S : LogState) (H : LogsHold S) (F M : Firm) (halted : Bool) (K : Disks
           x : Leading later i
           x = leading later i L up (subst (λ z. leads D i z ≡ true) (sym site) l)
 
-          marked : (later.sites i).mark ≡ term_of x.word
-          marked = subst (λ z. z.mark ≡ site_term z) (sym site) mark ∙ ap term_in x.view
-
           whole : M (part S i) ≤ length (take (later.sites i).on_disk (log_at later i))
           whole =
               let a = ((L.sites i).keeps up).on_disk in
@@ -158,23 +122,12 @@ module _ (S : LogState) (H : LogsHold S) (F M : Firm) (halted : Bool) (K : Disks
               omega (arith, a, b, c, e)
 
       firm-own : FirmOk later M (part S i)
-      firm-own = choice (leads D i s) refl raised.own
-        where
-          choice : (b : Bool) → leads D i s ≡ b → M (part S i) ≡ (if b then max (F (part S i)) s.firm else F (part S i)) → FirmOk later M (part S i)
-          choice false l e = firm-kept (part S i) e
-          choice true l e = elim (cases_lt (F (part S i)) s.firm) [
+      firm-own = cond_both (leads D i s) _ _ (λ z. M (part S i) ≡ z → FirmOk later M (part S i))
+          (λ l e. elim (cases_lt (F (part S i)) s.firm) [
             | inr low ↦ firm-kept (part S i) (omega (arith, e, low))
-            | inl high ↦ elim (counted l) [
-              | inl low ↦ absurd (omega (arith, low, high))
-              | inr k ↦ firm-raised l (omega (arith, e, high)) k.0 k.1
-            ]
-          ]
-
-      firm-on : (p : ℕ) → FirmOk later M p
-      firm-on p = elim (cases_eq p (part S i)) [
-        | inl q ↦ subst (FirmOk later M) (sym q) firm-own
-        | inr n ↦ firm-kept p (raised.others p n)
-      ]
+            | inl high ↦ elim (counted l) [ inl low ↦ absurd (omega (arith, low, high)) | inr k ↦ firm-raised l (omega (arith, e, high)) k.0 k.1 ]
+          ])
+          (λ l e. firm-kept (part S i) e) raised.own
 
       -- ---- letters
 
@@ -187,18 +140,13 @@ module _ (S : LogState) (H : LogsHold S) (F M : Firm) (halted : Bool) (K : Disks
       -- Where the site's own disk is well, so are all that were.
       pub disks-after : ((c : ℕ) → IsSlot S c → AllByRecursion (StreamLetter later c) (out (Site c))) → DisksHold later M halted
       disks-after new = record {
-        disks = λ c is. elim (cases_eq c i) [
-          | inl e ↦ subst (DiskOk later M halted) (sym e) own
-          | inr n ↦ disk-other c (there less i s out G c n) (K.disks c is)
-        ];
-        environment = λ c not. elim (cases_eq c i) [
-          | inl e ↦ absurd (not (subst (IsSlot S) (sym e) slot))
-          | inr n ↦ subst (λ x. AllByRecursion (λ y. y ≡ None) x.contents) (sym (there less i s out G c n)) (K.environment c not)
-        ];
+        disks = one-and-others _ i (λ _. own) (λ c n is. disk-other c (there less i s out G c n) (K.disks c is));
+        environment = one-and-others _ i (λ not. absurd (not slot))
+            (λ c n not. subst (λ x. AllByRecursion (λ y. y ≡ None) x.contents) (sym (there less i s out G c n)) (K.environment c not));
         streams = λ j c is. sent-either less i s out G (λ j ls. AllByRecursion (StreamLetter later c) ls) (Site c)
             (all-append (StreamLetter later c) (ch (Site i) (Site c)) (out (Site c)) (old i c is) (new c is))
             (λ k n. old k c is) j;
-        firm = firm-on;
+        firm = one-and-others _ (part S i) firm-own (λ p n. firm-kept p (raised.others p n));
         halts = halts;
       }
         where

@@ -1,34 +1,6 @@
 -- What a turn of a site leaves of its disk: it goes on over each small step.
-use Rattle.std.proofs.Common.{◌≡◌, ◌≤◌, Bool, true, false, List, [], ◌∷◌, ◌++◌, refl, sym, subst, ap, ◌∙◌, ◌⊎◌, inl, inr, ◌==◌, arith}
-use Rattle.std.proofs.lemmas.Bool.{cases_lt, eqb-true}
-use Rattle.std.proofs.lemmas.List.{map-append}
-use Rattle.std.specs.Prelude.{ℕ, ◌+◌, map, max, filter, length, nat_lt, if◌then◌else◌, Option, Some, None}
-use Rattle.std.specs.List.{AllByRecursion}
-use Rattle.volt_base.specs.declared.entry.Entry.{Entry}
-use Rattle.volt_base.specs.declared.entry.Entry.TheVariants.{Sp, Frag, Done}
-use Rattle.volt_wire.specs.Stream.{StreamHead}
-use Rattle.volt_wire.specs.Word.{Membership}
-use Rattle.volt_wire.specs.declared.actor.Actor.{Actor}
-use Rattle.volt_wire.specs.declared.actor.Actor.TheVariants.{Agent, Site}
-use Rattle.volt_wire.specs.declared.message.Msg.{Msg}
+use Rattle.disk_laws.proofs.Names.{cond_both, ◌≡◌, ◌≤◌, Bool, true, false, List, [], ◌∷◌, ◌++◌, refl, sym, subst, ap, ◌∙◌, ◌⊎◌, inl, inr, ◌==◌, arith, cases_lt, eqb-true, map-append, ℕ, ◌+◌, map, max, filter, length, nat_lt, if◌then◌else◌, Option, Some, None, AllByRecursion, Entry, Sp, Frag, Done, StreamHead, Membership, Actor, Agent, Site, Msg, Database, Deployment, Blocks, Letter, Turn, becomes, ◌▸◌, letter_in, only, Arrival, arrival, Taken, Refused, Waits, SiteState, Joining, Reported, Joiner, Ask, leads, site_term, holds, holds_for, initiator_in, own_ack, copy_acks, least_of, at_least, firm_now, floor_now, in_new_term, stream_head, takes_first_ask, on_stream_start, settles, ordered, from_agent, from_site, site_handler, site_runs, after_sync, In, Prefix, all-append, all-filter, all-mono, in-left, in-right, in-map, none-and-some, same-some, prefix-refl, prefix-append, least_of-below, all-order, InertLetter, AlikeJoiners, holds_for-cases, mapped-joiners, with_rest, SmallSteps, SayingSteps, HandlerSteps, MayBeTold, with_acks, with_entry, after_sync-walk, handler-walk, Plain, PlainWaiting, MayTakeAsks, as_entered, as_joiner, takes_asks-cases, enters-walk, handler-known, joins-walk, site_runs-refused, site_runs-taken, site_runs-waits, settles-walk, stays_joiner, turn-walk, HeldOk, HeldFor, answers-all, held-away}
 use Rattle.volt_wire.specs.declared.message.Msg.TheVariants as msg
-use Rattle.cluster_model.specs.Engine.{Database}
-use Rattle.cluster_model.specs.Words.{Deployment}
-use Rattle.cluster_model.specs.Letters.{Blocks, Letter, Turn, becomes, ◌▸◌, letter_in, only, Arrival, arrival, Taken, Refused, Waits}
-use Rattle.cluster_model.specs.SiteState.{SiteState, Joining, Reported, Joiner, Ask, leads, site_term}
-use Rattle.cluster_model.specs.Site.{holds, holds_for, initiator_in, own_ack, copy_acks, least_of, at_least, firm_now, floor_now, in_new_term, stream_head, takes_first_ask, on_stream_start, settles, ordered, from_agent, from_site, site_handler, site_runs}
-use Rattle.cluster_model.specs.Sync.{after_sync}
-use Rattle.cluster_steps.specs.Lists.{In, Prefix}
-use Rattle.cluster_steps.proofs.Lists.{all-append, all-filter, all-mono, in-left, in-right, in-map, none-and-some, same-some}
-use Rattle.cluster_steps.proofs.Prefixes.{prefix-refl, prefix-append}
-use Rattle.cluster_steps.proofs.Least.{least_of-below}
-use Rattle.cluster_steps.proofs.Sends.{all-order}
-use Rattle.cluster_steps.proofs.Frames.{InertLetter, AlikeJoiners, holds_for-cases, mapped-joiners, with_rest}
-use Rattle.cluster_steps.proofs.Steps.{LetsGo, SmallSteps, SayingSteps, HandlerSteps, MayBeTold, with_acks, with_entry}
-use Rattle.cluster_steps.proofs.SiteWalk.{after_sync-walk, handler-walk}
-use Rattle.cluster_steps.proofs.SiteTurns.{Plain, PlainWaiting, MayTakeAsks, as_entered, as_joiner, takes_asks-cases, enters-walk, handler-known, joins-walk, site_runs-refused, site_runs-taken, site_runs-waits, settles-walk, stays_joiner, turn-walk}
-use Rattle.log_laws.specs.Histories.{HeldOk, HeldFor}
-use Rattle.log_laws.proofs.Firmness.Firm.{answers-all, held-away}
 use Rattle.disk_laws.proofs.Handlers.{DiskAt, DiskHandler, same-disk, BeginsStream, Counts, at-first, handler-becomes, handler-then}
 
 -- ---- what a disk doesn't go by
@@ -57,11 +29,8 @@ inert-begins D i c s u l = elim l.body as (λ m. InertLetter (record l { body = 
 
 -- what a site acknowledges to itself
 own-parts : (s : SiteState) (v : ℕ) → own_ack s ≡ Some v → (s.mark ≡ site_term s) × (s.on_disk ≡ v)
-own-parts s v e = choice (s.mark == site_term s) refl e
-  where
-    choice : (b : Bool) → (s.mark == site_term s) ≡ b → (if b then Some s.on_disk else None) ≡ Some v → (s.mark ≡ site_term s) × (s.on_disk ≡ v)
-    choice true q k = (eqb-true s.mark (site_term s) q, same-some k)
-    choice false q k = absurd (cc)
+own-parts s v e = cond_both (s.mark == site_term s) _ _ (λ z. z ≡ Some v → (s.mark ≡ site_term s) × (s.on_disk ≡ v))
+    (λ q k. (eqb-true s.mark (site_term s) q, same-some k)) (λ q k. absurd (cc)) e
 
 -- What is firm now was so before, or is under the site's own mark of the term and on its own disk.
 firm-cases : (D : Deployment) (i : ℕ) (s : SiteState) → (firm_now D i s ≡ s.firm) ⊎ ((s.mark ≡ site_term s) × (firm_now D i s ≤ s.on_disk) × (s.firm ≤ firm_now D i s))
@@ -75,10 +44,7 @@ firm-cases D i s = choice (least_of xs) refl
     choice (Some m) e =
         let q = least_of-below xs m e (own_ack s) (inl refl) in
         let r = own-parts s q.0 q.1 in
-        elim (cases_lt s.firm m) [
-          | inl l ↦ inr (r.0, omega (arith, l, q.2, r.1), omega (arith, l))
-          | inr l ↦ inl (omega (arith, l))
-        ]
+        elim (cases_lt s.firm m) [ inl l ↦ inr (r.0, omega (arith, l, q.2, r.1), omega (arith, l)) | inr l ↦ inl (omega (arith, l)) ]
 
 -- ---- small steps
 
@@ -169,10 +135,7 @@ module _ (D : Deployment) (i : ℕ) where
     joiner = λ j e. (j, e, refl, refl);
     repaired = λ e. e;
     owes = inl refl;
-    firm = elim (firm-cases D i m) [
-      | inl e ↦ inl e
-      | inr r ↦ inr (record { leads = authoritative; mark = r.0; disk = r.1; above = r.2 })
-    ];
+    firm = elim (firm-cases D i m) [ inl e ↦ inl e | inr r ↦ inr (record { leads = authoritative; mark = r.0; disk = r.1; above = r.2 }) ];
     held = all-filter HeldOk (λ d. nat_lt (firm_now D i m) d.position) s.held;
     counted = λ c. subst (In c) (sym same.slots);
   }
@@ -202,9 +165,6 @@ module _ (D : Deployment) (i : ℕ) where
     repair = λ s slot l from entries k. disk-repaired s _ s.reports;
     stream = λ s slot l head j k is may. absurd k;
   }
-
-  disk-lets : LetsGo R
-  disk-lets s ws less = disk-same s (record s { waiting = ws }) refl refl refl
 
 -- ---- a joiner that is taken: its stream begins, under a mark that is on the leader's disk
 
@@ -256,7 +216,7 @@ module _ (E : Database) (D : Deployment) (i : ℕ) where
     -- whose handler is from b on
     taken-handler : arrival s.start (site_term s) l ≡ Taken → (b : SiteState) → DiskHandler D i b (site_handler E D stamp i s from l) → DiskHandler D i b (site_runs E D stamp i s from l)
     taken-handler takes b handler = subst (DiskHandler D i b) (sym (site_runs-taken E D stamp i s from l takes)) (ordered-handler b _
-        (turn-walk E D stamp i (λ _ from l. Plain from l) (DiskHandler D i) (disk-steps D i E stamp) (disk-lets D i) disk-tells disk-asks b (site_handler E D stamp i s from l) handler
+        (turn-walk E D stamp i (λ _ from l. Plain from l) (DiskHandler D i) (disk-steps D i E stamp) (λ s ws less. disk-same D i s (record s { waiting = ws }) refl refl refl) disk-tells disk-asks b (site_handler E D stamp i s from l) handler
         (handler-known E D stamp i s from l plain)))
 
     pub refused-handler : arrival s.start (site_term s) l ≡ Refused → DiskHandler D i s (site_runs E D stamp i s from l)

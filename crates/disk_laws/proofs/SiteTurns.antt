@@ -1,37 +1,7 @@
 -- Disks hold after a site has taken a message, whatever the environment's share is.
-use Rattle.std.proofs.Common.{◌≡◌, ◌<◌, ◌≤◌, Bool, true, false, List, [], ◌∷◌, ◌++◌, length, take, length-take, append_assoc, refl, sym, subst, ap, ◌∙◌, ◌⊎◌, inl, inr, ◌==◌, arith}
-use Rattle.std.proofs.lemmas.Bool.{cases_Bool, and_parts}
-use Rattle.std.proofs.lemmas.Bool.Decides.{nat_tests}
-use Rattle.std.specs.Prelude.{ℕ, ◌&&◌, not, nat_lt, nat_le, is_none, is_some, max, if◌then◌else◌, Option, Some, None}
-use Rattle.std.specs.List.{AllByRecursion}
-use Rattle.volt_wire.specs.Stream.{StreamHead}
-use Rattle.volt_wire.specs.Word.{Membership}
-use Rattle.volt_wire.specs.declared.actor.Actor.{Actor}
-use Rattle.volt_wire.specs.declared.actor.Actor.TheVariants.{Director, Client, Agent, Site, Scanner}
-use Rattle.volt_wire.specs.declared.message.Msg.{Msg}
+use Rattle.disk_laws.proofs.Names.{none-or-some, cond_both, ◌≡◌, ◌<◌, ◌≤◌, Bool, true, false, List, [], ◌∷◌, ◌++◌, length, take, length-take, append_assoc, refl, sym, subst, ap, ◌∙◌, ◌⊎◌, inl, inr, ◌==◌, arith, cases_Bool, and_parts, nat_tests, ℕ, ◌&&◌, not, nat_lt, nat_le, is_none, is_some, max, if◌then◌else◌, Option, Some, None, AllByRecursion, StreamHead, Membership, Actor, Agent, Site, Msg, Database, Deployment, host_of_slot, is_member, term_of, term_in, Shown, mark_of, after_parts, after_failure, Blocks, Letter, Turn, becomes, Arrival, arrival, Taken, Refused, Waits, SiteState, Joining, Streamed, stopped_site, site_term, is_joiner, in_new_term, may_stream, on_stream_start, on_start, on_stop, site_runs, site_takes, may_stream_in, parts_of_message, stops_so, start_after, site_turn, starts_in, Environment, NoFault, DiskFails, NoMemory, DisksShow, In, Prefix, all-mono, none-and-some, same-some, not-both, start-is_member, LogState, Logs, Leadership, LogsHold, IsSlot, SiteLetterOk, SiteWaitingOk, JoinerOk, ViewIn, StreamIn, InWord, Took, HeldOk, StreamedOk, agent_to_site, part, site_start, log_at, term_at, prefixes-order, prefix-trans, prefix-take, Grown, after_site, site_popped, here, taken-for, waits-for, later-word, with_stream, Plain, PlainWaiting, as_entered, as_joiner, stays_joiner, Firm, ContentOk, StreamDisk, StreamOk, StreamLetter, Halted, DisksHold, shown_at}
 use Rattle.volt_wire.specs.declared.message.Msg.TheVariants as msg
-use Rattle.cluster_model.specs.Engine.{Database}
-use Rattle.cluster_model.specs.Words.{Deployment, host_of_slot, is_member, term_of, term_in}
-use Rattle.cluster_model.specs.Disk.{Shown, mark_of, after_parts, after_failure}
-use Rattle.cluster_model.specs.Letters.{Blocks, Letter, Turn, becomes, sending, only, open_letter, Arrival, arrival, Taken, Refused, Waits}
-use Rattle.cluster_model.specs.SiteState.{SiteState, Joining, Streamed, new_joiner, stopped_site, site_term, is_joiner}
-use Rattle.cluster_model.specs.Site.{in_new_term, may_stream, on_stream_start, on_start, on_stop, site_runs, site_takes}
-use Rattle.cluster_model.specs.Sync.{may_stream_in, parts_of_stream, parts_of_message, stops_so, start_after, site_turn}
-use Rattle.cluster_model.specs.Laws.{starts_in}
-use Rattle.cluster_model.specs.Environment.{Environment, NoFault, DiskFails, NoMemory, DisksShow}
-use Rattle.cluster_steps.specs.Lists.{In, Prefix}
-use Rattle.cluster_steps.proofs.Lists.{all-mono, none-and-some, same-some, not-both}
-use Rattle.word_laws.proofs.Members.{start-is_member}
-use Rattle.log_laws.specs.Histories.{LogState, Logs, Leadership, LogsHold, IsSlot, SiteLetterOk, SiteWaitingOk, JoinerOk, ViewIn, StreamIn, InWord, Took, HeldOk, StreamedOk, agent_to_site, part, site_start, log_at, term_at}
-use Rattle.cluster_steps.proofs.Prefixes.{prefixes-order, prefix-trans, prefix-take}
-use Rattle.log_laws.proofs.Kept.Moves.{Grown, after_site, site_popped}
-use Rattle.log_laws.proofs.Kept.Plumbing.{here}
-use Rattle.log_laws.proofs.Messages.Pops.{taken-for, waits-for}
-use Rattle.log_laws.proofs.NewTerms.Taking.{later-word}
-use Rattle.disk_laws.specs.Disks.{Firm, ContentOk, StreamDisk, StreamOk, StreamLetter, Halted, DisksHold, shown_at}
 use Rattle.disk_laws.proofs.Order.{Raise, in-take, in-after_parts, in-after_failure, some-after_parts, some-after_failure, raise-take, raise-after_parts, raise-after_failure}
-use Rattle.cluster_steps.proofs.Steps.{with_stream}
-use Rattle.cluster_steps.proofs.SiteTurns.{Plain, PlainWaiting, as_entered, as_joiner, stays_joiner}
 use Rattle.disk_laws.proofs.Handlers.{DiskHandler, waiting-plain}
 use Rattle.disk_laws.proofs.SiteHandlers.{plain-handler, refused-handler, stream-handler, joins-handler, enters-handler, entered-held}
 use Rattle.disk_laws.proofs.Worded.{later-term, meant-for, unstreamed, word-based, word-start, word-unnamed}
@@ -43,11 +13,7 @@ use Rattle.disk_laws.proofs.Turning.{DisksGo, Kept, Wiped, LeavesShown, firm-bef
 
 -- none but a word and a stream
 abbrev PlainKind : Letter → Type 0
-PlainKind l = elim l.body as (λ _. Type 0) [
-  | msg.View w ↦ ⊥
-  | msg.StreamStart head ↦ ⊥
-  | _ ↦ Unit {0}
-]
+PlainKind l = elim l.body as (λ _. Type 0) [ msg.View w ↦ ⊥ | msg.StreamStart head ↦ ⊥ | _ ↦ Unit {0} ]
 
 plain-for : (from : Actor) (l : Letter) → PlainKind l → Plain from l
 plain-for (Site k) l p = elim l.body as (λ m. PlainKind (record l { body = m }) → Plain (Site k) (record l { body = m })) [
@@ -58,9 +24,7 @@ plain-for (Agent h) l p = elim l.body as (λ m. PlainKind (record l { body = m }
   | msg.View w ↦ λ p. absurd p
   | m ↦ λ p. tt
 ] p
-plain-for Director l p = tt
-plain-for (Client n) l p = tt
-plain-for (Scanner x) l p = tt
+plain-for from l p = tt
 
 not-none : (o : Option Joining) → is_some o ≡ true → o ≡ None → ⊥
 not-none None e q = absurd (cc)
@@ -103,10 +67,7 @@ module _ (S : LogState) (H : LogsHold S) (F : Firm) (halted : Bool) (K : DisksHo
     ]
 
     pub goes-on : halted ≡ false
-    goes-on = elim (cases_Bool halted) [
-      | inr e ↦ e
-      | inl e ↦ absurd ((rw is at ((K.halts e).streams i k up)).0 start-is)
-    ]
+    goes-on = elim (cases_Bool halted) [ inr e ↦ e | inl e ↦ absurd ((rw is at ((K.halts e).streams i k up)).0 start-is) ]
 
     module _ (j : Joining) (joins : s.joining ≡ Some j) (may : may_stream s j l ≡ true) where
       fresh : j.stream ≡ None
@@ -119,14 +80,12 @@ module _ (S : LogState) (H : LogsHold S) (F : Firm) (halted : Bool) (K : DisksHo
       above : s.earlier < l.term
       above = let e = (and_parts (is_none j.stream) (nat_lt s.earlier l.term) may).1 in grind (arith, nat_tests, e)
 
-      old-marks : AllByRecursion (λ x. mark_of x ≤ s.earlier) (shown_at S i)
-      old-marks = subst (StreamDisk S i j) fresh ((K.disks i slot).joiner goes-on j joins)
-
       -- its disk may be wiped
       pub wiped : Wiped S i
       wiped = record {
         mark = l.term;
-        marks = all-mono (λ x. mark_of x ≤ s.earlier) (λ x. mark_of x < l.term) (λ x a. let b = above in omega (arith, a, b)) (shown_at S i) old-marks;
+        marks = all-mono (λ x. mark_of x ≤ s.earlier) (λ x. mark_of x < l.term) (λ x a. let b = above in omega (arith, a, b)) (shown_at S i)
+            (subst (StreamDisk S i j) fresh ((K.disks i slot).joiner goes-on j joins));
         top = letter.top;
       }
 
@@ -189,9 +148,6 @@ module _ (S : LogState) (H : LogsHold S) (F : Firm) (halted : Bool) (K : DisksHo
       abbrev word-for : l.start ≡ site_start S i
       word-for = word-start S H i slot up h l w ls is take-it
 
-      later-named : (v : Membership) → s.view ≡ Some v → is_member w (host_of_slot D i) (site_start S i) ≡ true
-      later-named v e = start-is_member w (host_of_slot D i) (site_start S i) (later-word S H h i l w ls is word-for up v e).1
-
       higher : term_at S i < term_of w
       higher = later-term S H i slot up h l w ls is take-it
 
@@ -205,7 +161,7 @@ module _ (S : LogState) (H : LogsHold S) (F : Firm) (halted : Bool) (K : DisksHo
           where
             choice : (o : Option Membership) → s.view ≡ o → o ≡ None
             choice None e = refl
-            choice (Some v) e = absurd (both-not (is_member w (host_of_slot D i) (site_start S i)) (later-named v e)
+            choice (Some v) e = absurd (both-not (is_member w (host_of_slot D i) (site_start S i)) (start-is_member w (host_of_slot D i) (site_start S i) (later-word S H h i l w ls is word-for up v e).1)
                 (and_parts (is_joiner s) (not (is_member w (host_of_slot D i) (site_start S i))) stays).1)
 
         joins-own : (C : Shown → Type 0) (led : ℕ → Option Leadership) (top : ℕ) → Own halted C led top s → Own halted C led top (as_joiner s w)
@@ -330,7 +286,10 @@ module _ (S : LogState) (H : LogsHold S) (F : Firm) (halted : Bool) (K : DisksHo
             }
 
         joiner-own : (j : Joining) → s.joining ≡ Some j → OwnMember (G.leadership (part S i)) (M (part S i)) (as_entered s w)
-        joiner-own j joins = worded s.view refl
+        joiner-own j joins = elim (none-or-some s.view) [
+          | inl e ↦ absurd (word-unnamed S H i slot up h l w ls is take-it j joins e stays)
+          | inr (v, e) ↦ streamed-own v e j.stream refl (old-own.joiner entered-on j joins)
+        ]
           where
             streamed-own : (v : Membership) → s.view ≡ Some v → (o : Option Streamed) → j.stream ≡ o → OwnStream s j o
                 → OwnMember (G.leadership (part S i)) (M (part S i)) (as_entered s w)
@@ -338,22 +297,14 @@ module _ (S : LogState) (H : LogsHold S) (F : Firm) (halted : Bool) (K : DisksHo
             streamed-own v e None q k =
                 absurd (not-both j.is_loaded (((H.sites i).joiner j joins).based (based j joins v e)) (unstreamed S H i j joins q).0)
 
-            worded : (o : Option Membership) → s.view ≡ o → OwnMember (G.leadership (part S i)) (M (part S i)) (as_entered s w)
-            worded (Some v) e = streamed-own v e j.stream refl (old-own.joiner entered-on j joins)
-            worded None e = absurd (word-unnamed S H i slot up h l w ls is take-it j joins e stays)
-
         entered-own : Own halted (ContentOk U M halted (part S i)) (G.leadership (part S i)) (M (part S i)) (as_entered s w)
         entered-own = record {
           some = old-own.some;
           contents = old-own.contents;
           marks = λ e. all-mono (λ x. mark_of x ≤ s.greatest) (λ x. mark_of x ≤ max s.greatest (term_of w)) (λ x a. omega (arith, a)) (shown_at S i) (old-own.marks e);
-          member = λ _ _. choice s.joining refl;
+          member = λ _ _. elim (none-or-some s.joining) [ inl e ↦ member-own e | inr (j, e) ↦ joiner-own j e ];
           joiner = λ e j q. absurd (cc);
         }
-          where
-            choice : (o : Option Joining) → s.joining ≡ o → OwnMember (G.leadership (part S i)) (M (part S i)) (as_entered s w)
-            choice None e = member-own e
-            choice (Some j) e = joiner-own j e
 
         pub enters-disks : DisksGo S U M halted
         enters-disks = handler-disks S H F halted K (taken-from S (Agent h) i) (fewer S (Agent h) i) i slot t M G L grown raised halts (as_entered s w) entered-own
@@ -397,14 +348,9 @@ module _ (S : LogState) (H : LogsHold S) (F : Firm) (halted : Bool) (K : DisksHo
           (refused-handler E D i stamp s (Site k) (record l { body = msg.StreamStart head }) (waits-plain up) e)
       choice Waits e =
           let w = waits-for (site_start S i) (term_at S i) (record l { body = msg.StreamStart head }) e in
-          elim w.0 [
-            | inl z ↦ let a = reach.0 in absurd (omega (arith, a, z))
-            | inr q ↦ let a = reach.2 (sym q) in let b = w.1 in absurd (omega (arith, a, b))
-          ]
+          elim w.0 [ inl z ↦ let a = reach.0 in absurd (omega (arith, a, z)) | inr q ↦ let a = reach.2 (sym q) in let b = w.1 in absurd (omega (arith, a, b)) ]
   stream-turn (Agent h) l head ls is up E stamp = absurd ((rw is at (H.foreign (Agent h) i)).0)
-  stream-turn Director l head ls is up E stamp = absurd ((rw is at (H.foreign Director i)).0)
-  stream-turn (Client n) l head ls is up E stamp = absurd ((rw is at (H.foreign (Client n) i)).0)
-  stream-turn (Scanner x) l head ls is up E stamp = absurd ((rw is at (H.foreign (Scanner x) i)).0)
+  stream-turn from l head ls is up E stamp = absurd ((rw is at (H.foreign from i)).0)
 
   plain-turn : (from : Actor) (l : Letter) → Plain from l → 0 < site_start S i → (E : Database) (stamp : ℕ) → Kept S F halted from i (site_runs E D stamp i s from l)
   plain-turn from l p up E stamp = handler-kept S H F halted K from i slot (site_runs E D stamp i s from l) up (plain-handler E D i stamp s from l (waits-plain up) p)
@@ -412,10 +358,7 @@ module _ (S : LogState) (H : LogsHold S) (F : Firm) (halted : Bool) (K : DisksHo
   view-turn : (from : Actor) (l : Letter) (w : Membership) (ls : List Letter) → S.words.channel from (Site i) ≡ record l { body = msg.View w } ∷ ls → 0 < site_start S i
       → (E : Database) (stamp : ℕ) → Kept S F halted from i (site_runs E D stamp i s from (record l { body = msg.View w }))
   view-turn (Agent h) l w ls is = view-kept h l w ls is
-  view-turn (Site k) l w ls is = plain-turn (Site k) (record l { body = msg.View w }) tt
-  view-turn Director l w ls is = plain-turn Director (record l { body = msg.View w }) tt
-  view-turn (Client n) l w ls is = plain-turn (Client n) (record l { body = msg.View w }) tt
-  view-turn (Scanner x) l w ls is = plain-turn (Scanner x) (record l { body = msg.View w }) tt
+  view-turn from l w ls is = plain-turn from (record l { body = msg.View w }) tt
 
   -- ---- starts and stops
 
@@ -424,25 +367,17 @@ module _ (S : LogState) (H : LogsHold S) (F : Firm) (halted : Bool) (K : DisksHo
   fresh-start (Agent h) l a ls is =
       let own : agent_to_site S i ≡ record l { body = msg.Start a } ∷ ls = ap (λ z. S.words.channel (Agent z) (Site i)) (sym (rw is at (H.foreign (Agent h) i)).0) ∙ is in
       ((H.views i).starting a (subst (λ x. In a (starts_in x)) (sym own) (inl refl))).0
-  fresh-start (Site k) l a ls is = absurd ((rw is at (H.foreign (Site k) i)).0)
-  fresh-start Director l a ls is = absurd ((rw is at (H.foreign Director i)).0)
-  fresh-start (Client n) l a ls is = absurd ((rw is at (H.foreign (Client n) i)).0)
-  fresh-start (Scanner x) l a ls is = absurd ((rw is at (H.foreign (Scanner x) i)).0)
+  fresh-start from l a ls is = absurd ((rw is at (H.foreign from i)).0)
 
   module _ (from : Actor) where
     start-turn : (a : ℕ) → (In a (S.logs.ran i) → ⊥) → Kept S F halted from i (on_start i s a)
-    start-turn a fresh = choice (nat_lt s.start a && nat_lt s.stop a)
-      where
-        choice : (b : Bool) → Kept S F halted from i (if b then sending (new_joiner s a) (only (Scanner i) (open_letter (msg.Start a))) else becomes s)
-        choice true = begins-kept S H F halted K from i slot a fresh
-        choice false = still-kept S H F halted K from i slot
+    start-turn a fresh = cond_both (nat_lt s.start a && nat_lt s.stop a) _ _ (Kept S F halted from i)
+        (λ _. begins-kept S H F halted K from i slot a fresh) (λ _. still-kept S H F halted K from i slot)
 
     stop-turn : (a : ℕ) → Kept S F halted from i (becomes (on_stop s a))
-    stop-turn a = choice (nat_le s.start a)
-      where
-        choice : (b : Bool) → Kept S F halted from i (becomes (if b then stopped_site (record s { stop = max s.stop a }) else record s { stop = max s.stop a }))
-        choice true = stops-kept S H F halted K from i slot (becomes (stopped_site (record s { stop = max s.stop a }))) refl refl (leaves-same S H F halted K from i slot) (λ c. tt)
-        choice false = noted-kept S H F halted K from i slot (max s.stop a) s.plans
+    stop-turn a = cond_both (nat_le s.start a) _ _ (λ z. Kept S F halted from i (becomes z))
+        (λ _. stops-kept S H F halted K from i slot (becomes (stopped_site (record s { stop = max s.stop a }))) refl refl (leaves-same S H F halted K from i slot) (λ c. tt))
+        (λ _. noted-kept S H F halted K from i slot (max s.stop a) s.plans)
 
     fails-kept : (start : ℕ) (xs : List Shown) → LeavesShown S halted i xs → Kept S F halted from i (stops_so D i s start xs)
     fails-kept start xs k = stops-kept S H F halted K from i slot (stops_so D i s start xs) refl refl k (stops-none D i start s xs)
@@ -478,23 +413,19 @@ module _ (S : LogState) (H : LogsHold S) (F : Firm) (halted : Bool) (K : DisksHo
 
   stream-parts : (k : ℕ) (l : Letter) (head : StreamHead) (ls : List Letter) → S.words.channel (Site k) (Site i) ≡ record l { body = msg.StreamStart head } ∷ ls
       → Parts (parts_of_message s (record l { body = msg.StreamStart head }))
-  stream-parts k l head ls is = runs (s.start == 0) refl
+  stream-parts k l head ls is = cond_both (s.start == 0) _ _ Parts
+      (λ e. no-parts) (λ e. arrives (grind (arith, nat_tests, e)) (arrival s.start (site_term s) (record l { body = msg.StreamStart head })) refl)
     where
       taken : 0 < site_start S i → arrival s.start (site_term s) (record l { body = msg.StreamStart head }) ≡ Taken → (o : Option Joining) → s.joining ≡ o
           → Parts (if may_stream_in s o (record l { body = msg.StreamStart head }) then None ∷ [] else [])
       taken up e None q = no-parts
-      taken up e (Some j) q = may (may_stream s j l) refl
-        where
-          may : (b : Bool) → may_stream s j l ≡ b → Parts (if b then None ∷ [] else [])
-          may true m = record {
-            blank = λ y n. elim n [
-              | inl z ↦ sym z
-              | inr z ↦ absurd z
-            ];
+      taken up e (Some j) q = cond_both (may_stream s j l) _ _ Parts
+          (λ m. record {
+            blank = λ y n. elim n [ inl z ↦ sym z | inr z ↦ absurd z ];
             still = λ t. absurd (not-both halted t (goes-on k l head ls is up e));
             wipes = inr (wiped k l head ls is up e j q m);
-          }
-          may false m = no-parts
+          })
+          (λ m. no-parts)
 
       arrives : 0 < site_start S i → (a : Arrival) → arrival s.start (site_term s) (record l { body = msg.StreamStart head }) ≡ a → Parts (elim a as (λ _. List Shown) [
         | Taken ↦ if may_stream_in s s.joining (record l { body = msg.StreamStart head }) then None ∷ [] else []
@@ -502,20 +433,12 @@ module _ (S : LogState) (H : LogsHold S) (F : Firm) (halted : Bool) (K : DisksHo
         | Waits ↦ []
       ])
       arrives up Taken e = taken up e s.joining refl
-      arrives up Refused e = no-parts
-      arrives up Waits e = no-parts
-
-      runs : (b : Bool) → (s.start == 0) ≡ b → Parts (if b then [] else parts_of_stream s (record l { body = msg.StreamStart head }))
-      runs true e = no-parts
-      runs false e = arrives (grind (arith, nat_tests, e)) (arrival s.start (site_term s) (record l { body = msg.StreamStart head })) refl
+      arrives up x e = no-parts
 
   stream-parts-from : (from : Actor) (l : Letter) (head : StreamHead) (ls : List Letter) → S.words.channel from (Site i) ≡ record l { body = msg.StreamStart head } ∷ ls
       → Parts (parts_of_message s (record l { body = msg.StreamStart head }))
   stream-parts-from (Site k) l head ls is = stream-parts k l head ls is
-  stream-parts-from (Agent h) l head ls is = absurd ((rw is at (H.foreign (Agent h) i)).0)
-  stream-parts-from Director l head ls is = absurd ((rw is at (H.foreign Director i)).0)
-  stream-parts-from (Client n) l head ls is = absurd ((rw is at (H.foreign (Client n) i)).0)
-  stream-parts-from (Scanner x) l head ls is = absurd ((rw is at (H.foreign (Scanner x) i)).0)
+  stream-parts-from from l head ls is = absurd ((rw is at (H.foreign from i)).0)
 
   parts-ok : (from : Actor) (l : Letter) (ls : List Letter) (m : Msg Blocks) → S.words.channel from (Site i) ≡ record l { body = m } ∷ ls
       → Parts (parts_of_message s (record l { body = m }))
@@ -538,35 +461,17 @@ module _ (S : LogState) (H : LogsHold S) (F : Firm) (halted : Bool) (K : DisksHo
     leaves-failure : LeavesShown S halted i (after_failure (shown_at S i) parts n)
     leaves-failure = record {
       some = some-after_failure (shown_at S i) parts n some;
-      from = λ y m. elim (in-after_failure (shown_at S i) parts n y m) [
-        | inl a ↦ inl a
-        | inr b ↦ inr (k.blank y b)
-      ];
-      still = λ e y m. elim (in-after_failure (shown_at S i) parts n y m) [
-        | inl a ↦ a
-        | inr b ↦ none-added e y b
-      ];
-      wipes = elim k.wipes [
-        | inl e ↦ inl (raise-after_failure (shown_at S i) parts (not-raised e) n)
-        | inr w ↦ inr w
-      ];
+      from = λ y m. elim (in-after_failure (shown_at S i) parts n y m) [ inl a ↦ inl a | inr b ↦ inr (k.blank y b) ];
+      still = λ e y m. elim (in-after_failure (shown_at S i) parts n y m) [ inl a ↦ a | inr b ↦ none-added e y b ];
+      wipes = elim k.wipes [ inl e ↦ inl (raise-after_failure (shown_at S i) parts (not-raised e) n) | inr w ↦ inr w ];
     }
 
     leaves-parts : LeavesShown S halted i (after_parts (shown_at S i) (take n parts))
     leaves-parts = record {
       some = some-after_parts (shown_at S i) (take n parts) some;
-      from = λ y m. elim (in-after_parts (shown_at S i) (take n parts) y m) [
-        | inl a ↦ inl a
-        | inr b ↦ inr (k.blank y (in-take n y parts b))
-      ];
-      still = λ e y m. elim (in-after_parts (shown_at S i) (take n parts) y m) [
-        | inl a ↦ a
-        | inr b ↦ none-added e y (in-take n y parts b)
-      ];
-      wipes = elim k.wipes [
-        | inl e ↦ inl (raise-after_parts (shown_at S i) (take n parts) (raise-take (shown_at S i) parts (not-raised e) n))
-        | inr w ↦ inr w
-      ];
+      from = λ y m. elim (in-after_parts (shown_at S i) (take n parts) y m) [ inl a ↦ inl a | inr b ↦ inr (k.blank y (in-take n y parts b)) ];
+      still = λ e y m. elim (in-after_parts (shown_at S i) (take n parts) y m) [ inl a ↦ a | inr b ↦ none-added e y (in-take n y parts b) ];
+      wipes = elim k.wipes [ inl e ↦ inl (raise-after_parts (shown_at S i) (take n parts) (raise-take (shown_at S i) parts (not-raised e) n)) | inr w ↦ inr w ];
     }
 
   -- ---- whatever the environment does

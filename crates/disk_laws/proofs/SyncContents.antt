@@ -1,21 +1,7 @@
 -- What a disk may show after parts of a Sync: each content was written in the epoch, and is no worse than what the disk showed.
-use Rattle.std.proofs.Common.{◌≡◌, ◌<◌, ◌≤◌, Bool, true, false, List, [], ◌++◌, length, take, length-take, append_assoc, refl, sym, subst, ap, ◌∙◌, ◌⊎◌, inl, inr, arith}
-use Rattle.std.proofs.lemmas.Bool.{cases_lt}
+use Rattle.disk_laws.proofs.Names.{◌≡◌, ◌<◌, ◌≤◌, Bool, true, false, List, [], ◌++◌, length, take, length-take, append_assoc, refl, sym, subst, ap, ◌∙◌, ◌⊎◌, inl, inr, arith, cases_lt, ℕ, Option, Some, None, AllByRecursion, Membership, Shown, mark_of, term_of, term_in, SiteState, Streamed, Joining, joiner_parts, parts_of_sync, all-mono, none-and-some, same-some, not-both, LogState, Leadership, Line, LogsHold, FollowsIn, LeadsIn, MemberOk, Took, StreamIn, ViewIn, StreamedOk, line, between, part, site_start, log_at, term_at, Prefix, leads-or-follows, prefix-trans, prefix-length, prefixes-order, prefix-take, take-prefix, AtLeast, Firm, ContentOk, MemberDisk, StreamDisk, DiskOk, Written}
 use Rattle.std.proofs.lemmas.List.{take_all}
-use Rattle.std.specs.Prelude.{ℕ, Option, Some, None}
-use Rattle.std.specs.List.{AllByRecursion}
-use Rattle.volt_wire.specs.Word.{Membership}
-use Rattle.cluster_model.specs.Disk.{Shown, mark_of}
-use Rattle.cluster_model.specs.Words.{term_of, term_in}
-use Rattle.cluster_model.specs.SiteState.{SiteState, Streamed, Joining}
-use Rattle.cluster_model.specs.Sync.{joiner_parts, parts_of_sync}
-use Rattle.cluster_steps.proofs.Lists.{all-mono, none-and-some, same-some, not-both}
-use Rattle.log_laws.specs.Histories.{LogState, Leadership, Line, LogsHold, FollowsIn, LeadsIn, MemberOk, Took, StreamIn, ViewIn, StreamedOk, line, between, part, site_start, log_at, term_at}
-use Rattle.cluster_steps.specs.Lists.{Prefix}
-use Rattle.log_laws.proofs.Plain.Copies.{leads-or-follows}
-use Rattle.cluster_steps.proofs.Prefixes.{prefix-trans, prefix-length, prefixes-order, prefix-take, take-prefix}
-use Rattle.disk_laws.specs.Disks.{AtLeast, Firm, ContentOk, MemberDisk, StreamDisk, DiskOk, Written}
-use Rattle.disk_laws.proofs.Order.{Raise, raise-one, raise-blank}
+use Rattle.disk_laws.proofs.Order.{Raise, raise-one}
 use Rattle.disk_laws.proofs.Contents.{member-written}
 use Rattle.disk_laws.proofs.SyncParts.{PartOf, JoinerPart, BaseShown, member-parts, stream-parts}
 
@@ -74,10 +60,7 @@ module _ (S : LogState) (H : LogsHold S) (i : ℕ) (up : 0 < site_start S i) (F 
 
     -- the mark that it owes is its term's
     pub owed-mark : (n : ℕ) → s.owes ≡ Some n → (n ≡ term_at S i) × (s.repaired ≡ true)
-    owed-mark n e = elim disk.owes [
-      | inl k ↦ absurd (none-and-some k e)
-      | inr k ↦ (same-some (sym e ∙ k.0), k.1)
-    ]
+    owed-mark n e = elim disk.owes [ inl k ↦ absurd (none-and-some k e) | inr k ↦ (same-some (sym e ∙ k.0), k.1) ]
 
     -- a mark of a part was led, and isn't below that which it has
     pub mark-begun : (n end : ℕ) → s.on_disk ≤ end → (n ≡ s.mark) ⊎ ((s.owes ≡ Some n) × (length s.log ≤ end)) → BegunContent S i n end
@@ -89,11 +72,7 @@ module _ (S : LogState) (H : LogsHold S) (i : ℕ) (up : 0 < site_start S i) (F 
     mark-begun n end from (inr (e, whole)) =
         let k = owed-mark n e in
         let g = term-begun k.1 in
-        record {
-          leadership = g.0;
-          led = ap (S.logs.leadership (part S i)) k.0 ∙ g.1;
-          begun = subst (Prefix g.0.begun) (sym (take_all end s.log whole)) g.2;
-        }
+        record { leadership = g.0; led = ap (S.logs.leadership (part S i)) k.0 ∙ g.1; begun = subst (Prefix g.0.begun) (sym (take_all end s.log whole)) g.2 }
 
     pub mark-rises : (n end : ℕ) → (n ≡ s.mark) ⊎ ((s.owes ≡ Some n) × (length s.log ≤ end)) → (s.mark ≤ n) × (n ≤ term_at S i)
     mark-rises n end (inl e) = let l = disk.mark in (omega (arith, e), omega (arith, e, l))
@@ -183,9 +162,6 @@ module _ (S : LogState) (H : LogsHold S) (i : ℕ) (up : 0 < site_start S i) (F 
       prefix = prefix-trans (take end s.log) s.log took.2.leadership.log (prefix-take end s.log) stream-prefix;
     }
 
-    stream-content : (y : Shown) → JoinerPart s j st y → ContentOk S F false (part S i) y
-    stream-content y k = subst (ContentOk S F false (part S i)) (sym k.shows) (stream-written k.base k.end k.from)
-
     stream-mark : (y : Shown) → JoinerPart s j st y → mark_of y ≤ s.greatest
     stream-mark y k =
         let t = (H.sites i).term in
@@ -198,7 +174,7 @@ module _ (S : LogState) (H : LogsHold S) (i : ℕ) (up : 0 < site_start S i) (F 
         (inr (sym (base-shown e).mark, prefix-length (take s.on_disk s.log) (take k.end s.log) (take-prefix s.on_disk k.end s.log (k.disk e))))
 
     stream-raise : (b : Bool) → j.is_based ≡ b → (parts : List Shown) → AllByRecursion (JoinerPart s j st) parts → Raise s.contents parts
-    stream-raise false e parts h = subst (λ xs. Raise xs parts) (sym (stream-disk.1 e)) (raise-blank parts)
+    stream-raise false e parts h = subst (λ xs. Raise xs parts) (sym (stream-disk.1 e)) (λ y i. (None, inl refl, λ m n h. absurd h))
     stream-raise true e parts h = subst (λ xs. Raise xs parts) (sym (stream-disk.2 e).0)
         (raise-one (record { mark = s.mark; base = s.base; log = take s.on_disk s.log }) parts
         (all-mono (JoinerPart s j st) (AtLeast s.mark (length (take s.on_disk s.log))) (stream-good e) parts h))
@@ -207,7 +183,8 @@ module _ (S : LogState) (H : LogsHold S) (i : ℕ) (up : 0 < site_start S i) (F 
     stream-ok =
         let parts = stream-parts s j st base-shown in
         record {
-          contents = all-mono (JoinerPart s j st) (ContentOk S F false (part S i)) stream-content (joiner_parts s j (Some st)) parts;
+          contents = all-mono (JoinerPart s j st) (ContentOk S F false (part S i))
+              (λ y k. subst (ContentOk S F false (part S i)) (sym k.shows) (stream-written k.base k.end k.from)) (joiner_parts s j (Some st)) parts;
           marks = all-mono (JoinerPart s j st) (λ x. mark_of x ≤ s.greatest) stream-mark (joiner_parts s j (Some st)) parts;
           raise = stream-raise j.is_based refl (joiner_parts s j (Some st)) parts;
         }

@@ -1,14 +1,5 @@
 -- What a Sync writes: what a disk shows after each of its parts, and after all of them.
-use Rattle.std.proofs.Common.{◌≡◌, ◌<◌, ◌≤◌, Bool, true, false, List, [], ◌∷◌, ◌++◌, length, append-nil, refl, ap, ◌∙◌, ◌⊎◌, inl, inr, true≢false, arith}
-use Rattle.std.proofs.lemmas.Bool.{or_parts, and_parts}
-use Rattle.std.proofs.lemmas.Bool.Decides.{nat_tests}
-use Rattle.std.specs.Prelude.{ℕ, ◌&&◌, ◌||◌, nat_lt, if◌then◌else◌, Option, Some, None, is_some, unwrap_or}
-use Rattle.std.specs.List.{AllByRecursion}
-use Rattle.cluster_model.specs.Disk.{Shown, after_parts}
-use Rattle.cluster_model.specs.SiteState.{SiteState, Streamed, Joining, Scanning, ForJoiner, ForBase}
-use Rattle.cluster_model.specs.Sync.{content, mark_owed, split_at, batches, owed_batches, parts_of_sync, base_of, base_after, joiner_base, joiner_parts}
-use Rattle.cluster_steps.proofs.Lists.{all-append, all-one, all-if, not-both}
-use Rattle.disk_laws.specs.Disks.{own_content}
+use Rattle.disk_laws.proofs.Names.{cond_both, ◌≡◌, ◌<◌, ◌≤◌, Bool, true, false, List, [], ◌∷◌, ◌++◌, length, append-nil, refl, ap, ◌∙◌, ◌⊎◌, inl, inr, true≢false, arith, or_parts, and_parts, nat_tests, ℕ, ◌&&◌, ◌||◌, nat_lt, if◌then◌else◌, Option, Some, None, is_some, unwrap_or, AllByRecursion, Shown, after_parts, SiteState, Streamed, Joining, Scanning, ForJoiner, ForBase, content, mark_owed, split_at, batches, owed_batches, parts_of_sync, base_of, base_after, joiner_base, joiner_parts, all-append, all-one, all-if, not-both, own_content}
 use Rattle.disk_laws.proofs.Order.{after_parts-last}
 
 -- ---- a member
@@ -46,15 +37,12 @@ module _ (s : SiteState) (low : s.on_disk ≤ length s.log) where
       (whole-part s.base, tt)
 
   batch-parts : (sc : Option Scanning) → AllByRecursion (PartOf s) (batches s sc)
-  batch-parts None = (whole-part s.base, tt)
-  batch-parts (Some (ForJoiner id slot)) = (whole-part s.base, tt)
   batch-parts (Some (ForBase id position blocks written count)) = split-parts position
+  batch-parts o = (whole-part s.base, tt)
 
   base-parts : (sc : Option Scanning) → AllByRecursion (PartOf s) (base_of s sc)
-  base-parts None = tt
-  base-parts (Some (ForJoiner id slot)) = tt
-  base-parts (Some (ForBase id position blocks written None)) = tt
   base-parts (Some (ForBase id position blocks written (Some count))) = (whole-part position, tt)
+  base-parts o = tt
 
   -- each part of its Sync
   pub member-parts : AllByRecursion (PartOf s) (parts_of_sync s None)
@@ -141,7 +129,10 @@ module _ (s : SiteState) (j : Joining) (st : Streamed) (based : j.is_based ≡ t
   -- After all parts it shows the whole log, if it has loaded all.
   pub stream-last : s.on_disk ≤ length s.log → (before : List Shown) → (j.is_based ≡ true → before ≡ own_content s ∷ []) → j.is_loaded ≡ true
       → st.stream_start ≤ length s.log → after_parts before (joiner_parts s j (Some st)) ≡ content st.mark st.stream_start s (length s.log) ∷ []
-  stream-last low before shows loaded from = go j.is_based refl
+  stream-last low before shows loaded from = cond_both j.is_based _ _ (λ z. after_parts before z ≡ content st.mark st.stream_start s (length s.log) ∷ [])
+      (λ e. based-last (based e) (shows e) (nat_lt s.on_disk (length s.log)) refl)
+      (λ e. ap (λ b. after_parts before (if b then joiner_base s st else [])) loaded ∙ cond_both (nat_lt st.stream_start (length s.log)) _ _ (λ z. after_parts before (content st.mark st.stream_start s st.stream_start ∷ z) ≡ content st.mark st.stream_start s (length s.log) ∷ [])
+      (λ e. refl) (λ e. let end : st.stream_start ≡ length s.log = grind (arith, nat_tests, from, e) in ap (λ n. content st.mark st.stream_start s n ∷ []) end))
     where
       based-last : BaseShown s st → before ≡ own_content s ∷ [] → (b : Bool) → nat_lt s.on_disk (length s.log) ≡ b
           → after_parts before (if b then content s.mark s.base s (length s.log) ∷ [] else []) ≡ content st.mark st.stream_start s (length s.log) ∷ []
@@ -149,18 +140,6 @@ module _ (s : SiteState) (j : Joining) (st : Streamed) (based : j.is_based ≡ t
       based-last h is false e =
           let end : s.on_disk ≡ length s.log = grind (arith, nat_tests, low, e) in
           is ∙ rw (h.mark, h.base, end) refl
-
-      base-last : (b : Bool) → nat_lt st.stream_start (length s.log) ≡ b
-          → after_parts before (content st.mark st.stream_start s st.stream_start ∷ (if b then content st.mark st.stream_start s (length s.log) ∷ [] else []))
-          ≡ content st.mark st.stream_start s (length s.log) ∷ []
-      base-last true e = refl
-      base-last false e = let end : st.stream_start ≡ length s.log = grind (arith, nat_tests, from, e) in ap (λ n. content st.mark st.stream_start s n ∷ []) end
-
-      go : (b : Bool) → j.is_based ≡ b → after_parts before
-          (if b then (if nat_lt s.on_disk (length s.log) then content s.mark s.base s (length s.log) ∷ [] else []) else if j.is_loaded then joiner_base s st else [])
-          ≡ content st.mark st.stream_start s (length s.log) ∷ []
-      go true e = based-last (based e) (shows e) (nat_lt s.on_disk (length s.log)) refl
-      go false e = ap (λ b. after_parts before (if b then joiner_base s st else [])) loaded ∙ base-last (nat_lt st.stream_start (length s.log)) refl
 
   -- Until then nothing is written.
   pub stream-waits : j.is_loaded ≡ false → j.is_based ≡ false → joiner_parts s j (Some st) ≡ []

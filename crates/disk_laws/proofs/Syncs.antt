@@ -1,21 +1,5 @@
 -- A site writes what it owes its disk: all that disks show is well after it, also where the disk fails or no memory is found.
-use Rattle.std.proofs.Common.{◌≡◌, ◌<◌, ◌≤◌, Bool, true, false, List, [], take, refl, sym, subst, ap, true≢false, arith}
-use Rattle.std.proofs.lemmas.Bool.{and_parts}
-use Rattle.std.proofs.lemmas.Bool.Decides.{nat_tests}
-use Rattle.std.specs.Prelude.{ℕ, nat_lt, is_some, Some, None}
-use Rattle.std.specs.List.{AllByRecursion}
-use Rattle.volt_wire.specs.declared.actor.Actor.{Actor}
-use Rattle.cluster_model.specs.Disk.{Shown, after_parts, after_failure, mark_of}
-use Rattle.cluster_model.specs.Engine.{Database}
-use Rattle.cluster_model.specs.Letters.{Letter, Turn}
-use Rattle.cluster_model.specs.Environment.{Environment, NoFault, DiskFails, NoMemory, DisksShow}
-use Rattle.cluster_model.specs.SiteState.{SiteState, Joining}
-use Rattle.cluster_model.specs.Sync.{joiner_owes, may_sync, owes_in, parts_of_sync, syncs, stops_so, sync_turn}
-use Rattle.cluster_steps.specs.Lists.{In}
-use Rattle.cluster_steps.proofs.Lists.{not-both}
-use Rattle.log_laws.specs.Histories.{LogState, Logs, LogsHold, IsSlot, part, site_start}
-use Rattle.log_laws.proofs.Kept.Moves.{Grown, after_site}
-use Rattle.disk_laws.specs.Disks.{Firm, Top, ContentOk, DisksHold}
+use Rattle.disk_laws.proofs.Names.{◌≡◌, ◌<◌, ◌≤◌, Bool, true, false, List, [], take, refl, sym, subst, ap, true≢false, arith, and_parts, nat_tests, ℕ, nat_lt, is_some, Some, None, AllByRecursion, Actor, Shown, after_parts, after_failure, mark_of, Database, Letter, Turn, Environment, NoFault, DiskFails, NoMemory, DisksShow, SiteState, Joining, joiner_owes, may_sync, owes_in, parts_of_sync, syncs, stops_so, sync_turn, In, not-both, LogState, Logs, LogsHold, IsSlot, part, site_start, Grown, after_site, Firm, Top, ContentOk, DisksHold}
 use Rattle.disk_laws.proofs.Order.{all-take, some-after_parts, some-after_failure, all-after_parts, all-after_failure, Raise, raise-after_parts, raise-after_failure, raise-take}
 use Rattle.disk_laws.proofs.Handlers.{DiskHandler}
 use Rattle.disk_laws.proofs.SiteHandlers.{syncs-handler}

@@ -1,27 +1,6 @@
 -- Disks hold after a turn with which a site takes a message, by what the turn makes of the site.
-use Rattle.std.proofs.Common.{◌≡◌, ◌<◌, ◌≤◌, Bool, true, false, true≢false, List, [], ◌∷◌, length, refl, sym, subst, ap, ◌∙◌, ◌⊎◌, inl, inr, ◌==◌, arith}
-use Rattle.std.proofs.lemmas.Bool.{cases_eq}
-use Rattle.std.specs.Prelude.{ℕ, max, Option, Some, None}
-use Rattle.std.specs.List.{AllByRecursion}
-use Rattle.volt_wire.specs.declared.actor.Actor.{Actor}
-use Rattle.volt_wire.specs.declared.actor.Actor.TheVariants.{Site, Scanner}
+use Rattle.disk_laws.proofs.Names.{one-and-others, none-or-some, ◌≡◌, ◌<◌, ◌≤◌, Bool, true, false, true≢false, List, [], ◌∷◌, length, refl, sym, subst, ap, ◌∙◌, ◌⊎◌, inl, inr, ◌==◌, arith, cases_eq, ℕ, max, Some, None, AllByRecursion, Actor, Site, Scanner, Shown, mark_of, stops_others, Deployment, host_of_slot, is_slot_of, Letter, Turn, becomes, sending, only, open_letter, SiteState, Joining, new_joiner, new_joining, site_term, leads, stops_so, took, In, took-all, all-if, all-at, all-from, all-mono, if-true, same-some, LogState, Logs, LogsHold, IsSlot, HeldOk, CountedOk, part, site_start, term_at, leader-view, leads-parts, Grown, NoStreamStart, after_site, site_popped, here, there, leads-runs, AtLeast, Top, Firm, ContentOk, DiskOk, StreamLetter, Halted, DisksHold, shown_at}
 use Rattle.volt_wire.specs.declared.message.Msg.TheVariants as msg
-use Rattle.cluster_model.specs.Disk.{Shown, mark_of}
-use Rattle.cluster_model.specs.AgentState.{stops_others}
-use Rattle.cluster_model.specs.Words.{Deployment, host_of_slot, is_slot_of}
-use Rattle.cluster_model.specs.Letters.{Letter, Turn, becomes, sending, only, open_letter}
-use Rattle.cluster_model.specs.SiteState.{SiteState, Joining, new_joiner, new_joining, site_term, leads}
-use Rattle.cluster_model.specs.Sync.{stops_so}
-use Rattle.cluster_model.specs.World.{took}
-use Rattle.cluster_steps.specs.Lists.{In}
-use Rattle.cluster_steps.proofs.Channels.{took-all}
-use Rattle.cluster_steps.proofs.Lists.{all-if, all-at, all-from, all-mono, if-true, same-some}
-use Rattle.log_laws.specs.Histories.{LogState, Logs, LogsHold, IsSlot, HeldOk, CountedOk, part, site_start, term_at}
-use Rattle.cluster_steps.proofs.Leaders.{leader-view, leads-parts}
-use Rattle.log_laws.proofs.Kept.Moves.{Grown, NoStreamStart, after_site, site_popped}
-use Rattle.log_laws.proofs.Kept.Plumbing.{here, there}
-use Rattle.log_laws.proofs.Runs.Leading.{leads-runs}
-use Rattle.disk_laws.specs.Disks.{AtLeast, Top, Firm, ContentOk, DiskOk, StreamLetter, Halted, DisksHold, shown_at}
 use Rattle.disk_laws.proofs.Order.{Raise, raise-refl, raise-same, top-raise, top-wipe}
 use Rattle.disk_laws.proofs.SiteHandlers.{disk-same}
 use Rattle.disk_laws.proofs.Handlers.{DiskHandler, Counts, counts-joiner, BeginsStream, at-term, at-was-joiner}
@@ -85,11 +64,10 @@ no-letter S c l k = elim l.body as (λ m. NoStreamStart (record l { body = m }) 
 
 -- what the site counted firm is no more than what was
 pub firm-before : (S : LogState) → LogsHold S → (F : Firm) (halted : Bool) → DisksHold S F halted → (i : ℕ) → IsSlot S i → 0 < site_start S i → (S.sites i).firm ≤ F (part S i)
-firm-before S H F halted K i slot up = choice (S.sites i).joining refl
-  where
-    choice : (o : Option Joining) → (S.sites i).joining ≡ o → (S.sites i).firm ≤ F (part S i)
-    choice None e = ((K.disks i slot).member up e).firm
-    choice (Some j) e = let z = ((H.sites i).joiner j e).firm in omega (arith, z)
+firm-before S H F halted K i slot up = elim (none-or-some (S.sites i).joining) [
+  | inl e ↦ ((K.disks i slot).member up e).firm
+  | inr (j, e) ↦ let z = ((H.sites i).joiner j e).firm in omega (arith, z)
+]
 
 -- ---- a turn, with fewer messages under way
 
@@ -139,10 +117,7 @@ module _ (S : LogState) (H : LogsHold S) (F : Firm) (halted : Bool) (K : DisksHo
 
     -- Where it shows nothing but what it showed, so do all.
     still-shown : ((y : Shown) → In y t.state.contents → In y (shown_at S i)) → (c : ℕ) (y : Shown) → In y (shown_at T c) → In y (shown_at S c)
-    still-shown own c y m = elim (cases_eq c i) [
-      | inl e ↦ subst (λ n. In y (shown_at S n)) (sym e) (own y (subst (λ x. In y x.contents) (ap T.sites e ∙ site) m))
-      | inr n ↦ subst (In y) (others c n) m
-    ]
+    still-shown own = one-and-others _ i (λ y m. own y (subst (λ x. In y x.contents) site m)) (λ c n y. subst (In y) (others c n))
 
     pub same-still : t.state.contents ≡ shown_at S i → halted ≡ true → (y : Shown) → In y t.state.contents → In y (shown_at S i)
     same-still e h y m = subst (In y) e m
@@ -170,12 +145,7 @@ module _ (S : LogState) (H : LogsHold S) (F : Firm) (halted : Bool) (K : DisksHo
       letter c l k = elim l.body as (λ b. BeginsStream S.words.deployment i c m t.state (record l { body = b }) → StreamLetter T c (record l { body = b })) [
         | msg.StreamStart head ↦ λ k. record {
           mark_is = k.mark_is ∙ sym k.term_is;
-          top = record {
-            slot = i;
-            is_slot = slot;
-            part_is = receiver k.counted;
-            all = shows (handler.at.mark ∙ k.own ∙ sym k.term_is) (leader-view S.words.deployment i t.state (leads-parts S.words.deployment i t.state k.leads).0).0;
-          };
+          top = search (slot, receiver k.counted, shows (handler.at.mark ∙ k.own ∙ sym k.term_is) (leader-view S.words.deployment i t.state (leads-parts S.words.deployment i t.state k.leads).0).0);
         }
         | b ↦ λ k. tt
       ] k
@@ -237,10 +207,7 @@ module _ (S : LogState) (H : LogsHold S) (F : Firm) (halted : Bool) (K : DisksHo
         (λ e. all-from (λ y. mark_of y ≤ t.state.greatest) t.state.contents (mark e)) tops k.still
       where
         contents : (y : Shown) → In y t.state.contents → C y
-        contents y m = elim (k.from y m) [
-          | inl old ↦ all-at C (shown_at S i) old-contents y old
-          | inr e ↦ subst C (sym e) (none-ok T M halted (part S i))
-        ]
+        contents y m = elim (k.from y m) [ inl old ↦ all-at C (shown_at S i) old-contents y old | inr e ↦ subst C (sym e) (none-ok T M halted (part S i)) ]
 
         mark : halted ≡ false → (y : Shown) → In y t.state.contents → mark_of y ≤ t.state.greatest
         mark e y m = elim (k.from y m) [
@@ -249,10 +216,7 @@ module _ (S : LogState) (H : LogsHold S) (F : Firm) (halted : Bool) (K : DisksHo
         ]
 
         tops : (p m n : ℕ) → Top S p m n → Top T p m n
-        tops = elim k.wipes [
-          | inl f ↦ raised-tops f
-          | inr w ↦ wiped-tops w
-        ]
+        tops = elim k.wipes [ inl f ↦ raised-tops f | inr w ↦ wiped-tops w ]
 
     -- ---- a site that stays as it is
 

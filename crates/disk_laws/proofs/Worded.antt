@@ -1,25 +1,7 @@
 -- What the laws of words and logs give of a word that a site takes: it is of a later term, and a joiner that it makes a member has its
 -- base on disk.
-use Rattle.std.proofs.Common.{◌≡◌, ◌<◌, Bool, true, false, List, [], ◌∷◌, refl, sym, subst, ap, ◌∙◌, inl, inr, ◌==◌, arith}
-use Rattle.std.proofs.lemmas.Bool.{and_from, eq-eqb}
-use Rattle.std.specs.Prelude.{ℕ, ◌&&◌, not, nat_lt, Option, Some, None}
-use Rattle.std.specs.List.{AllByRecursion}
-use Rattle.volt_wire.specs.Word.{Membership}
-use Rattle.volt_wire.specs.declared.actor.Actor.TheVariants.{Agent, Site}
+use Rattle.disk_laws.proofs.Names.{none-or-some, ◌≡◌, ◌<◌, Bool, true, false, List, [], ◌∷◌, refl, sym, subst, ap, ◌∙◌, inl, inr, ◌==◌, arith, and_from, eq-eqb, ℕ, ◌&&◌, not, nat_lt, Option, Some, None, AllByRecursion, Membership, Agent, Site, slots, host_of_slot, is_member, term_of, term_in, Letter, arrival, Taken, SiteState, Joining, Streamed, is_joiner, a-joiner, none-and-some, stays_joiner, member-is, is_member-start, LogState, LogsHold, IsSlot, ViewIn, InWord, StreamIn, site_start, log_at, term_at, taken-for, took-admitted, ran-owner, running-ran, first-word, later-word, some-term, took-decided, took-unnamed}
 use Rattle.volt_wire.specs.declared.message.Msg.TheVariants as msg
-use Rattle.cluster_model.specs.Words.{slots, host_of_slot, is_member, term_of, term_in}
-use Rattle.cluster_model.specs.Letters.{Letter, arrival, Taken}
-use Rattle.cluster_model.specs.SiteState.{SiteState, Joining, Streamed, is_joiner}
-use Rattle.cluster_steps.proofs.Leaders.{a-joiner}
-use Rattle.cluster_steps.proofs.Lists.{none-and-some}
-use Rattle.cluster_steps.proofs.SiteTurns.{stays_joiner}
-use Rattle.word_laws.proofs.Agreement.{member-is}
-use Rattle.word_laws.proofs.Members.{is_member-start}
-use Rattle.log_laws.specs.Histories.{LogState, LogsHold, IsSlot, ViewIn, InWord, StreamIn, site_start, log_at, term_at}
-use Rattle.log_laws.proofs.Messages.Pops.{taken-for}
-use Rattle.log_laws.proofs.NewTerms.Entering.{took-admitted, ran-owner, running-ran}
-use Rattle.log_laws.proofs.NewTerms.Taking.{first-word, later-word}
-use Rattle.log_laws.proofs.Kept.Terms.{some-term, took-decided, took-unnamed}
 
 -- where it isn't both, it isn't the second
 second-not : (a b : Bool) → a ≡ true → (a && not b) ≡ false → b ≡ true
@@ -58,14 +40,13 @@ module _ (S : LogState) (H : LogsHold S) (i : ℕ) where
 
       -- it is of a later term
       pub later-term : term_at S i < term_of w
-      later-term = choice s.view refl
-        where
-          choice : (o : Option Membership) → s.view ≡ o → term_at S i < term_of w
-          choice None e =
-              let a = some-term S H w (took-decided S H (site_start S i) w (first-word S H h i l w ls is word-start up e)) in
-              let b : term_at S i ≡ 0 = ap term_in e in
-              omega (arith, a, b)
-          choice (Some v) e = let a = (later-word S H h i l w ls is word-start up v e).2 in let b : term_at S i ≡ term_of v = ap term_in e in omega (arith, a, b)
+      later-term = elim (none-or-some s.view) [
+        | inl e ↦
+            let a = some-term S H w (took-decided S H (site_start S i) w (first-word S H h i l w ls is word-start up e)) in
+            let b : term_at S i ≡ 0 = ap term_in e in
+            omega (arith, a, b)
+        | inr (v, e) ↦ let a = (later-word S H h i l w ls is word-start up v e).2 in let b : term_at S i ≡ term_of v = ap term_in e in omega (arith, a, b)
+      ]
 
       module _ (j : Joining) (joins : s.joining ≡ Some j) where
         -- a joiner of a word was admitted, so its base is on disk

@@ -1,40 +1,7 @@
 -- In each world of a run what disks show is well, and what was counted firm survives each event.
-use Rattle.std.proofs.Common.{◌≡◌, ◌≤◌, Bool, true, false, List, [], ◌∷◌, ◌++◌, length, refl, sym, subst, ap, ◌∙◌, ◌==◌, arith}
-use Rattle.std.proofs.lemmas.Bool.{and_parts}
-use Rattle.std.proofs.lemmas.List.{length-take-le}
-use Rattle.std.specs.Prelude.{ℕ, ◌&&◌, not, nat_lt, Some, None}
-use Rattle.volt_wire.specs.declared.actor.Actor.{Actor}
-use Rattle.volt_wire.specs.declared.actor.Actor.TheVariants.{Director, Client, Agent, Site, Scanner}
-use Rattle.volt_wire.specs.declared.event.Event.{Event}
+use Rattle.disk_laws.proofs.Names.{◌≡◌, ◌≤◌, Bool, true, false, List, [], ◌∷◌, ◌++◌, length, refl, sym, subst, ap, ◌∙◌, ◌==◌, arith, and_parts, length-take-le, ℕ, ◌&&◌, not, nat_lt, Some, None, Actor, Director, Client, Agent, Site, Scanner, Event, Database, slots, is_host, Letter, Turn, SiteState, agent_turn, may_sync, site_turn, sync_turn, Environment, DisksShow, World, Stopped, Input, stamp_of, took, with_site, stops_with, starts_anew, stays_stopped, is_actor, is_some_letter, is_shown, is_slot_or_none, may_recover, can, allows, delivered, recovered_with, may_do, happens, step, Happening, Reached, RunsTo, has_failed, may_happen, reached-kept, runs-kept, if-false, actor-host, host-apart, memory-runs, Logs, LogState, LogsHold, log_state, HasLogs, prefix-trans, prefix-length, prefixes-order, prefix-take, Grown, Onward, onward-same, AuthoritativeRises, first-logs, anew-logs, Keeps, to_client-logs, to_director-logs, to_scanner-logs, scan-logs, submit-logs, next-logs, stopped-logs, agent-event, turn-after, sync-after, actor-slot, site-reaches, site-next, keeps-firm, Survives, firm_entries, DisksHold}
 use Rattle.volt_wire.specs.declared.event.Event.TheVariants as event
-use Rattle.cluster_model.specs.Engine.{Database}
-use Rattle.cluster_model.specs.Words.{slots, is_host}
-use Rattle.cluster_model.specs.Letters.{Letter, Turn}
-use Rattle.cluster_model.specs.SiteState.{SiteState}
-use Rattle.cluster_model.specs.Agent.{agent_turn}
-use Rattle.cluster_model.specs.Sync.{may_sync, site_turn, sync_turn}
-use Rattle.cluster_model.specs.Environment.{Environment, NoFault, DiskFails, NoMemory, DisksShow}
-use Rattle.cluster_model.specs.World.{World, Stopped, Input, stamp_of, took, with_site, stops_with}
-use Rattle.cluster_model.specs.Recover.{starts_anew, stays_stopped}
-use Rattle.cluster_model.specs.Events.{is_actor, is_some_letter, is_shown, is_slot_or_none, may_recover, can, allows, delivered, recovered_with, may_do, happens, step}
-use Rattle.cluster_model.specs.Runs.{Happening, Reached, RunsTo, has_failed, may_happen}
-use Rattle.cluster_model.proofs.Runs.{reached-kept, runs-kept}
-use Rattle.cluster_steps.proofs.Lists.{if-false}
-use Rattle.word_laws.proofs.Worlds.{actor-host, host-apart, memory-runs}
-use Rattle.log_laws.specs.Histories.{Logs, LogState, LogsHold}
-use Rattle.log_laws.specs.Copies.{log_state, HasLogs}
-use Rattle.cluster_steps.proofs.Prefixes.{prefix-trans, prefix-length, prefixes-order, prefix-take}
-use Rattle.log_laws.proofs.Kept.Moves.{Grown, Onward}
-use Rattle.log_laws.proofs.Kept.Grown.{onward-same}
-use Rattle.log_laws.proofs.Runs.Leading.{AuthoritativeRises, rises-same}
-use Rattle.log_laws.proofs.Runs.Boots.{first-logs, anew-logs}
-use Rattle.log_laws.proofs.Runs.Others.{Keeps, to_client-logs, to_director-logs, to_scanner-logs, scan-logs, submit-logs, next-logs, stopped-logs}
-use Rattle.log_laws.proofs.Agents.AgentEvents.{agent-event}
-use Rattle.log_laws.proofs.Runs.SiteEvents.{turn-after, sync-after}
-use Rattle.log_laws.proofs.Runs.Worlds.{actor-slot, site-reaches, site-next}
-use Rattle.log_laws.proofs.Runs.Lasting.{keeps-firm}
-use Rattle.disk_laws.specs.Disks.{DisksHold}
-use Rattle.disk_laws.specs.Survival.{Survives, firm_entries}
+use Rattle.log_laws.proofs.Runs.Leading.{rises-same}
 use Rattle.disk_laws.proofs.SiteDisks.{authoritative-raised}
 use Rattle.disk_laws.proofs.Syncs.{sync-disks, sync-runs}
 use Rattle.disk_laws.proofs.Choices.{no-choice-lacks}
@@ -268,11 +235,9 @@ stopped-goes E w shown failed d may environment =
     }
 
 recovery-goes : (E : Database) (w : World) (o : Environment) → HasDisks w → may_recover w ≡ true → allows w event.Recover o ≡ true → DisksGoOn w (recovered_with E w o)
-recovery-goes E w NoFault d may environment = same-goes w d
-recovery-goes E w (DiskFails answered) d may environment = same-goes w d
-recovery-goes E w (NoMemory answered) d may environment = same-goes w d
 recovery-goes E w (DisksShow shown None) d may environment = anew-goes E w shown d (and_parts (is_shown w shown None) (is_slot_or_none w.deployment None) environment).0
 recovery-goes E w (DisksShow shown (Some failed)) d may environment = stopped-goes E w shown failed d may environment
+recovery-goes E w x d may environment = same-goes w d
 
 -- ---- events
 

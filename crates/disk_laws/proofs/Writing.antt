@@ -1,18 +1,9 @@
 -- What a site's disk shows once it has written all that it owed, and what the site knows of it.
-use Rattle.std.proofs.Common.{◌≡◌, ◌<◌, ◌≤◌, Bool, true, false, List, [], ◌∷◌, length, refl, sym, subst, ap, ◌∙◌, ◌⊎◌, inl, inr, true≢false, arith}
-use Rattle.std.proofs.lemmas.Bool.{cases_Bool, cond_both}
-use Rattle.std.specs.Prelude.{ℕ, if◌then◌else◌, unwrap_or, Option, Some, None}
-use Rattle.std.specs.List.{AllByRecursion}
-use Rattle.cluster_model.specs.Disk.{Shown, after_parts, mark_of}
-use Rattle.cluster_model.specs.SiteState.{SiteState, Streamed, Joining, site_term}
-use Rattle.cluster_model.specs.Sync.{content, mark_owed, joiner_parts, joiner_written, member_written, written, parts_of_sync}
-use Rattle.cluster_steps.proofs.Lists.{none-and-some, same-some, not-both}
-use Rattle.log_laws.specs.Histories.{LogState, LogsHold, HeldOk, part, site_start, term_at}
-use Rattle.disk_laws.specs.Disks.{Firm, ContentOk, MemberDisk, StreamDisk, DiskOk, own_content}
+use Rattle.disk_laws.proofs.Names.{◌≡◌, ◌<◌, ◌≤◌, Bool, true, false, List, [], ◌∷◌, length, refl, sym, subst, ap, ◌∙◌, ◌⊎◌, inl, inr, true≢false, arith, cases_Bool, cond_both, ℕ, if◌then◌else◌, unwrap_or, Option, Some, None, AllByRecursion, Shown, after_parts, mark_of, SiteState, Streamed, Joining, site_term, content, mark_owed, joiner_parts, joiner_written, member_written, written, parts_of_sync, none-and-some, same-some, not-both, LogState, LogsHold, HeldOk, part, site_start, term_at, Firm, ContentOk, MemberDisk, StreamDisk, DiskOk, own_content}
 use Rattle.disk_laws.proofs.Order.{some-after_parts, all-after_parts}
 use Rattle.disk_laws.proofs.Own.{OwnAt, OwnMember, OwnStream}
 use Rattle.disk_laws.proofs.SyncParts.{member-last, stream-last, stream-waits}
-use Rattle.disk_laws.proofs.SyncContents.{PartsOk, BegunContent, disk, owed-mark, mark-begun, mark-rises, stream-disk, base-shown, stream-within, parts-ok}
+use Rattle.disk_laws.proofs.SyncContents.{BegunContent, disk, owed-mark, mark-begun, mark-rises, stream-disk, base-shown, stream-within, parts-ok}
 
 -- ---- what it shows once all is written
 
@@ -74,10 +65,7 @@ module _ (S : LogState) (H : LogsHold S) (i : ℕ) (up : 0 < site_start S i) (F 
         stream-last s j st (base-shown S H i up F K j joins st stream) low s.contents (λ e. (k.2 e).0) loaded (stream-within S H i up F K j joins st stream)
 
     unbased : j.is_loaded ≡ false → j.is_based ≡ false
-    unbased e = elim (cases_Bool j.is_based) [
-      | inl t ↦ absurd (not-both j.is_loaded (((H.sites i).joiner j joins).based t) e)
-      | inr f ↦ f
-    ]
+    unbased e = elim (cases_Bool j.is_based) [ inl t ↦ absurd (not-both j.is_loaded (((H.sites i).joiner j joins).based t) e) | inr f ↦ f ]
 
     waits-wrote : j.is_loaded ≡ false → after_parts s.contents (joiner_parts s j (Some st)) ≡ s.contents
     waits-wrote e = ap (after_parts s.contents) (stream-waits s j st (base-shown S H i up F K j joins st stream) e (unbased e))
@@ -144,7 +132,7 @@ module _ (S : LogState) (H : LogsHold S) (i : ℕ) (up : 0 < site_start S i) (F 
 
   -- What is said of the site once it has written.
   pub wrote-own : OwnAt S F false i wrote_disk
-  wrote-own = record {
+  wrote-own = let p = parts-ok S H i up F K in record {
     some = some-after_parts s.contents parts K.some;
     contents = all-after_parts (ContentOk S F false (part S i)) s.contents parts K.contents p.contents;
     marks = λ _. subst (λ n. AllByRecursion (λ y. mark_of y ≤ n) (after_parts s.contents parts)) (sym greatest)
@@ -153,9 +141,6 @@ module _ (S : LogState) (H : LogsHold S) (i : ℕ) (up : 0 < site_start S i) (F 
     joiner = λ _ n is. joiner s.joining refl n is;
   }
     where
-      p : PartsOk S F i parts
-      p = parts-ok S H i up F K
-
       greatest : wrote_disk.greatest ≡ s.greatest
       greatest = written-same (λ x. x.greatest) refl
           (λ j st. cond_both {A = SiteState} j.is_loaded _ _ (λ x. x.greatest ≡ s.greatest) (λ _. refl) (λ _. refl)) s.joining

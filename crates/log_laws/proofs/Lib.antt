@@ -1,3 +1,5 @@
+-- What other crates name, for all proofs of this one.
+pub mod Names
 pub mod Plain
 pub mod Kept
 pub mod Messages

@@ -2,3 +2,6 @@
 pub mod Lines
 pub mod Copies
 pub mod Appends
+pub use Lines.*
+pub use Copies.*
+pub use Appends.*

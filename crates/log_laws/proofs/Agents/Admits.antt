@@ -1,26 +1,10 @@
 -- Who asks to be admitted has loaded all, and has it on disk: what holds of that, holds after an agent's turns.
-use Rattle.std.proofs.Common.{◌≡◌, ◌+◌, ◌<◌, Bool, true, List, subst, inl, inr, ◌==◌, arith}
-use Rattle.std.proofs.lemmas.Bool.{and_parts}
-use Rattle.std.proofs.lemmas.Bool.Decides.{nat_tests}
-use Rattle.std.specs.Prelude.{ℕ, nat_lt}
-use Rattle.std.specs.List.{AllByRecursion, list_all, range_with_len}
-use Rattle.volt_wire.specs.declared.actor.Actor.{Actor}
-use Rattle.volt_wire.specs.declared.actor.Actor.TheVariants.{Director, Client, Agent, Site, Scanner}
+use Rattle.log_laws.proofs.Names.{◌≡◌, ◌+◌, ◌<◌, Bool, true, List, subst, inl, inr, ◌==◌, arith, and_parts, nat_tests, ℕ, nat_lt, AllByRecursion, list_all, range_with_len, Actor, Agent, Site, Deployment, slots, host_of_slot, is_slot_of, slots_of_host, is_in, Letter, Sends, AgentState, Queued, Job_, Admission, took, In, History, Admitted, all-mono, all-append, list_all-at, filter-in, set-both, sent-both, took-all, asked_by, LogState, LoadedOk, AllLoaded, ToldOk, AskedOk, QueuedLoadedOk, LoadsOk}
 use Rattle.volt_wire.specs.declared.message.Msg.TheVariants as msg
-use Rattle.cluster_model.specs.Words.{Deployment, slots, host_of_slot, is_slot_of, slots_of_host, is_in}
-use Rattle.cluster_model.specs.Letters.{Letter, Sends}
-use Rattle.cluster_model.specs.AgentState.{AgentState, Queued, Job_, Admission}
-use Rattle.cluster_model.specs.World.{took}
-use Rattle.cluster_steps.specs.Lists.{In}
-use Rattle.word_laws.specs.Histories.{History, Admitted}
-use Rattle.cluster_steps.proofs.Lists.{all-mono, all-append, list_all-at, filter-in, set-both}
-use Rattle.cluster_steps.proofs.Channels.{sent-both, took-all}
 use Rattle.word_laws.proofs.Moves as word
-use Rattle.word_laws.proofs.Calm.{asked_by}
-use Rattle.log_laws.specs.Histories.{LogState, LoadedOk, AllLoaded, ToldOk, AskedOk, QueuedLoadedOk, LoadsOk}
 use Rattle.log_laws.proofs.Agents.AgentSends.{NoAdmit}
 use Rattle.log_laws.proofs.Agents.Views.{worded, agent_turned}
-use Rattle.log_laws.proofs.Plain.Copies.{range-in}
+use Rattle.log_laws.proofs.Plain.{range-in}
 
 -- ---- what is asked, in another state of words
 
@@ -28,9 +12,7 @@ module _ (S : LogState) (agents : ℕ → AgentState) (channel : Actor → Actor
   pub asked-worded : (from : Actor) (l : Letter) → AskedOk S from l → AskedOk (worded S agents channel G) from l
   asked-worded (Agent h) l k = k
   asked-worded (Site c) l k = k
-  asked-worded Director l k = tt
-  asked-worded (Client n) l k = tt
-  asked-worded (Scanner x) l k = tt
+  asked-worded from l k = tt
 
   pub queued-worded : (q : Queued) → QueuedLoadedOk S q → QueuedLoadedOk (worded S agents channel G) q
   queued-worded (Job_ job) k = tt
@@ -47,16 +29,10 @@ none-asked S n l p = elim l.body as (λ m. NoAdmit (record l { body = m }) → A
 pub asked-admission : (S : LogState) (from : Actor) (l : Letter) → AskedOk S from l → (j h term : ℕ) → In (Admission j h term) (asked_by from l) → AllLoaded S h j
 asked-admission S (Agent g) l p j h term i = (elim l.body as
     (λ m. AskedOk S (Agent g) (record l { body = m }) → In (Admission j h term) (asked_by (Agent g) (record l { body = m })) → AllLoaded S h j) [
-      | msg.Admit s ↦ λ k q. elim q [
-        | inl e ↦ subst (QueuedLoadedOk S) e k
-        | inr e ↦ absurd e
-      ]
+      | msg.Admit s ↦ λ k q. elim q [ inl e ↦ subst (QueuedLoadedOk S) e k | inr e ↦ absurd e ]
       | m ↦ λ k q. absurd q
     ]) p i
-asked-admission S (Site c) l p j h term i = absurd i
-asked-admission S Director l p j h term i = absurd i
-asked-admission S (Client n) l p j h term i = absurd i
-asked-admission S (Scanner x) l p j h term i = absurd i
+asked-admission S from l p j h term i = absurd i
 
 -- ---- a host's slots
 
@@ -71,7 +47,7 @@ all-slots D n c test all s = list_all-at test (slots_of_host D n) c all (filter-
 
 -- a message to an agent is taken
 pub loads-popped : (S : LogState) (from : Actor) (n : ℕ) → LoadsOk S → LoadsOk (record S { words = word.agent_popped S.words from n })
-loads-popped S from n k = record {
+loads-popped S from n k = let channel = took S.words.channel from (Agent n) in record {
   told = λ c h. took-all (ToldOk S c) S.words.channel from (Agent n) (Site c) (Agent h) (k.told c h);
   heard = k.heard;
   asked = λ h g. took-all (AskedOk S (Agent h)) S.words.channel from (Agent n) (Agent h) (Agent g) (k.asked h g);
@@ -79,9 +55,6 @@ loads-popped S from n k = record {
   queued = λ h. all-mono _ _ (λ q p. queued-worded S S.words.agents channel S.words.history q p) (S.words.agents h).initiating.queue (k.queued h);
   admitted = k.admitted;
 }
-  where
-    channel : Actor → Actor → List Letter
-    channel = took S.words.channel from (Agent n)
 
 -- What an agent has after its turn, and what it asks.
 pub record LoadsTurn (S : LogState) (n : ℕ) (a : AgentState) (out : Sends) (G : History) : Type 0 where
@@ -92,7 +65,7 @@ pub record LoadsTurn (S : LogState) (n : ℕ) (a : AgentState) (out : Sends) (G 
   pub admitted : (x : Admitted) → In x G.admitted → AllLoaded S (S.words.owner x.start) x.start
 
 pub loads-turned : (S : LogState) (n : ℕ) (a : AgentState) (out : Sends) (G : History) → LoadsOk S → LoadsTurn S n a out G → LoadsOk (agent_turned S n a out G)
-loads-turned S n a out G k t = record {
+loads-turned S n a out G k t = let T = agent_turned S n a out G in record {
   told = k.told;
   heard = λ h c. set-both (λ h x. 0 < x.start → is_in c x.loaded ≡ true → LoadedOk S c x.start) S.words.agents n a (λ u i. t.heard u c i) (λ h d u i. k.heard h c u i) h;
   asked = λ h g. sent-both (AllByRecursion (AskedOk S (Agent h))) S.words.channel n out h (Agent g)
@@ -105,6 +78,3 @@ loads-turned S n a out G k t = record {
       (set-both (λ h x. AllByRecursion (QueuedLoadedOk S) x.initiating.queue) S.words.agents n a t.queued (λ h d. k.queued h) h);
   admitted = t.admitted;
 }
-  where
-    T : LogState
-    T = agent_turned S n a out G

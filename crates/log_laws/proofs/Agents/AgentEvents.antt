@@ -1,35 +1,11 @@
 -- An agent takes a message: what holds, holds after all that it does then.
-use Rattle.std.proofs.Common.{◌≡◌, ◌<◌, true, false, List, [], ◌∷◌, ◌++◌, refl, sym, subst, ap, ◌⊎◌, inl, inr, ◌==◌, arith}
-use Rattle.std.proofs.lemmas.Bool.{cases_eq}
-use Rattle.std.proofs.lemmas.Bool.Decides.{nat_tests}
-use Rattle.std.specs.Prelude.{ℕ, ◌&&◌, not, nat_lt, None}
-use Rattle.std.specs.List.{AllByRecursion}
-use Rattle.volt_wire.specs.declared.actor.Actor.{Actor}
-use Rattle.volt_wire.specs.declared.actor.Actor.TheVariants.{Director, Client, Agent, Site, Scanner}
+use Rattle.log_laws.proofs.Names.{◌≡◌, ◌<◌, true, false, List, [], ◌∷◌, ◌++◌, refl, sym, subst, ap, ◌⊎◌, inl, inr, ◌==◌, arith, cases_eq, nat_tests, ℕ, ◌&&◌, not, nat_lt, None, AllByRecursion, Actor, Director, Agent, Site, Database, is_host, term_in, Letter, Sends, Turn, becomes, open_letter, ◌▸◌, arrival, Arrival, Taken, Refused, Waits, Waiting, of_term, above_term, AgentState, new_agent, stops, stops_with_host, agent_handler, handler_and_word, unless_stopped, agent_runs, agent_takes, agent_turn, start_taken, rest, start_in_letter, starts_in, Environment, NoMemory, In, History, Admitted, CameOk, AgentWaitingFrom, AgentWaitingOk, all-mono, all-append, all-filter, all-if, Grows, grows-same, concludes, StopsSay, stops-say, stops_with_host-say, AgentTakes, Stops_, Ignores, Runs_, takes-cases, runs-taken, runs-waits, runs-refused, turn-cases, stopped-cases, unless-running, waiting-brings, pops, waiting-shrinks, with_began, start-grows, start-holds, start-stops-holds, WordsTurn, none-handler, handler-grows, handler-plain, handler-later, others-after, then-assoc, concludes-none, calm-event, handler-event, asked-waiting, came-still, none-taken, none-waited, waits-event, refused-event, ignored-event, stop-pops, stays-holds, comes-first, start-of-body, LogState, AskedOk, LogsHold, asked}
 use Rattle.volt_wire.specs.declared.message.Msg.TheVariants as msg
-use Rattle.cluster_model.specs.Engine.{Database}
-use Rattle.cluster_model.specs.Words.{is_host, term_in}
-use Rattle.cluster_model.specs.Letters.{Letter, Sends, Turn, becomes, open_letter, ◌▸◌, arrival, Arrival, Taken, Refused, Waits, Waiting, of_term, above_term}
-use Rattle.cluster_model.specs.AgentState.{AgentState, new_agent, stops, stops_with_host}
-use Rattle.cluster_model.specs.Agent.{agent_handler, handler_and_word, unless_stopped, takes_each, takes_waiting, agent_runs, agent_takes, agent_turn, start_after, start_taken, on_start}
-use Rattle.cluster_model.specs.World.{rest}
-use Rattle.cluster_model.specs.Laws.{start_in_letter, starts_in}
-use Rattle.cluster_model.specs.Environment.{Environment, NoFault, DiskFails, NoMemory, DisksShow}
+use Rattle.cluster_model.specs.Agent.{takes_each, takes_waiting, start_after, on_start}
 use Rattle.word_laws.specs.Histories as word
-use Rattle.cluster_steps.specs.Lists.{In}
-use Rattle.word_laws.specs.Histories.{History, Admitted, CameOk, AgentWaitingFrom, AgentWaitingOk}
-use Rattle.cluster_steps.proofs.Lists.{all-mono, all-append, all-filter, all-if}
 use Rattle.word_laws.proofs.Moves as word_moves
-use Rattle.word_laws.proofs.Moves.{Grows}
 use Rattle.word_laws.proofs.Laters.{waiting-later}
-use Rattle.word_laws.proofs.Worlds.{grows-same}
-use Rattle.word_laws.proofs.Turns.{tells, concludes, StopsSay, stops-say, stops_with_host-say}
-use Rattle.word_laws.proofs.Arrivals.{AgentTakes, Stops_, Ignores, Runs_, takes-cases, runs-taken, runs-waits, runs-refused, turn-cases, stopped-cases, unless-running, waiting-brings}
-use Rattle.word_laws.proofs.Steps.{pops, waiting-shrinks}
-use Rattle.word_laws.proofs.Rejoins.{with_began, start-grows, start-holds, start-stops-holds}
-use Rattle.word_laws.proofs.Hearings.{WordsTurn, none-handler, handler-grows, handler-plain, handler-later, others-after, then-assoc, concludes-none}
-use Rattle.word_laws.proofs.AgentEvents.{calm-event, handler-event, asked-waiting, came-still, none-taken, none-waited, waits-event, refused-event, ignored-event, stop-pops, stays-holds, comes-first, start-of-body}
-use Rattle.log_laws.specs.Histories.{LogState, AskedOk, LogsHold}
+use Rattle.word_laws.proofs.Turns.{tells}
 use Rattle.log_laws.proofs.Agents.AgentSends.{NoView, NoAdmit, stops-plain, stops-none}
 use Rattle.log_laws.proofs.Agents.Views.{agent_turned}
 use Rattle.log_laws.proofs.Agents.Admits.{asked-worded}
@@ -43,9 +19,7 @@ use Rattle.log_laws.proofs.Agents.AgentHandlers.{BringsDecided, may-join, first-
 pub first-asks : (S : LogState) (from : Actor) (n : ℕ) (l : Letter) (ls : List Letter) → Rest S → S.words.channel from (Agent n) ≡ l ∷ ls → AskedOk (agent_heard S from n) from l
 first-asks S (Agent h) n l ls r is = (subst (AllByRecursion (AskedOk S (Agent h))) is (r.loads.asked h n)).0
 first-asks S (Site c) n l ls r is = (subst (AllByRecursion (AskedOk S (Site c))) is (r.loads.told c n)).0
-first-asks S Director n l ls r is = tt
-first-asks S (Client c) n l ls r is = tt
-first-asks S (Scanner x) n l ls r is = tt
+first-asks S from n l ls r is = tt
 
 -- a message that brings a word may leave its place at once
 pub decided-pops : (S : LogState) (from : Actor) (n : ℕ) (l : Letter) (ls : List Letter) → word.WordsHold S.words → S.words.channel from (Agent n) ≡ l ∷ ls → BringsDecided from l
@@ -55,10 +29,7 @@ decided-pops S (Agent k) n l ls h is b = (elim l.body as (λ m. S.words.channel 
       | msg.Decided w ↦ λ e b. pops S.words k n (record l { body = msg.Decided w }) ls e tt h
       | m ↦ λ e b. absurd b
     ]) is b
-decided-pops S Director n l ls h is b = absurd b
-decided-pops S (Client c) n l ls h is b = absurd b
-decided-pops S (Site c) n l ls h is b = absurd b
-decided-pops S (Scanner x) n l ls h is b = absurd b
+decided-pops S from n l ls h is b = absurd b
 
 -- what follows a handler, when the agent has said its word
 concluded-agent : (S : LogState) (n : ℕ) (t : Turn AgentState) → AgentHandler S n t → AgentHandler S n (t ▸ concludes S.words.deployment n)
@@ -71,6 +42,7 @@ handler-waited : (E : Database) (S : LogState) (n stamp : ℕ) (from : Actor) (l
     → AgentWaitingFrom S.words n from l → AskedOk S from l
     → AgentHandler S n (unless_stopped E S.words.deployment n stamp (S.words.agents n) from l)
 handler-waited E S n stamp from l h r up w asked =
+    let running : (S.words.agents n).start == 0 ≡ false = grind (arith, nat_tests, up) in
     let D = S.words.deployment in
     let a = S.words.agents n in
     subst (AgentHandler S n) (sym (unless-running E D n stamp a from l running))
@@ -78,9 +50,6 @@ handler-waited E S n stamp from l h r up w asked =
     (concluded-agent S n (agent_handler E D n stamp a from l ▸ tells n a.own)
     (first-agent S n r up E stamp from l asked (λ b. h)
     (calm-event E S.words n stamp from l h up (waiting-brings S.words n from l w) (asked-waiting S.words n from l w) (may-join S n r up from l asked)))))
-  where
-    running : (S.words.agents n).start == 0 ≡ false
-    running = grind (arith, nat_tests, up)
 
 -- what waits and what it asks stay as they are behind a turn
 module _ (S : LogState) (n : ℕ) (t : Turn AgentState) (r : AgentHandler S n t) where
@@ -204,14 +173,11 @@ module _ (E : Database) (S : LogState) (n stamp : ℕ) (from : Actor) (l : Lette
   takes-agent (Runs_ e c) = subst (AgentHandler P n) (sym e) (runs-agent (arrival a.start (term_in a.decided) l) refl)
 
   running-agent : (o : Environment) → AgentHandler P n (agent_turn E S.words.deployment n stamp a from l o)
-  running-agent o = elim (turn-cases E S.words.deployment n stamp a from l o running) [
+  running-agent o = let running : (a.start == 0) ≡ false = grind (arith, nat_tests, up) in elim (turn-cases E S.words.deployment n stamp a from l o running) [
     | inl e ↦ subst (AgentHandler P n) (sym e)
         (stops-agent (stops_with_host S.words.deployment n a.start) refl (λ g. refl) (stops_with_host-say S.words.deployment n a.start))
     | inr e ↦ subst (AgentHandler P n) (sym e) (takes-agent (takes-cases E S.words.deployment n stamp a from l running))
   ]
-    where
-      running : (a.start == 0) ≡ false
-      running = grind (arith, nat_tests, up)
 
 -- ---- the whole
 
@@ -228,10 +194,7 @@ handler-goes : (S : LogState) (n : ℕ) (from : Actor) (t : Turn AgentState) →
 handler-goes S n from t r = record {
   history = r.handler.history;
   grows = handler-grows r.handler;
-  goes = elim r.handler.goes [
-    | inl e ↦ inl e.0
-    | inr z ↦ inr (ap (λ a. a.own) z)
-  ];
+  goes = elim r.handler.goes [ inl e ↦ inl e.0 | inr z ↦ inr (ap (λ a. a.own) z) ];
   by = r.handler.by;
   holds = holds-of (agent_turned (agent_heard S from n) n t.state t.sends r.handler.history) r.handler.holds r.rest;
 }
@@ -317,10 +280,7 @@ stopped-memory S n from l ls h z host is some =
       where
         taken : start_taken (S.words.agents n) Director s ≡ s
         taken = rw z refl
-    started (Client c) s l e b u = absurd (not-some u)
-    started (Agent g) s l e b u = absurd (not-some u)
-    started (Site i) s l e b u = absurd (not-some u)
-    started (Scanner i) s l e b u = absurd (not-some u)
+    started from s l e b u = absurd (not-some u)
 
 -- A message of an agent that is there, with any share of the environment's: what holds, holds after its turn.
 pub agent-event : (E : Database) (S : LogState) (n stamp : ℕ) (from : Actor) (l : Letter) (ls : List Letter) (o : Environment) → S.words.channel from (Agent n) ≡ l ∷ ls
@@ -333,7 +293,5 @@ agent-event E S n stamp from l ls o is host memory h = elim (cases_eq (word.agen
   where
     stopped : (o : Environment) → word.agent_start S.words n ≡ 0 → ((answered : ℕ) → o ≡ NoMemory answered → nat_lt 0 (start_after (S.words.agents n) from l) ≡ true)
         → AgentGoes S n from (agent_turn E S.words.deployment n stamp (S.words.agents n) from l o)
-    stopped NoFault z m = stopped-takes E S n stamp from l ls h z host is
-    stopped (DiskFails answered) z m = stopped-takes E S n stamp from l ls h z host is
     stopped (NoMemory answered) z m = stopped-memory S n from l ls h z host is (m answered refl)
-    stopped (DisksShow shown failed) z m = stopped-takes E S n stamp from l ls h z host is
+    stopped x z m = stopped-takes E S n stamp from l ls h z host is

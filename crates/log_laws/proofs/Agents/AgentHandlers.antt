@@ -1,24 +1,8 @@
 -- The handler of a message that an agent takes, and what it says of a new word: what holds besides that of words, holds after it.
-use Rattle.std.proofs.Common.{◌≡◌, ◌<◌, Bool, true, false, List, [], ◌++◌, refl, sym, subst, inl, inr, ◌==◌, eqb-true}
-use Rattle.std.specs.Prelude.{ℕ, if◌then◌else◌, Option, Some, None}
-use Rattle.std.specs.List.{AllByRecursion}
-use Rattle.volt_wire.specs.Word.{Membership}
-use Rattle.volt_wire.specs.declared.actor.Actor.{Actor}
-use Rattle.volt_wire.specs.declared.actor.Actor.TheVariants.{Director, Client, Agent, Site, Scanner}
+use Rattle.log_laws.proofs.Names.{◌≡◌, ◌<◌, Bool, true, false, List, [], ◌++◌, refl, sym, subst, inl, inr, ◌==◌, eqb-true, ℕ, if◌then◌else◌, Option, Some, None, AllByRecursion, Membership, Actor, Agent, Site, Database, Deployment, is_in, union, with_lost, with_number, Letter, Turn, becomes, ◌▸◌, AgentState, Queued, Job_, Admission, new_agent, stops_with_host, agent_handler, on_closed, on_word, on_decided, In, all-mono, all-append, all-at, all-from, in-left, in-cases, in-with_number, Calm, SaysNoWord, asked_by, loaded_by, handler-calm, stops_with_host-say, tells-state, on_decided-joiner, WordsTurn, cond_both, LogState, LoadedOk, AskedOk, QueuedLoadedOk, AllLoaded}
 use Rattle.volt_wire.specs.declared.message.Msg.TheVariants as msg
-use Rattle.cluster_model.specs.Engine.{Database}
-use Rattle.cluster_model.specs.Words.{Deployment, is_in, union, with_lost, with_number}
-use Rattle.cluster_model.specs.Letters.{Letter, Turn, becomes, ◌▸◌}
-use Rattle.cluster_model.specs.AgentState.{AgentState, Queued, Job_, Admission, new_agent, stops_with_host}
-use Rattle.cluster_model.specs.Agent.{agent_handler, on_closed, on_word, on_decided}
 use Rattle.word_laws.specs.Histories as word
-use Rattle.cluster_steps.specs.Lists.{In}
-use Rattle.cluster_steps.proofs.Lists.{all-mono, all-append, all-at, all-from, in-left, in-cases}
-use Rattle.word_laws.proofs.Algebra.{in-with_number}
-use Rattle.word_laws.proofs.Calm.{Calm, SaysNoWord, asked_by, loaded_by, handler-calm}
-use Rattle.word_laws.proofs.Turns.{stops_with_host-say, tells, tells-state, on_decided-joiner}
-use Rattle.word_laws.proofs.Hearings.{WordsTurn}
-use Rattle.log_laws.specs.Histories.{LogState, LoadedOk, AskedOk, QueuedLoadedOk, AllLoaded}
+use Rattle.word_laws.proofs.Turns.{tells}
 use Rattle.log_laws.proofs.Agents.AgentSends.{NoView, NoAdmit, Tells, tells-says, stops-plain, stops-none}
 use Rattle.log_laws.proofs.Agents.Admits.{asked-admission, all-slots}
 use Rattle.log_laws.proofs.Agents.AgentTurns.{Rest, MayJoin, AgentHandler, plain-agent, stay-plain, tells-plain, stopped-agent}
@@ -26,10 +10,7 @@ use Rattle.log_laws.proofs.Agents.AgentWords.{takes-agent}
 
 -- the messages that bring a joiner its word
 abbrev pub BringsDecided : Actor → Letter → Type 0
-BringsDecided (Agent g) l = elim l.body as (λ _. Type 0) [
-  | msg.Decided w ↦ Unit {0}
-  | _ ↦ ⊥
-]
+BringsDecided (Agent g) l = elim l.body as (λ _. Type 0) [ msg.Decided w ↦ Unit {0} | _ ↦ ⊥ ]
 BringsDecided from l = ⊥
 
 -- ---- what a handler leaves and says
@@ -75,10 +56,7 @@ module _ (S : LogState) (n : ℕ) (r : Rest S) (up : 0 < word.agent_start S.word
         | inr q ↦ r.loads.heard n c up q
       ]
       choice start false e k i = r.loads.heard n c up i
-  loaded-ok Director l asked c i = r.loads.heard n c up i
-  loaded-ok (Client x) l asked c i = r.loads.heard n c up i
-  loaded-ok (Agent g) l asked c i = r.loads.heard n c up i
-  loaded-ok (Scanner x) l asked c i = r.loads.heard n c up i
+  loaded-ok from l asked c i = r.loads.heard n c up i
 
   -- it asks to be admitted once all its sites have loaded
   asks-ok : (loaded : List ℕ) → ((c : ℕ) → is_in c loaded ≡ true → LoadedOk S c a.start) → (g : ℕ) (l : Letter) → SaysNoWord D n a loaded (Agent g) l → AskedOk S (Agent n) l
@@ -120,14 +98,11 @@ module _ (S : LogState) (n : ℕ) (r : Rest S) (up : 0 < word.agent_start S.word
   word-handled : (from : Actor) (l : Letter) (own : Option Membership) (host base : ℕ) (lost : List ℕ) (admitted : List (ℕ × ℕ))
       → Handled S n from l (becomes (on_word a own host base lost admitted))
   word-handled from l None host base lost admitted = spoken-handled from l a.own a.said
-  word-handled from l (Some w) host base lost admitted = choice (w.base == base)
+  word-handled from l (Some w) host base lost admitted = cond_both (w.base == base) _ _ (λ z. Handled S n from l (becomes z))
+      (λ _. spoken-handled from l (Some (union read w)) (λ h. if h == host then Some read else a.said h)) (λ _. spoken-handled from l a.own a.said)
     where
       read : Membership
       read = record w { lost = lost; admitted = admitted }
-
-      choice : (c : Bool) → Handled S n from l (becomes (if c then record a { own = Some (union read w); said = λ h. if h == host then Some read else a.said h } else a))
-      choice true = spoken-handled from l (Some (union read w)) (λ h. if h == host then Some read else a.said h)
-      choice false = spoken-handled from l a.own a.said
 
   handled : (E : Database) (stamp : ℕ) (from : Actor) (l : Letter) → (BringsDecided from l → ⊥) → AskedOk S from l → Handled S n from l (agent_handler E D n stamp a from l)
   handled E stamp (Agent g) l none asked =
@@ -139,10 +114,7 @@ module _ (S : LogState) (n : ℕ) (r : Rest S) (up : 0 < word.agent_start S.word
         | m ↦ λ k p. calm-handled (Agent g) (record l { body = m }) (agent_handler E D n stamp a (Agent g) (record l { body = m })) p
             (handler-calm E D n stamp a (Agent g) (record l { body = m }) (λ b. b))
       ] none asked
-  handled E stamp Director l none asked = calm-handled Director l _ asked (handler-calm E D n stamp a Director l (λ b. b))
-  handled E stamp (Client c) l none asked = calm-handled (Client c) l _ asked (handler-calm E D n stamp a (Client c) l (λ b. b))
-  handled E stamp (Site c) l none asked = calm-handled (Site c) l _ asked (handler-calm E D n stamp a (Site c) l (λ b. b))
-  handled E stamp (Scanner x) l none asked = calm-handled (Scanner x) l _ asked (handler-calm E D n stamp a (Scanner x) l (λ b. b))
+  handled E stamp from l none asked = calm-handled from l _ asked (handler-calm E D n stamp a from l (λ b. b))
 
   -- who may be admitted
   pub may-join : (from : Actor) (l : Letter) → AskedOk S from l → (j h term : ℕ) → In (Admission j h term) ((S.words.agents n).initiating.queue ++ asked_by from l) → MayJoin S j h
@@ -223,7 +195,4 @@ module _ (S : LogState) (n : ℕ) (r : Rest S) (up : 0 < word.agent_start S.word
         | msg.Decided w ↦ λ p h. decided-agent w (h tt)
         | m ↦ λ p h. handler-agent E stamp (Agent g) (record l { body = m }) (λ b. b) p
       ] asked holds handler
-  first-agent E stamp Director l asked holds handler = handler-agent E stamp Director l (λ b. b) asked handler
-  first-agent E stamp (Client c) l asked holds handler = handler-agent E stamp (Client c) l (λ b. b) asked handler
-  first-agent E stamp (Site c) l asked holds handler = handler-agent E stamp (Site c) l (λ b. b) asked handler
-  first-agent E stamp (Scanner x) l asked holds handler = handler-agent E stamp (Scanner x) l (λ b. b) asked handler
+  first-agent E stamp from l asked holds handler = handler-agent E stamp from l (λ b. b) asked handler

@@ -1,32 +1,15 @@
 -- What an agent says to sites and to agents as it tells its word and as it stops: to sites neither a start nor a word.
-use Rattle.std.proofs.Common.{◌≡◌, Bool, true, false, List, [], refl, ◌==◌}
-use Rattle.std.specs.Prelude.{ℕ, ◌&&◌, not, if◌then◌else◌, Option, Some, None}
-use Rattle.std.specs.List.{AllByRecursion}
-use Rattle.volt_wire.specs.Word.{Membership}
-use Rattle.volt_wire.specs.declared.actor.Actor.TheVariants.{Agent, Site}
+use Rattle.log_laws.proofs.Names.{◌≡◌, Bool, true, false, List, [], refl, ◌==◌, ℕ, ◌&&◌, not, if◌then◌else◌, Option, Some, None, AllByRecursion, Membership, Agent, Site, start_of, is_member, Letter, Turn, becomes, AgentState, says, word_to, is_other_word, all-if, all-mono, StopsSay}
 use Rattle.volt_wire.specs.declared.message.Msg.TheVariants as msg
-use Rattle.cluster_model.specs.Words.{start_of, is_member}
-use Rattle.cluster_model.specs.Letters.{Letter, Turn, becomes}
-use Rattle.cluster_model.specs.AgentState.{AgentState}
-use Rattle.cluster_model.specs.Agent.{says, word_to, is_other_word}
-use Rattle.cluster_steps.proofs.Lists.{all-if, all-mono}
-use Rattle.word_laws.proofs.Turns.{tells, StopsSay}
+use Rattle.word_laws.proofs.Turns.{tells}
 
 -- to a site: neither its start nor a word, nor a stream
 abbrev pub NoView : Letter → Type 0
-NoView l = elim l.body as (λ _. Type 0) [
-  | msg.Start s ↦ ⊥
-  | msg.View w ↦ ⊥
-  | msg.StreamStart head ↦ ⊥
-  | _ ↦ Unit {0}
-]
+NoView l = elim l.body as (λ _. Type 0) [ msg.Start s ↦ ⊥ | msg.View w ↦ ⊥ | msg.StreamStart head ↦ ⊥ | _ ↦ Unit {0} ]
 
 -- to an agent: no wish to be admitted
 abbrev pub NoAdmit : Letter → Type 0
-NoAdmit l = elim l.body as (λ _. Type 0) [
-  | msg.Admit j ↦ ⊥
-  | _ ↦ Unit {0}
-]
+NoAdmit l = elim l.body as (λ _. Type 0) [ msg.Admit j ↦ ⊥ | _ ↦ Unit {0} ]
 
 -- ---- an agent says its word to the others
 

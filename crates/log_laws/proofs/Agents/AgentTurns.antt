@@ -1,28 +1,12 @@
 -- Turns of an agent: what holds besides that of words, holds after them.
-use Rattle.std.proofs.Common.{◌≡◌, ◌<◌, true, List, ◌++◌, refl, sym, subst, ap, ◌∙◌, inl, inr, arith}
-use Rattle.std.specs.Prelude.{ℕ, Option, Some, None}
-use Rattle.std.specs.List.{AllByRecursion}
-use Rattle.volt_wire.specs.Word.{Membership}
-use Rattle.volt_wire.specs.declared.actor.Actor.{Actor}
-use Rattle.volt_wire.specs.declared.actor.Actor.TheVariants.{Director, Client, Agent, Site, Scanner}
+use Rattle.log_laws.proofs.Names.{◌≡◌, ◌<◌, true, List, ◌++◌, refl, sym, subst, ap, ◌∙◌, inl, inr, arith, ℕ, Option, Some, None, AllByRecursion, Membership, Actor, Director, Agent, Site, host_of_slot, is_in, term_of, term_in, Letter, Sends, Turn, becomes, ◌▸◌, AgentState, new_agent, In, History, Admitted, all-mono, all-append, sent-both, Grows, grows-same, tells-state, WordsTurn, handler-grows, stay-handler, agent-there, after-handler, then-inert, LogState, LoadedOk, AllLoaded, AskedOk, QueuedLoadedOk, ForeignOk, LoadsOk, ViewsOk, LogsHold, sent_term, agent_to_site}
 use Rattle.volt_wire.specs.declared.message.Msg.TheVariants as msg
-use Rattle.cluster_model.specs.Words.{host_of_slot, is_in, term_of, term_in}
-use Rattle.cluster_model.specs.Letters.{Letter, Sends, Turn, becomes, ◌▸◌}
-use Rattle.cluster_model.specs.AgentState.{AgentState, new_agent}
 use Rattle.word_laws.specs.Histories as word
-use Rattle.cluster_steps.specs.Lists.{In}
-use Rattle.word_laws.specs.Histories.{History, Admitted}
-use Rattle.cluster_steps.proofs.Lists.{all-mono, all-append}
-use Rattle.cluster_steps.proofs.Channels.{sent-both}
 use Rattle.word_laws.proofs.Moves as word_moves
-use Rattle.word_laws.proofs.Moves.{Grows}
-use Rattle.word_laws.proofs.Worlds.{grows-same}
-use Rattle.word_laws.proofs.Turns.{tells, tells-state}
+use Rattle.word_laws.proofs.Turns.{tells}
 use Rattle.word_laws.proofs.Steps.{after-after}
-use Rattle.word_laws.proofs.Hearings.{WordsTurn, handler-grows, stay-handler, agent-there, after-handler, then-inert}
-use Rattle.log_laws.specs.Histories.{LogState, LoadedOk, AllLoaded, AskedOk, QueuedLoadedOk, ForeignOk, LoadsOk, ViewsOk, LogsHold, sent_term, agent_to_site}
 use Rattle.log_laws.proofs.Agents.Words.{SitesHold, sites-hold, sites-kept}
-use Rattle.log_laws.proofs.Agents.AgentSends.{NoView, NoAdmit, Tells, tells-says}
+use Rattle.log_laws.proofs.Agents.AgentSends.{NoView, NoAdmit, tells-says}
 use Rattle.log_laws.proofs.Agents.Views.{worded, agent_turned, Unsent, SentUpTo, ViewsIn, views-in, views-of, views-later, views-turned, views-plainly}
 use Rattle.log_laws.proofs.Agents.Admits.{none-asked, LoadsTurn, loads-popped, loads-turned}
 
@@ -37,37 +21,21 @@ pub rest-of : (S : LogState) → LogsHold S → Rest S
 rest-of S h = record { sites = sites-hold S h; views = h.views; foreign = h.foreign; loads = h.loads }
 
 pub holds-of : (S : LogState) → word.WordsHold S.words → Rest S → LogsHold S
-holds-of S w r = record {
-  words = w;
-  sites = r.sites.sites;
-  views = r.views;
-  letters = r.sites.letters;
-  foreign = r.foreign;
-  loads = r.loads;
-  entered = r.sites.entered;
-  streamed = r.sites.streamed;
-  leaderships = r.sites.leaderships;
-  unled = r.sites.unled;
-  some = r.sites.some;
-  first = r.sites.first;
-}
+holds-of S w r = search r.sites
 
 -- ---- another state of words
 
 foreign-worded : (S : LogState) (agents : ℕ → AgentState) (channel : Actor → Actor → List Letter) (G : History) (c : ℕ) (from : Actor) (l : Letter) → ForeignOk S c from l
     → ForeignOk (worded S agents channel G) c from l
 foreign-worded S agents channel G c Director l k = k
-foreign-worded S agents channel G c (Client n) l k = k
-foreign-worded S agents channel G c (Agent g) l k = k
-foreign-worded S agents channel G c (Site i) l k = k
-foreign-worded S agents channel G c (Scanner x) l k = k
+foreign-worded S agents channel G c from l k = k
 
 -- the agent of host n has taken the first message from this actor
 abbrev pub agent_heard : LogState → Actor → ℕ → LogState
 agent_heard S from n = record S { words = word_moves.agent_popped S.words from n }
 
 pub rest-heard : (S : LogState) (from : Actor) (n : ℕ) → Rest S → Rest (agent_heard S from n)
-rest-heard S from n r = record {
+rest-heard S from n r = let W = word_moves.agent_popped S.words from n in record {
   sites = sites-kept S W (λ c. (S.sites c).contents) (record { deployment = refl; between = λ i c. refl; grows = grows-same S.words.history }) r.sites;
   views = λ c. let h = host_of_slot S.words.deployment c in let i = views-in S c h refl (r.views c) in
       views-of (agent_heard S from n) c h (S.words.agents h) (agent_to_site S c) refl refl refl
@@ -75,9 +43,6 @@ rest-heard S from n r = record {
   foreign = λ a c. all-mono _ _ (λ l k. foreign-worded S S.words.agents W.channel S.words.history c a l k) (S.words.channel a (Site c)) (r.foreign a c);
   loads = loads-popped S from n r.loads;
 }
-  where
-    W : word.State
-    W = word_moves.agent_popped S.words from n
 
 -- What an agent has after its turn, and what it says.
 pub record AgentTurn (S : LogState) (n : ℕ) (a : AgentState) (out : Sends) (G : History) : Type 0 where
@@ -102,10 +67,7 @@ rest-turned S n a out G r t = record {
         (λ e. all-append (ForeignOk S c (Agent g)) (S.words.channel (Agent g) (Site c)) (out (Site c)) (r.foreign (Agent g) c)
         (subst (λ z. AllByRecursion (ForeignOk S c (Agent z)) (out (Site c))) e (t.foreign c)))
         (λ d. r.foreign (Agent g) c)
-    sent-by Director c = r.foreign Director c
-    sent-by (Client m) c = r.foreign (Client m) c
-    sent-by (Site i) c = r.foreign (Site i) c
-    sent-by (Scanner x) c = r.foreign (Scanner x) c
+    sent-by from c = r.foreign from c
 
 -- ---- turns
 
@@ -121,10 +83,7 @@ pub record AgentHandler (S : LogState) (n : ℕ) (t : Turn AgentState) : Type 0 
 -- who is admitted in it
 pub handler-admits : (S : LogState) (n : ℕ) (t : Turn AgentState) → Rest S → (r : WordsTurn (MayJoin S) S.words n t) → (x : Admitted) → In x r.history.admitted
     → AllLoaded S (S.words.owner x.start) x.start
-handler-admits S n t r handler x i = elim (handler.admits x i) [
-  | inl k ↦ r.loads.admitted x k
-  | inr k ↦ k
-]
+handler-admits S n t r handler x i = elim (handler.admits x i) [ inl k ↦ r.loads.admitted x k | inr k ↦ k ]
 
 -- neither a start nor a word
 pub plain-foreign : (S : LogState) (c n : ℕ) (ls : List Letter) → AllByRecursion NoView ls → AllByRecursion (ForeignOk S c (Agent n)) ls
@@ -154,15 +113,12 @@ sent_term-same : (a b : AgentState) → b.decided ≡ a.decided → b.taken ≡ 
 sent_term-same a b d t = ap (λ x. top x b.taken) d ∙ ap (top a.decided) t
   where
     top : Option Membership → Option Membership → ℕ
-    top d t = elim d as (λ _. ℕ) [
-      | Some w ↦ term_of w
-      | None ↦ term_in t
-    ]
+    top d t = elim d as (λ _. ℕ) [ Some w ↦ term_of w | None ↦ term_in t ]
 
 pub plain-rest : (S : LogState) (n : ℕ) (t : Turn AgentState) (G : History) → Rest S → Grows S.words.history G
     → ((x : Admitted) → In x G.admitted → AllLoaded S (S.words.owner x.start) x.start)
     → PlainTurn S n t → Rest (agent_turned S n t.state t.sends G)
-plain-rest S n t G r g admitted p = rest-turned S n t.state t.sends G r (record {
+plain-rest S n t G r g admitted p = let T = agent_turned S n t.state t.sends G in rest-turned S n t.state t.sends G r (record {
   grows = g;
   views = λ c e. views-plainly T c n t.state (S.words.channel (Agent n) (Site c))
       (views-later S T.words.agents T.words.channel G g c n (S.words.agents n) t.state (S.words.channel (Agent n) (Site c)) (was c e) (unsent c e) (sent c e))
@@ -177,9 +133,6 @@ plain-rest S n t G r g admitted p = rest-turned S n t.state t.sends G r (record 
   };
 })
   where
-    T : LogState
-    T = agent_turned S n t.state t.sends G
-
     was : (c : ℕ) → host_of_slot S.words.deployment c ≡ n → ViewsIn S c n (S.words.agents n) (S.words.channel (Agent n) (Site c))
     was c e = views-in S c n e (r.views c)
 
@@ -198,7 +151,7 @@ plain-agent S n t r handler p = record { handler = handler; rest = plain-rest S 
 
 pub stopped-agent : (S : LogState) (n : ℕ) (t : Turn AgentState) → Rest S → WordsTurn (MayJoin S) S.words n t → t.state ≡ new_agent 0
     → ((c : ℕ) → AllByRecursion NoView (t.sends (Site c))) → ((g : ℕ) → AllByRecursion NoAdmit (t.sends (Agent g))) → AgentHandler S n t
-stopped-agent S n t r handler z sites agents = record {
+stopped-agent S n t r handler z sites agents = let T = agent_turned S n t.state t.sends handler.history in record {
   handler = handler;
   rest = rest-turned S n t.state t.sends handler.history r (record {
     grows = handler-grows handler;
@@ -217,9 +170,6 @@ stopped-agent S n t r handler z sites agents = record {
   });
 }
   where
-    T : LogState
-    T = agent_turned S n t.state t.sends handler.history
-
     off : 0 < t.state.start → ⊥
     off u = let e : t.state.start ≡ 0 = ap (λ a. a.start) z in absurd (omega (arith, u, e))
 
@@ -243,7 +193,7 @@ stay-agent S n h r up = plain-agent S n (becomes (S.words.agents n)) r (stay-han
 
 -- it says its word to the others
 pub tells-plain : (S : LogState) (n : ℕ) (t : Turn AgentState) (before : Option Membership) → PlainTurn S n t → PlainTurn S n (t ▸ tells n before)
-tells-plain S n t before p = record {
+tells-plain S n t before p = let calls = tells-says n before t.state in let same = tells-state n before t.state in record {
   start = ap (λ x. x.start) same ∙ p.start;
   decided = ap (λ x. x.decided) same ∙ p.decided;
   taken = ap (λ x. x.taken) same ∙ p.taken;
@@ -254,26 +204,17 @@ tells-plain S n t before p = record {
   waiting = rw same p.waiting;
   queued = rw same p.queued;
 }
-  where
-    same : (tells n before t.state).state ≡ t.state
-    same = tells-state n before t.state
-
-    calls : Tells t.state.loaded (tells n before t.state)
-    calls = tells-says n before t.state
 
 -- One turn, and then another one of an agent that goes on. One that has stopped does nothing then.
 pub then-agent : (S : LogState) (n : ℕ) (t : Turn AgentState) (f : AgentState → Turn AgentState) (r : AgentHandler S n t) → f (new_agent 0) ≡ becomes (new_agent 0)
     → (let T = agent_turned S n t.state t.sends r.handler.history in word.WordsHold T.words → Rest T → 0 < word.agent_start T.words n → AgentHandler T n (f (T.words.agents n))) → AgentHandler S n (t ▸ f)
-then-agent S n t f r silent g = elim r.handler.goes [
+then-agent S n t f r silent g = let here = agent-there S.words n t.state t.sends r.handler.history in elim r.handler.goes [
   | inl q ↦ both (subst (λ z. AgentHandler T n (f z)) here (g r.handler.holds r.rest (subst (λ x. 0 < x) (sym (ap (λ x. x.start) here ∙ q.0)) q.1)))
   | inr z ↦ subst (AgentHandler S n) (sym (then-inert t f (ap f z ∙ silent ∙ ap becomes (sym z)))) r
 ]
   where
     T : LogState
     T = agent_turned S n t.state t.sends r.handler.history
-
-    here : T.words.agents n ≡ t.state
-    here = agent-there S.words n t.state t.sends r.handler.history
 
     both : AgentHandler T n (f t.state) → AgentHandler S n (t ▸ f)
     both q = let k = after-handler S.words n t f r.handler q.handler in record {

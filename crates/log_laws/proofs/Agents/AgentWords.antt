@@ -1,30 +1,14 @@
 -- An agent starts, takes its first word as a joiner, or decides a word: what holds besides that of words, holds after it.
-use Rattle.std.proofs.Common.{◌≡◌, ◌<◌, ◌≤◌, Bool, true, false, List, [], ◌∷◌, ◌++◌, append_assoc, append-nil, refl, sym, subst, ap, ◌∙◌, ◌⊎◌, inl, inr, ◌==◌, arith, true≢false}
-use Rattle.std.proofs.lemmas.Bool.{and_parts, cases_Bool, eqb-true}
-use Rattle.std.specs.Prelude.{ℕ, filter, ◌&&◌, not, if◌then◌else◌, nat_lt, Option, Some, None}
-use Rattle.std.specs.List.{AllByRecursion}
-use Rattle.volt_wire.specs.Word.{Membership}
-use Rattle.volt_wire.specs.declared.actor.Actor.TheVariants.{Agent, Site}
+use Rattle.log_laws.proofs.Names.{◌≡◌, ◌<◌, ◌≤◌, Bool, true, false, List, [], ◌∷◌, ◌++◌, append_assoc, append-nil, refl, sym, subst, ap, ◌∙◌, ◌⊎◌, inl, inr, ◌==◌, arith, true≢false, and_parts, cases_Bool, eqb-true, ℕ, filter, ◌&&◌, not, if◌then◌else◌, nat_lt, Some, None, AllByRecursion, Membership, Agent, Site, slots, host_of_slot, start_of, is_slot_of, is_in, is_down, term_of, Letter, Sends, Turn, becomes, ◌▸◌, open_letter, letter_to, AgentState, new_agent, initiates, takes_word, decides_word, may_decide, In, names, all-mono, all-append, some-here, none-and-some, in-none, is_member-start, WordsTurn, handler-grows, agent-there, decides-handler, with_began, start-grows, Decides, decides-state, decides-sends, may_decide-cases, tells-state, concludes, concludes-not, concludes-is, cond_both, LogState, LoadedOk, AskedOk, ForeignOk, sent_term, site_start, views}
 use Rattle.volt_wire.specs.declared.message.Msg.TheVariants as msg
-use Rattle.cluster_model.specs.Words.{slots, host_of_slot, start_of, is_slot_of, is_in, is_down, term_of}
-use Rattle.cluster_model.specs.Letters.{Letter, Sends, Turn, becomes, ◌▸◌, open_letter, letter_to}
-use Rattle.cluster_model.specs.AgentState.{AgentState, Hears, Off, new_agent, initiates}
-use Rattle.cluster_model.specs.Initiator.{with_phase}
-use Rattle.cluster_model.specs.Agent.{takes_word, decides_word, may_decide}
 use Rattle.word_laws.specs.Histories as word
-use Rattle.cluster_steps.specs.Lists.{In}
-use Rattle.word_laws.specs.Histories.{names}
-use Rattle.cluster_steps.proofs.Lists.{all-mono, all-append, some-here, none-and-some, in-none}
-use Rattle.word_laws.proofs.Members.{is_member-start}
-use Rattle.word_laws.proofs.Hearings.{WordsTurn, handler-grows, agent-there, decides-handler}
-use Rattle.word_laws.proofs.Rejoins.{with_began, start-grows}
-use Rattle.word_laws.proofs.Turns.{Decides, decides-state, decides-sends, may_decide-cases, tells, tells-state, concludes, concludes-not, concludes-is}
-use Rattle.log_laws.specs.Histories.{LogState, LoadedOk, AskedOk, ForeignOk, sent_term, site_start, views}
+use Rattle.word_laws.proofs.Turns.{tells}
 use Rattle.log_laws.proofs.Agents.AgentSends.{NoView, NoAdmit, Tells, tells-says}
 use Rattle.log_laws.proofs.Agents.Decided.{decides-above}
 use Rattle.log_laws.proofs.Agents.Views.{agent_turned, Unsent, SentUpTo, ViewsIn, views-in, views-later, views-plainly, views-start, views-next}
 use Rattle.log_laws.proofs.Agents.Admits.{none-asked}
 use Rattle.log_laws.proofs.Agents.AgentTurns.{Rest, MayJoin, AgentHandler, rest-turned, plain-foreign, handler-admits, stay-agent}
+use Rattle.log_laws.proofs.Plain.{none-or-some}
 
 -- a slot of a host
 slot-host : (S : LogState) (n c : ℕ) → is_slot_of S.words.deployment n c ≡ true → host_of_slot S.words.deployment c ≡ n
@@ -129,14 +113,10 @@ module _ (S : LogState) (n : ℕ) (v : Membership) (h : word.WordsHold S.words) 
 
   -- its sites that have loaded stay
   same-loaded : decides.state.loaded ≡ was.loaded
-  same-loaded = choice (initiates n was (Some v))
+  same-loaded = cond_both (initiates n was (Some v)) _ _ (λ (z : AgentState). z.loaded ≡ was.loaded) (λ _. refl) (λ _. refl)
     where
       decided : AgentState
       decided = record was { decided = Some v; pending = filter (λ p. not (is_in p.target v.lost)) was.pending }
-
-      choice : (c : Bool) → (if c then with_phase decided (Hears []) else with_phase decided Off).loaded ≡ was.loaded
-      choice true = refl
-      choice false = refl
 
   abbrev channel-to : ℕ → List Letter
   channel-to c = S.words.channel (Agent n) (Site c)
@@ -198,22 +178,21 @@ module _ (S : LogState) (n : ℕ) (v : Membership) (h : word.WordsHold S.words) 
 
 -- It decides its word, or goes on as it was.
 pub concludes-agent : (S : LogState) (n : ℕ) → word.WordsHold S.words → Rest S → 0 < word.agent_start S.words n → AgentHandler S n (concludes S.words.deployment n (S.words.agents n))
-concludes-agent S n h r up = go (S.words.agents n).own refl
+concludes-agent S n h r up = elim (none-or-some (S.words.agents n).own) [
+  | inl e ↦ stays (concludes-not S.words.deployment n (S.words.agents n) (ap (λ z. may_decide n (S.words.agents n) z) e))
+  | inr (v, e) ↦ elim (cases_Bool (may_decide n (S.words.agents n) (Some v))) [
+    | inl m ↦
+        let handler = decides-handler S.words h n S.words.deployment up v e m in
+        subst (AgentHandler S n)
+        (sym (concludes-is S.words.deployment n (S.words.agents n) (ap (λ z. may_decide n (S.words.agents n) z) e ∙ m) ∙ ap
+        (decides_word S.words.deployment n (S.words.agents n)) e))
+        (record { handler = handler; rest = decides-rest S n v h r up e m handler })
+    | inr m ↦ stays (concludes-not S.words.deployment n (S.words.agents n) (ap (λ z. may_decide n (S.words.agents n) z) e ∙ m))
+  ]
+]
   where
     stays : concludes S.words.deployment n (S.words.agents n) ≡ becomes (S.words.agents n) → AgentHandler S n (concludes S.words.deployment n (S.words.agents n))
     stays e = subst (AgentHandler S n) (sym e) (stay-agent S n h r up)
-
-    go : (o : Option Membership) → (S.words.agents n).own ≡ o → AgentHandler S n (concludes S.words.deployment n (S.words.agents n))
-    go None e = stays (concludes-not S.words.deployment n (S.words.agents n) (ap (λ z. may_decide n (S.words.agents n) z) e))
-    go (Some v) e = elim (cases_Bool (may_decide n (S.words.agents n) (Some v))) [
-      | inl m ↦
-          let handler = decides-handler S.words h n S.words.deployment up v e m in
-          subst (AgentHandler S n)
-          (sym (concludes-is S.words.deployment n (S.words.agents n) (ap (λ z. may_decide n (S.words.agents n) z) e ∙ m) ∙ ap
-          (decides_word S.words.deployment n (S.words.agents n)) e))
-          (record { handler = handler; rest = decides-rest S n v h r up e m handler })
-      | inr m ↦ stays (concludes-not S.words.deployment n (S.words.agents n) (ap (λ z. may_decide n (S.words.agents n) z) e ∙ m))
-    ]
 
 -- ---- an agent starts
 
@@ -225,10 +204,7 @@ module _ (S : LogState) (n s k : ℕ) (out : Sends) (r : Rest S) (some : 0 < s) 
   V = agent_turned S n (new_agent k) out (with_began S.words.history n s)
 
   goes-on : 0 < k → k ≡ s
-  goes-on u = elim goes [
-    | inl e ↦ e
-    | inr z ↦ absurd (omega (arith, u, z))
-  ]
+  goes-on u = elim goes [ inl e ↦ e | inr z ↦ absurd (omega (arith, u, z)) ]
 
   -- nothing was sent by it
   unsent : (c : ℕ) → host_of_slot S.words.deployment c ≡ n → Unsent S c s (S.words.channel (Agent n) (Site c))

@@ -1,20 +1,5 @@
 -- A word that an agent decides is of a higher term than all that it sent before.
-use Rattle.std.proofs.Common.{◌≡◌, ◌<◌, true, false, refl, sym, subst, ap, ◌∙◌, inl, inr, ◌==◌, arith}
-use Rattle.std.proofs.lemmas.Bool.{and_parts, cases_eq, not-true}
-use Rattle.std.proofs.lemmas.List.{length-map}
-use Rattle.std.specs.Prelude.{ℕ, ◌&&◌, ◌||◌, not, Option, Some, None}
-use Rattle.std.specs.List.{list_all}
-use Rattle.volt_wire.specs.Word.{Membership}
-use Rattle.cluster_model.specs.Words.{term_of, members, is_member}
-use Rattle.cluster_model.specs.Agent.{is_word, may_decide}
-use Rattle.cluster_steps.specs.Lists.{In}
-use Rattle.word_laws.specs.Histories.{State, Within, Falls, GoodWord, OwnOk, HistoryOk, WordsHold, agent_start, names}
-use Rattle.cluster_steps.proofs.Lists.{some-here, all-at, not-both, none-and-some}
-use Rattle.word_laws.proofs.Algebra.{firsts, subset-length, within-refl, within-of-term, same_word-refl, names-within, admits-firsts}
-use Rattle.word_laws.proofs.Members.{is_member-start}
-use Rattle.word_laws.proofs.Agreement.{alike-same, one-first, member-is, running-member}
-use Rattle.word_laws.proofs.Admissions.{not-earlier-self}
-use Rattle.log_laws.specs.Histories.{sent_term}
+use Rattle.log_laws.proofs.Names.{◌≡◌, ◌<◌, true, false, refl, sym, subst, ap, ◌∙◌, inl, inr, ◌==◌, arith, and_parts, cases_eq, not-true, length-map, ℕ, ◌&&◌, ◌||◌, not, Option, Some, None, list_all, Membership, term_of, members, is_member, is_word, may_decide, In, State, Within, Falls, GoodWord, OwnOk, HistoryOk, WordsHold, agent_start, names, some-here, all-at, not-both, none-and-some, firsts, subset-length, within-refl, within-of-term, same_word-refl, names-within, admits-firsts, is_member-start, alike-same, one-first, member-is, running-member, not-earlier-self, sent_term}
 
 -- of two words, one within the other, that are two: the other is of a higher term
 below-term : (S : State) → HistoryOk S → (v w : Membership) → GoodWord S v → GoodWord S w → Within v w → (v ≡ w → ⊥) → term_of v < term_of w

@@ -1,27 +1,10 @@
 -- The words that an agent sends to its sites: what holds of them, holds after its turns.
-use Rattle.std.proofs.Common.{◌≡◌, ◌+◌, ◌<◌, ◌≤◌, List, [], ◌∷◌, ◌++◌, append-nil, refl, sym, subst, ap, ◌∙◌, ◌⊎◌, inl, inr, arith}
-use Rattle.std.proofs.lemmas.Bool.{cases_eq}
-use Rattle.std.proofs.lemmas.List.{map-append}
-use Rattle.std.specs.Prelude.{ℕ, map, Option, Some, None}
-use Rattle.std.specs.List.{AllByRecursion}
-use Rattle.volt_wire.specs.Word.{Membership}
-use Rattle.volt_wire.specs.declared.actor.Actor.{Actor}
-use Rattle.volt_wire.specs.declared.actor.Actor.TheVariants.{Agent, Site}
+use Rattle.log_laws.proofs.Names.{◌==◌, ◌≡◌, ◌+◌, ◌<◌, ◌≤◌, List, [], ◌∷◌, ◌++◌, append-nil, refl, sym, subst, ap, ◌∙◌, ◌⊎◌, inl, inr, arith, cases_eq, map-append, ℕ, map, Option, Some, None, AllByRecursion, Membership, Actor, Agent, Site, host_of_slot, start_of_slot, term_of, term_in, Letter, Sends, open_letter, letter_to, AgentState, RiseFrom, start_in_letter, starts_in, In, History, all-mono, all-append, eqb-same, in-left, in-right, in-cases, none-and-some, set-here, set-there, rise-append, starts-append, sent-both, Grows, flat_map-append, PlainView, LogState, view_in, view_of, views, MemberViews, FirstViews, RunViews, Starting, ViewsOk, sent_term, site_start, term_at, agent_to_site}
 use Rattle.volt_wire.specs.declared.message.Msg.TheVariants as msg
-use Rattle.cluster_model.specs.Words.{host_of_slot, start_of_slot, term_of, term_in}
-use Rattle.cluster_model.specs.Letters.{Letter, Sends, open_letter, letter_to}
-use Rattle.cluster_model.specs.AgentState.{AgentState}
-use Rattle.cluster_model.specs.Laws.{RiseFrom, start_in_letter, starts_in}
-use Rattle.cluster_steps.specs.Lists.{In}
-use Rattle.word_laws.specs.Histories.{History}
-use Rattle.cluster_steps.proofs.Lists.{all-mono, all-append, eqb-same, in-left, in-right, in-cases, none-and-some, set-here, set-there, rise-append}
-use Rattle.cluster_steps.proofs.Channels.{starts-append, sent-both}
 use Rattle.word_laws.proofs.Moves as word
-use Rattle.word_laws.proofs.Moves.{Grows}
-use Rattle.log_laws.specs.Histories.{PlainView, LogState, view_in, view_of, views, MemberViews, FirstViews, RunViews, Starting, ViewsOk, sent_term, site_start, term_at, agent_to_site}
-use Rattle.log_laws.proofs.Plain.Lines.{flat-none, views-append, views-same, views-none, views-plain, views-here, views-other}
+use Rattle.log_laws.proofs.Plain.{flat-none, views-here, views-other, flat-same, if-empty}
 use Rattle.log_laws.proofs.Agents.AgentSends.{NoView}
-use Rattle.log_laws.proofs.Kept.KeepsViews.{first_views-later, run_views-later}
+use Rattle.log_laws.proofs.Kept.{first_views-later, run_views-later}
 
 -- the state with these agents, messages and history
 abbrev pub worded : LogState → (ℕ → AgentState) → (Actor → Actor → List Letter) → History → LogState
@@ -34,22 +17,16 @@ agent_turned S n a out G = record S { words = word.after_agent S.words n a out G
 -- ---- messages that bring a site neither its start nor a word
 
 no-start : (l : Letter) → NoView l → start_in_letter l ≡ []
-no-start l h = elim l.body as (λ m. NoView (record l { body = m }) → start_in_letter (record l { body = m }) ≡ []) [
-  | msg.Start s ↦ λ k. absurd k
-  | m ↦ λ k. refl
-] h
+no-start l h = elim l.body as (λ m. NoView (record l { body = m }) → start_in_letter (record l { body = m }) ≡ []) [ msg.Start s ↦ λ k. absurd k | m ↦ λ k. refl ] h
 
 no-view : (l : Letter) → NoView l → view_in l.body ≡ []
-no-view l h = elim l.body as (λ m. NoView (record l { body = m }) → view_in m ≡ []) [
-  | msg.View w ↦ λ k. absurd k
-  | m ↦ λ k. refl
-] h
+no-view l h = elim l.body as (λ m. NoView (record l { body = m }) → view_in m ≡ []) [ msg.View w ↦ λ k. absurd k | m ↦ λ k. refl ] h
 
 no-starts : (ls : List Letter) → AllByRecursion NoView ls → starts_in ls ≡ []
 no-starts ls h = flat-none start_in_letter ls (all-mono NoView (λ l. start_in_letter l ≡ []) no-start ls h)
 
 no-views : (s : ℕ) (ls : List Letter) → AllByRecursion NoView ls → views s ls ≡ []
-no-views s ls h = views-none s ls (all-mono NoView (λ l. view_of s l ≡ []) (λ l k. views-plain s l (no-view l k)) ls h)
+no-views s ls h = flat-none (view_of s) ls (all-mono NoView (λ l. view_of s l ≡ []) (λ l k. if-empty _ _ (no-view l k)) ls h)
 
 -- ---- a start that is under way
 
@@ -58,10 +35,7 @@ starting-left : (s : ℕ) (xs ys : List Letter) → (In s (starts_in ys) → ⊥
 starting-left s [] ys none k = absurd k
 starting-left s (l ∷ ls) ys none (inl k) = inl (
   k.0,
-  λ i. elim (in-cases s (starts_in ls) (starts_in ys) (subst (In s) (starts-append ls ys) i)) [
-    | inl j ↦ k.1 j
-    | inr j ↦ none j
-  ],
+  λ i. elim (in-cases s (starts_in ls) (starts_in ys) (subst (In s) (starts-append ls ys) i)) [ inl j ↦ k.1 j | inr j ↦ none j ],
 )
 starting-left s (l ∷ ls) ys none (inr k) = inr (k.0, k.1, starting-left s ls ys none k.2)
 
@@ -95,28 +69,14 @@ pub record ViewsIn (S : LogState) (c h : ℕ) (a : AgentState) (ls : List Letter
   pub below : 0 < a.start → SentUpTo S c a.start (sent_term a) ls
 
 pub views-in : (S : LogState) (c h : ℕ) → host_of_slot S.words.deployment c ≡ h → ViewsOk S c → ViewsIn S c h (S.words.agents h) (S.words.channel (Agent h) (Site c))
-views-in S c h e k = subst (λ h. ViewsIn S c h (S.words.agents h) (S.words.channel (Agent h) (Site c))) e (record {
-  plain = k.plain;
-  began = k.began;
-  running = k.running;
-  starting = k.starting;
-  wordless = k.wordless;
-  below = k.below;
-})
+views-in S c h e k = subst (λ h. ViewsIn S c h (S.words.agents h) (S.words.channel (Agent h) (Site c))) e (search)
 
 pub views-of : (S : LogState) (c h : ℕ) (a : AgentState) (ls : List Letter) → host_of_slot S.words.deployment c ≡ h → S.words.agents h ≡ a → S.words.channel (Agent h) (Site c) ≡ ls
     → ViewsIn S c h a ls → ViewsOk S c
 views-of S c h a ls e p q k = of (subst (λ h. ViewsIn S c h (S.words.agents h) (S.words.channel (Agent h) (Site c))) (sym e) (rw (p, q) k))
   where
     of : ViewsIn S c (host_of_slot S.words.deployment c) (S.words.agents (host_of_slot S.words.deployment c)) (agent_to_site S c) → ViewsOk S c
-    of k = record {
-      plain = k.plain;
-      began = k.began;
-      running = k.running;
-      starting = k.starting;
-      wordless = k.wordless;
-      below = k.below;
-    }
+    of k = search
 
 -- ---- more messages
 
@@ -141,10 +101,7 @@ module _ (S : LogState) (c h : ℕ) (a : AgentState) (ls : List Letter) (k : Vie
   }
     where
       plainly : (l : Letter) → NoView l → PlainView l
-      plainly l p = elim l.body as (λ m. NoView (record l { body = m }) → PlainView (record l { body = m })) [
-        | msg.View w ↦ λ k. absurd k
-        | m ↦ λ k. tt
-      ] p
+      plainly l p = elim l.body as (λ m. NoView (record l { body = m }) → PlainView (record l { body = m })) [ msg.View w ↦ λ k. absurd k | m ↦ λ k. tt ] p
 
       none-in : (s : ℕ) → In s [] → ⊥
       none-in s i = i
@@ -153,7 +110,7 @@ module _ (S : LogState) (c h : ℕ) (a : AgentState) (ls : List Letter) (k : Vie
       starts = starts-append ls more ∙ ap (λ x. starts_in ls ++ x) (no-starts more plain) ∙ append-nil (starts_in ls)
 
       same : (s : ℕ) → views s (ls ++ more) ≡ views s ls
-      same s = views-same s ls more (no-views s more plain)
+      same s = flat-same (view_of s) ls more (no-views s more plain)
 
   -- the start of an agent that has said nothing yet, and the word that it took
   pub views-start : (w : Membership) → 0 < a.start → Unsent S c a.start ls → In a.start (S.words.history.began h) → S.words.history.took a.start ≡ Some w → a.taken ≡ Some w
@@ -191,12 +148,12 @@ module _ (S : LogState) (c h : ℕ) (a : AgentState) (ls : List Letter) (k : Vie
       more = open_letter (msg.Start a.start) ∷ letter_to a.start (msg.View w) ∷ []
 
       here : views a.start (ls ++ more) ≡ w ∷ []
-      here = views-append a.start ls more
-          ∙ rw (none.2, views-plain a.start (open_letter (msg.Start a.start)) refl, views-here a.start (letter_to a.start (msg.View w)) refl) refl
+      here = flat_map-append (view_of a.start) ls more
+          ∙ rw (none.2, if-empty ((open_letter (msg.Start a.start)).start == a.start) [] refl, views-here a.start (letter_to a.start (msg.View w)) refl) refl
 
       apart : (s : ℕ) → (s ≡ a.start → ⊥) → views s (ls ++ more) ≡ views s ls
-      apart s d = views-same s ls more (views-none s more (
-        views-plain s (open_letter (msg.Start a.start)) refl,
+      apart s d = flat-same (view_of s) ls more (flat-none (view_of s) more (
+        if-empty _ _ refl,
         (views-other s (letter_to a.start (msg.View w)) (λ e. d (sym e)), tt),
       ))
 
@@ -214,7 +171,7 @@ module _ (S : LogState) (c h : ℕ) (a : AgentState) (ls : List Letter) (k : Vie
   pub views-next : (w : Membership) (old : ℕ) → 0 < a.start → In w S.words.history.decided → start_of_slot S.words.deployment w c ≡ Some a.start
       → In a.start (S.words.history.began h)
       → a.decided ≡ Some w → SentUpTo S c a.start old ls → old < term_of w → ViewsIn S c h a (ls ++ letter_to a.start (msg.View w) ∷ [])
-  views-next w old up decided start began is before above = record {
+  views-next w old up decided start began is before above = let top : sent_term a ≡ term_of w = rw is refl in record {
     plain = all-append PlainView ls more k.plain ((refl, up), tt);
     began = λ s i. elim i [
       | inl j ↦ k.began s (inl (subst (In s) starts j))
@@ -251,14 +208,11 @@ module _ (S : LogState) (c h : ℕ) (a : AgentState) (ls : List Letter) (k : Vie
       more : List Letter
       more = letter_to a.start (msg.View w) ∷ []
 
-      top : sent_term a ≡ term_of w
-      top = rw is refl
-
       here : views a.start (ls ++ more) ≡ views a.start ls ++ w ∷ []
-      here = views-append a.start ls more ∙ rw (views-here a.start (letter_to a.start (msg.View w)) refl) refl
+      here = flat_map-append (view_of a.start) ls more ∙ rw (views-here a.start (letter_to a.start (msg.View w)) refl) refl
 
       apart : (s : ℕ) → (s ≡ a.start → ⊥) → views s (ls ++ more) ≡ views s ls
-      apart s d = views-same s ls more (views-none s more (views-other s (letter_to a.start (msg.View w)) (λ e. d (sym e)), tt))
+      apart s d = flat-same (view_of s) ls more (flat-none (view_of s) more (views-other s (letter_to a.start (msg.View w)) (λ e. d (sym e)), tt))
 
       starts : starts_in (ls ++ more) ≡ starts_in ls
       starts = starts-append ls more ∙ append-nil (starts_in ls)

@@ -1,22 +1,7 @@
 -- An event that changes words, what is under way between others than sites, and what disks hold: what holds of sites and logs,
 -- holds after it.
-use Rattle.std.proofs.Common.{◌≡◌, ◌<◌, List, refl, sym, subst, ap, ◌∙◌, inl, inr}
-use Rattle.std.proofs.Math.Path.{fun_ext}
-use Rattle.std.specs.Prelude.{ℕ, Option, Some, None}
-use Rattle.std.specs.List.{AllByRecursion}
-use Rattle.volt_base.specs.declared.entry.Entry.{Entry}
-use Rattle.volt_wire.specs.Word.{Membership}
-use Rattle.volt_wire.specs.declared.actor.Actor.{Actor}
-use Rattle.volt_wire.specs.declared.actor.Actor.TheVariants.{Director, Client, Agent, Site, Scanner}
+use Rattle.log_laws.proofs.Names.{◌≡◌, ◌<◌, List, refl, sym, subst, ap, ◌∙◌, inl, inr, fun_ext, ℕ, Option, Some, None, AllByRecursion, Entry, Membership, Actor, Director, Client, Agent, Site, Scanner, Deployment, term_of, Shown, Letter, Waiting, Streamed, Joining, Joiner, State, all-mono, Grows, LogState, Entered, Streaming, Leadership, Flow, IsSlot, HasBeen, AckOk, ReportOk, AsksToJoin, CountedOk, EndOk, SiteLetterOk, MemberOk, Coming, Took, Inert, Untaken, StreamIn, InWord, Wordless, ViewIn, JoinerOk, SiteWaitingFrom, SiteWaitingOk, KeepsOk, SiteOk, Came, EnteredOk, StreamedOk, LeadershipOk, UnledOk, WordOf, LogsHold, epoch_base, part, site_start, term_at, between, flow}
 use Rattle.volt_wire.specs.declared.message.Msg.TheVariants as msg
-use Rattle.cluster_model.specs.Words.{Deployment, term_of}
-use Rattle.cluster_model.specs.Disk.{Shown}
-use Rattle.cluster_model.specs.Letters.{Letter, Waiting}
-use Rattle.cluster_model.specs.SiteState.{Streamed, Joining, Joiner}
-use Rattle.word_laws.specs.Histories.{State}
-use Rattle.cluster_steps.proofs.Lists.{all-mono}
-use Rattle.word_laws.proofs.Moves.{Grows}
-use Rattle.log_laws.specs.Histories.{LogState, Entered, Streaming, Leadership, Flow, IsSlot, HasBeen, AckOk, ReportOk, AsksToJoin, CountedOk, EndOk, SiteLetterOk, MemberOk, Coming, Took, Inert, Untaken, StreamIn, InWord, Wordless, ViewIn, JoinerOk, SiteWaitingFrom, SiteWaitingOk, KeepsOk, SiteOk, Came, EnteredOk, StreamedOk, LeadershipOk, UnledOk, WordOf, LogsHold, epoch_base, part, site_start, term_at, between, flow}
 
 -- what is under way between sites as in the first one, and else as in the second one
 abbrev between_sites : (Actor → Actor → List Letter) → (Actor → Actor → List Letter) → Actor → Actor → List Letter
@@ -68,10 +53,7 @@ module _ (S : LogState) (W : State) (contents : ℕ → List Shown) where
     empty = k.empty;
     floor = k.floor;
     never = k.never;
-    comes = λ l f e. elim (k.comes l f e) [
-      | inl q ↦ inl (inert c w l q)
-      | inr q ↦ inr (coming c w (flow (site_start S c) (term_of w) (between S l c)) q.0, q.1)
-    ];
+    comes = λ l f e. elim (k.comes l f e) [ inl q ↦ inl (inert c w l q) | inr q ↦ inr (coming c w (flow (site_start S c) (term_of w) (between S l c)) q.0, q.1) ];
   }
 
   stream : (c : ℕ) (w : Membership) (j : Joining) (st : Option Streamed) → StreamIn S c w j st → StreamIn T c w j st
@@ -107,9 +89,7 @@ module _ (S : LogState) (W : State) (contents : ℕ → List Shown) where
       | m ↦ λ k. k
     ] p
     waits c (Agent h) l p = p
-    waits c Director l p = tt
-    waits c (Client n) l p = tt
-    waits c (Scanner x) l p = tt
+    waits c from l p = tt
 
     waiting : (c : ℕ) (x : Waiting) → SiteWaitingOk S c x → SiteWaitingOk T c x
     waiting c x k = (k.0, waits c x.from x.letter k.1)
@@ -181,16 +161,7 @@ pub record SitesHold (S : LogState) : Type 0 where
   pub first : (p : ℕ) → (g : Leadership) × (S.logs.leadership p (epoch_base S) ≡ Some g)
 
 pub sites-hold : (S : LogState) → LogsHold S → SitesHold S
-sites-hold S h = record {
-  sites = h.sites;
-  letters = h.letters;
-  entered = h.entered;
-  streamed = h.streamed;
-  leaderships = h.leaderships;
-  unled = h.unled;
-  some = h.some;
-  first = h.first;
-}
+sites-hold S h = search
 
 -- Words have only grown, and nothing new is under way between sites.
 pub record KeepsSites (S : LogState) (W : State) : Type 0 where

@@ -1,26 +1,7 @@
 -- A leader runs the calls that wait, and takes rounds and ends of transactions.
-use Rattle.std.proofs.Common.{◌≡◌, ◌<◌, Bool, true, false, List, [], ◌∷◌, ◌++◌, refl, sym, subst}
-use Rattle.std.proofs.lemmas.Bool.{and_parts}
-use Rattle.std.specs.Prelude.{ℕ, ◌&&◌, ◌+◌, if◌then◌else◌, length, Option, Some, None}
-use Rattle.volt_base.specs.declared.entry.Entry.{Entry}
-use Rattle.volt_base.specs.declared.entry.Entry.TheVariants.{Sp, Frag, Done}
-use Rattle.volt_base.specs.declared.entry.Outcome.{Outcome}
-use Rattle.volt_wire.specs.declared.actor.Actor.TheVariants.{Agent}
-use Rattle.volt_wire.specs.declared.message.Msg.{Msg}
+use Rattle.log_laws.proofs.Names.{◌≡◌, ◌<◌, true, List, [], ◌∷◌, ◌++◌, refl, sym, subst, and_parts, ℕ, ◌&&◌, ◌+◌, length, Option, Some, None, Entry, Sp, Frag, Done, Outcome, Agent, Msg, Database, nothing_open, answer_behind, Deployment, part_of_slot, Blocks, Letter, Turn, becomes, letter_to, letter_in, SiteState, AskedCall, site_term, leads, leads_with, holds, holds_for, initiator_in, runs_call, runs_calls, works_calls, on_sp_call, on_frag, on_done, end_of_reply, all-append, cond_both, LogState, HeldOk, HeldFor, LogsHold, site_start}
 use Rattle.volt_wire.specs.declared.message.Msg.TheVariants as msg
-use Rattle.cluster_model.specs.Engine.{Database}
-use Rattle.cluster_model.specs.Log.{nothing_open, answer_behind}
-use Rattle.cluster_model.specs.Words.{Deployment, part_of_slot}
-use Rattle.cluster_model.specs.Letters.{Blocks, Letter, Turn, becomes, ◌▸◌, letter_to, letter_in}
-use Rattle.cluster_model.specs.SiteState.{SiteState, AskedCall, site_term, leads}
-use Rattle.cluster_model.specs.Site.{leads_with, holds, holds_for, initiator_in, runs_call, runs_calls, works_calls, on_sp_call, on_frag, on_done}
-use Rattle.cluster_model.specs.Initiator.{end_of_reply}
-use Rattle.cluster_steps.proofs.Lists.{all-append}
-use Rattle.log_laws.specs.Histories.{LogState, HeldOk, HeldFor, LogsHold, site_start}
-use Rattle.log_laws.proofs.Kept.Moves.{LogsGo}
-use Rattle.log_laws.proofs.Kept.Plumbing.{GoesFrom, goes-then, goes-same}
-use Rattle.log_laws.proofs.Kept.InertTurns.{inert-becomes, calls-goes}
-use Rattle.log_laws.proofs.Kept.Rests.{part-from}
+use Rattle.log_laws.proofs.Kept.{LogsGo, GoesFrom, goes-then, goes-same, inert-becomes, calls-goes, part-from}
 use Rattle.log_laws.proofs.Entries.Leads.{leads-goes, leads-on}
 
 -- ---- one part behind another
@@ -70,14 +51,11 @@ runs-goes E stamp (c ∷ cs) T i H up authoritative =
 
 -- A leader runs those that wait; any other site waits.
 pub works-goes : (E : Database) (T : LogState) (i stamp : ℕ) → LogsHold T → 0 < site_start T i → LogsGo T i (works_calls E T.words.deployment i stamp (T.sites i))
-works-goes E T i stamp H up = choice (leads T.words.deployment i (T.sites i) && nothing_open (T.sites i).log) refl
-  where
-    choice : (b : Bool) → (leads T.words.deployment i (T.sites i) && nothing_open (T.sites i).log) ≡ b
-        → LogsGo T i (if b then runs_calls E T.words.deployment i stamp (T.sites i).calls (record (T.sites i) { calls = [] }) else becomes (T.sites i))
-    choice false q = goes-same T i H
-    choice true q = goes-then T i (becomes (record (T.sites i) { calls = [] })) (runs_calls E T.words.deployment i stamp (T.sites i).calls) (calls-goes T i [] H)
-        (authoritative-from T i (record (T.sites i) { calls = [] }) (λ D. runs_calls E D i stamp (T.sites i).calls) (λ S. runs-goes E stamp (T.sites i).calls S i) up
-        (and_parts (leads T.words.deployment i (T.sites i)) (nothing_open (T.sites i).log) q).0)
+works-goes E T i stamp H up = cond_both (leads T.words.deployment i (T.sites i) && nothing_open (T.sites i).log) _ _ (LogsGo T i)
+    (λ q. goes-then T i (becomes (record (T.sites i) { calls = [] })) (runs_calls E T.words.deployment i stamp (T.sites i).calls) (calls-goes T i [] H)
+    (authoritative-from T i (record (T.sites i) { calls = [] }) (λ D. runs_calls E D i stamp (T.sites i).calls) (λ S. runs-goes E stamp (T.sites i).calls S i) up
+    (and_parts (leads T.words.deployment i (T.sites i)) (nothing_open (T.sites i).log) q).0))
+    (λ q. goes-same T i H)
 
 -- from whatever state in which the site is so
 works-from : (E : Database) (stamp : ℕ) (S : LogState) (i : ℕ) (s : SiteState) → 0 < s.start → GoesFrom S i s (works_calls E S.words.deployment i stamp s)
@@ -103,7 +81,8 @@ entry-goes E T i e (Some first) m k H up authoritative =
 
 pub on_frag-goes : (E : Database) (T : LogState) → LogsHold T → (i m round : ℕ) (body : List ℕ) → 0 < site_start T i
     → LogsGo T i (on_frag E T.words.deployment i (T.sites i) m round body)
-on_frag-goes E T H i m round body up = choice (leads T.words.deployment i (T.sites i)) refl
+on_frag-goes E T H i m round body up = cond_both (leads T.words.deployment i (T.sites i)) _ _ (LogsGo T i)
+    (λ q. entry-goes E T i e (initiator_in (T.sites i).view) (msg.FragDone m round partial) (λ h term start. tt) H up q) (λ q. goes-same T i H)
   where
     e : Entry
     e = Frag m round body
@@ -111,19 +90,12 @@ on_frag-goes E T H i m round body up = choice (leads T.words.deployment i (T.sit
     partial : List ℕ
     partial = answer_behind E (part_of_slot T.words.deployment i) (T.sites i).log e
 
-    choice : (b : Bool) → leads T.words.deployment i (T.sites i) ≡ b
-        → LogsGo T i (if b then leads_with E T.words.deployment i e (holds_for (T.sites i) (initiator_in (T.sites i).view) (msg.FragDone m round partial)) else becomes (T.sites i))
-    choice false q = goes-same T i H
-    choice true q = entry-goes E T i e (initiator_in (T.sites i).view) (msg.FragDone m round partial) (λ h term start. tt) H up q
-
 pub on_done-goes : (E : Database) (T : LogState) → LogsHold T → (i stamp m : ℕ) (o : Outcome) → 0 < site_start T i → LogsGo T i (on_done E T.words.deployment i stamp (T.sites i) m o)
-on_done-goes E T H i stamp m o up = choice (leads T.words.deployment i (T.sites i)) refl
+on_done-goes E T H i stamp m o up = cond_both (leads T.words.deployment i (T.sites i)) _ _ (LogsGo T i)
+    (λ q.
+    let g = entry-goes E T i (Done m o) (initiator_in (T.sites i).view) (msg.Finished m) (λ h term start. tt) H up q in
+    goes-then T i t (works_calls E T.words.deployment i stamp) g (works-from E stamp T i t.state (subst (λ x. 0 < x) (sym g.start) up)))
+    (λ q. goes-same T i H)
   where
     t : Turn SiteState
     t = leads_with E T.words.deployment i (Done m o) (holds_for (T.sites i) (initiator_in (T.sites i).view) (msg.Finished m))
-
-    choice : (b : Bool) → leads T.words.deployment i (T.sites i) ≡ b → LogsGo T i (if b then t ▸ works_calls E T.words.deployment i stamp else becomes (T.sites i))
-    choice false q = goes-same T i H
-    choice true q =
-        let g = entry-goes E T i (Done m o) (initiator_in (T.sites i).view) (msg.Finished m) (λ h term start. tt) H up q in
-        goes-then T i t (works_calls E T.words.deployment i stamp) g (works-from E stamp T i t.state (subst (λ x. 0 < x) (sym g.start) up))

@@ -1,35 +1,8 @@
 -- The leader of a term that has begun appends an entry, and sends it to the copies and the joiners.
-use Rattle.std.proofs.Common.{◌≡◌, ◌<◌, true, false, List, [], ◌∷◌, ◌++◌, append_assoc, append-nil, refl, sym, subst, ap, ◌∙◌, ◌⊎◌, inl, inr, true≢false, arith}
-use Rattle.std.proofs.lemmas.Bool.{cases_eq}
-use Rattle.std.specs.Prelude.{ℕ, ◌≤◌, map, drop, length, Option, Some, None}
-use Rattle.std.specs.List.{AllByRecursion}
-use Rattle.volt_base.specs.declared.entry.Entry.{Entry}
-use Rattle.volt_wire.specs.Word.{Membership}
-use Rattle.volt_wire.specs.declared.actor.Actor.{Actor}
-use Rattle.volt_wire.specs.declared.actor.Actor.TheVariants.{Director, Client, Agent, Site, Scanner}
-use Rattle.cluster_model.specs.Engine.{Database}
-use Rattle.cluster_model.specs.Words.{Deployment, is_in, leader, start_of_slot, term_of, term_in}
-use Rattle.cluster_model.specs.SiteState.{SiteState, Joining, Joiner, Scanning, site_term, start_in_view, is_leader, leads, other_copies}
-use Rattle.cluster_model.specs.Letters.{Sends}
-use Rattle.cluster_model.specs.Site.{leads_with}
-use Rattle.cluster_steps.specs.Lists.{In, Prefix}
-use Rattle.cluster_steps.proofs.Lists.{all-append, not-both, same-some, none-and-some, all-at, set-both}
-use Rattle.log_laws.specs.Histories.{LogState, Logs, Leadership, Line, Repairs, Puts, Flow, Begins, Follows, FollowsIn, LeadsIn, Coming, Took, Inert, InWord, JoinerOk, MemberOk, CountedOk, IsCounted, IsSlot, SiteLetterOk, ForeignOk, ToldOk, BeginsAt, LogsHold, follows, line, flow, stream_ends_in, asked, asks_in, asks_waiting, asks_of_term, between, part, site_start, log_at, term_at}
-use Rattle.log_laws.proofs.Plain.Lines.{line-append, line-same, flow-append, flow-same, ends-same, puts-append, follows-append}
-use Rattle.cluster_steps.proofs.Sends.{put_letter, task_letter}
-use Rattle.log_laws.proofs.Plain.Copies.{leader-follows-none, is-leader, start-in-view, other-copy, copy-other, follows-part, follows-one, leader-followed}
-use Rattle.cluster_steps.proofs.Leaders.{leads-parts, leader-view}
-use Rattle.log_laws.proofs.Kept.Moves.{Grown, LogsLater, SameLeaderships, NoStreamStart, LogsGo, after_site}
-use Rattle.log_laws.proofs.Kept.Grown.{grown-at, enters-same}
-use Rattle.log_laws.proofs.Kept.Plumbing.{sent-either, here, there, between-here, between-there}
-use Rattle.log_laws.proofs.Kept.Terms.{same-word, some-term, leadership-entered, took-decided, took-unnamed}
-use Rattle.log_laws.proofs.Kept.Asked.{at-most-is}
-use Rattle.log_laws.proofs.Kept.Keeps.{SiteStays, SameFrom, SameTerm, SameRun, Uncounted, still-same, member-keeps-from, counted-from, inert-keeps, coming-keeps, took-keeps, in_word-keeps-with, joiner-keeps-with}
-use Rattle.log_laws.proofs.Kept.Turned.{put_at, put-both, put-here, put-there}
-use Rattle.log_laws.proofs.Kept.Growing.{Carries, grew-later, grew-member, grew-holds}
-use Rattle.cluster_steps.proofs.Prefixes.{prefix-append, prefix-length}
-use Rattle.cluster_steps.proofs.Appends.{grown, Passed, leads-with}
-use Rattle.log_laws.proofs.Plain.Appends.{passed-line, passed-line-other, passed-flow, passed-flow-other, passed-ends, passed-all, passed-follows}
+use Rattle.log_laws.proofs.Names.{◌≡◌, ◌<◌, true, false, List, [], ◌∷◌, ◌++◌, append_assoc, append-nil, refl, sym, subst, ap, ◌∙◌, ◌⊎◌, inl, inr, true≢false, arith, cases_eq, ℕ, ◌≤◌, map, drop, length, Option, Some, None, AllByRecursion, Entry, Membership, Actor, Agent, Site, Database, Deployment, is_in, leader, start_of_slot, term_of, term_in, SiteState, Joining, Joiner, Scanning, site_term, start_in_view, is_leader, leads, other_copies, Sends, leads_with, In, Prefix, all-append, not-both, same-some, none-and-some, all-at, set-both, put_letter, task_letter, leads-parts, leader-view, prefix-append, prefix-length, grown, Passed, leads-with, flat_map-append, map-append, LogState, Logs, Leadership, Line, Repairs, Puts, Flow, Begins, Follows, FollowsIn, LeadsIn, Coming, Took, Inert, InWord, JoinerOk, MemberOk, CountedOk, IsCounted, IsSlot, SiteLetterOk, ForeignOk, ToldOk, BeginsAt, LogsHold, follows, line, flow, stream_ends_in, asked, between, part, site_start, log_at, term_at, end_of, flow_of, line_of}
+use Rattle.log_laws.proofs.Plain.{leader-follows-none, is-leader, start-in-view, other-copy, copy-other, follows-part, follows-one, leader-followed, passed-line, passed-line-other, passed-flow, passed-flow-other, passed-ends, passed-all, passed-follows, flat-same, one-and-others}
+use Rattle.log_laws.proofs.Kept.{LogsLater, SameLeaderships, NoStreamStart, LogsGo, after_site, grown-at, enters-same, sent-either, here, there, between-here, between-there, same-word, some-term, leadership-entered, took-decided, took-unnamed, at-most-is, SiteStays, SameFrom, SameTerm, SameRun, Uncounted, still-same, member-keeps-from, counted-from, inert-keeps, coming-keeps, took-keeps, in_word-keeps-with, joiner-keeps-with, put_at, put-both, put-here, put-there, Carries, grew-later, grew-member, grew-holds, asked_of}
+use Rattle.log_laws.proofs.Kept.Moves.{Grown}
 
 -- ---- the history of the leader's term
 
@@ -100,14 +73,14 @@ pub follows-longer : (s : SiteState) (ln : List Line) (g : Leadership) (e : Entr
 follows-longer s ln g e (inl (es, repaired, line_is, log_is, behind)) = inl (
   es ++ e ∷ [],
   repaired,
-  ap (λ x. x ++ Puts e ∷ []) line_is ∙ sym (puts-append es (e ∷ [])),
+  ap (λ x. x ++ Puts e ∷ []) line_is ∙ sym (map-append Puts es (e ∷ [])),
   sym (append_assoc s.log es (e ∷ [])) ∙ ap (λ x. x ++ e ∷ []) log_is,
   behind,
 )
 follows-longer s ln g e (inr (es, unrepaired, line_is, log_is)) = inr (
   es ++ e ∷ [],
   unrepaired,
-  ap (λ x. x ++ Puts e ∷ []) line_is ∙ ap (λ x. Repairs (length s.log) (drop (length s.log) g.begun) ∷ x) (sym (puts-append es (e ∷ []))),
+  ap (λ x. x ++ Puts e ∷ []) line_is ∙ ap (λ x. Repairs (length s.log) (drop (length s.log) g.begun) ∷ x) (sym (map-append Puts es (e ∷ []))),
   sym (append_assoc g.begun es (e ∷ [])) ∙ ap (λ x. x ++ e ∷ []) log_is,
 )
 
@@ -148,11 +121,9 @@ module _ (T : LogState) (i : ℕ) (e : Entry) (H : LogsHold T) (up : 0 < site_st
   -- ---- what is under way
 
   line-else : (c start term l : ℕ) → (l ≡ i → line start term (out (Site c)) ≡ []) → line start term (between next l c) ≡ line start term (between T l c)
-  line-else c start term l none = elim (cases_eq l i) [
-    | inl q ↦ subst (λ x. line start term (between next x c) ≡ line start term (between T x c)) (sym q)
-        (ap (line start term) (between-here T i state out logs c) ∙ line-same start term (between T i c) (out (Site c)) (none q))
-    | inr n ↦ ap (line start term) (between-there T i state out logs l c n)
-  ]
+  line-else c start term = one-and-others _ i
+      (λ none. ap (line start term) (between-here T i state out logs c) ∙ flat-same (line_of start term) (between T i c) (out (Site c)) (none refl))
+      (λ l n none. ap (line start term) (between-there T i state out logs l c n))
 
   -- ---- its term
 
@@ -191,7 +162,7 @@ module _ (T : LogState) (i : ℕ) (e : Entry) (H : LogsHold T) (up : 0 < site_st
 
       ln : line (site_start T c) (term_of k.word) (between next i c) ≡ line (site_start T c) (term_of k.word) (between T i c) ++ Puts e ∷ []
       ln = ap (line (site_start T c) (term_of k.word)) (between-here T i state out logs c)
-          ∙ line-append (site_start T c) (term_of k.word) (between T i c) (out (Site c))
+          ∙ flat_map-append (line_of (site_start T c) (term_of k.word)) (between T i c) (out (Site c))
           ∙ ap (λ x. line (site_start T c) (term_of k.word) (between T i c) ++ x) got
 
   -- and no other does
@@ -223,27 +194,19 @@ module _ (T : LogState) (i : ℕ) (e : Entry) (H : LogsHold T) (up : 0 < site_st
       (all-at (CountedOk T (part T i) (term_at T i)) (T.sites i).joiners ((H.sites i).keeps up).joiners j is).part_is
 
   flow-else : (c start term l : ℕ) → (l ≡ i → flow start term (out (Site c)) ≡ []) → flow start term (between next l c) ≡ flow start term (between T l c)
-  flow-else c start term l none = elim (cases_eq l i) [
-    | inl q ↦ subst (λ x. flow start term (between next x c) ≡ flow start term (between T x c)) (sym q)
-        (ap (flow start term) (between-here T i state out logs c) ∙ flow-same start term (between T i c) (out (Site c)) (none q))
-    | inr n ↦ ap (flow start term) (between-there T i state out logs l c n)
-  ]
+  flow-else c start term = one-and-others _ i
+      (λ none. ap (flow start term) (between-here T i state out logs c) ∙ flat-same (flow_of start term) (between T i c) (out (Site c)) (none refl))
+      (λ l n none. ap (flow start term) (between-there T i state out logs l c n))
 
   ends-else : (c start term l : ℕ) → stream_ends_in start term (between next l c) ≡ stream_ends_in start term (between T l c)
-  ends-else c start term l = elim (cases_eq l i) [
-    | inl q ↦ subst (λ x. stream_ends_in start term (between next x c) ≡ stream_ends_in start term (between T x c)) (sym q)
-        (ap (stream_ends_in start term) (between-here T i state out logs c)
-        ∙ ends-same start term (between T i c) (out (Site c)) (passed-ends T.words.deployment i e state out passed c start term))
-    | inr n ↦ ap (stream_ends_in start term) (between-there T i state out logs l c n)
-  ]
+  ends-else c start term = one-and-others _ i (ap (stream_ends_in start term) (between-here T i state out logs c)
+      ∙ flat-same (end_of start term) (between T i c) (out (Site c)) (passed-ends T.words.deployment i e state out passed c start term))
+      (λ l n. ap (stream_ends_in start term) (between-there T i state out logs l c n))
 
   -- nobody asks, and what was asked is kept
   asked-same : (c l t : ℕ) → (c ≡ i → ⊥) → asked next c l t ≡ asked T c l t
-  asked-same c l t other =
-      ap (λ ls. asks_in t ls ++ asks_waiting c t (next.sites l).waiting ++ asks_waiting c t (T.pending l) ++ asks_of_term c t (next.sites l))
-      (between-there T i state out logs c l other)
-      ∙ set-both (λ h s. asks_in t (between T c l) ++ asks_waiting c t s.waiting ++ asks_waiting c t (T.pending l) ++ asks_of_term c t s
-      ≡ asks_in t (between T c l) ++ asks_waiting c t (T.sites h).waiting ++ asks_waiting c t (T.pending l) ++ asks_of_term c t (T.sites h)) T.sites i state refl (λ h n. refl) l
+  asked-same c l t other = ap (λ ls. asked_of c t ls (next.sites l) (T.pending l)) (between-there T i state out logs c l other)
+      ∙ set-both (λ h s. asked_of c t (between T c l) s (T.pending l) ≡ asked_of c t (between T c l) (T.sites h) (T.pending l)) T.sites i state refl (λ h n. refl) l
 
   -- who follows nobody of its term, or isn't counted, sees nothing of it
   same-from : (c l t : ℕ) → (c ≡ i → ⊥) → (l ≡ i → line (site_start T c) t (out (Site c)) ≡ []) → (l ≡ i → flow (site_start T c) t (out (Site c)) ≡ []) → SameFrom T next c l t
@@ -285,11 +248,11 @@ module _ (T : LogState) (i : ℕ) (e : Entry) (H : LogsHold T) (up : 0 < site_st
   longer-flow : (c a stream_start : ℕ) (past : List Flow) (more : List Entry) → part T c ≡ part T i → IsCounted T c a stream_start k.word
       → flow a (term_of k.word) (between T i c) ≡ past ++ map Follows more → flow a (term_of k.word) (between next i c) ≡ past ++ map Follows (more ++ e ∷ [])
   longer-flow c a stream_start past more p counted is = ap (flow a (term_of k.word)) (between-here T i state out logs c)
-      ∙ flow-append a (term_of k.word) (between T i c) (out (Site c))
+      ∙ flat_map-append (flow_of a (term_of k.word)) (between T i c) (out (Site c))
       ∙ ap (λ x. flow a (term_of k.word) (between T i c) ++ x) (counted-flow c a stream_start p counted)
       ∙ ap (λ x. x ++ Follows e ∷ []) is
       ∙ append_assoc past (map Follows more) (Follows e ∷ [])
-      ∙ ap (λ x. past ++ x) (sym (follows-append more (e ∷ [])))
+      ∙ ap (λ x. past ++ x) (sym (map-append Follows more (e ∷ [])))
 
   longer-log : (c : ℕ) (past more : List Entry) (g : Leadership) → part T c ≡ part T i → T.logs.leadership (part T c) (term_of k.word) ≡ Some g → past ++ more ≡ g.log
       → past ++ (more ++ e ∷ []) ≡ (longer k.leadership e).log
@@ -363,19 +326,12 @@ module _ (T : LogState) (i : ℕ) (e : Entry) (H : LogsHold T) (up : 0 < site_st
     joiner-word : (w : Membership) → In w T.words.history.decided
         → ((part T c ≡ part T i) × (w ≡ k.word)) ⊎ (part T c ≡ part T i → term_of w ≡ term_of k.word → ⊥)
     joiner-word w d = elim (cases_eq (part T c) (part T i)) [
-      | inl p ↦ elim (cases_eq (term_of w) (term_of k.word)) [
-        | inl t ↦ inl (p, word-is w d t)
-        | inr n ↦ inr (λ _ t. n t)
-      ]
+      | inl p ↦ elim (cases_eq (term_of w) (term_of k.word)) [ inl t ↦ inl (p, word-is w d t) | inr n ↦ inr (λ _ t. n t) ]
       | inr n ↦ inr (λ p _. n p)
     ]
 
-    -- of another leader nothing changes
-    not-its : (l : ℕ) → part T c ≡ part T i → follows T.words.deployment k.word c l ≡ true → l ≡ i
-    not-its l p f = follows-one T.words.deployment k.word c l i f (leader-followed T.words.deployment k.word i c k.first p other)
-
     in_word-keeps : (w : Membership) (j : Joining) → InWord T c w j → InWord next c w j
-    in_word-keeps w j m = in_word-keeps-with T next H later c site w j run
+    in_word-keeps w j m = let decided = took-decided T H (site_start T c) w m.took in in_word-keeps-with T next H later c site w j run
         (λ l z. line-else c (site_start T c) (term_of w) l (λ _. joiner-line c w j m) ∙ z)
         (λ l f z n. (
           flow-else c (site_start T c) (term_of w) l (λ q. uncounted-flow c (term_of w) (inr (apart c other w decided
@@ -387,16 +343,14 @@ module _ (T : LogState) (i : ℕ) (e : Entry) (H : LogsHold T) (up : 0 < site_st
         (λ stream_start. took stream_start (joiner-word w decided))
         m
       where
-        decided : In w T.words.history.decided
-        decided = took-decided T H (site_start T c) w m.took
-
         comes : (l : ℕ) → follows T.words.deployment w c l ≡ true → ((part T c ≡ part T i) × (w ≡ k.word)) ⊎ (part T c ≡ part T i → term_of w ≡ term_of k.word → ⊥)
             → ComesNext T (site_start T c) c w l → ComesNext next (site_start T c) c w l
         comes l f (inr n) = coming-else w l (same-term (term_of w) n)
             (same-from c l (term_of w) other (λ _. joiner-line c w j m) (λ _. uncounted-flow c (term_of w) (inr n)))
         comes l f (inl (p, q)) = subst (λ v. line (site_start T c) (term_of v) (out (Site c)) ≡ [] → ComesNext T (site_start T c) c v l → ComesNext next (site_start T c) c v l) (sym q)
             (subst (λ x. line (site_start T c) (term_of k.word) (out (Site c)) ≡ [] → ComesNext T (site_start T c) c k.word x → ComesNext next (site_start T c) c k.word x)
-            (sym (not-its l p (subst (λ v. follows T.words.deployment v c l ≡ true) q f))) (coming-own p)) (joiner-line c w j m)
+            (sym (follows-one T.words.deployment k.word c l i (subst (λ v. follows T.words.deployment v c l ≡ true) q f)
+            (leader-followed T.words.deployment k.word i c k.first p other))) (coming-own p)) (joiner-line c w j m)
 
         took : (stream_start : ℕ) → ((part T c ≡ part T i) × (w ≡ k.word)) ⊎ (part T c ≡ part T i → term_of w ≡ term_of k.word → ⊥) → Took T c w j stream_start → Took next c w j stream_start
         took stream_start (inr n) = took-keeps T next H later c site w j stream_start (same-term (term_of w) n)
@@ -453,7 +407,7 @@ module _ (T : LogState) (i : ℕ) (e : Entry) (H : LogsHold T) (up : 0 < site_st
         (passed-all T.words.deployment i e state out passed c (SiteLetterOk T i c) (some-put c slot) (some-task c))) (λ j n. H.letters j c slot) j;
     begins = λ j c start term stream_start. sent-either T i state out logs
         (λ j ls. AllByRecursion (BeginsAt stream_start) (flow start term (between T j c)) → AllByRecursion (BeginsAt stream_start) (flow start term ls)) (Site c)
-        (λ h. rw flow-append (all-append (BeginsAt stream_start) (flow start term (between T i c)) (flow start term (out (Site c))) h
+        (λ h. rw (flat_map-append (flow_of start term) (between T i c) (out (Site c))) (all-append (BeginsAt stream_start) (flow start term (between T i c)) (flow start term (out (Site c))) h
         (passed-follows T.words.deployment i e state out passed c (BeginsAt stream_start) start term tt))) (λ j n h. h) j;
   }
     where
@@ -461,10 +415,7 @@ module _ (T : LogState) (i : ℕ) (e : Entry) (H : LogsHold T) (up : 0 < site_st
       foreign (Site j) c = sent-either T i state out logs (λ j ls. AllByRecursion (ForeignOk T c (Site j)) ls) (Site c)
           (all-append (ForeignOk T c (Site i)) (between T i c) (out (Site c)) (H.foreign (Site i) c)
           (passed-all T.words.deployment i e state out passed c (ForeignOk T c (Site i)) (λ is. tt) (λ j is q. tt))) (λ j n. H.foreign (Site j) c) j
-      foreign (Agent h) c = H.foreign (Agent h) c
-      foreign Director c = H.foreign Director c
-      foreign (Client n) c = H.foreign (Client n) c
-      foreign (Scanner x) c = H.foreign (Scanner x) c
+      foreign from c = H.foreign from c
 
   led-holds : LogsHold next
   led-holds = grew-holds T H i (e ∷ []) (T.sites i).floor (T.sites i).repaired (T.sites i).owes scans scanning next.words.channel logs.leadership

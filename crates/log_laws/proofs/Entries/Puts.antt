@@ -1,36 +1,9 @@
 -- A copy takes what its leader sent it to append: one entry more, or what it lacks of what its term begins with.
-use Rattle.std.proofs.Common.{◌≡◌, ◌<◌, Bool, true, false, List, [], ◌∷◌, ◌++◌, append_assoc, append-nil, refl, sym, subst, ap, ◌∙◌, inl, inr, ◌==◌, arith}
-use Rattle.std.proofs.lemmas.Bool.{cases_Bool, ne_eqb}
-use Rattle.std.specs.Prelude.{ℕ, ◌≤◌, ◌-◌, ◌&&◌, if◌then◌else◌, max, map, drop, length, Option, Some, None}
-use Rattle.std.specs.List.{AllByRecursion}
-use Rattle.volt_base.specs.declared.entry.Entry.{Entry}
-use Rattle.volt_wire.specs.Word.{Membership}
-use Rattle.volt_wire.specs.declared.actor.Actor.{Actor}
-use Rattle.volt_wire.specs.declared.actor.Actor.TheVariants.{Director, Client, Agent, Site, Scanner}
+use Rattle.log_laws.proofs.Names.{◌≡◌, ◌<◌, true, false, List, [], ◌∷◌, ◌++◌, append_assoc, append-nil, refl, sym, subst, ap, ◌∙◌, inl, inr, ◌==◌, arith, cases_Bool, ne_eqb, ℕ, ◌≤◌, ◌-◌, ◌&&◌, max, map, drop, length, Option, Some, None, AllByRecursion, Entry, Membership, Actor, Agent, Site, Scanner, Database, term_of, term_in, same, Letter, Sends, SiteState, Joining, Joiner, Scanning, site_term, on_put, on_repair, took, sent, rest, In, Prefix, and-false, eqb-same, if-false, not-both, same-some, set-here, set-there, set-both, took-all, prefix-append, prefix-grows, prefix-length, prefix-refl, prefix-rest, Appended, appends-one, appends-all, cond_both, LogState, Leadership, Line, Puts, Repairs, FollowsIn, JoinerOk, ViewIn, MemberOk, MeantFor, ForeignOk, ToldOk, SiteLetterOk, BeginsAt, LogsHold, line_in, flow_in, ask_in, follows, line, flow, stream_ends_in, asks_in, asks_waiting, asks_of_term, asked, between, part, site_start, term_at, log_at, is_for}
 use Rattle.volt_wire.specs.declared.message.Msg.TheVariants as msg
-use Rattle.cluster_model.specs.Engine.{Database}
-use Rattle.cluster_model.specs.Words.{term_of, term_in}
-use Rattle.cluster_model.specs.Letters.{same, Letter, Sends}
-use Rattle.cluster_model.specs.SiteState.{SiteState, Joining, Joiner, Scanning, site_term}
-use Rattle.cluster_model.specs.Site.{on_put, on_repair}
-use Rattle.cluster_model.specs.World.{took, sent, rest}
-use Rattle.cluster_steps.specs.Lists.{In, Prefix}
-use Rattle.cluster_steps.proofs.Lists.{and-false, eqb-same, if-false, not-both, same-some, set-here, set-there, set-both}
-use Rattle.cluster_steps.proofs.Channels.{took-all}
-use Rattle.log_laws.specs.Histories.{LogState, Leadership, Line, Puts, Repairs, FollowsIn, JoinerOk, ViewIn, MemberOk, MeantFor, ForeignOk, ToldOk, SiteLetterOk, BeginsAt, LogsHold, line_in, flow_in, ask_in, follows, line, flow, stream_ends_in, asks_in, asks_waiting, asks_of_term, asked, between, part, site_start, term_at, log_at}
-use Rattle.log_laws.proofs.Plain.Lines.{puts-cons, puts-not-repairs, repairs-not-put, repairs-same, line-here, flow-plain, asks-plain}
-use Rattle.log_laws.proofs.Kept.Terms.{running-slot, leadership-entered}
-use Rattle.log_laws.proofs.Plain.Copies.{leader-follows-none, follows-one}
-use Rattle.log_laws.proofs.Kept.Moves.{LogsLater, after_site, site_popped, NoStreamStart, LogsGo}
-use Rattle.log_laws.proofs.Kept.Grown.{grown-same, enters-same}
-use Rattle.log_laws.proofs.Kept.Laters.{same-leaderships}
-use Rattle.log_laws.proofs.Kept.Plumbing.{taken-either}
-use Rattle.log_laws.proofs.Kept.Asked.{at-most-is}
+use Rattle.log_laws.proofs.Plain.{puts-cons, puts-not-repairs, repairs-not-put, repairs-same, leader-follows-none, follows-one, for-here, if-empty}
+use Rattle.log_laws.proofs.Kept.{running-slot, leadership-entered, LogsLater, after_site, site_popped, NoStreamStart, LogsGo, grown-same, enters-same, same-leaderships, taken-either, at-most-is, SiteStays, SameFrom, Uncounted, still-same, member-keeps, counted-from, Carries, grew, grew-later, grew-member, grew-holds, asked_of}
 use Rattle.log_laws.proofs.Kept.Keeps as keeps
-use Rattle.log_laws.proofs.Kept.Keeps.{SiteStays, SameFrom, Uncounted, still-same, member-keeps, counted-from}
-use Rattle.cluster_steps.proofs.Prefixes.{prefix-append, prefix-grows, prefix-length, prefix-refl, prefix-rest}
-use Rattle.cluster_steps.proofs.Appends.{Appended, appends-one, appends-all}
-use Rattle.log_laws.proofs.Kept.Growing.{Carries, grew, grew-later, grew-member, grew-holds}
 
 -- ---- who takes it
 
@@ -50,7 +23,7 @@ module _ (S : LogState) (H : LogsHold S) (k i : ℕ) (l : Letter) (ls : List Let
   -- it is first in the channel
   first-line : (w : Membership) → (S.sites i).view ≡ Some w → line (site_start S i) (term_of w) (between S k i) ≡ x ∷ line (site_start S i) (term_of w) ls
   first-line w v = ap (line (site_start S i) (term_of w)) is
-      ∙ ap (λ ys. ys ++ line (site_start S i) (term_of w) ls) (line-here (site_start S i) (term_of w) l own (now ∙ ap term_in v) ∙ said)
+      ∙ ap (λ ys. ys ++ line (site_start S i) (term_of w) ls) (for-here (site_start S i) (term_of w) l (line_in l.body) own (now ∙ ap term_in v) ∙ said)
 
   no-joiner : (j : Joining) → (S.sites i).joining ≡ Some j → ⊥
   no-joiner j e = view (S.sites i).view refl ((H.sites i).joiner j e).view
@@ -86,12 +59,9 @@ module _ (S : LogState) (k i : ℕ) (out : Sends) (inert : (b : Actor) → same 
 
   -- only its scanner was told something
   from-site : (a : ℕ) (b : Actor) → same (Scanner i) b ≡ false → ch (Site a) b ≡ took S.words.channel (Site k) (Site i) (Site a) b
-  from-site a b apart = choice (i == a)
-    where
-      choice : (c : Bool) → (if c then took S.words.channel (Site k) (Site i) (Site a) b ++ out b else took S.words.channel (Site k) (Site i) (Site a) b)
-          ≡ took S.words.channel (Site k) (Site i) (Site a) b
-      choice true = ap (λ ys. took S.words.channel (Site k) (Site i) (Site a) b ++ ys) (inert b apart) ∙ append-nil (took S.words.channel (Site k) (Site i) (Site a) b)
-      choice false = refl
+  from-site a b apart = cond_both (i == a) _ _ (λ z. z ≡ took S.words.channel (Site k) (Site i) (Site a) b)
+      (λ _. ap (λ ys. took S.words.channel (Site k) (Site i) (Site a) b ++ ys) (inert b apart) ∙ append-nil (took S.words.channel (Site k) (Site i) (Site a) b))
+      (λ _. refl)
 
   -- to other slots all is as it was
   to-other : (a c : ℕ) → (c ≡ i → ⊥) → ch (Site a) (Site c) ≡ between S a c
@@ -129,14 +99,14 @@ module _ (S : LogState) (H : LogsHold S) (k i : ℕ) (l : Letter) (ls : List Let
   flow-kept j c start term = ap (flow start term) (from-site S k i out inert j (Site c) refl)
       ∙ taken-either S (Site k) i (λ a c ys. flow start term ys ≡ flow start term (S.words.channel a (Site c)))
       (λ c q. subst (λ y. flow start term (rest (between S k y)) ≡ flow start term (between S k y)) (sym q)
-      (ap (λ ys. flow start term (rest ys)) is ∙ sym (ap (λ ys. ys ++ flow start term ls) (flow-plain start term l no-flow)) ∙ ap (flow start term) (sym is)))
+      (ap (λ ys. flow start term (rest ys)) is ∙ sym (ap (λ ys. ys ++ flow start term ls) (if-empty (is_for start term l) (flow_in l.past l.body) no-flow)) ∙ ap (flow start term) (sym is)))
       (Site j) c refl
 
   asks-kept : (j c term : ℕ) → asks_in term (channel (Site j) (Site c)) ≡ asks_in term (between S j c)
   asks-kept j c term = ap (asks_in term) (from-site S k i out inert j (Site c) refl)
       ∙ taken-either S (Site k) i (λ a c ys. asks_in term ys ≡ asks_in term (S.words.channel a (Site c)))
       (λ c q. subst (λ y. asks_in term (rest (between S k y)) ≡ asks_in term (between S k y)) (sym q)
-      (ap (λ ys. asks_in term (rest ys)) is ∙ sym (ap (λ ys. ys ++ asks_in term ls) (asks-plain term l no-ask)) ∙ ap (asks_in term) (sym is)))
+      (ap (λ ys. asks_in term (rest ys)) is ∙ sym (ap (λ ys. ys ++ asks_in term ls) (if-empty (l.term == term) (ask_in l.body) no-ask)) ∙ ap (asks_in term) (sym is)))
       (Site j) c refl
 
   carries : Carries S channel
@@ -153,10 +123,7 @@ module _ (S : LogState) (H : LogsHold S) (k i : ℕ) (l : Letter) (ls : List Let
       foreign : (from : Actor) (c : ℕ) → AllByRecursion (ForeignOk S c from) (channel from (Site c))
       foreign (Site j) c = subst (AllByRecursion (ForeignOk S c (Site j))) (sym (from-site S k i out inert j (Site c) refl))
           (took-all (ForeignOk S c (Site j)) S.words.channel (Site k) (Site i) (Site j) (Site c) (H.foreign (Site j) c))
-      foreign (Agent h) c = took-all (ForeignOk S c (Agent h)) S.words.channel (Site k) (Site i) (Agent h) (Site c) (H.foreign (Agent h) c)
-      foreign Director c = took-all (ForeignOk S c Director) S.words.channel (Site k) (Site i) Director (Site c) (H.foreign Director c)
-      foreign (Client n) c = took-all (ForeignOk S c (Client n)) S.words.channel (Site k) (Site i) (Client n) (Site c) (H.foreign (Client n) c)
-      foreign (Scanner z) c = took-all (ForeignOk S c (Scanner z)) S.words.channel (Site k) (Site i) (Scanner z) (Site c) (H.foreign (Scanner z) c)
+      foreign from c = took-all (ForeignOk S c from) S.words.channel (Site k) (Site i) from (Site c) (H.foreign from c)
 
   own-member : MemberOk next i r.word
   own-member = grew-member S H i more floor true owes scans scanning channel S.logs.leadership r.word refl below
@@ -178,8 +145,7 @@ module _ (S : LogState) (H : LogsHold S) (k i : ℕ) (l : Letter) (ls : List Let
     asked-same : (a t : ℕ) → asked next c a t ≡ asked S c a t
     asked-same a t =
         ap (λ ys. ys ++ asks_waiting c t (next.sites a).waiting ++ asks_waiting c t (S.pending a) ++ asks_of_term c t (next.sites a)) (asks-kept c a t)
-        ∙ set-both (λ h y. asks_in t (between S c a) ++ asks_waiting c t y.waiting ++ asks_waiting c t (S.pending a) ++ asks_of_term c t y
-        ≡ asks_in t (between S c a) ++ asks_waiting c t (S.sites h).waiting ++ asks_waiting c t (S.pending a) ++ asks_of_term c t (S.sites h)) S.sites i state refl (λ h n. refl) a
+        ∙ set-both (λ h y. asked_of c t (between S c a) y (S.pending a) ≡ asked_of c t (between S c a) (S.sites h) (S.pending a)) S.sites i state refl (λ h n. refl) a
 
     same-from : (a t : ℕ) → SameFrom S next c a t
     same-from a t = record {

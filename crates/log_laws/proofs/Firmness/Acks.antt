@@ -1,18 +1,6 @@
 -- The leader notes what a copy or a joiner acknowledged, and counts what is firm.
-use Rattle.std.proofs.Common.{◌≡◌, ◌<◌, ◌≤◌, Bool, true, false, ◌∷◌, refl, sym, subst, ap, ◌∙◌, inl, inr, ◌==◌, arith}
-use Rattle.std.proofs.lemmas.Bool.{cases_eq, eqb-true}
-use Rattle.std.specs.Prelude.{ℕ, not, if◌then◌else◌, filter, map, length}
-use Rattle.cluster_model.specs.Words.{is_in}
-use Rattle.cluster_model.specs.Letters.{no_sends, becomes}
-use Rattle.cluster_model.specs.SiteState.{Joiner, is_leader, other_copies}
-use Rattle.cluster_model.specs.Site.{with_position, noted, counts, on_ack}
-use Rattle.word_laws.specs.Histories.{Distinct}
-use Rattle.cluster_steps.proofs.Lists.{all-at, all-from, all-filter, all-if, in-map-from}
-use Rattle.log_laws.specs.Histories.{LogState, LogsHold, IsSlot, WasIn, AckOk, CountedOk, KeepsOk, part, site_start, log_at, term_at}
-use Rattle.log_laws.proofs.Kept.Moves.{LogsGo}
-use Rattle.log_laws.proofs.Kept.Terms.{one-in, was-been}
-use Rattle.log_laws.proofs.Kept.Plumbing.{goes-then, goes-same}
-use Rattle.log_laws.proofs.Kept.Rests.{SiteRests, map-joiners, map-slots, part-from, reach-same, site-same, says-nothing, rests-goes}
+use Rattle.log_laws.proofs.Names.{◌≡◌, ◌<◌, ◌≤◌, ◌∷◌, refl, sym, subst, ap, ◌∙◌, inl, inr, ◌==◌, arith, cases_eq, eqb-true, ℕ, not, filter, map, length, is_in, no_sends, becomes, Joiner, is_leader, other_copies, with_position, noted, counts, on_ack, Distinct, all-at, all-from, all-filter, all-if, in-map-from, cond_both, LogState, LogsHold, IsSlot, WasIn, AckOk, CountedOk, KeepsOk, part, site_start, log_at, term_at}
+use Rattle.log_laws.proofs.Kept.{LogsGo, one-in, was-been, goes-then, goes-same, SiteRests, map-joiners, map-slots, part-from, reach-same, site-same, says-nothing, rests-goes}
 use Rattle.log_laws.proofs.Firmness.Firm.{counts-goes}
 
 -- Where the earlier starts of a slot that runs had lower terms, its own start is the one that was in the term.
@@ -25,47 +13,27 @@ runs-in S H c t a was up low = elim (cases_eq (site_start S c) a) [
 -- ---- the position of a joiner
 
 pub position-slot : (slot position : ℕ) (j : Joiner) → (with_position slot position j).slot ≡ j.slot
-position-slot slot position j = choice (j.slot == slot)
-  where
-    choice : (b : Bool) → (if b then record j { position = position } else j).slot ≡ j.slot
-    choice true = refl
-    choice false = refl
-
-position-start : (slot position : ℕ) (j : Joiner) → (with_position slot position j).start ≡ j.start
-position-start slot position j = choice (j.slot == slot)
-  where
-    choice : (b : Bool) → (if b then record j { position = position } else j).start ≡ j.start
-    choice true = refl
-    choice false = refl
-
-position-stream_start : (slot position : ℕ) (j : Joiner) → (with_position slot position j).stream_start ≡ j.stream_start
-position-stream_start slot position j = choice (j.slot == slot)
-  where
-    choice : (b : Bool) → (if b then record j { position = position } else j).stream_start ≡ j.stream_start
-    choice true = refl
-    choice false = refl
+position-slot slot position j = cond_both (j.slot == slot) _ _ (λ (z : Joiner). z.slot ≡ j.slot) (λ _. refl) (λ _. refl)
 
 module _ (T : LogState) (H : LogsHold T) (i slot position : ℕ) (up : 0 < site_start T i) (ack : AckOk T slot (term_at T i) position) where
   -- with what its slot acknowledged it is counted as before
   position-counted : (j : Joiner) → CountedOk T (part T i) (term_at T i) j → CountedOk T (part T i) (term_at T i) (with_position slot position j)
-  position-counted j k = choice (j.slot == slot) refl
-    where
-      here : AckOk T j.slot (term_at T i) position → site_start T j.slot ≡ j.start → (T.sites j.slot).earlier < term_at T i → position ≤ length (log_at T j.slot)
-      here a runs low = a.now (runs-in T H j.slot (term_at T i) a.start a.was (let some = k.been.some in omega (arith, some, runs)) low)
-
-      choice : (b : Bool) → (j.slot == slot) ≡ b → CountedOk T (part T i) (term_at T i) (if b then record j { position = position } else j)
-      choice true e = let mine = subst (λ c. AckOk T c (term_at T i) position) (sym (eqb-true j.slot slot e)) ack in record {
+  position-counted j k = cond_both (j.slot == slot) _ _ (CountedOk T (part T i) (term_at T i))
+      (λ e. let mine = subst (λ c. AckOk T c (term_at T i) position) (sym (eqb-true j.slot slot e)) ack in record {
         been = k.been;
         part_is = k.part_is;
         reached = k.reached;
         position = λ runs low. let m = here mine runs low in omega (arith, m);
         later = λ x streamed start u f above entered same. let m = mine.later u f above entered
             (same ∙ sym start ∙ one-in T H j.slot (term_at T i) x.start mine.start (inr (x, streamed, refl)) mine.was) in omega (arith, m);
-      }
-      choice false e = k
+      })
+      (λ e. k)
+    where
+      here : AckOk T j.slot (term_at T i) position → site_start T j.slot ≡ j.start → (T.sites j.slot).earlier < term_at T i → position ≤ length (log_at T j.slot)
+      here a runs low = a.now (runs-in T H j.slot (term_at T i) a.start a.was (let some = k.been.some in omega (arith, some, runs)) low)
 
   noted-rests : SiteRests T T.logs.reach i (noted T.words.deployment i (T.sites i) slot position)
-  noted-rests = record {
+  noted-rests = let k : KeepsOk T i = (H.sites i).keeps up in record {
     is = refl;
     member = λ e. e;
     joiner = (site-same T H i T.logs.reach i).joiner;
@@ -77,26 +45,18 @@ module _ (T : LogState) (H : LogsHold T) (i slot position : ℕ) (up : 0 < site_
         let r = in-map-from (with_position slot position) j (T.sites i).joiners here in
         subst (CountedOk T (part T i) (term_at T i)) r.2 (position-counted r.0 (all-at (CountedOk T (part T i) (term_at T i)) (T.sites i).joiners k.joiners r.0 r.1)));
     alone = λ _. subst Distinct (sym (map-slots (with_position slot position) (position-slot slot position) (T.sites i).joiners)) k.alone;
-    leads = λ _. elim k.leads [
-      | inl e ↦ inl (ap (map (with_position slot position)) e)
-      | inr e ↦ inr e
-    ];
-    counted = map-joiners (with_position slot position) (position-slot slot position) (position-start slot position) (position-stream_start slot position) (T.sites i).joiners;
+    leads = λ _. elim k.leads [ inl e ↦ inl (ap (map (with_position slot position)) e) | inr e ↦ inr e ];
+    counted = map-joiners (with_position slot position) (position-slot slot position)
+        (λ j. cond_both (j.slot == slot) _ _ (λ (z : Joiner). z.start ≡ j.start) (λ _. refl) (λ _. refl))
+        (λ j. cond_both (j.slot == slot) _ _ (λ (z : Joiner). z.stream_start ≡ j.stream_start) (λ _. refl) (λ _. refl)) (T.sites i).joiners;
     on_disk = λ _. k.on_disk;
     held = λ _. k.held;
   }
-    where
-      k : KeepsOk T i
-      k = (H.sites i).keeps up
-
-  noted-goes : LogsGo T i (becomes (noted T.words.deployment i (T.sites i) slot position))
-  noted-goes = rests-goes T H i (noted T.words.deployment i (T.sites i) slot position) no_sends T.logs.reach noted-rests (reach-same T H) (says-nothing T H i)
 
   -- Ack
   pub on_ack-goes : LogsGo T i (on_ack T.words.deployment i (T.sites i) slot position)
-  on_ack-goes = choice (is_leader T.words.deployment i (T.sites i))
-    where
-      choice : (b : Bool) → LogsGo T i (if b then counts T.words.deployment i (noted T.words.deployment i (T.sites i) slot position) else becomes (T.sites i))
-      choice true = goes-then T i (becomes (noted T.words.deployment i (T.sites i) slot position)) (counts T.words.deployment i) noted-goes
-          (part-from T i (noted T.words.deployment i (T.sites i) slot position) (λ D s. counts D i s) (λ S K u. counts-goes S K i u) up)
-      choice false = goes-same T i H
+  on_ack-goes = cond_both (is_leader T.words.deployment i (T.sites i)) _ _ (LogsGo T i)
+      (λ _. goes-then T i (becomes (noted T.words.deployment i (T.sites i) slot position)) (counts T.words.deployment i)
+      (rests-goes T H i (noted T.words.deployment i (T.sites i) slot position) no_sends T.logs.reach noted-rests (reach-same T H) (says-nothing T H i))
+      (part-from T i (noted T.words.deployment i (T.sites i) slot position) (λ D s. counts D i s) (λ S K u. counts-goes S K i u) up))
+      (λ _. goes-same T i H)

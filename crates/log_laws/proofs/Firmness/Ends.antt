@@ -1,40 +1,17 @@
 -- A joiner is told that its stream is whole, once the position at which that began is everywhere.
-use Rattle.std.proofs.Common.{◌≡◌, ◌<◌, ◌≤◌, Bool, true, false, List, [], ◌∷◌, refl, sym, subst, ap, ◌∙◌, inl, inr, true≢false, arith}
-use Rattle.std.proofs.lemmas.Bool.{and_parts, leb-true}
-use Rattle.std.specs.Prelude.{ℕ, nat_le, if◌then◌else◌, map, length, Option, Some, None, is_some}
-use Rattle.std.specs.List.{AllByRecursion}
-use Rattle.volt_base.specs.declared.entry.Entry.{Entry}
-use Rattle.volt_wire.specs.Word.{Membership}
-use Rattle.cluster_model.specs.Words.{term_of, term_in, leader}
-use Rattle.cluster_model.specs.SiteState.{SiteState, Streamed, Joining, Joiner}
-use Rattle.cluster_model.specs.Site.{is_sent, without_count, ends_streams}
-use Rattle.cluster_steps.specs.Lists.{In}
-use Rattle.word_laws.specs.Histories.{Distinct}
-use Rattle.cluster_steps.proofs.Lists.{all-at, all-from, in-map, in-map-from, none-and-some}
-use Rattle.log_laws.specs.Histories.{LogState, LogsHold, Follows, WordOf, CountedOk, IsCounted, BeginsAt, SiteLetterOk, JoinsIn, ViewIn, StreamIn, KeepsOk, flow, follows, part, site_start, term_at, between}
-use Rattle.log_laws.proofs.Kept.Moves.{LogsGo}
-use Rattle.cluster_steps.proofs.Sends.{end_letter, stream_ends-all}
-use Rattle.log_laws.proofs.Plain.Lines.{stream_ends-other}
-use Rattle.log_laws.proofs.Plain.Copies.{follows-one, leader-followed}
-use Rattle.log_laws.proofs.Kept.Terms.{same-word, some-term, took-decided}
-use Rattle.log_laws.proofs.Kept.Rests.{SiteRests, SaysRests, Bare, map-joiners, map-slots, reach-same, site-same, rests-goes}
+use Rattle.log_laws.proofs.Names.{◌≡◌, ◌<◌, ◌≤◌, true, List, [], ◌∷◌, refl, sym, subst, ap, ◌∙◌, inl, inr, true≢false, arith, and_parts, leb-true, ℕ, nat_le, map, length, Option, Some, None, is_some, AllByRecursion, Entry, Membership, term_of, term_in, leader, SiteState, Streamed, Joining, Joiner, is_sent, without_count, ends_streams, In, Distinct, all-at, all-from, in-map, in-map-from, none-and-some, end_letter, stream_ends-all, cond_both, LogState, LogsHold, Follows, WordOf, CountedOk, IsCounted, BeginsAt, SiteLetterOk, JoinsIn, ViewIn, StreamIn, KeepsOk, flow, follows, part, site_start, term_at, between}
+use Rattle.log_laws.proofs.Kept.{LogsGo, same-word, some-term, took-decided, SiteRests, SaysRests, Bare, map-joiners, map-slots, reach-same, site-same, rests-goes}
+use Rattle.log_laws.proofs.Plain.{stream_ends-other, follows-one, leader-followed}
 use Rattle.log_laws.proofs.Firmness.Firm.{LeaderOf, leader-of}
 
 -- ---- a joiner loses its count
 
 count-same : {A : Type 0} (f : Joiner → A) → ((j : Joiner) → f (record j { count = None }) ≡ f j) → (s : SiteState) (j : Joiner) → f (without_count s j) ≡ f j
-count-same f same s j = choice (is_sent s j)
-  where
-    choice : (b : Bool) → f (if b then record j { count = None } else j) ≡ f j
-    choice true = same j
-    choice false = refl
+count-same f same s j = cond_both (is_sent s j) _ _ (λ z. f z ≡ f j) (λ _. same j) (λ _. refl)
 
 count-counted : (T : LogState) (p t : ℕ) (s : SiteState) (j : Joiner) → CountedOk T p t j → CountedOk T p t (without_count s j)
-count-counted T p t s j k = choice (is_sent s j)
-  where
-    choice : (b : Bool) → CountedOk T p t (if b then record j { count = None } else j)
-    choice true = record { been = k.been; part_is = k.part_is; reached = k.reached; position = k.position; later = k.later }
-    choice false = k
+count-counted T p t s j k = cond_both (is_sent s j) _ _ (CountedOk T p t)
+    (λ _. record { been = k.been; part_is = k.part_is; reached = k.reached; position = k.position; later = k.later }) (λ _. k)
 
 -- joiners of one slot are one
 pub slot-one : (js : List Joiner) → Distinct (map (λ j. j.slot) js) → (j k : Joiner) → In j js → In k js → j.slot ≡ k.slot → j ≡ k
@@ -53,10 +30,7 @@ module _ (T : LogState) (H : LogsHold T) (i : ℕ) (up : 0 < site_start T i) whe
   keeps = (H.sites i).keeps up
 
   counting : (j : Joiner) → In j (T.sites i).joiners → LeaderOf T i
-  counting j here = elim keeps.leads [
-    | inl e ↦ absurd (subst (In j) e here)
-    | inr e ↦ leader-of T H i up e
-  ]
+  counting j here = elim keeps.leads [ inl e ↦ absurd (subst (In j) e here) | inr e ↦ leader-of T H i up e ]
 
   module _ (j : Joiner) (here : In j (T.sites i).joiners) (sent : is_sent (T.sites i) j ≡ true) where
     o : LeaderOf T i
@@ -133,10 +107,7 @@ module _ (T : LogState) (H : LogsHold T) (i : ℕ) (up : 0 < site_start T i) whe
     sites = λ c. stream_ends-all (T.sites i) c (λ l. Bare l × SiteLetterOk T i c l) (λ j here same sent.
         ((refl, refl, refl, tt), subst (λ x. SiteLetterOk T i x (end_letter (T.sites i) x j)) same (end-ok j here sent)));
     ended = λ c w joins decided away. stream_ends-other (T.sites i) c (site_start T c) (term_of w) (λ j here same start is sent.
-        elim away [
-          | inl q ↦ q.uncounted j here same start
-          | inr f ↦ true≢false (sym (led j here c w same joins decided is) ∙ f)
-        ]);
+        elim away [ inl q ↦ q.uncounted j here same start | inr f ↦ true≢false (sym (led j here c w same joins decided is) ∙ f) ]);
     told = λ h. tt;
   }
     where
@@ -166,10 +137,7 @@ module _ (T : LogState) (H : LogsHold T) (i : ℕ) (up : 0 < site_start T i) whe
             subst (CountedOk T (part T i) (term_at T i)) r.2 (count-counted T (part T i) (term_at T i) (T.sites i) r.0
             (all-at (CountedOk T (part T i) (term_at T i)) (T.sites i).joiners keeps.joiners r.0 r.1)));
         alone = λ _. subst Distinct (sym (map-slots (without_count (T.sites i)) (count-same (λ j. j.slot) (λ j. refl) (T.sites i)) (T.sites i).joiners)) keeps.alone;
-        leads = λ _. elim keeps.leads [
-          | inl e ↦ inl (ap (map (without_count (T.sites i))) e)
-          | inr e ↦ inr e
-        ];
+        leads = λ _. elim keeps.leads [ inl e ↦ inl (ap (map (without_count (T.sites i))) e) | inr e ↦ inr e ];
         counted = map-joiners (without_count (T.sites i)) (count-same (λ j. j.slot) (λ j. refl) (T.sites i)) (count-same (λ j. j.start) (λ j. refl) (T.sites i))
             (count-same (λ j. j.stream_start) (λ j. refl) (T.sites i)) (T.sites i).joiners;
         on_disk = λ _. keeps.on_disk;

@@ -1,30 +1,9 @@
 -- What a leader counts as firm, and as its floor, is in each log.
-use Rattle.std.proofs.Common.{◌≡◌, ◌<◌, ◌≤◌, Bool, true, false, List, [], refl, sym, subst, ap, ◌∙◌, inl, inr, ◌==◌, arith}
-use Rattle.std.proofs.lemmas.Bool.{cases_eq, and_parts}
-use Rattle.std.specs.Prelude.{ℕ, ◌&&◌, nat_lt, nat_le, if◌then◌else◌, filter, max, length, Option, Some, None}
-use Rattle.std.specs.List.{AllByRecursion}
-use Rattle.volt_wire.specs.Word.{Membership}
-use Rattle.volt_wire.specs.declared.actor.Actor.{Actor}
-use Rattle.volt_wire.specs.declared.actor.Actor.TheVariants.{Agent, Site}
+use Rattle.log_laws.proofs.Names.{◌≡◌, ◌<◌, ◌≤◌, true, List, [], refl, sym, subst, ap, ◌∙◌, inl, inr, ◌==◌, arith, cases_eq, and_parts, ℕ, ◌&&◌, nat_lt, nat_le, filter, max, length, Some, None, AllByRecursion, Membership, Actor, Agent, Site, Deployment, term_of, term_in, start_of_slot, leader, same, Letter, SiteState, Held, Joiner, is_leader, leads, other_copies, own_ack, acked_in, firm_now, floor_now, answers_held, sends_firm, counts, In, all-at, all-from, all-filter, in-filter, in-map-from, same-some, none-and-some, not-both, same-true, leads-parts, leader-view, acked_in-from, reach_now, reach_now-own, reach_now-copy, reach_now-joiner, cond_both, LogState, Entered, Streaming, Leadership, Flow, LogsHold, IsSlot, WordOf, AckOk, CountedOk, IsCounted, HeldFor, HeldOk, LeadsIn, MemberOk, KeepsOk, Coming, ToldOk, SiteLetterOk, end_of, part, site_start, log_at, term_at}
 use Rattle.volt_wire.specs.declared.message.Msg.TheVariants as msg
-use Rattle.cluster_model.specs.Words.{Deployment, term_of, term_in, start_of_slot, leader}
-use Rattle.cluster_model.specs.Letters.{same, Letter, becomes}
-use Rattle.cluster_model.specs.SiteState.{SiteState, Held, Joiner, is_leader, leads, other_copies}
-use Rattle.cluster_model.specs.Site.{own_ack, acked_in, firm_now, floor_now, answers_held, sends_firm, counts}
-use Rattle.cluster_steps.specs.Lists.{In}
-use Rattle.cluster_steps.proofs.Lists.{all-at, all-from, all-filter, in-filter, in-map-from, same-some, none-and-some, not-both}
-use Rattle.word_laws.proofs.Steps.{same-true}
-use Rattle.log_laws.specs.Histories.{LogState, Entered, Streaming, Leadership, Flow, LogsHold, IsSlot, WordOf, AckOk, CountedOk, IsCounted, HeldFor, HeldOk, LeadsIn, MemberOk, KeepsOk, Coming, ToldOk, SiteLetterOk, end_of, part, site_start, log_at, term_at}
-use Rattle.log_laws.proofs.Kept.Moves.{LogsGo}
-use Rattle.log_laws.proofs.Plain.Lines.{ends-none}
-use Rattle.log_laws.proofs.Plain.Copies.{is_in-in, copy-other, is-leader}
-use Rattle.cluster_steps.proofs.Leaders.{leads-parts, leader-view}
-use Rattle.log_laws.proofs.Kept.Terms.{same-word, entered-start, one-in, took-decided}
-use Rattle.log_laws.proofs.Kept.Plumbing.{goes-same}
-use Rattle.cluster_steps.proofs.Least.{acked_in-from, reach_now, reach_now-own, reach_now-copy, reach_now-joiner}
+use Rattle.log_laws.proofs.Kept.{LogsGo, same-word, entered-start, one-in, took-decided, goes-same, SiteRests, ReachRests, SaysRests, Bare, same-joiners, reach-same, rests-goes, put_at, put-both, put-here}
+use Rattle.log_laws.proofs.Plain.{is_in-in, copy-other, is-leader, flat-none, none-or-some}
 use Rattle.log_laws.proofs.NewTerms.Since.{since-raised}
-use Rattle.log_laws.proofs.Kept.Rests.{SiteRests, ReachRests, SaysRests, Bare, same-joiners, reach-same, rests-goes}
-use Rattle.log_laws.proofs.Kept.Turned.{put_at, put-both, put-here}
 
 -- ---- who leads
 
@@ -66,10 +45,6 @@ module _ (T : LogState) (H : LogsHold T) (i : ℕ) (up : 0 < site_start T i) (o 
       (all-at (λ a. IsSlot T a.0 → AckOk T a.0 (term_at T i) a.1) (T.sites i).acks keeps.acks (c, v)
       (acked_in-from (T.sites i).acks c v acked) (H.entered c (term_of w) e is).slot)
 
-  acked-log : (c : ℕ) (e : Entered) → T.logs.entered c (term_of w) ≡ Some e → site_start T c ≡ e.start
-      → (v : ℕ) → acked_in (T.sites i).acks c ≡ Some v → v ≤ length (log_at T c)
-  acked-log c e is runs v acked = let k = acked-ok c e is v acked in k.now (runs ∙ one-in T H c (term_of w) e.start k.start (inl (e, is, refl)) k.was)
-
   -- and in that with which it entered a later term
   acked-since : (c t : ℕ) (e f : Entered) → T.logs.entered c (term_of w) ≡ Some f → T.logs.entered c t ≡ Some e → f.start ≡ e.start → term_of w < t
       → (v : ℕ) → acked_in (T.sites i).acks c ≡ Some v → v ≤ length e.log
@@ -78,11 +53,8 @@ module _ (T : LogState) (H : LogsHold T) (i : ℕ) (up : 0 < site_start T i) (o 
 
   -- its own position, where it counts
   own-log : (v : ℕ) → own_ack (T.sites i) ≡ Some v → v ≤ length (log_at T i)
-  own-log v e = go ((T.sites i).mark == term_at T i) e
-    where
-      go : (b : Bool) → (if b then Some (T.sites i).on_disk else None) ≡ Some v → v ≤ length (log_at T i)
-      go true e = let q : (T.sites i).on_disk ≡ v = same-some e in let d = keeps.on_disk in omega (arith, q, d)
-      go false e = absurd (cc)
+  own-log v e = cond_both ((T.sites i).mark == term_at T i) _ _ (λ z. z ≡ Some v → v ≤ length (log_at T i))
+      (λ _ e. let q : (T.sites i).on_disk ≡ v = same-some e in let d = keeps.on_disk in omega (arith, q, d)) (λ _ e. absurd (cc)) e
 
   -- what it knew before isn't above what is in a log that has what is everywhere
   known-below : (c n : ℕ) → part T c ≡ part T i → T.logs.reach (part T c) (term_of w) ≤ n → ((T.sites i).firm ≤ n) × ((T.sites i).floor ≤ n)
@@ -99,14 +71,12 @@ module _ (T : LogState) (H : LogsHold T) (i : ℕ) (up : 0 < site_start T i) (o 
   -- what copies of the term have in their logs
   pub reach_now-entered : (c : ℕ) (e : Entered) → part T c ≡ part T i → T.logs.entered c (term_of w) ≡ Some e → site_start T c ≡ e.start
       → reach_now T.words.deployment i (T.sites i) ≤ length (log_at T c)
-  reach_now-entered c e same is runs = elim (cases_eq c i) [
+  reach_now-entered c e same is runs = let low = known-below c (length (log_at T c)) same ((H.entered c (term_of w) e is).running runs).2 in elim (cases_eq c i) [
     | inl q ↦ reach_now-own T.words.deployment i (T.sites i) (length (log_at T c)) low.0 low.1
         (λ v own. subst (λ x. v ≤ length (log_at T x)) (sym q) (own-log v own))
-    | inr n ↦ reach_now-copy T.words.deployment i (T.sites i) (length (log_at T c)) low.0 low.1 c (other c e same is n) (acked-log c e is runs)
+    | inr n ↦ reach_now-copy T.words.deployment i (T.sites i) (length (log_at T c)) low.0 low.1 c (other c e same is n)
+        (λ v acked. let k = acked-ok c e is v acked in k.now (runs ∙ one-in T H c (term_of w) e.start k.start (inl (e, is, refl)) k.was))
   ]
-    where
-      low : ((T.sites i).firm ≤ length (log_at T c)) × ((T.sites i).floor ≤ length (log_at T c))
-      low = known-below c (length (log_at T c)) same ((H.entered c (term_of w) e is).running runs).2
 
   -- a start that is counted
   counted-joiner : (c a stream_start : ℕ) (v : Membership) → part T c ≡ part T i → WordOf T (term_of w) v → IsCounted T c a stream_start v
@@ -122,15 +92,13 @@ module _ (T : LogState) (H : LogsHold T) (i : ℕ) (up : 0 < site_start T i) (o 
   pub reach_now-counted : (c a stream_start n : ℕ) (v : Membership) → part T c ≡ part T i → WordOf T (term_of w) v → IsCounted T c a stream_start v → site_start T c ≡ a → (T.sites c).earlier < term_of w
       → T.logs.reach (part T c) (term_of w) ≤ n → stream_start ≤ n → length (log_at T c) ≤ n → reach_now T.words.deployment i (T.sites i) ≤ n
   reach_now-counted c a stream_start n v same of counted runs below reach from upto =
+      let low = known-below c n same reach in
       reach_now-joiner T.words.deployment i (T.sites i) n low.0 low.1 j r.1
       (let m = (joiner-ok j r.1).position (ap (λ x. site_start T x) r.2 ∙ runs ∙ sym r.3) (subst (λ x. (T.sites x).earlier < term_of w) (sym r.2) below) in
       let l : length (log_at T j.slot) ≤ n = subst (λ x. length (log_at T x) ≤ n) (sym r.2) upto in
       let b = r.4 in
       omega (arith, m, l, b, from))
     where
-      low : ((T.sites i).firm ≤ n) × ((T.sites i).floor ≤ n)
-      low = known-below c n same reach
-
       r : (j : Joiner) × In j (T.sites i).joiners × (j.slot ≡ c) × (j.start ≡ a) × (j.stream_start ≡ stream_start)
       r = counted-joiner c a stream_start v same of counted
 
@@ -163,11 +131,9 @@ module _ (T : LogState) (H : LogsHold T) (i : ℕ) (up : 0 < site_start T i) (o 
   since-entered : (g : Leadership) → T.logs.leadership (part T i) (term_of w) ≡ Some g → (c t : ℕ) (e f : Entered) → part T c ≡ part T i → T.logs.entered c (term_of w) ≡ Some f
       → T.logs.entered c t ≡ Some e → f.start ≡ e.start → term_of w < t → reach_now T.words.deployment i (T.sites i) ≤ length e.log
   since-entered g led c t e f same was is start above =
+      let low = known-since c t e g led same is above in
       reach_now-copy T.words.deployment i (T.sites i) (length e.log) low.0 low.1 c (other c f same was away) (acked-since c t e f was is start above)
     where
-      low : ((T.sites i).firm ≤ length e.log) × ((T.sites i).floor ≤ length e.log)
-      low = known-since c t e g led same is above
-
       -- the leader itself is in its term
       away : c ≡ i → ⊥
       away q =
@@ -201,9 +167,6 @@ pub raised-both : (P : ℕ → Type 0) (f : ℕ → ℕ → ℕ) (p t n q u : �
 raised-both P f p t n q u = put-both (λ q u m. (q ≡ p → u ≡ t → P (max (f q u) n)) → P (f q u) → P m) f p t (max (f p t) n)
     (λ here _. here refl refl) (λ q u _ _ there. there) q u
 
-pub raised-here : (f : ℕ → ℕ → ℕ) (p t n : ℕ) → n ≤ raised f p t n p t
-raised-here f p t n = subst (λ m. n ≤ m) (sym (put-here f p t (max (f p t) n))) (omega arith)
-
 -- In a term that was led it may rise to what is in each log that was in that term, in those with which slots entered later terms, and in the past of each stream under way.
 pub reach-raised : (S : LogState) → LogsHold S → (p t n : ℕ) (g : Leadership) → S.logs.leadership p t ≡ Some g → n ≤ length g.log
     → ((c : ℕ) (e : Entered) → part S c ≡ p → S.logs.entered c t ≡ Some e → site_start S c ≡ e.start → n ≤ length (log_at S c))
@@ -211,7 +174,7 @@ pub reach-raised : (S : LogState) → LogsHold S → (p t n : ℕ) (g : Leadersh
     → ((c u : ℕ) (e : Entered) → part S c ≡ p → S.logs.entered c u ≡ Some e → t < u → n ≤ length e.log)
     → ((c : ℕ) (w : Membership) (fl : List Flow) → part S c ≡ p → WordOf S t w → (S.sites c).earlier < t → log_at S c ≡ [] → (k : Coming S c w fl) → n ≤ length k.past)
     → ReachRests S (raised S.logs.reach p t n)
-reach-raised S H p t n g led within entered streamed since coming = record {
+reach-raised S H p t n g led within entered streamed since coming = let o = reach-same S H in record {
   rises = λ q u. raised-both (λ m. S.logs.reach q u ≤ m) S.logs.reach p t n q u (λ a b. omega arith) (omega arith);
   unled = λ q u none. raised-both (λ m. m ≡ S.logs.reach q u) S.logs.reach p t n q u
       (λ a b. absurd (none-and-some none (ap (λ z. S.logs.leadership z u) a ∙ ap (λ z. S.logs.leadership p z) b ∙ led))) refl;
@@ -228,9 +191,6 @@ reach-raised S H p t n g led within entered streamed since coming = record {
       (λ a b. let r = k.reach in
       let m = coming c w fl a (record { decided = decided; term_is = b }) (subst (λ z. (S.sites c).earlier < z) b below) empty k in omega (arith, r, m)) k.reach;
 }
-  where
-    o : ReachRests S S.logs.reach
-    o = reach-same S H
 
 -- ---- answers that were held
 
@@ -249,15 +209,12 @@ held-told : (T : LogState) (i h : ℕ) (d : Held) → HeldOk d → d.to ≡ Agen
 held-told T i h d ok e = go d.letter (subst (λ a. HeldFor a d.letter) e ok)
   where
     go : (l : Letter) → HeldFor (Agent h) l → ToldOk T i l
-    go l k = elim l.body as (λ m. HeldFor (Agent h) (record l { body = m }) → ToldOk T i (record l { body = m })) [
-      | msg.Loaded a ↦ λ p. absurd p
-      | m ↦ λ p. tt
-    ] k
+    go l k = elim l.body as (λ m. HeldFor (Agent h) (record l { body = m }) → ToldOk T i (record l { body = m })) [ msg.Loaded a ↦ λ p. absurd p | m ↦ λ p. tt ] k
 
 pub answers-rest : (T : LogState) (i firm : ℕ) (ds : List Held) → AllByRecursion HeldOk ds → SaysRests T i (answers_held firm ds)
 answers-rest T i firm ds h = record {
   sites = λ c. answers-all (λ l. Bare l × SiteLetterOk T i c l) (Site c) (λ d ok e. absurd (held-away c d ok e)) firm ds h;
-  ended = λ c w joins decided away. ends-none (site_start T c) (term_of w) (answers_held firm ds (Site c))
+  ended = λ c w joins decided away. flat-none (end_of (site_start T c) (term_of w)) (answers_held firm ds (Site c))
       (answers-all (λ l. end_of (site_start T c) (term_of w) l ≡ []) (Site c) (λ d ok e. absurd (held-away c d ok e)) firm ds h);
   told = λ a. answers-all (ToldOk T i) (Agent a) (held-told T i a) firm ds h;
 }
@@ -266,7 +223,17 @@ answers-rest T i firm ds h = record {
 
 counts-leads : (T : LogState) → LogsHold T → (i : ℕ) → 0 < site_start T i → leads T.words.deployment i (T.sites i) ≡ true
     → LogsGo T i (sends_firm (record (T.sites i) { firm = firm_now T.words.deployment i (T.sites i); floor = floor_now T.words.deployment i (T.sites i) }))
-counts-leads T H i up authoritative = begun (T.logs.leadership (part T i) (term_of w)) refl
+counts-leads T H i up authoritative = elim (none-or-some (T.logs.leadership (part T i) (term_of w))) [
+  | inl e ↦ absurd (not-both s.repaired parts.1 (subst (λ r. LeadsIn s r) e (o.member.leading o.first)))
+  | inr (g, e) ↦ rests-goes T H i (record s { firm = firm_now D i s; floor = floor_now D i s; held = filter (λ d. nat_lt (firm_now D i s) d.position) s.held })
+      (answers_held (firm_now D i s) s.held) (raised T.logs.reach (part T i) (term_of w) n) rests
+      (reach-raised T H (part T i) (term_of w) n g e (within g e)
+      (λ c e same is runs. reach_now-entered T H i up o c e same is runs)
+      (λ c x same is runs. reach_now-streamed T H i up o c x same is runs)
+      (reach_now-since T H i up o g e)
+      (λ c x fl same of below empty q. reach_now-coming T H i up o c x fl same of below empty q))
+      (answers-rest T i (firm_now D i s) s.held k.held)
+]
   where
     D : Deployment
     D = T.words.deployment
@@ -290,7 +257,7 @@ counts-leads T H i up authoritative = begun (T.logs.leadership (part T i) (term_
     k = (H.sites i).keeps up
 
     here : n ≤ raised T.logs.reach (part T i) (term_of w) n (part T i) (term_of w)
-    here = raised-here T.logs.reach (part T i) (term_of w) n
+    here = subst (λ m. n ≤ m) (sym (put-here T.logs.reach (part T i) (term_of w) (max (T.logs.reach (part T i) (term_of w)) n))) (omega arith)
 
     rests : SiteRests T (raised T.logs.reach (part T i) (term_of w) n) i
         (record s { firm = firm_now D i s; floor = floor_now D i s; held = filter (λ d. nat_lt (firm_now D i s) d.position) s.held })
@@ -321,24 +288,5 @@ counts-leads T H i up authoritative = begun (T.logs.leadership (part T i) (term_
         let l = ap length (subst (λ r. LeadsIn s r) e (o.member.leading o.first)).1 in
         omega (arith, b, l)
 
-    begun : (r : Option Leadership) → T.logs.leadership (part T i) (term_of w) ≡ r
-        → LogsGo T i (sends_firm (record s { firm = firm_now D i s; floor = floor_now D i s }))
-    begun None e = absurd (not-both s.repaired parts.1 (subst (λ r. LeadsIn s r) e (o.member.leading o.first)))
-    begun (Some g) e = rests-goes T H i (record s { firm = firm_now D i s; floor = floor_now D i s; held = filter (λ d. nat_lt (firm_now D i s) d.position) s.held })
-        (answers_held (firm_now D i s) s.held) (raised T.logs.reach (part T i) (term_of w) n) rests
-        (reach-raised T H (part T i) (term_of w) n g e (within g e)
-        (λ c e same is runs. reach_now-entered T H i up o c e same is runs)
-        (λ c x same is runs. reach_now-streamed T H i up o c x same is runs)
-        (reach_now-since T H i up o g e)
-        (λ c x fl same of below empty q. reach_now-coming T H i up o c x fl same of below empty q))
-        (answers-rest T i (firm_now D i s) s.held k.held)
-
 pub counts-goes : (T : LogState) → LogsHold T → (i : ℕ) → 0 < site_start T i → LogsGo T i (counts T.words.deployment i (T.sites i))
-counts-goes T H i up = choice (leads T.words.deployment i (T.sites i)) refl
-  where
-    choice : (b : Bool) → leads T.words.deployment i (T.sites i) ≡ b
-        → LogsGo T i (if b
-        then sends_firm (record (T.sites i) { firm = firm_now T.words.deployment i (T.sites i); floor = floor_now T.words.deployment i (T.sites i) })
-        else becomes (T.sites i))
-    choice true e = counts-leads T H i up e
-    choice false e = goes-same T i H
+counts-goes T H i up = cond_both (leads T.words.deployment i (T.sites i)) _ _ (LogsGo T i) (λ e. counts-leads T H i up e) (λ e. goes-same T i H)

@@ -1,24 +1,8 @@
 -- A site has written what it owed: a leader counts what is firm, a copy and a joiner acknowledge, and a joiner says once that it has loaded.
-use Rattle.std.proofs.Common.{◌≡◌, ◌<◌, Bool, true, false, List, [], refl, sym, subst, ap, ◌∙◌, inl, inr, ◌==◌, arith}
-use Rattle.std.specs.Prelude.{ℕ, if◌then◌else◌, length, Option, Some, None}
-use Rattle.volt_wire.specs.Word.{Membership}
-use Rattle.volt_wire.specs.declared.actor.Actor.TheVariants.{Agent, Site}
+use Rattle.log_laws.proofs.Names.{◌≡◌, ◌<◌, Bool, true, false, List, [], refl, sym, subst, ap, ◌∙◌, inl, inr, ◌==◌, arith, ℕ, if◌then◌else◌, length, Option, Some, None, Membership, Agent, Site, Deployment, host_of_slot, term_of, term_in, Letter, becomes, no_sends, only, letter_in, letter_to, Shown, SiteState, Streamed, Joining, leader_in, start_in_view, is_leader, counts, member_written, joiner_written, written, acknowledges, says_loaded, after_sync, In, all-one, same-some, none-and-some, not-both, cond_both, LogState, LogsHold, WasIn, AckOk, LoadedOk, ToldOk, SiteLetterOk, ViewIn, StreamIn, MemberOk, JoinerOk, KeepsOk, end_of, part, site_start, log_at, term_at}
 use Rattle.volt_wire.specs.declared.message.Msg.TheVariants as msg
-use Rattle.cluster_model.specs.Words.{Deployment, host_of_slot, term_of, term_in}
-use Rattle.cluster_model.specs.Letters.{Letter, becomes, sending, ◌▸◌, no_sends, only, letter_in, letter_to}
-use Rattle.cluster_model.specs.Disk.{Shown}
-use Rattle.cluster_model.specs.SiteState.{SiteState, Streamed, Joining, leader_in, start_in_view, is_leader}
-use Rattle.cluster_model.specs.Site.{counts}
-use Rattle.cluster_model.specs.Sync.{member_written, joiner_written, written, acknowledges, says_loaded, after_sync}
-use Rattle.cluster_steps.specs.Lists.{In}
-use Rattle.cluster_steps.proofs.Lists.{all-one, same-some, none-and-some, not-both}
-use Rattle.log_laws.specs.Histories.{LogState, LogsHold, WasIn, AckOk, LoadedOk, ToldOk, SiteLetterOk, ViewIn, StreamIn, MemberOk, JoinerOk, KeepsOk, end_of, part, site_start, log_at, term_at}
-use Rattle.log_laws.proofs.Kept.Moves.{LogsGo}
-use Rattle.log_laws.proofs.Plain.Lines.{ends-none, ends-plain}
-use Rattle.log_laws.proofs.Plain.Copies.{leader-copy, start-in-view}
-use Rattle.log_laws.proofs.Kept.Terms.{some-start, some-term, took-decided}
-use Rattle.log_laws.proofs.Kept.Plumbing.{goes-then, goes-same, GoesFrom}
-use Rattle.log_laws.proofs.Kept.Rests.{SiteRests, JoiningRests, Bare, part-from, reach-same, site-same, site-rests, says-nothing, rests-goes}
+use Rattle.log_laws.proofs.Kept.{LogsGo, some-start, some-term, took-decided, goes-then, goes-same, GoesFrom, SiteRests, JoiningRests, Bare, part-from, reach-same, site-same, site-rests, says-nothing, rests-goes}
+use Rattle.log_laws.proofs.Plain.{leader-copy, start-in-view, flat-none, if-empty}
 use Rattle.log_laws.proofs.Firmness.Firm.{counts-goes}
 
 -- ---- what it says
@@ -56,8 +40,8 @@ module _ (T : LogState) (H : LogsHold T) (i : ℕ) (up : 0 < site_start T i) whe
     acknowledges-goes None e = goes-same T i H
     acknowledges-goes (Some slot) e = rests-goes T H i (T.sites i) (only (Site slot) (ack-letter slot)) T.logs.reach (site-same T H i T.logs.reach i) (reach-same T H) (record {
       sites = λ c. all-one (λ l. Bare l × SiteLetterOk T i c l) (slot == c) (ack-letter slot) (λ _. ((refl, refl, refl, tt), ack-ok slot e c));
-      ended = λ c v joins of away. ends-none (site_start T c) (term_of v) (only (Site slot) (ack-letter slot) (Site c))
-          (all-one (λ l. end_of (site_start T c) (term_of v) l ≡ []) (slot == c) (ack-letter slot) (λ _. ends-plain (site_start T c) (term_of v) (ack-letter slot) refl));
+      ended = λ c v joins of away. flat-none (end_of (site_start T c) (term_of v)) (only (Site slot) (ack-letter slot) (Site c))
+          (all-one (λ l. end_of (site_start T c) (term_of v) l ≡ []) (slot == c) (ack-letter slot) (λ _. if-empty _ _ refl));
       told = λ h. tt;
     })
 
@@ -67,7 +51,14 @@ module _ (T : LogState) (H : LogsHold T) (i : ℕ) (up : 0 < site_start T i) whe
       (subst (In (site_start T i)) (sym r.1) (inl refl), λ _ is k here. ap (λ x. x.is_based) (same-some (sym here ∙ some)) ∙ based)
 
   says_loaded-goes : (j : Joining) → (T.sites i).joining ≡ Some j → j.is_based ≡ true → LogsGo T i (says_loaded T.words.deployment i (T.sites i) j)
-  says_loaded-goes j some based = choice j.has_told
+  says_loaded-goes j some based = cond_both j.has_told _ _ (LogsGo T i)
+      (λ _. goes-same T i H)
+      (λ _. rests-goes T H i (record (T.sites i) { joining = Some (record j { has_told = true }) })
+      (only (Agent (host_of_slot T.words.deployment i)) (letter_to (site_start T i) (msg.Loaded (site_start T i)))) T.logs.reach rests (reach-same T H) (record {
+        sites = λ c. tt;
+        ended = λ c v joins of away. refl;
+        told = λ h. all-one (ToldOk T i) (host_of_slot T.words.deployment i == h) (letter_to (site_start T i) (msg.Loaded (site_start T i))) (λ _. loaded-ok j some based);
+      }))
     where
       loaded : j.is_loaded ≡ true
       loaded = ((H.sites i).joiner j some).based based
@@ -82,17 +73,6 @@ module _ (T : LogState) (H : LogsHold T) (i : ℕ) (up : 0 < site_start T i) whe
                 (record { same = refl; told = λ _. loaded; based = λ _. loaded; still = λ b. b }),
           ))
           (λ _. keeps.on_disk)
-
-      choice : (b : Bool) → LogsGo T i (if b then becomes (T.sites i)
-          else sending (record (T.sites i) { joining = Some (record j { has_told = true }) })
-          (only (Agent (host_of_slot T.words.deployment i)) (letter_to (site_start T i) (msg.Loaded (site_start T i)))))
-      choice true = goes-same T i H
-      choice false = rests-goes T H i (record (T.sites i) { joining = Some (record j { has_told = true }) })
-          (only (Agent (host_of_slot T.words.deployment i)) (letter_to (site_start T i) (msg.Loaded (site_start T i)))) T.logs.reach rests (reach-same T H) (record {
-            sites = λ c. tt;
-            ended = λ c v joins of away. refl;
-            told = λ h. all-one (ToldOk T i) (host_of_slot T.words.deployment i == h) (letter_to (site_start T i) (msg.Loaded (site_start T i))) (λ _. loaded-ok j some based);
-          })
 
   -- a joiner that has loaded has taken the stream of its word
   loaded-took : (j : Joining) → (T.sites i).joining ≡ Some j → j.is_loaded ≡ true
@@ -121,21 +101,18 @@ acknowledges-state D i s (Some slot) = refl
 
 module _ (T : LogState) (H : LogsHold T) (i : ℕ) (up : 0 < site_start T i) where
   joiner-goes : (j : Joining) → (T.sites i).joining ≡ Some j → LogsGo T i (after_sync T.words.deployment i (T.sites i) (Some j))
-  joiner-goes j some = choice j.is_based refl
+  joiner-goes j some = cond_both j.is_based _ _ (LogsGo T i)
+      (λ e.
+      let o = leader_in T.words.deployment (T.sites i).view (part T i) in
+      let k = loaded-took T H i up j some (((H.sites i).joiner j some).based e) in
+      goes-then T i (acknowledges T.words.deployment i (T.sites i) o) (λ x. says_loaded T.words.deployment i x j)
+      (acknowledges-goes T H i up k.0 k.1 k.2 k.3 o refl)
+      (then-loaded e (acknowledges T.words.deployment i (T.sites i) o).state (acknowledges-state T.words.deployment i (T.sites i) o)))
+      (λ e. goes-same T i H)
     where
       then-loaded : j.is_based ≡ true → (s : SiteState) → s ≡ T.sites i → GoesFrom T i s (says_loaded T.words.deployment i s j)
       then-loaded based s is S here same pending K = subst (λ D. LogsGo S i (says_loaded D i s j)) same (subst (λ x. LogsGo S i (says_loaded S.words.deployment i x j)) here
           (says_loaded-goes S K i (subst (λ x. 0 < x.start) (sym (here ∙ is)) up) j (ap (λ x. x.joining) (here ∙ is) ∙ some) based))
-
-      choice : (b : Bool) → j.is_based ≡ b → LogsGo T i (if b then acknowledges T.words.deployment i (T.sites i) (leader_in T.words.deployment (T.sites i).view (part T i))
-          ▸ (λ x. says_loaded T.words.deployment i x j) else becomes (T.sites i))
-      choice false e = goes-same T i H
-      choice true e =
-          let o = leader_in T.words.deployment (T.sites i).view (part T i) in
-          let k = loaded-took T H i up j some (((H.sites i).joiner j some).based e) in
-          goes-then T i (acknowledges T.words.deployment i (T.sites i) o) (λ x. says_loaded T.words.deployment i x j)
-          (acknowledges-goes T H i up k.0 k.1 k.2 k.3 o refl)
-          (then-loaded e (acknowledges T.words.deployment i (T.sites i) o).state (acknowledges-state T.words.deployment i (T.sites i) o))
 
   member-goes : (T.sites i).joining ≡ None → LogsGo T i (after_sync T.words.deployment i (T.sites i) None)
   member-goes none = choice (is_leader T.words.deployment i (T.sites i)) ((T.sites i).mark == term_at T i)
@@ -170,30 +147,26 @@ module _ (T : LogState) (H : LogsHold T) (i : ℕ) (up : 0 < site_start T i) whe
       → SiteRests T T.logs.reach i (record (joiner_written (T.sites i) j st) { contents = contents })
   joiner-rests j some None contents = site-rests T H i T.logs.reach (record (T.sites i) { contents = contents }) refl refl refl refl refl refl
       (λ e. e) (site-same T H i T.logs.reach i).joiner (λ _. ((H.sites i).keeps up).on_disk)
-  joiner-rests j some (Some st) contents = choice j.is_loaded refl
+  joiner-rests j some (Some st) contents = cond_both j.is_loaded _ _ (λ z. SiteRests T T.logs.reach i (record z { contents = contents }))
+      (λ e. site-rests T H i T.logs.reach
+      (record (T.sites i) {
+        joining = Some (record j { written = j.blocks; is_based = true });
+        on_disk = length (log_at T i);
+        mark = st.mark;
+        base = st.stream_start;
+        contents = contents;
+      })
+      refl refl refl refl refl refl (λ none. absurd (none-and-some none some))
+      (joins (record j { written = j.blocks; is_based = true }) (record { same = refl; told = o.told; based = λ _. e; still = λ _. refl })) (λ _. omega arith))
+      (λ e. site-rests T H i T.logs.reach (record (T.sites i) { joining = Some (record j { written = j.blocks }); contents = contents })
+      refl refl refl refl refl refl (λ none. absurd (none-and-some none some))
+      (joins (record j { written = j.blocks }) (record { same = refl; told = o.told; based = o.based; still = λ b. b })) (λ _. ((H.sites i).keeps up).on_disk))
     where
       joins : (k : Joining) → JoiningRests j k → (x : Joining) → (T.sites i).joining ≡ Some x → (y : Joining) × (Some k ≡ Some y) × JoiningRests x y
       joins k r x here = (k, refl, subst (λ y. JoiningRests y k) (same-some (sym some ∙ here)) r)
 
       o : JoinerOk T i j
       o = (H.sites i).joiner j some
-
-      choice : (b : Bool) → j.is_loaded ≡ b → SiteRests T T.logs.reach i (record (if b
-          then record (T.sites i) { joining = Some (record j { written = j.blocks; is_based = true }); on_disk = length (log_at T i); mark = st.mark; base = st.stream_start }
-          else record (T.sites i) { joining = Some (record j { written = j.blocks }) }) { contents = contents })
-      choice true e = site-rests T H i T.logs.reach
-          (record (T.sites i) {
-            joining = Some (record j { written = j.blocks; is_based = true });
-            on_disk = length (log_at T i);
-            mark = st.mark;
-            base = st.stream_start;
-            contents = contents;
-          })
-          refl refl refl refl refl refl (λ none. absurd (none-and-some none some))
-          (joins (record j { written = j.blocks; is_based = true }) (record { same = refl; told = o.told; based = λ _. e; still = λ _. refl })) (λ _. omega arith)
-      choice false e = site-rests T H i T.logs.reach (record (T.sites i) { joining = Some (record j { written = j.blocks }); contents = contents })
-          refl refl refl refl refl refl (λ none. absurd (none-and-some none some))
-          (joins (record j { written = j.blocks }) (record { same = refl; told = o.told; based = o.based; still = λ b. b })) (λ _. ((H.sites i).keeps up).on_disk)
 
   written-rests : (contents : List Shown) → SiteRests T T.logs.reach i (record (written (T.sites i) (T.sites i).joining) { contents = contents })
   written-rests contents = choice (T.sites i).joining refl

@@ -1,32 +1,11 @@
 -- A site takes a block, the end of a stream or of a scan: a joiner may have loaded all then.
-use Rattle.std.proofs.Common.{Bool, List, ap, append-nil, arith, false, inl, inr, refl, subst, sym, true, true≢false, ◌≡◌, ◌++◌, ◌∷◌, ◌∙◌, ◌⊎◌, ◌<◌, ◌≤◌, ◌==◌, [], ◌+◌}
-use Rattle.std.proofs.lemmas.Bool.{and_parts}
-use Rattle.std.proofs.lemmas.List.{length-append}
-use Rattle.std.specs.List.{AllByRecursion}
-use Rattle.std.specs.Prelude.{None, Option, Some, is_some, length, map, not, ◌&&◌, if◌then◌else◌, ℕ}
-use Rattle.volt_base.specs.declared.entry.Entry.{Entry}
-use Rattle.volt_wire.specs.Word.{Membership}
-use Rattle.cluster_model.specs.Letters.{Letter, becomes}
-use Rattle.cluster_model.specs.Site.{finishes_load, may_finish, on_chunk, on_scan_end, on_stream_end, with_count, with_joining}
-use Rattle.cluster_model.specs.SiteState.{ForBase, ForJoiner, Joiner, Joining, Scanning, SiteState, Streamed}
-use Rattle.cluster_model.specs.Words.{is_some_of, term_in, term_of}
-use Rattle.cluster_steps.proofs.Lists.{none-and-some, same-some, set-here, set-there}
-use Rattle.word_laws.specs.Histories.{Distinct}
-use Rattle.cluster_steps.specs.Lists.{In}
-use Rattle.log_laws.specs.Histories.{CountedOk, EndOk, LogsHold, JoinerOk, KeepsOk, LogState, MemberOk, StreamIn, Took, asked, asks_in, asks_of_term, asks_waiting, between, log_at, part, site_start, term_at}
-use Rattle.log_laws.proofs.Kept.Asked.{AtMost, asks-at, asks-of-same, at-most-same}
-use Rattle.log_laws.proofs.Kept.Keeps.{SiteStays}
-use Rattle.log_laws.proofs.Kept.Moves.{LogsGo}
-use Rattle.log_laws.proofs.Kept.OneSite.{LessTo, SiteTakes, becomes-goes, counts-on, same-counts, same-uncounts, takes-asks, takes-holds, takes-joined, takes-joiner, takes-joiner-same, takes-joiners, takes-keeps, takes-kept, takes-letters, takes-member, takes-stream, takes-took, takes-untaken, takes-word, takes-wordless, uncounts-on, with-site}
-use Rattle.log_laws.proofs.Kept.Plumbing.{goes-same}
-use Rattle.log_laws.proofs.Kept.Steady.{SiteGoesOn}
-use Rattle.log_laws.proofs.Kept.Rests.{SameJoiners, map-joiners, map-slots}
+use Rattle.log_laws.proofs.Names.{List, ap, append-nil, arith, false, inl, inr, refl, subst, sym, true, true≢false, ◌≡◌, ◌++◌, ◌∷◌, ◌∙◌, ◌⊎◌, ◌<◌, ◌≤◌, ◌==◌, [], ◌+◌, and_parts, length-append, AllByRecursion, None, Option, Some, is_some, length, map, not, ◌&&◌, ℕ, Entry, Membership, Letter, becomes, finishes_load, may_finish, on_chunk, on_scan_end, on_stream_end, with_count, ForBase, ForJoiner, Joiner, Joining, Scanning, SiteState, Streamed, is_some_of, term_in, term_of, none-and-some, same-some, set-here, set-there, no_sends, cond_both, CountedOk, EndOk, LogsHold, JoinerOk, LogState, StreamIn, Took, asked, between, log_at, part, site_start, term_at}
+use Rattle.log_laws.proofs.Kept.{AtMost, asks-at, asks-of-same, at-most-same, LogsGo, LessTo, SiteTakes, becomes-goes, counts-on, same-counts, same-uncounts, takes-joined, takes-joiner, takes-letters, takes-stream, takes-took, takes-untaken, takes-word, takes-wordless, uncounts-on, with-site, goes-same, SiteGoesOn, map-joiners, map-slots, inert-becomes, reach-same, rests-goes, says-nothing, site-same, asked_of}
 
 -- ---- a site changes with nothing under way
 
 module _ (S : LogState) (H : LogsHold S) (i : ℕ) (up : 0 < site_start S i) (s : SiteState) (g : SiteGoesOn (S.sites i) s) (asks : s.asks ≡ (S.sites i).asks)
-    (each : (j : Joiner) → In j (S.sites i).joiners → (n : Joiner) × In n s.joiners × (n.slot ≡ j.slot) × (n.start ≡ j.start) × (n.stream_start ≡ j.stream_start))
-    (back : (n : Joiner) → In n s.joiners → (j : Joiner) × In j (S.sites i).joiners × (j.slot ≡ n.slot) × (j.start ≡ n.start)) where
+    (joiners : s.joiners ≡ (S.sites i).joiners) where
   pub alone-takes : SiteTakes S i s S.words.channel S.pending S.logs.streamed
   alone-takes = record {
     up = up;
@@ -40,25 +19,11 @@ module _ (S : LogState) (H : LogsHold S) (i : ℕ) (up : 0 < site_start S i) (s 
     stays = λ t x is. is;
     fresh = λ t x is. inl is;
     asks = asks-at S (with-site S i s S.words.channel S.pending S.logs.streamed) i (λ l n. (set-there S.sites i s l n, refl, λ c. refl)) (λ c t.
-        subst (λ x. AtMost (asked S c i t) (asks_in t (between S c i) ++ asks_waiting c t x.waiting ++ asks_waiting c t (S.pending i) ++ asks_of_term c t x))
-        (sym (set-here S.sites i s))
+        subst (λ x. AtMost (asked S c i t) (asked_of c t (between S c i) x (S.pending i))) (sym (set-here S.sites i s))
         (rw (g.waiting, asks-of-same c t (S.sites i) s g.view asks) (at-most-same (asked S c i t))));
-    counted = counts-on S i s S.words.channel S.pending S.logs.streamed g each;
-    uncounted = uncounts-on S i s S.words.channel S.pending S.logs.streamed g back;
+    counted = counts-on S i s S.words.channel S.pending S.logs.streamed g (same-counts (S.sites i).joiners s.joiners joiners);
+    uncounted = uncounts-on S i s S.words.channel S.pending S.logs.streamed g (same-uncounts (S.sites i).joiners s.joiners joiners);
   }
-
-  pub alone-less : LessTo S i S.words.channel
-  alone-less = record { lines = λ l a t. refl; flows = λ l a t e. e; ends = λ l a t e. e }
-
-  pub alone-goes : ((w : Membership) → (S.sites i).joining ≡ None → MemberOk S i w → MemberOk (with-site S i s S.words.channel S.pending S.logs.streamed) i w)
-      → ((j : Joining) → s.joining ≡ Some j → JoinerOk (with-site S i s S.words.channel S.pending S.logs.streamed) i j)
-      → (KeepsOk S i → KeepsOk (with-site S i s S.words.channel S.pending S.logs.streamed) i)
-      → LogsGo S i (becomes s)
-  alone-goes member joiner keeps = becomes-goes S i s S.logs.streamed g.start g.view g.log
-      (takes-holds S H i s S.words.channel S.pending S.logs.streamed alone-takes member joiner keeps
-      (λ l slot. takes-letters S H i s S.words.channel S.pending S.logs.streamed alone-takes (λ t. refl) l (λ a t stream_start b. b) (between S l i) (H.letters l i slot))
-      (λ from. H.foreign from i)
-      (takes-stream S H i s S.words.channel S.pending S.logs.streamed alone-takes))
 
 -- ---- a joiner loads
 
@@ -114,17 +79,11 @@ module _ (S : LogState) (H : LogsHold S) (i : ℕ) (up : 0 < site_start S i) (j 
       T : LogState
       T = with-site S i s S.words.channel S.pending S.logs.streamed
 
-      each : (x : Joiner) → In x (S.sites i).joiners → (y : Joiner) × In y s.joiners × (y.slot ≡ x.slot) × (y.start ≡ x.start) × (y.stream_start ≡ x.stream_start)
-      each = same-counts (S.sites i).joiners s.joiners refl
-
-      back : (y : Joiner) → In y s.joiners → (x : Joiner) × In x (S.sites i).joiners × (x.slot ≡ y.slot) × (x.start ≡ y.start)
-      back = same-uncounts (S.sites i).joiners s.joiners refl
-
       k : SiteTakes S i s S.words.channel S.pending S.logs.streamed
-      k = alone-takes S H i up s (load-on (S.sites i) j n log is longer (λ b. based ∙ b)) refl each back
+      k = alone-takes S H i up s (load-on (S.sites i) j n log is longer (λ b. based ∙ b)) refl refl
 
       less : LessTo S i S.words.channel
-      less = alone-less S H i up s (load-on (S.sites i) j n log is longer (λ b. based ∙ b)) refl each back
+      less = record { lines = λ l a t. refl; flows = λ l a t e. e; ends = λ l a t e. e }
 
       old : JoinerOk S i j
       old = (H.sites i).joiner j is
@@ -142,7 +101,23 @@ module _ (S : LogState) (H : LogsHold S) (i : ℕ) (up : 0 < site_start S i) (j 
     (counts : j.stream ≡ None → n.count ≡ j.count)
     (ends : (w : Membership) (stream_start : ℕ) → (S.sites i).view ≡ Some w → Took S i w j stream_start → is_some n.count ≡ true → stream_start ≤ S.logs.reach (part S i) (term_of w)) where
   finish-goes : LogsGo S i (becomes (finishes_load (S.sites i) n))
-  finish-goes = choice (may_finish n) refl
+  finish-goes = cond_both (may_finish n) _ _ (λ z. LogsGo S i (becomes z))
+      (λ e. load-goes S H i up j done (log_at S i ++ n.tasks) is (rw (length-append (log_at S i) n.tasks) (omega arith)) (λ _. refl) told based stream
+      (λ none. absurd (true≢false (sym (parts e).0 ∙ ap is_some (stream ∙ none))))
+      (λ w stream_start view h. record {
+        whole = append-nil (log_at S i ++ n.tasks) ∙ ap (λ z. log_at S i ++ z) tasks;
+        loading = λ no. absurd (true≢false no);
+        loaded = λ _. refl;
+        ends = λ _. ends w stream_start view h (parts e).1;
+      }))
+      (λ e. load-goes S H i up j n (log_at S i) is (omega arith) (λ l. loads ∙ l) told based stream
+      (λ none. (loads, counts none, tasks, refl))
+      (λ w stream_start view h. record {
+        whole = ap (λ z. log_at S i ++ z) tasks;
+        loading = λ no. h.loading (sym loads ∙ no);
+        loaded = λ whole. tasks ∙ h.loaded (sym loads ∙ whole);
+        ends = λ some. elim some [ inl whole ↦ h.ends (inl (sym loads ∙ whole)) | inr known ↦ ends w stream_start view h known ];
+      }))
     where
       done : Joining
       done = record n { is_loaded = true; tasks = [] }
@@ -157,27 +132,6 @@ module _ (S : LogState) (H : LogsHold S) (i : ℕ) (up : 0 < site_start S i) (j 
           some None e = absurd (true≢false (sym e))
           some (Some x) e = refl
 
-      choice : (b : Bool) → may_finish n ≡ b → LogsGo S i (becomes (if b then with-load (S.sites i) done (log_at S i ++ n.tasks) else with_joining (S.sites i) n))
-      choice true e = load-goes S H i up j done (log_at S i ++ n.tasks) is (rw (length-append (log_at S i) n.tasks) (omega arith)) (λ _. refl) told based stream
-          (λ none. absurd (true≢false (sym (parts e).0 ∙ ap is_some (stream ∙ none))))
-          (λ w stream_start view h. record {
-            whole = append-nil (log_at S i ++ n.tasks) ∙ ap (λ z. log_at S i ++ z) tasks;
-            loading = λ no. absurd (true≢false no);
-            loaded = λ _. refl;
-            ends = λ _. ends w stream_start view h (parts e).1;
-          })
-      choice false e = load-goes S H i up j n (log_at S i) is (omega arith) (λ l. loads ∙ l) told based stream
-          (λ none. (loads, counts none, tasks, refl))
-          (λ w stream_start view h. record {
-            whole = ap (λ z. log_at S i ++ z) tasks;
-            loading = λ no. h.loading (sym loads ∙ no);
-            loaded = λ whole. tasks ∙ h.loaded (sym loads ∙ whole);
-            ends = λ some. elim some [
-              | inl whole ↦ h.ends (inl (sym loads ∙ whole))
-              | inr known ↦ ends w stream_start view h known
-            ];
-          })
-
 -- the end of a stream
 pub stream-end-goes : (S : LogState) → LogsHold S → (i c : ℕ) (x : Letter) (count : ℕ) → 0 < site_start S i → x.start ≡ site_start S i → x.term ≡ term_at S i → EndOk S c i x
     → LogsGo S i (becomes (on_stream_end (S.sites i) (S.sites i).joining count))
@@ -185,7 +139,8 @@ stream-end-goes S H i c x count up start term e = go (S.sites i).joining refl
   where
     go : (o : Option Joining) → (S.sites i).joining ≡ o → LogsGo S i (becomes (on_stream_end (S.sites i) o count))
     go None none = goes-same S i H
-    go (Some j) is = choice (is_some j.stream) refl
+    go (Some j) is = cond_both (is_some j.stream) _ _ (λ z. LogsGo S i (becomes z))
+        (λ some. finish-goes S H i up j n is refl refl refl refl refl (λ none. absurd (true≢false (sym some ∙ ap is_some none))) ends) (λ none. goes-same S i H)
       where
         n : Joining
         n = record j { count = Some count }
@@ -197,65 +152,7 @@ stream-end-goes S H i c x count up start term e = go (S.sites i).joining refl
             let low = subst (λ t. e.stream_start ≤ S.logs.reach (part S i) t) same-term e.everywhere in
             omega (arith, at, low)
 
-        choice : (b : Bool) → is_some j.stream ≡ b → LogsGo S i (becomes (if b then finishes_load (S.sites i) n else S.sites i))
-        choice true some = finish-goes S H i up j n is refl refl refl refl refl (λ none. absurd (true≢false (sym some ∙ ap is_some none))) ends
-        choice false none = goes-same S i H
-
 -- ---- a block, and the end of a scan
-
--- a site that stays as it was, but for what it keeps
-still-goes : (S : LogState) (H : LogsHold S) (i : ℕ) (up : 0 < site_start S i) (s : SiteState) (g : SiteGoesOn (S.sites i) s) → SiteStays (S.sites i) s → (asks : s.asks ≡ (S.sites i).asks)
-    → (each : (j : Joiner) → In j (S.sites i).joiners → (n : Joiner) × In n s.joiners × (n.slot ≡ j.slot) × (n.start ≡ j.start) × (n.stream_start ≡ j.stream_start))
-    → (back : (n : Joiner) → In n s.joiners → (j : Joiner) × In j (S.sites i).joiners × (j.slot ≡ n.slot) × (j.start ≡ n.start))
-    → (KeepsOk S i → KeepsOk (with-site S i s S.words.channel S.pending S.logs.streamed) i) → LogsGo S i (becomes s)
-still-goes S H i up s g still asks each back keeps = alone-goes S H i up s g asks each back
-    (λ w none h. takes-member S H i s S.words.channel S.pending S.logs.streamed k less still w h)
-    (λ j is. takes-joiner-same S H i s S.words.channel S.pending S.logs.streamed k less still (λ t. refl) (λ w view l f low. refl) j
-    ((H.sites i).joiner j (sym still.joining ∙ is)))
-    keeps
-  where
-    k : SiteTakes S i s S.words.channel S.pending S.logs.streamed
-    k = alone-takes S H i up s g asks each back
-
-    less : LessTo S i S.words.channel
-    less = alone-less S H i up s g asks each back
-
--- it goes on with another scan, or none, and counts so
-abbrev scans : SiteState → Option Scanning → List Joiner → SiteState
-scans s scanning js = record s { scanning = scanning; joiners = js }
-
-scans-on : (s : SiteState) (scanning : Option Scanning) (js : List Joiner) → SiteGoesOn s (scans s scanning js)
-scans-on s scanning js = record {
-  start = refl;
-  greatest = refl;
-  earlier = refl;
-  view = refl;
-  acks = refl;
-  reports = refl;
-  held = refl;
-  waiting = refl;
-  log = omega arith;
-  member = λ e. e;
-  joins = λ j e. (j, e);
-  loaded = λ j e. (j, e, λ l. l);
-}
-
-scans-still : (s : SiteState) (scanning : Option Scanning) (js : List Joiner) → SiteStays s (scans s scanning js)
-scans-still s scanning js = record { start = refl; greatest = refl; earlier = refl; view = refl; joining = refl; log = refl; floor = refl; repaired = refl; firm = refl }
-
-scan-goes : (S : LogState) → LogsHold S → (i : ℕ) → 0 < site_start S i → (scanning : Option Scanning) → LogsGo S i (becomes (record (S.sites i) { scanning = scanning }))
-scan-goes S H i up scanning = still-goes S H i up s (scans-on (S.sites i) scanning (S.sites i).joiners) (scans-still (S.sites i) scanning (S.sites i).joiners) refl each back
-    (takes-kept S H i s S.words.channel S.pending S.logs.streamed
-    (alone-takes S H i up s (scans-on (S.sites i) scanning (S.sites i).joiners) refl each back) refl refl (λ e. e) (λ h. h.on_disk) (λ h. h))
-  where
-    s : SiteState
-    s = record (S.sites i) { scanning = scanning }
-
-    each : (x : Joiner) → In x (S.sites i).joiners → (y : Joiner) × In y s.joiners × (y.slot ≡ x.slot) × (y.start ≡ x.start) × (y.stream_start ≡ x.stream_start)
-    each = same-counts (S.sites i).joiners s.joiners refl
-
-    back : (y : Joiner) → In y s.joiners → (x : Joiner) × In x (S.sites i).joiners × (x.slot ≡ y.slot) × (x.start ≡ y.start)
-    back = same-uncounts (S.sites i).joiners s.joiners refl
 
 -- with the number of blocks that a joiner was sent it is the same one
 pub record SameJoiner (j n : Joiner) : Type 0 where
@@ -265,11 +162,8 @@ pub record SameJoiner (j n : Joiner) : Type 0 where
   pub position : n.position ≡ j.position
 
 pub with_count-same : (slot count : ℕ) (j : Joiner) → SameJoiner j (with_count slot count j)
-with_count-same slot count j = choice (j.slot == slot)
-  where
-    choice : (b : Bool) → SameJoiner j (if b then record j { count = Some count } else j)
-    choice true = record { slot = refl; start = refl; stream_start = refl; position = refl }
-    choice false = record { slot = refl; start = refl; stream_start = refl; position = refl }
+with_count-same slot count j = cond_both (j.slot == slot) _ _ (SameJoiner j)
+    (λ _. record { slot = refl; start = refl; stream_start = refl; position = refl }) (λ _. record { slot = refl; start = refl; stream_start = refl; position = refl })
 
 pub counted-same : (S : LogState) (p t : ℕ) (j n : Joiner) → SameJoiner j n → CountedOk S p t j → CountedOk S p t n
 counted-same S p t j n e k = record {
@@ -285,34 +179,21 @@ module _ (f : Joiner → Joiner) (same : (j : Joiner) → SameJoiner j (f j)) wh
   counted-mapped S p t [] h = tt
   counted-mapped S p t (j ∷ js) h = (counted-same S p t j (f j) (same j) h.0, counted-mapped S p t js h.1)
 
-scan_end-joiners : (S : LogState) → LogsHold S → (i : ℕ) → 0 < site_start S i → (slot count : ℕ)
-    → LogsGo S i (becomes (record (S.sites i) { scanning = None; joiners = map (with_count slot count) (S.sites i).joiners }))
-scan_end-joiners S H i up slot count = still-goes S H i up s (scans-on (S.sites i) None js) (scans-still (S.sites i) None js) refl each back
-    (λ h. takes-keeps S H i s S.words.channel S.pending S.logs.streamed k h
-    (counted-mapped (with_count slot count) (with_count-same slot count) (with-site S i s S.words.channel S.pending S.logs.streamed) (part S i) (term_at S i) (S.sites i).joiners
-    (takes-joiners S H i s S.words.channel S.pending S.logs.streamed k (S.sites i).joiners h.joiners))
-    (subst Distinct (sym (map-slots (with_count slot count) (λ j. (with_count-same slot count j).slot) (S.sites i).joiners)) h.alone)
-    (elim h.leads [ inl none ↦ inl (ap (map (with_count slot count)) none) | inr is ↦ inr is ])
-    (takes-asks S H i s S.words.channel S.pending S.logs.streamed k (S.sites i).asks h.asks) h.pending h.on_disk)
-  where
-    js : List Joiner
-    js = map (with_count slot count) (S.sites i).joiners
-
-    s : SiteState
-    s = scans (S.sites i) None js
-
-    mapped : SameJoiners (S.sites i).joiners js
-    mapped = map-joiners (with_count slot count) (λ j. (with_count-same slot count j).slot) (λ j. (with_count-same slot count j).start) (λ j. (with_count-same slot count j).stream_start)
-        (S.sites i).joiners
-
-    each : (x : Joiner) → In x (S.sites i).joiners → (y : Joiner) × In y s.joiners × (y.slot ≡ x.slot) × (y.start ≡ x.start) × (y.stream_start ≡ x.stream_start)
-    each = mapped.kept
-
-    back : (y : Joiner) → In y s.joiners → (x : Joiner) × In x (S.sites i).joiners × (x.slot ≡ y.slot) × (x.start ≡ y.start)
-    back y is = let r = mapped.back y is in (r.0, r.1, r.2, r.3)
-
-    k : SiteTakes S i s S.words.channel S.pending S.logs.streamed
-    k = alone-takes S H i up s (scans-on (S.sites i) None js) refl each back
+scan_end-joiners : (S : LogState) → LogsHold S → (i slot count : ℕ) → LogsGo S i (becomes (record (S.sites i) { scanning = None; joiners = map (with_count slot count) (S.sites i).joiners }))
+scan_end-joiners S H i slot count = let o = site-same S H i S.logs.reach i in let f = with_count slot count in let same = with_count-same slot count in
+    rests-goes S H i (record (S.sites i) { scanning = None; joiners = map f (S.sites i).joiners }) no_sends S.logs.reach (record {
+      is = refl;
+      member = o.member;
+      joiner = o.joiner;
+      counts = o.counts;
+      acks = o.acks;
+      joiners = λ up. counted-mapped f same S (part S i) (term_at S i) (S.sites i).joiners (o.joiners up);
+      alone = λ up. rw (map-slots f (λ j. (same j).slot) (S.sites i).joiners) (o.alone up);
+      leads = λ up. elim (o.leads up) [ inl none ↦ inl (ap (map f) none) | inr is ↦ inr is ];
+      counted = map-joiners f (λ j. (same j).slot) (λ j. (same j).start) (λ j. (same j).stream_start) (S.sites i).joiners;
+      on_disk = o.on_disk;
+      held = o.held;
+    }) (reach-same S H) (says-nothing S H i)
 
 -- the end of a scan
 pub scan-end-goes : (S : LogState) → LogsHold S → (i id count : ℕ) → 0 < site_start S i → LogsGo S i (becomes (on_scan_end (S.sites i) (S.sites i).scanning id count))
@@ -320,16 +201,10 @@ scan-end-goes S H i id count up = go (S.sites i).scanning
   where
     go : (o : Option Scanning) → LogsGo S i (becomes (on_scan_end (S.sites i) o id count))
     go None = goes-same S i H
-    go (Some (ForJoiner own slot)) = choice (own == id)
-      where
-        choice : (b : Bool) → LogsGo S i (becomes (if b then record (S.sites i) { scanning = None; joiners = map (with_count slot count) (S.sites i).joiners } else S.sites i))
-        choice true = scan_end-joiners S H i up slot count
-        choice false = goes-same S i H
-    go (Some (ForBase own position blocks written ended)) = choice (own == id)
-      where
-        choice : (b : Bool) → LogsGo S i (becomes (if b then record (S.sites i) { scanning = Some (ForBase own position blocks written (Some count)) } else S.sites i))
-        choice true = scan-goes S H i up (Some (ForBase own position blocks written (Some count)))
-        choice false = goes-same S i H
+    go (Some (ForJoiner own slot)) = cond_both (own == id) _ _ (λ z. LogsGo S i (becomes z)) (λ _. scan_end-joiners S H i slot count) (λ _. goes-same S i H)
+    go (Some (ForBase own position blocks written ended)) = cond_both (own == id) _ _ (λ z. LogsGo S i (becomes z))
+        (λ _. inert-becomes S i (record (S.sites i) { scanning = Some (ForBase own position blocks written (Some count)) }) H (record { same = refl; held = λ k. k }))
+        (λ _. goes-same S i H)
 
 -- a block
 pub chunk-goes : (S : LogState) → LogsHold S → (i id : ℕ) → 0 < site_start S i → LogsGo S i (becomes (on_chunk (S.sites i) (S.sites i).joining (S.sites i).scanning id))
@@ -339,8 +214,6 @@ chunk-goes S H i id up = go (S.sites i).joining refl (S.sites i).scanning
     go (Some j) is scanning = finish-goes S H i up j (record j { blocks = j.blocks + 1 }) is refl refl refl refl refl (λ none. refl) (λ w stream_start view h some. h.ends (inr some))
     go None none None = goes-same S i H
     go None none (Some (ForJoiner own slot)) = goes-same S i H
-    go None none (Some (ForBase own position blocks written count)) = choice (own == id)
-      where
-        choice : (b : Bool) → LogsGo S i (becomes (if b then record (S.sites i) { scanning = Some (ForBase own position (blocks + 1) written count) } else S.sites i))
-        choice true = scan-goes S H i up (Some (ForBase own position (blocks + 1) written count))
-        choice false = goes-same S i H
+    go None none (Some (ForBase own position blocks written count)) = cond_both (own == id) _ _ (λ z. LogsGo S i (becomes z))
+        (λ _. inert-becomes S i (record (S.sites i) { scanning = Some (ForBase own position (blocks + 1) written count) }) H (record { same = refl; held = λ k. k }))
+        (λ _. goes-same S i H)

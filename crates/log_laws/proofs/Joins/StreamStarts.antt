@@ -1,29 +1,8 @@
 -- A joiner takes the stream that its leader began for it, or drops it.
-use Rattle.std.proofs.Common.{Bool, List, ap, append-nil, arith, false, inl, inr, refl, subst, sym, true, true≢false, ◌≡◌, ◌++◌, ◌∷◌, ◌∙◌, ◌⊎◌, ◌<◌, ◌≤◌, []}
-use Rattle.std.proofs.lemmas.Bool.{and_parts, cases_Bool, cases_eq}
-use Rattle.std.proofs.lemmas.Bool.Decides.{nat_tests}
-use Rattle.std.specs.List.{AllByRecursion}
-use Rattle.std.specs.Prelude.{None, Option, Some, is_none, is_some, length, map, nat_lt, ◌&&◌, if◌then◌else◌, ℕ}
-use Rattle.volt_wire.specs.Stream.{StreamHead}
-use Rattle.volt_wire.specs.Word.{Membership}
-use Rattle.volt_wire.specs.declared.actor.Actor.TheVariants.{Site}
+use Rattle.log_laws.proofs.Names.{List, ap, append-nil, arith, false, inl, inr, refl, subst, sym, true, true≢false, ◌≡◌, ◌++◌, ◌∷◌, ◌∙◌, ◌⊎◌, ◌<◌, ◌≤◌, [], and_parts, cases_Bool, cases_eq, nat_tests, AllByRecursion, None, Option, Some, is_none, is_some, length, map, nat_lt, ◌&&◌, ℕ, StreamHead, Membership, Site, Letter, becomes, may_stream, on_stream_start, Joining, SiteState, Streamed, site_term, term_in, term_of, set_at, all-at, all-from, none-and-some, same-some, set-here, set-there, is_none-none, In, cond_both, Begins, BeginsAt, Coming, EndOk, Entered, Follows, HasBeen, LogsHold, InWord, IsCounted, IsSlot, JoinerOk, LogState, MeantFor, SiteLetterOk, StreamIn, StreamedOk, Streaming, Took, Untaken, ViewIn, asked, asks_of_term, between, end_in, stream_ends_in, flow, follows, known, part, site_start, term_at, end_of, flow_in}
 use Rattle.volt_wire.specs.declared.message.Msg.TheVariants as msg
-use Rattle.cluster_model.specs.Letters.{Letter, becomes}
-use Rattle.cluster_model.specs.Site.{may_stream, on_stream_start}
-use Rattle.cluster_model.specs.SiteState.{Joining, SiteState, Streamed, site_term}
-use Rattle.cluster_model.specs.Words.{term_in, term_of}
-use Rattle.cluster_model.specs.World.{set_at}
-use Rattle.cluster_steps.proofs.Lists.{all-at, all-from, none-and-some, same-some, set-here, set-there, is_none-none}
-use Rattle.cluster_steps.specs.Lists.{In}
-use Rattle.log_laws.specs.Histories.{Begins, BeginsAt, Coming, EndOk, Entered, Follows, HasBeen, LogsHold, InWord, IsCounted, IsSlot, JoinerOk, LogState, MeantFor, SiteLetterOk, StreamIn, StreamedOk, Streaming, Took, Untaken, ViewIn, asked, asks_of_term, between, end_in, stream_ends_in, flow, follows, known, part, site_start, term_at}
-use Rattle.log_laws.proofs.Kept.Terms.{running-slot}
-use Rattle.log_laws.proofs.Kept.Asked.{at-most-none, at-most-same, popped-less}
-use Rattle.log_laws.proofs.Plain.Copies.{follows-one}
-use Rattle.log_laws.proofs.Kept.Laters.{ack-later, ask-later, been-later, end-later-if, part-later, reached-later, report-later}
-use Rattle.log_laws.proofs.Plain.Lines.{begins-same, ends-empty, ends-here, flow-here, follows-not-begins}
-use Rattle.log_laws.proofs.Kept.Moves.{LogsGo, JoinsOn, LogsLater, site_popped}
-use Rattle.log_laws.proofs.Kept.OneSite.{LessTo, SiteTakes, becomes-goes, takes-counted, takes-joined, takes-joiner, takes-steady, takes-stream, takes-word, with-site}
-use Rattle.log_laws.proofs.Kept.Steady.{SiteGoesOn, steady-joins, steady-later}
+use Rattle.log_laws.proofs.Kept.{running-slot, at-most-none, at-most-same, popped-less, ack-later, ask-later, been-later, end-later-if, part-later, reached-later, report-later, LogsGo, JoinsOn, LogsLater, site_popped, LessTo, SiteTakes, becomes-goes, takes-counted, takes-joined, takes-joiner, takes-steady, takes-stream, takes-word, with-site, SiteGoesOn, steady-joins, steady-later}
+use Rattle.log_laws.proofs.Plain.{follows-one, begins-same, follows-not-begins, flat-each, for-here, one-and-others}
 use Rattle.log_laws.proofs.Messages.Taken.{first-begun, first-foreign, first-less, first-takes, without, without-each, without-here}
 use Rattle.log_laws.proofs.Joins.Tasks.{drops-goes}
 
@@ -73,7 +52,7 @@ module _ (S : LogState) (H : LogsHold S) (m i : ℕ) (l : Letter) (ls : List Let
   -- it is the first thing that is under way to the joiner from there
   stream-first : (w : Membership) → (S.sites i).view ≡ Some w → flow (site_start S i) (term_of w) (between S m i) ≡ Begins l.past head.stream_start ∷ flow (site_start S i) (term_of w) ls
   stream-first w view = ap (flow (site_start S i) (term_of w)) e
-      ∙ ap (λ z. z ++ flow (site_start S i) (term_of w) ls) (flow-here (site_start S i) (term_of w) (record l { body = msg.StreamStart head }) start (term ∙ ap term_in view))
+      ∙ ap (λ z. z ++ flow (site_start S i) (term_of w) ls) (for-here (site_start S i) (term_of w) (record l { body = msg.StreamStart head }) (flow_in (record l { body = msg.StreamStart head }).past (record l { body = msg.StreamStart head }).body) start (term ∙ ap term_in view))
 
   -- it is dropped by a member, and by a joiner that may not take it
   stream-drops : ((j : Joining) → (S.sites i).joining ≡ Some j → may_stream (S.sites i) j l ≡ false) → LogsGo (site_popped S (Site m) i) i (becomes (S.sites i))
@@ -121,16 +100,10 @@ module _ (S : LogState) (H : LogsHold S) (m i : ℕ) (l : Letter) (ls : List Let
     untaken = subst (StreamIn S i w j) none word.stream
 
     follows-it : follows S.words.deployment w i m ≡ true
-    follows-it = elim (cases_Bool (follows S.words.deployment w i m)) [
-      | inl f ↦ f
-      | inr f ↦ let z = sym (word.others m f).0 ∙ stream-first w view in absurd (cc)
-    ]
+    follows-it = elim (cases_Bool (follows S.words.deployment w i m)) [ inl f ↦ f | inr f ↦ let z = sym (word.others m f).0 ∙ stream-first w view in absurd (cc) ]
 
     coming : Coming S i w (flow (site_start S i) (term_of w) (between S m i)) × (asked S i m (term_of w) ≡ [])
-    coming = elim (untaken.comes m follows-it low) [
-      | inl q ↦ let z = sym q.flow_is ∙ stream-first w view in absurd (cc)
-      | inr q ↦ q
-    ]
+    coming = elim (untaken.comes m follows-it low) [ inl q ↦ let z = sym q.flow_is ∙ stream-first w view in absurd (cc) | inr q ↦ q ]
 
     begins : (l.past ≡ coming.0.past) × (head.stream_start ≡ length coming.0.past) × (flow (site_start S i) (term_of w) ls ≡ map Follows coming.0.more)
     begins = begins-same l.past coming.0.past head.stream_start (length coming.0.past) (flow (site_start S i) (term_of w) ls) (map Follows coming.0.more)
@@ -173,15 +146,11 @@ module _ (S : LogState) (H : LogsHold S) (m i : ℕ) (l : Letter) (ls : List Let
 
     k : SiteTakes S i s (without S m i) S.pending st
     k = first-takes S H m i x ls e s g st up (λ c t n. stream-other S.logs.streamed i (term_of w) (record { start = site_start S i; stream_start = head.stream_start }) c t n)
-        (λ t y took. elim (cases_eq t (term_of w)) [
-          | inl q ↦ absurd (unstreamed y (subst (λ z. S.logs.streamed i z ≡ Some y) q took))
-          | inr n ↦ stream-term S.logs.streamed i (term_of w) (record { start = site_start S i; stream_start = head.stream_start }) t n ∙ took
-        ])
-        (λ t y took. elim (cases_eq t (term_of w)) [
-          | inl q ↦ inr (λ u v was own. old.unentered u v was (own ∙ ap (λ z. z.start) (sym (same-some
-              (sym (stream-here S.logs.streamed i (term_of w) (record { start = site_start S i; stream_start = head.stream_start })) ∙ subst (λ u. st i u ≡ Some y) q took)))))
-          | inr n ↦ inl (sym (stream-term S.logs.streamed i (term_of w) (record { start = site_start S i; stream_start = head.stream_start }) t n) ∙ took)
-        ])
+        (one-and-others _ (term_of w) (λ y took. absurd (unstreamed y took))
+        (λ t n y took. stream-term S.logs.streamed i (term_of w) (record { start = site_start S i; stream_start = head.stream_start }) t n ∙ took))
+        (one-and-others _ (term_of w) (λ y took. inr (λ u v was own. old.unentered u v was (own ∙ ap (λ z. z.start) (sym (same-some
+        (sym (stream-here S.logs.streamed i (term_of w) (record { start = site_start S i; stream_start = head.stream_start })) ∙ took))))))
+        (λ t n y took. inl (sym (stream-term S.logs.streamed i (term_of w) (record { start = site_start S i; stream_start = head.stream_start }) t n) ∙ took)))
         (popped-less S (Site m) i x ls e S.logs s refl (λ c t. at-most-same (asks_of_term c t (S.sites i)))) refl
 
     less : LessTo S i (without S m i)
@@ -264,11 +233,8 @@ module _ (S : LogState) (H : LogsHold S) (m i : ℕ) (l : Letter) (ls : List Let
         }
 
     streams : (t : ℕ) (y : Streaming) → st i t ≡ Some y → StreamedOk T i t y
-    streams t y took = elim (cases_eq t (term_of w)) [
-      | inl q ↦ subst (λ u. StreamedOk T i u y) (sym q) (subst (StreamedOk T i (term_of w))
-          (same-some (sym (stream-here S.logs.streamed i (term_of w) x-stream) ∙ subst (λ u. st i u ≡ Some y) q took)) new-stream)
-      | inr n ↦ takes-stream S H i s (without S m i) S.pending st k t y (sym (stream-term S.logs.streamed i (term_of w) x-stream t n) ∙ took)
-    ]
+    streams = one-and-others _ (term_of w) (λ y took. subst (StreamedOk T i (term_of w)) (same-some (sym (stream-here S.logs.streamed i (term_of w) x-stream) ∙ took)) new-stream)
+        (λ t n y took. takes-stream S H i s (without S m i) S.pending st k t y (sym (stream-term S.logs.streamed i (term_of w) x-stream t n) ∙ took))
       where
         x-stream : Streaming
         x-stream = record { start = site_start S i; stream_start = head.stream_start }
@@ -285,8 +251,8 @@ module _ (S : LogState) (H : LogsHold S) (m i : ℕ) (l : Letter) (ls : List Let
         meant q either = elim either [
           | inl from ↦ ap (λ z. z.stream_start) (sym new) ∙ (subst (AllByRecursion (BeginsAt h.stream_start)) (same-flow from)
               (h.begun j is (sym start-own) (ap term_in view ∙ sym q) (rw q low))).0
-          | inr n ↦ absurd (some (sym (ends-here (site_start S i) (term_of w) y start-own q)
-              ∙ ends-empty (site_start S i) (term_of w) (between S c i) (word.others c (elsewhere n)).1 y there))
+          | inr n ↦ absurd (some (sym (for-here (site_start S i) (term_of w) y (end_in y.body) start-own q)
+              ∙ flat-each (end_of (site_start S i) (term_of w)) (between S c i) (word.others c (elsewhere n)).1 y there))
         ]
           where
             new : record { start = site_start S i; stream_start = head.stream_start } ≡ z
@@ -334,7 +300,8 @@ module _ (S : LogState) (H : LogsHold S) (m i : ℕ) (l : Letter) (ls : List Let
 
       go : (o : Option Joining) → (S.sites i).joining ≡ o → LogsGo (site_popped S (Site m) i) i (becomes (on_stream_start (S.sites i) o (record l { body = msg.StreamStart head }) head))
       go None none = stream-drops (λ j is. absurd (none-and-some none is))
-      go (Some j) is = choice (may_stream (S.sites i) j l) refl
+      go (Some j) is = cond_both (may_stream (S.sites i) j l) _ _ (λ z. LogsGo (site_popped S (Site m) i) i (becomes z))
+          (λ may. takes-stream-in (S.sites i).view refl may) (λ may. stream-drops (λ k e. subst (λ z. may_stream (S.sites i) z l ≡ false) (same-some (sym is ∙ e)) may))
         where
           streaming : SiteState
           streaming = record (S.sites i) {
@@ -353,10 +320,6 @@ module _ (S : LogState) (H : LogsHold S) (m i : ℕ) (l : Letter) (ls : List Let
             where
               below : nat_lt (S.sites i).earlier l.term ≡ true → l.term ≡ term_of w → (S.sites i).earlier < term_of w
               below r same-term = grind (arith, nat_tests, r, same-term)
-
-          choice : (b : Bool) → may_stream (S.sites i) j l ≡ b → LogsGo (site_popped S (Site m) i) i (becomes (if b then streaming else S.sites i))
-          choice true may = takes-stream-in (S.sites i).view refl may
-          choice false may = stream-drops (λ k e. subst (λ z. may_stream (S.sites i) z l ≡ false) (same-some (sym is ∙ e)) may)
 
 pub stream-start-goes : (S : LogState) → LogsHold S → (i c : ℕ) (l : Letter) (ls : List Letter) (head : StreamHead) → between S c i ≡ record l { body = msg.StreamStart head } ∷ ls
     → 0 < site_start S i → l.start ≡ site_start S i → l.term ≡ term_at S i

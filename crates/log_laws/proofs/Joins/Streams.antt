@@ -1,38 +1,10 @@
 -- A leader takes a joiner: it counts it, and its stream begins.
-use Rattle.std.proofs.Common.{Bool, List, ap, append-nil, arith, false, inl, inr, refl, subst, sym, true, true≢false, ◌≡◌, ◌++◌, ◌∷◌, ◌∙◌, ◌⊎◌, ◌<◌, ◌≤◌, ◌==◌, [], ◌+◌}
-use Rattle.std.proofs.lemmas.Bool.{and_parts, cases_eq, eq-eqb, eqb-true, not-true}
-use Rattle.std.proofs.lemmas.List.{length-append, map-append, nil_from_length}
-use Rattle.std.specs.List.{AllByRecursion, list_any}
-use Rattle.std.specs.Prelude.{None, Option, Some, filter, find, is_none, length, map, not, ◌&&◌, if◌then◌else◌, ℕ}
-use Rattle.volt_wire.specs.Word.{Membership}
-use Rattle.volt_wire.specs.declared.actor.Actor.{Actor}
-use Rattle.volt_wire.specs.declared.actor.Actor.TheVariants.{Agent, Client, Director, Scanner, Site}
+use Rattle.log_laws.proofs.Names.{Bool, List, ap, append-nil, arith, false, inl, inr, refl, subst, sym, true, true≢false, ◌≡◌, ◌++◌, ◌∷◌, ◌∙◌, ◌⊎◌, ◌<◌, ◌≤◌, ◌==◌, [], ◌+◌, and_parts, cases_eq, eq-eqb, eqb-true, not-true, length-append, map-append, nil_from_length, AllByRecursion, list_any, None, Option, Some, filter, find, is_none, length, map, not, ◌&&◌, if◌then◌else◌, ℕ, Membership, Actor, Agent, Site, Database, Letter, Turn, letter_in, same, nothing_open, can_take, is_lost_in, stream_head, takes_asks, takes_first_ask, takes_joiner, without_first, Ask, Joiner, Joining, SiteState, Streamed, is_leader, leads, site_term, leader, term_in, term_of, sent, set_at, all-append, all-at, all-from, eqb-same, filter-in, if-true, in-cases, in-left, in-map, in-map-from, in-right, list_any-in, none-and-some, same-some, set-both, set-here, set-there, Distinct, In, leader-view, leads-parts, prefix-length, AsksToJoin, BeginsAt, Coming, CountedOk, EndOk, ForeignOk, LogsHold, InWord, IsCounted, IsSlot, JoinerOk, JoinsIn, KeepsOk, LeadsIn, LogState, MemberOk, Inert, Leadership, SiteLetterOk, StreamIn, Took, ViewIn, asked, asks_in, asks_kept, asks_of_term, asks_waiting, between, end_in, stream_ends_in, flow, flow_of, follows, line, log_at, part, site_start, term_at, ask_of, end_of, flow_in, line_of}
 use Rattle.volt_wire.specs.declared.message.Msg.TheVariants as msg
-use Rattle.cluster_model.specs.Engine.{Database}
-use Rattle.cluster_model.specs.Letters.{Letter, Turn, letter_in, same}
-use Rattle.cluster_model.specs.Log.{nothing_open}
-use Rattle.cluster_model.specs.Site.{can_take, is_lost_in, stream_head, takes_asks, takes_first_ask, takes_joiner, without_first}
-use Rattle.cluster_model.specs.SiteState.{Ask, Joiner, Joining, SiteState, Streamed, is_leader, leads, site_term}
-use Rattle.cluster_model.specs.Words.{leader, term_in, term_of}
-use Rattle.cluster_model.specs.World.{sent, set_at}
-use Rattle.cluster_steps.proofs.Lists.{all-append, all-at, all-from, eqb-same, filter-in, if-true, in-cases, in-left, in-map, in-map-from, in-right, list_any-in, none-and-some, same-some, set-both, set-here, set-there}
-use Rattle.word_laws.specs.Histories.{Distinct}
-use Rattle.cluster_steps.specs.Lists.{In}
-use Rattle.log_laws.specs.Histories.{AsksToJoin, BeginsAt, Coming, CountedOk, EndOk, ForeignOk, LogsHold, InWord, IsCounted, IsSlot, JoinerOk, JoinsIn, KeepsOk, LeadsIn, LogState, MemberOk, Inert, Leadership, SiteLetterOk, StreamIn, Took, ViewIn, asked, asks_in, asks_kept, asks_of_term, asks_waiting, between, end_in, stream_ends_in, flow, flow_of, follows, line, log_at, part, site_start, term_at}
-use Rattle.log_laws.proofs.Kept.Asked.{AsksLess, AtMost, at-most-behind, at-most-both, at-most-is, at-most-same}
-use Rattle.log_laws.proofs.Plain.Copies.{follows-one, is-leader, leader-followed}
-use Rattle.cluster_steps.proofs.Leaders.{leader-view, leads-parts}
-use Rattle.cluster_steps.proofs.Prefixes.{prefix-length}
-use Rattle.log_laws.proofs.Kept.Keeps.{CountedBy, SiteStays, Uncounted, counted-from, in_word-keeps-with, joiner-keeps-with}
-use Rattle.log_laws.proofs.Kept.Laters.{streamed-later}
-use Rattle.log_laws.proofs.Plain.Lines.{asks-plain, asks-same, ends-empty, ends-here, ends-plain, ends-same, flow-here, flow-other, flow-push, flow-same, line-plain, line-same, kept-append}
-use Rattle.log_laws.proofs.Kept.Moves.{LogsLater, after_site}
-use Rattle.log_laws.proofs.Kept.OneSite.{counts-on, with-site}
-use Rattle.log_laws.proofs.Kept.Plumbing.{after-same}
-use Rattle.log_laws.proofs.Kept.Inert.{still-at}
-use Rattle.log_laws.proofs.Kept.Steady.{SiteGoesOn, Steady, goes-on-same, steady-asks, steady-counted, steady-holds, steady-joiner, steady-joins, steady-keeps, steady-later, steady-member, steady-leaderships}
+use Rattle.log_laws.proofs.Kept.{AsksLess, AtMost, at-most-behind, at-most-both, at-most-same, CountedBy, SiteStays, Uncounted, counted-from, in_word-keeps-with, joiner-keeps-with, streamed-later, LogsLater, after_site, counts-on, with-site, after-same, SiteGoesOn, goes-on-same, steady-asks, steady-counted, steady-holds, steady-joiner, steady-joins, steady-keeps, steady-later, steady-member, steady-leaderships, running-slot, same-word, some-term, took-decided, still-same, asked_of, in-asked, keeps-less}
+use Rattle.log_laws.proofs.Kept.Steady.{Steady}
+use Rattle.log_laws.proofs.Plain.{follows-one, is-leader, leader-followed, kept-append, flat-each, flat-push, flat-same, for-here, for-other, if-empty, one-and-others}
 use Rattle.log_laws.proofs.Joins.StreamStarts.{letter-later-ends}
-use Rattle.log_laws.proofs.Kept.Terms.{running-slot, same-word, some-term, took-decided}
 
 -- ---- lists
 
@@ -51,11 +23,7 @@ found-first p (x ∷ xs) a e = choice (p x) refl e (found-first p xs a)
 pub distinct-push : (xs : List ℕ) (x : ℕ) → Distinct xs → (In x xs → ⊥) → Distinct (xs ++ x ∷ [])
 distinct-push [] x h n = (λ i. i, tt)
 distinct-push (y ∷ ys) x h n = (
-  λ i. elim (in-cases y ys (x ∷ []) i) [
-    | inl k ↦ h.0 k
-    | inr (inl e) ↦ n (inl (sym e))
-    | inr (inr k) ↦ k
-  ],
+  λ i. elim (in-cases y ys (x ∷ []) i) [ inl k ↦ h.0 k | inr (inl e) ↦ n (inl (sym e)) | inr (inr k) ↦ k ],
   distinct-push ys x h.1 (λ i. n (inr i)),
 )
 
@@ -170,51 +138,38 @@ module _ (E : Database) (S : LogState) (H : LogsHold S) (i : ℕ) (up : 0 < site
   same-lines : (k c x t : ℕ) → line x t (between T k c) ≡ line x t (between S k c)
   same-lines k c x t = elim (chan k c) [
     | inl e ↦ ap (line x t) e
-    | inr e ↦ ap (line x t) e.2 ∙ line-same x t (between S k c) (begins ∷ []) (ap (λ z. z ++ []) (line-plain x t begins refl))
+    | inr e ↦ ap (line x t) e.2 ∙ flat-same (line_of x t) (between S k c) (begins ∷ []) (ap (λ z. z ++ []) (if-empty _ _ refl))
   ]
 
   same-ends : (k c x t : ℕ) → stream_ends_in x t (between T k c) ≡ stream_ends_in x t (between S k c)
   same-ends k c x t = elim (chan k c) [
     | inl e ↦ ap (stream_ends_in x t) e
-    | inr e ↦ ap (stream_ends_in x t) e.2 ∙ ends-same x t (between S k c) (begins ∷ []) (ap (λ z. z ++ []) (ends-plain x t begins refl))
+    | inr e ↦ ap (stream_ends_in x t) e.2 ∙ flat-same (end_of x t) (between S k c) (begins ∷ []) (ap (λ z. z ++ []) (if-empty _ _ refl))
   ]
 
   same-asks : (k c t : ℕ) → asks_in t (between T k c) ≡ asks_in t (between S k c)
   same-asks k c t = elim (chan k c) [
     | inl e ↦ ap (asks_in t) e
-    | inr e ↦ ap (asks_in t) e.2 ∙ asks-same t (between S k c) (begins ∷ []) (ap (λ z. z ++ []) (asks-plain t begins refl))
+    | inr e ↦ ap (asks_in t) e.2 ∙ flat-same (ask_of t) (between S k c) (begins ∷ []) (ap (λ z. z ++ []) (if-empty _ _ refl))
   ]
 
   -- but to the joiner that asked
   same-flows : (k c x t : ℕ) → (c ≡ a.slot → x ≡ a.start → ⊥) → flow x t (between T k c) ≡ flow x t (between S k c)
   same-flows k c x t n = elim (chan k c) [
     | inl e ↦ ap (flow x t) e
-    | inr e ↦ ap (flow x t) e.2 ∙ flow-same x t (between S k c) (begins ∷ []) (ap (λ z. z ++ []) (flow-other x t begins (λ s _. n e.1 (sym s))))
+    | inr e ↦ ap (flow x t) e.2 ∙ flat-same (flow_of x t) (between S k c) (begins ∷ []) (ap (λ z. z ++ []) (for-other x t begins (flow_in begins.past begins.body) (λ s _. n e.1 (sym s))))
   ]
 
   -- ---- what is kept
 
   goes-on : SiteGoesOn (S.sites i) turn.state
-  goes-on = record {
-    start = refl;
-    greatest = refl;
-    earlier = refl;
-    view = refl;
-    acks = refl;
-    reports = refl;
-    held = refl;
-    waiting = refl;
-    log = omega arith;
-    member = λ e. e;
-    joins = λ j e. (j, e);
-    loaded = λ j e. (j, e, λ l. l);
-  }
+  goes-on = search arith
 
   there : (c : ℕ) → (c ≡ i → ⊥) → set_at S.sites i turn.state c ≡ S.sites c
   there c n = set-there S.sites i turn.state c n
 
   still : (c : ℕ) → SiteStays (S.sites c) (set_at S.sites i turn.state c)
-  still = still-at S i turn.state (record { start = refl; greatest = refl; earlier = refl; view = refl; joining = refl; log = refl; floor = refl; repaired = refl; firm = refl })
+  still = set-both (λ c x. SiteStays (S.sites c) x) S.sites i turn.state (search) (λ c n. still-same (S.sites c) (S.sites c) refl)
 
   steady : Steady S channels (set_at S.sites i turn.state) S.logs.streamed
   steady = record {
@@ -235,22 +190,13 @@ module _ (E : Database) (S : LogState) (H : LogsHold S) (i : ℕ) (up : 0 < site
 
   -- the asks that it keeps
   asks-less : AsksLess S T
-  asks-less c l t = set-both (λ l x. AtMost (asked S c l t) (asks_in t (between T c l) ++ asks_waiting c t x.waiting ++ asks_waiting c t (S.pending l) ++ asks_of_term c t x))
-      S.sites i turn.state here (λ l n. at-most-is (asked S c l t) (asks_in t (between T c l) ++ rest l ++ asks_waiting c t (S.pending l) ++ asks_of_term c t (S.sites l))
-      (ap (λ z. z ++ rest l ++ asks_waiting c t (S.pending l) ++ asks_of_term c t (S.sites l)) (same-asks c l t))) l
+  asks-less c l t = set-both (λ l x. AtMost (asked S c l t) (asked_of c t (between T c l) x (S.pending l))) S.sites i turn.state
+      (rw (same-asks c i t) (keeps-less c t (between S c i) (S.sites i) turn.state (S.pending i) refl (fewer (site_term (S.sites i) == t))))
+      (λ l n. rw (same-asks c l t) (at-most-same (asked S c l t))) l
     where
-      rest : ℕ → List ℕ
-      rest l = asks_waiting c t (S.sites l).waiting
-
       fewer : (b : Bool) → AtMost (if b then asks_kept c (S.sites i).asks else []) (if b then asks_kept c (pre ++ post) else [])
       fewer true = subst (λ z. AtMost (asks_kept c z) (asks_kept c (pre ++ post))) (sym asks-are) (kept-fewer c pre post a)
       fewer false = at-most-same []
-
-      here : AtMost (asked S c i t) (asks_in t (between T c i) ++ asks_waiting c t turn.state.waiting ++ asks_waiting c t (S.pending i) ++ asks_of_term c t turn.state)
-      here = subst (λ z. AtMost (asked S c i t) (z ++ rest i ++ asks_waiting c t (S.pending i) ++ asks_of_term c t turn.state)) (sym (same-asks c i t))
-          (at-most-both (asks_in t (between S c i) ++ rest i ++ asks_waiting c t (S.pending i)) (asks_in t (between S c i) ++ rest i ++ asks_waiting c t (S.pending i))
-          (asks_of_term c t (S.sites i)) (asks_of_term c t turn.state)
-          (at-most-same (asks_in t (between S c i) ++ rest i ++ asks_waiting c t (S.pending i))) (fewer (site_term (S.sites i) == t)))
 
   -- whom it counted it counts
   counted : (c b stream_start : ℕ) (v : Membership) → IsCounted S c b stream_start v → IsCounted T c b stream_start v
@@ -272,10 +218,9 @@ module _ (E : Database) (S : LogState) (H : LogsHold S) (i : ℕ) (up : 0 < site
   ok = all-at (λ a. AsksToJoin S (part S i) a.slot (term_at S i) a.start) (S.sites i).asks ((H.sites i).keeps up).asks a (subst (In a) (sym asks-are) (in-middle a pre post))
 
   asked-it : In a.start (asked S a.slot i (term_of w))
-  asked-it = in-right a.start (asks_in (term_of w) (between S a.slot i) ++ asks_waiting a.slot (term_of w) (S.sites i).waiting ++ asks_waiting a.slot (term_of w) (S.pending i))
-      (asks_of_term a.slot (term_of w) (S.sites i))
+  asked-it = in-asked S a.slot i (term_of w) a.start (inr (inr
       (subst (In a.start) (sym (if-true (term_at S i == term_of w) (asks_kept a.slot (S.sites i).asks) [] (eq-eqb (term_at S i) (term_of w) same-term)))
-      (kept-in (S.sites i).asks a (subst (In a) (sym asks-are) (in-middle a pre post))))
+      (kept-in (S.sites i).asks a (subst (In a) (sym asks-are) (in-middle a pre post))))))
 
   unasked : asked S a.slot i (term_of w) ≡ [] → ⊥
   unasked e = subst (In a.start) e asked-it
@@ -294,9 +239,6 @@ module _ (E : Database) (S : LogState) (H : LogsHold S) (i : ℕ) (up : 0 < site
     in-own : InWord S a.slot joins.0 j
     in-own = subst (ViewIn S a.slot j) joins.1.2 joiner-is.view
 
-    not-itself : a.slot ≡ i → ⊥
-    not-itself e = none-and-some (subst (λ z. (S.sites z).joining ≡ None) (sym e) no-joiner) joins.1.1
-
     word-is : joins.0 ≡ w
     word-is = same-word S H (term_of w) joins.0 w (record { decided = took-decided S H (site_start S a.slot) joins.0 in-own.took; term_is = joins.2 ∙ same-term })
         (record { decided = found.2.decided; term_is = refl })
@@ -308,7 +250,8 @@ module _ (E : Database) (S : LogState) (H : LogsHold S) (i : ℕ) (up : 0 < site
     in-word = subst (λ v. InWord S a.slot v j) word-is in-own
 
     follows-it : follows S.words.deployment w a.slot i ≡ true
-    follows-it = leader-followed S.words.deployment w i a.slot authoritative ok.part_is not-itself
+    follows-it = leader-followed S.words.deployment w i a.slot authoritative ok.part_is
+        (λ e. none-and-some (subst (λ z. (S.sites z).joining ≡ None) (sym e) no-joiner) joins.1.1)
 
     untook : (stream_start : ℕ) → Took S a.slot w j stream_start → ⊥
     untook stream_start u = unasked (u.asks i slot)
@@ -335,8 +278,8 @@ module _ (E : Database) (S : LogState) (H : LogsHold S) (i : ℕ) (up : 0 < site
       past = log_at S i;
       more = [];
       leadership = leadership.0;
-      flow_is = ap (flow (site_start S a.slot) (term_of w)) chan-here ∙ flow-push (site_start S a.slot) (term_of w) (between S i a.slot) begins
-          ∙ ap (λ z. z ++ flow_of (site_start S a.slot) (term_of w) begins) q.flow_is ∙ flow-here (site_start S a.slot) (term_of w) begins (sym runs) same-term;
+      flow_is = ap (flow (site_start S a.slot) (term_of w)) chan-here ∙ flat-push (flow_of (site_start S a.slot) (term_of w)) (between S i a.slot) begins
+          ∙ ap (λ z. z ++ flow_of (site_start S a.slot) (term_of w) begins) q.flow_is ∙ for-here (site_start S a.slot) (term_of w) begins (flow_in begins.past begins.body) (sym runs) same-term;
       led = ap (λ p. S.logs.leadership p (term_of w)) ok.part_is ∙ leadership.1;
       whole = append-nil (log_at S i) ∙ leadership.2;
       behind = subst (λ z. length leadership.0.begun ≤ length z) (sym leadership.2) (prefix-length leadership.0.begun leadership.0.log (H.leaderships (part S i) (term_of w) leadership.0 leadership.1).grown);
@@ -347,10 +290,7 @@ module _ (E : Database) (S : LogState) (H : LogsHold S) (i : ℕ) (up : 0 < site
 
     -- and it has asked no more
     new-asked : Inert S a.slot w i → asked T a.slot i (term_of w) ≡ []
-    new-asked q = elim (q.asks slot) [
-      | inl none ↦ absurd (unasked none)
-      | inr one ↦ nil_from_length (asked T a.slot i (term_of w)) (fewer (ap length one))
-    ]
+    new-asked q = elim (q.asks slot) [ inl none ↦ absurd (unasked none) | inr one ↦ nil_from_length (asked T a.slot i (term_of w)) (fewer (ap length one)) ]
       where
         kept-here : asks_of_term a.slot (term_of w) (S.sites i) ≡ asks_kept a.slot (pre ++ a ∷ post)
         kept-here = if-true (term_at S i == term_of w) (asks_kept a.slot (S.sites i).asks) [] (eq-eqb (term_at S i) (term_of w) same-term) ∙ ap (asks_kept a.slot) asks-are
@@ -361,8 +301,7 @@ module _ (E : Database) (S : LogState) (H : LogsHold S) (i : ℕ) (up : 0 < site
         asked-after : asked T a.slot i (term_of w)
             ≡ asks_in (term_of w) (between S a.slot i) ++ asks_waiting a.slot (term_of w) (S.sites i).waiting ++ asks_waiting a.slot (term_of w) (S.pending i)
             ++ asks_kept a.slot (pre ++ post)
-        asked-after = ap (λ x. asks_in (term_of w) (between T a.slot i) ++ asks_waiting a.slot (term_of w) x.waiting ++ asks_waiting a.slot (term_of w) (S.pending i)
-            ++ asks_of_term a.slot (term_of w) x) (set-here S.sites i turn.state)
+        asked-after = ap (λ x. asked_of a.slot (term_of w) (between T a.slot i) x (S.pending i)) (set-here S.sites i turn.state)
             ∙ ap (λ z. z ++ asks_waiting a.slot (term_of w) (S.sites i).waiting ++ asks_waiting a.slot (term_of w) (S.pending i) ++ asks_of_term a.slot (term_of w) turn.state)
             (same-asks a.slot i (term_of w))
             ∙ ap (λ z. asks_in (term_of w) (between S a.slot i) ++ asks_waiting a.slot (term_of w) (S.sites i).waiting ++ asks_waiting a.slot (term_of w) (S.pending i) ++ z)
@@ -400,10 +339,7 @@ module _ (E : Database) (S : LogState) (H : LogsHold S) (i : ℕ) (up : 0 < site
   asker : (c : ℕ) → ((c ≡ a.slot) × (site_start S c ≡ a.start)) ⊎ (c ≡ a.slot → site_start S c ≡ a.start → ⊥)
   asker c = elim (cases_eq c a.slot) [
     | inr n ↦ inr (λ e _. n e)
-    | inl e ↦ elim (cases_eq (site_start S c) a.start) [
-      | inl r ↦ inl (e, r)
-      | inr n ↦ inr (λ _ r. n r)
-    ]
+    | inl e ↦ elim (cases_eq (site_start S c) a.start) [ inl r ↦ inl (e, r) | inr n ↦ inr (λ _ r. n r) ]
   ]
 
   joiner-after : (c : ℕ) (k : Joining) → (set_at S.sites i turn.state c).joining ≡ Some k → JoinerOk T c k
@@ -437,14 +373,11 @@ module _ (E : Database) (S : LogState) (H : LogsHold S) (i : ℕ) (up : 0 < site
   }
 
   keeps-after : (c : ℕ) → KeepsOk S c → KeepsOk T c
-  keeps-after c k = elim (cases_eq c i) [
-    | inl e ↦ subst (KeepsOk T) (sym e) (own (subst (KeepsOk S) e k))
-    | inr n ↦ steady-keeps S channels (set_at S.sites i turn.state) S.pending S.logs.streamed H steady c k
-        (rw (there c n) (steady-counted S channels (set_at S.sites i turn.state) S.pending S.logs.streamed H steady (part S c) (term_at S c) (S.sites c).joiners k.joiners))
-        (rw (there c n) k.alone) (rw (there c n) k.leads)
-        (rw (there c n) (steady-asks S channels (set_at S.sites i turn.state) S.pending S.logs.streamed H steady (part S c) (term_at S c) (S.sites c).asks k.asks))
-        k.pending (rw (there c n) k.on_disk)
-  ]
+  keeps-after = one-and-others _ i own (λ c n k. steady-keeps S channels (set_at S.sites i turn.state) S.pending S.logs.streamed H steady c k
+      (rw (there c n) (steady-counted S channels (set_at S.sites i turn.state) S.pending S.logs.streamed H steady (part S c) (term_at S c) (S.sites c).joiners k.joiners))
+      (rw (there c n) k.alone) (rw (there c n) k.leads)
+      (rw (there c n) (steady-asks S channels (set_at S.sites i turn.state) S.pending S.logs.streamed H steady (part S c) (term_at S c) (S.sites c).asks k.asks))
+      k.pending (rw (there c n) k.on_disk))
     where
       here : set_at S.sites i turn.state i ≡ turn.state
       here = set-here S.sites i turn.state
@@ -484,8 +417,8 @@ module _ (E : Database) (S : LogState) (H : LogsHold S) (i : ℕ) (up : 0 < site
           let runs = subst (λ z. site_start S z ≡ a.start) e r in
           let at : y.term ≡ term_of w = sym (subst (λ z. term_at S z ≡ y.term) e term) ∙ ap term_in (view-is runs) in
           let below = subst (λ n. (S.sites a.slot).earlier < n) at (subst (λ z. (S.sites z).earlier < y.term) e low) in
-          some (sym (ends-here (site_start S a.slot) (term_of w) y (sym (subst (λ z. site_start S z ≡ y.start) e start)) at)
-          ∙ ends-empty (site_start S a.slot) (term_of w) (between S i a.slot) (inert runs below).ends_are y
+          some (sym (for-here (site_start S a.slot) (term_of w) y (end_in y.body) (sym (subst (λ z. site_start S z ≡ y.start) e start)) at)
+          ∙ flat-each (end_of (site_start S a.slot) (term_of w)) (between S i a.slot) (inert runs below).ends_are y
           (subst (λ z. In y (between S z a.slot)) q (subst (λ z. In y (between S k z)) e is)))
 
       begun : site_start S c ≡ y.start → term_at S c ≡ y.term → (S.sites c).earlier < y.term → AllByRecursion (BeginsAt h.stream_start) (flow y.start y.term (between S k c))
@@ -524,10 +457,7 @@ module _ (E : Database) (S : LogState) (H : LogsHold S) (i : ℕ) (up : 0 < site
     | inl e ↦ subst (AllByRecursion (ForeignOk S c (Site k))) (sym e) (H.foreign (Site k) c)
     | inr e ↦ subst (AllByRecursion (ForeignOk S c (Site k))) (sym e.2) (all-append (ForeignOk S c (Site k)) (between S k c) (begins ∷ []) (H.foreign (Site k) c) (tt, tt))
   ]
-  foreign-after (Agent h) c = H.foreign (Agent h) c
-  foreign-after (Client n) c = H.foreign (Client n) c
-  foreign-after (Scanner k) c = H.foreign (Scanner k) c
-  foreign-after Director c = H.foreign Director c
+  foreign-after from c = H.foreign from c
 
   takes-holds-joiner : LogsHold T
   takes-holds-joiner = steady-holds S channels (set_at S.sites i turn.state) S.pending S.logs.streamed H steady
@@ -536,7 +466,7 @@ module _ (E : Database) (S : LogState) (H : LogsHold S) (i : ℕ) (up : 0 < site
       (λ c none. (there c (λ e. let z = subst (λ z. site_start S z ≡ 0) e none in omega (arith, z, up)), refl))
       letters-after foreign-after
       (λ c t x is. let h = H.streamed c t x is in
-      streamed-later S T H later c t x h (steady-leaderships S channels (set_at S.sites i turn.state) S.pending S.logs.streamed H steady) h.apart
+      streamed-later S T H later c t x h ((steady-leaderships S channels (set_at S.sites i turn.state) S.pending S.logs.streamed H steady).kept (part S c) t h.leadership h.led) h.apart
       (λ at. subst (λ z. S.logs.reach (part S c) t ≤ length z) (sym (still c).log) (h.running (sym (still c).start ∙ at)).2)
       (counted c x.start x.stream_start h.word))
 

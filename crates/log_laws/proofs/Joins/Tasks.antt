@@ -1,26 +1,9 @@
 -- A joiner takes an entry that its leader sent it behind its stream.
-use Rattle.std.proofs.Common.{Bool, List, ap, append-nil, append_assoc, arith, false, inl, inr, refl, subst, sym, true, true≢false, ◌≡◌, ◌++◌, ◌∷◌, ◌∙◌, ◌<◌, ◌≤◌, []}
-use Rattle.std.proofs.lemmas.Bool.{cases_Bool}
-use Rattle.std.proofs.lemmas.List.{length-append}
-use Rattle.std.specs.Prelude.{None, Option, Some, is_some, length, map, if◌then◌else◌, ℕ}
-use Rattle.volt_base.specs.declared.entry.Entry.{Entry}
-use Rattle.volt_wire.specs.Word.{Membership}
-use Rattle.volt_wire.specs.declared.actor.Actor.TheVariants.{Site}
+use Rattle.log_laws.proofs.Names.{Bool, List, ap, append-nil, append_assoc, arith, false, inl, inr, refl, subst, sym, true, true≢false, ◌≡◌, ◌++◌, ◌∷◌, ◌∙◌, ◌<◌, ◌≤◌, [], cases_Bool, length-append, None, Option, Some, is_some, length, map, if◌then◌else◌, ℕ, Entry, Membership, Site, Letter, becomes, on_task, with_joining, Joining, SiteState, Streamed, term_in, term_of, none-and-some, same-some, Follows, LogsHold, InWord, JoinerOk, LogState, StreamIn, Took, ViewIn, asks_of_term, between, flow, follows, line_in, log_at, part, site_start, term_at, flow_in}
 use Rattle.volt_wire.specs.declared.message.Msg.TheVariants as msg
-use Rattle.cluster_model.specs.Letters.{Letter, becomes}
-use Rattle.cluster_model.specs.Site.{on_task, with_joining}
-use Rattle.cluster_model.specs.SiteState.{Joining, SiteState, Streamed}
-use Rattle.cluster_model.specs.Words.{term_in, term_of}
-use Rattle.cluster_steps.proofs.Lists.{none-and-some, same-some}
-use Rattle.log_laws.specs.Histories.{Follows, LogsHold, InWord, JoinerOk, LogState, StreamIn, Took, ViewIn, asks_of_term, between, flow, follows, line_in, log_at, part, site_start, term_at}
-use Rattle.log_laws.proofs.Kept.Asked.{at-most-same, popped-less}
-use Rattle.log_laws.proofs.Plain.Copies.{follows-one}
-use Rattle.log_laws.proofs.Kept.Keeps.{SiteStays, still-same}
-use Rattle.log_laws.proofs.Plain.Lines.{begins-not-follows, flow-here, follows-cons}
+use Rattle.log_laws.proofs.Kept.{at-most-same, popped-less, still-same, LogsGo, site_popped, LessTo, SiteTakes, becomes-goes, takes-holds, takes-joined, takes-joiner, takes-joiner-same, takes-kept, takes-member, takes-stream, takes-took, takes-word, with-site, SiteGoesOn, goes-on-same}
+use Rattle.log_laws.proofs.Plain.{follows-one, begins-not-follows, follows-cons, for-here}
 use Rattle.log_laws.proofs.Joins.Loads.{load-on, with-load}
-use Rattle.log_laws.proofs.Kept.Moves.{LogsGo, site_popped}
-use Rattle.log_laws.proofs.Kept.OneSite.{LessTo, SiteTakes, becomes-goes, takes-holds, takes-joined, takes-joiner, takes-joiner-same, takes-kept, takes-member, takes-stream, takes-took, takes-word, with-site}
-use Rattle.log_laws.proofs.Kept.Steady.{SiteGoesOn, goes-on-same}
 use Rattle.log_laws.proofs.Messages.Taken.{first-foreign, first-less, first-letters, first-takes, without, without-each, without-here}
 
 -- ---- a message that a site drops
@@ -30,7 +13,7 @@ pub drops-goes : (S : LogState) → LogsHold S → (m i : ℕ) (x : Letter) (ls 
     → ((j : Joining) (w : Membership) → (S.sites i).joining ≡ Some j → (S.sites i).view ≡ Some w → InWord S i w j → follows S.words.deployment w i m ≡ true
     → (S.sites i).earlier < term_of w → flow (site_start S i) (term_of w) ls ≡ flow (site_start S i) (term_of w) (between S m i))
     → LogsGo (site_popped S (Site m) i) i (becomes (S.sites i))
-drops-goes S H m i x ls e up line same-flow = becomes-goes (site_popped S (Site m) i) i s S.logs.streamed refl refl (omega arith)
+drops-goes S H m i x ls e up line same-flow = let still = still-same s s refl in becomes-goes (site_popped S (Site m) i) i s S.logs.streamed refl refl (omega arith)
     (takes-holds S H i s (without S m i) S.pending S.logs.streamed k
     (λ w none h. takes-member S H i s (without S m i) S.pending S.logs.streamed k less still w h)
     (λ j is. takes-joiner-same S H i s (without S m i) S.pending S.logs.streamed k less still (λ t. refl)
@@ -46,9 +29,6 @@ drops-goes S H m i x ls e up line same-flow = becomes-goes (site_popped S (Site 
 
     g : SiteGoesOn (S.sites i) s
     g = goes-on-same s
-
-    still : SiteStays (S.sites i) s
-    still = still-same s s refl
 
     k : SiteTakes S i s (without S m i) S.pending S.logs.streamed
     k = first-takes S H m i x ls e s g S.logs.streamed up (λ c t n. refl) (λ t y is. is) (λ t y is. inl is)
@@ -67,7 +47,7 @@ module _ (S : LogState) (H : LogsHold S) (m i : ℕ) (l : Letter) (ls : List Let
   -- it is the first thing that is under way to the joiner from there
   task-first : (w : Membership) → (S.sites i).view ≡ Some w → flow (site_start S i) (term_of w) (between S m i) ≡ Follows v ∷ flow (site_start S i) (term_of w) ls
   task-first w view = ap (flow (site_start S i) (term_of w)) e
-      ∙ ap (λ z. z ++ flow (site_start S i) (term_of w) ls) (flow-here (site_start S i) (term_of w) (record l { body = msg.Task position v }) start (term ∙ ap term_in view))
+      ∙ ap (λ z. z ++ flow (site_start S i) (term_of w) ls) (for-here (site_start S i) (term_of w) (record l { body = msg.Task position v }) (flow_in (record l { body = msg.Task position v }).past (record l { body = msg.Task position v }).body) start (term ∙ ap term_in view))
 
   task-drops : ((j : Joining) → (S.sites i).joining ≡ Some j → j.stream ≡ None) → LogsGo (site_popped S (Site m) i) i (becomes (S.sites i))
   task-drops none = drops-goes S H m i (record l { body = msg.Task position v }) ls e up refl (λ j w is view h f low. absurd (clash j w is view h f low))
@@ -126,10 +106,7 @@ module _ (S : LogState) (H : LogsHold S) (m i : ℕ) (l : Letter) (ls : List Let
           (λ some. u.ends (elim some [ inl whole' ↦ inl (sym loads ∙ whole') | inr known ↦ inr (ap is_some (sym count) ∙ known) ])) refl
         where
           follows-it : follows S.words.deployment w i m ≡ true
-          follows-it = elim (cases_Bool (follows S.words.deployment w i m)) [
-            | inl f ↦ f
-            | inr f ↦ let z = sym (h.others m f).0 ∙ task-first w view in absurd (cc)
-          ]
+          follows-it = elim (cases_Bool (follows S.words.deployment w i m)) [ inl f ↦ f | inr f ↦ let z = sym (h.others m f).0 ∙ task-first w view in absurd (cc) ]
 
           from : m ≡ u.from
           from = follows-one S.words.deployment w i m u.from follows-it u.following

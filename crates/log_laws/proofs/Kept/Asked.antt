@@ -1,25 +1,8 @@
 -- By which starts a slot asked to join: what a message that waits, is kept or is forgotten makes of that.
-use Rattle.std.proofs.Common.{◌≡◌, Bool, true, false, List, [], ◌∷◌, ◌++◌, append_assoc, refl, sym, subst, ap, ◌∙◌, ◌⊎◌, inl, inr, ◌==◌, true≢false, arith}
-use Rattle.std.proofs.lemmas.Bool.{cases_eq, eqb-true}
-use Rattle.std.proofs.lemmas.Bool.Decides.{nat_tests}
-use Rattle.std.proofs.lemmas.List.{length-append, map-append}
-use Rattle.std.proofs.lemmas.List.Elements.{filter-append}
-use Rattle.std.specs.Prelude.{ℕ, ◌≤◌, ◌&&◌, if◌then◌else◌, flat_map, filter, length, nat_lt}
-use Rattle.volt_wire.specs.declared.actor.Actor.{Actor}
-use Rattle.volt_wire.specs.declared.actor.Actor.TheVariants.{Site}
+use Rattle.log_laws.proofs.Names.{◌≡◌, Bool, true, false, List, [], ◌∷◌, ◌++◌, append_assoc, refl, sym, subst, ap, ◌∙◌, ◌⊎◌, inl, inr, ◌==◌, true≢false, arith, eqb-true, nat_tests, length-append, map-append, filter-append, ℕ, ◌≤◌, ◌&&◌, if◌then◌else◌, flat_map, filter, length, nat_lt, Actor, Site, term_in, same, Letter, Waiting, no_sends, of_term, above_term, SiteState, site_term, on_join_ask, rest, set_at, In, eqb-same, in-left, in-right, in-cases, set-here, set-there, same-true, sent-nothing, LogState, Logs, between, ask_of, asks_in, wait_of, asks_waiting, asks_kept, asks_of_term, asked}
 use Rattle.volt_wire.specs.declared.message.Msg.TheVariants as msg
-use Rattle.cluster_model.specs.Words.{term_in}
-use Rattle.cluster_model.specs.Letters.{same, Letter, Waiting, no_sends, of_term, above_term}
-use Rattle.cluster_model.specs.SiteState.{SiteState, site_term}
-use Rattle.cluster_model.specs.Site.{on_join_ask}
-use Rattle.cluster_model.specs.World.{rest, set_at}
-use Rattle.cluster_steps.specs.Lists.{In}
-use Rattle.cluster_steps.proofs.Lists.{eqb-same, in-left, in-right, in-cases, set-here, set-there}
-use Rattle.word_laws.proofs.Steps.{same-true}
-use Rattle.cluster_steps.proofs.Channels.{sent-nothing}
-use Rattle.log_laws.specs.Histories.{LogState, Logs, between, ask_of, asks_in, wait_of, asks_waiting, asks_kept, asks_of_term, asked}
 use Rattle.log_laws.proofs.Kept.Moves.{after_site, site_popped, left}
-use Rattle.log_laws.proofs.Plain.Lines.{waits-push}
+use Rattle.log_laws.proofs.Plain.{flat-push, one-and-others}
 
 -- ---- no more than before
 
@@ -35,36 +18,24 @@ pub at-most-is : (xs ys : List ℕ) → ys ≡ xs → AtMost xs ys
 at-most-is xs ys e = subst (λ z. AtMost xs z) (sym e) (at-most-same xs)
 
 pub at-most-then : (xs ys zs : List ℕ) → AtMost xs ys → AtMost ys zs → AtMost xs zs
-at-most-then xs ys zs h k = record {
-  shorter = let a = h.shorter in let b = k.shorter in omega (arith, a, b);
-  within = λ y i. h.within y (k.within y i);
-}
+at-most-then xs ys zs h k = record { shorter = let a = h.shorter in let b = k.shorter in omega (arith, a, b); within = λ y i. h.within y (k.within y i) }
 
 pub at-most-both : (xs ys as_ bs : List ℕ) → AtMost xs ys → AtMost as_ bs → AtMost (xs ++ as_) (ys ++ bs)
 at-most-both xs ys as_ bs h k = record {
   shorter = rw (length-append ys bs, length-append xs as_) (let a = h.shorter in let b = k.shorter in omega (arith, a, b));
-  within = λ y i. elim (in-cases y ys bs i) [
-    | inl j ↦ in-left y xs as_ (h.within y j)
-    | inr j ↦ in-right y xs as_ (k.within y j)
-  ];
+  within = λ y i. elim (in-cases y ys bs i) [ inl j ↦ in-left y xs as_ (h.within y j) | inr j ↦ in-right y xs as_ (k.within y j) ];
 }
 
 -- the other way round
 pub at-most-swap : (xs ys : List ℕ) → AtMost (xs ++ ys) (ys ++ xs)
 at-most-swap xs ys = record {
   shorter = rw (length-append ys xs, length-append xs ys) (omega arith);
-  within = λ y i. elim (in-cases y ys xs i) [
-    | inl j ↦ in-right y xs ys j
-    | inr j ↦ in-left y xs ys j
-  ];
+  within = λ y i. elim (in-cases y ys xs i) [ inl j ↦ in-right y xs ys j | inr j ↦ in-left y xs ys j ];
 }
 
 -- without what is ahead, or behind
 pub at-most-behind : (xs ys : List ℕ) → AtMost (xs ++ ys) ys
-at-most-behind xs ys = record {
-  shorter = rw (length-append xs ys) (omega arith);
-  within = λ y i. in-right y xs ys i;
-}
+at-most-behind xs ys = record { shorter = rw (length-append xs ys) (omega arith); within = λ y i. in-right y xs ys i }
 
 -- what is left of none, and of one
 pub at-most-none : (xs ys : List ℕ) → xs ≡ [] → AtMost xs ys → ys ≡ []
@@ -73,10 +44,7 @@ at-most-none xs (y ∷ ys) e h = absurd (subst (λ z. In y z) e (h.within y (inl
 
 pub at-most-one : (xs ys : List ℕ) (a : ℕ) → xs ≡ a ∷ [] → AtMost xs ys → (ys ≡ []) ⊎ (ys ≡ a ∷ [])
 at-most-one xs [] a e h = inl refl
-at-most-one xs (y ∷ []) a e h = elim (subst (λ z. In y z) e (h.within y (inl refl))) [
-  | inl k ↦ inr (ap (λ z. z ∷ []) (sym k))
-  | inr i ↦ absurd i
-]
+at-most-one xs (y ∷ []) a e h = elim (subst (λ z. In y z) e (h.within y (inl refl))) [ inl k ↦ inr (ap (λ z. z ∷ []) (sym k)) | inr i ↦ absurd i ]
 at-most-one xs (y ∷ z ∷ ys) a e h = let n = ap length e in let s = h.shorter in absurd (omega (arith, n, s))
 
 -- ---- one of several lists moves on
@@ -150,20 +118,43 @@ at-most-parted f p q apart (x ∷ xs) = choice (p x) (q x) refl refl (at-most-pa
 abbrev pub AsksLess : LogState → LogState → Type 0
 AsksLess S T = (c l t : ℕ) → AtMost (asked S c l t) (asked T c l t)
 
+-- In this term, with these letters under way from slot c to a site, and with these messages that it takes next.
+abbrev pub asked_of : ℕ → ℕ → List Letter → SiteState → List Waiting → List ℕ
+asked_of c t ls s ws = asks_in t ls ++ asks_waiting c t s.waiting ++ asks_waiting c t ws ++ asks_of_term c t s
+
+pub asks-moved : (c t : ℕ) (ls ms : List Letter) (s n : SiteState) (ws : List Waiting) → ms ≡ ls → n ≡ s → asked_of c t ms n ws ≡ asked_of c t ls s ws
+asks-moved c t ls ms s n ws e f = ap (λ z. asked_of c t z n ws) e ∙ ap (λ z. asked_of c t ls z ws) f
+
+-- where the site keeps no more
+pub keeps-less : (c t : ℕ) (ls : List Letter) (s n : SiteState) (ws : List Waiting) → n.waiting ≡ s.waiting → AtMost (asks_of_term c t s) (asks_of_term c t n)
+    → AtMost (asked_of c t ls s ws) (asked_of c t ls n ws)
+keeps-less c t ls s n ws waiting kept = let as_ = asks_in t ls ++ asks_waiting c t s.waiting ++ asks_waiting c t ws in
+    rw waiting (at-most-both as_ as_ (asks_of_term c t s) (asks_of_term c t n) (at-most-same as_) kept)
+
+-- It is under way, waits, is taken next or is kept.
+pub in-asked : (S : LogState) (a c t x : ℕ)
+    → (In x (asks_in t (between S a c)) ⊎ In x (asks_waiting a t (S.sites c).waiting)) ⊎ (In x (asks_waiting a t (S.pending c)) ⊎ In x (asks_of_term a t (S.sites c)))
+    → In x (asked S a c t)
+in-asked S a c t x k =
+    let bs = asks_in t (between S a c) in
+    let ws = asks_waiting a t (S.sites c).waiting in
+    let ps = asks_waiting a t (S.pending c) in
+    let ks = asks_of_term a t (S.sites c) in
+    elim k [
+      | inl (inl i) ↦ in-left x (bs ++ ws ++ ps) ks (in-left x (bs ++ ws) ps (in-left x bs ws i))
+      | inl (inr i) ↦ in-left x (bs ++ ws ++ ps) ks (in-left x (bs ++ ws) ps (in-right x bs ws i))
+      | inr (inl i) ↦ in-left x (bs ++ ws ++ ps) ks (in-right x (bs ++ ws) ps i)
+      | inr (inr i) ↦ in-right x (bs ++ ws ++ ps) ks i
+    ]
+
 -- where one site alone has changed
 pub asks-at : (S T : LogState) (i : ℕ)
     → ((l : ℕ) → (l ≡ i → ⊥) → (T.sites l ≡ S.sites l) × (T.pending l ≡ S.pending l) × ((c : ℕ) → between T c l ≡ between S c l))
     → ((c t : ℕ) → AtMost (asked S c i t) (asked T c i t)) → AsksLess S T
-asks-at S T i others here c l t = elim (cases_eq l i) [
-  | inl e ↦ subst (λ z. AtMost (asked S c z t) (asked T c z t)) (sym e) (here c t)
-  | inr n ↦ at-most-is (asked S c l t) (asked T c l t) (same-asks (others l n))
-]
+asks-at S T i others here c l t = one-and-others (λ l. AtMost (asked S c l t) (asked T c l t)) i (here c t) (λ l n. at-most-is (asked S c l t) (asked T c l t) (same-asks l (others l n))) l
   where
-    same-asks : (T.sites l ≡ S.sites l) × (T.pending l ≡ S.pending l) × ((c : ℕ) → between T c l ≡ between S c l) → asked T c l t ≡ asked S c l t
-    same-asks (s, p, b) =
-        ap (λ z. asks_in t z ++ asks_waiting c t (T.sites l).waiting ++ asks_waiting c t (T.pending l) ++ asks_of_term c t (T.sites l)) (b c)
-        ∙ ap (λ z. asks_in t (between S c l) ++ asks_waiting c t z.waiting ++ asks_waiting c t (T.pending l) ++ asks_of_term c t z) s
-        ∙ ap (λ z. asks_in t (between S c l) ++ asks_waiting c t (S.sites l).waiting ++ asks_waiting c t z ++ asks_of_term c t (S.sites l)) p
+    same-asks : (l : ℕ) → (T.sites l ≡ S.sites l) × (T.pending l ≡ S.pending l) × ((c : ℕ) → between T c l ≡ between S c l) → asked T c l t ≡ asked S c l t
+    same-asks l (s, p, b) = asks-moved c t (between S c l) (between T c l) (S.sites l) (T.sites l) (T.pending l) (b c) s ∙ ap (asked_of c t (between S c l) (S.sites l)) p
 
 -- ---- the first message of a channel
 
@@ -224,18 +215,16 @@ module _ (S : LogState) (from : Actor) (i : ℕ) (l : Letter) (ls : List Letter)
   popped-site : (s : SiteState)
       → ((c t : ℕ) → AtMost ((wait_of c t (came from l) ++ asks_in t (between (site_popped S from i) c i)) ++ asks_waiting c t (S.sites i).waiting
       ++ asks_waiting c t (S.pending i) ++ asks_of_term c t (S.sites i))
-      (asks_in t (between (site_popped S from i) c i) ++ asks_waiting c t s.waiting ++ asks_waiting c t (S.pending i) ++ asks_of_term c t s))
+      (asked_of c t (between (site_popped S from i) c i) s (S.pending i)))
       → AsksLess S (after_site (site_popped S from i) i s no_sends G)
   popped-site s h = asks-at S (after_site (site_popped S from i) i s no_sends G) i (popped-others s) (λ c t.
-      subst (λ ch. AtMost (asked S c i t) (asks_in t (ch (Site c) (Site i)) ++ asks_waiting c t (set_at S.sites i s i).waiting
-      ++ asks_waiting c t (S.pending i) ++ asks_of_term c t (set_at S.sites i s i)))
-      (sym (sent-nothing (site_popped S from i).words.channel (Site i)))
+      subst (λ ch. AtMost (asked S c i t) (asked_of c t (ch (Site c) (Site i)) (set_at S.sites i s i) (S.pending i))) (sym (sent-nothing (site_popped S from i).words.channel (Site i)))
       (rw (set-here S.sites i s, popped-asks S from i l ls e c t) (h c t)))
 
   -- it waits
   pub waits-asks : AsksLess S (after_site (site_popped S from i) i (record (S.sites i) { waiting = (S.sites i).waiting ++ came from l ∷ [] }) no_sends G)
   waits-asks = popped-site (record (S.sites i) { waiting = (S.sites i).waiting ++ came from l ∷ [] }) (λ c t.
-      rw (waits-push c t (S.sites i).waiting (came from l))
+      rw (flat-push (wait_of c t) (S.sites i).waiting (came from l))
       (first-to-second (wait_of c t (came from l)) (asks_in t (between (site_popped S from i) c i)) (asks_waiting c t (S.sites i).waiting)
       (asks_waiting c t (S.pending i)) (asks_of_term c t (S.sites i))))
 
@@ -243,12 +232,10 @@ module _ (S : LogState) (from : Actor) (i : ℕ) (l : Letter) (ls : List Letter)
   pub popped-less : (s : SiteState) → s.waiting ≡ (S.sites i).waiting → ((c t : ℕ) → AtMost (asks_of_term c t (S.sites i)) (asks_of_term c t s))
       → AsksLess S (after_site (site_popped S from i) i s no_sends G)
   popped-less s same kept = popped-site s (λ c t.
-      let bs = asks_in t (between (site_popped S from i) c i) in
-      let ws = asks_waiting c t (S.sites i).waiting in
-      let ps = asks_waiting c t (S.pending i) in
-      rw same (at-most-then ((wait_of c t (came from l) ++ bs) ++ ws ++ ps ++ asks_of_term c t (S.sites i)) (bs ++ ws ++ ps ++ asks_of_term c t (S.sites i))
-      (bs ++ ws ++ ps ++ asks_of_term c t s) (first-gone (wait_of c t (came from l)) bs ws ps (asks_of_term c t (S.sites i)))
-      (at-most-both (bs ++ ws ++ ps) (bs ++ ws ++ ps) (asks_of_term c t (S.sites i)) (asks_of_term c t s) (at-most-same (bs ++ ws ++ ps)) (kept c t))))
+      let ls = between (site_popped S from i) c i in
+      at-most-then _ (asked_of c t ls (S.sites i) (S.pending i)) (asked_of c t ls s (S.pending i))
+      (first-gone (wait_of c t (came from l)) (asks_in t ls) (asks_waiting c t (S.sites i).waiting) (asks_waiting c t (S.pending i)) (asks_of_term c t (S.sites i)))
+      (keeps-less c t ls (S.sites i) s (S.pending i) same (kept c t)))
 
   -- it is an ask, which the site keeps
   pub popped-kept : (a slot : ℕ) → l.body ≡ msg.JoinAsk a slot → from ≡ Site slot → l.term ≡ site_term (S.sites i)
@@ -269,14 +256,9 @@ module _ (S : LogState) (i : ℕ) (ws : List Waiting) (G : Logs) where
       × ((c : ℕ) → between (after_site (left S i ws) i s no_sends G) c k ≡ between S c k)
   left-others s k n = (set-there S.sites i s k n, set-there S.pending i ws k n, λ c. ap (λ ch. ch (Site c) (Site k)) (sent-nothing S.words.channel (Site i)))
 
-  left-site : (s : SiteState)
-      → ((c t : ℕ) → AtMost (asked S c i t)
-      (asks_in t (between S c i) ++ asks_waiting c t s.waiting ++ asks_waiting c t ws ++ asks_of_term c t s))
-      → AsksLess S (after_site (left S i ws) i s no_sends G)
+  left-site : (s : SiteState) → ((c t : ℕ) → AtMost (asked S c i t) (asked_of c t (between S c i) s ws)) → AsksLess S (after_site (left S i ws) i s no_sends G)
   left-site s h = asks-at S (after_site (left S i ws) i s no_sends G) i (left-others s) (λ c t.
-      subst (λ ch. AtMost (asked S c i t) (asks_in t (ch (Site c) (Site i)) ++ asks_waiting c t (set_at S.sites i s i).waiting
-      ++ asks_waiting c t (set_at S.pending i ws i) ++ asks_of_term c t (set_at S.sites i s i)))
-      (sym (sent-nothing S.words.channel (Site i)))
+      subst (λ ch. AtMost (asked S c i t) (asked_of c t (ch (Site c) (Site i)) (set_at S.sites i s i) (set_at S.pending i ws i))) (sym (sent-nothing S.words.channel (Site i)))
       (rw (set-here S.sites i s, set-here S.pending i ws) (h c t)))
 
   -- all that waited is taken up that is of the term that the site has come to
@@ -302,13 +284,10 @@ module _ (S : LogState) (i : ℕ) (ws : List Waiting) (G : Logs) where
     pub left-less : (s : SiteState) → s.waiting ≡ (S.sites i).waiting → ((c t : ℕ) → AtMost (asks_of_term c t (S.sites i)) (asks_of_term c t s))
         → AsksLess S (after_site (left S i ws) i s no_sends G)
     left-less s same kept = left-site s (λ c t.
-        let bs = asks_in t (between S c i) in
-        let old = asks_waiting c t (S.sites i).waiting in
-        let ps = asks_waiting c t ws in
-        let ks = asks_of_term c t (S.sites i) in
-        rw (same, e) (at-most-then (bs ++ old ++ (wait_of c t x ++ ps) ++ ks) (bs ++ old ++ ps ++ ks) (bs ++ old ++ ps ++ asks_of_term c t s)
-        (third-gone (wait_of c t x) bs old ps ks)
-        (at-most-both (bs ++ old ++ ps) (bs ++ old ++ ps) ks (asks_of_term c t s) (at-most-same (bs ++ old ++ ps)) (kept c t))))
+        let ls = between S c i in
+        rw e (at-most-then _ (asked_of c t ls (S.sites i) ws) (asked_of c t ls s ws)
+        (third-gone (wait_of c t x) (asks_in t ls) (asks_waiting c t (S.sites i).waiting) (asks_waiting c t ws) (asks_of_term c t (S.sites i)))
+        (keeps-less c t ls (S.sites i) s ws same (kept c t))))
 
     -- it is an ask, which the site keeps
     pub left-kept : (a slot : ℕ) → x.letter.body ≡ msg.JoinAsk a slot → x.from ≡ Site slot → x.letter.term ≡ site_term (S.sites i)

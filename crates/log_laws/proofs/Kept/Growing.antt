@@ -1,28 +1,11 @@
 -- A turn in which the log of a member grows: what holds, holds after it, where the messages and the copies of its partition allow it.
-use Rattle.std.proofs.Common.{◌≡◌, ◌<◌, Bool, true, false, List, [], ◌++◌, refl, sym, subst, ap, ◌∙◌, inl, inr, true≢false, arith}
-use Rattle.std.proofs.lemmas.Bool.{cases_eq}
-use Rattle.std.proofs.lemmas.List.{length-append}
-use Rattle.std.specs.Prelude.{ℕ, ◌≤◌, Option, Some, None}
-use Rattle.std.specs.List.{AllByRecursion}
-use Rattle.volt_base.specs.declared.entry.Entry.{Entry}
-use Rattle.volt_wire.specs.Word.{Membership}
-use Rattle.volt_wire.specs.declared.actor.Actor.{Actor}
-use Rattle.volt_wire.specs.declared.actor.Actor.TheVariants.{Director, Agent, Site}
-use Rattle.cluster_model.specs.Words.{host_of_slot, term_of, leader}
-use Rattle.cluster_model.specs.Letters.{Letter, Waiting}
-use Rattle.cluster_model.specs.SiteState.{SiteState, Joining, Joiner, Scanning}
-use Rattle.cluster_model.specs.World.{set_at}
-use Rattle.cluster_model.specs.Laws.{starts_in}
-use Rattle.cluster_steps.specs.Lists.{In}
-use Rattle.cluster_steps.proofs.Lists.{all-mono, none-and-some, set-here, set-there, set-both}
-use Rattle.word_laws.proofs.Steps.{channel-holds}
-use Rattle.log_laws.specs.Histories.{LogState, Leadership, FollowsIn, LeadsIn, MemberOk, JoinerOk, AckOk, ReportOk, AsksToJoin, CountedOk, SiteWaitingOk, KeepsOk, SiteOk, SiteLetterOk, ForeignOk, ToldOk, BeginsAt, IsSlot, IsCounted, LogsHold, agent_to_site, follows, line, flow, between, part, site_start, log_at, term_at}
-use Rattle.cluster_steps.proofs.Prefixes.{prefix-grows}
+use Rattle.log_laws.proofs.Names.{◌≡◌, ◌<◌, Bool, true, false, List, [], ◌++◌, refl, sym, subst, ap, ◌∙◌, inl, true≢false, arith, length-append, ℕ, ◌≤◌, Option, Some, None, AllByRecursion, Entry, Membership, Actor, Director, Agent, Site, host_of_slot, term_of, leader, Letter, Waiting, SiteState, Joining, Joiner, Scanning, set_at, starts_in, In, all-mono, none-and-some, set-here, set-there, set-both, channel-holds, prefix-grows, same-some, LogState, Leadership, FollowsIn, LeadsIn, MemberOk, JoinerOk, SiteWaitingOk, KeepsOk, SiteOk, SiteLetterOk, ForeignOk, ToldOk, BeginsAt, IsSlot, IsCounted, LogsHold, agent_to_site, follows, line, flow, between, part, site_start, log_at, term_at}
 use Rattle.log_laws.proofs.Kept.Moves.{SiteRises, site-stays, Stays, LogsLater, SameLeaderships, JoinsOn}
-use Rattle.log_laws.proofs.Kept.Laters.{letter-later, waiting-later, ack-later, report-later, ask-later, counted-later, entered-later, streamed-later, leaderships-later, unleds-later, first-later, loads-later}
-use Rattle.log_laws.proofs.Kept.Plumbing.{words-later}
-use Rattle.log_laws.proofs.Kept.Keeps.{still-same, kept-same, counted-from, keeps-with, site-keeps-with}
+use Rattle.log_laws.proofs.Kept.Laters.{letter-later, ask-later, leaderships-later, unleds-later, loads-later, entereds-later, streameds-later, asks-later, counteds-later, keeps-at, waitings-later, first-later}
+use Rattle.log_laws.proofs.Kept.Plumbing.{words-later, later-by}
+use Rattle.log_laws.proofs.Kept.Keeps.{still-same, kept-same, counted-from, keeps-with, site-keeps-with, RunsOn, site-runs}
 use Rattle.log_laws.proofs.Kept.KeepsViews.{views-keeps-with, leaves-same}
+use Rattle.log_laws.proofs.Plain.{one-and-others}
 
 -- What must be so of the messages behind it: those from agents and the director are as they were, others may be new or taken.
 pub record Carries (S : LogState) (ch : Actor → Actor → List Letter) : Type 0 where
@@ -64,17 +47,7 @@ module _ (S : LogState) (H : LogsHold S) (i : ℕ) (more : List Entry) (floor : 
   }) (λ h n. site-stays (S.sites h)) c
 
   pub grew-later : LogsLater S T
-  grew-later = record {
-    words = words-later S ch;
-    ran = λ c a k. k;
-    greatest = set-both (λ h x. (S.sites h).greatest ≤ x.greatest) S.sites i s (omega arith) (λ h n. omega arith);
-    sites = λ c. inl (stays c);
-    entered = λ c t e is. is;
-    entered_now = λ c t e is. inl is;
-    streamed = λ c t x is. is;
-    streamed_now = λ c t x is. inl is;
-    reach = λ p t. omega arith;
-  }
+  grew-later = later-by S T (words-later S ch) refl refl refl stays (λ p t. omega arith)
 
   pub grew-other : (c : ℕ) → (c ≡ i → ⊥) → T.sites c ≡ S.sites c
   grew-other c n = set-there S.sites i s c n
@@ -84,7 +57,7 @@ module _ (S : LogState) (H : LogsHold S) (i : ℕ) (more : List Entry) (floor : 
       S.sites i s (λ k. k) (λ h n k. k) c
 
   waits : (c : ℕ) (ws : List Waiting) → AllByRecursion (SiteWaitingOk S c) ws → AllByRecursion (SiteWaitingOk T c) ws
-  waits c ws k = all-mono (SiteWaitingOk S c) (SiteWaitingOk T c) (waiting-later S T H grew-later c (stays c).start joins-on) ws k
+  waits c = waitings-later S T H grew-later c (stays c).start joins-on
 
   -- ---- the site itself
 
@@ -114,36 +87,13 @@ module _ (S : LogState) (H : LogsHold S) (i : ℕ) (more : List Entry) (floor : 
   }
 
   keeps-own : 0 < site_start S i → KeepsOk S i → KeepsOk T i
-  keeps-own up k = record {
-    acks = rw own (all-mono (λ a. IsSlot S a.0 → AckOk S a.0 (term_at S i) a.1) (λ a. IsSlot T a.0 → AckOk T a.0 (term_at S i) a.1)
-        (λ a h slot. ack-later S T H grew-later a.0 (term_at S i) a.1 (h slot)) (S.sites i).acks k.acks);
-    reports = rw own (all-mono (λ r. ReportOk S (part S i) r.slot (term_at S i) r.position r.floor r.tail)
-        (λ r. ReportOk T (part S i) r.slot (term_at S i) r.position r.floor r.tail)
-        (λ r. report-later S T H grew-later (part S i) r.slot (term_at S i) r.position r.floor r.tail) (S.sites i).reports k.reports);
-    joiners = rw own (all-mono (CountedOk S (part S i) (term_at S i)) (CountedOk T (part S i) (term_at S i)) (counted-later S T H grew-later (part S i) (term_at S i))
-        (S.sites i).joiners k.joiners);
-    alone = rw own k.alone;
-    leads = rw own k.leads;
-    asks = rw own (all-mono (λ a. AsksToJoin S (part S i) a.slot (term_at S i) a.start) (λ a. AsksToJoin T (part S i) a.slot (term_at S i) a.start)
-        (λ a. ask-later S T H grew-later (part S i) a.slot (term_at S i) a.start (joins-on a.slot)) (S.sites i).asks k.asks);
-    waiting = subst (λ x. AllByRecursion (SiteWaitingOk T i) x.waiting) (sym own) (waits i (S.sites i).waiting k.waiting);
-    pending = waits i (S.pending i) k.pending;
-    on_disk = rw (own, log_at) (rw length-append (let a = k.on_disk in omega (arith, a)));
-    held = rw own k.held;
-  }
+  keeps-own up k = keeps-at S T H grew-later i s own refl k.acks k.reports (counteds-later S T H grew-later (part S i) (term_at S i) (S.sites i).joiners k.joiners) k.alone k.leads
+      (asks-later S T H grew-later (part S i) (term_at S i) joins-on (S.sites i).asks k.asks) (waits i (S.sites i).waiting k.waiting) (waits i (S.pending i) k.pending)
+      (rw length-append (let a = k.on_disk in omega (arith, a))) k.held
 
   site-own : 0 < site_start S i → (S.sites i).joining ≡ None → (w : Membership) → (S.sites i).view ≡ Some w → MemberOk T i w → SiteOk T i
-  site-own up none w view mine = let k = H.sites i in record {
-    environment = rw (own, site_start) k.environment;
-    ran = rw (own, site_start) k.ran;
-    term = rw own k.term;
-    earlier = rw own k.earlier;
-    member = λ _ _. (w, ap (λ x. x.view) own ∙ view, mine);
-    joiner = λ j e. absurd (none-and-some none (sym (ap (λ x. x.joining) own) ∙ e));
-    keeps = λ _. keeps-own up (k.keeps up);
-    stopped = λ e. absurd (omega (arith, up, sym (ap (λ x. x.start) own) ∙ e));
-    blank = λ e. absurd (omega (arith, up, sym (ap (λ x. x.start) own) ∙ e));
-  }
+  site-own up none w view mine = site-runs S T H grew-later i (subst (RunsOn (S.sites i)) (sym own) search) refl (λ _ _ v is _. subst (MemberOk T i) (same-some (sym view ∙ is)) mine)
+      (λ j k is _ _. absurd (none-and-some none is)) keeps-own (λ z _. absurd (omega (arith, up, z))) (H.sites i)
 
   site-other : (c : ℕ) → (c ≡ i → ⊥) → ((v : Membership) → MemberOk S c v → MemberOk T c v) → ((j : Joining) → JoinerOk S c j → JoinerOk T c j) → SiteOk T c
   site-other c n member joiner = site-keeps-with S T H grew-later c (still-same (S.sites c) (T.sites c) (grew-other c n)) refl
@@ -164,10 +114,7 @@ module _ (S : LogState) (H : LogsHold S) (i : ℕ) (more : List Entry) (floor : 
       → LogsHold T
   grew-holds up none same carries w view mine members joiners = record {
     words = channel-holds S.words ch (λ h g. carries.agents h (Agent g)) (λ h. ap starts_in (carries.director h)) H.words;
-    sites = λ c. elim (cases_eq c i) [
-      | inl q ↦ subst (SiteOk T) (sym q) (site-own up none w view mine)
-      | inr n ↦ site-other c n (members c n) (joiners c n)
-    ];
+    sites = one-and-others (SiteOk T) i (site-own up none w view mine) (λ c n. site-other c n (members c n) (joiners c n));
     views = λ c. views-keeps-with S T H grew-later c (stays c).start
         (set-both (λ h x. x.view ≡ (S.sites h).view) S.sites i s refl (λ h n. refl) c) refl refl (λ a m. m)
         (leaves-same (site_start S c) (agent_to_site S c) (agent_to_site T c) (carries.agents (host_of_slot S.words.deployment c) (Site c))) (H.views c);
@@ -176,11 +123,8 @@ module _ (S : LogState) (H : LogsHold S) (i : ℕ) (more : List Entry) (floor : 
         (ch (Site j) (Site c)) (carries.letters j c slot);
     foreign = carries.foreign;
     loads = loads-later S T H grew-later refl refl carries.told (λ h g. carries.agents h (Agent g));
-    entered = λ c t e is. entered-later S T H grew-later c t e (H.entered c t e is) same
-        (λ runs. let a = ((H.entered c t e is).running (sym (stays c).start ∙ runs)).2 in let b = (stays c).log in omega (arith, a, b)) (H.entered c t e is).since;
-    streamed = λ c t x is. let k = H.streamed c t x is in streamed-later S T H grew-later c t x k same k.apart
-        (λ runs. let a = (k.running (sym (stays c).start ∙ runs)).2 in let b = (stays c).log in omega (arith, a, b))
-        (counted c x.start x.stream_start k.word);
+    entered = entereds-later S T H grew-later same (λ p t. refl);
+    streamed = λ c t x is. let k = H.streamed c t x is in streameds-later S T H grew-later same (λ p t. refl) c t x k k.apart (counted c x.start x.stream_start k.word);
     leaderships = leaderships-later S T H grew-later same (λ p t g is. (H.leaderships p t g is).within);
     unled = λ p t. unleds-later S T H grew-later same p t refl;
     some = H.some;

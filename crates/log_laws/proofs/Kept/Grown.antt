@@ -1,12 +1,6 @@
 -- What turns of sites add to the history of terms that are led: nothing, at one place, and one turn behind another.
-use Rattle.std.proofs.Common.{◌≡◌, sym, subst, ap, ◌∙◌, inl, inr, refl, arith}
-use Rattle.std.proofs.lemmas.Bool.{cases_eq}
-use Rattle.std.specs.Prelude.{ℕ, ◌≤◌, Some, length}
-use Rattle.cluster_model.specs.Words.{Deployment}
-use Rattle.cluster_model.specs.SiteState.{SiteState}
-use Rattle.log_laws.specs.Histories.{LogState, Logs, log_at}
-use Rattle.cluster_steps.proofs.Prefixes.{prefix-refl, prefix-trans}
-use Rattle.log_laws.proofs.Kept.Moves.{LogsLater, Onward, Heads, Grown, Enters}
+use Rattle.log_laws.proofs.Names.{◌≡◌, sym, subst, ap, ◌∙◌, inl, inr, refl, arith, cases_eq, ℕ, ◌≤◌, Some, Deployment, SiteState, prefix-refl, prefix-trans, Logs}
+use Rattle.log_laws.proofs.Kept.Moves.{Onward, Heads, Grown, Enters}
 
 -- ---- a later history
 
@@ -36,29 +30,12 @@ enters-same i low F G same = record { kept = λ c t e is. ap (λ f. f c t) same 
 pub enters-then : (i low high : ℕ) (F G H : Logs) → low ≤ high → Enters i low F G → Enters i high G H → Enters i low F H
 enters-then i low high F G H longer first second = record {
   kept = λ c t e is. second.kept c t e (first.kept c t e is);
-  now = λ t e is. elim (second.now t e is) [
-    | inl old ↦ first.now t e old
-    | inr long ↦ inr (omega (arith, longer, long))
-  ];
-}
-
--- in a later state
-pub enters-later : (S T : LogState) (i : ℕ) → LogsLater S T → Enters i (length (log_at S i)) S.logs T.logs
-enters-later S T i f = record {
-  kept = f.entered;
-  now = λ t e is. elim (f.entered_now i t e is) [
-    | inl old ↦ inl old
-    | inr new ↦ inr new.log
-  ];
+  now = λ t e is. elim (second.now t e is) [ inl old ↦ first.now t e old | inr long ↦ inr (omega (arith, longer, long)) ];
 }
 
 -- ---- turns of a site
 
 module _ (D : Deployment) (i : ℕ) where
-  -- of another place that is the same one
-  heads-at : (s : SiteState) (p t q u : ℕ) → q ≡ p → u ≡ t → Heads D i s p t → Heads D i s q u
-  heads-at s p t q u e f h = subst (λ z. Heads D i s z u) (sym e) (subst (Heads D i s p) (sym f) h)
-
   -- where the site goes on with its start in its word
   heads-on : (a b : SiteState) → b.start ≡ a.start → b.view ≡ a.view → (p t : ℕ) → Heads D i a p t → Heads D i b p t
   heads-on a b start view p t h = record {
@@ -84,10 +61,7 @@ module _ (D : Deployment) (i : ℕ) where
     onward = onward;
     led = λ q u h is. elim (cases_eq q p) [
       | inr n ↦ inl (sym (apart q u (λ e _. n e)) ∙ is)
-      | inl e ↦ elim (cases_eq u t) [
-        | inr n ↦ inl (sym (apart q u (λ _ f. n f)) ∙ is)
-        | inl f ↦ inr (heads-at s p t q u e f heads)
-      ]
+      | inl e ↦ elim (cases_eq u t) [ inr n ↦ inl (sym (apart q u (λ _ f. n f)) ∙ is) | inl f ↦ inr (subst (λ z. Heads D i s z u) (sym e) (subst (Heads D i s p) (sym f) heads)) ]
     ];
   }
 
@@ -95,17 +69,11 @@ module _ (D : Deployment) (i : ℕ) where
   pub grown-on : (a b : SiteState) (F G : Logs) → b.start ≡ a.start → b.view ≡ a.view → Grown D i a F G → Grown D i b F G
   grown-on a b F G start view k = record {
     onward = k.onward;
-    led = λ p t h is. elim (k.led p t h is) [
-      | inl old ↦ inl old
-      | inr new ↦ inr (heads-on a b start view p t new)
-    ];
+    led = λ p t h is. elim (k.led p t h is) [ inl old ↦ inl old | inr new ↦ inr (heads-on a b start view p t new) ];
   }
 
   pub grown-then : (a b : SiteState) (F G H : Logs) → b.start ≡ a.start → b.view ≡ a.view → Grown D i a F G → Grown D i b G H → Grown D i b F H
   grown-then a b F G H start view first second = record {
     onward = onward-then F G H first.onward second.onward;
-    led = λ p t h is. elim (second.led p t h is) [
-      | inl old ↦ (grown-on a b F G start view first).led p t h old
-      | inr new ↦ inr new
-    ];
+    led = λ p t h is. elim (second.led p t h is) [ inl old ↦ (grown-on a b F G start view first).led p t h old | inr new ↦ inr new ];
   }

@@ -1,118 +1,40 @@
--- States in which other messages are under way or wait, and sites differ in what isn't looked at: what holds, holds in them.
-use Rattle.std.proofs.Common.{◌≡◌, ◌<◌, List, [], refl, sym, subst, ◌∙◌, inl, arith}
-use Rattle.std.specs.Prelude.{ℕ}
-use Rattle.std.specs.List.{AllByRecursion}
-use Rattle.volt_wire.specs.Word.{Membership}
-use Rattle.volt_wire.specs.declared.actor.Actor.{Actor}
-use Rattle.volt_wire.specs.declared.actor.Actor.TheVariants.{Agent, Site}
-use Rattle.cluster_model.specs.Words.{host_of_slot}
-use Rattle.cluster_model.specs.Letters.{Letter, Waiting}
-use Rattle.cluster_model.specs.SiteState.{SiteState, Joining}
-use Rattle.cluster_model.specs.World.{set_at}
+-- States in which other messages are under way, and sites know of others that wait, of other asks and reports: what holds, holds in them.
+use Rattle.log_laws.proofs.Names.{◌≡◌, ◌<◌, List, [], refl, sym, subst, inl, arith, ℕ, AllByRecursion, Actor, Agent, Site, host_of_slot, Letter, Waiting, set_at, all-mono, set-both, fun_ext, set-here, set-there, set-same, SiteState, LogState, LogsHold, SiteLetterOk, ForeignOk, ToldOk, SiteWaitingOk, BeginsAt, MeantFor, IsSlot, site_start, term_at, between, agent_to_site, line, flow, stream_ends_in, part, AsksToJoin, KeepsOk, ReportOk}
 use Rattle.word_laws.specs.Histories as word
-use Rattle.cluster_steps.proofs.Lists.{all-mono, set-both, set-same}
-use Rattle.log_laws.specs.Histories.{LogState, LogsHold, IsCounted, SiteLetterOk, ForeignOk, ToldOk, SiteWaitingOk, EndOk, BeginsAt, MeantFor, IsSlot, KeepsOk, ViewsOk, site_start, term_at, between, agent_to_site, line, flow, stream_ends_in, part}
-use Rattle.log_laws.proofs.Kept.Moves.{LogsLater, SameLeaderships, JoinsOn}
+use Rattle.log_laws.proofs.Kept.Moves.{LogsLater, JoinsOn, SameLeaderships}
 use Rattle.log_laws.proofs.Kept.Asked.{AsksLess}
-use Rattle.log_laws.proofs.Kept.Laters.{same-leaderships, ask-later, waiting-later, letter-later-with, end-later-if, loads-later, entered-later, streamed-later, leaderships-later}
-use Rattle.log_laws.proofs.Kept.Keeps.{SiteStays, still-same, SameKept, kept-same, SameFrom, KeepsNone, counted-keeps, site-keeps, keeps-with}
+use Rattle.log_laws.proofs.Kept.Laters.{same-leaderships, ask-later, letter-later-with, end-later-if, loads-later, leaderships-later, entereds-later, streameds-later, waitings-later, asks-later, counteds-later, keeps-at}
+use Rattle.log_laws.proofs.Kept.Keeps.{site-keeps}
 use Rattle.log_laws.proofs.Kept.KeepsViews.{LeavesViews, foreign-later, leaves-same, views-keeps-with}
-use Rattle.log_laws.proofs.Kept.Plumbing.{words-later}
+use Rattle.log_laws.proofs.Kept.Plumbing.{words-later, later-by}
+use Rattle.log_laws.proofs.Plain.{one-and-others}
 
 -- ---- the state
 
--- with other channels, other sites, and other messages that waited
+-- a site with what waits, the asks and the reports of the second one
+abbrev pub noting : SiteState → SiteState → SiteState
+noting s u = record s { waiting = u.waiting; asks = u.asks; reports = u.reports }
+
+-- with other channels, other such sites, and other messages that are to be taken
 abbrev pub logs_moved : LogState → (Actor → Actor → List Letter) → (ℕ → SiteState) → (ℕ → List Waiting) → LogState
-logs_moved S ch sites pending = record S { words = record S.words { channel = ch }; sites = sites; pending = pending }
+logs_moved S ch states pending = record S { words = record S.words { channel = ch }; sites = λ c. noting (S.sites c) (states c); pending = pending }
 
-module _ (S : LogState) (ch : Actor → Actor → List Letter) (sites : ℕ → SiteState) (pending : ℕ → List Waiting) (still : (c : ℕ) → SiteStays (S.sites c) (sites c)) where
-  abbrev T : LogState
-  T = logs_moved S ch sites pending
+-- What is so of what a slot's site notes, and of what it is to take.
+pub record NotesOk (S : LogState) (c : ℕ) (s : SiteState) (now : List Waiting) : Type 0 where
+  pub waiting : 0 < site_start S c → AllByRecursion (SiteWaitingOk S c) s.waiting
+  pub asks : 0 < site_start S c → AllByRecursion (λ a. AsksToJoin S (part S c) a.slot (term_at S c) a.start) s.asks
+  pub reports : 0 < site_start S c → AllByRecursion (λ r. ReportOk S (part S c) r.slot (term_at S c) r.position r.floor r.tail) s.reports
+  pub pending : 0 < site_start S c → AllByRecursion (SiteWaitingOk S c) now
+  pub none : site_start S c ≡ 0 → (s.waiting ≡ []) × (s.asks ≡ []) × (now ≡ [])
 
-  pub moved-later : LogsLater S T
-  moved-later = record {
-    words = words-later S ch;
-    ran = λ c a i. i;
-    greatest = λ c. let e = (still c).greatest in omega (arith, e);
-    sites = λ c. let s = still c in inl (record {
-      start = s.start;
-      earlier = s.earlier;
-      greatest = let e = s.greatest in omega (arith, e);
-      log = rw (s.log) (omega arith);
-      term = rw (s.view) (omega arith);
-      member = λ e. s.joining ∙ e;
-      loaded = λ k e. (k, sym s.joining ∙ e, λ z. z);
-    });
-    entered = λ c t e i. i;
-    entered_now = λ c t e i. inl i;
-    streamed = λ c t x i. i;
-    streamed_now = λ c t x i. inl i;
-    reach = λ p t. omega arith;
-  }
-
-  pub moved-joins : (i : ℕ) → JoinsOn S T i
-  moved-joins i w k = (k.0, (still i).joining ∙ k.1, (still i).view ∙ k.2)
-
-  -- What must hold of such a state, so that what holds, holds in it.
-  pub moved-holds : LogsHold S → word.WordsHold T.words
-      → ((c : ℕ) → SameKept (S.sites c) (sites c))
-      → ((c : ℕ) → 0 < site_start S c → (l : ℕ) → SameFrom S T c l (term_at S c))
-      → ((c : ℕ) → 0 < site_start S c → AllByRecursion (SiteWaitingOk S c) (sites c).waiting)
-      → ((c : ℕ) → 0 < site_start S c → AllByRecursion (SiteWaitingOk S c) (pending c))
-      → ((c : ℕ) → site_start S c ≡ 0 → KeepsNone S c → KeepsNone T c)
-      → ((c : ℕ) → ViewsOk T c)
-      → ((i c : ℕ) → IsSlot S c → AllByRecursion (SiteLetterOk S i c) (ch (Site i) (Site c)))
-      → ((from : Actor) (c : ℕ) → AllByRecursion (ForeignOk S c from) (ch from (Site c)))
-      → ((c h : ℕ) → AllByRecursion (ToldOk S c) (ch (Site c) (Agent h)))
-      → ((h g : ℕ) → ch (Agent h) (Agent g) ≡ S.words.channel (Agent h) (Agent g))
-      → LogsHold T
-  moved-holds H words kept from waits pends none views letters foreign told asked = record {
-    words = words;
-    sites = λ c. site-keeps S T H f c (still c) refl (record { entered = λ t e i _. i; streamed = λ t x i _. i }) (record { leadership = refl; reach = refl })
-        (from c) (λ stream_start w. counted c (site_start S c) stream_start w) (keeps c) (none c) (H.sites c);
-    views = views;
-    letters = λ i c slot. all-mono (SiteLetterOk S i c) (SiteLetterOk T i c) (letter i c) (ch (Site i) (Site c)) (letters i c slot);
-    foreign = λ a c. all-mono (ForeignOk S c a) (ForeignOk T c a) (foreign-later S T H f c a) (ch a (Site c)) (foreign a c);
-    loads = loads-later S T H f refl refl told asked;
-    entered = λ c t e i. let k = H.entered c t e i in
-        entered-later S T H f c t e k leaderships (λ is. rw ((still c).log) (k.running (sym (still c).start ∙ is)).2) k.since;
-    streamed = λ c t x i. let k = H.streamed c t x i in
-        streamed-later S T H f c t x k leaderships k.apart (λ is. rw ((still c).log) (k.running (sym (still c).start ∙ is)).2) (counted c x.start x.stream_start k.word);
-    leaderships = leaderships-later S T H f leaderships (λ p t g is. (H.leaderships p t g is).within);
-    unled = H.unled;
-    some = H.some;
-    first = H.first;
-  }
-    where
-      f : LogsLater S T
-      f = moved-later
-
-      leaderships : SameLeaderships S.logs T.logs
-      leaderships = same-leaderships S.logs T.logs refl
-
-      counted : (c a stream_start : ℕ) (w : Membership) → IsCounted S c a stream_start w → IsCounted T c a stream_start w
-      counted c a stream_start w = counted-keeps S T H f c a stream_start w (λ l k up joining view.
-          let r = k (rw ((still l).start) at up) (sym (still l).joining ∙ joining) (sym (still l).view ∙ view) in
-          (r.0, rw ((kept l).joiners) r.1, r.2, r.3, r.4))
-
-      keeps : (c : ℕ) → 0 < site_start S c → KeepsOk S c → KeepsOk T c
-      keeps c up k = keeps-with S T H f c (still c) (kept c) (λ a. ask-later S T H f (part S c) a.slot (term_at S c) a.start (moved-joins a.slot))
-          (all-mono (SiteWaitingOk S c) (SiteWaitingOk T c) (waiting-later S T H f c (still c).start moved-joins) (sites c).waiting (waits c up))
-          (all-mono (SiteWaitingOk S c) (SiteWaitingOk T c) (waiting-later S T H f c (still c).start moved-joins) (pending c) (pends c up)) k
-
-      -- the flow to a joiner is the same
-      end : (i c : ℕ) (l : Letter) → MeantFor S c l → EndOk S i c l → EndOk T i c l
-      end i c l r k = end-later-if S T H f i c l r k
-          (λ j joins start term. subst (AllByRecursion (BeginsAt k.stream_start)) (sym (same j start term)))
-          (λ x e _. inl e)
-        where
-          same : Joining → site_start S c ≡ l.start → term_at S c ≡ l.term → flow l.start l.term (between T i c) ≡ flow l.start l.term (between S i c)
-          same j start term = subst (λ s. flow s l.term (between T i c) ≡ flow s l.term (between S i c)) start
-              (subst (λ t. flow (site_start S c) t (between T i c) ≡ flow (site_start S c) t (between S i c)) term
-              (from c (subst (λ s. 0 < s) (sym start) r.0.0) i).flows)
-
-      letter : (i c : ℕ) (l : Letter) → SiteLetterOk S i c l → SiteLetterOk T i c l
-      letter i c l = letter-later-with S T H f i c l (λ a _ _. ask-later S T H f (part S c) i l.term a (moved-joins i)) (end i c l)
+pub notes-same : (S : LogState) → LogsHold S → (c : ℕ) → NotesOk S c (S.sites c) (S.pending c)
+notes-same S H c = record {
+  waiting = λ up. ((H.sites c).keeps up).waiting;
+  asks = λ up. ((H.sites c).keeps up).asks;
+  reports = λ up. ((H.sites c).keeps up).reports;
+  pending = λ up. ((H.sites c).keeps up).pending;
+  none = λ z. let k = (H.sites c).stopped z in (k.0, k.1, k.3);
+}
 
 -- ---- the channels
 
@@ -130,96 +52,81 @@ pub record ChannelsOk (S : LogState) (ch : Actor → Actor → List Letter) : Ty
 
 -- they are as they were
 pub channels-same : (S : LogState) → LogsHold S → ChannelsOk S S.words.channel
-channels-same S H = record {
-  words = H.words;
-  lines = λ l c up. refl;
-  flows = λ l c up. refl;
-  ends = λ l c up e. e;
-  leaves = λ c. leaves-same (site_start S c) (agent_to_site S c) (agent_to_site S c) refl;
-  letters = λ l c. H.letters l c;
-  foreign = H.foreign;
-  told = H.loads.told;
-  asked = λ h g. refl;
-}
+channels-same S H = search (leaves-same, H.letters, H.loads)
 
--- ---- the site
+-- ---- what holds
 
--- slot i has this site, and others have theirs
-pub still-at : (S : LogState) (i : ℕ) (s : SiteState) → SiteStays (S.sites i) s → (c : ℕ) → SiteStays (S.sites c) (set_at S.sites i s c)
-still-at S i s k = set-both (λ c x. SiteStays (S.sites c) x) S.sites i s k (λ c d. still-same (S.sites c) (S.sites c) refl)
+module _ (S : LogState) (ch : Actor → Actor → List Letter) (states : ℕ → SiteState) (pending : ℕ → List Waiting) (H : LogsHold S) (channels : ChannelsOk S ch)
+    (asks : AsksLess S (logs_moved S ch states pending)) where
+  abbrev T : LogState
+  T = logs_moved S ch states pending
 
-pub kept-at : (S : LogState) (i : ℕ) (s : SiteState) → SameKept (S.sites i) s → (c : ℕ) → SameKept (S.sites c) (set_at S.sites i s c)
-kept-at S i s k = set-both (λ c x. SameKept (S.sites c) x) S.sites i s k (λ c d. kept-same (S.sites c) (S.sites c) refl)
+  moved-later : LogsLater S T
+  moved-later = later-by S T (words-later S ch) refl refl refl (λ c. search arith) (λ p t. omega arith)
 
--- What a site may make of itself, so that what holds, holds: it differs in what waits, and in what isn't looked at.
-pub record SiteStill (S : LogState) (i : ℕ) (s : SiteState) : Type 0 where
-  pub still : SiteStays (S.sites i) s
-  pub kept : SameKept (S.sites i) s
-  pub waiting : 0 < site_start S i → AllByRecursion (SiteWaitingOk S i) s.waiting
-  pub none : site_start S i ≡ 0 → s.waiting ≡ []
+  moved-joins : (i : ℕ) → JoinsOn S T i
+  moved-joins i w k = k
 
-pub site-same : (S : LogState) (i : ℕ) → LogsHold S → SiteStill S i (S.sites i)
-site-same S i H = record {
-  still = still-same (S.sites i) (S.sites i) refl;
-  kept = kept-same (S.sites i) (S.sites i) refl;
-  waiting = λ up. ((H.sites i).keeps up).waiting;
-  none = λ z. ((H.sites i).stopped z).0;
-}
+  letter : (i c : ℕ) (l : Letter) → SiteLetterOk S i c l → SiteLetterOk T i c l
+  letter i c l = letter-later-with S T H moved-later i c l (λ a _ _. ask-later S T H moved-later (part S c) i l.term a (moved-joins i))
+      (λ r k. end-later-if S T H moved-later i c l r k (λ j joins start term. subst (AllByRecursion (BeginsAt k.stream_start)) (sym (same r start term))) (λ x e _. inl e))
+    where
+      -- the flow to a joiner is the same
+      same : MeantFor S c l → site_start S c ≡ l.start → term_at S c ≡ l.term → flow l.start l.term (between T i c) ≡ flow l.start l.term (between S i c)
+      same r start term = subst (λ s. flow s l.term (between T i c) ≡ flow s l.term (between S i c)) start
+          (subst (λ t. flow (site_start S c) t (between T i c) ≡ flow (site_start S c) t (between S i c)) term
+          (channels.flows i c (subst (λ s. 0 < s) (sym start) r.0.0)))
 
--- a site that differs in what waits alone
-pub site-waiting : (S : LogState) (i : ℕ) (ws : List Waiting) → (0 < site_start S i → AllByRecursion (SiteWaitingOk S i) ws) → (site_start S i ≡ 0 → ws ≡ [])
-    → SiteStill S i (record (S.sites i) { waiting = ws })
-site-waiting S i ws ok none = record {
-  still = record { start = refl; greatest = refl; earlier = refl; view = refl; joining = refl; log = refl; floor = refl; repaired = refl; firm = refl };
-  kept = record { acks = refl; reports = refl; joiners = refl; asks = refl; on_disk = refl; held = λ k. k };
-  waiting = ok;
-  none = none;
-}
+  keeps : (c : ℕ) → NotesOk S c (states c) (pending c) → 0 < site_start S c → KeepsOk S c → KeepsOk T c
+  keeps c n up k = keeps-at S T H moved-later c (T.sites c) refl refl k.acks (n.reports up)
+      (counteds-later S T H moved-later (part S c) (term_at S c) (S.sites c).joiners k.joiners) k.alone k.leads
+      (asks-later S T H moved-later (part S c) (term_at S c) moved-joins (states c).asks (n.asks up))
+      (waitings-later S T H moved-later c refl moved-joins (states c).waiting (n.waiting up)) (waitings-later S T H moved-later c refl moved-joins (pending c) (n.pending up)) k.on_disk k.held
 
--- Channels and what waits, where one site has changed so.
-pub inert-holds : (S : LogState) (i : ℕ) (s : SiteState) (ch : Actor → Actor → List Letter) (ws : List Waiting) → LogsHold S → SiteStill S i s → ChannelsOk S ch
-    → (0 < site_start S i → AllByRecursion (SiteWaitingOk S i) ws) → (site_start S i ≡ 0 → ws ≡ [])
-    → AsksLess S (logs_moved S ch (set_at S.sites i s) (set_at S.pending i ws)) → LogsHold (logs_moved S ch (set_at S.sites i s) (set_at S.pending i ws))
-inert-holds S i s ch ws H site channels pends nothing asks = moved-holds S ch (set_at S.sites i s) (set_at S.pending i ws) still H channels.words kept
-    (λ c up l. record {
-      lines = channels.lines l c up;
-      flows = channels.flows l c up;
-      ends = channels.ends l c up;
-      asks = asks c l (term_at S c);
-      uncounted = λ k j is. k j (rw ((kept l).joiners) at is);
-    })
-    (set-both (λ c x. 0 < site_start S c → AllByRecursion (SiteWaitingOk S c) x.waiting) S.sites i s site.waiting (λ c d up. ((H.sites c).keeps up).waiting))
-    (set-both (λ c x. 0 < site_start S c → AllByRecursion (SiteWaitingOk S c) x) S.pending i ws pends (λ c d up. ((H.sites c).keeps up).pending))
-    (λ c z k. (
-      empty c z,
-      (kept c).asks ∙ k.1,
-      (kept c).joiners ∙ k.2,
-      set-both (λ c x. site_start S c ≡ 0 → x ≡ []) S.pending i ws nothing (λ d other e. ((H.sites d).stopped e).3) c z,
-    ))
-    (λ c. views-keeps-with S T H (moved-later S ch (set_at S.sites i s) (set_at S.pending i ws) still) c (still c).start (still c).view refl refl (λ s m. m)
-    (channels.leaves c) (H.views c))
-    channels.letters channels.foreign channels.told channels.asked
+  -- What must hold of such a state, so that what holds, holds in it.
+  pub moved-holds : ((c : ℕ) → NotesOk S c (states c) (pending c)) → LogsHold T
+  moved-holds notes = record {
+    words = channels.words;
+    sites = λ c. site-keeps S T H moved-later c (search) refl (record { entered = λ t e i _. i; streamed = λ t x i _. i }) (record { leadership = refl; reach = refl })
+        (λ up l. record { lines = channels.lines l c up; flows = channels.flows l c up; ends = channels.ends l c up; asks = asks c l (term_at S c); uncounted = λ k. k })
+        (λ stream_start w k. k) (keeps c (notes c)) (λ z k. let o = (notes c).none z in (o.0, o.1, k.2, o.2)) (H.sites c);
+    views = λ c. views-keeps-with S T H moved-later c refl refl refl refl (λ s m. m) (channels.leaves c) (H.views c);
+    letters = λ i c slot. all-mono (SiteLetterOk S i c) (SiteLetterOk T i c) (letter i c) (ch (Site i) (Site c)) (channels.letters i c slot);
+    foreign = λ a c. all-mono (ForeignOk S c a) (ForeignOk T c a) (foreign-later S T H moved-later c a) (ch a (Site c)) (channels.foreign a c);
+    loads = loads-later S T H moved-later refl refl channels.told channels.asked;
+    entered = entereds-later S T H moved-later same (λ p t. refl);
+    streamed = λ c t x i. let k = H.streamed c t x i in streameds-later S T H moved-later same (λ p t. refl) c t x k k.apart (λ k. k);
+    leaderships = leaderships-later S T H moved-later same (λ p t g is. (H.leaderships p t g is).within);
+    unled = H.unled;
+    some = H.some;
+    first = H.first;
+  }
+    where
+      same : SameLeaderships S.logs T.logs
+      same = same-leaderships S.logs T.logs refl
+
+-- where sites stay
+pub channels-hold : (S : LogState) (ch : Actor → Actor → List Letter) → LogsHold S → ChannelsOk S ch → AsksLess S (record S { words = record S.words { channel = ch } })
+    → LogsHold (record S { words = record S.words { channel = ch } })
+channels-hold S ch H channels asks = moved-holds S ch S.sites S.pending H channels asks (notes-same S H)
+
+-- where one does so
+abbrev pub site_noted : LogState → ℕ → SiteState → (Actor → Actor → List Letter) → List Waiting → LogState
+site_noted S i s ch now = record S { words = record S.words { channel = ch }; sites = set_at S.sites i s; pending = set_at S.pending i now }
+
+pub noted-holds : (S : LogState) (i : ℕ) (s : SiteState) (ch : Actor → Actor → List Letter) (now : List Waiting) → LogsHold S → s ≡ noting (S.sites i) s → ChannelsOk S ch
+    → NotesOk S i s now → AsksLess S (site_noted S i s ch now) → LogsHold (site_noted S i s ch now)
+noted-holds S i s ch now H is channels notes asks = subst (λ f. LogsHold (record (site_noted S i s ch now) { sites = f })) (sym sites)
+    (moved-holds S ch (set_at S.sites i s) (set_at S.pending i now) H channels (subst (λ f. AsksLess S (record (site_noted S i s ch now) { sites = f })) sites asks)
+    (one-and-others (λ c. NotesOk S c (set_at S.sites i s c) (set_at S.pending i now c)) i
+    (subst (λ x. NotesOk S i x (set_at S.pending i now i)) (sym (set-here S.sites i s)) (subst (NotesOk S i s) (sym (set-here S.pending i now)) notes))
+    (λ c n. subst (λ x. NotesOk S c x (set_at S.pending i now c)) (sym (set-there S.sites i s c n)) (subst (NotesOk S c (S.sites c)) (sym (set-there S.pending i now c n)) (notes-same S H c)))))
   where
-    T : LogState
-    T = logs_moved S ch (set_at S.sites i s) (set_at S.pending i ws)
+    sites : set_at S.sites i s ≡ (λ c. noting (S.sites c) (set_at S.sites i s c))
+    sites = fun_ext (set-both (λ c x. x ≡ noting (S.sites c) x) S.sites i s is (λ c n. refl))
 
-    still : (c : ℕ) → SiteStays (S.sites c) (set_at S.sites i s c)
-    still = still-at S i s site.still
-
-    kept : (c : ℕ) → SameKept (S.sites c) (set_at S.sites i s c)
-    kept = kept-at S i s site.kept
-
-    empty : (c : ℕ) → site_start S c ≡ 0 → (set_at S.sites i s c).waiting ≡ []
-    empty = set-both (λ c x. site_start S c ≡ 0 → x.waiting ≡ []) S.sites i s site.none (λ c d z. ((H.sites c).stopped z).0)
-
--- a place that gets what it has
-pub still-holds : (S : LogState) (i : ℕ) (s : SiteState) (ch : Actor → Actor → List Letter) → LogsHold S → SiteStill S i s → ChannelsOk S ch
-    → AsksLess S (logs_moved S ch (set_at S.sites i s) S.pending) → LogsHold (logs_moved S ch (set_at S.sites i s) S.pending)
-still-holds S i s ch H site channels asks = subst (λ p. LogsHold (logs_moved S ch (set_at S.sites i s) p)) (set-same S.pending i)
-    (inert-holds S i s ch (S.pending i) H site channels (λ up. ((H.sites i).keeps up).pending) (λ z. ((H.sites i).stopped z).3)
-    (subst (λ p. AsksLess S (logs_moved S ch (set_at S.sites i s) p)) (sym (set-same S.pending i)) asks))
-
--- where all sites stay
-pub channels-hold : (S : LogState) (ch : Actor → Actor → List Letter) → LogsHold S → ChannelsOk S ch → AsksLess S (logs_moved S ch S.sites S.pending) → LogsHold (logs_moved S ch S.sites S.pending)
-channels-hold S ch H channels asks = subst (λ f. LogsHold (logs_moved S ch f S.pending)) (set-same S.sites 0)
-    (still-holds S 0 (S.sites 0) ch H (site-same S 0 H) channels (subst (λ f. AsksLess S (logs_moved S ch f S.pending)) (sym (set-same S.sites 0)) asks))
+-- and is to take what it was to take
+pub noted-same : (S : LogState) (i : ℕ) (s : SiteState) (ch : Actor → Actor → List Letter) → LogsHold S → s ≡ noting (S.sites i) s → ChannelsOk S ch → NotesOk S i s (S.pending i)
+    → AsksLess S (record S { words = record S.words { channel = ch }; sites = set_at S.sites i s }) → LogsHold (record S { words = record S.words { channel = ch }; sites = set_at S.sites i s })
+noted-same S i s ch H is channels notes asks = subst (λ p. LogsHold (record (site_noted S i s ch []) { pending = p })) (set-same S.pending i)
+    (noted-holds S i s ch (S.pending i) H is channels notes (subst (λ p. AsksLess S (record (site_noted S i s ch []) { pending = p })) (sym (set-same S.pending i)) asks))

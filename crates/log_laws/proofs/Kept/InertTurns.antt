@@ -1,27 +1,11 @@
 -- Turns of a site in which nothing changes that is looked at: what holds, holds after them.
-use Rattle.std.proofs.Common.{◌≡◌, Bool, true, false, List, [], ◌∷◌, ◌++◌, refl, ap, ◌∙◌, ◌==◌, arith}
-use Rattle.std.specs.Prelude.{ℕ, ◌&&◌, ◌+◌, not, nat_lt, if◌then◌else◌, replicate, Option, Some, None, length}
-use Rattle.std.specs.List.{AllByRecursion}
-use Rattle.volt_base.specs.declared.entry.Outcome.{Outcome}
-use Rattle.volt_wire.specs.declared.actor.Actor.{Actor}
-use Rattle.volt_wire.specs.declared.actor.Actor.TheVariants.{Director, Client, Agent, Site, Scanner}
+use Rattle.log_laws.proofs.Names.{◌≡◌, Bool, true, false, List, [], ◌∷◌, refl, ◌==◌, ℕ, ◌&&◌, ◌+◌, not, nat_lt, if◌then◌else◌, replicate, Option, Some, None, AllByRecursion, Outcome, Actor, Director, Agent, Site, Database, Deployment, part_of_slot, Letter, Sends, Turn, becomes, sending, only, letter_in, open_in, last_done, nothing_open, SiteState, AskedCall, site_term, leads, is_joiner, tells_initiator, is_first_term, has_all_on_disk, initiator_in, shows, looked, on_look, on_power, all-from, all-if, all-mono, term_of, subst, sym, LogState, LogsHold, HeldOk, SiteLetterOk, ToldOk, site_start, end_of, end_in}
 use Rattle.volt_wire.specs.declared.message.Msg.TheVariants as msg
-use Rattle.cluster_model.specs.Engine.{Database}
-use Rattle.cluster_model.specs.Words.{Deployment, part_of_slot}
-use Rattle.cluster_model.specs.Letters.{Letter, Sends, Turn, becomes, sending, only, letter_in}
-use Rattle.cluster_model.specs.Log.{open_in, last_done, nothing_open}
-use Rattle.cluster_model.specs.SiteState.{SiteState, AskedCall, site_term, leads, is_joiner}
-use Rattle.cluster_model.specs.Site.{tells, tells_initiator, standing, is_first_term, has_all_on_disk, initiator_in, shows, looked, on_look, on_power}
-use Rattle.cluster_model.specs.World.{sent}
-use Rattle.cluster_steps.proofs.Lists.{all-append, all-from, all-if, all-mono, set-both}
-use Rattle.log_laws.specs.Histories.{LogState, LogsHold, HeldOk, SiteLetterOk, ForeignOk, ToldOk, site_start, term_at, between, agent_to_site, line, line_of, flow, flow_of, stream_ends_in, end_of, ask_of, asks_in, asks_waiting, asks_of_term, asked, log_at}
-use Rattle.log_laws.proofs.Kept.Moves.{after_site, NoStreamStart, LogsGo}
-use Rattle.log_laws.proofs.Kept.Grown.{grown-same, enters-same}
-use Rattle.log_laws.proofs.Plain.Lines.{line-none, flow-none, ends-none, asks-none, line-same, flow-same, ends-same, asks-same, line-plain, flow-plain, ends-plain, asks-plain}
-use Rattle.log_laws.proofs.Kept.Asked.{AsksLess, at-most-is}
-use Rattle.log_laws.proofs.Kept.KeepsViews.{leaves-same}
-use Rattle.log_laws.proofs.Kept.Plumbing.{sent-either, words-after, goes-same}
-use Rattle.log_laws.proofs.Kept.Inert.{ChannelsOk, SiteStill, still-at, kept-at, still-holds}
+use Rattle.cluster_model.specs.Site.{tells, standing}
+use Rattle.log_laws.proofs.Kept.Moves.{after_site, LogsGo}
+use Rattle.log_laws.proofs.Plain.{flat-none, if-empty}
+use Rattle.log_laws.proofs.Kept.Plumbing.{goes-same}
+use Rattle.log_laws.proofs.Kept.Rests.{Bare, SaysRests, SiteRests, reach-same, rests-goes, rests-holds, site-same}
 
 -- ---- what isn't looked at
 
@@ -61,24 +45,12 @@ Silent (Site c) l = elim l.body as (λ _. Type 0) [
   | msg.Start a ↦ ⊥
   | _ ↦ Unit {0}
 ]
-Silent (Agent h) l = elim l.body as (λ _. Type 0) [
-  | msg.Loaded a ↦ ⊥
-  | _ ↦ Unit {0}
-]
+Silent (Agent h) l = elim l.body as (λ _. Type 0) [ msg.Loaded a ↦ ⊥ | _ ↦ Unit {0} ]
 Silent b l = Unit {0}
 
--- such a message to a site
-pub record SilentItems (S : LogState) (i c : ℕ) (l : Letter) : Type 0 where
-  pub line : (start term : ℕ) → line_of start term l ≡ []
-  pub flow : (start term : ℕ) → flow_of start term l ≡ []
-  pub ends : (start term : ℕ) → end_of start term l ≡ []
-  pub asks : (term : ℕ) → ask_of term l ≡ []
-  pub letter : SiteLetterOk S i c l
-  pub foreign : ForeignOk S c (Site i) l
-  pub plain : NoStreamStart l
-
-pub silent-items : (S : LogState) (i c : ℕ) (l : Letter) → Silent (Site c) l → SilentItems S i c l
-silent-items S i c l k = elim l.body as (λ m. Silent (Site c) (record l { body = m }) → SilentItems S i c (record l { body = m })) [
+-- such a message says nothing of logs, nor that a stream is whole
+silent-bare : (S : LogState) (i c : ℕ) (l : Letter) → Silent (Site c) l → (Bare l × SiteLetterOk S i c l) × (end_in l.body ≡ [])
+silent-bare S i c l k = elim l.body as (λ m. Silent (Site c) (record l { body = m }) → (Bare (record l { body = m }) × SiteLetterOk S i c (record l { body = m })) × (end_in m ≡ [])) [
   | msg.Put position e floor ↦ λ k. absurd k
   | msg.Repair from entries ↦ λ k. absurd k
   | msg.Task position e ↦ λ k. absurd k
@@ -88,18 +60,10 @@ silent-items S i c l k = elim l.body as (λ m. Silent (Site c) (record l { body 
   | msg.Report position floor tail ↦ λ k. absurd k
   | msg.JoinAsk a slot ↦ λ k. absurd k
   | msg.Start a ↦ λ k. absurd k
-  | m ↦ λ k. record {
-    line = λ start term. line-plain start term (record l { body = m }) refl;
-    flow = λ start term. flow-plain start term (record l { body = m }) refl;
-    ends = λ start term. ends-plain start term (record l { body = m }) refl;
-    asks = λ term. asks-plain term (record l { body = m }) refl;
-    letter = tt;
-    foreign = tt;
-    plain = tt;
-  }
+  | m ↦ λ k. (((refl, refl, refl, tt), tt), refl)
 ] k
 
-pub silent-told : (S : LogState) (i h : ℕ) (l : Letter) → Silent (Agent h) l → ToldOk S i l
+silent-told : (S : LogState) (i h : ℕ) (l : Letter) → Silent (Agent h) l → ToldOk S i l
 silent-told S i h l k = elim l.body as (λ m. Silent (Agent h) (record l { body = m }) → ToldOk S i (record l { body = m })) [
   | msg.Loaded a ↦ λ k. absurd k
   | m ↦ λ k. tt
@@ -107,102 +71,37 @@ silent-told S i h l k = elim l.body as (λ m. Silent (Agent h) (record l { body 
 
 -- ---- the turn
 
-module _ (S : LogState) (H : LogsHold S) (i : ℕ) (out : Sends) (silent : (b : Actor) → AllByRecursion (Silent b) (out b)) where
-  items : (P : Letter → Type 0) (c : ℕ) → ((l : Letter) → SilentItems S i c l → P l) → AllByRecursion P (out (Site c))
-  items P c f = all-mono (Silent (Site c)) P (λ l k. f l (silent-items S i c l k)) (out (Site c)) (silent (Site c))
-
-  -- the channels behind it
-  pub channels-silent : ChannelsOk S (sent S.words.channel (Site i) out)
-  channels-silent = record {
-    words = words-after S i (S.sites i) out S.logs H.words;
-    lines = λ l c up. sent-either S i (S.sites i) out S.logs (λ j ls. line (site_start S c) (term_at S c) ls ≡ line (site_start S c) (term_at S c) (between S j c)) (Site c)
-        (line-same (site_start S c) (term_at S c) (between S i c) (out (Site c)) (line-none (site_start S c) (term_at S c) (out (Site c))
-        (items (λ l. line_of (site_start S c) (term_at S c) l ≡ []) c (λ l k. k.line (site_start S c) (term_at S c)))))
-        (λ j other. refl) l;
-    flows = λ l c up. sent-either S i (S.sites i) out S.logs (λ j ls. flow (site_start S c) (term_at S c) ls ≡ flow (site_start S c) (term_at S c) (between S j c)) (Site c)
-        (flow-same (site_start S c) (term_at S c) (between S i c) (out (Site c)) (flow-none (site_start S c) (term_at S c) (out (Site c))
-        (items (λ l. flow_of (site_start S c) (term_at S c) l ≡ []) c (λ l k. k.flow (site_start S c) (term_at S c)))))
-        (λ j other. refl) l;
-    ends = λ l c up. sent-either S i (S.sites i) out S.logs (λ j ls. stream_ends_in (site_start S c) (term_at S c) (between S j c) ≡ [] → stream_ends_in (site_start S c) (term_at S c) ls ≡ []) (Site c)
-        (λ e. ends-same (site_start S c) (term_at S c) (between S i c) (out (Site c)) (ends-none (site_start S c) (term_at S c) (out (Site c))
-        (items (λ l. end_of (site_start S c) (term_at S c) l ≡ []) c (λ l k. k.ends (site_start S c) (term_at S c)))) ∙ e)
-        (λ j other e. e) l;
-    leaves = λ c. leaves-same (site_start S c) (agent_to_site S c) (agent_to_site S c) refl;
-    letters = λ l c slot. sent-either S i (S.sites i) out S.logs (λ j ls. AllByRecursion (SiteLetterOk S j c) ls) (Site c)
-        (all-append (SiteLetterOk S i c) (between S i c) (out (Site c)) (H.letters i c slot) (items (SiteLetterOk S i c) c (λ l k. k.letter)))
-        (λ j other. H.letters j c slot) l;
-    foreign = foreign;
-    told = λ c h. sent-either S i (S.sites i) out S.logs (λ j ls. AllByRecursion (ToldOk S j) ls) (Agent h)
-        (all-append (ToldOk S i) (S.words.channel (Site i) (Agent h)) (out (Agent h)) (H.loads.told i h)
-        (all-mono (Silent (Agent h)) (ToldOk S i) (silent-told S i h) (out (Agent h)) (silent (Agent h))))
-        (λ j other. H.loads.told j h) c;
-    asked = λ h g. refl;
-  }
-    where
-      foreign : (from : Actor) (c : ℕ) → AllByRecursion (ForeignOk S c from) (sent S.words.channel (Site i) out from (Site c))
-      foreign (Site j) c = sent-either S i (S.sites i) out S.logs (λ j ls. AllByRecursion (ForeignOk S c (Site j)) ls) (Site c)
-          (all-append (ForeignOk S c (Site i)) (between S i c) (out (Site c)) (H.foreign (Site i) c) (items (ForeignOk S c (Site i)) c (λ l k. k.foreign)))
-          (λ j other. H.foreign (Site j) c) j
-      foreign (Agent h) c = H.foreign (Agent h) c
-      foreign Director c = H.foreign Director c
-      foreign (Client n) c = H.foreign (Client n) c
-      foreign (Scanner x) c = H.foreign (Scanner x) c
-
-  -- Who asked is the same.
-  silent-asks : (s : SiteState) → SiteStill S i s → s.waiting ≡ (S.sites i).waiting → AsksLess S (after_site S i s out S.logs)
-  silent-asks s site waiting c l t = at-most-is (asked S c l t) (asked T c l t)
-      (ap (λ z. z ++ asks_waiting c t (T.sites l).waiting ++ asks_waiting c t (S.pending l) ++ asks_of_term c t (T.sites l)) channel
-      ∙ ap (λ z. asks_in t (between S c l) ++ asks_waiting c t z ++ asks_waiting c t (S.pending l) ++ asks_of_term c t (T.sites l)) waits
-      ∙ ap (λ z. asks_in t (between S c l) ++ asks_waiting c t (S.sites l).waiting ++ asks_waiting c t (S.pending l) ++ z) kept)
-    where
-      T : LogState
-      T = after_site S i s out S.logs
-
-      channel : asks_in t (between T c l) ≡ asks_in t (between S c l)
-      channel = sent-either S i s out S.logs (λ j ls. asks_in t ls ≡ asks_in t (between S j l)) (Site l)
-          (asks-same t (between S i l) (out (Site l)) (asks-none t (out (Site l)) (items (λ x. ask_of t x ≡ []) l (λ x k. k.asks t))))
-          (λ j other. refl) c
-
-      waits : (T.sites l).waiting ≡ (S.sites l).waiting
-      waits = set-both (λ d x. x.waiting ≡ (S.sites d).waiting) S.sites i s waiting (λ d other. refl) l
-
-      kept : asks_of_term c t (T.sites l) ≡ asks_of_term c t (S.sites l)
-      kept = rw ((still-at S i s site.still l).view, (kept-at S i s site.kept l).asks) refl
-
 -- A turn in which nothing changes that is looked at, and nothing is sent that is: the history stays.
-pub inert-after : (S : LogState) (i : ℕ) (s : SiteState) (out : Sends) → LogsHold S → Unwatched (S.sites i) s → ((b : Actor) → AllByRecursion (Silent b) (out b))
-    → LogsHold (after_site S i s out S.logs)
-inert-after S i s out H u silent = still-holds S i s (sent S.words.channel (Site i) out) H site (channels-silent S H i out silent) (silent-asks S H i out silent s site (ap (λ x. x.waiting) u.same))
-  where
-    site : SiteStill S i s
-    site = record {
-      still = record {
-        start = ap (λ x. x.start) u.same;
-        greatest = ap (λ x. x.greatest) u.same;
-        earlier = ap (λ x. x.earlier) u.same;
-        view = ap (λ x. x.view) u.same;
-        joining = ap (λ x. x.joining) u.same;
-        log = ap (λ x. x.log) u.same;
-        floor = ap (λ x. x.floor) u.same;
-        repaired = ap (λ x. x.repaired) u.same;
-        firm = ap (λ x. x.firm) u.same;
-      };
-      kept = record { acks = ap (λ x. x.acks) u.same; reports = ap (λ x. x.reports) u.same; joiners = ap (λ x. x.joiners) u.same; asks = ap (λ x. x.asks) u.same; on_disk = ap (λ x. x.on_disk) u.same; held = u.held };
-      waiting = λ up. rw (ap (λ x. x.waiting) u.same) ((H.sites i).keeps up).waiting;
-      none = λ z. (ap (λ x. x.waiting) u.same) ∙ ((H.sites i).stopped z).0;
-    }
+module _ (S : LogState) (i : ℕ) (s : SiteState) (out : Sends) (H : LogsHold S) (u : Unwatched (S.sites i) s) (silent : (b : Actor) → AllByRecursion (Silent b) (out b)) where
+  unwatched-rests : SiteRests S S.logs.reach i s
+  unwatched-rests = subst (SiteRests S S.logs.reach i) (sym u.same) (let o = site-same S H i S.logs.reach i in record {
+    is = refl;
+    member = o.member;
+    joiner = o.joiner;
+    counts = o.counts;
+    acks = o.acks;
+    joiners = o.joiners;
+    alone = o.alone;
+    leads = o.leads;
+    counted = o.counted;
+    on_disk = o.on_disk;
+    held = λ up. u.held (o.held up);
+  })
+
+  says-silent : SaysRests S i out
+  says-silent = record {
+    sites = λ c. all-mono (Silent (Site c)) (λ l. Bare l × SiteLetterOk S i c l) (λ l k. (silent-bare S i c l k).0) (out (Site c)) (silent (Site c));
+    ended = λ c w _ _ _. flat-none (end_of (site_start S c) (term_of w)) (out (Site c)) (all-mono (Silent (Site c)) (λ l. end_of (site_start S c) (term_of w) l ≡ [])
+        (λ l k. if-empty _ _ (silent-bare S i c l k).1) (out (Site c)) (silent (Site c)));
+    told = λ h. all-mono (Silent (Agent h)) (ToldOk S i) (silent-told S i h) (out (Agent h)) (silent (Agent h));
+  }
+
+  pub inert-after : LogsHold (after_site S i s out S.logs)
+  inert-after = rests-holds S H i s out S.logs.reach unwatched-rests (reach-same S H) says-silent
 
 pub inert-goes : (S : LogState) (i : ℕ) (t : Turn SiteState) → LogsHold S → Unwatched (S.sites i) t.state → ((b : Actor) → AllByRecursion (Silent b) (t.sends b)) → LogsGo S i t
-inert-goes S i t H u silent = record {
-  logs = S.logs;
-  start = ap (λ x. x.start) u.same;
-  view = ap (λ x. x.view) u.same;
-  plain = λ c. items S H i t.sends silent NoStreamStart c (λ l k. k.plain);
-  holds = inert-after S i t.state t.sends H u silent;
-  grown = grown-same S.words.deployment i t.state S.logs;
-  enters = enters-same i (length (log_at S i)) S.logs S.logs refl;
-  longer = let e = ap length (ap (λ x. x.log) u.same) in omega (arith, e);
-}
+inert-goes S i t H u silent =
+    rests-goes S H i t.state t.sends S.logs.reach (unwatched-rests S i t.state t.sends H u silent) (reach-same S H) (says-silent S i t.state t.sends H u silent)
 
 -- one in which nothing is sent
 pub inert-becomes : (S : LogState) (i : ℕ) (s : SiteState) → LogsHold S → Unwatched (S.sites i) s → LogsGo S i (becomes s)
@@ -222,10 +121,7 @@ goes-if-becomes S i false s t g h = h
 -- one message to an agent
 silent-only : (h : ℕ) (l : Letter) → Silent (Agent h) l → (b : Actor) → AllByRecursion (Silent b) (only (Agent h) l b)
 silent-only h l k (Agent g) = all-if (Silent (Agent g)) (h == g) (l ∷ []) [] (k, tt) tt
-silent-only h l k (Site c) = tt
-silent-only h l k Director = tt
-silent-only h l k (Client n) = tt
-silent-only h l k (Scanner x) = tt
+silent-only h l k from = tt
 
 -- the leader tells the initiator how its partition stands
 pub tells-goes : (E : Database) (D : Deployment) (S : LogState) (i : ℕ) → LogsHold S → LogsGo S i (tells E D i (S.sites i))
@@ -259,17 +155,11 @@ shows-goes E D S i H = goes-if S i (nat_lt 0 s.looks && nothing_open s.log) show
     s = S.sites i
 
     shown : Turn SiteState
-    shown = sending (record s { looks = 0 }) (λ b. elim b as (λ _. List Letter) [
-      | Director ↦ replicate s.looks (looked E D i s)
-      | _ ↦ []
-    ])
+    shown = sending (record s { looks = 0 }) (λ b. elim b as (λ _. List Letter) [ Director ↦ replicate s.looks (looked E D i s) | _ ↦ [] ])
 
     silent : (b : Actor) → AllByRecursion (Silent b) (shown.sends b)
     silent Director = all-from (Silent Director) (replicate s.looks (looked E D i s)) (λ l k. tt)
-    silent (Client n) = tt
-    silent (Agent h) = tt
-    silent (Site c) = tt
-    silent (Scanner x) = tt
+    silent from = tt
 
 -- a look, and a cut of power, are noted
 pub look-goes : (S : LogState) (i : ℕ) → LogsHold S → LogsGo S i (becomes (on_look (S.sites i)))

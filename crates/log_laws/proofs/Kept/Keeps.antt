@@ -1,18 +1,9 @@
 -- What holds of a slot that isn't the one that moves: it stays so.
-use Rattle.std.proofs.Common.{◌≡◌, ◌<◌, Bool, true, false, List, [], ◌∷◌, refl, sym, subst, ap, ◌∙◌, ◌⊎◌, inl, inr, ◌==◌, arith}
-use Rattle.std.proofs.lemmas.Bool.{cases_eq, cases_Bool, eqb-true, eq-eqb, ne_eqb}
-use Rattle.std.specs.Prelude.{ℕ, ◌&&◌, not, length, Option, Some, None}
-use Rattle.std.specs.List.{AllByRecursion}
-use Rattle.volt_wire.specs.Word.{Membership}
-use Rattle.cluster_model.specs.Words.{Deployment, term_of, term_in, leader}
-use Rattle.cluster_model.specs.SiteState.{SiteState, Streamed, Joining, Joiner, Ask}
-use Rattle.cluster_steps.specs.Lists.{In}
-use Rattle.cluster_steps.proofs.Lists.{all-mono}
-use Rattle.log_laws.specs.Histories.{LogState, LogsHold, Entered, Streaming, Leadership, Line, Flow, FollowsIn, LeadsIn, HeldOk, AsksToJoin, CountedOk, SiteWaitingOk, KeepsOk, SiteOk, AckOk, ReportOk, MemberOk, JoinerOk, InWord, Wordless, ViewIn, StreamIn, Untaken, Took, Coming, Inert, NoStream, IsCounted, IsSlot, part, site_start, term_at, between, follows, line, flow, stream_ends_in, asked}
+use Rattle.log_laws.proofs.Names.{◌≡◌, ◌<◌, Bool, true, false, List, [], ◌∷◌, refl, sym, subst, ap, ◌∙◌, ◌⊎◌, inl, inr, ◌==◌, arith, cases_Bool, eqb-true, eq-eqb, ne_eqb, ℕ, ◌&&◌, not, length, Option, Some, None, AllByRecursion, Membership, Deployment, term_of, term_in, leader, SiteState, Streamed, Joining, Joiner, Ask, In, all-mono, none-and-some, same-some, LogState, LogsHold, Entered, Streaming, Leadership, Line, Flow, FollowsIn, LeadsIn, HeldOk, AsksToJoin, SiteWaitingOk, KeepsOk, SiteOk, MemberOk, JoinerOk, InWord, ViewIn, StreamIn, Untaken, Took, Coming, Inert, NoStream, IsCounted, part, site_start, term_at, between, follows, line, flow, stream_ends_in, asked}
 use Rattle.log_laws.proofs.Kept.Moves.{LogsLater, Stays, JoinsOn}
 use Rattle.log_laws.proofs.Kept.Asked.{AtMost, at-most-none, at-most-one}
-use Rattle.log_laws.proofs.Kept.Laters.{part-later, slot-before, start-later, ack-later, report-later, counted-later, ask-later-on, waiting-later-on}
-use Rattle.log_laws.proofs.Plain.Copies.{follows-leader}
+use Rattle.log_laws.proofs.Kept.Laters.{part-later, slot-before, start-later, ask-later-on, waiting-later-on, counteds-later, keeps-at}
+use Rattle.log_laws.proofs.Plain.{follows-leader, one-and-others, none-or-some}
 
 -- ---- what is the same
 
@@ -29,17 +20,22 @@ pub record SiteStays (s t : SiteState) : Type 0 where
   pub firm : t.firm ≡ s.firm
 
 pub still-same : (s t : SiteState) → t ≡ s → SiteStays s t
-still-same s t e = record {
-  start = ap (λ x. x.start) e;
-  greatest = ap (λ x. x.greatest) e;
-  earlier = ap (λ x. x.earlier) e;
-  view = ap (λ x. x.view) e;
-  joining = ap (λ x. x.joining) e;
-  log = ap (λ x. x.log) e;
-  floor = ap (λ x. x.floor) e;
-  repaired = ap (λ x. x.repaired) e;
-  firm = ap (λ x. x.firm) e;
-}
+still-same s t e = subst (SiteStays s) (sym e) search
+
+-- It runs on in its word, a member as one, and a joiner as one.
+pub record RunsOn (s t : SiteState) : Type 0 where
+  pub start : t.start ≡ s.start
+  pub greatest : t.greatest ≡ s.greatest
+  pub earlier : t.earlier ≡ s.earlier
+  pub view : t.view ≡ s.view
+  pub member : s.joining ≡ None → t.joining ≡ None
+  pub joins : (j : Joining) → s.joining ≡ Some j → (k : Joining) × (t.joining ≡ Some k)
+
+pub was-member : (s t : SiteState) → RunsOn s t → t.joining ≡ None → s.joining ≡ None
+was-member s t on none = elim (none-or-some s.joining) [ inl e ↦ e | inr (j, e) ↦ absurd (none-and-some none (on.joins j e).1) ]
+
+pub was-joiner : (s t : SiteState) → RunsOn s t → (k : Joining) → t.joining ≡ Some k → (j : Joining) × (s.joining ≡ Some j)
+was-joiner s t on k is = elim (none-or-some s.joining) [ inl e ↦ absurd (none-and-some (on.member e) is) | inr (j, e) ↦ (j, e) ]
 
 -- slot l counts no joiner of this start of a slot
 abbrev pub Uncounted : LogState → ℕ → ℕ → ℕ → Type 0
@@ -68,14 +64,7 @@ pub record SameKept (s t : SiteState) : Type 0 where
   pub held : AllByRecursion HeldOk s.held → AllByRecursion HeldOk t.held
 
 pub kept-same : (s t : SiteState) → t ≡ s → SameKept s t
-kept-same s t e = record {
-  acks = ap (λ x. x.acks) e;
-  reports = ap (λ x. x.reports) e;
-  joiners = ap (λ x. x.joiners) e;
-  asks = ap (λ x. x.asks) e;
-  on_disk = ap (λ x. x.on_disk) e;
-  held = subst (λ x. AllByRecursion HeldOk x.held) (sym e);
-}
+kept-same s t e = subst (SameKept s) (sym e) search
 
 -- nothing waits, was asked or is counted at a site
 abbrev pub KeepsNone : LogState → ℕ → Type 0
@@ -109,13 +98,27 @@ module _ (S T : LogState) (H : LogsHold S) (f : LogsLater S T) where
   -- where at most slot i changes, and it counts whom it counted
   pub counted-from : (i : ℕ) → ((l : ℕ) → (l ≡ i → ⊥) → T.sites l ≡ S.sites l) → (c a stream_start : ℕ) (w : Membership)
       → (CountedBy S c a stream_start w i → CountedBy T c a stream_start w i) → IsCounted S c a stream_start w → IsCounted T c a stream_start w
-  counted-from i others c a stream_start w mine = counted-keeps c a stream_start w each
-    where
-      each : (l : ℕ) → CountedBy S c a stream_start w l → CountedBy T c a stream_start w l
-      each l k = elim (cases_eq l i) [
-        | inl e ↦ subst (CountedBy T c a stream_start w) (sym e) (mine (subst (CountedBy S c a stream_start w) e k))
-        | inr d ↦ counted_by-same S T c a stream_start w l (others l d) k
-      ]
+  counted-from i others c a stream_start w mine = counted-keeps c a stream_start w (one-and-others _ i mine (λ l d. counted_by-same S T c a stream_start w l (others l d)))
+
+-- ---- a slot
+
+-- It runs on, where what it is, and what it keeps, is given anew.
+pub site-runs : (S T : LogState) → LogsHold S → LogsLater S T → (c : ℕ) → RunsOn (S.sites c) (T.sites c) → T.logs.ran c ≡ S.logs.ran c
+    → (0 < site_start S c → (S.sites c).joining ≡ None → (w : Membership) → (S.sites c).view ≡ Some w → MemberOk S c w → MemberOk T c w)
+    → ((j k : Joining) → (S.sites c).joining ≡ Some j → (T.sites c).joining ≡ Some k → JoinerOk S c j → JoinerOk T c k)
+    → (0 < site_start S c → KeepsOk S c → KeepsOk T c) → (site_start S c ≡ 0 → KeepsNone S c → KeepsNone T c) → SiteOk S c → SiteOk T c
+site-runs S T H f c on ran member joiner keeps stopped k = record {
+  environment = λ e. on.start ∙ k.environment (rw (f.words.deployment) at e);
+  ran = λ up. rw (ran, on.start) (k.ran (rw (on.start) at up));
+  term = rw (on.view, on.greatest) k.term;
+  earlier = rw (on.earlier, on.greatest) k.earlier;
+  member = λ up e. let old = rw (on.start) at up in let none = was-member (S.sites c) (T.sites c) on e in
+      let m = k.member old none in (m.0, on.view ∙ m.1, member old none m.0 m.1 m.2);
+  joiner = λ j e. let b = was-joiner (S.sites c) (T.sites c) on j e in joiner b.0 j b.1 e (k.joiner b.0 b.1);
+  keeps = λ up. let old = rw (on.start) at up in keeps old (k.keeps old);
+  stopped = λ e. stopped (sym on.start ∙ e) (k.stopped (sym on.start ∙ e));
+  blank = λ e. on.view ∙ k.blank (sym on.start ∙ e);
+}
 
 -- ---- a member
 
@@ -203,26 +206,14 @@ module _ (S T : LogState) (H : LogsHold S) (f : LogsLater S T) (c : ℕ) (site :
           eqb_swap x y q = eq-eqb y x (sym (eqb-true x y q))
 
           self : (x y : ℕ) → (x == y && not (y == x)) ≡ false
-          self x y = elim (cases_Bool (x == y)) [
-            | inl q ↦ rw (q, eqb_swap x y q) refl
-            | inr q ↦ rw q refl
-          ]
+          self x y = elim (cases_Bool (x == y)) [ inl q ↦ rw (q, eqb_swap x y q) refl | inr q ↦ rw q refl ]
 
       following : (l : ℕ) → follows D w c l ≡ true → FollowsIn (S.sites c) (line (site_start S c) (term_of w) (between S l c)) (S.logs.leadership (part S c) (term_of w))
           → FollowsIn (S.sites c) (line (site_start S c) (term_of w) (between T l c)) (T.logs.leadership (part S c) (term_of w))
-      following l e p = elim (cases_eq l i) [
-        | inl q ↦ subst (λ x. FollowsIn (S.sites c) (line (site_start S c) (term_of w) (between T x c)) (T.logs.leadership (part S c) (term_of w))) (sym q)
-            (mine (subst (λ x. follows D w c x ≡ true) q e)
-            (subst (λ x. FollowsIn (S.sites c) (line (site_start S c) (term_of w) (between S x c)) (S.logs.leadership (part S c) (term_of w))) q p))
-        | inr d ↦ rw (lines l d, same-leadership l d (follows-leader D w c l e).0) p
-      ]
+      following = one-and-others _ i mine (λ l d e p. rw (lines l d, same-leadership l d (follows-leader D w c l e).0) p)
 
       others : (l : ℕ) → follows D w c l ≡ false → line (site_start S c) (term_of w) (between S l c) ≡ [] → line (site_start S c) (term_of w) (between T l c) ≡ []
-      others l e p = elim (cases_eq l i) [
-        | inl q ↦ subst (λ x. line (site_start S c) (term_of w) (between T x c) ≡ []) (sym q)
-            (none (subst (λ x. follows D w c x ≡ false) q e) (subst (λ x. line (site_start S c) (term_of w) (between S x c) ≡ []) q p))
-        | inr d ↦ lines l d ∙ p
-      ]
+      others = one-and-others _ i none (λ l d e p. lines l d ∙ p)
 
   -- ---- a joiner
 
@@ -295,17 +286,6 @@ module _ (S T : LogState) (H : LogsHold S) (f : LogsLater S T) (c : ℕ) (site :
         rw (site.start) (comes l (follows-before w l true e) below (k.comes l (follows-before w l true e) below));
   }
 
-  pub wordless-keeps : (j : Joining) → SameRun S T c → Wordless S c j → Wordless T c j
-  wordless-keeps j run k = record {
-    stream = k.stream;
-    loads = k.loads;
-    counts = k.counts;
-    tasks = k.tasks;
-    empty = site.log ∙ k.empty;
-    floor = site.floor ∙ k.floor;
-    never = never-keeps run k.never;
-  }
-
   -- where what it looks at is given anew
   pub in_word-keeps-with : (w : Membership) (j : Joining) → SameRun S T c
       → ((l : ℕ) → line (site_start S c) (term_of w) (between S l c) ≡ [] → line (site_start S c) (term_of w) (between T l c) ≡ [])
@@ -344,7 +324,7 @@ module _ (S T : LogState) (H : LogsHold S) (f : LogsLater S T) (c : ℕ) (site :
   }
     where
       view : (o : Option Membership) → (S.sites c).view ≡ o → ViewIn S c j o → ViewIn T c j o
-      view None e v = wordless-keeps j run v
+      view None e v = search (site.log ∙ v.empty, site.floor ∙ v.floor, never-keeps run v.never)
       view (Some w) e v = word w e v
 
   -- where all is the same
@@ -371,26 +351,11 @@ module _ (S T : LogState) (H : LogsHold S) (f : LogsLater S T) (c : ℕ) (site :
   pub keeps-with : SameKept (S.sites c) (T.sites c)
       → ((a : Ask) → AsksToJoin S (part S c) a.slot (term_at S c) a.start → AsksToJoin T (part S c) a.slot (term_at S c) a.start)
       → AllByRecursion (SiteWaitingOk T c) (T.sites c).waiting → AllByRecursion (SiteWaitingOk T c) (T.pending c) → KeepsOk S c → KeepsOk T c
-  keeps-with same asks waiting pending k = record {
-    acks = rw (same.acks, term-still) (all-mono (λ a. IsSlot S a.0 → AckOk S a.0 (term_at S c) a.1) (λ a. IsSlot T a.0 → AckOk T a.0 (term_at S c) a.1)
-        (λ a p slot. ack-later S T H f a.0 (term_at S c) a.1 (p (slot-before S T H f a.0 slot))) (S.sites c).acks k.acks);
-    reports = rw (same.reports, term-still, part-later S T H f c) (all-mono (λ r. ReportOk S (part S c) r.slot (term_at S c) r.position r.floor r.tail)
-        (λ r. ReportOk T (part S c) r.slot (term_at S c) r.position r.floor r.tail)
-        (λ r. report-later S T H f (part S c) r.slot (term_at S c) r.position r.floor r.tail) (S.sites c).reports k.reports);
-    joiners = rw (same.joiners, term-still, part-later S T H f c) (all-mono (CountedOk S (part S c) (term_at S c)) (CountedOk T (part S c) (term_at S c))
-        (counted-later S T H f (part S c) (term_at S c)) (S.sites c).joiners k.joiners);
-    alone = rw (same.joiners) k.alone;
-    leads = elim k.leads [
-      | inl e ↦ inl (same.joiners ∙ e)
-      | inr e ↦ inr (rw (f.words.deployment, site.joining, site.view) e)
-    ];
-    asks = rw (same.asks, term-still, part-later S T H f c) (all-mono (λ a. AsksToJoin S (part S c) a.slot (term_at S c) a.start)
-        (λ a. AsksToJoin T (part S c) a.slot (term_at S c) a.start) asks (S.sites c).asks k.asks);
-    waiting = waiting;
-    pending = pending;
-    on_disk = rw (same.on_disk, site.log) k.on_disk;
-    held = same.held k.held;
-  }
+  keeps-with same asks waiting pending k = keeps-at S T H f c (T.sites c) refl term-still (rw same.acks k.acks) (rw same.reports k.reports)
+      (rw same.joiners (counteds-later S T H f (part S c) (term_at S c) (S.sites c).joiners k.joiners)) (rw same.joiners k.alone)
+      (elim k.leads [ inl e ↦ inl (same.joiners ∙ e) | inr e ↦ inr (rw (site.joining, site.view) e) ])
+      (rw same.asks (all-mono (λ a. AsksToJoin S (part S c) a.slot (term_at S c) a.start) (λ a. AsksToJoin T (part S c) a.slot (term_at S c) a.start) asks (S.sites c).asks k.asks))
+      waiting pending (rw (same.on_disk, site.log) k.on_disk) (same.held k.held)
 
   -- where the site is as it was, and starts that ask and run on join on
   pub keeps-later : T.sites c ≡ S.sites c → T.pending c ≡ S.pending c → ((i : ℕ) → Stays S T i → 0 < site_start T i → JoinsOn S T i) → KeepsOk S c → KeepsOk T c
@@ -407,18 +372,8 @@ module _ (S T : LogState) (H : LogsHold S) (f : LogsLater S T) (c : ℕ) (site :
       → (0 < site_start S c → (S.sites c).joining ≡ None → (w : Membership) → (S.sites c).view ≡ Some w → MemberOk S c w → MemberOk T c w)
       → ((j : Joining) → (S.sites c).joining ≡ Some j → JoinerOk S c j → JoinerOk T c j)
       → (0 < site_start S c → KeepsOk S c → KeepsOk T c) → (site_start S c ≡ 0 → KeepsNone S c → KeepsNone T c) → SiteOk S c → SiteOk T c
-  site-keeps-with ran member joiner keeps stopped k = record {
-    environment = λ e. site.start ∙ k.environment (rw (f.words.deployment) at e);
-    ran = λ up. rw (ran, site.start) (k.ran (rw (site.start) at up));
-    term = rw (term-still, site.greatest) k.term;
-    earlier = rw (site.earlier, site.greatest) k.earlier;
-    member = λ up e. let old = rw (site.start) at up in let none = sym site.joining ∙ e in
-        let m = k.member old none in (m.0, site.view ∙ m.1, member old none m.0 m.1 m.2);
-    joiner = λ j e. let is = sym site.joining ∙ e in joiner j is (k.joiner j is);
-    keeps = λ up. let old = rw (site.start) at up in keeps old (k.keeps old);
-    stopped = λ e. stopped (sym site.start ∙ e) (k.stopped (sym site.start ∙ e));
-    blank = λ e. site.view ∙ k.blank (sym site.start ∙ e);
-  }
+  site-keeps-with ran member joiner = site-runs S T H f c (record { start = site.start; greatest = site.greatest; earlier = site.earlier; view = site.view; member = λ e. site.joining ∙ e; joins = λ j e. (j, site.joining ∙ e) })
+      ran member (λ j k is e o. subst (JoinerOk T c) (same-some (sym is ∙ sym site.joining ∙ e)) (joiner j is o))
 
   -- where all is the same
   pub site-keeps : T.logs.ran c ≡ S.logs.ran c → SameRun S T c → SameTerm S T (part S c) (term_at S c) → (0 < site_start S c → (l : ℕ) → SameFrom S T c l (term_at S c))

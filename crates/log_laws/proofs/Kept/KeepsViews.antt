@@ -1,17 +1,6 @@
 -- What holds between a slot's site and its host's agent stays so, also when the site takes a message that is no word for it.
-use Rattle.std.proofs.Common.{◌≡◌, ◌<◌, List, [], ◌∷◌, ◌++◌, sym, subst, ap, ◌∙◌, ◌⊎◌, inl, inr, ◌+◌}
-use Rattle.std.specs.Prelude.{ℕ, ◌≤◌, Option, Some, None}
-use Rattle.volt_wire.specs.Word.{Membership}
-use Rattle.volt_wire.specs.declared.actor.Actor.{Actor}
-use Rattle.volt_wire.specs.declared.actor.Actor.TheVariants.{Director, Client, Agent, Site, Scanner}
+use Rattle.log_laws.proofs.Names.{◌≡◌, ◌<◌, List, [], ◌∷◌, ◌++◌, sym, subst, ap, ◌∙◌, ◌⊎◌, inl, inr, ◌+◌, ℕ, ◌≤◌, Option, Some, None, Membership, Actor, Agent, Site, term_of, host_of_slot, start_of_slot, Letter, AgentState, start_in_letter, starts_in, In, all-mono, all-at, all-from, in-right, LogState, LogsHold, MemberViews, FirstViews, RunViews, Starting, ViewsOk, ForeignOk, site_start, agent_to_site, views, view_of, sent_term}
 use Rattle.volt_wire.specs.declared.message.Msg.TheVariants as msg
-use Rattle.cluster_model.specs.Words.{term_of, host_of_slot, start_of_slot}
-use Rattle.cluster_model.specs.Letters.{Letter}
-use Rattle.cluster_model.specs.AgentState.{AgentState}
-use Rattle.cluster_model.specs.Laws.{start_in_letter, starts_in}
-use Rattle.cluster_steps.specs.Lists.{In}
-use Rattle.cluster_steps.proofs.Lists.{all-mono, all-at, all-from, in-right}
-use Rattle.log_laws.specs.Histories.{LogState, LogsHold, MemberViews, FirstViews, RunViews, Starting, ViewsOk, ForeignOk, site_start, agent_to_site, views, view_of, sent_term}
 use Rattle.log_laws.proofs.Kept.Moves.{LogsLater}
 
 -- ---- words that are under way
@@ -28,13 +17,7 @@ module _ (S T : LogState) (deployment : T.words.deployment ≡ S.words.deploymen
   )
 
   pub first_views-later : (c start : ℕ) (ws : List Membership) → FirstViews S c start ws → FirstViews T c start ws
-  first_views-later c start ws k = record {
-    first = k.first;
-    later = k.later;
-    views_are = k.views_are;
-    took = took_word start k.first k.took;
-    members = member_views-later c start (term_of k.first + 1) k.later k.members;
-  }
+  first_views-later c start ws k = search (took_word start k.first k.took, member_views-later c start (term_of k.first + 1) k.later k.members)
 
   pub run_views-later : (c : ℕ) (o : Option Membership) (ws : List Membership) → site_start T c ≡ site_start S c → RunViews S c o ws → RunViews T c o ws
   run_views-later c None ws e k = rw e (first_views-later c (site_start S c) ws k)
@@ -49,10 +32,7 @@ module _ (S T : LogState) (H : LogsHold S) (f : LogsLater S T) where
     | msg.StreamStart head ↦ λ e. e
     | m ↦ λ _. tt
   ] k
-  foreign-later c Director l k = k
-  foreign-later c (Client n) l k = k
-  foreign-later c (Site i) l k = k
-  foreign-later c (Scanner i) l k = k
+  foreign-later c from l k = k
 
 -- ---- of messages from the agent, others that are left of them
 
@@ -83,10 +63,7 @@ leaves-first start l ls wordless = record {
   seen = λ s w i. in-right w (view_of s l) (views s ls) i;
   none = λ s e. behind (view_of s l) (views s ls) e;
   running = λ up. ap (λ z. z ++ views start ls) (sym (wordless up));
-  starting = λ s i k. elim k [
-    | inl e ↦ absurd (e.1 i)
-    | inr e ↦ (e.2, ap (λ z. z ++ views s ls) (sym e.0))
-  ];
+  starting = λ s i k. elim k [ inl e ↦ absurd (e.1 i) | inr e ↦ (e.2, ap (λ z. z ++ views s ls) (sym e.0)) ];
 }
   where
     behind : (xs ys : List Membership) → xs ++ ys ≡ [] → ys ≡ []

@@ -1,28 +1,12 @@
 -- What is kept from one state to a later one.
-use Rattle.std.proofs.Common.{◌≡◌, ◌<◌, List, refl, sym, subst, ap, ◌∙◌, ◌⊎◌, inl, inr, ◌==◌, arith}
-use Rattle.std.specs.Prelude.{ℕ, ◌≤◌, max, length, Option, Some, None}
-use Rattle.std.specs.List.{AllByRecursion, list_any}
-use Rattle.volt_base.specs.declared.entry.Entry.{Entry}
-use Rattle.volt_wire.specs.Word.{Membership}
-use Rattle.volt_wire.specs.declared.actor.Actor.{Actor}
-use Rattle.volt_wire.specs.declared.actor.Actor.TheVariants.{Director, Client, Agent, Site, Scanner}
+use Rattle.log_laws.proofs.Names.{◌≡◌, ◌<◌, List, refl, sym, subst, ap, ◌∙◌, ◌⊎◌, inl, inr, ◌==◌, arith, ℕ, ◌≤◌, max, length, Option, Some, None, AllByRecursion, list_any, Entry, Membership, Actor, Agent, Site, start_of_slot, leader, Letter, Waiting, Queued, Job_, Admission, Joiner, Joining, In, Prefix, all-mono, none-and-some, same-some, prefix-length, prefix-refl, prefix-trans, Distinct, is_leader, map, Ask, SiteState, site_term, [], true, LogState, Logs, epoch_base, LogsHold, HasBeen, WasIn, AckOk, ReportOk, AsksToJoin, CountedOk, EndOk, MeantFor, LoadedOk, BeginsAt, SiteLetterOk, SiteWaitingFrom, SiteWaitingOk, ToldOk, AskedOk, QueuedLoadedOk, LoadsOk, IsSlot, AllLoaded, Entered, Streaming, Leadership, EnteredOk, StreamedOk, LeadershipOk, UnledOk, Last, Came, IsCounted, WordOf, part, site_start, log_at, term_at, flow, between, HeldOk, KeepsOk, asked}
 use Rattle.volt_wire.specs.declared.message.Msg.TheVariants as msg
-use Rattle.cluster_model.specs.Words.{start_of_slot, leader}
-use Rattle.cluster_model.specs.Letters.{Letter, Waiting}
-use Rattle.cluster_model.specs.AgentState.{Queued, Job_, Admission}
-use Rattle.cluster_model.specs.SiteState.{Joiner, Joining}
-use Rattle.cluster_steps.specs.Lists.{In, Prefix}
-use Rattle.cluster_steps.proofs.Lists.{all-mono, none-and-some, same-some}
-use Rattle.log_laws.specs.Histories.{LogState, Logs, epoch_base, LogsHold, HasBeen, WasIn, AckOk, ReportOk, AsksToJoin, CountedOk, EndOk, MeantFor, LoadedOk, BeginsAt, SiteLetterOk, SiteWaitingFrom, SiteWaitingOk, ToldOk, AskedOk, QueuedLoadedOk, LoadsOk, IsSlot, AllLoaded, Entered, Streaming, Leadership, EnteredOk, StreamedOk, LeadershipOk, UnledOk, Last, Unled, Came, IsCounted, WordOf, part, site_start, log_at, term_at, flow, between}
-use Rattle.cluster_steps.proofs.Prefixes.{prefix-length, prefix-refl, prefix-trans}
 use Rattle.log_laws.proofs.Kept.Moves.{LogsLater, EntersNow, Stays, JoinsOn, SameLeaderships}
+use Rattle.log_laws.proofs.Plain.{none-or-some}
 
 -- the same terms are led where nothing of them changes
 pub same-leaderships : (G H : Logs) → H.leadership ≡ G.leadership → SameLeaderships G H
-same-leaderships G H e = record {
-  kept = λ p t g is. (g, ap (λ r. r p t) e ∙ is, refl, prefix-refl g.log);
-  none = λ p t is. ap (λ r. r p t) e ∙ is;
-}
+same-leaderships G H e = record { kept = λ p t g is. (g, ap (λ r. r p t) e ∙ is, refl, prefix-refl g.log); none = λ p t is. ap (λ r. r p t) e ∙ is }
 
 -- who was in a term ran
 pub was-ran : (S : LogState) → LogsHold S → (c t a : ℕ) → WasIn S c t a → In a (S.logs.ran c)
@@ -116,10 +100,7 @@ module _ (S T : LogState) (H : LogsHold S) (f : LogsLater S T) where
         let r = k.position (sym s.start ∙ is) (rw s.earlier at below) in let m = s.log in omega (arith, r, m);
     later = λ x is start u e above now same. elim (f.streamed_now j.slot t x is) [
       | inr fresh ↦ absurd (fresh u e now (same ∙ sym start))
-      | inl old ↦ elim (f.entered_now j.slot u e now) [
-        | inl then ↦ k.later x old start u e above then same
-        | inr new ↦ entered-on x old start e same u new
-      ]
+      | inl old ↦ elim (f.entered_now j.slot u e now) [ inl then ↦ k.later x old start u e above then same | inr new ↦ entered-on x old start e same u new ]
     ];
   }
     where
@@ -235,10 +216,7 @@ module _ (S T : LogState) (H : LogsHold S) (f : LogsLater S T) where
 
       go : (from : Actor) → x.from ≡ from → SiteWaitingFrom S c from x.letter → SiteWaitingFrom T c from x.letter
       go (Site i) e p = site i e p
-      go (Agent h) e p = p
-      go Director e p = p
-      go (Client n) e p = p
-      go (Scanner i) e p = p
+      go from e p = p
 
   -- where all starts that ask and run on join on
   pub waiting-later-on : (c : ℕ) → site_start T c ≡ site_start S c → ((i : ℕ) → Stays S T i → 0 < site_start T i → JoinsOn S T i) → (x : Waiting) → SiteWaitingOk S c x → SiteWaitingOk T c x
@@ -246,6 +224,38 @@ module _ (S T : LogState) (H : LogsHold S) (f : LogsLater S T) where
 
   pub waiting-later : (c : ℕ) → site_start T c ≡ site_start S c → ((i : ℕ) → JoinsOn S T i) → (x : Waiting) → SiteWaitingOk S c x → SiteWaitingOk T c x
   waiting-later c start on = waiting-later-on c start (λ i _ _. on i)
+
+  -- all that wait, asked, or are counted
+  pub waitings-later : (c : ℕ) → site_start T c ≡ site_start S c → ((i : ℕ) → JoinsOn S T i) → (ws : List Waiting) → AllByRecursion (SiteWaitingOk S c) ws → AllByRecursion (SiteWaitingOk T c) ws
+  waitings-later c start on = all-mono (SiteWaitingOk S c) (SiteWaitingOk T c) (waiting-later c start on)
+
+  pub asks-later : (p t : ℕ) → ((c : ℕ) → JoinsOn S T c) → (as_ : List Ask) → AllByRecursion (λ a. AsksToJoin S p a.slot t a.start) as_ → AllByRecursion (λ a. AsksToJoin T p a.slot t a.start) as_
+  asks-later p t on = all-mono (λ a. AsksToJoin S p a.slot t a.start) (λ a. AsksToJoin T p a.slot t a.start) (λ a. ask-later p a.slot t a.start (on a.slot))
+
+  pub counteds-later : (p t : ℕ) (js : List Joiner) → AllByRecursion (CountedOk S p t) js → AllByRecursion (CountedOk T p t) js
+  counteds-later p t = all-mono (CountedOk S p t) (CountedOk T p t) (counted-later p t)
+
+  -- What a slot's site keeps that has this state: what it knew of copies and reports it knows still.
+  pub keeps-at : (c : ℕ) (s : SiteState) → T.sites c ≡ s → site_term s ≡ term_at S c
+      → AllByRecursion (λ a. IsSlot S a.0 → AckOk S a.0 (term_at S c) a.1) s.acks
+      → AllByRecursion (λ r. ReportOk S (part S c) r.slot (term_at S c) r.position r.floor r.tail) s.reports
+      → AllByRecursion (CountedOk T (part S c) (term_at S c)) s.joiners → Distinct (map (λ j. j.slot) s.joiners)
+      → ((s.joiners ≡ []) ⊎ (is_leader S.words.deployment c s ≡ true)) → AllByRecursion (λ a. AsksToJoin T (part S c) a.slot (term_at S c) a.start) s.asks
+      → AllByRecursion (SiteWaitingOk T c) s.waiting → AllByRecursion (SiteWaitingOk T c) (T.pending c) → s.on_disk ≤ length s.log → AllByRecursion HeldOk s.held → KeepsOk T c
+  keeps-at c s is term acks reports joiners alone leads asks waiting pending on_disk held = record {
+    acks = rw (is, term) (all-mono (λ a. IsSlot S a.0 → AckOk S a.0 (term_at S c) a.1) (λ a. IsSlot T a.0 → AckOk T a.0 (term_at S c) a.1)
+        (λ a p slot. ack-later a.0 (term_at S c) a.1 (p (slot-before a.0 slot))) s.acks acks);
+    reports = rw (is, term, part-later c) (all-mono (λ r. ReportOk S (part S c) r.slot (term_at S c) r.position r.floor r.tail)
+        (λ r. ReportOk T (part S c) r.slot (term_at S c) r.position r.floor r.tail) (λ r. report-later (part S c) r.slot (term_at S c) r.position r.floor r.tail) s.reports reports);
+    joiners = rw (is, term, part-later c) joiners;
+    alone = rw is alone;
+    leads = rw (is, f.words.deployment) leads;
+    asks = rw (is, term, part-later c) asks;
+    waiting = rw is waiting;
+    pending = pending;
+    on_disk = rw (is, log_at) on_disk;
+    held = rw is held;
+  }
 
   -- ---- what was loaded
 
@@ -261,9 +271,7 @@ module _ (S T : LogState) (H : LogsHold S) (f : LogsLater S T) where
     | m ↦ λ _. tt
   ] k
   asked-later (Site i) l k = told-later i l k
-  asked-later Director l k = tt
-  asked-later (Client n) l k = tt
-  asked-later (Scanner i) l k = tt
+  asked-later from l k = tt
 
   pub queued-later : (q : Queued) → QueuedLoadedOk S q → QueuedLoadedOk T q
   queued-later (Job_ job) k = tt
@@ -280,7 +288,13 @@ module _ (S T : LogState) (H : LogsHold S) (f : LogsLater S T) where
 
   -- the last leader's term is the same one, if the same terms were led
   pub last-before : (p q v t : ℕ) → q ≡ p → SameLeaderships S.logs T.logs → (l : Last T.logs q v t) → (k : Last S.logs p v t) × Prefix k.leadership.log l.leadership.log
-  last-before p q v t eq same l = go (S.logs.leadership p v) refl
+  last-before p q v t eq same l = elim (none-or-some (S.logs.leadership p v)) [
+    | inl e ↦ absurd (none-and-some (same.none p v e) led)
+    | inr (g, e) ↦ let h = same.kept p v g e in (
+      record { leadership = g; led = e; below = l.below; greatest = λ x k is. let r = same.kept p x k is in l.greatest x r.0 (at x r.0 r.1) },
+      subst (λ z. Prefix g.log z.log) (same-some (sym h.1 ∙ led)) h.3,
+    )
+  ]
     where
       at : (x : ℕ) (g : Leadership) → T.logs.leadership p x ≡ Some g → T.logs.leadership q x ≡ Some g
       at x g is = ap (λ z. T.logs.leadership z x) eq ∙ is
@@ -288,20 +302,11 @@ module _ (S T : LogState) (H : LogsHold S) (f : LogsLater S T) where
       led : T.logs.leadership p v ≡ Some l.leadership
       led = ap (λ z. T.logs.leadership z v) (sym eq) ∙ l.led
 
-      go : (o : Option Leadership) → S.logs.leadership p v ≡ o → (k : Last S.logs p v t) × Prefix k.leadership.log l.leadership.log
-      go None e = absurd (none-and-some (same.none p v e) led)
-      go (Some g) e = let h = same.kept p v g e in (
-        record {
-          leadership = g;
-          led = e;
-          below = l.below;
-          greatest = λ x k is. let r = same.kept p x k is in l.greatest x r.0 (at x r.0 r.1);
-        },
-        subst (λ z. Prefix g.log z.log) (same-some (sym h.1 ∙ led)) h.3,
-      )
-
-  pub unled-before : (p v t : ℕ) → SameLeaderships S.logs T.logs → Unled T.logs p v t → Unled S.logs p v t
-  unled-before p v t same k x g is = let r = same.kept p x g is in k x r.0 r.1
+  -- What is everywhere in a term in which a start was is in its log still.
+  reach-later : (c t a : ℕ) → HasBeen S c t a → ((p t : ℕ) → T.logs.reach p t ≡ S.logs.reach p t) → (site_start S c ≡ a → S.logs.reach (part S c) t ≤ length (log_at S c))
+      → site_start T c ≡ a → T.logs.reach (part T c) t ≤ length (log_at T c)
+  reach-later c t a been reach within runs = let s = stays c a been.some been.ran runs in
+      let n = within (sym s.start ∙ runs) in let m = s.log in let r = reach (part S c) t in rw (part-later c) (omega (arith, n, m, r))
 
   -- Of a slot that entered a term, where what is everywhere is in its log still.
   pub entered-later : (c t : ℕ) (e : Entered) → EnteredOk S c t e → SameLeaderships S.logs T.logs
@@ -321,7 +326,7 @@ module _ (S T : LogState) (H : LogsHold S) (f : LogsLater S T) where
           rw (part-later c) (let r = f.reach (part S c) v in let n = b.1 in omega (arith, r, n)),
         );
     still = λ v g below then start none. elim (f.entered_now c v g then) [
-      | inl old ↦ k.still v g below old start (unled-before (part S c) v t same (rw (part-later c) at none))
+      | inl old ↦ k.still v g below old start (let u = rw (part-later c) at none in λ x g is. let r = same.kept (part S c) x g is in u x r.0 r.1)
       | inr new ↦ let up = (k.running (sym new.start ∙ start)).1 in let low = new.above in absurd (omega (arith, up, low, below))
     ];
     running = λ at_start. let s = stays c e.start k.been.some k.been.ran at_start in
@@ -335,33 +340,42 @@ module _ (S T : LogState) (H : LogsHold S) (f : LogsLater S T) where
       led-before v (Some h) old led below = since v h old below
 
   -- Of a slot that took the stream of a term, where it didn't enter it, what is everywhere is in its log still, and it is counted.
-  pub streamed-later : (c t : ℕ) (x : Streaming) → (k : StreamedOk S c t x) → SameLeaderships S.logs T.logs → T.logs.entered c t ≡ None
+  pub streamed-later : (c t : ℕ) (x : Streaming) → (k : StreamedOk S c t x)
+      → (h : Leadership) × (T.logs.leadership (part S c) t ≡ Some h) × (h.begun ≡ k.leadership.begun) × Prefix k.leadership.log h.log → T.logs.entered c t ≡ None
       → (site_start T c ≡ x.start → T.logs.reach (part T c) t ≤ length (log_at T c))
       → (IsCounted S c x.start x.stream_start k.word → IsCounted T c x.start x.stream_start k.word) → StreamedOk T c t x
-  streamed-later c t x k same apart reach counted =
-      let r = same.kept (part S c) t k.leadership k.led in record {
-        word = k.word;
-        took = f.words.took_word x.start k.word k.took;
-        term_is = k.term_is;
-        apart = apart;
-        later = λ u e is start. elim (f.entered_now c u e is) [
-          | inl old ↦ k.later u e old start
-          | inr new ↦ let r = k.running (sym new.start ∙ start) in let up = r.1 in let above = new.above in let n = r.3 in let m = new.log in
-              (omega (arith, up, above), omega (arith, n, m))
-        ];
-        leadership = r.0;
-        led = rw (part-later c) r.1;
-        behind = rw r.2 k.behind;
-        been = been-later c t x.start k.been;
-        running = λ is. let s = stays c x.start k.been.some k.been.ran is in
-            let o = k.running (sym s.start ∙ is) in (
-              rw s.earlier o.0,
-              (let a = o.1 in let b = s.term in omega (arith, a, b)),
-              reach is,
-              (let a = o.3 in let b = s.log in omega (arith, a, b)),
-            );
-        counted = counted k.counted;
-      }
+  streamed-later c t x k r apart reach counted = record {
+    word = k.word;
+    took = f.words.took_word x.start k.word k.took;
+    term_is = k.term_is;
+    apart = apart;
+    later = λ u e is start. elim (f.entered_now c u e is) [
+      | inl old ↦ k.later u e old start
+      | inr new ↦ let r = k.running (sym new.start ∙ start) in let up = r.1 in let above = new.above in let n = r.3 in let m = new.log in
+          (omega (arith, up, above), omega (arith, n, m))
+    ];
+    leadership = r.0;
+    led = rw (part-later c) r.1;
+    behind = rw r.2 k.behind;
+    been = been-later c t x.start k.been;
+    running = λ is. let s = stays c x.start k.been.some k.been.ran is in
+        let o = k.running (sym s.start ∙ is) in (
+          rw s.earlier o.0,
+          (let a = o.1 in let b = s.term in omega (arith, a, b)),
+          reach is,
+          (let a = o.3 in let b = s.log in omega (arith, a, b)),
+        );
+    counted = counted k.counted;
+  }
+
+  -- So it is of all, where the same terms are led, and what is everywhere in them is the same.
+  pub entereds-later : SameLeaderships S.logs T.logs → ((p t : ℕ) → T.logs.reach p t ≡ S.logs.reach p t) → (c t : ℕ) (e : Entered) → S.logs.entered c t ≡ Some e → EnteredOk T c t e
+  entereds-later same reach c t e is = let k = H.entered c t e is in entered-later c t e k same (reach-later c t e.start k.been reach (λ runs. (k.running runs).2))
+      (λ v g led below. let a = k.since v g led below in let r = reach (part S c) v in omega (arith, a, r))
+
+  pub streameds-later : SameLeaderships S.logs T.logs → ((p t : ℕ) → T.logs.reach p t ≡ S.logs.reach p t) → (c t : ℕ) (x : Streaming) (k : StreamedOk S c t x) → T.logs.entered c t ≡ None
+      → (IsCounted S c x.start x.stream_start k.word → IsCounted T c x.start x.stream_start k.word) → StreamedOk T c t x
+  streameds-later same reach c t x k apart = streamed-later c t x k (same.kept (part S c) t k.leadership k.led) apart (reach-later c t x.start k.been reach (λ runs. (k.running runs).2))
 
   -- Of a term that a leader began.
   pub leadership-later : (p t : ℕ) (g h : Leadership) → h.begun ≡ g.begun → Prefix g.log h.log → T.logs.reach p t ≤ length g.log → LeadershipOk S p t g → LeadershipOk T p t h
@@ -379,13 +393,12 @@ module _ (S T : LogState) (H : LogsHold S) (f : LogsLater S T) where
   -- where what is everywhere is in its log still
   pub leaderships-later : SameLeaderships S.logs T.logs → ((p t : ℕ) (g : Leadership) → S.logs.leadership p t ≡ Some g → T.logs.reach p t ≤ length g.log)
       → (p t : ℕ) (h : Leadership) → T.logs.leadership p t ≡ Some h → LeadershipOk T p t h
-  leaderships-later same within p t h led = go (S.logs.leadership p t) refl
-    where
-      go : (o : Option Leadership) → S.logs.leadership p t ≡ o → LeadershipOk T p t h
-      go None e = absurd (none-and-some (same.none p t e) led)
-      go (Some g) e = let r = same.kept p t g e in
-          let is = same-some (sym r.1 ∙ led) in
-          leadership-later p t g h (ap (λ z. z.begun) (sym is) ∙ r.2) (subst (λ z. Prefix g.log z.log) is r.3) (within p t g e) (H.leaderships p t g e)
+  leaderships-later same within p t h led = elim (none-or-some (S.logs.leadership p t)) [
+    | inl e ↦ absurd (none-and-some (same.none p t e) led)
+    | inr (g, e) ↦ let r = same.kept p t g e in
+        let is = same-some (sym r.1 ∙ led) in
+        leadership-later p t g h (ap (λ z. z.begun) (sym is) ∙ r.2) (subst (λ z. Prefix g.log z.log) is r.3) (within p t g e) (H.leaderships p t g e)
+  ]
 
   -- Of one that none began.
   pub unled-later : (p t : ℕ) → T.logs.reach p t ≡ S.logs.reach p t → UnledOk S p t → UnledOk T p t
@@ -393,11 +406,10 @@ module _ (S T : LogState) (H : LogsHold S) (f : LogsLater S T) where
   unled-later p t same (inr (c, e, is, entered, reach)) = inr (c, e, part-later c ∙ is, f.entered c t e entered, same ∙ reach)
 
   pub unleds-later : SameLeaderships S.logs T.logs → (p t : ℕ) → T.logs.reach p t ≡ S.logs.reach p t → T.logs.leadership p t ≡ None → UnledOk T p t
-  unleds-later same p t reach led = go (S.logs.leadership p t) refl
-    where
-      go : (o : Option Leadership) → S.logs.leadership p t ≡ o → UnledOk T p t
-      go None e = unled-later p t reach (H.unled p t e)
-      go (Some g) e = absurd (none-and-some led (same.kept p t g e).1)
+  unleds-later same p t reach led = elim (none-or-some (S.logs.leadership p t)) [
+    | inl e ↦ unled-later p t reach (H.unled p t e)
+    | inr (g, e) ↦ absurd (none-and-some led (same.kept p t g e).1)
+  ]
 
   pub first-later : SameLeaderships S.logs T.logs → (p : ℕ) → (g : Leadership) × (T.logs.leadership p (epoch_base T) ≡ Some g)
   first-later same p = let o = H.first p in let r = same.kept p (epoch_base S) o.0 o.1 in (r.0, rw base-later r.1)

@@ -1,18 +1,7 @@
 -- Of what the proofs speak: the state after a turn of a site, what is kept in a later one, and what a turn adds to the history.
-use Rattle.std.proofs.Common.{refl, ◌≡◌, ◌<◌, List, ◌⊎◌, arith}
-use Rattle.std.specs.Prelude.{ℕ, ◌≤◌, length, Some, None, true}
-use Rattle.std.specs.List.{AllByRecursion}
-use Rattle.volt_wire.specs.Word.{Membership}
-use Rattle.volt_wire.specs.declared.actor.Actor.{Actor}
-use Rattle.volt_wire.specs.declared.actor.Actor.TheVariants.{Site}
+use Rattle.log_laws.proofs.Names.{refl, ◌≡◌, ◌<◌, List, ◌⊎◌, arith, ℕ, ◌≤◌, length, Some, None, true, AllByRecursion, Membership, Actor, Site, Deployment, part_of_slot, term_of, leader, start_of_slot, Letter, Sends, Turn, Waiting, SiteState, Joining, site_term, took, sent, set_at, In, Prefix, LogState, Logs, Entered, Streaming, Leadership, LogsHold, site_start, log_at, term_at, JoinsIn}
 use Rattle.volt_wire.specs.declared.message.Msg.TheVariants as msg
-use Rattle.cluster_model.specs.Words.{Deployment, part_of_slot, term_of, leader, start_of_slot}
-use Rattle.cluster_model.specs.Letters.{Letter, Sends, Turn, Waiting}
-use Rattle.cluster_model.specs.SiteState.{SiteState, Joining, site_term}
-use Rattle.cluster_model.specs.World.{took, sent, set_at}
-use Rattle.cluster_steps.specs.Lists.{In, Prefix}
 use Rattle.word_laws.proofs.Moves as word
-use Rattle.log_laws.specs.Histories.{LogState, Logs, Entered, Streaming, Leadership, LogsHold, site_start, log_at, term_at, JoinsIn}
 
 -- ---- states
 
@@ -46,15 +35,7 @@ pub record SiteRises (a b : SiteState) : Type 0 where
 
 -- one that is as it was
 pub site-stays : (a : SiteState) → SiteRises a a
-site-stays a = record {
-  start = refl;
-  earlier = refl;
-  greatest = omega arith;
-  log = omega arith;
-  term = omega arith;
-  member = λ e. e;
-  loaded = λ k e. (k, e, λ l. l);
-}
+site-stays a = record { start = refl; earlier = refl; greatest = omega arith; log = omega arith; term = omega arith; member = λ e. e; loaded = λ k e. (k, e, λ l. l) }
 
 -- so it is with a slot's site
 abbrev pub Stays : LogState → LogState → ℕ → Type 0
@@ -132,10 +113,7 @@ pub record Enters (i low : ℕ) (F G : Logs) : Type 0 where
 
 -- no stream begins with this message
 abbrev pub NoStreamStart : Letter → Type 0
-NoStreamStart l = elim l.body as (λ _. Type 0) [
-  | msg.StreamStart head ↦ ⊥
-  | _ ↦ Unit {0}
-]
+NoStreamStart l = elim l.body as (λ _. Type 0) [ msg.StreamStart head ↦ ⊥ | _ ↦ Unit {0} ]
 
 -- A turn of the site of slot i, from a state: the site goes on with its start, begins no stream, and what holds, holds after it.
 pub record Turns (S : LogState) (i : ℕ) (t : Turn SiteState) : Type 0 where

@@ -1,28 +1,12 @@
 -- One site changes, with what is under way to it: all that holds of the others holds after it.
-use Rattle.std.proofs.Common.{List, ap, arith, false, inl, inr, refl, subst, sym, true, ◌≡◌, ◌++◌, ◌∙◌, ◌⊎◌, ◌<◌, ◌≤◌, []}
-use Rattle.std.proofs.lemmas.Bool.{cases_eq}
-use Rattle.std.specs.List.{AllByRecursion}
-use Rattle.std.specs.Prelude.{None, Option, Some, is_some, length, map, ℕ}
-use Rattle.volt_base.specs.declared.entry.Entry.{Entry}
-use Rattle.volt_wire.specs.Word.{Membership}
-use Rattle.volt_wire.specs.declared.actor.Actor.{Actor}
-use Rattle.volt_wire.specs.declared.actor.Actor.TheVariants.{Agent, Director, Site}
-use Rattle.cluster_model.specs.Letters.{Letter, Waiting, becomes}
-use Rattle.cluster_model.specs.SiteState.{Ask, Joiner, Joining, SiteState, Streamed, is_leader}
-use Rattle.cluster_model.specs.Words.{term_of}
-use Rattle.cluster_model.specs.World.{set_at}
-use Rattle.cluster_steps.proofs.Lists.{all-mono, none-and-some, same-some, set-here, set-there}
-use Rattle.cluster_steps.proofs.Channels.{sent-nothing}
-use Rattle.word_laws.specs.Histories.{Distinct}
-use Rattle.cluster_steps.specs.Lists.{In}
-use Rattle.log_laws.specs.Histories.{AsksToJoin, BeginsAt, Coming, CountedOk, Flow, Follows, ForeignOk, LogsHold, InWord, IsCounted, IsSlot, JoinerOk, KeepsOk, LogState, MemberOk, Inert, SiteLetterOk, StreamIn, StreamedOk, Streaming, Took, Untaken, ViewIn, SiteWaitingOk, Wordless, asked, between, stream_ends_in, flow, follows, line, part, site_start, term_at, log_at}
+use Rattle.log_laws.proofs.Names.{List, ap, arith, false, inl, inr, refl, subst, sym, true, ◌≡◌, ◌++◌, ◌∙◌, ◌⊎◌, ◌<◌, ◌≤◌, [], AllByRecursion, None, Option, Some, is_some, length, map, ℕ, Entry, Membership, Actor, Agent, Director, Site, Letter, Waiting, becomes, Joiner, Joining, SiteState, Streamed, is_leader, term_of, set_at, all-mono, none-and-some, same-some, set-here, set-there, sent-nothing, Distinct, In, leader-view, set-both, AsksToJoin, BeginsAt, Coming, CountedOk, Flow, Follows, ForeignOk, LogsHold, InWord, IsCounted, IsSlot, JoinerOk, KeepsOk, LogState, MemberOk, Inert, SiteLetterOk, StreamIn, StreamedOk, Streaming, Took, Untaken, ViewIn, SiteWaitingOk, Wordless, asked, between, stream_ends_in, flow, follows, line, part, site_start, term_at, log_at}
 use Rattle.log_laws.proofs.Kept.Asked.{AsksLess, at-most-none, at-most-one}
-use Rattle.cluster_steps.proofs.Leaders.{leader-view}
-use Rattle.log_laws.proofs.Kept.Keeps.{CountedBy, SameFrom, SiteStays, Uncounted, counted-from, still-same}
-use Rattle.log_laws.proofs.Kept.Laters.{letter-later, streamed-later}
+use Rattle.log_laws.proofs.Kept.Keeps.{CountedBy, SameFrom, SiteStays, Uncounted, counted-from, still-same, was-member}
+use Rattle.log_laws.proofs.Kept.Laters.{letter-later, streameds-later}
 use Rattle.log_laws.proofs.Kept.Moves.{LogsGo, LogsLater, Unentered}
 use Rattle.log_laws.proofs.Kept.Grown.{grown-reach, enters-same}
-use Rattle.log_laws.proofs.Kept.Steady.{SiteGoesOn, Steady, goes-on-same, shifted, steady-asks, steady-counted, steady-holds, steady-joiner, steady-joins, steady-keeps, steady-later, steady-member, steady-leaderships}
+use Rattle.log_laws.proofs.Kept.Steady.{SiteGoesOn, Steady, goes-on-same, shifted, steady-asks, steady-counted, steady-holds, steady-joiner, steady-joins, steady-keeps, steady-later, steady-member, steady-leaderships, goes-runs}
+use Rattle.log_laws.proofs.Plain.{one-and-others}
 
 -- the state in which the site of slot i is this one, with these channels, with what is pending, and with the streams that were taken
 abbrev pub with-site : LogState → ℕ → SiteState → (Actor → Actor → List Letter) → (ℕ → List Waiting) → (ℕ → ℕ → Option Streaming) → LogState
@@ -52,21 +36,12 @@ module _ (S : LogState) (H : LogsHold S) (i : ℕ) (s : SiteState) (ch : Actor �
 
   pub takes-steady : Steady S ch (set_at S.sites i s) st
   takes-steady = record {
-    sites = λ c. elim (cases_eq c i) [
-      | inl e ↦ subst (λ z. SiteGoesOn (S.sites z) (set_at S.sites i s z)) (sym e) (subst (SiteGoesOn (S.sites i)) (sym (set-here S.sites i s)) k.goes)
-      | inr n ↦ subst (SiteGoesOn (S.sites c)) (sym (there c n)) (goes-on-same (S.sites c))
-    ];
+    sites = set-both (λ c x. SiteGoesOn (S.sites c) x) S.sites i s k.goes (λ c n. goes-on-same (S.sites c));
     agents = k.agents;
     told = k.told;
     director = k.director;
-    streamed = λ c t x is. elim (cases_eq c i) [
-      | inl e ↦ subst (λ z. st z t ≡ Some x) (sym e) (k.stays t x (subst (λ z. S.logs.streamed z t ≡ Some x) e is))
-      | inr n ↦ k.streamed c t n ∙ is
-    ];
-    fresh = λ c t x is. elim (cases_eq c i) [
-      | inl e ↦ subst (λ z. (S.logs.streamed z t ≡ Some x) ⊎ Unentered S.logs z x.start) (sym e) (k.fresh t x (subst (λ z. st z t ≡ Some x) e is))
-      | inr n ↦ inl (sym (k.streamed c t n) ∙ is)
-    ];
+    streamed = one-and-others _ i k.stays (λ c n t x is. k.streamed c t n ∙ is);
+    fresh = one-and-others _ i k.fresh (λ c n t x is. inl (sym (k.streamed c t n) ∙ is));
   }
 
   -- who was counted is, by this site and by others
@@ -74,10 +49,8 @@ module _ (S : LogState) (H : LogsHold S) (i : ℕ) (s : SiteState) (ch : Actor �
   takes-counted c a stream_start w h = counted-from S (with-site S i s ch pend st) H (steady-later S ch (set_at S.sites i s) pend st H takes-steady) i there c a stream_start w (k.counted c a stream_start w) h
 
   takes-uncounted : (l c a : ℕ) → Uncounted S l c a → Uncounted (with-site S i s ch pend st) l c a
-  takes-uncounted l c a h = elim (cases_eq l i) [
-    | inl e ↦ subst (λ z. Uncounted (with-site S i s ch pend st) z c a) (sym e) (k.uncounted c a (subst (λ z. Uncounted S z c a) e h))
-    | inr n ↦ λ j is. h j (rw (there l n) at is)
-  ]
+  takes-uncounted l c a =
+      one-and-others (λ l. Uncounted S l c a → Uncounted (with-site S i s ch pend st) l c a) i (k.uncounted c a) (λ l n h j is. h j (rw (there l n) at is)) l
 
   -- All holds after it, where this holds of that slot.
   pub takes-holds :
@@ -89,35 +62,17 @@ module _ (S : LogState) (H : LogsHold S) (i : ℕ) (s : SiteState) (ch : Actor �
       → ((t : ℕ) (x : Streaming) → st i t ≡ Some x → StreamedOk (with-site S i s ch pend st) i t x)
       → LogsHold (with-site S i s ch pend st)
   takes-holds member joiner keeps letters foreign streamed = steady-holds S ch (set_at S.sites i s) pend st H takes-steady
-      (λ c w up none h. elim (cases_eq c i) [
-        | inl e ↦ subst (λ z. MemberOk T z w) (sym e) (member w (subst (λ z. (S.sites z).joining ≡ None) e none) (subst (λ z. MemberOk S z w) e h))
-        | inr n ↦ steady-member S ch (set_at S.sites i s) pend st H takes-steady c (still c n) (λ l a t. ap (line a t) (k.others (Site l) c n)) w h
-      ])
-      (λ c j is. elim (cases_eq c i) [
-        | inl e ↦ subst (λ z. JoinerOk T z j) (sym e) (joiner j (ap (λ x. x.joining) (sym (set-here S.sites i s)) ∙ subst (λ z. (set_at S.sites i s z).joining ≡ Some j) e is))
-        | inr n ↦ steady-joiner S ch (set_at S.sites i s) pend st H takes-steady c (still c n) (λ t x own _. sym (k.streamed c t n) ∙ own)
-            (λ l. from c n l) (λ stream_start w. takes-counted c (site_start S c) stream_start w) j is
-      ])
-      (λ c up h. elim (cases_eq c i) [
-        | inl e ↦ subst (KeepsOk T) (sym e) (keeps (subst (KeepsOk S) e h))
-        | inr n ↦ kept c n h
-      ])
-      (λ c none. elim (cases_eq c i) [
-        | inl e ↦ let up = subst (λ z. 0 < site_start S z) (sym e) k.up in absurd (omega (arith, up, none))
-        | inr n ↦ (there c n, k.pending c n)
-      ])
-      (λ l c slot. elim (cases_eq c i) [
-        | inl e ↦ subst (λ z. AllByRecursion (SiteLetterOk T l z) (ch (Site l) (Site z))) (sym e) (letters l (subst (IsSlot S) e slot))
-        | inr n ↦ rw (k.others (Site l) c n) (all-mono (SiteLetterOk S l c) (SiteLetterOk T l c) (λ x. to-other l c n x) (between S l c) (H.letters l c slot))
-      ])
-      (λ from c. elim (cases_eq c i) [
-        | inl e ↦ subst (λ z. AllByRecursion (ForeignOk S z from) (ch from (Site z))) (sym e) (foreign from)
-        | inr n ↦ rw (k.others from c n) (H.foreign from c)
-      ])
-      (λ c t x is. elim (cases_eq c i) [
-        | inl e ↦ subst (λ z. StreamedOk T z t x) (sym e) (streamed t x (subst (λ z. st z t ≡ Some x) e is))
-        | inr n ↦ other-stream c t x n (sym (k.streamed c t n) ∙ is)
-      ])
+      (one-and-others _ i (λ w up. member w) (λ c n w up none.
+      steady-member S ch (set_at S.sites i s) pend st H takes-steady c (still c n) (λ l a t. ap (line a t) (k.others (Site l) c n)) w))
+      (one-and-others _ i (λ j is. joiner j (ap (λ x. x.joining) (sym (set-here S.sites i s)) ∙ is)) (λ c n.
+      steady-joiner S ch (set_at S.sites i s) pend st H takes-steady c (still c n) (λ t x own _. sym (k.streamed c t n) ∙ own)
+      (from c n) (takes-counted c (site_start S c))))
+      (one-and-others _ i (λ up. keeps) (λ c n up. kept c n))
+      (one-and-others _ i (λ none. let up = k.up in absurd (omega (arith, up, none))) (λ c n none. (there c n, k.pending c n)))
+      (λ l. one-and-others _ i (letters l) (λ c n slot.
+      rw (k.others (Site l) c n) (all-mono (SiteLetterOk S l c) (SiteLetterOk T l c) (to-other l c n) (between S l c) (H.letters l c slot))))
+      (λ from. one-and-others _ i (foreign from) (λ c n. rw (k.others from c n) (H.foreign from c)))
+      (one-and-others _ i streamed (λ c n t x is. other-stream c t x n (sym (k.streamed c t n) ∙ is)))
     where
       T : LogState
       T = with-site S i s ch pend st
@@ -151,8 +106,7 @@ module _ (S : LogState) (H : LogsHold S) (i : ℕ) (s : SiteState) (ch : Actor �
 
       other-stream : (c t : ℕ) (x : Streaming) → (c ≡ i → ⊥) → S.logs.streamed c t ≡ Some x → StreamedOk T c t x
       other-stream c t x n is = let h = H.streamed c t x is in
-          streamed-later S T H later c t x h (steady-leaderships S ch (set_at S.sites i s) pend st H takes-steady) h.apart
-          (λ at. subst (λ z. S.logs.reach (part S c) t ≤ length z.log) (sym (there c n)) (h.running (ap (λ z. z.start) (sym (there c n)) ∙ at)).2)
+          streameds-later S T H later (steady-leaderships S ch (set_at S.sites i s) pend st H takes-steady) (λ p t. refl) c t x h h.apart
           (takes-counted c x.start x.stream_start h.word)
 
 -- ---- the slot itself
@@ -189,24 +143,17 @@ module _ (S : LogState) (H : LogsHold S) (i : ℕ) (s : SiteState) (ch : Actor �
       (subst (λ x. AllByRecursion (λ a. AsksToJoin (with-site S i s ch pend st) (part S i) a.slot (term_at S i) a.start) x.asks) (sym here) asks)
       pending (subst (λ x. x.on_disk ≤ length x.log) (sym here) disk)
 
-  -- those that it counted, and asks that it kept
-  pub takes-joiners : (js : List Joiner) → AllByRecursion (CountedOk S (part S i) (term_at S i)) js
-      → AllByRecursion (CountedOk (with-site S i s ch pend st) (part S i) (term_at S i)) js
-  takes-joiners = steady-counted S ch (set_at S.sites i s) pend st H (takes-steady S H i s ch pend st k) (part S i) (term_at S i)
-
-  pub takes-asks : (as_ : List Ask) → AllByRecursion (λ a. AsksToJoin S (part S i) a.slot (term_at S i) a.start) as_
-      → AllByRecursion (λ a. AsksToJoin (with-site S i s ch pend st) (part S i) a.slot (term_at S i) a.start) as_
-  takes-asks = steady-asks S ch (set_at S.sites i s) pend st H (takes-steady S H i s ch pend st k) (part S i) (term_at S i)
-
   -- where it counts the same joiners and keeps the same asks
   pub takes-kept : s.joiners ≡ (S.sites i).joiners → s.asks ≡ (S.sites i).asks → (is_leader S.words.deployment i (S.sites i) ≡ true → is_leader S.words.deployment i s ≡ true)
       → (KeepsOk S i → s.on_disk ≤ length s.log) → (AllByRecursion (SiteWaitingOk S i) (S.pending i) → AllByRecursion (SiteWaitingOk S i) (pend i))
       → KeepsOk S i → KeepsOk (with-site S i s ch pend st) i
   takes-kept joiners asks leads disk pending h = takes-keeps h
-      (subst (AllByRecursion (CountedOk (with-site S i s ch pend st) (part S i) (term_at S i))) (sym joiners) (takes-joiners (S.sites i).joiners h.joiners))
+      (subst (AllByRecursion (CountedOk (with-site S i s ch pend st) (part S i) (term_at S i))) (sym joiners)
+      (steady-counted S ch (set_at S.sites i s) pend st H (takes-steady S H i s ch pend st k) (part S i) (term_at S i) (S.sites i).joiners h.joiners))
       (subst (λ js. Distinct (map (λ j. j.slot) js)) (sym joiners) h.alone)
       (elim h.leads [ inl none ↦ inl (joiners ∙ none) | inr is ↦ inr (leads is) ])
-      (subst (AllByRecursion (λ a. AsksToJoin (with-site S i s ch pend st) (part S i) a.slot (term_at S i) a.start)) (sym asks) (takes-asks (S.sites i).asks h.asks))
+      (subst (AllByRecursion (λ a. AsksToJoin (with-site S i s ch pend st) (part S i) a.slot (term_at S i) a.start)) (sym asks)
+      (steady-asks S ch (set_at S.sites i s) pend st H (takes-steady S H i s ch pend st k) (part S i) (term_at S i) (S.sites i).asks h.asks))
       (pending h.pending) (disk h)
 
   -- a joiner, with what is given of it in its word, and without one
@@ -367,10 +314,8 @@ module _ (S : LogState) (H : LogsHold S) (i : ℕ) (s : SiteState) (ch : Actor �
   -- the streams that it took before
   pub takes-stream : (t : ℕ) (x : Streaming) → S.logs.streamed i t ≡ Some x → StreamedOk (with-site S i s ch pend st) i t x
   takes-stream t x is = let h = H.streamed i t x is in
-      streamed-later S (with-site S i s ch pend st) H (steady-later S ch (set_at S.sites i s) pend st H (takes-steady S H i s ch pend st k)) i t x h
-      (steady-leaderships S ch (set_at S.sites i s) pend st H (takes-steady S H i s ch pend st k)) h.apart
-      (λ at. subst (λ z. S.logs.reach (part S i) t ≤ length z.log) (sym here)
-      (let r = h.running (sym start-here ∙ at) in let low = r.2 in let up = k.goes.log in omega (arith, low, up)))
+      streameds-later S (with-site S i s ch pend st) H (steady-later S ch (set_at S.sites i s) pend st H (takes-steady S H i s ch pend st k))
+      (steady-leaderships S ch (set_at S.sites i s) pend st H (takes-steady S H i s ch pend st k)) (λ p t. refl) i t x h h.apart
       (takes-counted S H i s ch pend st k i x.start x.stream_start h.word)
 
 -- ---- whom it counts
@@ -382,16 +327,9 @@ module _ (S : LogState) (i : ℕ) (s : SiteState) (ch : Actor → Actor → List
       → (c a stream_start : ℕ) (w : Membership) → CountedBy S c a stream_start w i → CountedBy (with-site S i s ch pend st) c a stream_start w i
   counts-on each c a stream_start w h = λ up none view.
       let e = set-here S.sites i s in
-      let r = h (subst (λ z. 0 < z) (ap (λ x. x.start) e ∙ g.start) up) (none-before (ap (λ x. x.joining) (sym e) ∙ none)) (sym g.view ∙ ap (λ x. x.view) (sym e) ∙ view) in
+      let r = h (subst (λ z. 0 < z) (ap (λ x. x.start) e ∙ g.start) up) (was-member (S.sites i) s (goes-runs (S.sites i) s g) (ap (λ x. x.joining) (sym e) ∙ none)) (sym g.view ∙ ap (λ x. x.view) (sym e) ∙ view) in
       let n = each r.0 r.1 in
       (n.0, subst (λ x. In n.0 x.joiners) (sym e) n.1, n.2 ∙ r.2, n.3 ∙ r.3, n.4 ∙ r.4)
-    where
-      none-before : s.joining ≡ None → (S.sites i).joining ≡ None
-      none-before none = go (S.sites i).joining refl
-        where
-          go : (o : Option Joining) → (S.sites i).joining ≡ o → (S.sites i).joining ≡ None
-          go None e = e
-          go (Some j) e = absurd (none-and-some none (g.joins j e).1)
 
   pub uncounts-on : ((n : Joiner) → In n s.joiners → (j : Joiner) × In j (S.sites i).joiners × (j.slot ≡ n.slot) × (j.start ≡ n.start))
       → (c a : ℕ) → Uncounted S i c a → Uncounted (with-site S i s ch pend st) i c a

@@ -1,27 +1,10 @@
 -- A turn whose messages are put in order: what holds after it as they were sent, holds then.
-use Rattle.std.proofs.Common.{◌≡◌, Bool, true, false, List, [], ◌∷◌, ◌++◌, append-nil, append_assoc, refl, sym, subst, ap, ◌∙◌, ◌==◌}
-use Rattle.std.proofs.lemmas.Bool.{eqb-true, eqb-false}
-use Rattle.std.proofs.Math.Path.{fun_ext}
-use Rattle.std.proofs.lemmas.List.Elements.{filter-append}
-use Rattle.std.specs.Prelude.{ℕ, filter, find, Option, Some, None, if◌then◌else◌}
-use Rattle.std.specs.List.{AllByRecursion}
-use Rattle.volt_wire.specs.declared.actor.Actor.{Actor}
-use Rattle.volt_wire.specs.declared.actor.Actor.TheVariants.{Director, Client, Agent, Site, Scanner}
-use Rattle.cluster_model.specs.Engine.{Database}
-use Rattle.cluster_model.specs.Words.{Deployment}
-use Rattle.cluster_model.specs.Letters.{same, Letter, Sends, Turn, ◌▸◌, only}
-use Rattle.cluster_model.specs.SiteState.{SiteState, Ask}
-use Rattle.cluster_model.specs.Site.{ordered, order_of, of_order, takes_asks, takes_first_ask, can_take}
-use Rattle.cluster_model.specs.World.{sent}
-use Rattle.cluster_steps.proofs.Lists.{all-append, all-behind, all-if, all-mono, filter-all}
-use Rattle.word_laws.proofs.Steps.{channel-holds}
-use Rattle.log_laws.specs.Histories.{LogState, Logs, LogsHold, SiteLetterOk, ForeignOk, ToldOk, site_start, term_at, between, agent_to_site, line, flow, stream_ends_in, asks_in, asks_waiting, asks_of_term, asked}
+use Rattle.log_laws.proofs.Names.{◌≡◌, Bool, true, false, List, [], ◌∷◌, ◌++◌, append-nil, append_assoc, refl, sym, subst, ap, ◌∙◌, ◌==◌, eqb-true, eqb-false, fun_ext, filter-append, ℕ, filter, find, Option, Some, None, if◌then◌else◌, AllByRecursion, Actor, Agent, Site, Scanner, Database, Deployment, same, Letter, Sends, Turn, ◌▸◌, only, SiteState, Ask, ordered, order_of, of_order, takes_asks, takes_first_ask, can_take, sent, all-append, all-behind, all-if, all-mono, filter-all, channel-holds, in_order, all-order, flat_map-append, LogState, Logs, LogsHold, SiteLetterOk, ForeignOk, ToldOk, site_start, term_at, between, agent_to_site, line, flow, stream_ends_in, asks_in, asks_waiting, asks_of_term, asked, ask_of, end_of, flow_of, line_of}
 use Rattle.log_laws.proofs.Kept.Moves.{after_site, NoStreamStart, Turns}
-use Rattle.cluster_steps.proofs.Sends.{in_order, all-order}
-use Rattle.log_laws.proofs.Plain.Lines.{line-append, flow-append, ends-append, asks-append, line-order, flow-order, ends-order, asks-order}
+use Rattle.log_laws.proofs.Plain.{line-order, flow-order, ends-order, asks-order}
 use Rattle.log_laws.proofs.Kept.Asked.{at-most-is}
 use Rattle.log_laws.proofs.Kept.KeepsViews.{leaves-same}
-use Rattle.log_laws.proofs.Kept.Inert.{logs_moved, channels-hold}
+use Rattle.log_laws.proofs.Kept.Inert.{channels-hold}
 
 -- ---- two turns that differ in the order of what they send
 
@@ -45,16 +28,16 @@ order-holds S i s out G plain H = channels-hold T ch H
     (record {
       words = channel-holds T.words ch (λ x y. refl) (λ x. refl) H.words;
       lines = λ l c up. sent-two S i s out (λ b. in_order (out b)) G (λ j xs ys. line (site_start T c) (term_at T c) ys ≡ line (site_start T c) (term_at T c) xs) (Site c)
-          (same-behind (line (site_start T c) (term_at T c)) (line-append (site_start T c) (term_at T c)) (between S i c) (out (Site c))
+          (same-behind (line (site_start T c) (term_at T c)) (flat_map-append (line_of (site_start T c) (term_at T c))) (between S i c) (out (Site c))
           (line-order (site_start T c) (term_at T c) (out (Site c))))
           (λ j other. refl) l;
       flows = λ l c up. sent-two S i s out (λ b. in_order (out b)) G (λ j xs ys. flow (site_start T c) (term_at T c) ys ≡ flow (site_start T c) (term_at T c) xs) (Site c)
-          (same-behind (flow (site_start T c) (term_at T c)) (flow-append (site_start T c) (term_at T c)) (between S i c) (out (Site c))
+          (same-behind (flow (site_start T c) (term_at T c)) (flat_map-append (flow_of (site_start T c) (term_at T c))) (between S i c) (out (Site c))
           (flow-order (site_start T c) (term_at T c) (out (Site c)) (plain c)))
           (λ j other. refl) l;
       ends = λ l c up. sent-two S i s out (λ b. in_order (out b)) G
           (λ j xs ys. stream_ends_in (site_start T c) (term_at T c) xs ≡ [] → stream_ends_in (site_start T c) (term_at T c) ys ≡ []) (Site c)
-          (λ e. same-behind (stream_ends_in (site_start T c) (term_at T c)) (ends-append (site_start T c) (term_at T c)) (between S i c) (out (Site c))
+          (λ e. same-behind (stream_ends_in (site_start T c) (term_at T c)) (flat_map-append (end_of (site_start T c) (term_at T c))) (between S i c) (out (Site c))
           (ends-order (site_start T c) (term_at T c) (out (Site c))) ∙ e)
           (λ j other e. e) l;
       leaves = λ c. leaves-same (site_start T c) (agent_to_site T c) (agent_to_site T c) refl;
@@ -63,7 +46,7 @@ order-holds S i s out G plain H = channels-hold T ch H
       told = λ c h. all-two (λ j. ToldOk T j) (Agent h) c (H.loads.told c h);
       asked = λ h g. refl;
     })
-    (λ c l t. at-most-is (asked T c l t) (asked (logs_moved T ch T.sites T.pending) c l t)
+    (λ c l t. at-most-is (asked T c l t) (asked (record T { words = record T.words { channel = ch } }) c l t)
     (ap (λ z. z ++ asks_waiting c t (T.sites l).waiting ++ asks_waiting c t (T.pending l) ++ asks_of_term c t (T.sites l)) (asks c l t)))
   where
     T : LogState
@@ -78,7 +61,7 @@ order-holds S i s out G plain H = channels-hold T ch H
 
     asks : (c l t : ℕ) → asks_in t (ch (Site c) (Site l)) ≡ asks_in t (between T c l)
     asks c l t = sent-two S i s out (λ b. in_order (out b)) G (λ j xs ys. asks_in t ys ≡ asks_in t xs) (Site l)
-        (same-behind (asks_in t) (asks-append t) (between S i l) (out (Site l)) (asks-order t (out (Site l)))) (λ j other. refl) c
+        (same-behind (asks_in t) (flat_map-append (ask_of t)) (between S i l) (out (Site l)) (asks-order t (out (Site l)))) (λ j other. refl) c
 
     in-prefix : (P : Letter → Type 0) (xs ys : List Letter) → AllByRecursion P (xs ++ ys) → AllByRecursion P xs
     in-prefix P [] ys k = tt
@@ -92,10 +75,7 @@ order-holds S i s out G plain H = channels-hold T ch H
 
     foreign : (from : Actor) (c : ℕ) → AllByRecursion (ForeignOk T c from) (ch from (Site c))
     foreign (Site j) c = all-two (λ j. ForeignOk T c (Site j)) (Site c) j (H.foreign (Site j) c)
-    foreign (Agent h) c = H.foreign (Agent h) c
-    foreign Director c = H.foreign Director c
-    foreign (Client n) c = H.foreign (Client n) c
-    foreign (Scanner x) c = H.foreign (Scanner x) c
+    foreign from c = H.foreign from c
 
 -- ---- a turn in order
 
@@ -118,7 +98,7 @@ IsLast l = order_of l ≡ 4
 
 -- messages of the last place behind others stay behind them
 pub order-behind : (xs ys : List Letter) → AllByRecursion IsLast ys → in_order (xs ++ ys) ≡ in_order xs ++ ys
-order-behind xs ys h = rw (
+order-behind xs ys h = let same-last = filter-all (λ l. order_of l == 4) ys (all-mono IsLast (λ l. (order_of l == 4) ≡ true) (λ l k. ap (λ m. m == 4) k) ys h) in rw (
   split 1,
   split 2,
   split 3,
@@ -143,9 +123,6 @@ order-behind xs ys h = rw (
         filter-nothing p [] k = refl
         filter-nothing p (z ∷ zs) k = rw (k.0) (filter-nothing p zs k.1)
 
-    same-last : of_order 4 ys ≡ ys
-    same-last = filter-all (λ l. order_of l == 4) ys (all-mono IsLast (λ l. (order_of l == 4) ≡ true) (λ l k. ap (λ m. m == 4) k) ys h)
-
 pub ordered-then : (t : Turn SiteState) (f : SiteState → Turn SiteState) → ((b : Actor) → AllByRecursion IsLast ((f t.state).sends b)) → ordered (t ▸ f) ≡ ordered t ▸ f
 ordered-then t f h = ap (λ z. record { state = (f t.state).state; sends = z }) (fun_ext (λ b. order-behind (t.sends b) ((f t.state).sends b) (h b)))
 
@@ -159,6 +136,3 @@ takes_asks-last E D i s b = go (find (can_take D i s) s.asks)
     go : (o : Option Ask) → AllByRecursion IsLast ((takes_first_ask E D i s o).sends b)
     go None = tt
     go (Some a) = all-append IsLast _ _ (one (Site a.slot) _ refl) (one (Scanner i) _ refl)
-
-pub ordered-asks : (E : Database) (D : Deployment) (i : ℕ) (t : Turn SiteState) → ordered (t ▸ takes_asks E D i) ≡ ordered t ▸ takes_asks E D i
-ordered-asks E D i t = ordered-then t (takes_asks E D i) (takes_asks-last E D i t.state)

@@ -1,22 +1,9 @@
 -- States after turns: their channels, their words, and one turn behind another.
-use Rattle.std.proofs.Common.{◌≡◌, Bool, true, false, List, ◌∷◌, ◌++◌, refl, sym, subst, ap, ◌∙◌, ◌==◌, arith}
-use Rattle.std.proofs.lemmas.Bool.{eqb-true, and_parts}
-use Rattle.std.proofs.lemmas.Bool.Decides.{nat_tests}
-use Rattle.std.specs.Prelude.{ℕ, ◌≤◌, ◌&&◌, length, if◌then◌else◌}
-use Rattle.std.specs.List.{AllByRecursion}
-use Rattle.volt_wire.specs.declared.actor.Actor.{Actor}
-use Rattle.volt_wire.specs.declared.actor.Actor.TheVariants.{Director, Client, Agent, Site, Scanner}
-use Rattle.cluster_model.specs.Letters.{same, Letter, Sends, no_sends, Turn, becomes, ◌▸◌}
-use Rattle.cluster_model.specs.SiteState.{SiteState}
-use Rattle.cluster_model.specs.World.{sent, rest, set_at}
+use Rattle.log_laws.proofs.Names.{◌≡◌, true, false, List, ◌∷◌, ◌++◌, refl, sym, subst, ap, ◌∙◌, ◌==◌, arith, eqb-true, and_parts, nat_tests, ℕ, ◌≤◌, ◌&&◌, length, AllByRecursion, Actor, Director, Client, Agent, Site, Scanner, same, Letter, Sends, no_sends, Turn, becomes, ◌▸◌, SiteState, sent, rest, set_at, In, all-append, all-at, all-from, all-mono, eqb-same, set-here, set-there, set-both, set-same, set-twice, sent-nothing, sent-twice, cond_both, inl, LogState, Logs, LogsHold, IsSlot, SiteLetterOk, ForeignOk, ViewsOk, site_start, log_at, between}
 use Rattle.word_laws.specs.Histories as word
-use Rattle.cluster_steps.specs.Lists.{In}
-use Rattle.cluster_steps.proofs.Lists.{all-append, all-at, all-from, all-mono, eqb-same, set-here, set-there, set-both, set-same, set-twice}
 use Rattle.word_laws.proofs.Moves as word_moves
 use Rattle.word_laws.proofs.Steps as word_steps
-use Rattle.cluster_steps.proofs.Channels.{sent-nothing, sent-twice}
-use Rattle.log_laws.specs.Histories.{LogState, Logs, LogsHold, IsSlot, SiteLetterOk, ForeignOk, ViewsOk, site_start, log_at, between}
-use Rattle.log_laws.proofs.Kept.Moves.{after_site, site_popped, LogsLater, Grown, Enters, Turns, LogsGo, NoStreamStart}
+use Rattle.log_laws.proofs.Kept.Moves.{after_site, site_popped, LogsLater, Grown, Enters, Turns, LogsGo, NoStreamStart, SiteRises}
 use Rattle.log_laws.proofs.Kept.Grown.{grown-same, grown-then, enters-same, enters-then}
 use Rattle.log_laws.proofs.Kept.KeepsViews.{foreign-later, views-keeps}
 
@@ -46,11 +33,8 @@ module _ (S : LogState) (i : ℕ) (s : SiteState) (out : Sends) (G : Logs) where
   -- of a channel from a site, whether it is this one or another
   pub sent-either : (P : ℕ → List Letter → Type 0) (b : Actor) → P i (S.words.channel (Site i) b ++ out b)
       → ((j : ℕ) → (j ≡ i → ⊥) → P j (S.words.channel (Site j) b)) → (j : ℕ) → P j ((after_site S i s out G).words.channel (Site j) b)
-  sent-either P b mine other j = choice (i == j) refl
-    where
-      choice : (x : Bool) → (i == j) ≡ x → P j (if x then S.words.channel (Site j) b ++ out b else S.words.channel (Site j) b)
-      choice true e = subst (λ z. P z (S.words.channel (Site z) b ++ out b)) (eqb-true i j e) mine
-      choice false e = other j (λ d. grind (arith, nat_tests, e, d))
+  sent-either P b mine other j = cond_both (i == j) _ _ (P j)
+      (λ e. subst (λ z. P z (S.words.channel (Site z) b ++ out b)) (eqb-true i j e) mine) (λ e. other j (λ d. grind (arith, nat_tests, e, d)))
 
 -- ---- all messages after a turn
 
@@ -63,13 +47,10 @@ module _ (S : LogState) (H : LogsHold S) (i : ℕ) (s : SiteState) (out : Sends)
   pub letters-after : ((j c : ℕ) (l : Letter) → IsSlot S c → In l (between S j c) → SiteLetterOk S j c l → SiteLetterOk (after_site S i s out G) j c l)
       → ((c : ℕ) → IsSlot S c → AllByRecursion (SiteLetterOk (after_site S i s out G) i c) (out (Site c)))
       → (j c : ℕ) → IsSlot S c → AllByRecursion (SiteLetterOk (after_site S i s out G) j c) (between (after_site S i s out G) j c)
-  letters-after keeps new j c slot = sent-either S i s out G (λ j ls. AllByRecursion (SiteLetterOk T j c) ls) (Site c)
+  letters-after keeps new j c slot = let T = after_site S i s out G in sent-either S i s out G (λ j ls. AllByRecursion (SiteLetterOk T j c) ls) (Site c)
       (all-after (SiteLetterOk S i c) (SiteLetterOk T i c) (between S i c) (out (Site c)) (λ l. keeps i c l slot) (H.letters i c slot) (new c slot))
       (λ k other. all-from (SiteLetterOk T k c) (between S k c) (λ l m. keeps k c l slot m (all-at (SiteLetterOk S k c) (between S k c) (H.letters k c slot) l m)))
       j
-    where
-      T : LogState
-      T = after_site S i s out G
 
   -- from any actor to a site
   pub foreign-after : ((c : ℕ) → AllByRecursion (ForeignOk S c (Site i)) (out (Site c)))
@@ -82,10 +63,7 @@ module _ (S : LogState) (H : LogsHold S) (i : ℕ) (s : SiteState) (out : Sends)
       old : (from : Actor) → AllByRecursion (ForeignOk S c from) (T.words.channel from (Site c))
       old (Site j) = sent-either S i s out G (λ j ls. AllByRecursion (ForeignOk S c (Site j)) ls) (Site c)
           (all-append (ForeignOk S c (Site i)) (between S i c) (out (Site c)) (H.foreign (Site i) c) (new c)) (λ j other. H.foreign (Site j) c) j
-      old (Agent h) = H.foreign (Agent h) c
-      old Director = H.foreign Director c
-      old (Client n) = H.foreign (Client n) c
-      old (Scanner j) = H.foreign (Scanner j) c
+      old from = H.foreign from c
 
   -- what agents say of words to sites
   pub views-after : (c : ℕ) → (c ≡ i → (s.start ≡ site_start S i) × (s.view ≡ (S.sites i).view)) → G.ran c ≡ S.logs.ran c → ViewsOk S c → ViewsOk (after_site S i s out G) c
@@ -105,12 +83,10 @@ module _ (S : LogState) (H : LogsHold S) (i : ℕ) (s : SiteState) (out : Sends)
 -- of a channel to a site, whether the message was taken from it or not
 pub taken-either : (S : LogState) (from : Actor) (i : ℕ) (P : Actor → ℕ → List Letter → Type 0) → ((c : ℕ) → c ≡ i → P from c (rest (S.words.channel from (Site c))))
     → (a : Actor) (c : ℕ) → P a c (S.words.channel a (Site c)) → P a c ((site_popped S from i).words.channel a (Site c))
-taken-either S from i P mine a c other = choice (i == c && same from a) refl
-  where
-    choice : (x : Bool) → (i == c && same from a) ≡ x → P a c (if x then rest (S.words.channel a (Site c)) else S.words.channel a (Site c))
-    choice true e = let p = and_parts (i == c) (same from a) e in
-        subst (λ z. P z c (rest (S.words.channel z (Site c)))) (word_steps.same-true from a p.1) (mine c (sym (eqb-true i c p.0)))
-    choice false e = other
+taken-either S from i P mine a c other = cond_both (i == c && same from a) _ _ (P a c)
+    (λ e. let p = and_parts (i == c) (same from a) e in
+    subst (λ z. P z c (rest (S.words.channel z (Site c)))) (word_steps.same-true from a p.1) (mine c (sym (eqb-true i c p.0))))
+    (λ e. other)
 
 same-self : (a : Actor) → same a a ≡ true
 same-self Director = refl
@@ -131,11 +107,8 @@ popped-after S from i s out G l ls is =
 
 pub first-after : (S : LogState) (from : Actor) (i : ℕ) (s : SiteState) (out : Sends) (G : Logs) (l : Letter) (ls : List Letter) → S.words.channel from (Site i) ≡ l ∷ ls
     → (more : List Letter) × ((after_site S i s out G).words.channel from (Site i) ≡ l ∷ more)
-first-after S from i s out G l ls is = choice (same (Site i) from)
-  where
-    choice : (b : Bool) → (more : List Letter) × ((if b then S.words.channel from (Site i) ++ out (Site i) else S.words.channel from (Site i)) ≡ l ∷ more)
-    choice true = (ls ++ out (Site i), ap (λ xs. xs ++ out (Site i)) is)
-    choice false = (ls, is)
+first-after S from i s out G l ls is = cond_both (same (Site i) from) _ _ (λ z. (more : List Letter) × (z ≡ l ∷ more))
+    (λ _. (ls ++ out (Site i), ap (λ xs. xs ++ out (Site i)) is)) (λ _. (ls, is))
 
 -- ---- the words
 
@@ -151,6 +124,21 @@ module _ (S : LogState) (i : ℕ) where
 pub words-later : (S : LogState) (ch : Actor → Actor → List Letter) → word_moves.WordsLater S.words (record S.words { channel = ch })
 words-later S ch = word_steps.later-moved S.words S.words.agents ch (λ s b r. r)
 
+-- All is later, where sites go on, and the history of what ran, was entered and was streamed stays.
+pub later-by : (S T : LogState) → word_moves.WordsLater S.words T.words → T.logs.ran ≡ S.logs.ran → T.logs.entered ≡ S.logs.entered → T.logs.streamed ≡ S.logs.streamed
+    → ((c : ℕ) → SiteRises (S.sites c) (T.sites c)) → ((p t : ℕ) → S.logs.reach p t ≤ T.logs.reach p t) → LogsLater S T
+later-by S T words ran entered streamed sites reach = record {
+  words = words;
+  ran = λ c a. subst (λ r. In a (r c)) (sym ran);
+  greatest = λ c. (sites c).greatest;
+  sites = λ c. inl (sites c);
+  entered = λ c t e is. ap (λ f. f c t) entered ∙ is;
+  entered_now = λ c t e is. inl (ap (λ f. f c t) (sym entered) ∙ is);
+  streamed = λ c t x is. ap (λ f. f c t) streamed ∙ is;
+  streamed_now = λ c t x is. inl (ap (λ f. f c t) (sym streamed) ∙ is);
+  reach = reach;
+}
+
 -- ---- turns, one behind another
 
 -- one turn after another is one turn
@@ -164,6 +152,10 @@ pub after-same : (S : LogState) (i : ℕ) → after_site S i (S.sites i) no_send
 after-same S i =
     ap (λ c. record S { words = record S.words { channel = c }; sites = set_at S.sites i (S.sites i) }) (sent-nothing S.words.channel (Site i))
     ∙ ap (λ f. record S { sites = f }) (set-same S.sites i)
+
+-- where nothing is sent
+pub after-nothing : (S : LogState) (i : ℕ) (s : SiteState) (G : Logs) → after_site S i s no_sends G ≡ record S { sites = set_at S.sites i s; logs = G }
+after-nothing S i s G = ap (λ c. record S { words = record S.words { channel = c }; sites = set_at S.sites i s; logs = G }) (sent-nothing S.words.channel (Site i))
 
 -- what a further part of a turn adds
 then-grown : (S : LogState) (i : ℕ) (s : SiteState) (t : Turn SiteState) (out : Sends) (G : Logs) (r : LogsGo (after_site S i s out G) i t)

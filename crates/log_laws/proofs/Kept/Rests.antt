@@ -1,27 +1,13 @@
 -- Turns of a site in which its log and its term stay: what it counts, acknowledges and has on disk may change.
-use Rattle.std.proofs.Common.{◌≡◌, ◌<◌, ◌≤◌, true, false, List, [], ◌∷◌, ◌++◌, refl, sym, subst, ap, ◌∙◌, ◌⊎◌, inl, inr, append-nil, arith}
-use Rattle.std.proofs.Math.Path.{fun_ext}
-use Rattle.std.specs.Prelude.{ℕ, map, length, Option, Some, None}
-use Rattle.std.specs.List.{AllByRecursion}
-use Rattle.volt_wire.specs.Word.{Membership}
-use Rattle.volt_wire.specs.declared.actor.Actor.{Actor}
-use Rattle.volt_wire.specs.declared.actor.Actor.TheVariants.{Director, Client, Agent, Site, Scanner}
+use Rattle.log_laws.proofs.Names.{◌≡◌, ◌<◌, ◌≤◌, true, false, List, [], ◌∷◌, ◌++◌, refl, sym, subst, ap, ◌∙◌, ◌⊎◌, inl, inr, append-nil, arith, fun_ext, ℕ, map, length, Option, Some, None, AllByRecursion, Membership, Actor, Agent, Site, Deployment, term_of, Letter, Sends, no_sends, Turn, sending, SiteState, Streamed, Joining, Joiner, is_leader, sent, set_at, In, Distinct, not-both, in-none, in-map, in-map-from, all-append, all-mono, none-and-some, same-some, set-both, leader-same, leader-view, LogState, Entered, Streaming, Leadership, Flow, LogsHold, SiteOk, BeginsAt, agent_to_site, IsSlot, AckOk, CountedOk, IsCounted, HeldOk, MemberOk, JoinerOk, ViewIn, StreamIn, Inert, Coming, KeepsOk, ForeignOk, LoadsOk, ToldOk, SiteLetterOk, JoinsIn, line_in, flow_in, ask_in, line_of, flow_of, ask_of, asks_waiting, asks_of_term, line, flow, stream_ends_in, asks_in, asked, follows, FollowsIn, part, site_start, log_at, term_at, between, end_of}
 use Rattle.volt_wire.specs.declared.message.Msg.TheVariants as msg
-use Rattle.cluster_model.specs.Words.{Deployment, term_of}
-use Rattle.cluster_model.specs.Letters.{Letter, Sends, no_sends, Turn, sending, Waiting}
-use Rattle.cluster_model.specs.SiteState.{SiteState, Streamed, Joining, Joiner, is_leader}
-use Rattle.cluster_model.specs.World.{sent, set_at}
-use Rattle.cluster_steps.specs.Lists.{In}
-use Rattle.word_laws.specs.Histories.{Distinct}
-use Rattle.cluster_steps.proofs.Lists.{not-both, in-none, in-map, in-map-from, all-append, all-mono, none-and-some, same-some, set-both}
-use Rattle.log_laws.specs.Histories.{LogState, Entered, Streaming, Leadership, Flow, LogsHold, SiteOk, BeginsAt, SiteWaitingOk, ReportOk, AsksToJoin, agent_to_site, IsSlot, AckOk, CountedOk, IsCounted, HeldOk, MemberOk, JoinerOk, ViewIn, StreamIn, Inert, Coming, KeepsOk, ViewsOk, ForeignOk, LoadsOk, ToldOk, SiteLetterOk, JoinsIn, line_in, flow_in, ask_in, line_of, flow_of, ask_of, asks_waiting, asks_of_term, line, flow, stream_ends_in, asks_in, asked, follows, FollowsIn, part, site_start, log_at, term_at, between}
 use Rattle.log_laws.proofs.Kept.Moves.{after_site, LogsLater, LogsGo, NoStreamStart, JoinsOn, SameLeaderships}
 use Rattle.log_laws.proofs.Kept.Grown.{grown-reach, enters-same}
-use Rattle.log_laws.proofs.Kept.Laters.{ack-later, report-later, ask-later, counted-later, letter-later, waiting-later-with, loads-later, entered-later, streamed-later, leaderships-later, unleds-later}
-use Rattle.cluster_steps.proofs.Leaders.{leader-same, leader-view}
-use Rattle.log_laws.proofs.Plain.Lines.{line-same, flow-same, ends-same, asks-same, line-none, flow-none, asks-none, line-plain, flow-plain, asks-plain}
+use Rattle.log_laws.proofs.Kept.Laters.{letter-later, loads-later, entered-later, streamed-later, leaderships-later, unleds-later, asks-later, counteds-later, keeps-at, waitings-later}
+use Rattle.log_laws.proofs.Plain.{flat-none, flat-same, if-empty}
 use Rattle.log_laws.proofs.Kept.KeepsViews.{views-keeps-with, leaves-same}
-use Rattle.log_laws.proofs.Kept.Plumbing.{GoesFrom, words-later, words-after, sent-either}
+use Rattle.log_laws.proofs.Kept.Plumbing.{GoesFrom, words-later, words-after, sent-either, later-by}
+use Rattle.log_laws.proofs.Kept.Keeps.{RunsOn, site-runs, was-joiner, was-member}
 
 -- ---- what such a turn may change
 
@@ -109,44 +95,26 @@ module _ (S : LogState) (H : LogsHold S) (states : ℕ → SiteState) (i : ℕ) 
   T = rested S states i out reach
 
   -- joins
-  joins-before : (c : ℕ) (k : Joining) → (states c).joining ≡ Some k → (j : Joining) × ((S.sites c).joining ≡ Some j) × JoiningRests j k
-  joins-before c k e = go (S.sites c).joining refl
-    where
-      go : (o : Option Joining) → (S.sites c).joining ≡ o → (j : Joining) × ((S.sites c).joining ≡ Some j) × JoiningRests j k
-      go None none = absurd (none-and-some ((rests c).member none) e)
-      go (Some j) some = let r = (rests c).joiner j some in (j, some, subst (JoiningRests j) (same-some (sym r.1 ∙ e)) r.2)
+  on : (c : ℕ) → RunsOn (S.sites c) (T.sites c)
+  on c = record { start = refl; greatest = refl; earlier = refl; view = refl; member = (rests c).member; joins = λ j e. let r = (rests c).joiner j e in (r.0, r.1) }
 
-  member-before : (c : ℕ) → (states c).joining ≡ None → (S.sites c).joining ≡ None
-  member-before c e = go (S.sites c).joining refl
-    where
-      go : (o : Option Joining) → (S.sites c).joining ≡ o → (S.sites c).joining ≡ None
-      go None none = none
-      go (Some j) some = absurd (none-and-some e ((rests c).joiner j some).1)
+  joins-before : (c : ℕ) (k : Joining) → (states c).joining ≡ Some k → (j : Joining) × ((S.sites c).joining ≡ Some j) × JoiningRests j k
+  joins-before c k e = let b = was-joiner (S.sites c) (T.sites c) (on c) k e in let r = (rests c).joiner b.0 b.1 in (b.0, b.1, subst (JoiningRests b.0) (same-some (sym r.1 ∙ e)) r.2)
 
   joins-on : (c : ℕ) → JoinsOn S T c
   joins-on c w k = let r = (rests c).joiner k.0 k.1 in (r.0, r.1, k.2)
 
   -- what is kept
   later : LogsLater S T
-  later = record {
-    words = words-later S T.words.channel;
-    ran = λ c a k. k;
-    greatest = λ c. omega arith;
-    sites = λ c. inl (record {
-      start = refl;
-      earlier = refl;
-      greatest = omega arith;
-      log = omega arith;
-      term = omega arith;
-      member = (rests c).member;
-      loaded = λ k e. let b = joins-before c k e in (b.0, b.1, b.2.still);
-    });
-    entered = λ c t e is. is;
-    entered_now = λ c t e is. inl is;
-    streamed = λ c t x is. is;
-    streamed_now = λ c t x is. inl is;
-    reach = reaches.rises;
-  }
+  later = later-by S T (words-later S T.words.channel) refl refl refl (λ c. record {
+    start = refl;
+    earlier = refl;
+    greatest = omega arith;
+    log = omega arith;
+    term = omega arith;
+    member = (rests c).member;
+    loaded = λ k e. let b = joins-before c k e in (b.0, b.1, b.2.still);
+  }) reaches.rises
 
   same-leaderships : SameLeaderships S.logs T.logs
   same-leaderships = record { kept = λ p t g is. (g, is, refl, ([], sym (append-nil g.log))); none = λ p t is. is }
@@ -159,18 +127,18 @@ module _ (S : LogState) (H : LogsHold S) (states : ℕ → SiteState) (i : ℕ) 
 
   lines : (start term j c : ℕ) → line start term (between T j c) ≡ line start term (between S j c)
   lines start term j c = sent-either S i (S.sites i) out S.logs (λ j ls. line start term ls ≡ line start term (between S j c)) (Site c)
-      (line-same start term (between S i c) (out (Site c)) (line-none start term (out (Site c))
-      (all-mono Bare (λ l. line_of start term l ≡ []) (λ l k. line-plain start term l k.0) (out (Site c)) (plain-out c)))) (λ j n. refl) j
+      (flat-same (line_of start term) (between S i c) (out (Site c)) (flat-none (line_of start term) (out (Site c))
+      (all-mono Bare (λ l. line_of start term l ≡ []) (λ l k. if-empty _ _ k.0) (out (Site c)) (plain-out c)))) (λ j n. refl) j
 
   flows : (start term j c : ℕ) → flow start term (between T j c) ≡ flow start term (between S j c)
   flows start term j c = sent-either S i (S.sites i) out S.logs (λ j ls. flow start term ls ≡ flow start term (between S j c)) (Site c)
-      (flow-same start term (between S i c) (out (Site c)) (flow-none start term (out (Site c))
-      (all-mono Bare (λ l. flow_of start term l ≡ []) (λ l k. flow-plain start term l k.1) (out (Site c)) (plain-out c)))) (λ j n. refl) j
+      (flat-same (flow_of start term) (between S i c) (out (Site c)) (flat-none (flow_of start term) (out (Site c))
+      (all-mono Bare (λ l. flow_of start term l ≡ []) (λ l k. if-empty _ _ k.1) (out (Site c)) (plain-out c)))) (λ j n. refl) j
 
   asks-under : (term j c : ℕ) → asks_in term (between T j c) ≡ asks_in term (between S j c)
   asks-under term j c = sent-either S i (S.sites i) out S.logs (λ j ls. asks_in term ls ≡ asks_in term (between S j c)) (Site c)
-      (asks-same term (between S i c) (out (Site c)) (asks-none term (out (Site c))
-      (all-mono Bare (λ l. ask_of term l ≡ []) (λ l k. asks-plain term l k.2) (out (Site c)) (plain-out c)))) (λ j n. refl) j
+      (flat-same (ask_of term) (between S i c) (out (Site c)) (flat-none (ask_of term) (out (Site c))
+      (all-mono Bare (λ l. ask_of term l ≡ []) (λ l k. if-empty _ _ k.2) (out (Site c)) (plain-out c)))) (λ j n. refl) j
 
   askeds : (c l term : ℕ) → asked T c l term ≡ asked S c l term
   askeds c l term = ap (λ xs. xs ++ asks_waiting c term (S.sites l).waiting ++ asks_waiting c term (S.pending l) ++ asks_of_term c term (S.sites l)) (asks-under term c l)
@@ -179,13 +147,13 @@ module _ (S : LogState) (H : LogsHold S) (states : ℕ → SiteState) (i : ℕ) 
       → stream_ends_in (site_start S c) (term_of w) (between S l c) ≡ [] → stream_ends_in (site_start S c) (term_of w) (between T l c) ≡ []
   ends-from c l w joins decided away none = sent-either S i (S.sites i) out S.logs
       (λ l ls. Inert S c w l ⊎ (follows S.words.deployment w c l ≡ false) → stream_ends_in (site_start S c) (term_of w) (between S l c) ≡ [] → stream_ends_in (site_start S c) (term_of w) ls ≡ []) (Site c)
-      (λ q e. ends-same (site_start S c) (term_of w) (between S i c) (out (Site c)) (says.ended c w joins decided q) ∙ e) (λ l n q e. e) l away none
+      (λ q e. flat-same (end_of (site_start S c) (term_of w)) (between S i c) (out (Site c)) (says.ended c w joins decided q) ∙ e) (λ l n q e. e) l away none
 
   -- ---- who is counted
 
   counted-rests : (c a stream_start : ℕ) (w : Membership) → IsCounted S c a stream_start w → IsCounted T c a stream_start w
   counted-rests c a stream_start w k l authoritative up none view =
-      let r = k l authoritative up (member-before l none) view in
+      let r = k l authoritative up (was-member (S.sites l) (T.sites l) (on l) none) view in
       let m = (rests l).counted.kept r.0 r.1 in
       (m.0, m.1, m.2 ∙ r.2, m.3 ∙ r.3, m.4 ∙ r.4)
 
@@ -194,24 +162,11 @@ module _ (S : LogState) (H : LogsHold S) (states : ℕ → SiteState) (i : ℕ) 
     flow_is = flows (site_start S c) (term_of w) l c ∙ q.flow_is;
     ends_are = ends-from c l w joins decided (inl q) q.ends_are;
     uncounted = λ k here slot start. let b = (rests l).counted.back k here in q.uncounted b.0 b.1 (b.2 ∙ slot) (b.3 ∙ start);
-    asks = λ slot. elim (q.asks slot) [
-      | inl e ↦ inl (askeds c l (term_of w) ∙ e)
-      | inr e ↦ inr (askeds c l (term_of w) ∙ e)
-    ];
+    asks = λ slot. elim (q.asks slot) [ inl e ↦ inl (askeds c l (term_of w) ∙ e) | inr e ↦ inr (askeds c l (term_of w) ∙ e) ];
   }
 
   coming-rests : (c : ℕ) (w : Membership) (fl : List Flow) → In w S.words.history.decided → log_at S c ≡ [] → (S.sites c).earlier < term_of w → Coming S c w fl → Coming T c w fl
-  coming-rests c w fl decided empty below k = record {
-    past = k.past;
-    more = k.more;
-    leadership = k.leadership;
-    flow_is = k.flow_is;
-    led = k.led;
-    whole = k.whole;
-    behind = k.behind;
-    reach = reaches.coming c w fl decided empty below k;
-    counted = counted-rests c (site_start S c) (length k.past) w k.counted;
-  }
+  coming-rests c w fl decided empty below k = search (reaches.coming, counted-rests)
 
   -- ---- members
 
@@ -224,10 +179,7 @@ module _ (S : LogState) (H : LogsHold S) (states : ℕ → SiteState) (i : ℕ) 
     since = m.since;
     earlier = m.earlier;
     grown = m.grown;
-    still = λ e. let o = m.still e in elim (rests c).counts [
-      | inl k ↦ (o.0, k.0 ∙ o.1, k.1 ∙ o.2)
-      | inr k ↦ absurd (not-both (S.sites c).repaired k.0 e)
-    ];
+    still = λ e. let o = m.still e in elim (rests c).counts [ inl k ↦ (o.0, k.0 ∙ o.1, k.1 ∙ o.2) | inr k ↦ absurd (not-both (S.sites c).repaired k.0 e) ];
     floor = known.0;
     firm = known.1;
     leading = m.leading;
@@ -246,10 +198,7 @@ module _ (S : LogState) (H : LogsHold S) (states : ℕ → SiteState) (i : ℕ) 
 
   module _ (c : ℕ) (j k : Joining) (some : (S.sites c).joining ≡ Some j) (r : JoiningRests j k) (here : (states c).joining ≡ Some k) where
     same-counts : ((states c).floor ≡ (S.sites c).floor) × ((states c).firm ≡ (S.sites c).firm)
-    same-counts = elim (rests c).counts [
-      | inl e ↦ e
-      | inr e ↦ absurd (none-and-some e.1 some)
-    ]
+    same-counts = elim (rests c).counts [ inl e ↦ e | inr e ↦ absurd (none-and-some e.1 some) ]
 
     stream-rests : (w : Membership) → (S.sites c).view ≡ Some w → In w S.words.history.decided → (o : Option Streamed) → StreamIn S c w j o → StreamIn T c w (flagged j k) o
     stream-rests w view decided None u = record {
@@ -284,15 +233,7 @@ module _ (S : LogState) (H : LogsHold S) (states : ℕ → SiteState) (i : ℕ) 
     }
 
     view-rests : (o : Option Membership) → (S.sites c).view ≡ o → ViewIn S c j o → ViewIn T c (flagged j k) o
-    view-rests None view v = record {
-      stream = v.stream;
-      loads = v.loads;
-      counts = v.counts;
-      tasks = v.tasks;
-      empty = v.empty;
-      floor = same-counts.0 ∙ v.floor;
-      never = v.never;
-    }
+    view-rests None view v = search (same-counts.0 ∙ v.floor)
     view-rests (Some w) view v = let decided = (H.words.history.took_ok (site_start S c) w v.took).0 in record {
       took = v.took;
       lines = λ l. lines (site_start S c) (term_of w) l c ∙ v.lines l;
@@ -305,14 +246,7 @@ module _ (S : LogState) (H : LogsHold S) (states : ℕ → SiteState) (i : ℕ) 
     }
 
     joiner-rests : JoinerOk S c j → JoinerOk T c k
-    joiner-rests o = subst (JoinerOk T c) (sym r.same) (record {
-      runs = o.runs;
-      unentered = o.unentered;
-      told = r.told;
-      based = r.based;
-      firm = same-counts.1 ∙ o.firm;
-      view = view-rests (S.sites c).view refl o.view;
-    })
+    joiner-rests o = subst (JoinerOk T c) (sym r.same) (search (same-counts.1 ∙ o.firm, r.told, r.based, view-rests (S.sites c).view refl o.view))
 
   -- ---- what a site keeps
 
@@ -321,52 +255,22 @@ module _ (S : LogState) (H : LogsHold S) (states : ℕ → SiteState) (i : ℕ) 
   letter-rests j c l k = letter-later S T H later j c l (joins-on j)
       (λ e n some start term b. subst (AllByRecursion (BeginsAt e.stream_start)) (sym (flows l.start l.term j c)) b) (λ e x is start. inl is) k
 
-  waiting-rests : (c : ℕ) (x : Waiting) → SiteWaitingOk S c x → SiteWaitingOk T c x
-  waiting-rests c x k = waiting-later-with S T H later c refl x (λ j a _ _ _. ask-later S T H later (part S c) j x.letter.term a (joins-on j)) k
-
   leads-rests : (c : ℕ) → is_leader S.words.deployment c (S.sites c) ≡ true → is_leader S.words.deployment c (T.sites c) ≡ true
   leads-rests c e = leader-same S.words.deployment c (S.sites c) (T.sites c) refl
       (let none = (leader-view S.words.deployment c (S.sites c) e).0 in (rests c).member none ∙ sym none) ∙ e
 
   keeps-rests : (c : ℕ) → 0 < site_start S c → KeepsOk S c → KeepsOk T c
-  keeps-rests c up k = record {
-    acks = all-mono (λ a. IsSlot S a.0 → AckOk S a.0 (term_at S c) a.1) (λ a. IsSlot T a.0 → AckOk T a.0 (term_at T c) a.1)
-        (λ a ok slot. ack-later S T H later a.0 (term_at S c) a.1 (ok slot)) (states c).acks ((rests c).acks up);
-    reports = all-mono (λ r. ReportOk S (part S c) r.slot (term_at S c) r.position r.floor r.tail) (λ r. ReportOk T (part T c) r.slot (term_at T c) r.position r.floor r.tail)
-        (λ r. report-later S T H later (part S c) r.slot (term_at S c) r.position r.floor r.tail) (S.sites c).reports k.reports;
-    joiners = all-mono (CountedOk S (part S c) (term_at S c)) (CountedOk T (part T c) (term_at T c))
-        (counted-later S T H later (part S c) (term_at S c)) (states c).joiners ((rests c).joiners up);
-    alone = (rests c).alone up;
-    leads = elim ((rests c).leads up) [
-      | inl e ↦ inl e
-      | inr e ↦ inr (leads-rests c e)
-    ];
-    asks = all-mono (λ a. AsksToJoin S (part S c) a.slot (term_at S c) a.start) (λ a. AsksToJoin T (part T c) a.slot (term_at T c) a.start)
-        (λ a. ask-later S T H later (part S c) a.slot (term_at S c) a.start (joins-on a.slot)) (S.sites c).asks k.asks;
-    waiting = all-mono (SiteWaitingOk S c) (SiteWaitingOk T c) (waiting-rests c) (S.sites c).waiting k.waiting;
-    pending = all-mono (SiteWaitingOk S c) (SiteWaitingOk T c) (waiting-rests c) (S.pending c) k.pending;
-    on_disk = (rests c).on_disk up;
-    held = (rests c).held up;
-  }
+  keeps-rests c up k = let r = rests c in keeps-at S T H later c (T.sites c) refl refl (r.acks up) k.reports
+      (counteds-later S T H later (part S c) (term_at S c) (states c).joiners (r.joiners up)) (r.alone up) (elim (r.leads up) [ inl e ↦ inl e | inr e ↦ inr (leads-rests c e) ])
+      (asks-later S T H later (part S c) (term_at S c) joins-on (S.sites c).asks k.asks) (waitings-later S T H later c refl joins-on (S.sites c).waiting k.waiting)
+      (waitings-later S T H later c refl joins-on (S.pending c) k.pending) (r.on_disk up) (r.held up)
 
   site_ok-rests : (c : ℕ) → SiteOk S c → SiteOk T c
-  site_ok-rests c o = record {
-    environment = o.environment;
-    ran = o.ran;
-    term = o.term;
-    earlier = o.earlier;
-    member = λ up none. let m = o.member up (member-before c none) in (m.0, m.1, member-rests c m.0 m.1 m.2);
-    joiner = λ k here. let b = joins-before c k here in joiner-rests c b.0 k b.1 b.2 here (o.joiner b.0 b.1);
-    keeps = λ up. keeps-rests c up (o.keeps up);
-    stopped = λ none. let k = o.stopped none in
-        (k.0, k.1, in-none (states c).joiners (λ j here. let b = (rests c).counted.back j here in subst (In b.0) k.2 b.1), k.3);
-    blank = o.blank;
-  }
+  site_ok-rests c = site-runs S T H later c (on c) refl (λ _ _. member-rests c)
+      (λ j k some here. let r = (rests c).joiner j some in joiner-rests c j k some (subst (JoiningRests j) (same-some (sym r.1 ∙ here)) r.2) here) (keeps-rests c)
+      (λ _ k. (k.0, k.1, in-none (states c).joiners (λ j here. let b = (rests c).counted.back j here in subst (In b.0) k.2 b.1), k.3))
 
   -- ---- what comes from agents, and goes to them
-
-  views-rests : (c : ℕ) → ViewsOk S c → ViewsOk T c
-  views-rests c v = views-keeps-with S T H later c refl refl refl refl (λ s k. k) (leaves-same (site_start S c) (agent_to_site S c) (agent_to_site S c) refl) v
 
   foreign-rests : (from : Actor) (c : ℕ) → AllByRecursion (ForeignOk T c from) (T.words.channel from (Site c))
   foreign-rests (Site j) c = sent-either S i (S.sites i) out S.logs (λ j ls. AllByRecursion (ForeignOk T c (Site j)) ls) (Site c)
@@ -378,10 +282,7 @@ module _ (S : LogState) (H : LogsHold S) (states : ℕ → SiteState) (i : ℕ) 
         | msg.Start a ↦ λ p. p
         | m ↦ λ p. tt
       ] k
-  foreign-rests (Agent h) c = H.foreign (Agent h) c
-  foreign-rests Director c = H.foreign Director c
-  foreign-rests (Client n) c = H.foreign (Client n) c
-  foreign-rests (Scanner j) c = H.foreign (Scanner j) c
+  foreign-rests from c = H.foreign from c
 
   loads-rests : LoadsOk T
   loads-rests = loads-later S T H later refl refl
@@ -395,7 +296,7 @@ module _ (S : LogState) (H : LogsHold S) (states : ℕ → SiteState) (i : ℕ) 
   holds-rests = record {
     words = words-after S i (S.sites i) out S.logs H.words;
     sites = λ c. site_ok-rests c (H.sites c);
-    views = λ c. views-rests c (H.views c);
+    views = λ c. views-keeps-with S T H later c refl refl refl refl (λ s k. k) (leaves-same (site_start S c) (agent_to_site S c) (agent_to_site S c) refl) (H.views c);
     letters = λ j c slot. sent-either S i (S.sites i) out S.logs (λ j ls. AllByRecursion (SiteLetterOk T j c) ls) (Site c)
         (all-append (SiteLetterOk T i c) (between S i c) (out (Site c))
         (all-mono (SiteLetterOk S i c) (SiteLetterOk T i c) (letter-rests i c) (between S i c) (H.letters i c slot))
@@ -405,7 +306,7 @@ module _ (S : LogState) (H : LogsHold S) (states : ℕ → SiteState) (i : ℕ) 
     loads = loads-rests;
     entered = λ c t e is. entered-later S T H later c t e (H.entered c t e is) same-leaderships (reaches.entered c t e is) (reaches.since c t e is);
     streamed = λ c t x is. let k = H.streamed c t x is in
-        streamed-later S T H later c t x k same-leaderships k.apart (reaches.streamed c t x is) (counted-rests c x.start x.stream_start k.word);
+        streamed-later S T H later c t x k (same-leaderships.kept (part S c) t k.leadership k.led) k.apart (reaches.streamed c t x is) (counted-rests c x.start x.stream_start k.word);
     leaderships = leaderships-later S T H later same-leaderships reaches.led;
     unled = λ p t none. unleds-later S T H later same-leaderships p t (reaches.unled p t none) none;
     some = H.some;

@@ -1,22 +1,10 @@
 -- Moves of sites that leave words, terms and what was entered as they are: what holds, holds after them.
-use Rattle.std.proofs.Common.{List, ap, arith, inl, refl, sym, true, ◌≡◌, ◌∙◌, ◌⊎◌, ◌<◌, ◌≤◌, []}
-use Rattle.std.specs.List.{AllByRecursion}
-use Rattle.std.specs.Prelude.{None, Option, Some, length, map, ℕ}
-use Rattle.volt_wire.specs.Word.{Membership}
-use Rattle.volt_wire.specs.declared.actor.Actor.{Actor}
-use Rattle.volt_wire.specs.declared.actor.Actor.TheVariants.{Agent, Director, Site}
-use Rattle.cluster_model.specs.Laws.{starts_in}
-use Rattle.cluster_model.specs.Letters.{Letter, Waiting}
-use Rattle.cluster_model.specs.SiteState.{Ask, Joiner, Joining, SiteState, is_leader}
-use Rattle.cluster_model.specs.Words.{host_of_slot, term_of}
-use Rattle.cluster_steps.proofs.Lists.{all-mono, none-and-some}
-use Rattle.word_laws.proofs.Steps.{channel-holds}
-use Rattle.word_laws.specs.Histories.{Distinct}
-use Rattle.log_laws.specs.Histories.{AckOk, AsksToJoin, AskedOk, CountedOk, FirstViews, ForeignOk, LogsHold, IsCounted, IsSlot, JoinerOk, KeepsOk, LoadsOk, LogState, MemberOk, QueuedLoadedOk, ReportOk, RunViews, SiteLetterOk, SiteOk, StreamedOk, Streaming, ToldOk, ViewsOk, SiteWaitingOk, between, agent_to_site, line, part, site_start, term_at, views}
-use Rattle.log_laws.proofs.Kept.Keeps.{SameFrom, SameRun, SiteStays, joiner-keeps, member-keeps}
-use Rattle.log_laws.proofs.Kept.Laters.{ack-later, all_loaded-later, ask-later, asked-later, counted-later, entered-later, loaded-later, queued-later, leaderships-later, report-later, same-leaderships, told-later, unleds-later, waiting-later-with}
+use Rattle.log_laws.proofs.Names.{List, ap, arith, inl, refl, sym, true, ◌≡◌, ◌∙◌, ◌⊎◌, ◌<◌, ◌≤◌, [], AllByRecursion, None, Option, Some, length, map, ℕ, Membership, Actor, Agent, Director, Site, starts_in, Letter, Waiting, Ask, Joiner, Joining, SiteState, is_leader, host_of_slot, term_of, channel-holds, Distinct, term_in, AsksToJoin, CountedOk, ForeignOk, LogsHold, IsCounted, IsSlot, JoinerOk, KeepsOk, LogState, MemberOk, SiteLetterOk, SiteOk, StreamedOk, Streaming, SiteWaitingOk, between, line, part, site_start, term_at}
+use Rattle.log_laws.proofs.Kept.Keeps.{SameFrom, SiteStays, joiner-keeps, member-keeps, RunsOn, site-runs}
+use Rattle.log_laws.proofs.Kept.Laters.{leaderships-later, same-leaderships, unleds-later, entereds-later, asks-later, counteds-later, keeps-at, waitings-later, loads-later}
 use Rattle.log_laws.proofs.Kept.Moves.{JoinsOn, LogsLater, SameLeaderships, Unentered}
 use Rattle.log_laws.proofs.Kept.Plumbing.{words-later}
+use Rattle.log_laws.proofs.Kept.KeepsViews.{views-keeps}
 
 -- ---- a move
 
@@ -44,21 +32,11 @@ pub record SiteGoesOn (s t : SiteState) : Type 0 where
   pub joins : (j : Joining) → s.joining ≡ Some j → (k : Joining) × (t.joining ≡ Some k)
   pub loaded : (k : Joining) → t.joining ≡ Some k → (j : Joining) × (s.joining ≡ Some j) × (j.is_based ≡ true → k.is_based ≡ true)
 
+pub goes-runs : (s t : SiteState) → SiteGoesOn s t → RunsOn s t
+goes-runs s t g = record { start = g.start; greatest = g.greatest; earlier = g.earlier; view = g.view; member = g.member; joins = g.joins }
+
 pub goes-on-same : (s : SiteState) → SiteGoesOn s s
-goes-on-same s = record {
-  start = refl;
-  greatest = refl;
-  earlier = refl;
-  view = refl;
-  acks = refl;
-  reports = refl;
-  held = refl;
-  waiting = refl;
-  log = omega arith;
-  member = λ e. e;
-  joins = λ j e. (j, e);
-  loaded = λ k e. (k, e, λ l. l);
-}
+goes-on-same s = search arith
 
 -- All sites go on, agents' channels stay, and so does each stream that was taken.
 pub record Steady (S : LogState) (ch : Actor → Actor → List Letter) (f : ℕ → SiteState) (st : ℕ → ℕ → Option Streaming) : Type 0 where
@@ -102,16 +80,13 @@ module _ (S : LogState) (ch : Actor → Actor → List Letter) (f : ℕ → Site
 
   -- what waits, and what was asked and counted
   pub steady-waiting : (c : ℕ) (ws : List Waiting) → AllByRecursion (SiteWaitingOk S c) ws → AllByRecursion (SiteWaitingOk (shifted S ch f pend st) c) ws
-  steady-waiting c ws h = all-mono (SiteWaitingOk S c) (SiteWaitingOk (shifted S ch f pend st) c)
-      (λ x k. waiting-later-with S (shifted S ch f pend st) H steady-later c (m.sites c).start x
-      (λ i a _ _ _ asks. ask-later S (shifted S ch f pend st) H steady-later (part S c) i x.letter.term a (steady-joins i) asks) k) ws h
+  steady-waiting c = waitings-later S (shifted S ch f pend st) H steady-later c (m.sites c).start steady-joins
 
   pub steady-asks : (p t : ℕ) (as_ : List Ask) → AllByRecursion (λ a. AsksToJoin S p a.slot t a.start) as_ → AllByRecursion (λ a. AsksToJoin (shifted S ch f pend st) p a.slot t a.start) as_
-  steady-asks p t as_ h = all-mono (λ a. AsksToJoin S p a.slot t a.start) (λ a. AsksToJoin (shifted S ch f pend st) p a.slot t a.start)
-      (λ a k. ask-later S (shifted S ch f pend st) H steady-later p a.slot t a.start (steady-joins a.slot) k) as_ h
+  steady-asks p t = asks-later S (shifted S ch f pend st) H steady-later p t steady-joins
 
   pub steady-counted : (p t : ℕ) (js : List Joiner) → AllByRecursion (CountedOk S p t) js → AllByRecursion (CountedOk (shifted S ch f pend st) p t) js
-  steady-counted p t js h = all-mono (CountedOk S p t) (CountedOk (shifted S ch f pend st) p t) (λ j k. counted-later S (shifted S ch f pend st) H steady-later p t j k) js h
+  steady-counted = counteds-later S (shifted S ch f pend st) H steady-later
 
   -- what a site keeps, but for those that it counts, those that asked, and what is pending
   pub steady-keeps : (c : ℕ) → KeepsOk S c
@@ -122,60 +97,9 @@ module _ (S : LogState) (ch : Actor → Actor → List Letter) (f : ℕ → Site
       → AllByRecursion (SiteWaitingOk S c) (pend c)
       → (f c).on_disk ≤ length (f c).log
       → KeepsOk (shifted S ch f pend st) c
-  steady-keeps c k counted alone leads asks pending disk = record {
-    acks = rw ((m.sites c).acks, (m.sites c).view) (all-mono (λ a. IsSlot S a.0 → AckOk S a.0 (term_at S c) a.1)
-        (λ a. IsSlot S a.0 → AckOk (shifted S ch f pend st) a.0 (term_at S c) a.1)
-        (λ a known slot. ack-later S (shifted S ch f pend st) H steady-later a.0 (term_at S c) a.1 (known slot)) (S.sites c).acks k.acks);
-    reports = rw ((m.sites c).reports, (m.sites c).view) (all-mono (λ r. ReportOk S (part S c) r.slot (term_at S c) r.position r.floor r.tail)
-        (λ r. ReportOk (shifted S ch f pend st) (part S c) r.slot (term_at S c) r.position r.floor r.tail)
-        (λ r known. report-later S (shifted S ch f pend st) H steady-later (part S c) r.slot (term_at S c) r.position r.floor r.tail known) (S.sites c).reports k.reports);
-    joiners = rw (m.sites c).view counted;
-    alone = alone;
-    leads = leads;
-    asks = rw (m.sites c).view asks;
-    waiting = rw (m.sites c).waiting (steady-waiting c (S.sites c).waiting k.waiting);
-    pending = steady-waiting c (pend c) pending;
-    on_disk = disk;
-    held = rw (m.sites c).held k.held;
-  }
-
-  -- words that are under way to a site
-  steady-views : (c : ℕ) → ViewsOk S c → ViewsOk (shifted S ch f pend st) c
-  steady-views c h = record {
-    plain = rw same-channel h.plain;
-    began = λ s i. h.began s (rw same-channel at i);
-    running = λ up. rw (g.view, g.start, same-channel) (run (S.sites c).view (views (site_start S c) (agent_to_site S c)) (h.running (rw g.start at up)));
-    starting = λ s i. let k = h.starting s (rw same-channel at i) in (k.0, rw same-channel k.1, rw same-channel (first s (views s (agent_to_site S c)) k.2));
-    wordless = λ up taken none. let k = h.wordless up taken none in (rw same-channel k.0, k.1, rw same-channel k.2);
-    below = λ up. let k = h.below up in (rw same-channel k.0, λ is. rw g.view (k.1 (sym g.start ∙ is)));
-  }
-    where
-      g : SiteGoesOn (S.sites c) (f c)
-      g = m.sites c
-
-      same-channel : ch (Agent (host_of_slot S.words.deployment c)) (Site c) ≡ agent_to_site S c
-      same-channel = m.agents (host_of_slot S.words.deployment c) (Site c)
-
-      first : (s : ℕ) (ws : List Membership) → FirstViews S c s ws → FirstViews (shifted S ch f pend st) c s ws
-      first s ws k = record { first = k.first; later = k.later; views_are = k.views_are; took = k.took; members = k.members }
-
-      run : (o : Option Membership) (ws : List Membership) → RunViews S c o ws → RunViews (shifted S ch f pend st) c o ws
-      run None ws k = rw g.start (first (site_start S c) ws k)
-      run (Some w) ws k = rw g.start k
-
-  steady-loads : LoadsOk S → LoadsOk (shifted S ch f pend st)
-  steady-loads h = record {
-    told = λ c h'. rw (m.told c h') (all-mono (ToldOk S c) (ToldOk (shifted S ch f pend st) c) (told-later S (shifted S ch f pend st) H steady-later c)
-        (S.words.channel (Site c) (Agent h')) (h.told c h'));
-    heard = λ h' c up is. loaded-later S (shifted S ch f pend st) H steady-later c (S.words.agents h').start (h.heard h' c up is);
-    asked = λ h' g. rw (m.agents h' (Agent g)) (all-mono (AskedOk S (Agent h')) (AskedOk (shifted S ch f pend st) (Agent h'))
-        (asked-later S (shifted S ch f pend st) H steady-later (Agent h')) (S.words.channel (Agent h') (Agent g)) (h.asked h' g));
-    waiting = λ h'. all-mono (λ x. AskedOk S x.from x.letter) (λ x. AskedOk (shifted S ch f pend st) x.from x.letter)
-        (λ x. asked-later S (shifted S ch f pend st) H steady-later x.from x.letter) (S.words.agents h').waiting (h.waiting h');
-    queued = λ h'. all-mono (QueuedLoadedOk S) (QueuedLoadedOk (shifted S ch f pend st)) (queued-later S (shifted S ch f pend st) H steady-later)
-        (S.words.agents h').initiating.queue (h.queued h');
-    admitted = λ x i. all_loaded-later S (shifted S ch f pend st) H steady-later (S.words.owner x.start) x.start (h.admitted x i);
-  }
+  steady-keeps c k counted alone leads asks pending disk = let g = m.sites c in keeps-at S (shifted S ch f pend st) H steady-later c (f c) refl (ap term_in g.view)
+      (rw g.acks k.acks) (rw g.reports k.reports) counted alone leads asks (rw g.waiting (steady-waiting c (S.sites c).waiting k.waiting)) (steady-waiting c (pend c) pending) disk
+      (rw g.held k.held)
 
   -- All holds after it, where this holds of what it changes.
   pub steady-holds :
@@ -190,12 +114,12 @@ module _ (S : LogState) (ch : Actor → Actor → List Letter) (f : ℕ → Site
   steady-holds members joiners keeps stopped letters foreign streamed = record {
     words = channel-holds S.words ch (λ h g. m.agents h (Agent g)) (λ h. ap starts_in (m.director h)) H.words;
     sites = site;
-    views = λ c. steady-views c (H.views c);
+    views = λ c. views-keeps S (shifted S ch f pend st) H steady-later c (m.sites c).start (m.sites c).view refl refl (λ s k. k)
+        (m.agents (host_of_slot S.words.deployment c) (Site c)) (H.views c);
     letters = letters;
     foreign = foreign;
-    loads = steady-loads H.loads;
-    entered = λ c t e is. entered-later S (shifted S ch f pend st) H steady-later c t e (H.entered c t e is) steady-leaderships (λ at_start.
-        let r = (H.entered c t e is).running (sym (m.sites c).start ∙ at_start) in let low = r.2 in let up = (m.sites c).log in omega (arith, low, up)) (H.entered c t e is).since;
+    loads = loads-later S (shifted S ch f pend st) H steady-later refl refl (λ c h. rw (m.told c h) (H.loads.told c h)) (λ h g. m.agents h (Agent g));
+    entered = entereds-later S (shifted S ch f pend st) H steady-later steady-leaderships (λ p t. refl);
     streamed = streamed;
     leaderships = leaderships-later S (shifted S ch f pend st) H steady-later steady-leaderships (λ p t g is. (H.leaderships p t g is).within);
     unled = λ p t none. unleds-later S (shifted S ch f pend st) H steady-later steady-leaderships p t refl none;
@@ -204,25 +128,8 @@ module _ (S : LogState) (ch : Actor → Actor → List Letter) (f : ℕ → Site
   }
     where
       site : (c : ℕ) → SiteOk (shifted S ch f pend st) c
-      site c = let g = m.sites c in let h = H.sites c in record {
-        environment = λ out. g.start ∙ h.environment out;
-        ran = λ up. let r = h.ran (rw g.start at up) in (r.0, rw g.start r.1);
-        term = rw (g.view, g.greatest) h.term;
-        earlier = rw (g.earlier, g.greatest) h.earlier;
-        member = λ up none. let none-before = before none in
-            let k = h.member (rw g.start at up) none-before in (k.0, g.view ∙ k.1, members c k.0 (rw g.start at up) none-before k.2);
-        joiner = joiners c;
-        keeps = λ up. keeps c (rw g.start at up) (h.keeps (rw g.start at up));
-        stopped = λ none. let e = stopped c (sym g.start ∙ none) in rw (e.0, e.1) (h.stopped (sym g.start ∙ none));
-        blank = λ none. g.view ∙ h.blank (sym g.start ∙ none);
-      }
-        where
-          before : (f c).joining ≡ None → (S.sites c).joining ≡ None
-          before none = go (S.sites c).joining refl
-            where
-              go : (o : Option Joining) → (S.sites c).joining ≡ o → (S.sites c).joining ≡ None
-              go None e = e
-              go (Some j) e = absurd (none-and-some none ((m.sites c).joins j e).1)
+      site c = site-runs S (shifted S ch f pend st) H steady-later c (goes-runs (S.sites c) (f c) (m.sites c)) refl (λ up none w _. members c w up none) (λ j k _ is _. joiners c k is) (keeps c)
+          (λ z k. let e = stopped c z in rw (e.0, e.1) k) (H.sites c)
 
 -- ---- slots of which nothing changes but what they keep
 
@@ -232,12 +139,9 @@ module _ (S : LogState) (ch : Actor → Actor → List Letter) (f : ℕ → Site
       → (w : Membership) → MemberOk S c w → MemberOk (shifted S ch f pend st) c w
   steady-member lines w k = member-keeps S (shifted S ch f pend st) H (steady-later S ch f pend st H m) c site w k (λ l. lines l (site_start S c) (term_of w)) refl
 
-  pub steady-run : ((t : ℕ) (x : Streaming) → st c t ≡ Some x → x.start ≡ site_start S c → S.logs.streamed c t ≡ Some x) → SameRun S (shifted S ch f pend st) c
-  steady-run streamed = record { entered = λ t e is start. is; streamed = streamed }
-
   pub steady-joiner : ((t : ℕ) (x : Streaming) → st c t ≡ Some x → x.start ≡ site_start S c → S.logs.streamed c t ≡ Some x)
       → ((l : ℕ) → SameFrom S (shifted S ch f pend st) c l (term_at S c))
       → ((stream_start : ℕ) (w : Membership) → IsCounted S c (site_start S c) stream_start w → IsCounted (shifted S ch f pend st) c (site_start S c) stream_start w)
       → (k : Joining) → (f c).joining ≡ Some k → JoinerOk (shifted S ch f pend st) c k
-  steady-joiner streamed from counted k e = joiner-keeps S (shifted S ch f pend st) H (steady-later S ch f pend st H m) c site k (steady-run streamed)
+  steady-joiner streamed from counted k e = joiner-keeps S (shifted S ch f pend st) H (steady-later S ch f pend st H m) c site k (record { entered = λ t e is start. is; streamed = streamed })
       (record { leadership = refl; reach = refl }) from counted ((H.sites c).joiner k (sym site.joining ∙ e))

@@ -1,28 +1,12 @@
 -- Terms of an epoch: which words there are, who was in a term, and which term had a leader last.
-use Rattle.std.proofs.Common.{◌≡◌, ◌+◌, ◌-◌, ◌<◌, ◌≤◌, zero, suc, true, false, length, refl, sym, subst, ap, ◌∙◌, ◌⊎◌, inl, inr, ◌==◌, arith}
-use Rattle.std.proofs.lemmas.Bool.{cases_Bool, cases_lt}
-use Rattle.std.proofs.lemmas.List.{length-map}
-use Rattle.std.specs.Prelude.{ℕ, nat_lt, Option, Some, None}
-use Rattle.std.specs.List.{list_any}
-use Rattle.volt_wire.specs.Word.{Membership}
-use Rattle.cluster_model.specs.Words.{slots, host_of_slot, is_in, term_of, start_of, start_of_slot, admits}
-use Rattle.cluster_steps.specs.Lists.{In, Prefix}
-use Rattle.word_laws.specs.Histories.{Within, Comparable, Recorded, GoodWord, names}
-use Rattle.cluster_steps.proofs.Lists.{same-some, none-and-some, not-both}
-use Rattle.word_laws.proofs.Algebra.{firsts, subset-length, within-refl, within-cases, names-first, names-admits, names-within, admits-fresh, admits-firsts}
-use Rattle.word_laws.proofs.Agreement.{one-first, term-same, member-of, member-is}
-use Rattle.word_laws.proofs.Admissions.{not-earlier-self}
-use Rattle.log_laws.specs.Histories.{LogState, LogsHold, Entered, Leadership, WordOf, Last, WasIn, HasBeen, Came, LeadershipOk, IsSlot, epoch_base, part, site_start, log_at, term_at}
+use Rattle.log_laws.proofs.Names.{◌≡◌, ◌+◌, ◌-◌, ◌<◌, ◌≤◌, zero, suc, true, false, length, refl, sym, subst, ap, ◌∙◌, ◌⊎◌, inl, inr, ◌==◌, arith, cases_Bool, cases_lt, length-map, ℕ, nat_lt, Option, Some, None, list_any, Membership, slots, host_of_slot, is_in, term_of, start_of, start_of_slot, admits, In, Prefix, Within, Comparable, Recorded, GoodWord, names, same-some, none-and-some, not-both, firsts, subset-length, within-refl, within-cases, names-first, names-admits, names-within, admits-fresh, admits-firsts, one-first, term-same, member-of, member-is, not-earlier-self, LogState, LogsHold, Entered, Leadership, WordOf, Last, WasIn, HasBeen, Came, LeadershipOk, IsSlot, epoch_base, part, site_start, log_at, term_at}
 
 module _ (S : LogState) (H : LogsHold S) where
   -- ---- sites
 
   -- a site that runs is a slot's
   pub running-slot : (c : ℕ) → 0 < site_start S c → IsSlot S c
-  running-slot c up = elim (cases_Bool (nat_lt c (slots S.words.deployment))) [
-    | inl is ↦ is
-    | inr out ↦ absurd (omega (arith, up, (H.sites c).environment out))
-  ]
+  running-slot c up = elim (cases_Bool (nat_lt c (slots S.words.deployment))) [ inl is ↦ is | inr out ↦ absurd (omega (arith, up, (H.sites c).environment out)) ]
 
   -- ---- words
 
@@ -140,20 +124,14 @@ module _ (S : LogState) (H : LogsHold S) where
 
   -- ---- the words of what was entered, streamed and led
 
-  pub entered-word : (c t : ℕ) (e : Entered) (k : S.logs.entered c t ≡ Some e) (w : Membership) → WordOf S t w → (H.entered c t e k).word ≡ w
-  entered-word c t e k w d = same-word t (H.entered c t e k).word w (H.entered c t e k).is_word d
-
   pub entered-start : (c t : ℕ) (e : Entered) → S.logs.entered c t ≡ Some e → (w : Membership) → WordOf S t w → start_of_slot S.words.deployment w c ≡ Some e.start
-  entered-start c t e k w d = subst (λ x. start_of_slot S.words.deployment x c ≡ Some e.start) (entered-word c t e k w d) (H.entered c t e k).start_is
-
-  pub leaderships-word : (p t : ℕ) (g : Leadership) (k : S.logs.leadership p t ≡ Some g) (w : Membership) → WordOf S t w → (H.leaderships p t g k).word ≡ w
-  leaderships-word p t g k w d = same-word t (H.leaderships p t g k).word w (H.leaderships p t g k).is_word d
+  entered-start c t e k w d = subst (λ x. start_of_slot S.words.deployment x c ≡ Some e.start) (same-word t (H.entered c t e k).word w (H.entered c t e k).is_word d) (H.entered c t e k).start_is
 
   -- each copy had entered a term that was led
   pub leadership-entered : (p t : ℕ) (g : Leadership) → S.logs.leadership p t ≡ Some g → (w : Membership) → WordOf S t w → (c a : ℕ) → IsSlot S c → part S c ≡ p
       → start_of_slot S.words.deployment w c ≡ Some a → (e : Entered) × (S.logs.entered c t ≡ Some e) × (e.start ≡ a) × Prefix e.log g.begun
   leadership-entered p t g k w d c a s q m =
-      (H.leaderships p t g k).entered c a s q (subst (λ x. start_of_slot S.words.deployment x c ≡ Some a) (sym (leaderships-word p t g k w d)) m)
+      (H.leaderships p t g k).entered c a s q (subst (λ x. start_of_slot S.words.deployment x c ≡ Some a) (sym (same-word t (H.leaderships p t g k).word w (H.leaderships p t g k).is_word d)) m)
 
   -- ---- who was in a term
 

@@ -1,25 +1,11 @@
 -- Turns of one site by which the history of logs grows: what holds of the other slots, of messages and of what was loaded stays so.
-use Rattle.std.proofs.Common.{◌≡◌, ◌<◌, List, [], ◌++◌, refl, sym, subst, ap, ◌∙◌, ◌⊎◌, inl, inr, ◌==◌, arith}
-use Rattle.std.proofs.lemmas.Bool.{cases_eq}
-use Rattle.std.specs.Prelude.{ℕ, ◌≤◌, length, filter, map, Option, Some, None}
-use Rattle.std.specs.List.{AllByRecursion}
-use Rattle.volt_wire.specs.Word.{Membership}
-use Rattle.volt_wire.specs.declared.actor.Actor.{Actor}
-use Rattle.volt_wire.specs.declared.actor.Actor.TheVariants.{Agent, Site}
+use Rattle.log_laws.proofs.Names.{◌≡◌, ◌<◌, List, [], ◌++◌, refl, sym, subst, ap, ◌∙◌, ◌⊎◌, inl, inr, ◌==◌, arith, ℕ, ◌≤◌, length, filter, map, Option, Some, None, AllByRecursion, Membership, Actor, Agent, Site, term_of, host_of_slot, Letter, Waiting, SiteState, Joining, Joiner, Ask, set_at, In, Distinct, all-from, all-at, all-append, all-mono, in-map, filter-in, eqb-same, set-here, set-there, set-both, prefix-refl, LogState, LogsHold, Entered, Streaming, Leadership, EnteredOk, StreamedOk, LeadershipOk, UnledOk, SiteOk, KeepsOk, MemberOk, JoinerOk, InWord, Coming, ViewsOk, LoadsOk, ForeignOk, AckOk, ReportOk, CountedOk, HeldOk, SiteLetterOk, SiteWaitingOk, AsksToJoin, EndOk, MeantFor, IsCounted, IsSlot, ToldOk, epoch_base, part, site_start, term_at, between, agent_to_site, line, flow, stream_ends_in, ask_of, wait_of, asks_waiting, asks_kept, asks_of_term, asked, end_of, flow_of}
 use Rattle.volt_wire.specs.declared.message.Msg.TheVariants as msg
-use Rattle.cluster_model.specs.Words.{term_of, host_of_slot}
-use Rattle.cluster_model.specs.Letters.{Letter, Waiting}
-use Rattle.cluster_model.specs.SiteState.{SiteState, Joining, Joiner, Ask}
-use Rattle.cluster_model.specs.World.{set_at}
 use Rattle.word_laws.specs.Histories as word
-use Rattle.cluster_steps.specs.Lists.{In}
-use Rattle.word_laws.specs.Histories.{Distinct}
-use Rattle.cluster_steps.proofs.Lists.{all-from, all-at, all-append, all-mono, in-left, in-right, in-map, filter-in, eqb-same, set-here, set-there, set-both}
-use Rattle.log_laws.specs.Histories.{LogState, LogsHold, Entered, Streaming, Leadership, EnteredOk, StreamedOk, LeadershipOk, UnledOk, SiteOk, KeepsOk, MemberOk, JoinerOk, InWord, Coming, ViewsOk, LoadsOk, ForeignOk, AckOk, ReportOk, CountedOk, HeldOk, SiteLetterOk, SiteWaitingOk, AsksToJoin, EndOk, MeantFor, IsCounted, IsSlot, ToldOk, AskedOk, QueuedLoadedOk, epoch_base, part, site_start, term_at, between, agent_to_site, line, flow, stream_ends_in, ask_of, wait_of, asks_in, asks_waiting, asks_kept, asks_of_term, asked}
 use Rattle.log_laws.proofs.Kept.Moves.{SiteRises, site-stays, LogsLater, EntersNow}
-use Rattle.log_laws.proofs.Kept.Laters.{been-later, ack-later, report-later, ask-later, counted-later, loaded-later, all_loaded-later, end-later, told-later, asked-later, queued-later, stays, letter-later-with, waiting-later-with}
-use Rattle.log_laws.proofs.Plain.Lines.{in-flat, flow-same, ends-same}
-use Rattle.log_laws.proofs.Kept.Asked.{AtMost, at-most-is, at-most-both, at-most-same, at-most-none}
+use Rattle.log_laws.proofs.Kept.Laters.{ask-later, end-later, stays, letter-later-with, waiting-later-with, counteds-later, keeps-at, loads-later, streamed-later}
+use Rattle.log_laws.proofs.Plain.{in-flat, flat-same, one-and-others}
+use Rattle.log_laws.proofs.Kept.Asked.{AtMost, at-most-is, at-most-none, asks-moved, in-asked, keeps-less}
 use Rattle.log_laws.proofs.Kept.Plumbing.{words-later}
 use Rattle.log_laws.proofs.Kept.Terms.{running-slot, took-decided}
 use Rattle.log_laws.proofs.Kept.Keeps.{SiteStays, SameFrom, SameTerm, SameRun, still-same, site-keeps-with, joiner-keeps-with, in_word-keeps-with, inert-keeps, coming-keeps, took-keeps}
@@ -58,7 +44,7 @@ pub turned-later : (S : LogState) (i : ℕ) (s : SiteState) (ch : Actor → Acto
     → ((c t : ℕ) (e : Entered) → S.logs.entered c t ≡ Some e → en c t ≡ Some e)
     → ((c t : ℕ) (e : Entered) → en c t ≡ Some e → (S.logs.entered c t ≡ Some e) ⊎ EntersNow S c t e)
     → ((p t : ℕ) → S.logs.reach p t ≤ rc p t) → LogsLater S (site_turned S i s ch en re rc)
-turned-later S i s ch en re rc goes entered now reach = record {
+turned-later S i s ch en re rc goes entered now reach = let all = set-both (λ c z. SiteRises (S.sites c) z) S.sites i s goes (λ c _. site-stays (S.sites c)) in record {
   words = words-later S ch;
   ran = λ c a is. is;
   greatest = λ c. (all c).greatest;
@@ -69,18 +55,12 @@ turned-later S i s ch en re rc goes entered now reach = record {
   streamed_now = λ c t x is. inl is;
   reach = reach;
 }
-  where
-    all : (c : ℕ) → SiteRises (S.sites c) (set_at S.sites i s c)
-    all = set-both (λ c z. SiteRises (S.sites c) z) S.sites i s goes (λ c _. site-stays (S.sites c))
 
 -- what is said of a channel, where what a site sent to others is behind what was there
 pub said-same : {A : Type 0} (f : List Letter → A) (S : LogState) (i : ℕ) (ch : Actor → Actor → List Letter) (new : ℕ → List Letter)
     → ((c : ℕ) → ch (Site i) (Site c) ≡ between S i c ++ new c) → ((a c : ℕ) → (a ≡ i → ⊥) → ch (Site a) (Site c) ≡ between S a c)
     → (a c : ℕ) → f (between S i c ++ new c) ≡ f (between S i c) → f (ch (Site a) (Site c)) ≡ f (between S a c)
-said-same f S i ch new mine theirs a c same = elim (cases_eq a i) [
-  | inl e ↦ subst (λ z. f (ch (Site z) (Site c)) ≡ f (between S z c)) (sym e) (ap f (mine c) ∙ same)
-  | inr n ↦ ap f (theirs a c n)
-]
+said-same f S i ch new mine theirs a c same = one-and-others (λ a. f (ch (Site a) (Site c)) ≡ f (between S a c)) i (ap f (mine c) ∙ same) (λ a n. ap f (theirs a c n)) a
 
 -- What must be so of it. The site sent these to others.
 pub record Turned (S : LogState) (i : ℕ) (s : SiteState) (ch : Actor → Actor → List Letter) (en : ℕ → ℕ → Option Entered) (re : ℕ → ℕ → Option Leadership) (rc : ℕ → ℕ → ℕ)
@@ -125,107 +105,60 @@ module _ (S : LogState) (H : LogsHold S) (i : ℕ) (s : SiteState) (ch : Actor �
   -- ---- messages
 
   flows-same : (a c start t : ℕ) → flow start t (ch (Site a) (Site c)) ≡ flow start t (between S a c)
-  flows-same a c start t = said-same (flow start t) S i ch new F.mine F.theirs a c (flow-same start t (between S i c) (new c) (F.flows c start t))
+  flows-same a c start t = said-same (flow start t) S i ch new F.mine F.theirs a c (flat-same (flow_of start t) (between S i c) (new c) (F.flows c start t))
 
   ends-are-same : (a c start t : ℕ) → stream_ends_in start t (ch (Site a) (Site c)) ≡ stream_ends_in start t (between S a c)
-  ends-are-same a c start t = said-same (stream_ends_in start t) S i ch new F.mine F.theirs a c (ends-same start t (between S i c) (new c) (F.ends c start t))
+  ends-are-same a c start t = said-same (stream_ends_in start t) S i ch new F.mine F.theirs a c (flat-same (end_of start t) (between S i c) (new c) (F.ends c start t))
 
   -- an ask that is somewhere
   ask-kept : (a c t x : ℕ) → IsSlot S c → In x (asked S a c t) → AsksToJoin S (part S c) a t x → AsksToJoin T (part S c) a t x
-  ask-kept a c t x slot is k = elim (cases_eq a i) [
-    | inl e ↦ subst (λ z. AsksToJoin T (part S c) z t x) (sym e)
-        (F.joins c t x slot (subst (λ z. In x (asked S z c t)) e is) (subst (λ z. AsksToJoin S (part S c) z t x) e k))
-    | inr n ↦ ask-later S T H F.later (part S c) a t x (λ w j. (j.0, ap (λ z. z.joining) (there a n) ∙ j.1, ap (λ z. z.view) (there a n) ∙ j.2)) k
-  ]
+  ask-kept a c t x slot = one-and-others (λ a. In x (asked S a c t) → AsksToJoin S (part S c) a t x → AsksToJoin T (part S c) a t x) i (F.joins c t x slot)
+      (λ a n is. ask-later S T H F.later (part S c) a t x (λ w j. (j.0, ap (λ z. z.joining) (there a n) ∙ j.1, ap (λ z. z.view) (there a n) ∙ j.2))) a
 
   end-kept : (a c : ℕ) (l : Letter) → MeantFor S c l → EndOk S a c l → EndOk T a c l
   end-kept a c l r k = end-later S T H F.later a c l r k (subst (AllByRecursion _) (sym (flows-same a c l.start l.term))) (λ x e start. inl e)
 
   letters-kept : (a c : ℕ) → IsSlot S c → AllByRecursion (SiteLetterOk T a c) (between S a c)
-  letters-kept a c slot = all-from (SiteLetterOk T a c) (between S a c) (λ l is. letter-later-with S T H F.later a c l (λ x slot-of e. ask-kept a c l.term x slot (in-asked l is x slot-of e))
+  letters-kept a c slot = all-from (SiteLetterOk T a c) (between S a c) (λ l is. letter-later-with S T H F.later a c l (λ x slot-of e. ask-kept a c l.term x slot (asked-letter l is x slot-of e))
       (end-kept a c l) (all-at (SiteLetterOk S a c) (between S a c) (H.letters a c slot) l is))
     where
-      in-asked : (l : Letter) → In l (between S a c) → (x slot-of : ℕ) → l.body ≡ msg.JoinAsk x slot-of → In x (asked S a c l.term)
-      in-asked l is x slot-of e =
+      asked-letter : (l : Letter) → In l (between S a c) → (x slot-of : ℕ) → l.body ≡ msg.JoinAsk x slot-of → In x (asked S a c l.term)
+      asked-letter l is x slot-of e =
           let one : In x (ask_of l.term l) = rw (eqb-same l.term, e) (inl refl) in
-          let all = in-flat (ask_of l.term) x l (between S a c) is one in
-          in-left x (asks_in l.term (between S a c) ++ asks_waiting a l.term (S.sites c).waiting ++ asks_waiting a l.term (S.pending c)) (asks_of_term a l.term (S.sites c))
-          (in-left x (asks_in l.term (between S a c) ++ asks_waiting a l.term (S.sites c).waiting) (asks_waiting a l.term (S.pending c))
-          (in-left x (asks_in l.term (between S a c)) (asks_waiting a l.term (S.sites c).waiting) all))
+          in-asked S a c l.term x (inl (inl (in-flat (ask_of l.term) x l (between S a c) is one)))
 
   pub letters-turned : ((c : ℕ) → IsSlot S c → AllByRecursion (SiteLetterOk T i c) (new c)) → (a c : ℕ) → IsSlot S c → AllByRecursion (SiteLetterOk T a c) (ch (Site a) (Site c))
-  letters-turned more a c slot = elim (cases_eq a i) [
-    | inl e ↦ subst (λ z. AllByRecursion (SiteLetterOk T z c) (ch (Site z) (Site c))) (sym e)
-        (subst (AllByRecursion (SiteLetterOk T i c)) (sym (F.mine c)) (all-append (SiteLetterOk T i c) (between S i c) (new c) (letters-kept i c slot) (more c slot)))
-    | inr n ↦ subst (AllByRecursion (SiteLetterOk T a c)) (sym (F.theirs a c n)) (letters-kept a c slot)
-  ]
+  letters-turned more a c slot = one-and-others (λ a. AllByRecursion (SiteLetterOk T a c) (ch (Site a) (Site c))) i
+      (rw (F.mine c) (all-append (SiteLetterOk T i c) (between S i c) (new c) (letters-kept i c slot) (more c slot)))
+      (λ a n. rw (F.theirs a c n) (letters-kept a c slot)) a
 
   -- what waits
+  waits-turned : (c : ℕ) → IsSlot S c → site_start T c ≡ site_start S c → (ws : List Waiting) → ((a t x : ℕ) → In x (asks_waiting a t ws) → In x (asked S a c t))
+      → AllByRecursion (SiteWaitingOk S c) ws → AllByRecursion (SiteWaitingOk T c) ws
+  waits-turned c slot start ws within k = all-from (SiteWaitingOk T c) ws (λ x is. waiting-later-with S T H F.later c start x
+      (λ a y slot-of e b. let one : In y (wait_of a x.letter.term x) = rw (e, eqb-same a, eqb-same x.letter.term, b) (inl refl) in
+      ask-kept a c x.letter.term y slot (within a x.letter.term y (in-flat (wait_of a x.letter.term) y x ws is one))) (all-at (SiteWaitingOk S c) ws k x is))
+
   pub waiting-turned : (c : ℕ) → IsSlot S c → site_start T c ≡ site_start S c → KeepsOk S c → AllByRecursion (SiteWaitingOk T c) (S.sites c).waiting
-  waiting-turned c slot start k = all-from (SiteWaitingOk T c) (S.sites c).waiting (λ x is. waiting-later-with S T H F.later c start x
-      (λ a y slot-of e b. ask-kept a c x.letter.term y slot (in-asked x is a y slot-of e b)) (all-at (SiteWaitingOk S c) (S.sites c).waiting k.waiting x is))
-    where
-      in-asked : (x : Waiting) → In x (S.sites c).waiting → (a y slot-of : ℕ) → x.from ≡ Site a → x.letter.body ≡ msg.JoinAsk y slot-of → In y (asked S a c x.letter.term)
-      in-asked x is a y slot-of e b =
-          let t = x.letter.term in
-          let one : In y (wait_of a t x) = rw (e, eqb-same a, eqb-same t, b) (inl refl) in
-          in-left y (asks_in t (between S a c) ++ asks_waiting a t (S.sites c).waiting ++ asks_waiting a t (S.pending c)) (asks_of_term a t (S.sites c))
-          (in-left y (asks_in t (between S a c) ++ asks_waiting a t (S.sites c).waiting) (asks_waiting a t (S.pending c))
-          (in-right y (asks_in t (between S a c)) (asks_waiting a t (S.sites c).waiting) (in-flat (wait_of a t) y x (S.sites c).waiting is one)))
+  waiting-turned c slot start k = waits-turned c slot start (S.sites c).waiting (λ a t x i. in-asked S a c t x (inl (inr i))) k.waiting
 
   pub pending-turned : (c : ℕ) → IsSlot S c → site_start T c ≡ site_start S c → KeepsOk S c → AllByRecursion (SiteWaitingOk T c) (S.pending c)
-  pending-turned c slot start k = all-from (SiteWaitingOk T c) (S.pending c) (λ x is. waiting-later-with S T H F.later c start x
-      (λ a y slot-of e b. ask-kept a c x.letter.term y slot (in-asked x is a y slot-of e b)) (all-at (SiteWaitingOk S c) (S.pending c) k.pending x is))
-    where
-      in-asked : (x : Waiting) → In x (S.pending c) → (a y slot-of : ℕ) → x.from ≡ Site a → x.letter.body ≡ msg.JoinAsk y slot-of → In y (asked S a c x.letter.term)
-      in-asked x is a y slot-of e b =
-          let t = x.letter.term in
-          let one : In y (wait_of a t x) = rw (e, eqb-same a, eqb-same t, b) (inl refl) in
-          in-left y (asks_in t (between S a c) ++ asks_waiting a t (S.sites c).waiting ++ asks_waiting a t (S.pending c)) (asks_of_term a t (S.sites c))
-          (in-right y (asks_in t (between S a c) ++ asks_waiting a t (S.sites c).waiting) (asks_waiting a t (S.pending c))
-          (in-flat (wait_of a t) y x (S.pending c) is one))
+  pending-turned c slot start k = waits-turned c slot start (S.pending c) (λ a t x i. in-asked S a c t x (inr (inl i))) k.pending
 
   -- ---- other slots
 
   asked-less : (c l t : ℕ) → (c ≡ i → ⊥) → AtMost (asked S c l t) (asked T c l t)
-  asked-less c l t other = elim (cases_eq l i) [
-    | inl e ↦ subst (λ z. AtMost (asked S c z t) (asked T c z t)) (sym e) mine
-    | inr n ↦ at-most-is (asked S c l t) (asked T c l t)
-        (ap (λ z. asks_in t z ++ asks_waiting c t (T.sites l).waiting ++ asks_waiting c t (S.pending l) ++ asks_of_term c t (T.sites l)) (F.theirs c l other)
-        ∙ ap (λ z. asks_in t (between S c l) ++ asks_waiting c t z.waiting ++ asks_waiting c t (S.pending l) ++ asks_of_term c t z) (there l n))
-  ]
-    where
-      asked-is : asked T c i t ≡ asks_in t (between S c i) ++ asks_waiting c t (S.sites i).waiting ++ asks_waiting c t (S.pending i) ++ asks_of_term c t s
-      asked-is = ap (λ z. asks_in t z ++ asks_waiting c t (T.sites i).waiting ++ asks_waiting c t (S.pending i) ++ asks_of_term c t (T.sites i)) (F.theirs c i other)
-          ∙ ap (λ z. asks_in t (between S c i) ++ asks_waiting c t z.waiting ++ asks_waiting c t (S.pending i) ++ asks_of_term c t z) here
-          ∙ ap (λ z. asks_in t (between S c i) ++ asks_waiting c t z ++ asks_waiting c t (S.pending i) ++ asks_of_term c t s) F.waiting
-
-      mine : AtMost (asked S c i t) (asked T c i t)
-      mine = subst (AtMost (asked S c i t)) (sym asked-is)
-          (at-most-both (asks_in t (between S c i) ++ asks_waiting c t (S.sites i).waiting ++ asks_waiting c t (S.pending i))
-          (asks_in t (between S c i) ++ asks_waiting c t (S.sites i).waiting ++ asks_waiting c t (S.pending i))
-          (asks_of_term c t (S.sites i)) (asks_of_term c t s)
-          (at-most-same (asks_in t (between S c i) ++ asks_waiting c t (S.sites i).waiting ++ asks_waiting c t (S.pending i))) (F.asks c t))
+  asked-less c l t other = one-and-others (λ l. AtMost (asked S c l t) (asked T c l t)) i
+      (subst (AtMost (asked S c i t)) (sym (asks-moved c t (between S c i) (between T c i) s (T.sites i) (S.pending i) (F.theirs c i other) here))
+      (keeps-less c t (between S c i) (S.sites i) s (S.pending i) F.waiting (F.asks c t)))
+      (λ l n. at-most-is (asked S c l t) (asked T c l t) (asks-moved c t (between S c l) (between T c l) (S.sites l) (T.sites l) (S.pending l) (F.theirs c l other) (there l n))) l
 
   keeps-other : (c : ℕ) → (c ≡ i → ⊥) → 0 < site_start S c → KeepsOk S c → KeepsOk T c
-  keeps-other c other up k = record {
-    acks = rw (there c other) (all-mono (λ a. IsSlot S a.0 → AckOk S a.0 (term_at S c) a.1) (λ a. IsSlot S a.0 → AckOk T a.0 (term_at S c) a.1)
-        (λ a p slot. ack-later S T H F.later a.0 (term_at S c) a.1 (p slot)) (S.sites c).acks k.acks);
-    reports = rw (there c other) (all-mono (λ r. ReportOk S (part S c) r.slot (term_at S c) r.position r.floor r.tail)
-        (λ r. ReportOk T (part S c) r.slot (term_at S c) r.position r.floor r.tail)
-        (λ r. report-later S T H F.later (part S c) r.slot (term_at S c) r.position r.floor r.tail) (S.sites c).reports k.reports);
-    joiners = rw (there c other) (all-mono (CountedOk S (part S c) (term_at S c)) (CountedOk T (part S c) (term_at S c))
-        (counted-later S T H F.later (part S c) (term_at S c)) (S.sites c).joiners k.joiners);
-    alone = rw (there c other) k.alone;
-    leads = rw (there c other) k.leads;
-    asks = rw (there c other) (all-from (λ a. AsksToJoin T (part S c) a.slot (term_at S c) a.start) (S.sites c).asks (λ a is.
-        ask-kept a.slot c (term_at S c) a.start slot (in-asked a is)
-        (all-at (λ a. AsksToJoin S (part S c) a.slot (term_at S c) a.start) (S.sites c).asks k.asks a is)));
-    waiting = subst (λ z. AllByRecursion (SiteWaitingOk T c) z.waiting) (sym (there c other)) (waiting-turned c slot start k);
-    pending = pending-turned c slot start k;
-    on_disk = subst (λ z. z.on_disk ≤ length z.log) (sym (there c other)) k.on_disk;
-    held = rw (there c other) k.held;
-  }
+  keeps-other c other up k = keeps-at S T H F.later c (S.sites c) (there c other) refl k.acks k.reports
+      (counteds-later S T H F.later (part S c) (term_at S c) (S.sites c).joiners k.joiners) k.alone k.leads
+      (all-from (λ a. AsksToJoin T (part S c) a.slot (term_at S c) a.start) (S.sites c).asks (λ a is. ask-kept a.slot c (term_at S c) a.start slot (asked-kept a is)
+      (all-at (λ a. AsksToJoin S (part S c) a.slot (term_at S c) a.start) (S.sites c).asks k.asks a is)))
+      (waiting-turned c slot start k) (pending-turned c slot start k) k.on_disk k.held
     where
       slot : IsSlot S c
       slot = running-slot S H c up
@@ -233,14 +166,13 @@ module _ (S : LogState) (H : LogsHold S) (i : ℕ) (s : SiteState) (ch : Actor �
       start : site_start T c ≡ site_start S c
       start = ap (λ z. z.start) (there c other)
 
-      in-asked : (a : Ask) → In a (S.sites c).asks → In a.start (asked S a.slot c (term_at S c))
-      in-asked a is =
+      asked-kept : (a : Ask) → In a (S.sites c).asks → In a.start (asked S a.slot c (term_at S c))
+      asked-kept a is =
           let t = term_at S c in
           let one : In a.start (asks_kept a.slot (S.sites c).asks) = in-map (λ z. z.start) a (filter (λ z. z.slot == a.slot) (S.sites c).asks)
           (filter-in (λ z. z.slot == a.slot) a (S.sites c).asks is (eqb-same a.slot)) in
           let kept : In a.start (asks_of_term a.slot t (S.sites c)) = rw (eqb-same t) one in
-          in-right a.start (asks_in t (between S a.slot c) ++ asks_waiting a.slot t (S.sites c).waiting ++ asks_waiting a.slot t (S.pending c))
-          (asks_of_term a.slot t (S.sites c)) kept
+          in-asked S a.slot c t a.start (inr (inr kept))
 
   same-run : (c : ℕ) → (c ≡ i → ⊥) → SameRun S T c
   same-run c other = record { entered = λ t e is start. sym (F.entered c t other) ∙ is; streamed = λ t x is start. is }
@@ -252,7 +184,7 @@ module _ (S : LogState) (H : LogsHold S) (i : ℕ) (s : SiteState) (ch : Actor �
       site = still-same (S.sites c) (T.sites c) (there c other)
 
       word : (w : Membership) → (S.sites c).view ≡ Some w → InWord S c w j → InWord T c w j
-      word w view n = in_word-keeps-with S T H F.later c site w j (same-run c other)
+      word w view n = let decided = took-decided S H (site_start S c) w n.took in in_word-keeps-with S T H F.later c site w j (same-run c other)
           (λ l e. F.lines c l w j other joins k e)
           (λ l _ e d. (flows-same l c (site_start S c) (term_of w) ∙ e, ends-are-same l c (site_start S c) (term_of w) ∙ d))
           (λ l. asked-less c l (term_of w) other)
@@ -268,9 +200,6 @@ module _ (S : LogState) (H : LogsHold S) (i : ℕ) (s : SiteState) (ch : Actor �
           (λ stream_start q. took-keeps S T H F.later c site w j stream_start (same-term q.leadership q.led) from q)
           n
         where
-          decided : In w S.words.history.decided
-          decided = took-decided S H (site_start S c) w n.took
-
           same-term : (g : Leadership) → S.logs.leadership (part S c) (term_of w) ≡ Some g → SameTerm S T (part S c) (term_of w)
           same-term g is = let p = F.led (part S c) (term_of w) g is in record { leadership = p.0; reach = p.1 }
 
@@ -298,51 +227,20 @@ module _ (S : LogState) (H : LogsHold S) (i : ℕ) (s : SiteState) (ch : Actor �
   -- ---- what was loaded, and streams
 
   loads-turned : LoadsOk T
-  loads-turned = record {
-    told = λ c h. subst (AllByRecursion (ToldOk T c)) (sym (F.tells c h))
-        (all-mono (ToldOk S c) (ToldOk T c) (told-later S T H F.later c) (S.words.channel (Site c) (Agent h)) (H.loads.told c h));
-    heard = λ h c up is. loaded-later S T H F.later c (S.words.agents h).start (H.loads.heard h c up is);
-    asked = λ h g. subst (AllByRecursion (AskedOk T (Agent h))) (sym (F.agreed h g))
-        (all-mono (AskedOk S (Agent h)) (AskedOk T (Agent h)) (asked-later S T H F.later (Agent h)) (S.words.channel (Agent h) (Agent g)) (H.loads.asked h g));
-    waiting = λ h. all-mono (λ x. AskedOk S x.from x.letter) (λ x. AskedOk T x.from x.letter) (λ x. asked-later S T H F.later x.from x.letter)
-        (S.words.agents h).waiting (H.loads.waiting h);
-    queued = λ h. all-mono (QueuedLoadedOk S) (QueuedLoadedOk T) (queued-later S T H F.later) (S.words.agents h).initiating.queue (H.loads.queued h);
-    admitted = λ x is. all_loaded-later S T H F.later (S.words.owner x.start) x.start (H.loads.admitted x is);
-  }
+  loads-turned = loads-later S T H F.later refl refl (λ c h. subst (AllByRecursion (ToldOk S c)) (sym (F.tells c h)) (H.loads.told c h)) F.agreed
 
   streamed-turned : (c t : ℕ) (x : Streaming) → S.logs.streamed c t ≡ Some x → en c t ≡ None → StreamedOk T c t x
-  streamed-turned c t x is apart =
-      let k = H.streamed c t x is in
-      let r = F.led (part S c) t k.leadership k.led in record {
-        word = k.word;
-        took = k.took;
-        term_is = k.term_is;
-        apart = apart;
-        later = λ u e now start. elim (F.later.entered_now c u e now) [
-          | inl old ↦ k.later u e old start
-          | inr fresh ↦ let o = k.running (sym fresh.start ∙ start) in let up = o.1 in let above = fresh.above in let n = o.3 in let m = fresh.log in
-              (omega (arith, up, above), omega (arith, n, m))
-        ];
-        leadership = k.leadership;
-        led = r.0 ∙ k.led;
-        behind = k.behind;
-        been = been-later S T H F.later c t x.start k.been;
-        running = λ runs.
-            let y = stays S T H F.later c x.start k.been.some k.been.ran runs in
-            let o = k.running (sym y.start ∙ runs) in (
-              rw y.earlier o.0,
-              (let a = o.1 in let b = y.term in omega (arith, a, b)),
-              (let a = o.2 in let b = y.log in let e = r.1 in omega (arith, a, b, e)),
-              (let a = o.3 in let b = y.log in omega (arith, a, b)),
-            );
-        counted = F.counted c x.start x.stream_start k.word k.leadership (took-decided S H x.start k.word k.took) (subst (λ z. S.logs.leadership (part S c) z ≡ Some k.leadership) (sym k.term_is) k.led) k.counted;
-      }
+  streamed-turned c t x is apart = let k = H.streamed c t x is in let r = F.led (part S c) t k.leadership k.led in
+      streamed-later S T H F.later c t x k (k.leadership, r.0 ∙ k.led, refl, prefix-refl k.leadership.log) apart
+      (λ runs. let y = stays S T H F.later c x.start k.been.some k.been.ran runs in
+      let o = (k.running (sym y.start ∙ runs)).2 in let b = y.log in let e = r.1 in omega (arith, o, b, e))
+      (F.counted c x.start x.stream_start k.word k.leadership (took-decided S H x.start k.word k.took) (subst (λ z. S.logs.leadership (part S c) z ≡ Some k.leadership) (sym k.term_is) k.led))
 
   -- ---- a site that keeps nothing but what waits
 
   pub fresh-keeps : 0 < site_start S i → s.start ≡ site_start S i → s.acks ≡ [] → s.reports ≡ [] → s.joiners ≡ [] → s.asks ≡ [] → s.on_disk ≤ length s.log
       → AllByRecursion HeldOk s.held → KeepsOk S i → KeepsOk T i
-  fresh-keeps up start acks reports joiners asks on_disk held k = record {
+  fresh-keeps up start acks reports joiners asks on_disk held k = let slot = running-slot S H i up in record {
     acks = subst (λ z. AllByRecursion (λ a. IsSlot T a.0 → AckOk T a.0 (term_at T i) a.1) z) (sym (ap (λ z. z.acks) here ∙ acks)) tt;
     reports = subst (λ z. AllByRecursion (λ r. ReportOk T (part T i) r.slot (term_at T i) r.position r.floor r.tail) z) (sym (ap (λ z. z.reports) here ∙ reports)) tt;
     joiners = subst (AllByRecursion (CountedOk T (part T i) (term_at T i))) (sym none) tt;
@@ -355,9 +253,6 @@ module _ (S : LogState) (H : LogsHold S) (i : ℕ) (s : SiteState) (ch : Actor �
     held = subst (λ z. AllByRecursion HeldOk z.held) (sym here) held;
   }
     where
-      slot : IsSlot S i
-      slot = running-slot S H i up
-
       same-start : site_start T i ≡ site_start S i
       same-start = ap (λ z. z.start) here ∙ start
 
@@ -374,8 +269,8 @@ module _ (S : LogState) (H : LogsHold S) (i : ℕ) (s : SiteState) (ch : Actor �
       → LogsHold T
   turned-holds words site views letters entered apart leaderships unled = record {
     words = words;
-    sites = λ c. elim (cases_eq c i) [ inl e ↦ subst (SiteOk T) (sym e) site | inr n ↦ site-other c n ];
-    views = λ c. elim (cases_eq c i) [ inl e ↦ subst (ViewsOk T) (sym e) views | inr n ↦ views-other c n ];
+    sites = one-and-others (SiteOk T) i site site-other;
+    views = one-and-others (ViewsOk T) i views views-other;
     letters = letters-turned letters;
     foreign = λ from c. all-mono (ForeignOk S c from) (ForeignOk T c from) (foreign-later S T H F.later c from) (ch from (Site c)) (F.foreign from c);
     loads = loads-turned;

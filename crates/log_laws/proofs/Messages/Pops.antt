@@ -1,27 +1,8 @@
 -- A message leaves its channel, or what waited is taken up, where what is looked at of it is nothing: what holds, holds then.
-use Rattle.std.proofs.Common.{◌≡◌, ◌<◌, Bool, true, false, List, [], ◌∷◌, ◌++◌, refl, sym, subst, ap, ◌∙◌, ◌⊎◌, inl, inr, ◌==◌, arith}
-use Rattle.std.proofs.lemmas.Bool.{eqb-true, eqb-false}
-use Rattle.std.proofs.lemmas.Bool.Decides.{nat_tests}
-use Rattle.std.specs.Prelude.{ℕ, ◌||◌, nat_lt, if◌then◌else◌, length}
-use Rattle.std.specs.List.{AllByRecursion}
-use Rattle.volt_wire.specs.declared.actor.Actor.{Actor}
-use Rattle.volt_wire.specs.declared.actor.Actor.TheVariants.{Director, Client, Agent, Site, Scanner}
+use Rattle.log_laws.proofs.Names.{◌≡◌, ◌<◌, Bool, true, false, List, [], ◌∷◌, ◌++◌, refl, sym, subst, ap, ◌∙◌, ◌⊎◌, inl, inr, ◌==◌, arith, eqb-true, eqb-false, nat_tests, ℕ, ◌||◌, nat_lt, if◌then◌else◌, AllByRecursion, Actor, Agent, Site, host_of_slot, Letter, Waiting, of_term, above_term, Taken, Refused, Waits, arrival, in_term, no_sends, becomes, SiteState, set_at, took-all, all-append, all-filter, set-both, LogState, LogsHold, SiteLetterOk, ForeignOk, SiteWaitingOk, IsSlot, MeantFor, site_start, term_at, agent_to_site, line, line_of, flow, flow_of, stream_ends_in, end_of, line_in, flow_in, view_in, SiteWaitingFrom, view_of, asks_of_term}
 use Rattle.volt_wire.specs.declared.message.Msg.TheVariants as msg
-use Rattle.cluster_model.specs.Words.{host_of_slot}
-use Rattle.cluster_model.specs.Letters.{Letter, Waiting, of_term, above_term, Taken, Refused, Waits, arrival, in_term, no_sends, becomes}
-use Rattle.cluster_model.specs.SiteState.{SiteState}
-use Rattle.cluster_model.specs.World.{set_at}
-use Rattle.cluster_steps.proofs.Channels.{took-all, sent-nothing}
-use Rattle.cluster_steps.proofs.Lists.{all-append, all-filter, set-same}
-use Rattle.log_laws.specs.Histories.{LogState, LogsHold, SiteLetterOk, ForeignOk, SiteWaitingOk, IsSlot, MeantFor, site_start, term_at, agent_to_site, line, line_of, flow, flow_of, stream_ends_in, end_of, line_in, flow_in, view_in, SiteWaitingFrom, view_of, asks_of_term, log_at}
-use Rattle.log_laws.proofs.Kept.Moves.{after_site, site_popped, left, LogsGo}
-use Rattle.log_laws.proofs.Kept.Grown.{grown-same, enters-same}
-use Rattle.log_laws.proofs.Plain.Lines.{line-other, flow-other, views-other, line-plain, flow-plain, views-plain, both-empty}
-use Rattle.log_laws.proofs.Kept.Asked.{AsksLess, at-most-same, popped-less, left-less, parted-asks, waits-asks}
-use Rattle.log_laws.proofs.Kept.KeepsViews.{LeavesViews, leaves-same, leaves-first}
-use Rattle.log_laws.proofs.Kept.Plumbing.{after-same, taken-either, words-popped}
-use Rattle.log_laws.proofs.Kept.Inert.{ChannelsOk, channels-same, SiteStill, inert-holds, site-same, site-waiting, logs_moved, still-holds}
-use Rattle.log_laws.proofs.Kept.Terms.{running-slot}
+use Rattle.log_laws.proofs.Kept.{after_site, site_popped, left, LogsGo, AsksLess, at-most-same, popped-less, left-less, parted-asks, waits-asks, LeavesViews, leaves-same, leaves-first, after-same, taken-either, words-popped, ChannelsOk, channels-same, running-slot, channels-hold, moved-holds, NotesOk, after-nothing, becomes-goes, noted-holds, noted-same, notes-same}
+use Rattle.log_laws.proofs.Plain.{views-other, both-empty, for-other, if-empty}
 
 -- ---- whether a site takes a message
 
@@ -112,10 +93,7 @@ plain-flow l k = elim l.body as (λ m. BringsNone (record l { body = m }) → fl
 ] k
 
 plain-view : (l : Letter) → BringsNone l → view_in l.body ≡ []
-plain-view l k = elim l.body as (λ m. BringsNone (record l { body = m }) → view_in m ≡ []) [
-  | msg.View w ↦ λ k. absurd k
-  | m ↦ λ k. refl
-] k
+plain-view l k = elim l.body as (λ m. BringsNone (record l { body = m }) → view_in m ≡ []) [ msg.View w ↦ λ k. absurd k | m ↦ λ k. refl ] k
 
 module _ (S : LogState) (H : LogsHold S) (from : Actor) (i : ℕ) (l : Letter) (ls : List Letter) (is : S.words.channel from (Site i) ≡ l ∷ ls) where
   -- its channel without it
@@ -151,42 +129,32 @@ module _ (S : LogState) (H : LogsHold S) (from : Actor) (i : ℕ) (l : Letter) (
       here : (c : ℕ) → c ≡ i → 0 < site_start S c → Unread S i from l
       here c e up = unread (subst (λ z. 0 < site_start S z) e up)
 
-  -- it is taken, and the site stays as it was as far as is looked at
-  pub pops-into : (s : SiteState) → SiteStill S i s → (0 < site_start S i → Unread S i from l) → AsksLess S (after_site (site_popped S from i) i s no_sends S.logs)
-      → LogsHold (after_site (site_popped S from i) i s no_sends S.logs)
-  pops-into s site unread asks = subst (λ ch. LogsHold (logs_moved S ch (set_at S.sites i s) S.pending)) (sym nothing)
-      (still-holds S i s (site_popped S from i).words.channel H site (channels-popped unread)
-      (subst (λ ch. AsksLess S (logs_moved S ch (set_at S.sites i s) S.pending)) nothing asks))
-    where
-      nothing : (after_site (site_popped S from i) i s no_sends S.logs).words.channel ≡ (site_popped S from i).words.channel
-      nothing = sent-nothing (site_popped S from i).words.channel (Site i)
-
   -- it is taken, or dropped
   pub pops-with : (0 < site_start S i → Unread S i from l) → LogsHold (site_popped S from i)
-  pops-with unread = subst LogsHold (after-same (site_popped S from i) i) (pops-into (S.sites i) (site-same S i H) unread
+  pops-with unread = channels-hold S (site_popped S from i).words.channel H (channels-popped unread) (subst (AsksLess S) (after-same (site_popped S from i) i)
       (popped-less S from i l ls is S.logs (S.sites i) refl (λ c t. at-most-same (asks_of_term c t (S.sites i)))))
 
   -- one of which nothing is looked at, by what is in it and who sent it
   pub pops-plain : BringsNothing S i from l → LogsHold (site_popped S from i)
   pops-plain k = pops-with (λ up. record {
-    line = λ j e. line-plain (site_start S i) (term_at S i) l (k.line j e);
-    flow = λ j e. flow-plain (site_start S i) (term_at S i) l (k.flow j e);
-    view = λ own. views-plain (site_start S i) l (k.view own);
+    line = λ j e. if-empty _ _ (k.line j e);
+    flow = λ j e. if-empty _ _ (k.flow j e);
+    view = λ own. if-empty _ _ (k.view own);
   })
 
   -- one of a kind of which nothing is looked at
   pub pops-kind : BringsNone l → LogsHold (site_popped S from i)
   pops-kind k = pops-with (λ up. record {
-    line = λ _ _. line-plain (site_start S i) (term_at S i) l (plain-line l k);
-    flow = λ _ _. flow-plain (site_start S i) (term_at S i) l (plain-flow l k);
-    view = λ own. views-plain (site_start S i) l (plain-view l k);
+    line = λ _ _. if-empty _ _ (plain-line l k);
+    flow = λ _ _. if-empty _ _ (plain-flow l k);
+    view = λ own. if-empty _ _ (plain-view l k);
   })
 
   -- one for another start
   pub pops-other : (l.start ≡ site_start S i → ⊥) → LogsHold (site_popped S from i)
   pops-other other = pops-with (λ up. record {
-    line = λ _ _. line-other (site_start S i) (term_at S i) l (λ e _. other e);
-    flow = λ _ _. flow-other (site_start S i) (term_at S i) l (λ e _. other e);
+    line = λ _ _. for-other (site_start S i) (term_at S i) l (line_in l.body) (λ e _. other e);
+    flow = λ _ _. for-other (site_start S i) (term_at S i) l (flow_in l.past l.body) (λ e _. other e);
     view = λ own. views-other (site_start S i) l other;
   })
 
@@ -197,9 +165,9 @@ module _ (S : LogState) (H : LogsHold S) (from : Actor) (i : ℕ) (l : Letter) (
   -- one of another term
   pub pops-term : (l.term ≡ term_at S i → ⊥) → 0 < l.term → LogsHold (site_popped S from i)
   pops-term other timed = pops-with (λ up. record {
-    line = λ _ _. line-other (site_start S i) (term_at S i) l (λ _ e. other e);
-    flow = λ _ _. flow-other (site_start S i) (term_at S i) l (λ _ e. other e);
-    view = λ own. views-plain (site_start S i) l (untimed (subst (λ a. S.words.channel a (Site i) ≡ l ∷ ls) own is));
+    line = λ _ _. for-other (site_start S i) (term_at S i) l (line_in l.body) (λ _ e. other e);
+    flow = λ _ _. for-other (site_start S i) (term_at S i) l (flow_in l.past l.body) (λ _ e. other e);
+    view = λ own. if-empty _ _ (untimed (subst (λ a. S.words.channel a (Site i) ≡ l ∷ ls) own is));
   })
     where
       -- words have no term
@@ -231,13 +199,6 @@ module _ (S : LogState) (H : LogsHold S) (from : Actor) (i : ℕ) (l : Letter) (
       slot : IsSlot S i
       slot = running-slot S H i up
 
-      -- it hasn't been in that term
-      unreached : MeantFor S i l → ⊥
-      unreached r = elim high.0 [
-        | inl z ↦ let some = r.0.0 in omega (arith, some, z)
-        | inr is ↦ let low = r.2 (sym is) in let up = high.1 in omega (arith, low, up)
-      ]
-
       site : (j : ℕ) → SiteLetterOk S j i l → SiteWaitingFrom S i (Site j) l
       site j k = elim l.body as (λ m. (MeantFor S i (record l { body = m }) → ⊥) → SiteLetterOk S j i (record l { body = m }) → SiteWaitingFrom S i (Site j) (record l { body = m })) [
         | msg.Put position e floor ↦ λ u p. u p.0
@@ -246,7 +207,7 @@ module _ (S : LogState) (H : LogsHold S) (from : Actor) (i : ℕ) (l : Letter) (
         | msg.StreamStart head ↦ λ u p. u p
         | msg.StreamEnd count ↦ λ u p. u p.0
         | m ↦ λ u p. p
-      ] unreached k
+      ] (λ r. elim high.0 [ inl z ↦ let some = r.0.0 in omega (arith, some, z) | inr is ↦ let low = r.2 (sym is) in let up = high.1 in omega (arith, low, up) ]) k
 
       agent : (h : ℕ) → ForeignOk S i (Agent h) l → (h ≡ host_of_slot S.words.deployment i → view_in l.body ≡ []) → SiteWaitingFrom S i (Agent h) l
       agent h k = elim l.body as (λ m. ForeignOk S i (Agent h) (record l { body = m }) → (h ≡ host_of_slot S.words.deployment i → view_in m ≡ [])
@@ -268,34 +229,25 @@ module _ (S : LogState) (H : LogsHold S) (from : Actor) (i : ℕ) (l : Letter) (
             | msg.View w ↦ λ k. let z = k.0 in let u = high.1 in absurd (omega (arith, u, z))
             | m ↦ λ k. refl
           ]) (subst (AllByRecursion (λ x. elim x.body as (λ _. Type 0) [ msg.View w ↦ (x.term ≡ 0) × (0 < x.start) | _ ↦ Unit {0} ])) e (H.views i).plain).0
-      go Director q = tt
-      go (Client n) q = tt
-      go (Scanner x) q = tt
+      go from q = tt
 
   pub waits-goes : 0 < site_start S i → arrival (site_start S i) (term_at S i) l ≡ Waits → LogsGo (site_popped S from i) i (becomes keeping)
-  waits-goes up e = record {
-    logs = S.logs;
-    start = refl;
-    view = refl;
-    plain = λ c. tt;
-    holds = pops-into keeping
-        (site-waiting S i keeping.waiting
-        (λ _. all-append (SiteWaitingOk S i) (S.sites i).waiting (record { from = from; letter = l } ∷ []) ((H.sites i).keeps up).waiting ((high.0, waiting-from up e), tt))
-        (λ z. absurd (omega (arith, up, z))))
-        (λ _. record {
-          line = λ _ _. line-other (site_start S i) (term_at S i) l (λ _ z. let h = high.1 in absurd (omega (arith, h, z)));
-          flow = λ _ _. flow-other (site_start S i) (term_at S i) l (λ _ z. let h = high.1 in absurd (omega (arith, h, z)));
-          view = λ own. views-plain (site_start S i) l (no-view own);
-        })
-        (waits-asks S from i l ls is S.logs);
-    grown = grown-same S.words.deployment i keeping S.logs;
-    enters = enters-same i (length (log_at S i)) S.logs S.logs refl;
-    longer = omega arith;
-  }
+  waits-goes up e = let high = waits-for (site_start S i) (term_at S i) l e in let o = notes-same S H i in
+      becomes-goes (site_popped S from i) i keeping S.logs.streamed refl refl (omega arith) (noted-same S i keeping (site_popped S from i).words.channel H refl
+      (channels-popped (λ _. record {
+        line = λ _ _. for-other (site_start S i) (term_at S i) l (line_in l.body) (λ _ z. let h = high.1 in absurd (omega (arith, h, z)));
+        flow = λ _ _. for-other (site_start S i) (term_at S i) l (flow_in l.past l.body) (λ _ z. let h = high.1 in absurd (omega (arith, h, z)));
+        view = λ own. if-empty _ _ (no-view own);
+      }))
+      (record {
+        waiting = λ _. all-append (SiteWaitingOk S i) (S.sites i).waiting (record { from = from; letter = l } ∷ []) (o.waiting up) ((high.0, waiting-from up e), tt);
+        asks = o.asks;
+        reports = o.reports;
+        pending = o.pending;
+        none = λ z. absurd (omega (arith, up, z));
+      })
+      (subst (AsksLess S) (after-nothing (site_popped S from i) i keeping S.logs) (waits-asks S from i l ls is S.logs)))
     where
-      high : ((l.start ≡ 0) ⊎ (l.start ≡ site_start S i)) × (term_at S i < l.term)
-      high = waits-for (site_start S i) (term_at S i) l e
-
       no-view : from ≡ Agent (host_of_slot S.words.deployment i) → view_in l.body ≡ []
       no-view own = (elim l.body as (λ m. SiteWaitingFrom S i (Agent (host_of_slot S.words.deployment i)) (record l { body = m }) → view_in m ≡ []) [
         | msg.View w ↦ λ k. absurd k
@@ -306,14 +258,15 @@ module _ (S : LogState) (H : LogsHold S) (from : Actor) (i : ℕ) (l : Letter) (
 
 -- one of it is taken, or dropped
 pub leaves : (S : LogState) → LogsHold S → (i : ℕ) (x : Waiting) (ws : List Waiting) → S.pending i ≡ x ∷ ws → LogsHold (left S i ws)
-leaves S H i x ws is = subst (λ f. LogsHold (logs_moved S S.words.channel f (set_at S.pending i ws))) (set-same S.sites i)
-    (inert-holds S i (S.sites i) S.words.channel ws H (site-same S i H) (channels-same S H)
-    (λ up. (subst (AllByRecursion (SiteWaitingOk S i)) is ((H.sites i).keeps up).pending).1)
-    (λ z. let e = sym is ∙ ((H.sites i).stopped z).3 in absurd (cc))
-    (subst (AsksLess S) nothing (left-less S i ws S.logs x is (S.sites i) refl (λ c t. at-most-same (asks_of_term c t (S.sites i))))))
-  where
-    nothing : after_site (left S i ws) i (S.sites i) no_sends S.logs ≡ logs_moved S S.words.channel (set_at S.sites i (S.sites i)) (set_at S.pending i ws)
-    nothing = ap (λ ch. logs_moved S ch (set_at S.sites i (S.sites i)) (set_at S.pending i ws)) (sent-nothing S.words.channel (Site i))
+leaves S H i x ws is = moved-holds S S.words.channel S.sites (set_at S.pending i ws) H (channels-same S H)
+    (subst (AsksLess S) (after-same (left S i ws) i) (left-less S i ws S.logs x is (S.sites i) refl (λ c t. at-most-same (asks_of_term c t (S.sites i)))))
+    (set-both (λ c p. NotesOk S c (S.sites c) p) S.pending i ws (let o = notes-same S H i in record {
+      waiting = o.waiting;
+      asks = o.asks;
+      reports = o.reports;
+      pending = λ up. (subst (AllByRecursion (SiteWaitingOk S i)) is (o.pending up)).1;
+      none = λ z. let e = sym is ∙ (o.none z).2 in absurd (cc);
+    }) (λ c n. notes-same S H c))
 
 -- All that waited for a term is to be taken.
 pub takes-up : (S : LogState) → LogsHold S → (i : ℕ) → S.pending i ≡ [] → (term : ℕ)
@@ -321,28 +274,17 @@ pub takes-up : (S : LogState) → LogsHold S → (i : ℕ) → S.pending i ≡ [
       sites = set_at S.sites i (record (S.sites i) { waiting = above_term term (S.sites i).waiting });
       pending = set_at S.pending i (of_term term (S.sites i).waiting);
     })
-takes-up S H i none term = inert-holds S i s S.words.channel now H
-    (site-waiting S i (above_term term old) (λ up. all-filter (SiteWaitingOk S i) (λ w. nat_lt term w.letter.term) old ((H.sites i).keeps up).waiting)
-    (λ z. ap (above_term term) ((H.sites i).stopped z).0))
-    (channels-same S H)
-    (λ up. all-filter (SiteWaitingOk S i) (λ w. w.letter.term == term) old ((H.sites i).keeps up).waiting)
-    (λ z. ap (of_term term) ((H.sites i).stopped z).0)
-    (subst (λ ch. AsksLess S (logs_moved S ch (set_at S.sites i s) (set_at S.pending i now))) (sent-nothing S.words.channel (Site i))
-    (parted-asks S i now S.logs s term refl refl (λ c t. at-most-same (asks_of_term c t (S.sites i)))))
-  where
-    old : List Waiting
-    old = (S.sites i).waiting
-
-    now : List Waiting
-    now = of_term term old
-
-    s : SiteState
-    s = record (S.sites i) { waiting = above_term term old }
+takes-up S H i none term = let old = (S.sites i).waiting in let now = of_term term old in let s : SiteState = record (S.sites i) { waiting = above_term term old } in
+    let o = notes-same S H i in noted-holds S i s S.words.channel now H refl (channels-same S H) (record {
+      waiting = λ up. all-filter (SiteWaitingOk S i) (λ w. nat_lt term w.letter.term) old (o.waiting up);
+      asks = o.asks;
+      reports = o.reports;
+      pending = λ up. all-filter (SiteWaitingOk S i) (λ w. w.letter.term == term) old (o.waiting up);
+      none = λ z. let e = o.none z in (ap (above_term term) e.0, e.1, ap (of_term term) e.0);
+    }) (subst (AsksLess S) (after-nothing (left S i now) i s S.logs) (parted-asks S i now S.logs s term refl refl (λ c t. at-most-same (asks_of_term c t (S.sites i)))))
 
 -- the same as a turn in which nothing is sent
 pub takes-up-after : (S : LogState) → LogsHold S → (i : ℕ) → S.pending i ≡ [] → (term : ℕ)
     → LogsHold (after_site (left S i (of_term term (S.sites i).waiting)) i (record (S.sites i) { waiting = above_term term (S.sites i).waiting }) no_sends S.logs)
-takes-up-after S H i none term =
-    subst (λ ch. LogsHold (logs_moved S ch (set_at S.sites i (record (S.sites i) { waiting = above_term term (S.sites i).waiting }))
-    (set_at S.pending i (of_term term (S.sites i).waiting))))
-    (sym (sent-nothing S.words.channel (Site i))) (takes-up S H i none term)
+takes-up-after S H i none term = let old = (S.sites i).waiting in
+    subst LogsHold (sym (after-nothing (left S i (of_term term old)) i (record (S.sites i) { waiting = above_term term old }) S.logs)) (takes-up S H i none term)

@@ -1,35 +1,11 @@
 -- A slot's site stops, or a start of it begins to run: what holds, holds after it.
-use Rattle.std.proofs.Common.{◌≡◌, ◌<◌, Bool, true, false, List, [], ◌∷◌, ◌++◌, refl, sym, subst, ap, ◌∙◌, inl, inr, ◌==◌, arith, ◌⊎◌}
-use Rattle.std.proofs.lemmas.Bool.{cases_eq, and_parts}
-use Rattle.std.proofs.lemmas.Bool.Decides.{nat_tests}
-use Rattle.std.specs.Prelude.{ℕ, ◌≤◌, ◌&&◌, if◌then◌else◌, max, nat_le, nat_lt, length, Some, None}
-use Rattle.std.specs.List.{AllByRecursion}
-use Rattle.volt_wire.specs.Word.{Membership}
-use Rattle.volt_wire.specs.declared.actor.Actor.{Actor}
-use Rattle.volt_wire.specs.declared.actor.Actor.TheVariants.{Director, Client, Agent, Site, Scanner}
+use Rattle.log_laws.proofs.Names.{◌≡◌, ◌<◌, List, [], ◌∷◌, ◌++◌, refl, sym, subst, ap, ◌∙◌, inl, inr, ◌==◌, arith, ◌⊎◌, and_parts, nat_tests, ℕ, ◌≤◌, ◌&&◌, max, nat_le, nat_lt, length, Some, None, AllByRecursion, Membership, Actor, Agent, Site, Scanner, Deployment, host_of_slot, is_slot_of, slots, Shown, same, Letter, Sends, Turn, becomes, no_sends, only, open_letter, SiteState, site_term, new_joiner, new_joining, stopped_site, stops_others, on_stop, stops_so, sent, rest, set_at, starts_in, In, all-if, all-mono, not-both, same-some, set-both, set-here, set-there, set-twice, cond_both, LogState, Logs, Entered, Streaming, LogsHold, IsCounted, SiteLetterOk, ForeignOk, IsSlot, SiteOk, KeepsOk, ViewsOk, JoinerOk, FirstViews, Starting, part, site_start, log_at, term_at, between, agent_to_site, views, asks_in, asks_waiting, asks_of_term}
 use Rattle.volt_wire.specs.declared.message.Msg.TheVariants as msg
-use Rattle.cluster_model.specs.Words.{Deployment, host_of_slot, is_slot_of, slots}
-use Rattle.cluster_model.specs.Disk.{Shown}
-use Rattle.cluster_model.specs.Letters.{same, Letter, Sends, Turn, becomes, sending, no_sends, only, open_letter}
-use Rattle.cluster_model.specs.SiteState.{SiteState, site_term, new_joiner, new_joining, stopped_site}
-use Rattle.cluster_model.specs.AgentState.{stops_others}
-use Rattle.cluster_model.specs.Site.{on_start, on_stop}
-use Rattle.cluster_model.specs.Sync.{stops_so}
-use Rattle.cluster_model.specs.World.{sent, rest, set_at}
-use Rattle.cluster_model.specs.Laws.{starts_in}
-use Rattle.cluster_steps.specs.Lists.{In}
-use Rattle.cluster_steps.proofs.Lists.{all-if, all-mono, not-both, same-some, set-both, set-here, set-there, set-twice}
-use Rattle.log_laws.specs.Histories.{LogState, Logs, Entered, Streaming, LogsHold, IsCounted, SiteLetterOk, ForeignOk, IsSlot, SiteOk, KeepsOk, ViewsOk, JoinerOk, FirstViews, Starting, part, site_start, log_at, term_at, between, agent_to_site, views, asks_in, asks_waiting, asks_of_term}
-use Rattle.log_laws.proofs.Kept.Moves.{SiteRises, site-stays, Grown, Enters, after_site, site_popped, LogsLater, SiteLater, Stays, SameLeaderships, JoinsOn}
-use Rattle.log_laws.proofs.Kept.Grown.{grown-same, grown-reach, enters-same}
-use Rattle.log_laws.proofs.Kept.Laters.{stays, same-leaderships, ask-later-on, letter-later-with, end-later-if, loads-later, entered-later, streamed-later, leaderships-later}
-use Rattle.log_laws.proofs.Plain.Lines.{if-none}
-use Rattle.log_laws.proofs.Kept.Asked.{AtMost, AsksLess, asks-at, at-most-both, at-most-same}
-use Rattle.log_laws.proofs.Kept.Keeps.{SiteStays, still-same, Uncounted, counted-from, site-keeps, keeps-later}
-use Rattle.log_laws.proofs.Kept.KeepsViews.{foreign-later, first_views-later, views-keeps}
-use Rattle.log_laws.proofs.Kept.Plumbing.{words-later, goes-same, here, popped-here, popped-after, first-after}
+use Rattle.cluster_model.specs.Site.{on_start}
+use Rattle.log_laws.proofs.Kept.{SiteRises, site-stays, Enters, after_site, site_popped, LogsLater, SiteLater, Stays, JoinsOn, grown-same, grown-reach, enters-same, same-leaderships, ask-later-on, letter-later-with, end-later-if, loads-later, leaderships-later, AtMost, AsksLess, asks-at, at-most-both, at-most-same, SiteStays, still-same, Uncounted, counted-from, site-keeps, keeps-later, foreign-later, first_views-later, views-keeps, words-later, goes-same, here, popped-here, popped-after, first-after, Silent, Unwatched, inert-after, entereds-later, streameds-later}
+use Rattle.log_laws.proofs.Kept.Moves.{Grown}
+use Rattle.log_laws.proofs.Plain.{if-none, one-and-others}
 use Rattle.log_laws.proofs.Messages.Pops.{pops-kind, pops-stopped}
-use Rattle.log_laws.proofs.Kept.InertTurns.{Silent, Unwatched, inert-after}
 
 -- a site that is as it was goes on
 pub stays-same : (S T : LogState) (c : ℕ) → T.sites c ≡ S.sites c → Stays S T c
@@ -67,17 +43,7 @@ module _ (S : LogState) (H : LogsHold S) (i : ℕ) (s : SiteState) (ran : ℕ �
 
   -- starts that run on join on
   joins-on : (c : ℕ) → Stays S T c → 0 < site_start T c → JoinsOn S T c
-  joins-on c k up = elim (cases_eq c i) [
-    | inl e ↦ absurd (ended (subst (Stays S T) e k) (subst (λ z. 0 < site_start T z) e up))
-    | inr d ↦ λ w j. (j.0, ap (λ z. z.joining) (other c d) ∙ j.1, ap (λ z. z.view) (other c d) ∙ j.2)
-  ]
-
-  -- a start that ran and runs is of another slot
-  ran-on : (c a : ℕ) → 0 < a → In a (S.logs.ran c) → site_start T c ≡ a → T.sites c ≡ S.sites c
-  ran-on c a some was is = elim (cases_eq c i) [
-    | inl e ↦ absurd (ended (subst (Stays S T) e (stays S T H new.later c a some was is)) (subst (λ z. 0 < site_start T z) e (rw is some)))
-    | inr d ↦ other c d
-  ]
+  joins-on = one-and-others _ i (λ k up. absurd (ended k up)) (λ c d k up w j. (j.0, ap (λ z. z.joining) (other c d) ∙ j.1, ap (λ z. z.view) (other c d) ∙ j.2))
 
   counts : (c a stream_start : ℕ) (w : Membership) → IsCounted S c a stream_start w → IsCounted T c a stream_start w
   counts c a stream_start w = counted-from S T H new.later i other c a stream_start w (λ k up joining view.
@@ -113,49 +79,31 @@ module _ (S : LogState) (H : LogsHold S) (i : ℕ) (s : SiteState) (ran : ℕ �
       still = still-same (S.sites c) (T.sites c) (other c d)
 
       uncounted : (l : ℕ) → Uncounted S l c (site_start S c) → Uncounted T l c (site_start S c)
-      uncounted l k j m = elim (cases_eq l i) [
-        | inl e ↦ absurd (subst (In j) (ap (λ z. (T.sites z).joiners) e ∙ ap (λ x. x.joiners) mine ∙ new.joiners) m)
-        | inr n ↦ k j (subst (λ x. In j x.joiners) (other l n) m)
-      ]
+      uncounted = one-and-others _ i (λ k j m. absurd (subst (In j) (ap (λ x. x.joiners) mine ∙ new.joiners) m)) (λ l n k j m. k j (subst (λ x. In j x.joiners) (other l n) m))
 
       keeps : 0 < site_start S c → KeepsOk S c → KeepsOk T c
       keeps up k = keeps-later S T H new.later c still (other c d) refl joins-on k
 
   -- What must hold of that slot, so that what holds, holds.
   pub renewed-holds : SiteOk T i → ViewsOk T i → LogsHold T
-  renewed-holds site views = record {
+  renewed-holds site views = let leaderships = same-leaderships S.logs T.logs refl in record {
     words = H.words;
-    sites = λ c. elim (cases_eq c i) [
-      | inl e ↦ subst (SiteOk T) (sym e) site
-      | inr d ↦ other-ok c d
-    ];
-    views = λ c. elim (cases_eq c i) [
-      | inl e ↦ subst (ViewsOk T) (sym e) views
-      | inr d ↦ views-keeps S T H new.later c (ap (λ x. x.start) (other c d)) (ap (λ x. x.view) (other c d)) (new.others c d) refl (λ s m. m) refl (H.views c)
-    ];
+    sites = one-and-others (SiteOk T) i site other-ok;
+    views = one-and-others (ViewsOk T) i views (λ c d.
+        views-keeps S T H new.later c (ap (λ x. x.start) (other c d)) (ap (λ x. x.view) (other c d)) (new.others c d) refl (λ s m. m) refl (H.views c));
     letters = λ j c slot. all-mono (SiteLetterOk S j c) (SiteLetterOk T j c) (λ l. letter-later-with S T H new.later j c l
         (λ a _ _. ask-later-on S T H new.later (part S c) j l.term a (joins-on j))
         (λ r e. end-later-if S T H new.later j c l r e (λ _ _ _ _ k. k) (λ x q _. inl q)))
         (between S j c) (H.letters j c slot);
     foreign = λ a c. all-mono (ForeignOk S c a) (ForeignOk T c a) (foreign-later S T H new.later c a) (S.words.channel a (Site c)) (H.foreign a c);
     loads = loads-later S T H new.later refl refl H.loads.told (λ h g. refl);
-    entered = λ c t e k. let o = H.entered c t e k in
-        entered-later S T H new.later c t e o leaderships (λ is. within c t e.start o.been.some o.been.ran is (λ r. (o.running r).2)) o.since;
-    streamed = λ c t x k. let o = H.streamed c t x k in
-        streamed-later S T H new.later c t x o leaderships o.apart (λ is. within c t x.start o.been.some o.been.ran is (λ r. (o.running r).2)) (counts c x.start x.stream_start o.word);
+    entered = entereds-later S T H new.later leaderships (λ p t. refl);
+    streamed = λ c t x k. let o = H.streamed c t x k in streameds-later S T H new.later leaderships (λ p t. refl) c t x o o.apart (counts c x.start x.stream_start o.word);
     leaderships = leaderships-later S T H new.later leaderships (λ p t g is. (H.leaderships p t g is).within);
     unled = H.unled;
     some = H.some;
     first = H.first;
   }
-    where
-      leaderships : SameLeaderships S.logs T.logs
-      leaderships = same-leaderships S.logs T.logs refl
-
-      -- what is everywhere is in the log of a slot that runs on
-      within : (c t a : ℕ) → 0 < a → In a (S.logs.ran c) → site_start T c ≡ a → (site_start S c ≡ a → S.logs.reach (part S c) t ≤ length (log_at S c))
-          → S.logs.reach (part S c) t ≤ length (log_at T c)
-      within c t a some was is k = let e = ran-on c a some was is in rw (ap (λ x. x.log) e) (k (ap (λ x. x.start) (sym e) ∙ is))
 
 -- ---- and what it sends
 
@@ -185,10 +133,7 @@ module _ (S : LogState) (H : LogsHold S) (i : ℕ) (none : S.pending i ≡ []) (
     words = words-later S S.words.channel;
     ran = λ c a k. k;
     greatest = set-both (λ c x. (S.sites c).greatest ≤ x.greatest) S.sites i (stopped_so (S.sites i) stop contents plans) (omega arith) (λ c d. omega arith);
-    sites = λ c. elim (cases_eq c i) [
-      | inl e ↦ inr (inl (ap (λ z. (Q.sites z).start) e ∙ ap (λ x. x.start) gone))
-      | inr d ↦ inl (stays-same S Q c (set-there S.sites i (stopped_so (S.sites i) stop contents plans) c d))
-    ];
+    sites = one-and-others (SiteLater S Q) i (inr (inl (ap (λ x. x.start) gone))) (λ c d. inl (stays-same S Q c (set-there S.sites i (stopped_so (S.sites i) stop contents plans) c d)));
     entered = λ c t e k. k;
     entered_now = λ c t e k. inl k;
     streamed = λ c t x k. k;
@@ -275,10 +220,7 @@ module _ (S : LogState) (H : LogsHold S) (i : ℕ) (l : Letter) (ls : List Lette
 
   -- the start isn't under way any more
   no-more : In a (starts_in (agent_to_site P i)) → ⊥
-  no-more k = elim (subst (Starting a) is starting.1) [
-    | inl e ↦ e.1 (subst (λ z. In a (starts_in z)) left-of k)
-    | inr e ↦ e.1 (inl refl)
-  ]
+  no-more k = elim (subst (Starting a) is starting.1) [ inl e ↦ e.1 (subst (λ z. In a (starts_in z)) left-of k) | inr e ↦ e.1 (inl refl) ]
 
   ran-here : ran i ≡ a ∷ S.logs.ran i
   ran-here = set-here S.logs.ran i (a ∷ S.logs.ran i)
@@ -291,13 +233,9 @@ module _ (S : LogState) (H : LogsHold S) (i : ℕ) (l : Letter) (ls : List Lette
     words = words-later P P.words.channel;
     ran = λ c b k. set-both (λ c x. In b (S.logs.ran c) → In b x) S.logs.ran i (a ∷ S.logs.ran i) (λ k. inr k) (λ c d k. k) c k;
     greatest = set-both (λ c x. (S.sites c).greatest ≤ x.greatest) S.sites i (new_joiner (S.sites i) a) (omega arith) (λ c d. omega arith);
-    sites = λ c. elim (cases_eq c i) [
-      | inl e ↦ subst (SiteLater P N) (sym e) (inr (inr (record {
-        fresh = λ k. starting.0 (subst (λ z. In z (S.logs.ran i)) (ap (λ x. x.start) fresh) k);
-        earlier = ap (λ x. x.earlier) fresh;
-      })))
-      | inr d ↦ inl (stays-same P N c (set-there S.sites i (new_joiner (S.sites i) a) c d))
-    ];
+    sites = one-and-others (SiteLater P N) i
+        (inr (inr (record { fresh = λ k. starting.0 (subst (λ z. In z (S.logs.ran i)) (ap (λ x. x.start) fresh) k); earlier = ap (λ x. x.earlier) fresh })))
+        (λ c d. inl (stays-same P N c (set-there S.sites i (new_joiner (S.sites i) a) c d)));
     entered = λ c t e k. k;
     entered_now = λ c t e k. inl k;
     streamed = λ c t x k. k;
@@ -370,10 +308,7 @@ module _ (S : LogState) (H : LogsHold S) (i : ℕ) (l : Letter) (ls : List Lette
     ];
     running = λ _. rw (ap (λ x. x.view) fresh) (first_run (site_start N i) (ap (λ x. x.start) fresh));
     starting = λ s m. let o = k.starting s m in (
-      (λ r. elim (subst (In s) ran-here r) [
-        | inl e ↦ no-more (subst (λ z. In z (starts_in (agent_to_site P i))) (sym e) m)
-        | inr v ↦ o.0 v
-      ]),
+      (λ r. elim (subst (In s) ran-here r) [ inl e ↦ no-more (subst (λ z. In z (starts_in (agent_to_site P i))) (sym e) m) | inr v ↦ o.0 v ]),
       o.1,
       first_views-later P N start-later.words.deployment start-later.words.decided start-later.words.took_word i s (views s (agent_to_site P i)) o.2,
     );
@@ -409,11 +344,8 @@ module _ (S : LogState) (H : LogsHold S) (i : ℕ) (l : Letter) (ls : List Lette
   starts-holds = renewed-sends P i (new_joiner (S.sites i) a) ran (only (Scanner i) (open_letter (msg.Start a))) started-holds silent
     where
       silent : (b : Actor) → AllByRecursion (Silent b) (only (Scanner i) (open_letter (msg.Start a)) b)
-      silent Director = tt
-      silent (Client n) = tt
-      silent (Agent h) = tt
-      silent (Site c) = tt
       silent (Scanner x) = all-if (Silent (Scanner x)) (i == x) (open_letter (msg.Start a) ∷ []) [] (tt, tt) tt
+      silent from = tt
 
 -- ---- what a site does with Start and Stop, and when it stops of itself
 
@@ -424,77 +356,54 @@ AfterTurn S i t = (G : Logs) × LogsHold (after_site S i t.state t.sends G) × G
 
 -- Stop to others of its host
 pub stops_others-silent : (D : Deployment) (h start : ℕ) (b : Actor) → AllByRecursion (Silent b) (stops_others D h start b)
-stops_others-silent D h start Director = tt
-stops_others-silent D h start (Client n) = tt
 stops_others-silent D h start (Agent g) = all-if (Silent (Agent g)) (g == h) (open_letter (msg.Stop start) ∷ []) [] (tt, tt) tt
 stops_others-silent D h start (Site c) = all-if (Silent (Site c)) (is_slot_of D h c) (open_letter (msg.Stop start) ∷ []) [] (tt, tt) tt
 stops_others-silent D h start (Scanner x) = all-if (Silent (Scanner x)) (is_slot_of D h x) (open_letter (msg.Stop start) ∷ []) [] (tt, tt) tt
+stops_others-silent D h start from = tt
 
 pub stops_so-silent : (D : Deployment) (i : ℕ) (s : SiteState) (start : ℕ) (contents : List Shown) (b : Actor) → AllByRecursion (Silent b) ((stops_so D i s start contents).sends b)
 stops_so-silent D i s start contents b = all-if (Silent b) (same (Site i) b) [] (stops_others D (host_of_slot D i) start b) tt (stops_others-silent D (host_of_slot D i) start b)
 
+-- The history stays.
+same-after : (S : LogState) (i : ℕ) (t : Turn SiteState) → LogsHold (after_site S i t.state t.sends S.logs) → (t.state.start ≡ site_start S i) ⊎ (t.state.view ≡ None) → AfterTurn S i t
+same-after S i t holds runs = (S.logs, holds, grown-same S.words.deployment i t.state S.logs, enters-same i (length (log_at S i)) S.logs S.logs refl, runs)
+
 -- Its disk fails in a Sync, or it finds no memory.
 pub stops_so-after : (S : LogState) → LogsHold S → (i : ℕ) → S.pending i ≡ [] → (D : Deployment) (start : ℕ) (contents : List Shown)
     → AfterTurn S i (stops_so D i (S.sites i) start contents)
-stops_so-after S H i none D start contents = (
-  S.logs,
-  stops-holds S H i none (S.sites i).stop contents (S.sites i).plans (stops_so D i (S.sites i) start contents).sends (stops_so-silent D i (S.sites i) start contents),
-  grown-same S.words.deployment i (stops_so D i (S.sites i) start contents).state S.logs,
-  enters-same i (length (log_at S i)) S.logs S.logs refl,
-  inr refl,
-)
+stops_so-after S H i none D start contents = let t = stops_so D i (S.sites i) start contents in
+    same-after S i t (stops-holds S H i none (S.sites i).stop contents (S.sites i).plans t.sends (stops_so-silent D i (S.sites i) start contents)) (inr refl)
 
 -- or it does so as it takes a message
 pub stops_so-message : (S : LogState) → LogsHold S → (from : Actor) (i : ℕ) (l : Letter) (ls : List Letter) → S.words.channel from (Site i) ≡ l ∷ ls → S.pending i ≡ []
     → (D : Deployment) (start : ℕ) (contents : List Shown) → AfterTurn (site_popped S from i) i (stops_so D i (S.sites i) start contents)
-stops_so-message S H from i l ls is none D start contents = (
-  S.logs,
-  stops-message S H from i l ls is none (S.sites i).stop contents (S.sites i).plans (stops_so D i (S.sites i) start contents).sends
-      (stops_so-silent D i (S.sites i) start contents),
-  grown-same S.words.deployment i (stops_so D i (S.sites i) start contents).state S.logs,
-  enters-same i (length (log_at S i)) S.logs S.logs refl,
-  inr refl,
-)
+stops_so-message S H from i l ls is none D start contents = let t = stops_so D i (S.sites i) start contents in
+    same-after (site_popped S from i) i t (stops-message S H from i l ls is none (S.sites i).stop contents (S.sites i).plans t.sends (stops_so-silent D i (S.sites i) start contents)) (inr refl)
 
 -- Stop comes to it.
 pub on_stop-after : (S : LogState) → LogsHold S → (from : Actor) (i : ℕ) (l : Letter) (ls : List Letter) (a : ℕ) → S.words.channel from (Site i) ≡ record l { body = msg.Stop a } ∷ ls
     → S.pending i ≡ [] → AfterTurn (site_popped S from i) i (becomes (on_stop (S.sites i) a))
-on_stop-after S H from i l ls a is none = choice (nat_le (S.sites i).start a)
+on_stop-after S H from i l ls a is none = cond_both (nat_le (S.sites i).start a) _ _ (λ z. AfterTurn (site_popped S from i) i (becomes z))
+    (λ _. same-after (site_popped S from i) i (becomes (stopped_site noted))
+    (stops-message S H from i (record l { body = msg.Stop a }) ls is none (max (S.sites i).stop a) (S.sites i).contents (S.sites i).plans no_sends (λ b. tt)) (inr refl))
+    (λ _. same-after (site_popped S from i) i (becomes noted)
+    (inert-after (site_popped S from i) i noted no_sends (pops-kind S H from i (record l { body = msg.Stop a }) ls is tt) (record { same = refl; held = λ k. k }) (λ b. tt)) (inl refl))
   where
     noted : SiteState
     noted = record (S.sites i) { stop = max (S.sites i).stop a }
 
-    choice : (b : Bool) → AfterTurn (site_popped S from i) i (becomes (if b then stopped_site noted else noted))
-    choice true = (
-      S.logs,
-      stops-message S H from i (record l { body = msg.Stop a }) ls is none (max (S.sites i).stop a) (S.sites i).contents (S.sites i).plans no_sends (λ b. tt),
-      grown-same S.words.deployment i (stopped_site noted) S.logs,
-      enters-same i (length (log_at S i)) S.logs S.logs refl,
-      inr refl,
-    )
-    choice false = (
-      S.logs,
-      inert-after (site_popped S from i) i noted no_sends (pops-kind S H from i (record l { body = msg.Stop a }) ls is tt) (record { same = refl; held = λ k. k }) (λ b. tt),
-      grown-same S.words.deployment i noted S.logs,
-      enters-same i (length (log_at S i)) S.logs S.logs refl,
-      inl refl,
-    )
-
 -- Start comes to it, from its own agent.
 pub on_start-after : (S : LogState) → LogsHold S → (i : ℕ) (l : Letter) (ls : List Letter) (a : ℕ) → agent_to_site S i ≡ record l { body = msg.Start a } ∷ ls
     → IsSlot S i → S.pending i ≡ [] → AfterTurn (site_popped S (Agent (host_of_slot S.words.deployment i)) i) i (on_start i (S.sites i) a)
-on_start-after S H i l ls a is slot none = choice (nat_lt (S.sites i).start a && nat_lt (S.sites i).stop a) refl
-  where
-    P : LogState
-    P = site_popped S (Agent (host_of_slot S.words.deployment i)) i
-
-    choice : (b : Bool) → (nat_lt (S.sites i).start a && nat_lt (S.sites i).stop a) ≡ b
-        → AfterTurn P i (if b then sending (new_joiner (S.sites i) a) (only (Scanner i) (open_letter (msg.Start a))) else becomes (S.sites i))
-    choice true e = let above = (and_parts (nat_lt (S.sites i).start a) (nat_lt (S.sites i).stop a) e).0 in (
+on_start-after S H i l ls a is slot none = cond_both (nat_lt (S.sites i).start a && nat_lt (S.sites i).stop a) _ _ (AfterTurn P i)
+    (λ e. let above = (and_parts (nat_lt (S.sites i).start a) (nat_lt (S.sites i).stop a) e).0 in (
       record S.logs { ran = set_at S.logs.ran i (a ∷ S.logs.ran i) },
       starts-holds S H i l ls a is slot (grind (arith, nat_tests, above)) none,
       grown-reach S.words.deployment i (new_joiner (S.sites i) a) S.logs (record S.logs { ran = set_at S.logs.ran i (a ∷ S.logs.ran i) }) refl (λ p t. omega arith),
       enters-same i (length (log_at S i)) S.logs (record S.logs { ran = set_at S.logs.ran i (a ∷ S.logs.ran i) }) refl,
       inr refl,
-    )
-    choice false e = let g = goes-same P i (pops-kind S H (Agent (host_of_slot S.words.deployment i)) i (record l { body = msg.Start a }) ls is tt) in (g.logs, g.holds, g.grown, g.enters, inl g.start)
+    ))
+    (λ e. let g = goes-same P i (pops-kind S H (Agent (host_of_slot S.words.deployment i)) i (record l { body = msg.Start a }) ls is tt) in (g.logs, g.holds, g.grown, g.enters, inl g.start))
+  where
+    P : LogState
+    P = site_popped S (Agent (host_of_slot S.words.deployment i)) i

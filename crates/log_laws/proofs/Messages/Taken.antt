@@ -1,21 +1,7 @@
 -- A site takes the first message that another site sent it, or one that waited: what is under way to it then, and what holds.
-use Rattle.std.proofs.Common.{Bool, List, ap, false, inl, inr, refl, subst, sym, true, ◌≡◌, ◌++◌, ◌∷◌, ◌<◌, ◌==◌, [], ◌⊎◌}
-use Rattle.std.proofs.lemmas.Bool.{cases_eq, eqb-true}
-use Rattle.std.specs.List.{AllByRecursion}
-use Rattle.std.specs.Prelude.{Option, Some, ◌&&◌, if◌then◌else◌, ℕ}
-use Rattle.volt_wire.specs.declared.actor.Actor.{Actor}
-use Rattle.volt_wire.specs.declared.actor.Actor.TheVariants.{Agent, Site}
-use Rattle.cluster_model.specs.Letters.{Letter, no_sends, same}
-use Rattle.cluster_model.specs.SiteState.{SiteState}
-use Rattle.cluster_model.specs.World.{rest, took}
-use Rattle.cluster_steps.proofs.Channels.{took-all, sent-nothing}
-use Rattle.cluster_steps.proofs.Lists.{all-behind, and-false, eqb-same}
-use Rattle.log_laws.specs.Histories.{BeginsAt, ForeignOk, LogsHold, IsSlot, LogState, SiteLetterOk, Streaming, between, end_of, stream_ends_in, flow, flow_of, line, line_in, site_start}
-use Rattle.log_laws.proofs.Kept.Asked.{AsksLess}
-use Rattle.log_laws.proofs.Plain.Lines.{line-plain, both-empty}
-use Rattle.log_laws.proofs.Kept.Moves.{after_site, site_popped, Unentered}
-use Rattle.log_laws.proofs.Kept.OneSite.{LessTo, SiteTakes, counts-on, same-counts, same-uncounts, takes-letters, uncounts-on, with-site}
-use Rattle.log_laws.proofs.Kept.Steady.{SiteGoesOn}
+use Rattle.log_laws.proofs.Names.{Bool, List, ap, false, refl, subst, sym, true, ◌≡◌, ◌++◌, ◌∷◌, ◌<◌, ◌==◌, [], ◌⊎◌, eqb-true, AllByRecursion, Option, Some, ◌&&◌, if◌then◌else◌, ℕ, Actor, Agent, Site, Letter, no_sends, same, SiteState, rest, took, took-all, sent-nothing, all-behind, and-false, eqb-same, BeginsAt, ForeignOk, LogsHold, IsSlot, LogState, SiteLetterOk, Streaming, between, end_of, stream_ends_in, flow, flow_of, line, line_in, site_start}
+use Rattle.log_laws.proofs.Kept.{AsksLess, after_site, site_popped, Unentered, LessTo, SiteTakes, counts-on, same-counts, same-uncounts, takes-letters, uncounts-on, with-site, SiteGoesOn}
+use Rattle.log_laws.proofs.Plain.{both-empty, if-empty, one-and-others}
 
 module _ (S : LogState) (l i : ℕ) where
   -- the channels without that message
@@ -49,10 +35,7 @@ module _ (S : LogState) (l i : ℕ) where
   -- of what is under way to it, where the message and what is behind it are given
   pub without-each : (P : ℕ → List Letter → Type 0) (x : Letter) (ls : List Letter) → between S l i ≡ x ∷ ls → P l ls → ((k : ℕ) → (k ≡ l → ⊥) → P k (between S k i))
       → (k : ℕ) → P k (without (Site k) (Site i))
-  without-each P x ls e here others k = elim (cases_eq k l) [
-    | inl is ↦ subst (λ z. P z (without (Site z) (Site i))) (sym is) (subst (P l) (sym (without-here x ls e)) here)
-    | inr n ↦ subst (P k) (sym (without-from k n)) (others k n)
-  ]
+  without-each P x ls e here others = one-and-others (λ k. P k (without (Site k) (Site i))) l (subst (P l) (sym (without-here x ls e)) here) (λ k n. subst (P k) (sym (without-from k n)) (others k n))
 
 -- ---- the first message of a channel
 
@@ -61,7 +44,7 @@ module _ (S : LogState) (H : LogsHold S) (l i : ℕ) (x : Letter) (ls : List Let
   pub first-less : line_in x.body ≡ [] → LessTo S i (without S l i)
   first-less plain = record {
     lines = λ k a t. without-each S l i (λ k ys. line a t ys ≡ line a t (between S k i)) x ls e
-        (rw e (ap (λ z. z ++ line a t ls) (sym (line-plain a t x plain)))) (λ k n. refl) k;
+        (rw e (ap (λ z. z ++ line a t ls) (sym (if-empty _ _ plain)))) (λ k n. refl) k;
     flows = λ k a t. without-each S l i (λ k ys. flow a t (between S k i) ≡ [] → flow a t ys ≡ []) x ls e
         (rw e (λ none. (both-empty (flow_of a t x) (flow a t ls) none).1)) (λ k n none. none) k;
     ends = λ k a t. without-each S l i (λ k ys. stream_ends_in a t (between S k i) ≡ [] → stream_ends_in a t ys ≡ []) x ls e

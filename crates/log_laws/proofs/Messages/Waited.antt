@@ -1,19 +1,7 @@
 -- A site that has come to a term takes what waited for that, one after another: what holds, holds after it.
-use Rattle.std.proofs.Common.{◌≡◌, ◌<◌, List, [], ◌∷◌, sym, subst, ap, ◌∙◌, ◌==◌, arith}
-use Rattle.std.proofs.lemmas.Bool.{eqb-true}
-use Rattle.std.specs.Prelude.{ℕ, length}
-use Rattle.std.specs.List.{AllByRecursion}
-use Rattle.volt_wire.specs.declared.actor.Actor.TheVariants.{Site}
-use Rattle.cluster_model.specs.Engine.{Database}
-use Rattle.cluster_model.specs.Words.{Deployment, term_in}
-use Rattle.cluster_model.specs.Letters.{Waiting, Turn, ◌▸◌, no_sends, of_term, above_term}
-use Rattle.cluster_model.specs.SiteState.{SiteState, site_term}
-use Rattle.cluster_model.specs.Site.{site_handler, takes_each, takes_waiting}
-use Rattle.cluster_steps.proofs.Lists.{all-append, all-from, in-filter, set-here, set-same, set-twice}
-use Rattle.log_laws.specs.Histories.{LogState, LogsHold, SiteWaitingOk, site_start, log_at, term_at}
-use Rattle.log_laws.proofs.Kept.Moves.{after_site, left, Enters, LogsGo, NoStreamStart}
-use Rattle.log_laws.proofs.Kept.Grown.{grown-then, enters-then}
-use Rattle.log_laws.proofs.Kept.Plumbing.{here, after-after, log-here, then-longer, goes-same}
+use Rattle.log_laws.proofs.Names.{◌≡◌, ◌<◌, List, [], ◌∷◌, sym, subst, ap, ◌∙◌, ◌==◌, arith, eqb-true, ℕ, length, AllByRecursion, Site, Database, Deployment, term_in, Waiting, Turn, ◌▸◌, no_sends, of_term, above_term, SiteState, site_term, site_handler, all-append, all-from, in-filter, set-here, set-same, set-twice, LogState, LogsHold, SiteWaitingOk, site_start, log_at, term_at}
+use Rattle.cluster_model.specs.Site.{takes_each, takes_waiting}
+use Rattle.log_laws.proofs.Kept.{after_site, left, Enters, LogsGo, NoStreamStart, grown-then, enters-then, here, after-after, log-here, then-longer, goes-same}
 use Rattle.log_laws.proofs.Messages.Pops.{takes-up-after}
 
 -- ---- what is left of what waited
@@ -53,27 +41,15 @@ module _ (E : Database) (D : Deployment) (stamp i : ℕ) where
       → AllByRecursion (λ x. x.letter.term ≡ term_at S i) ws → LogsGo (left S i []) i (takes_each E D stamp i ws (S.sites i))
   each-goes [] S handlers H up d is t = subst (λ T. LogsGo T i (takes_each E D stamp i [] (S.sites i))) (sym (left-same S i [] is)) (goes-same S i H)
   each-goes (x ∷ ws) S handlers H up d is t =
+      let handler = site_handler E D stamp i (S.sites i) x.from x.letter in
+      let g = handlers S x ws H up d is t.0 (subst (AllByRecursion (SiteWaitingOk S i)) is ((H.sites i).keeps up).pending).0 in
+      let T = after_site (left S i ws) i handler.state handler.sends g.logs in
+      let there = here (left S i ws) i handler.state handler.sends g.logs in
+      let view : (T.sites i).view ≡ (S.sites i).view = ap (λ s. s.view) there ∙ g.view in
+      let start : site_start T i ≡ site_start S i = ap (λ s. s.start) there ∙ g.start in
       left-then S i ws [] handler (takes_each E D stamp i ws) g (subst (λ s. LogsGo (left T i []) i (takes_each E D stamp i ws s)) there
       (each-goes ws T handlers g.holds (subst (λ s. 0 < s) (sym start) up) d (set-here S.pending i ws)
       (subst (λ o. AllByRecursion (λ x. x.letter.term ≡ term_in o) ws) (sym view) t.1)))
-    where
-      handler : Turn SiteState
-      handler = site_handler E D stamp i (S.sites i) x.from x.letter
-
-      g : LogsGo (left S i ws) i handler
-      g = handlers S x ws H up d is t.0 (subst (AllByRecursion (SiteWaitingOk S i)) is ((H.sites i).keeps up).pending).0
-
-      T : LogState
-      T = after_site (left S i ws) i handler.state handler.sends g.logs
-
-      there : T.sites i ≡ handler.state
-      there = here (left S i ws) i handler.state handler.sends g.logs
-
-      start : site_start T i ≡ site_start S i
-      start = ap (λ s. s.start) there ∙ g.start
-
-      view : (T.sites i).view ≡ (S.sites i).view
-      view = ap (λ s. s.view) there ∙ g.view
 
   -- What waited for the site's term is taken.
   pub waited-goes : (S : LogState) → HandlersGo → LogsHold S → 0 < site_start S i → S.words.deployment ≡ D → S.pending i ≡ [] → LogsGo S i (takes_waiting E D stamp i (S.sites i))

@@ -1,21 +1,7 @@
 -- A leader that has all reports begins its term: the log with which it does, and what that means for each copy.
-use Rattle.std.proofs.Common.{◌≡◌, ◌<◌, Bool, true, false, List, [], ◌∷◌, ◌++◌, append-nil, refl, sym, subst, ap, ◌∙◌, ◌⊎◌, inl, inr, ◌==◌, drop-drop, arith}
-use Rattle.std.proofs.lemmas.Bool.{cases_eq, eqb-true}
-use Rattle.std.proofs.lemmas.Bool.Decides.{nat_tests}
-use Rattle.std.proofs.Math.Seq.{drop-append_seam}
-use Rattle.std.specs.Prelude.{ℕ, ◌≤◌, ◌-◌, nat_lt, length, drop, if◌then◌else◌, Option, Some, None}
-use Rattle.std.specs.List.{AllByRecursion, list_any, list_all}
-use Rattle.volt_base.specs.declared.entry.Entry.{Entry}
-use Rattle.volt_wire.specs.Word.{Membership}
-use Rattle.cluster_model.specs.Words.{term_of, term_in, start_of_slot, leader}
-use Rattle.cluster_model.specs.SiteState.{SiteState, Reported, other_copies}
-use Rattle.cluster_model.specs.Site.{longest, lacks}
-use Rattle.cluster_steps.specs.Lists.{In, Prefix}
-use Rattle.cluster_steps.proofs.Lists.{none-and-some, same-some, all-at, not-both, list_all-at, list_any-from}
-use Rattle.log_laws.specs.Histories.{LogState, Entered, Leadership, LogsHold, IsSlot, WordOf, Last, Unled, known, EnteredOk, ReportOk, MemberOk, LeadsIn, epoch_base, part, site_start, log_at, term_at}
-use Rattle.cluster_steps.proofs.Prefixes.{prefixes-order}
-use Rattle.log_laws.proofs.Kept.Terms.{base-least, entered-start, member-or-joined, named-first, last-below}
-use Rattle.log_laws.proofs.Plain.Copies.{copy-other, is_in-in}
+use Rattle.log_laws.proofs.Names.{◌≡◌, ◌<◌, Bool, true, false, List, [], ◌∷◌, ◌++◌, append-nil, refl, sym, subst, ap, ◌∙◌, ◌⊎◌, inl, inr, ◌==◌, drop-drop, arith, cases_eq, eqb-true, nat_tests, drop-append_seam, ℕ, ◌≤◌, ◌-◌, nat_lt, length, drop, if◌then◌else◌, Option, Some, None, AllByRecursion, list_any, list_all, Entry, Membership, term_of, term_in, start_of_slot, leader, SiteState, Reported, other_copies, longest, lacks, In, Prefix, none-and-some, same-some, all-at, not-both, list_all-at, list_any-from, prefixes-order, LogState, Entered, Leadership, LogsHold, IsSlot, WordOf, Last, Unled, known, EnteredOk, ReportOk, MemberOk, LeadsIn, epoch_base, part, site_start, log_at, term_at}
+use Rattle.log_laws.proofs.Kept.{base-least, entered-start, member-or-joined, named-first, last-below}
+use Rattle.log_laws.proofs.Plain.{copy-other, is_in-in, none-or-some}
 use Rattle.log_laws.proofs.NewTerms.Entering.{behind-at}
 
 -- ---- the longest of the logs
@@ -70,11 +56,10 @@ module _ (T : LogState) (H : LogsHold T) (i : ℕ) (w : Membership) (up : 0 < si
 
   -- nobody has led it
   pub not-begun : T.logs.leadership (part T i) (term_of w) ≡ None
-  not-begun = go (T.logs.leadership (part T i) (term_of w)) refl
-    where
-      go : (o : Option Leadership) → T.logs.leadership (part T i) (term_of w) ≡ o → T.logs.leadership (part T i) (term_of w) ≡ None
-      go None e = e
-      go (Some g) e = absurd (not-both (T.sites i).repaired (subst (LeadsIn (T.sites i)) e (leading-member.leading leads)).0 unrepaired)
+  not-begun = elim (none-or-some (T.logs.leadership (part T i) (term_of w))) [
+    | inl e ↦ e
+    | inr (g, e) ↦ absurd (not-both (T.sites i).repaired (subst (LeadsIn (T.sites i)) e (leading-member.leading leads)).0 unrepaired)
+  ]
 
   -- what was reported
   pub reported : (r : Reported) → In r (T.sites i).reports → ReportOk T (part T i) r.slot (term_of w) r.position r.floor r.tail
@@ -194,6 +179,7 @@ module _ (T : LogState) (H : LogsHold T) (i : ℕ) (w : Membership) (up : 0 < si
       → ((x : ℕ) (g : Leadership) → T.logs.leadership (part T i) x ≡ Some g → x < u → x ≤ term_of w)
       → Prefix e.log (begun_log (T.sites i)) × (known e ≤ T.logs.reach (part T i) (term_of w))
   begun-behind c u e part-is is above greatest =
+      let f = all-entered c e.start k.slot part-is member in
       let s = k.still (term_of w) f.0 above f.1 f.2 unled in
       let r = (H.entered c (term_of w) f.0 f.1).reach in
       (rw s.0 f.3, (let q = ap (λ q. T.logs.reach q (term_of w)) part-is in let n = s.1 in omega (arith, n, r, q)))
@@ -225,6 +211,3 @@ module _ (T : LogState) (H : LogsHold T) (i : ℕ) (w : Membership) (up : 0 < si
               absurd (unled z h.leadership h.led low below)
         ]
       ]
-
-      f : (f : Entered) × (T.logs.entered c (term_of w) ≡ Some f) × (f.start ≡ e.start) × Prefix f.log (begun_log (T.sites i))
-      f = all-entered c e.start k.slot part-is member

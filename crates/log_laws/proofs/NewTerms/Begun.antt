@@ -1,34 +1,11 @@
 -- A leader that has all reports begins its term: what holds, holds after it.
-use Rattle.std.proofs.Common.{◌≡◌, ◌<◌, true, false, List, [], ◌∷◌, ◌++◌, append-nil, refl, sym, subst, ap, ◌∙◌, inl, inr, ◌==◌, true≢false, arith}
-use Rattle.std.proofs.lemmas.Bool.{cases_eq}
-use Rattle.std.specs.Prelude.{ℕ, ◌≤◌, length, drop, Option, Some, None}
-use Rattle.std.specs.List.{AllByRecursion, list_any, list_all}
-use Rattle.volt_wire.specs.Word.{Membership}
-use Rattle.volt_wire.specs.declared.actor.Actor.{Actor}
-use Rattle.volt_wire.specs.declared.actor.Actor.TheVariants.{Agent, Site}
-use Rattle.cluster_model.specs.Words.{term_of, term_in, leader}
-use Rattle.cluster_model.specs.Letters.{Letter, Sends}
-use Rattle.cluster_model.specs.SiteState.{SiteState, Scanning, Joining, Joiner, Reported, site_term, start_in_view, other_copies}
-use Rattle.cluster_model.specs.Site.{longest, lacks, repair_to}
-use Rattle.cluster_model.specs.World.{sent}
-use Rattle.cluster_steps.specs.Lists.{In, Prefix}
-use Rattle.cluster_steps.proofs.Lists.{none-and-some, same-some, all-mono, not-both, set-here, set-there, set-both}
-use Rattle.log_laws.specs.Histories.{LogState, Logs, Repairs, Entered, Leadership, LogsHold, IsSlot, WordOf, Last, known, EnteredOk, ReportOk, LeadershipOk, UnledOk, SiteOk, KeepsOk, MemberOk, JoinerOk, LeadsIn, FollowsIn, SiteLetterOk, MeantFor, IsCounted, AckOk, CountedOk, AsksToJoin, ForeignOk, SiteWaitingOk, JoinsIn, asks_of_term, part, site_start, log_at, term_at, between, follows, line}
-use Rattle.log_laws.proofs.Kept.Moves.{Grown, after_site, LogsLater, JoinsOn}
-use Rattle.log_laws.proofs.Kept.Grown.{grown-at}
-use Rattle.log_laws.proofs.Kept.Laters.{been-later, word_of-later, ack-later, counted-later, ask-later, reached-later, stays, leadership-later, unled-later}
-use Rattle.log_laws.proofs.Plain.Lines.{line-same, line-append, repair-line, repair-line-other, repair-flow, repair-ends}
-use Rattle.cluster_steps.proofs.Sends.{repair-all, repair_letter}
-use Rattle.cluster_steps.proofs.Prefixes.{prefix-length, prefix-refl, prefix-trans}
-use Rattle.cluster_steps.proofs.Appends.{grown}
-use Rattle.log_laws.proofs.Plain.Copies.{start-in-view, follows-leader, leader-follows-none, leader-followed}
-use Rattle.log_laws.proofs.Kept.Terms.{running-slot, same-word, some-term, entered-start, running-in}
-use Rattle.log_laws.proofs.Kept.Plumbing.{sent-here, sent-there, words-after, foreign-after, views-after}
-use Rattle.log_laws.proofs.Kept.Keeps.{still-same, member-keeps-with}
-use Rattle.log_laws.proofs.Kept.Asked.{at-most-same}
+use Rattle.log_laws.proofs.Names.{◌≡◌, ◌<◌, true, false, List, [], ◌∷◌, ◌++◌, append-nil, refl, sym, subst, ap, ◌∙◌, inl, inr, ◌==◌, true≢false, arith, cases_eq, ℕ, ◌≤◌, length, drop, Option, Some, None, AllByRecursion, list_any, list_all, Membership, Actor, Agent, Site, term_of, term_in, leader, Letter, Sends, SiteState, Scanning, Joining, Joiner, Reported, site_term, start_in_view, other_copies, longest, lacks, repair_to, sent, In, Prefix, none-and-some, same-some, not-both, set-here, set-there, set-both, repair-all, repair_letter, prefix-length, prefix-refl, prefix-trans, grown, flat_map-append, LogState, Logs, Repairs, Entered, Leadership, LogsHold, WordOf, Last, known, EnteredOk, ReportOk, LeadershipOk, UnledOk, SiteOk, KeepsOk, MemberOk, JoinerOk, LeadsIn, FollowsIn, SiteLetterOk, MeantFor, IsCounted, ForeignOk, JoinsIn, asks_of_term, part, site_start, log_at, term_at, between, follows, line, line_of}
+use Rattle.log_laws.proofs.Kept.{after_site, LogsLater, JoinsOn, grown-at, been-later, word_of-later, ask-later, reached-later, stays, leadership-later, unled-later, running-slot, same-word, some-term, entered-start, running-in, sent-here, sent-there, words-after, foreign-after, views-after, still-same, member-keeps-with, at-most-same, put_at, put-both, put-here, put-there, site_turned, turned-later, turned-holds, waiting-turned, pending-turned, asks-later, counteds-later, keeps-at, RunsOn, site-runs}
+use Rattle.log_laws.proofs.Kept.Moves.{Grown}
+use Rattle.log_laws.proofs.Kept.Turned.{Turned}
+use Rattle.log_laws.proofs.Plain.{repair-line, repair-line-other, repair-flow, repair-ends, start-in-view, follows-leader, leader-follows-none, leader-followed, flat-same, one-and-others}
 use Rattle.log_laws.proofs.NewTerms.Since.{since-unled, unled-above}
 use Rattle.log_laws.proofs.NewTerms.Beginning.{begun-by, begun_log, begun_leadership, leading-member, not-begun, reported, own-prefix, has-report, all-entered, begun-behind}
-use Rattle.log_laws.proofs.Kept.Turned.{put_at, put-both, put-here, put-there, site_turned, turned-later, Turned, turned-holds, waiting-turned, pending-turned}
 
 -- the leader with the longest log, with its scans as they may be, and once it has begun its term
 abbrev pub longest_site : SiteState → ℕ → Option Scanning → SiteState
@@ -86,15 +63,7 @@ module _ (S : LogState) (H : LogsHold S) (i : ℕ) (w : Membership) (up : 0 < si
 
   later : LogsLater S T
   later = turned-later S i s ch S.logs.entered re S.logs.reach
-      (record {
-        start = refl;
-        earlier = refl;
-        greatest = omega arith;
-        log = prefix-length (log_at S i) (begun_log (S.sites i)) (own-prefix S H i w up none view leads unrepaired all);
-        term = omega arith;
-        member = λ e. e;
-        loaded = λ k e. (k, e, λ l. l);
-      })
+      (search (arith, prefix-length (log_at S i) (begun_log (S.sites i)) (own-prefix S H i w up none view leads unrepaired all)))
       (λ c t e is. is) (λ c t e is. inl is) (λ p t. omega arith)
 
   member : MemberOk S i w
@@ -117,14 +86,10 @@ module _ (S : LogState) (H : LogsHold S) (i : ℕ) (w : Membership) (up : 0 < si
   none-new c a t n = repair-line-other S.words.deployment (longest_site (S.sites i) scans scanning) c a t (S.sites i).reports
       (λ r is q start term. n r is q start (sym (ap term_in view) ∙ term))
 
-  line-mine : (c a t : ℕ) → line a t (new c) ≡ [] → line a t (ch (Site i) (Site c)) ≡ line a t (between S i c)
-  line-mine c a t e = ap (line a t) (sent-here S i s out G (Site c) ∙ ap (λ z. between S i c ++ z) (sends c)) ∙ line-same a t (between S i c) (new c) e
-
   line-there : (l c a t : ℕ) → (l ≡ i → line a t (new c) ≡ []) → line a t (ch (Site l) (Site c)) ≡ line a t (between S l c)
-  line-there l c a t e = elim (cases_eq l i) [
-    | inl q ↦ subst (λ z. line a t (ch (Site z) (Site c)) ≡ line a t (between S z c)) (sym q) (line-mine c a t (e q))
-    | inr n ↦ ap (line a t) (sent-there S i s out G l (Site c) n)
-  ]
+  line-there l c a t = one-and-others (λ l. (l ≡ i → line a t (new c) ≡ []) → line a t (ch (Site l) (Site c)) ≡ line a t (between S l c)) i
+      (λ e. ap (line a t) (sent-here S i s out G (Site c) ∙ ap (λ z. between S i c ++ z) (sends c)) ∙ flat-same (line_of a t) (between S i c) (new c) (e refl))
+      (λ l n e. ap (line a t) (sent-there S i s out G l (Site c) n)) l
 
   -- each goes to a start that has been in the term
   reached-new : (c : ℕ) (r : Reported) → In r (S.sites i).reports → r.slot ≡ c
@@ -179,7 +144,7 @@ module _ (S : LogState) (H : LogsHold S) (i : ℕ) (w : Membership) (up : 0 < si
         [],
         f.0,
         ap (line (site_start S c) (term_of w)) (sent-here S i s out G (Site c) ∙ ap (λ z. between S i c ++ z) (sends c))
-            ∙ line-append (site_start S c) (term_of w) (between S i c) (new c)
+            ∙ flat_map-append (line_of (site_start S c) (term_of w)) (between S i c) (new c)
             ∙ ap (λ z. z ++ line (site_start S c) (term_of w) (new c)) f.1
             ∙ n.3
             ∙ ap (λ z. Repairs z (drop z (begun_log (S.sites i))) ∷ []) position,
@@ -230,11 +195,8 @@ module _ (S : LogState) (H : LogsHold S) (i : ℕ) (w : Membership) (up : 0 < si
     flows = λ c start t. repair-flow S.words.deployment (longest_site (S.sites i) scans scanning) c start t (S.sites i).reports;
     ends = λ c start t. repair-ends S.words.deployment (longest_site (S.sites i) scans scanning) c start t (S.sites i).reports;
     agreed = λ h g. refl;
-    tells = λ c h. elim (cases_eq c i) [
-      | inl e ↦ subst (λ z. ch (Site z) (Agent h) ≡ S.words.channel (Site z) (Agent h)) (sym e)
-          (sent-here S i s out G (Agent h) ∙ ap (λ z. S.words.channel (Site i) (Agent h) ++ z) (inert h) ∙ append-nil (S.words.channel (Site i) (Agent h)))
-      | inr n ↦ sent-there S i s out G c (Agent h) n
-    ];
+    tells = one-and-others _ i (λ h. sent-here S i s out G (Agent h) ∙ ap (λ z. S.words.channel (Site i) (Agent h) ++ z) (inert h) ∙ append-nil (S.words.channel (Site i) (Agent h)))
+        (λ c n h. sent-there S i s out G c (Agent h) n);
     views = λ c _. refl;
     foreign = foreign-after S H i s out G later (λ c. subst (AllByRecursion (ForeignOk S c (Site i))) (sym (sends c))
         (repair-all S.words.deployment (longest_site (S.sites i) scans scanning) c (ForeignOk S c (Site i)) (S.sites i).reports (λ r is q. tt)));
@@ -289,10 +251,7 @@ module _ (S : LogState) (H : LogsHold S) (i : ℕ) (w : Membership) (up : 0 < si
       behind : (v : ℕ) (l : Last T.logs (part S c) v u) → Prefix e.log l.leadership.log × (known e ≤ S.logs.reach (part S c) v)
       behind v l = elim (cases_eq (part S c) (part S i)) [
         | inr n ↦ plain (λ q _. n q)
-        | inl q ↦ elim (cases_eq v (term_of w)) [
-          | inr n ↦ plain (λ _ t. n t)
-          | inl t ↦ now q t
-        ]
+        | inl q ↦ elim (cases_eq v (term_of w)) [ inr n ↦ plain (λ _ t. n t) | inl t ↦ now q t ]
       ]
         where
           plain : (part S c ≡ part S i → v ≡ term_of w → ⊥) → Prefix e.log l.leadership.log × (known e ≤ S.logs.reach (part S c) v)
@@ -359,39 +318,18 @@ module _ (S : LogState) (H : LogsHold S) (i : ℕ) (w : Membership) (up : 0 < si
   }
 
   own-keeps : KeepsOk T i
-  own-keeps = let k = (H.sites i).keeps up in record {
-    acks = rw here (all-mono (λ a. IsSlot S a.0 → AckOk S a.0 (term_at S i) a.1) (λ a. IsSlot S a.0 → AckOk T a.0 (term_at S i) a.1)
-        (λ a p slot. ack-later S T H later a.0 (term_at S i) a.1 (p slot)) (S.sites i).acks k.acks);
-    reports = subst (λ z. AllByRecursion (λ r. ReportOk T (part S i) r.slot (site_term z) r.position r.floor r.tail) z.reports) (sym here) tt;
-    joiners = rw here (all-mono (CountedOk S (part S i) (term_at S i)) (CountedOk T (part S i) (term_at S i))
-        (counted-later S T H later (part S i) (term_at S i)) (S.sites i).joiners k.joiners);
-    alone = rw here k.alone;
-    leads = rw here k.leads;
-    asks = rw here (all-mono (λ a. AsksToJoin S (part S i) a.slot (term_at S i) a.start) (λ a. AsksToJoin T (part S i) a.slot (term_at S i) a.start)
-        (λ a. ask-later S T H later (part S i) a.slot (term_at S i) a.start (on a.slot)) (S.sites i).asks k.asks);
-    waiting = subst (λ z. AllByRecursion (SiteWaitingOk T i) z.waiting) (sym here)
-        (waiting-turned S H i s ch S.logs.entered re S.logs.reach new turns i (running-slot S H i up) own-start k);
-    pending = pending-turned S H i s ch S.logs.entered re S.logs.reach new turns i (running-slot S H i up) own-start k;
-    on_disk = subst (λ z. z.on_disk ≤ length z.log) (sym here)
-        (let a = k.on_disk in let b = prefix-length (log_at S i) (begun_log (S.sites i)) (own-prefix S H i w up none view leads unrepaired all) in omega (arith, a, b));
-    held = rw here k.held;
-  }
+  own-keeps = let k = (H.sites i).keeps up in keeps-at S T H later i s here refl k.acks tt
+      (counteds-later S T H later (part S i) (term_at S i) (S.sites i).joiners k.joiners) k.alone k.leads (asks-later S T H later (part S i) (term_at S i) on (S.sites i).asks k.asks)
+      (waiting-turned S H i s ch S.logs.entered re S.logs.reach new turns i (running-slot S H i up) own-start k)
+      (pending-turned S H i s ch S.logs.entered re S.logs.reach new turns i (running-slot S H i up) own-start k)
+      (let a = k.on_disk in let b = prefix-length (log_at S i) (begun_log (S.sites i)) (own-prefix S H i w up none view leads unrepaired all) in omega (arith, a, b)) k.held
     where
       on : (c : ℕ) → JoinsOn S T c
       on c = set-both (λ c z. (u : Membership) → JoinsIn S c u → (j : Joining) × (z.joining ≡ Some j) × (z.view ≡ Some u)) S.sites i s (λ u j. j) (λ c _ u j. j) c
 
   own-site : SiteOk T i
-  own-site = let k = H.sites i in record {
-    environment = λ e. own-start ∙ k.environment e;
-    ran = λ _. let r = k.ran up in (r.0, r.1 ∙ ap (λ z. z ∷ r.0) (sym own-start));
-    term = rw here k.term;
-    earlier = rw here k.earlier;
-    member = λ _ _. (w, ap (λ z. z.view) here ∙ view, own-member);
-    joiner = λ j e. absurd (none-and-some none (sym (ap (λ z. z.joining) here) ∙ e));
-    keeps = λ _. own-keeps;
-    stopped = λ e. let z = sym own-start ∙ e in absurd (omega (arith, up, z));
-    blank = λ e. let z = sym own-start ∙ e in absurd (omega (arith, up, z));
-  }
+  own-site = site-runs S T H later i (subst (RunsOn (S.sites i)) (sym here) search) refl (λ _ _ v is _. subst (MemberOk T i) (same-some (sym view ∙ is)) own-member)
+      (λ j k is _ _. absurd (none-and-some none is)) (λ _ _. own-keeps) (λ z _. absurd (omega (arith, up, z))) (H.sites i)
 
   -- what holds, holds once it has begun
   pub begun-holds : LogsHold (after_site S i s out G)

@@ -1,20 +1,8 @@
 -- A site comes into a term as a member of its word: what was so before.
-use Rattle.std.proofs.Common.{◌≡◌, ◌<◌, true, false, [], ◌++◌, append-nil, append_assoc, refl, sym, subst, ap, ◌∙◌, ◌⊎◌, inl, inr, ◌==◌, arith}
-use Rattle.std.proofs.lemmas.Bool.{cases_eq, and_from, eq-eqb, false_from_ne_true}
-use Rattle.std.specs.Prelude.{ℕ, ◌≤◌, nat_lt, max, length, Option, Some, None}
-use Rattle.volt_wire.specs.Word.{Membership}
-use Rattle.cluster_model.specs.Words.{slots, term_of, term_in, start_of_slot, host_of_slot}
-use Rattle.cluster_model.specs.SiteState.{SiteState, Joining, Streamed}
-use Rattle.cluster_steps.specs.Lists.{In, Prefix}
-use Rattle.word_laws.specs.Histories.{Admitted, names, HistoryOk, GoodWord, Recorded, AdmittedOk}
-use Rattle.cluster_steps.proofs.Lists.{none-and-some, same-some, all-at, not-both}
-use Rattle.word_laws.proofs.Algebra.{admits-fresh}
-use Rattle.word_laws.proofs.Agreement.{one-first, at-good, term-same, member-is}
-use Rattle.log_laws.specs.Histories.{LogState, Entered, Streaming, Leadership, LogsHold, IsSlot, WordOf, WasIn, Last, Unled, Came, known, MemberOk, JoinerOk, InWord, Took, ViewIn, StreamIn, LeadsIn, FollowsIn, line, between, part, site_start, log_at, term_at}
-use Rattle.cluster_steps.proofs.Prefixes.{prefix-trans}
-use Rattle.log_laws.proofs.Kept.Terms.{running-slot, took-not-named, base-least, entered-start, leadership-entered, running-in, was-in, last-below}
+use Rattle.log_laws.proofs.Names.{◌≡◌, ◌<◌, true, false, [], ◌++◌, append-nil, append_assoc, refl, sym, subst, ap, ◌∙◌, ◌⊎◌, inl, inr, ◌==◌, arith, cases_eq, and_from, eq-eqb, false_from_ne_true, ℕ, ◌≤◌, nat_lt, max, length, Option, Some, None, Membership, slots, term_of, term_in, start_of_slot, host_of_slot, SiteState, Joining, Streamed, In, Prefix, Admitted, names, HistoryOk, GoodWord, Recorded, none-and-some, same-some, all-at, not-both, admits-fresh, one-first, at-good, term-same, member-is, prefix-trans, LogState, Entered, Leadership, LogsHold, IsSlot, WordOf, WasIn, Last, Unled, Came, known, MemberOk, JoinerOk, InWord, Took, ViewIn, StreamIn, LeadsIn, FollowsIn, line, between, part, site_start, log_at, term_at}
+use Rattle.log_laws.proofs.Kept.{running-slot, took-not-named, base-least, entered-start, leadership-entered, running-in, was-in, last-below}
 use Rattle.log_laws.proofs.NewTerms.Since.{since-running}
-use Rattle.log_laws.proofs.Plain.Copies.{leads-or-follows}
+use Rattle.log_laws.proofs.Plain.{leads-or-follows, none-or-some}
 
 -- ---- starts and words
 
@@ -30,7 +18,7 @@ ran-owner S H c a is = let h = host_of_slot S.words.deployment c in
 -- where a decided word names a start that took one as a joiner, it was admitted at the word that it took
 pub took-admitted : (S : LogState) → LogsHold S → (a : ℕ) (v w : Membership) → S.words.history.took a ≡ Some v → In w S.words.history.decided → names w a ≡ true
     → (x : Admitted) × In x S.words.history.admitted × (x.start ≡ a) × (x.at ≡ v)
-took-admitted S H a v w took decided named = (
+took-admitted S H a v w took decided named = let ok = h.admitted_ok r.entry r.is_one in (
   r.entry,
   r.is_one,
   r.same,
@@ -52,9 +40,6 @@ took-admitted S H a v w took decided named = (
 
     r : Recorded S.words w a
     r = gw.recorded a (admits-fresh v w a (one-first S.words h v w gv gw) (false_from_ne_true (names v a) (took-not-named S H a v took)) named)
-
-    ok : AdmittedOk S.words r.entry
-    ok = h.admitted_ok r.entry r.is_one
 
 -- who came before a term came before a later one
 pub came-up : (S : LogState) (c t u a : ℕ) → t ≤ u → Came S c t a → Came S c u a
@@ -127,7 +112,10 @@ module _ (S : LogState) (H : LogsHold S) (i : ℕ) (v w : Membership) (up : 0 < 
 
   -- Before, it was a member, or it is a joiner that has loaded all.
   pub was-member : MemberOk S i v ⊎ LoadedAll S i v
-  was-member = go (S.sites i).joining refl
+  was-member = elim (none-or-some (S.sites i).joining) [
+    | inl e ↦ let m = (H.sites i).member up e in inl (subst (MemberOk S i) (same-some (sym m.1 ∙ view)) m.2)
+    | inr (j, e) ↦ inr (joined j e)
+  ]
     where
       joined : (j : Joining) → (S.sites i).joining ≡ Some j → LoadedAll S i v
       joined j joins = streamed j.stream refl in_word.stream
@@ -152,10 +140,6 @@ module _ (S : LogState) (H : LogsHold S) (i : ℕ) (v w : Membership) (up : 0 < 
           streamed None e k = absurd (not-both j.is_loaded loaded k.loads)
           streamed (Some st) e k = record { joining = j; joins = joins; ok = ok; in_word = in_word; loaded = loaded; stream_start = st.stream_start; took = k }
 
-      go : (o : Option Joining) → (S.sites i).joining ≡ o → MemberOk S i v ⊎ LoadedAll S i v
-      go None e = let m = (H.sites i).member up e in inl (subst (MemberOk S i) (same-some (sym m.1 ∙ view)) m.2)
-      go (Some j) e = inr (joined j e)
-
   pub came : Came S i (term_of w) (site_start S i)
   came = elim was-member [
     | inl k ↦ came-up S i (term_of v) (term_of w) (site_start S i) (omega (arith, above))
@@ -165,44 +149,35 @@ module _ (S : LogState) (H : LogsHold S) (i : ℕ) (v w : Membership) (up : 0 < 
 
   -- the slot's earlier starts had lower terms
   pub earlier-below : (S.sites i).earlier ≤ term_of v
-  earlier-below = elim was-member [
-    | inl k ↦ k.earlier
-    | inr k ↦ let r = ((H.streamed i (term_of v) _ k.took.streamed).running refl).0 in omega (arith, r)
-  ]
+  earlier-below = elim was-member [ inl k ↦ k.earlier | inr k ↦ let r = ((H.streamed i (term_of v) _ k.took.streamed).running refl).0 in omega (arith, r) ]
 
   -- it hasn't been in the term, and nobody leads it
   pub not-entered : S.logs.entered i (term_of w) ≡ None
-  not-entered = go (S.logs.entered i (term_of w)) refl
-    where
-      go : (o : Option Entered) → S.logs.entered i (term_of w) ≡ o → S.logs.entered i (term_of w) ≡ None
-      go None e = e
-      go (Some f) e =
-          let start = same-some (sym member ∙ entered-start S H i (term_of w) f e w word) in
-          let low = ((H.entered i (term_of w) f e).running start).1 in absurd (omega (arith, low, here, above))
+  not-entered = elim (none-or-some (S.logs.entered i (term_of w))) [
+    | inl e ↦ e
+    | inr (f, e) ↦
+        let start = same-some (sym member ∙ entered-start S H i (term_of w) f e w word) in
+        let low = ((H.entered i (term_of w) f e).running start).1 in absurd (omega (arith, low, here, above))
+  ]
 
   pub not-streamed : S.logs.streamed i (term_of w) ≡ None
-  not-streamed = go (S.logs.streamed i (term_of w)) refl
-    where
-      go : (o : Option Streaming) → S.logs.streamed i (term_of w) ≡ o → S.logs.streamed i (term_of w) ≡ None
-      go None e = e
-      go (Some x) e = let k = H.streamed i (term_of w) x e in elim (cases_eq (site_start S i) x.start) [
-        | inl same ↦ let low = (k.running same).1 in absurd (omega (arith, low, here, above))
-        | inr other ↦ let low = k.been.others up other in let b = earlier-below in absurd (omega (arith, low, b, above))
-      ]
+  not-streamed = elim (none-or-some (S.logs.streamed i (term_of w))) [
+    | inl e ↦ e
+    | inr (x, e) ↦ let k = H.streamed i (term_of w) x e in elim (cases_eq (site_start S i) x.start) [
+      | inl same ↦ let low = (k.running same).1 in absurd (omega (arith, low, here, above))
+      | inr other ↦ let low = k.been.others up other in let b = earlier-below in absurd (omega (arith, low, b, above))
+    ]
+  ]
 
   pub not-led : S.logs.leadership (part S i) (term_of w) ≡ None
-  not-led = go (S.logs.leadership (part S i) (term_of w)) refl
-    where
-      go : (o : Option Leadership) → S.logs.leadership (part S i) (term_of w) ≡ o → S.logs.leadership (part S i) (term_of w) ≡ None
-      go None e = e
-      go (Some g) e = absurd (none-and-some not-entered (leadership-entered S H (part S i) (term_of w) g e w word i (site_start S i) slot refl member).1)
+  not-led = elim (none-or-some (S.logs.leadership (part S i) (term_of w))) [
+    | inl e ↦ e
+    | inr (g, e) ↦ absurd (none-and-some not-entered (leadership-entered S H (part S i) (term_of w) g e w word i (site_start S i) slot refl member).1)
+  ]
 
   -- It was in the last term that was led, and no later one.
   pub was-last : (u : ℕ) → Last S.logs (part S i) u (term_of w) → WasIn S i u (site_start S i)
   was-last u l = was-in S H i (term_of w) (site_start S i) w slot word member came u l
-
-  last-low : (u : ℕ) → Last S.logs (part S i) u (term_of w) → u ≤ term_of v
-  last-low u l = let b = (running-in S H i u (site_start S i) (was-last u l) refl).1 in omega (arith, b, here)
 
   -- as a member, in a term that nobody led
   unled-here : (k : MemberOk S i v) → S.logs.leadership (part S i) (term_of v) ≡ None → (log_at S i ≡ k.entered.log) × (known (entering (S.sites i)) ≡ known k.entered)
@@ -219,16 +194,15 @@ module _ (S : LogState) (H : LogsHold S) (i : ℕ) (v w : Membership) (up : 0 < 
   ]
     where
       low : u ≤ term_of v
-      low = last-low u l
+      low = let b = (running-in S H i u (site_start S i) (was-last u l) refl).1 in omega (arith, b, here)
 
       lower : (k : MemberOk S i v) → (u ≡ term_of v → ⊥) → Prefix (log_at S i) l.leadership.log × (known (entering (S.sites i)) ≤ S.logs.reach (part S i) u)
-      lower k n = let same = unled-here k (none (S.logs.leadership (part S i) (term_of v)) refl) in
+      lower k n = let same = unled-here k (elim (none-or-some (S.logs.leadership (part S i) (term_of v))) [
+        | inl e ↦ e
+        | inr (g, e) ↦ let b = l.greatest (term_of v) g e above in absurd (n (omega (arith, low, b)))
+      ]) in
           rw (same.0, same.1) ((H.entered i (term_of v) k.entered k.is_entered).behind u
           (record { leadership = l.leadership; led = l.led; below = omega (arith, low, n); greatest = λ x g is b. l.greatest x g is (omega (arith, b, above)) }))
-        where
-          none : (o : Option Leadership) → S.logs.leadership (part S i) (term_of v) ≡ o → S.logs.leadership (part S i) (term_of v) ≡ None
-          none None e = e
-          none (Some g) e = let b = l.greatest (term_of v) g e above in absurd (n (omega (arith, low, b)))
 
       joined : (k : LoadedAll S i v) → Prefix (log_at S i) l.leadership.log × (known (entering (S.sites i)) ≤ S.logs.reach (part S i) u)
       joined k =

@@ -1,33 +1,11 @@
 -- A site takes a word that counts its start, and enters its term: what holds, holds after it.
-use Rattle.std.proofs.Common.{◌≡◌, ◌<◌, List, [], ◌∷◌, refl, sym, subst, ap, ◌∙◌, ◌⊎◌, inl, inr, ◌==◌, arith}
-use Rattle.std.proofs.lemmas.Bool.{cases_eq, cases_lt}
-use Rattle.std.specs.Prelude.{ℕ, ◌≤◌, length, drop, max, Option, Some, None}
-use Rattle.std.specs.List.{AllByRecursion}
-use Rattle.volt_wire.specs.Word.{Membership}
-use Rattle.volt_wire.specs.declared.actor.Actor.{Actor}
-use Rattle.volt_wire.specs.declared.actor.Actor.TheVariants.{Agent, Site}
+use Rattle.log_laws.proofs.Names.{◌≡◌, ◌<◌, List, [], ◌∷◌, refl, sym, subst, ap, ◌∙◌, ◌⊎◌, inl, inr, ◌==◌, arith, cases_eq, cases_lt, ℕ, ◌≤◌, length, drop, max, Option, Some, None, AllByRecursion, Membership, Actor, Agent, Site, Deployment, term_of, term_in, start_of_slot, leader, Letter, Sends, letter_in, sending, SiteState, Joiner, site_term, start_in_view, in_new_term, sent, In, Prefix, none-and-some, same-some, all-filter, set-here, set-there, set-both, prefix-refl, LogState, Logs, LogsHold, Entered, Streaming, IsSlot, known, EnteredOk, UnledOk, MemberOk, SiteOk, LeadsIn, FollowsIn, SiteLetterOk, AsksToJoin, HasBeen, HeldOk, ForeignOk, part, site_start, log_at, term_at, between, line, line_of, flow_of, end_of, asks_of_term, asked}
 use Rattle.volt_wire.specs.declared.message.Msg.TheVariants as msg
-use Rattle.cluster_model.specs.Words.{Deployment, term_of, term_in, start_of_slot, leader}
-use Rattle.cluster_model.specs.Letters.{Letter, Sends, letter_in, sending}
-use Rattle.cluster_model.specs.SiteState.{SiteState, Joiner, site_term, start_in_view}
-use Rattle.cluster_model.specs.Site.{in_new_term}
-use Rattle.cluster_model.specs.World.{sent}
-use Rattle.cluster_steps.specs.Lists.{In, Prefix}
-use Rattle.cluster_steps.proofs.Lists.{none-and-some, same-some, all-filter, set-here, set-there, set-both}
-use Rattle.log_laws.specs.Histories.{LogState, Logs, LogsHold, Entered, Streaming, IsSlot, known, EnteredOk, UnledOk, MemberOk, SiteOk, LeadsIn, FollowsIn, SiteLetterOk, AsksToJoin, HasBeen, HeldOk, ForeignOk, part, site_start, log_at, term_at, between, line, line_of, flow_of, end_of, asks_of_term, asked}
-use Rattle.log_laws.proofs.Kept.Moves.{after_site, site_popped, LogsLater, Stays, EntersNow, Turns, NoStreamStart}
-use Rattle.log_laws.proofs.Kept.Grown.{grown-reach, enters-later}
-use Rattle.log_laws.proofs.Kept.Laters.{been-later, stays, entered-later, same-leaderships, leaderships-later}
-use Rattle.log_laws.proofs.Plain.Lines.{line-none, line-same, line-plain, flow-none, flow-plain, ends-none, ends-plain, if-none}
-use Rattle.log_laws.proofs.Kept.Asked.{AtMost}
-use Rattle.log_laws.proofs.Plain.Copies.{leader-copy, start-in-view}
-use Rattle.log_laws.proofs.Kept.Terms.{running-slot, some-term, some-start}
-use Rattle.log_laws.proofs.Kept.Plumbing.{words-after, words-popped}
-use Rattle.log_laws.proofs.Kept.Keeps.{still-same, member-keeps}
+use Rattle.log_laws.proofs.Kept.{after_site, site_popped, LogsLater, Stays, EntersNow, Turns, NoStreamStart, grown-reach, been-later, stays, entered-later, same-leaderships, leaderships-later, AtMost, running-slot, some-term, some-start, words-after, words-popped, still-same, member-keeps, put_at, put-both, put-here, put-there, site_turned, turned-later, turned-holds, fresh-keeps, said-same}
+use Rattle.log_laws.proofs.Kept.Turned.{Turned}
+use Rattle.log_laws.proofs.Plain.{if-none, leader-copy, start-in-view, flat-none, flat-same, if-empty}
 use Rattle.log_laws.proofs.NewTerms.Entering.{since-within, running-ran, entering, was-member, came, earlier-below, not-entered, not-streamed, not-led, behind, still, known-within, reach-within, others-within}
-use Rattle.log_laws.proofs.Kept.Turned.{put_at, put-both, put-here, put-there, site_turned, turned-later, Turned, turned-holds, fresh-keeps, said-same}
 use Rattle.log_laws.proofs.NewTerms.Taking.{no-line, later-word, popped-other, mine-taken, theirs-taken, tells-taken, foreign-taken, views-taken}
-use Rattle.cluster_steps.proofs.Prefixes.{prefix-refl}
 
 -- the site as it enters
 abbrev pub entered_site : SiteState → Membership → SiteState
@@ -48,13 +26,6 @@ report_letter D s w c = letter_in (term_of w) (start_in_view D (Some w) c) (msg.
 pub record Reporting (D : Deployment) (i p : ℕ) (s : SiteState) (w : Membership) (out : Sends) : Type 0 where
   pub sites : (c : ℕ) → ((leader D w p ≡ Some c) × (c ≡ i → ⊥) × (out (Site c) ≡ report_letter D s w c ∷ [])) ⊎ (out (Site c) ≡ [])
   pub agents : (h : ℕ) → out (Agent h) ≡ []
-
-pub reports-all : (D : Deployment) (i p : ℕ) (s : SiteState) (w : Membership) (out : Sends) → Reporting D i p s w out → (P : Letter → Type 0) (c : ℕ)
-    → (leader D w p ≡ Some c → (c ≡ i → ⊥) → P (report_letter D s w c)) → AllByRecursion P (out (Site c))
-reports-all D i p s w out k P c f = elim (k.sites c) [
-  | inl o ↦ subst (AllByRecursion P) (sym o.2) (f o.0 o.1, tt)
-  | inr e ↦ subst (AllByRecursion P) (sym e) tt
-]
 
 module _ (S : LogState) (H : LogsHold S) (h i : ℕ) (l : Letter) (w : Membership) (ls : List Letter) (is : S.words.channel (Agent h) (Site i) ≡ record l { body = msg.View w } ∷ ls)
     (start : l.start ≡ site_start S i) (up : 0 < site_start S i) (v : Membership) (view : (S.sites i).view ≡ Some v)
@@ -84,7 +55,7 @@ module _ (S : LogState) (H : LogsHold S) (h i : ℕ) (l : Letter) (w : Membershi
   new c = out (Site c)
 
   says-all : (P : Letter → Type 0) (c : ℕ) → (leader D w (part S i) ≡ Some c → (c ≡ i → ⊥) → P (report_letter D (S.sites i) w c)) → AllByRecursion P (new c)
-  says-all P c f = reports-all D i (part S i) (S.sites i) w out says P c f
+  says-all P c f = elim (says.sites c) [ inl o ↦ subst (AllByRecursion P) (sym o.2) (f o.0 o.1, tt) | inr e ↦ subst (AllByRecursion P) (sym e) tt ]
 
   here : T.sites i ≡ s
   here = set-here S.sites i s
@@ -147,15 +118,11 @@ module _ (S : LogState) (H : LogsHold S) (h i : ℕ) (l : Letter) (w : Membershi
 
   line-there : (a c start t : ℕ) → line start t (ch (Site a) (Site c)) ≡ line start t (between S a c)
   line-there a c b t = said-same (line b t) S i ch new (mine-taken S H h i l w ls is start up out) (theirs-taken S H h i l w ls is start up out) a c
-      (line-same b t (between S i c) (new c) (line-none b t (new c) (says-all (λ x. line_of b t x ≡ []) c (λ _ _. line-plain b t (report_letter D (S.sites i) w c) refl))))
+      (flat-same (line_of b t) (between S i c) (new c) (flat-none (line_of b t) (new c) (says-all (λ x. line_of b t x ≡ []) c (λ _ _. if-empty _ _ refl))))
 
   -- an ask of it is one of an earlier start
   asks-gone : (c t a : ℕ) → IsSlot S c → In a (asked S i c t) → AsksToJoin S (part S c) i t a → AsksToJoin T (part S c) i t a
-  asks-gone c t a sl m k = record {
-    been = been-later S T H later i t a k.been;
-    part_is = k.part_is;
-    joins = λ e. absurd (clash (sym (ap (λ z. z.start) here) ∙ e));
-  }
+  asks-gone c t a sl m k = record { been = been-later S T H later i t a k.been; part_is = k.part_is; joins = λ e. absurd (clash (sym (ap (λ z. z.start) here) ∙ e)) }
     where
       clash : site_start S i ≡ a → ⊥
       clash e = let j = k.joins e in elim (was-member S H i v w up view decided member above) [
@@ -169,8 +136,8 @@ module _ (S : LogState) (H : LogsHold S) (h i : ℕ) (l : Letter) (w : Membershi
     later = later;
     mine = mine-taken S H h i l w ls is start up out;
     theirs = theirs-taken S H h i l w ls is start up out;
-    flows = λ c b t. flow-none b t (new c) (says-all (λ x. flow_of b t x ≡ []) c (λ _ _. flow-plain b t (report_letter D (S.sites i) w c) refl));
-    ends = λ c b t. ends-none b t (new c) (says-all (λ x. end_of b t x ≡ []) c (λ _ _. ends-plain b t (report_letter D (S.sites i) w c) refl));
+    flows = λ c b t. flat-none (flow_of b t) (new c) (says-all (λ x. flow_of b t x ≡ []) c (λ _ _. if-empty _ _ refl));
+    ends = λ c b t. flat-none (end_of b t) (new c) (says-all (λ x. end_of b t x ≡ []) c (λ _ _. if-empty _ _ refl));
     agreed = λ g k. refl;
     tells = tells-taken S H h i l w ls is start up out says.agents;
     views = λ c other. popped-other S H h i l w ls is start up c other _;
@@ -246,9 +213,6 @@ module _ (S : LogState) (H : LogsHold S) (h i : ℕ) (l : Letter) (w : Membershi
   reach-there : (p t : ℕ) → (p ≡ part S i → t ≡ term_of w → ⊥) → rc p t ≡ S.logs.reach p t
   reach-there p t n = put-there S.logs.reach (part S i) (term_of w) (max (S.logs.reach (part S i) (term_of w)) (known (entering (S.sites i)))) p t n
 
-  entered-there : (c t : ℕ) → (c ≡ i → t ≡ term_of w → ⊥) → en c t ≡ S.logs.entered c t
-  entered-there c t n = put-there S.logs.entered i (term_of w) (Some (entering (S.sites i))) c t n
-
   own-entered : EnteredOk T i (term_of w) (entering (S.sites i))
   own-entered = record {
     slot = slot;
@@ -262,7 +226,7 @@ module _ (S : LogState) (H : LogsHold S) (h i : ℕ) (l : Letter) (w : Membershi
         let b = behind S H i v w up view decided member above u (record { leadership = l.leadership; led = l.led; below = l.below; greatest = l.greatest }) in
         (b.0, (let a = later.reach (part S i) u in let n = b.1 in omega (arith, a, n)));
     still = λ u f below then same none. still S H i v w up view decided member above u f below
-        (sym (entered-there i u (λ _ e. let a = below in absurd (omega (arith, a, e)))) ∙ then) same none;
+        (sym (put-there S.logs.entered i (term_of w) (Some (entering (S.sites i))) i u (λ _ e. let a = below in absurd (omega (arith, a, e)))) ∙ then) same none;
     running = λ _. (
       ap (λ z. z.joining) here,
       subst (λ z. term_of w ≤ site_term z) (sym here) (omega arith),
@@ -277,10 +241,7 @@ module _ (S : LogState) (H : LogsHold S) (h i : ℕ) (l : Letter) (w : Membershi
   reach-kept : (c u : ℕ) (e : Entered) → (c ≡ i → u ≡ term_of w → ⊥) → S.logs.entered c u ≡ Some e → site_start T c ≡ e.start → rc (part S c) u ≤ length (log_at T c)
   reach-kept c u e n m runs = elim (cases_eq (part S c) (part S i)) [
     | inr d ↦ plain (λ q _. d q)
-    | inl q ↦ elim (cases_eq u (term_of w)) [
-      | inr d ↦ plain (λ _ r. d r)
-      | inl r ↦ raised q r
-    ]
+    | inl q ↦ elim (cases_eq u (term_of w)) [ inr d ↦ plain (λ _ r. d r) | inl r ↦ raised q r ]
   ]
     where
       k : EnteredOk S c u e
@@ -324,10 +285,7 @@ module _ (S : LogState) (H : LogsHold S) (h i : ℕ) (l : Letter) (w : Membershi
           | inr more ↦ inr (c, e, part-is, later.entered c (term_of w) e at, omega (arith, more, reach))
         ]
       ])
-      (λ q x _ m. elim (H.unled q x m) [
-        | inl z ↦ inl z
-        | inr (c, e, part-is, at, reach) ↦ inr (c, e, part-is, later.entered c x e at, reach)
-      ])
+      (λ q x _ m. elim (H.unled q x m) [ inl z ↦ inl z | inr (c, e, part-is, at, reach) ↦ inr (c, e, part-is, later.entered c x e at, reach) ])
 
   -- its report is one that may be under way
   report-ok : (c : ℕ) → leader D w (part S i) ≡ Some c → (c ≡ i → ⊥) → SiteLetterOk T i c (report_letter D (S.sites i) w c)
@@ -366,6 +324,6 @@ module _ (S : LogState) (H : LogsHold S) (h i : ℕ) (l : Letter) (w : Membershi
     plain = λ c. says-all NoStreamStart c (λ _ _. tt);
     holds = enters-holds;
     grown = grown-reach D i s S.logs G refl later.reach;
-    enters = enters-later S T i later;
+    enters = record { kept = later.entered; now = λ t e is. elim (later.entered_now i t e is) [ inl old ↦ inl old | inr new ↦ inr new.log ] };
     longer = omega arith;
   }

@@ -1,33 +1,10 @@
 -- A joiner takes its word, which doesn't count it: it asks its partition's leader to join.
-use Rattle.std.proofs.Common.{◌≡◌, ◌<◌, Bool, true, false, List, [], ◌∷◌, ◌++◌, append-nil, refl, sym, subst, ap, ◌∙◌, ◌⊎◌, inl, inr, ◌==◌, arith}
-use Rattle.std.proofs.lemmas.Bool.{cases_eq, eqb-true, eqb-false}
-use Rattle.std.specs.Prelude.{ℕ, ◌≤◌, filter, if◌then◌else◌, Option, Some, None, length}
-use Rattle.std.specs.List.{AllByRecursion}
-use Rattle.volt_wire.specs.Word.{Membership}
-use Rattle.volt_wire.specs.declared.actor.Actor.{Actor}
-use Rattle.volt_wire.specs.declared.actor.Actor.TheVariants.{Agent, Site}
+use Rattle.log_laws.proofs.Names.{◌≡◌, ◌<◌, Bool, true, false, List, [], ◌∷◌, ◌++◌, append-nil, refl, sym, subst, ap, ◌∙◌, ◌⊎◌, inl, inr, ◌==◌, arith, cases_eq, eqb-true, eqb-false, ℕ, ◌≤◌, filter, if◌then◌else◌, Option, Some, None, length, AllByRecursion, Membership, Actor, Agent, Site, Deployment, term_of, term_in, leader, same, Letter, Sends, Waiting, letter_in, sending, SiteState, Joining, Joiner, site_term, start_in_view, in_new_term, asks_to_join, sent, In, none-and-some, same-some, not-both, all-at, all-filter, in-cases, in-none, in-map-from, in-filter, only-one, set-here, set-there, set-both, same-true, leader-view, flat_map-append, cond_both, LogState, LogsHold, IsSlot, Inert, Untaken, Wordless, InWord, StreamIn, JoinerOk, SiteOk, ViewIn, SiteLetterOk, SiteWaitingFrom, SiteWaitingOk, AsksToJoin, HeldOk, CountedOk, ForeignOk, line_of, flow_of, end_of, part, site_start, term_at, between, line, flow, stream_ends_in, ask_in, ask_of, asks_in, wait_of, asks_waiting, asks_kept, asks_of_term, asked, follows, log_at}
 use Rattle.volt_wire.specs.declared.message.Msg.TheVariants as msg
-use Rattle.cluster_model.specs.Words.{Deployment, term_of, term_in, leader}
-use Rattle.cluster_model.specs.Letters.{same, Letter, Sends, Waiting, letter_in, sending}
-use Rattle.cluster_model.specs.SiteState.{SiteState, Joining, Joiner, site_term, start_in_view}
-use Rattle.cluster_model.specs.Site.{in_new_term, asks_to_join}
-use Rattle.cluster_model.specs.World.{sent}
-use Rattle.cluster_steps.specs.Lists.{In}
-use Rattle.cluster_steps.proofs.Lists.{none-and-some, same-some, not-both, all-at, all-filter, in-cases, in-none, in-map-from, in-filter, only-one, set-here, set-there, set-both}
-use Rattle.word_laws.proofs.Steps.{same-true}
-use Rattle.log_laws.specs.Histories.{LogState, LogsHold, IsSlot, Inert, Untaken, Wordless, InWord, StreamIn, JoinerOk, SiteOk, ViewIn, SiteLetterOk, SiteWaitingFrom, SiteWaitingOk, AsksToJoin, HeldOk, CountedOk, ForeignOk, line_of, flow_of, end_of, part, site_start, term_at, between, line, flow, stream_ends_in, ask_in, ask_of, asks_in, wait_of, asks_waiting, asks_kept, asks_of_term, asked, follows, log_at}
-use Rattle.log_laws.proofs.Kept.Moves.{after_site, site_popped, LogsLater, Turns, NoStreamStart}
-use Rattle.log_laws.proofs.Kept.Grown.{grown-same, enters-same}
-use Rattle.log_laws.proofs.Kept.Laters.{ask-later, stays, entered-later, same-leaderships, leaderships-later, unleds-later}
-use Rattle.log_laws.proofs.Plain.Lines.{flat-in, line-none, line-same, line-plain, flow-none, flow-same, flow-plain, ends-none, ends-same, ends-plain, asks-append, asks-here, if-none}
-use Rattle.log_laws.proofs.Kept.Asked.{AtMost, at-most-both, at-most-same, at-most-none}
-use Rattle.log_laws.proofs.Plain.Copies.{follows-leader, leader-follows, leader-copy, start-in-view}
-use Rattle.cluster_steps.proofs.Leaders.{leader-view}
-use Rattle.log_laws.proofs.Kept.Terms.{running-slot, took-decided, some-term, some-start}
-use Rattle.log_laws.proofs.Kept.Keeps.{still-same, member-keeps}
+use Rattle.log_laws.proofs.Kept.{after_site, site_popped, LogsLater, Turns, NoStreamStart, grown-same, enters-same, ask-later, same-leaderships, leaderships-later, unleds-later, AtMost, at-most-same, at-most-none, running-slot, took-decided, some-term, some-start, still-same, member-keeps, words-after, words-popped, site_turned, turned-later, turned-holds, fresh-keeps, said-same, entereds-later, asked_of, asks-moved, keeps-less}
+use Rattle.log_laws.proofs.Kept.Turned.{Turned}
+use Rattle.log_laws.proofs.Plain.{flat-in, asks-here, if-none, follows-leader, leader-follows, leader-copy, start-in-view, flat-none, flat-same, if-empty, none-or-some}
 use Rattle.log_laws.proofs.NewTerms.Entering.{running-ran}
-use Rattle.log_laws.proofs.Kept.Plumbing.{words-after, words-popped}
-use Rattle.log_laws.proofs.Kept.Turned.{site_turned, turned-later, Turned, turned-holds, fresh-keeps, said-same}
 use Rattle.log_laws.proofs.NewTerms.Taking.{no-line, no-flow, no-end, first-word, popped-other, mine-taken, theirs-taken, tells-taken, foreign-taken, views-taken}
 
 -- ---- who asks, wherever it is known
@@ -38,15 +15,12 @@ module _ (S : LogState) (H : LogsHold S) (a c t x : ℕ) (slot : IsSlot S c) whe
   asked-by l k is = elim l.body as (λ m. SiteLetterOk S a c (record l { body = m }) → In x (if l.term == t then ask_in m else []) → AsksToJoin S (part S c) a t x) [
     | msg.JoinAsk y slot-of ↦ λ p q. let o = only-one (l.term == t) y x q in
         subst (AsksToJoin S (part S c) a t) o.1 (subst (λ z. AsksToJoin S (part S c) a z y) (eqb-true l.term t o.0) p.2)
-    | m ↦ λ p q. absurd (none (l.term == t) q)
+    | m ↦ λ p q. absurd (cond_both (l.term == t) _ _ (λ z. In x z → ⊥) (λ _ q. q) (λ _ q. q) q)
   ] k is
-    where
-      none : (b : Bool) → In x (if b then [] else []) → ⊥
-      none true q = q
-      none false q = q
 
   waited-by : (y : Waiting) → SiteWaitingOk S c y → In x (wait_of a t y) → AsksToJoin S (part S c) a t x
-  waited-by y k is = choice (same y.from (Site a)) refl is
+  waited-by y k is = cond_both (same y.from (Site a)) _ _ (λ z. In x z → AsksToJoin S (part S c) a t x)
+      (λ e q. site (subst (λ z. SiteWaitingFrom S c z y.letter) (same-true y.from (Site a) e) k.1) q) (λ e q. absurd q) is
     where
       site : SiteWaitingFrom S c (Site a) y.letter → In x (ask_of t y.letter) → AsksToJoin S (part S c) a t x
       site p q = elim y.letter.body as (λ m. (SiteLetterOk S a c (record y.letter { body = m }) → In x (ask_of t (record y.letter { body = m })) → AsksToJoin S (part S c) a t x)
@@ -58,10 +32,6 @@ module _ (S : LogState) (H : LogsHold S) (a c t x : ℕ) (slot : IsSlot S c) whe
             | msg.StreamEnd count ↦ λ _ p. absurd p
             | m ↦ λ f. f
           ] (asked-by y.letter) p q
-
-      choice : (b : Bool) → same y.from (Site a) ≡ b → In x (if b then ask_of t y.letter else []) → AsksToJoin S (part S c) a t x
-      choice true e q = site (subst (λ z. SiteWaitingFrom S c z y.letter) (same-true y.from (Site a) e) k.1) q
-      choice false e q = absurd q
 
   -- all that was asked and not answered is so
   pub asked-ok : In x (asked S a c t) → AsksToJoin S (part S c) a t x
@@ -122,18 +92,11 @@ module _ (i : ℕ) (D : Deployment) (s : SiteState) where
 
   pub asks-agents : (o : Option ℕ) (g : ℕ) → asks_to_join i D s o (Agent g) ≡ []
   asks-agents None g = refl
-  asks-agents (Some l) g = choice (l == i)
-    where
-      choice : (b : Bool) → ◌≡◌ {A = List Letter} (if b then [] else []) []
-      choice true = refl
-      choice false = refl
+  asks-agents (Some l) g = cond_both (l == i) _ _ (λ z. ◌≡◌ {A = List Letter} z []) (λ _. refl) (λ _. refl)
 
   -- of whatever holds of that message
   pub asks-all : (P : Letter → Type 0) (o : Option ℕ) (c : ℕ) → (o ≡ Some c → (c ≡ i → ⊥) → P (ask_letter c)) → AllByRecursion P (asks_to_join i D s o (Site c))
-  asks-all P o c f = elim (asks-cases o c) [
-    | inl k ↦ subst (AllByRecursion P) (sym k.2) (f k.0 k.1, tt)
-    | inr k ↦ subst (AllByRecursion P) (sym k.1) tt
-  ]
+  asks-all P o c f = elim (asks-cases o c) [ inl k ↦ subst (AllByRecursion P) (sym k.2) (f k.0 k.1, tt) | inr k ↦ subst (AllByRecursion P) (sym k.1) tt ]
 
 -- ---- a joiner without a word takes the first one
 
@@ -179,11 +142,7 @@ module _ (S : LogState) (H : LogsHold S) (h i : ℕ) (l : Letter) (w : Membershi
   above = let a = some-term S H w decided in let b = no-term in omega (arith, a, b)
 
   joined : (j : Joining) × ((S.sites i).joining ≡ Some j)
-  joined = go (S.sites i).joining refl
-    where
-      go : (o : Option Joining) → (S.sites i).joining ≡ o → (j : Joining) × ((S.sites i).joining ≡ Some j)
-      go None e = absurd (none-and-some none ((H.sites i).member up e).1)
-      go (Some j) e = (j, e)
+  joined = elim (none-or-some (S.sites i).joining) [ inl e ↦ absurd (none-and-some none ((H.sites i).member up e).1) | inr (j, e) ↦ (j, e) ]
 
   ok : JoinerOk S i joined.0
   ok = (H.sites i).joiner joined.0 joined.1
@@ -203,45 +162,32 @@ module _ (S : LogState) (H : LogsHold S) (h i : ℕ) (l : Letter) (w : Membershi
 
   later : LogsLater S T
   later = turned-later S i s ch S.logs.entered S.logs.leadership S.logs.reach
-      (record {
-        start = refl;
-        earlier = refl;
-        greatest = omega arith;
-        log = omega arith;
-        term = (let a = above in omega (arith, a));
-        member = λ e. e;
-        loaded = λ k e. (k, e, λ l. l);
-      })
+      (search (arith, above))
       (λ c t e is. is) (λ c t e is. inl is) (λ p t. omega arith)
 
   -- ---- what it sent says nothing but that it asks
 
-  new-line : (c a t : ℕ) → line a t (new c) ≡ []
-  new-line c a t = line-none a t (new c) (asks-all i D s (λ x. line_of a t x ≡ []) (leader D w (part S i)) c (λ _ _. line-plain a t (ask_letter i D s c) refl))
-
   new-flow : (c a t : ℕ) → flow a t (new c) ≡ []
-  new-flow c a t = flow-none a t (new c) (asks-all i D s (λ x. flow_of a t x ≡ []) (leader D w (part S i)) c (λ _ _. flow-plain a t (ask_letter i D s c) refl))
+  new-flow c a t = flat-none (flow_of a t) (new c) (asks-all i D s (λ x. flow_of a t x ≡ []) (leader D w (part S i)) c (λ _ _. if-empty _ _ refl))
 
   new-ends : (c a t : ℕ) → stream_ends_in a t (new c) ≡ []
-  new-ends c a t = ends-none a t (new c) (asks-all i D s (λ x. end_of a t x ≡ []) (leader D w (part S i)) c (λ _ _. ends-plain a t (ask_letter i D s c) refl))
+  new-ends c a t = flat-none (end_of a t) (new c) (asks-all i D s (λ x. end_of a t x ≡ []) (leader D w (part S i)) c (λ _ _. if-empty _ _ refl))
 
   line-there : (a c start t : ℕ) → line start t (ch (Site a) (Site c)) ≡ line start t (between S a c)
   line-there a c b t = said-same (line b t) S i ch new (mine-taken S H h i l w ls is start up out) (theirs-taken S H h i l w ls is start up out) a c
-      (line-same b t (between S i c) (new c) (new-line c b t))
+      (flat-same (line_of b t) (between S i c) (new c)
+      (flat-none (line_of b t) (new c) (asks-all i D s (λ x. line_of b t x ≡ []) (leader D w (part S i)) c (λ _ _. if-empty _ _ refl))))
 
   flow-there : (a c start t : ℕ) → flow start t (ch (Site a) (Site c)) ≡ flow start t (between S a c)
   flow-there a c b t = said-same (flow b t) S i ch new (mine-taken S H h i l w ls is start up out) (theirs-taken S H h i l w ls is start up out) a c
-      (flow-same b t (between S i c) (new c) (new-flow c b t))
+      (flat-same (flow_of b t) (between S i c) (new c) (new-flow c b t))
 
   ends-there : (a c start t : ℕ) → stream_ends_in start t (ch (Site a) (Site c)) ≡ stream_ends_in start t (between S a c)
   ends-there a c b t = said-same (stream_ends_in b t) S i ch new (mine-taken S H h i l w ls is start up out) (theirs-taken S H h i l w ls is start up out) a c
-      (ends-same b t (between S i c) (new c) (new-ends c b t))
-
-  no-asks : (c t : ℕ) → asks_of_term c t s ≡ []
-  no-asks c t = if-none (site_term s == t)
+      (flat-same (end_of b t) (between S i c) (new c) (new-ends c b t))
 
   fewer : (c t : ℕ) → AtMost (asks_of_term c t (S.sites i)) (asks_of_term c t s)
-  fewer c t = subst (AtMost (asks_of_term c t (S.sites i))) (sym (no-asks c t)) (record { shorter = omega arith; within = λ y m. absurd m })
+  fewer c t = subst (AtMost (asks_of_term c t (S.sites i))) (sym (if-none (site_term s == t))) (record { shorter = omega arith; within = λ y m. absurd m })
 
   turns : Turned S i s ch S.logs.entered S.logs.leadership S.logs.reach new
   turns = record {
@@ -276,12 +222,8 @@ module _ (S : LogState) (H : LogsHold S) (h i : ℕ) (l : Letter) (w : Membershi
 
   -- nobody was asked but its leader
   asked-less : (c t : ℕ) → new c ≡ [] → AtMost (asked S i c t) (asked T i c t)
-  asked-less c t e = set-both (λ c z. new c ≡ [] → AtMost (asked S i c t)
-      (asks_in t (ch (Site i) (Site c)) ++ asks_waiting i t z.waiting ++ asks_waiting i t (S.pending c) ++ asks_of_term i t z)) S.sites i s
-      (λ e. rw (channel i e) (at-most-both (asks_in t (between S i i) ++ asks_waiting i t (S.sites i).waiting ++ asks_waiting i t (S.pending i))
-      (asks_in t (between S i i) ++ asks_waiting i t (S.sites i).waiting ++ asks_waiting i t (S.pending i))
-      (asks_of_term i t (S.sites i)) (asks_of_term i t s)
-      (at-most-same (asks_in t (between S i i) ++ asks_waiting i t (S.sites i).waiting ++ asks_waiting i t (S.pending i))) (fewer i t)))
+  asked-less c t e = set-both (λ c z. new c ≡ [] → AtMost (asked S i c t) (asked_of i t (ch (Site i) (Site c)) z (S.pending c))) S.sites i s
+      (λ e. rw (channel i e) (keeps-less i t (between S i i) (S.sites i) s (S.pending i) refl (fewer i t)))
       (λ c _ e. rw (channel c e) (at-most-same (asked S i c t))) c e
     where
       channel : (c : ℕ) → new c ≡ [] → ch (Site i) (Site c) ≡ between S i c
@@ -293,15 +235,12 @@ module _ (S : LogState) (H : LogsHold S) (h i : ℕ) (l : Letter) (w : Membershi
   -- the leader was asked once
   asked-once : (c : ℕ) → leader D w (part S i) ≡ Some c → (c ≡ i → ⊥) → IsSlot S c → (S.sites i).earlier < term_of w → asked T i c (term_of w) ≡ site_start S i ∷ []
   asked-once c authoritative other sl low =
-      ap (λ z. asks_in t (ch (Site i) (Site c)) ++ asks_waiting i t z.waiting ++ asks_waiting i t (S.pending c) ++ asks_of_term i t z) (there c other)
-      ∙ ap (λ z. asks_in t z ++ asks_waiting i t (S.sites c).waiting ++ asks_waiting i t (S.pending c) ++ asks_of_term i t (S.sites c)) channel
+      let t = term_of w in
+      asks-moved i t (between S i c ++ ask_letter i D s c ∷ []) (ch (Site i) (Site c)) (S.sites c) (T.sites c) (S.pending c) channel (there c other)
       ∙ ap (λ z. z ++ asks_waiting i t (S.sites c).waiting ++ asks_waiting i t (S.pending c) ++ asks_of_term i t (S.sites c))
-      (asks-append t (between S i c) (ask_letter i D s c ∷ []) ∙ ap (λ z. asks_in t (between S i c) ++ (z ++ [])) (asks-here t (ask_letter i D s c) refl))
+      (flat_map-append (ask_of t) (between S i c) (ask_letter i D s c ∷ []) ∙ ap (λ z. asks_in t (between S i c) ++ (z ++ [])) (asks-here t (ask_letter i D s c) refl))
       ∙ empties (asks_in t (between S i c)) (asks_waiting i t (S.sites c).waiting) (asks_waiting i t (S.pending c)) (asks_of_term i t (S.sites c)) (none-asked c t sl low)
     where
-      t : ℕ
-      t = term_of w
-
       channel : ch (Site i) (Site c) ≡ between S i c ++ ask_letter i D s c ∷ []
       channel = mine-taken S H h i l w ls is start up out c ∙ ap (λ z. between S i c ++ z) (elim (asks-cases i D s (leader D w (part S i)) c) [
         | inl k ↦ k.2
@@ -317,17 +256,11 @@ module _ (S : LogState) (H : LogsHold S) (h i : ℕ) (l : Letter) (w : Membershi
 
   -- where it isn't the leader, it isn't told
   new-none : (c : ℕ) → follows D w i c ≡ false → new c ≡ []
-  new-none c f = elim (asks-cases i D s (leader D w (part S i)) c) [
-    | inl k ↦ absurd (not-both (follows D w i c) (leader-follows D w i c k.0 k.1) f)
-    | inr k ↦ k.1
-  ]
+  new-none c f = elim (asks-cases i D s (leader D w (part S i)) c) [ inl k ↦ absurd (not-both (follows D w i c) (leader-follows D w i c k.0 k.1) f) | inr k ↦ k.1 ]
 
   -- no leader counts it
   uncounted : (c : ℕ) (j : Joiner) → In j (S.sites c).joiners → j.slot ≡ i → j.start ≡ site_start S i → ⊥
-  uncounted c j m q r = elim (cases_eq (site_start S c) 0) [
-    | inl z ↦ subst (In j) ((H.sites c).stopped z).2 m
-    | inr n ↦ counts (omega (arith, n))
-  ]
+  uncounted c j m q r = elim (cases_eq (site_start S c) 0) [ inl z ↦ subst (In j) ((H.sites c).stopped z).2 m | inr n ↦ counts (omega (arith, n)) ]
     where
       counts : 0 < site_start S c → ⊥
       counts runs = let k = (H.sites c).keeps runs in elim k.leads [
@@ -422,9 +355,7 @@ module _ (S : LogState) (H : LogsHold S) (h i : ℕ) (l : Letter) (w : Membershi
       own-site
       (views-taken S H h i l w ls is start up out s S.logs later refl refl refl)
       (λ c sl. asks-all i D s (SiteLetterOk T i c) (leader D w (part S i)) c (λ authoritative _. asks-ok c authoritative))
-      (λ c t e m. entered-later S T H later c t e (H.entered c t e m) (same-leaderships S.logs T.logs refl) (λ runs.
-      let k = H.entered c t e m in let y = stays S T H later c e.start k.been.some k.been.ran runs in
-      let r = (k.running (sym y.start ∙ runs)).2 in let b = y.log in omega (arith, r, b)) (H.entered c t e m).since)
+      (entereds-later S T H later (same-leaderships S.logs T.logs refl) (λ p t. refl))
       (λ c t x m. (H.streamed c t x m).apart)
       (leaderships-later S T H later (same-leaderships S.logs T.logs refl) (λ p t g is. (H.leaderships p t g is).within))
       (λ p t m. unleds-later S T H later (same-leaderships S.logs T.logs refl) p t refl m)

@@ -1,13 +1,6 @@
 -- What was everywhere in a term that was led is in each log with which a slot entered a later one.
-use Rattle.std.proofs.Common.{◌≡◌, ◌+◌, ◌<◌, ◌≤◌, zero, suc, length, refl, sym, subst, ap, ◌∙◌, ◌⊎◌, inl, inr, arith}
-use Rattle.std.proofs.lemmas.Bool.{cases_eq}
-use Rattle.std.specs.Prelude.{ℕ, Some, None}
-use Rattle.volt_wire.specs.Word.{Membership}
-use Rattle.cluster_model.specs.Words.{term_of, start_of_slot}
-use Rattle.cluster_steps.specs.Lists.{In}
-use Rattle.cluster_steps.proofs.Lists.{none-and-some, same-some}
-use Rattle.log_laws.specs.Histories.{LogState, LogsHold, Entered, Streaming, Leadership, WordOf, WasIn, Last, Came, LeadershipOk, IsSlot, epoch_base, part, site_start, log_at}
-use Rattle.log_laws.proofs.Kept.Terms.{base-least, named-first, member-or-joined, running-in, last-below}
+use Rattle.log_laws.proofs.Names.{◌≡◌, ◌+◌, ◌<◌, ◌≤◌, zero, suc, length, refl, sym, subst, ap, ◌∙◌, ◌⊎◌, inl, inr, arith, cases_eq, ℕ, Some, None, Membership, term_of, start_of_slot, In, none-and-some, same-some, LogState, LogsHold, Entered, Streaming, Leadership, WordOf, WasIn, Last, Came, LeadershipOk, IsSlot, epoch_base, part, site_start, log_at}
+use Rattle.log_laws.proofs.Kept.{base-least, named-first, member-or-joined, running-in, last-below}
 
 module _ (S : LogState) (H : LogsHold S) where
   -- A member was in an earlier term that was led, or it took the stream of a term in between.
@@ -33,10 +26,7 @@ module _ (S : LogState) (H : LogsHold S) where
             let h = H.streamed c u x e in
             let same : h.word ≡ y = same-some (sym h.took ∙ ap S.words.history.took q ∙ took) in
             let low : v ≤ u = omega (arith, after, k.is_word.term_is, h.term_is, ap term_of same) in
-            elim (cases_eq u v) [
-              | inl at ↦ inl (inr (x, subst (λ z. S.logs.streamed c z ≡ Some x) at e, q))
-              | inr n ↦ inr (u, x, e, q, omega (arith, low, n), b)
-            ]
+            elim (cases_eq u v) [ inl at ↦ inl (inr (x, subst (λ z. S.logs.streamed c z ≡ Some x) at e, q)) | inr n ↦ inr (u, x, e, q, omega (arith, low, n), b) ]
       ]
 
   -- what isn't above the logs with which slots entered the term of a stream isn't above the position at which that began

@@ -1,26 +1,8 @@
 -- A site takes the first word that is under way to it: its channels after that, and what is left of its words.
-use Rattle.std.proofs.Common.{◌≡◌, ◌+◌, ◌<◌, Bool, true, false, List, [], ◌∷◌, ◌++◌, append-nil, refl, sym, subst, ap, ◌∙◌, inl, inr, ◌==◌, arith}
-use Rattle.std.proofs.lemmas.Bool.{cases_eq}
-use Rattle.std.proofs.lemmas.Bool.Decides.{nat_tests}
-use Rattle.std.specs.Prelude.{ℕ, ◌≤◌, ◌&&◌, if◌then◌else◌, Option, Some, None}
-use Rattle.std.specs.List.{AllByRecursion}
-use Rattle.volt_wire.specs.Word.{Membership}
-use Rattle.volt_wire.specs.declared.actor.Actor.{Actor}
-use Rattle.volt_wire.specs.declared.actor.Actor.TheVariants.{Director, Client, Agent, Site, Scanner}
+use Rattle.log_laws.proofs.Names.{◌≡◌, ◌+◌, ◌<◌, false, List, [], ◌∷◌, ◌++◌, append-nil, refl, sym, subst, ap, ◌∙◌, inl, inr, ◌==◌, arith, nat_tests, ℕ, ◌≤◌, ◌&&◌, Option, Some, None, AllByRecursion, Membership, Actor, Agent, Site, term_of, term_in, host_of_slot, start_of_slot, Letter, Sends, AgentState, SiteState, sent, rest, starts_in, In, if-true, if-false, and-false, all-at, all-from, all-append, all-mono, eqb-same, set-here, took-all, cond_both, PlainView, LogState, Logs, LogsHold, ViewsOk, MemberViews, FirstViews, RunViews, Starting, ForeignOk, site_start, term_at, agent_to_site, between, views, IsSlot, MeantFor, SiteLetterOk, is_for, line_of, flow_of, end_of, line, flow, stream_ends_in, sent_term, end_in, flow_in, line_in}
 use Rattle.volt_wire.specs.declared.message.Msg.TheVariants as msg
-use Rattle.cluster_model.specs.Words.{term_of, term_in, host_of_slot, start_of_slot}
-use Rattle.cluster_model.specs.Letters.{Letter, Sends}
-use Rattle.cluster_model.specs.AgentState.{AgentState}
-use Rattle.cluster_model.specs.SiteState.{SiteState}
-use Rattle.cluster_model.specs.World.{sent, rest}
-use Rattle.cluster_model.specs.Laws.{starts_in}
-use Rattle.cluster_steps.specs.Lists.{In}
-use Rattle.cluster_steps.proofs.Lists.{if-true, if-false, and-false, all-at, all-from, all-append, all-mono, eqb-same, set-here}
-use Rattle.cluster_steps.proofs.Channels.{took-all}
-use Rattle.log_laws.specs.Histories.{PlainView, LogState, Logs, LogsHold, ViewsOk, MemberViews, FirstViews, RunViews, Starting, ForeignOk, site_start, term_at, agent_to_site, between, views, IsSlot, MeantFor, SiteLetterOk, is_for, line_of, flow_of, end_of, line, flow, stream_ends_in, sent_term}
-use Rattle.log_laws.proofs.Kept.Moves.{after_site, site_popped, LogsLater}
-use Rattle.log_laws.proofs.Plain.Lines.{views-here, line-other, flow-other, ends-other, line-none, flow-none, ends-none, if-none}
-use Rattle.log_laws.proofs.Kept.KeepsViews.{LeavesViews, leaves-first, member_views-later, first_views-later}
+use Rattle.log_laws.proofs.Kept.{after_site, site_popped, LogsLater, LeavesViews, leaves-first, member_views-later, first_views-later}
+use Rattle.log_laws.proofs.Plain.{views-here, if-none, flat-none, for-other, one-and-others}
 
 -- ---- nothing is under way to a site in a term that is above its own
 
@@ -30,32 +12,32 @@ module _ (S : LogState) (H : LogsHold S) (c t : ℕ) (slot : IsSlot S c) (above 
 
   line-high : (a : ℕ) (l : Letter) → SiteLetterOk S a c l → line_of (site_start S c) t l ≡ []
   line-high a l k = elim l.body as (λ m. SiteLetterOk S a c (record l { body = m }) → line_of (site_start S c) t (record l { body = m }) ≡ []) [
-    | msg.Put position e floor ↦ λ p. line-other (site_start S c) t (record l { body = msg.Put position e floor }) (too-high (record l { body = msg.Put position e floor }) p.0)
-    | msg.Repair from entries ↦ λ p. line-other (site_start S c) t (record l { body = msg.Repair from entries }) (too-high (record l { body = msg.Repair from entries }) p)
+    | msg.Put position e floor ↦ λ p. for-other (site_start S c) t (record l { body = msg.Put position e floor }) (line_in (record l { body = msg.Put position e floor }).body) (too-high (record l { body = msg.Put position e floor }) p.0)
+    | msg.Repair from entries ↦ λ p. for-other (site_start S c) t (record l { body = msg.Repair from entries }) (line_in (record l { body = msg.Repair from entries }).body) (too-high (record l { body = msg.Repair from entries }) p)
     | m ↦ λ _. if-none (is_for (site_start S c) t l)
   ] k
 
   flow-high : (a : ℕ) (l : Letter) → SiteLetterOk S a c l → flow_of (site_start S c) t l ≡ []
   flow-high a l k = elim l.body as (λ m. SiteLetterOk S a c (record l { body = m }) → flow_of (site_start S c) t (record l { body = m }) ≡ []) [
-    | msg.Task position e ↦ λ p. flow-other (site_start S c) t (record l { body = msg.Task position e }) (too-high (record l { body = msg.Task position e }) p)
-    | msg.StreamStart head ↦ λ p. flow-other (site_start S c) t (record l { body = msg.StreamStart head }) (too-high (record l { body = msg.StreamStart head }) p)
+    | msg.Task position e ↦ λ p. for-other (site_start S c) t (record l { body = msg.Task position e }) (flow_in (record l { body = msg.Task position e }).past (record l { body = msg.Task position e }).body) (too-high (record l { body = msg.Task position e }) p)
+    | msg.StreamStart head ↦ λ p. for-other (site_start S c) t (record l { body = msg.StreamStart head }) (flow_in (record l { body = msg.StreamStart head }).past (record l { body = msg.StreamStart head }).body) (too-high (record l { body = msg.StreamStart head }) p)
     | m ↦ λ _. if-none (is_for (site_start S c) t l)
   ] k
 
   end-high : (a : ℕ) (l : Letter) → SiteLetterOk S a c l → end_of (site_start S c) t l ≡ []
   end-high a l k = elim l.body as (λ m. SiteLetterOk S a c (record l { body = m }) → end_of (site_start S c) t (record l { body = m }) ≡ []) [
-    | msg.StreamEnd count ↦ λ p. ends-other (site_start S c) t (record l { body = msg.StreamEnd count }) (too-high (record l { body = msg.StreamEnd count }) p.0)
+    | msg.StreamEnd count ↦ λ p. for-other (site_start S c) t (record l { body = msg.StreamEnd count }) (end_in (record l { body = msg.StreamEnd count }).body) (too-high (record l { body = msg.StreamEnd count }) p.0)
     | m ↦ λ _. if-none (is_for (site_start S c) t l)
   ] k
 
   pub no-line : (a : ℕ) → line (site_start S c) t (between S a c) ≡ []
-  no-line a = line-none (site_start S c) t (between S a c) (all-mono (SiteLetterOk S a c) (λ l. line_of (site_start S c) t l ≡ []) (line-high a) (between S a c) (H.letters a c slot))
+  no-line a = flat-none (line_of (site_start S c) t) (between S a c) (all-mono (SiteLetterOk S a c) (λ l. line_of (site_start S c) t l ≡ []) (line-high a) (between S a c) (H.letters a c slot))
 
   pub no-flow : (a : ℕ) → flow (site_start S c) t (between S a c) ≡ []
-  no-flow a = flow-none (site_start S c) t (between S a c) (all-mono (SiteLetterOk S a c) (λ l. flow_of (site_start S c) t l ≡ []) (flow-high a) (between S a c) (H.letters a c slot))
+  no-flow a = flat-none (flow_of (site_start S c) t) (between S a c) (all-mono (SiteLetterOk S a c) (λ l. flow_of (site_start S c) t l ≡ []) (flow-high a) (between S a c) (H.letters a c slot))
 
   pub no-end : (a : ℕ) → stream_ends_in (site_start S c) t (between S a c) ≡ []
-  no-end a = ends-none (site_start S c) t (between S a c) (all-mono (SiteLetterOk S a c) (λ l. end_of (site_start S c) t l ≡ []) (end-high a) (between S a c) (H.letters a c slot))
+  no-end a = flat-none (end_of (site_start S c) t) (between S a c) (all-mono (SiteLetterOk S a c) (λ l. end_of (site_start S c) t l ≡ []) (end-high a) (between S a c) (H.letters a c slot))
 
 -- ---- the word that is taken
 
@@ -123,23 +105,14 @@ module _ (S : LogState) (H : LogsHold S) (h i : ℕ) (l : Letter) (w : Membershi
         if-false (i == a) ((site_popped S (Agent h) i).words.channel (Site a) (Site c) ++ out (Site c)) ((site_popped S (Agent h) i).words.channel (Site a) (Site c)) e ∙ popped-sites a c
 
     pub tells-taken : ((g : ℕ) → out (Agent g) ≡ []) → (c g : ℕ) → ch (Site c) (Agent g) ≡ S.words.channel (Site c) (Agent g)
-    tells-taken inert c g = choice (i == c)
-      where
-        choice : (b : Bool) → (if b then S.words.channel (Site c) (Agent g) ++ out (Agent g) else S.words.channel (Site c) (Agent g)) ≡ S.words.channel (Site c) (Agent g)
-        choice true = rw (inert g) (append-nil (S.words.channel (Site c) (Agent g)))
-        choice false = refl
+    tells-taken inert c g = cond_both (i == c) _ _ (λ z. z ≡ S.words.channel (Site c) (Agent g))
+        (λ _. rw (inert g) (append-nil (S.words.channel (Site c) (Agent g)))) (λ _. refl)
 
     pub foreign-taken : ((c : ℕ) → AllByRecursion (ForeignOk S c (Site i)) (out (Site c))) → (from : Actor) (c : ℕ) → AllByRecursion (ForeignOk S c from) (ch from (Site c))
-    foreign-taken new (Site a) c = elim (cases_eq a i) [
-      | inl e ↦ subst (λ z. AllByRecursion (ForeignOk S c (Site z)) (ch (Site z) (Site c))) (sym e)
-          (subst (AllByRecursion (ForeignOk S c (Site i))) (sym (mine-taken c))
-          (all-append (ForeignOk S c (Site i)) (between S i c) (out (Site c)) (H.foreign (Site i) c) (new c)))
-      | inr n ↦ subst (AllByRecursion (ForeignOk S c (Site a))) (sym (theirs-taken a c n)) (H.foreign (Site a) c)
-    ]
-    foreign-taken new (Agent g) c = popped-foreign (Agent g) c
-    foreign-taken new Director c = popped-foreign Director c
-    foreign-taken new (Client n) c = popped-foreign (Client n) c
-    foreign-taken new (Scanner a) c = popped-foreign (Scanner a) c
+    foreign-taken new (Site a) c = one-and-others (λ a. AllByRecursion (ForeignOk S c (Site a)) (ch (Site a) (Site c))) i
+        (rw (mine-taken c) (all-append (ForeignOk S c (Site i)) (between S i c) (out (Site c)) (H.foreign (Site i) c) (new c)))
+        (λ a n. rw (theirs-taken a c n) (H.foreign (Site a) c)) a
+    foreign-taken new from c = popped-foreign from c
 
     -- ---- its words, once it has this one
 

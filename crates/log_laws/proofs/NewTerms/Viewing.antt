@@ -1,23 +1,8 @@
 -- The turn of a site that takes a word.
-use Rattle.std.proofs.Common.{◌≡◌, ◌<◌, Bool, true, false, List, [], ◌∷◌, refl, sym, subst, ap, ◌∙◌, ◌⊎◌, inl, inr, ◌==◌}
-use Rattle.std.proofs.lemmas.Bool.{cases_Bool, eqb-true, and_from, not_from_false, not_from_true}
-use Rattle.std.specs.Prelude.{ℕ, ◌&&◌, not, if◌then◌else◌, Option, Some, None}
-use Rattle.volt_wire.specs.Word.{Membership}
-use Rattle.volt_wire.specs.declared.actor.Actor.TheVariants.{Agent, Site}
+use Rattle.log_laws.proofs.Names.{◌≡◌, ◌<◌, Bool, true, false, List, [], ◌∷◌, refl, sym, subst, ap, ◌∙◌, ◌⊎◌, inl, inr, ◌==◌, cases_Bool, eqb-true, and_from, not_from_false, not_from_true, ℕ, ◌&&◌, not, if◌then◌else◌, Option, Some, None, Membership, Agent, Site, Database, Deployment, host_of_slot, leader, is_member, Letter, no_sends, becomes, SiteState, Joining, is_joiner, is_leader, as_member, reports_to, repairs, on_view, none-and-some, not-both, and-false, if-true, if-false, is_member-start, start-is_member, a-joiner, cond_both, LogState, LogsHold, part, site_start, agent_to_site}
 use Rattle.volt_wire.specs.declared.message.Msg.TheVariants as msg
-use Rattle.cluster_model.specs.Engine.{Database}
-use Rattle.cluster_model.specs.Words.{Deployment, host_of_slot, leader, is_member}
-use Rattle.cluster_model.specs.Letters.{Letter, no_sends, becomes, sending}
-use Rattle.cluster_model.specs.SiteState.{SiteState, Joining, is_joiner, is_leader}
-use Rattle.cluster_model.specs.Site.{as_member, reports_to, repairs, on_view}
-use Rattle.cluster_steps.proofs.Lists.{none-and-some, not-both, and-false, if-true, if-false}
-use Rattle.word_laws.proofs.Members.{is_member-start, start-is_member}
-use Rattle.log_laws.specs.Histories.{LogState, LogsHold, part, site_start, agent_to_site}
-use Rattle.log_laws.proofs.Kept.Moves.{site_popped, Turns, LogsGo}
-use Rattle.log_laws.proofs.Plain.Copies.{leader-is}
-use Rattle.cluster_steps.proofs.Leaders.{a-joiner}
-use Rattle.log_laws.proofs.Kept.Terms.{took-unnamed}
-use Rattle.log_laws.proofs.Kept.Plumbing.{turns-then-goes}
+use Rattle.log_laws.proofs.Kept.{site_popped, Turns, LogsGo, took-unnamed, turns-then-goes}
+use Rattle.log_laws.proofs.Plain.{leader-is, none-or-some}
 use Rattle.log_laws.proofs.NewTerms.Reports.{repairs-goes}
 use Rattle.log_laws.proofs.NewTerms.Taking.{first-word, later-word}
 use Rattle.log_laws.proofs.NewTerms.Joining.{joins-turns}
@@ -65,24 +50,23 @@ module _ (E : Database) (S : LogState) (stamp : ℕ) (H : LogsHold S) (h i : ℕ
 
   -- it enters the term, and reports, or waits for reports
   member-turns : (v : Membership) → (S.sites i).view ≡ Some v → Turns (site_popped S (Agent h) i) i (as_member E D i stamp (entered_site (S.sites i) w))
-  member-turns v view = choice (is_leader D i (entered_site (S.sites i) w)) refl
-    where
-      choice : (b : Bool) → is_leader D i (entered_site (S.sites i) w) ≡ b
-          → Turns (site_popped S (Agent h) i) i (if b then repairs E D i stamp (entered_site (S.sites i) w)
-          else sending (entered_site (S.sites i) w) (reports_to D (entered_site (S.sites i) w) (leader D w (part S i))))
-      choice true e = turns-then-goes (site_popped S (Agent h) i) i (becomes (entered_site (S.sites i) w)) (repairs E D i stamp)
-          (enters-turns S H h i l w ls is start up v view no_sends (says-nothing D i (part S i) (S.sites i) w))
-          (λ T site same _ k. subst (λ z. LogsGo T i (repairs E D i stamp z)) site (subst (λ z. LogsGo T i (repairs E z i stamp (T.sites i))) same
-          (repairs-goes E T i stamp k (subst (λ z. 0 < z) (sym (ap (λ z. z.start) site)) up)
-          (ap (λ z. is_leader z i (T.sites i)) same ∙ ap (is_leader D i) site ∙ e)
-          (ap (λ z. z.repaired) site))))
-      choice false e = enters-turns S H h i l w ls is start up v view (reports_to D (entered_site (S.sites i) w) (leader D w (part S i)))
-          (reports D i (part S i) (S.sites i) w (λ q. not-both (is_leader D i (entered_site (S.sites i) w))
-          (leader-is D i (entered_site (S.sites i) w) w refl refl q) e))
+  member-turns v view = cond_both (is_leader D i (entered_site (S.sites i) w)) _ _ (Turns (site_popped S (Agent h) i) i)
+      (λ e. turns-then-goes (site_popped S (Agent h) i) i (becomes (entered_site (S.sites i) w)) (repairs E D i stamp)
+      (enters-turns S H h i l w ls is start up v view no_sends (says-nothing D i (part S i) (S.sites i) w))
+      (λ T site same _ k. subst (λ z. LogsGo T i (repairs E D i stamp z)) site (subst (λ z. LogsGo T i (repairs E z i stamp (T.sites i))) same
+      (repairs-goes E T i stamp k (subst (λ z. 0 < z) (sym (ap (λ z. z.start) site)) up)
+      (ap (λ z. is_leader z i (T.sites i)) same ∙ ap (is_leader D i) site ∙ e)
+      (ap (λ z. z.repaired) site)))))
+      (λ e. enters-turns S H h i l w ls is start up v view (reports_to D (entered_site (S.sites i) w) (leader D w (part S i)))
+      (reports D i (part S i) (S.sites i) w (λ q. not-both (is_leader D i (entered_site (S.sites i) w))
+      (leader-is D i (entered_site (S.sites i) w) w refl refl q) e)))
 
   -- A joiner takes its first word, and asks to join. With a word, the next one counts the site: it is a member from then on.
   pub view-turns : Turns (site_popped S (Agent h) i) i (on_view E S.words.deployment i stamp (S.sites i) w)
-  view-turns = go (S.sites i).view refl
+  view-turns = elim (none-or-some (S.sites i).view) [
+    | inl e ↦ subst (Turns (site_popped S (Agent h) i) i) (sym (if-true asks _ _ (not-counted e))) (joins-turns S H h i l w ls is start up e)
+    | inr (v, e) ↦ subst (Turns (site_popped S (Agent h) i) i) (sym (if-false asks _ _ (counted v e))) (member-turns v e)
+  ]
     where
       counted : (v : Membership) → (S.sites i).view ≡ Some v → asks ≡ false
       counted v view = ap (λ b. is_joiner (S.sites i) && b) (not_from_true counts
@@ -98,10 +82,6 @@ module _ (E : Database) (S : LogState) (stamp : ℕ) (H : LogsHold S) (h i : ℕ
         | inl m ↦ absurd (took-unnamed S H (site_start S i) w i (first-word S H h i l w ls is start up none) (is_member-start w (host_of_slot D i) (site_start S i) m))
         | inr m ↦ m
       ]))
-
-      go : (o : Option Membership) → (S.sites i).view ≡ o → Turns (site_popped S (Agent h) i) i (on_view E D i stamp (S.sites i) w)
-      go None e = subst (Turns (site_popped S (Agent h) i) i) (sym (if-true asks _ _ (not-counted e))) (joins-turns S H h i l w ls is start up e)
-      go (Some v) e = subst (Turns (site_popped S (Agent h) i) i) (sym (if-false asks _ _ (counted v e))) (member-turns v e)
 
 -- from its own host's agent
 pub on_view-turns : (E : Database) (S : LogState) → LogsHold S → (i stamp : ℕ) (l : Letter) (ls : List Letter) (w : Membership)

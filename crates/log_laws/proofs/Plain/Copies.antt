@@ -1,18 +1,6 @@
 -- Copies of a partition by a word, and who leads them.
-use Rattle.std.proofs.Common.{◌≡◌, ◌+◌, ◌<◌, ◌≤◌, zero, suc, true, false, List, [], ◌∷◌, refl, sym, subst, ap, ◌∙◌, ◌⊎◌, inl, inr, ◌==◌, true≢false, arith}
-use Rattle.std.proofs.lemmas.Bool.{cases_eq, and_parts, and_from, not-true, not_from_true, not_from_false, eqb-true, eq-eqb, false_from_ne_true}
-use Rattle.std.specs.Prelude.{ℕ, ◌||◌, not, map, option_map, unwrap_or, is_some, Option, Some, None}
-use Rattle.std.specs.List.{list_any, range_with_len, cons_option}
-use Rattle.volt_wire.specs.Word.{Membership}
-use Rattle.partition_ring.specs.Placement.{slot_of, part_of, host_of, slots_of_part, start_in, standing, ordered_copies}
-use Rattle.partition_ring.proofs.LawLemmas.{same_copies}
-use Rattle.cluster_model.specs.Words.{Deployment, part_of_slot, is_in, members, start_of_slot, copies, leader, first_of, is_some_of}
-use Rattle.cluster_model.specs.SiteState.{SiteState, is_joiner, leader_in, start_in_view, copies_in, is_leader, other_copies}
-use Rattle.cluster_steps.specs.Lists.{In}
-use Rattle.cluster_steps.proofs.Lists.{eqb-same, same-some, in-filter, filter-in, list_any-in, list_any-from}
-use Rattle.word_laws.proofs.Members.{is_some_of-is, first-in}
-use Rattle.cluster_steps.proofs.Leaders.{not-joiner}
-use Rattle.log_laws.specs.Histories.{follows}
+use Rattle.log_laws.proofs.Names.{◌≡◌, ◌+◌, ◌<◌, ◌≤◌, zero, suc, true, false, List, [], ◌∷◌, refl, sym, subst, ap, ◌∙◌, ◌⊎◌, inl, inr, ◌==◌, true≢false, arith, cases_eq, and_parts, and_from, not-true, not_from_true, not_from_false, eqb-true, eq-eqb, false_from_ne_true, ℕ, ◌||◌, not, map, option_map, unwrap_or, is_some, Option, Some, None, list_any, range_with_len, cons_option, Membership, slot_of, part_of, host_of, slots_of_part, start_in, ordered_copies, same_copies, Deployment, part_of_slot, is_in, members, start_of_slot, copies, leader, first_of, is_some_of, SiteState, is_joiner, leader_in, start_in_view, copies_in, is_leader, other_copies, In, eqb-same, same-some, in-filter, filter-in, list_any-in, list_any-from, is_some_of-is, first-in, not-joiner, follows, between}
+use Rattle.partition_ring.specs.Placement.{standing}
 
 -- ---- numbers in lists
 
@@ -24,10 +12,7 @@ in-is_in x xs i = list_any-in (λ y. y == x) xs x i (eqb-same x)
 
 pub range-in : (c a n : ℕ) → a ≤ c → c < a + n → In c (range_with_len a n)
 range-in c a zero low high = absurd (omega arith)
-range-in c a (suc n) low high = elim (cases_eq a c) [
-  | inl e ↦ inl e
-  | inr d ↦ inr (range-in c (a + 1) n (omega (arith, d)) (omega arith))
-]
+range-in c a (suc n) low high = elim (cases_eq a c) [ inl e ↦ inl e | inr d ↦ inr (range-in c (a + 1) n (omega (arith, d)) (omega arith)) ]
 
 pub in-range : (c a n : ℕ) → In c (range_with_len a n) → (a ≤ c) × (c < a + n)
 in-range c a zero i = absurd i
@@ -132,10 +117,7 @@ module _ (D : Deployment) (w : Membership) where
 
   -- a slot whose host is a member leads, or follows the leader
   pub leads-or-follows : (c a : ℕ) → start_of_slot D w c ≡ Some a → (leader D w (part_of_slot D c) ≡ Some c) ⊎ ((l : ℕ) × (follows D w c l ≡ true))
-  leads-or-follows c a e = let r = some-leader c a e in elim (cases_eq r.0 c) [
-    | inl q ↦ inl (r.1 ∙ ap Some q)
-    | inr n ↦ inr (r.0, leader-follows c r.0 r.1 n)
-  ]
+  leads-or-follows c a e = let r = some-leader c a e in elim (cases_eq r.0 c) [ inl q ↦ inl (r.1 ∙ ap Some q) | inr n ↦ inr (r.0, leader-follows c r.0 r.1 n) ]
 
   -- other slots of its partition follow a leader
   pub leader-followed : (i c : ℕ) → leader D w (part_of_slot D i) ≡ Some i → part_of_slot D c ≡ part_of_slot D i → (c ≡ i → ⊥) → follows D w c i ≡ true

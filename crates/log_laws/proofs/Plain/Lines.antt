@@ -1,23 +1,18 @@
 -- What is under way: items of lists of letters, of letters in the order in which a site sends them, and of what a site sends.
-use Rattle.std.proofs.Common.{◌≡◌, Bool, true, false, List, [], ◌∷◌, ◌++◌, append-nil, refl, sym, subst, ap, ◌∙◌, inl, inr, ◌==◌, true≢false}
-use Rattle.std.proofs.lemmas.Bool.{and_parts, and_from, eqb-true, eq-eqb, false_from_ne_true}
-use Rattle.std.proofs.lemmas.List.{map-append}
-use Rattle.std.proofs.lemmas.List.Concat.{flat_map-append}
-use Rattle.std.proofs.lemmas.List.Elements.{filter-append}
-use Rattle.std.specs.Prelude.{ℕ, if◌then◌else◌, map, filter, flat_map, drop}
-use Rattle.std.specs.List.{AllByRecursion}
-use Rattle.volt_base.specs.declared.entry.Entry.{Entry}
+use Rattle.log_laws.proofs.Names.{◌≡◌, Bool, true, false, List, [], ◌∷◌, ◌++◌, append-nil, refl, sym, subst, ap, ◌∙◌, inl, inr, ◌==◌, true≢false, and_parts, and_from, eqb-true, eq-eqb, false_from_ne_true, map-append, flat_map-append, filter-append, ℕ, if◌then◌else◌, map, filter, flat_map, drop, AllByRecursion, Entry, Deployment, is_in, Letter, SiteState, Reported, Joiner, Ask, site_term, start_in_view, order_of, of_order, put_to, tasks_to, repair_to, stream_ends_to, is_sent, In, Distinct, if-true, if-false, in-left, in-right, in-cases, in-filter, all-from, all-mono, in-none, in-map, in_order, put_letter, put-all, task_letter, tasks-all, repair_letter, repair-cases, repair-all, end_letter, stream_ends-all, cases_eq, cond_both, None, Option, Some, ◌⊎◌, Line, Repairs, Puts, Flow, Begins, Follows, is_for, line_in, line_of, line, flow_in, flow_of, flow, end_in, end_of, stream_ends_in, ask_in, ask_of, asks_in, asks_kept, view_in, view_of}
 use Rattle.volt_wire.specs.declared.message.Msg.TheVariants as msg
-use Rattle.cluster_model.specs.Words.{Deployment, is_in}
-use Rattle.cluster_model.specs.Letters.{Letter, Waiting}
-use Rattle.cluster_model.specs.SiteState.{SiteState, Reported, Joiner, Ask, site_term, start_in_view}
-use Rattle.cluster_model.specs.Site.{order_of, of_order, put_to, tasks_to, repair_to, stream_ends_to, is_sent}
-use Rattle.cluster_steps.specs.Lists.{In}
-use Rattle.word_laws.specs.Histories.{Distinct}
-use Rattle.cluster_steps.proofs.Lists.{if-true, if-false, in-left, in-right, in-cases, in-filter, all-at, all-from, all-mono, in-none, in-map}
-use Rattle.log_laws.specs.Histories.{Line, Repairs, Puts, Flow, Begins, Follows, is_for, line_in, line_of, line, flow_in, flow_of, flow, end_in, end_of, stream_ends_in, ask_in, ask_of, asks_in, wait_of, asks_waiting, asks_kept, view_in, view_of, views}
-use Rattle.cluster_steps.proofs.Sends.{in_order, put_letter, put-all, task_letter, tasks-all, repair_letter, repair-cases, repair-all, end_letter, stream_ends-all}
 use Rattle.log_laws.proofs.Kept.Moves.{NoStreamStart}
+
+-- ---- one number, and others
+
+-- what is so of this one, and of each other one, is so of all
+pub one-and-others : (P : ℕ → Type 0) (i : ℕ) → P i → ((c : ℕ) → (c ≡ i → ⊥) → P c) → (c : ℕ) → P c
+one-and-others P i here there c = elim (cases_eq c i) [ inl e ↦ subst P (sym e) here | inr n ↦ there c n ]
+
+-- a value that is there, or isn't
+pub none-or-some : {A : Type 0} (o : Option A) → (o ≡ None) ⊎ ((x : A) × (o ≡ Some x))
+none-or-some None = inl refl
+none-or-some (Some x) = inr (x, refl)
 
 -- ---- lists of lists
 
@@ -31,17 +26,22 @@ module _ {A B : Type 0} (f : A → List B) where
   flat-none [] h = refl
   flat-none (x ∷ xs) h = rw h.0 (flat-none xs h.1)
 
-  pub flat-empty : (xs : List A) → flat_map f xs ≡ [] → AllByRecursion (λ x. f x ≡ []) xs
-  flat-empty [] e = tt
-  flat-empty (x ∷ xs) e = let p = both-empty (f x) (flat_map f xs) e in (p.0, flat-empty xs p.1)
+  pub flat-each : (xs : List A) → flat_map f xs ≡ [] → (x : A) → In x xs → f x ≡ []
+  flat-each [] e y i = absurd i
+  flat-each (x ∷ xs) e y (inl q) = ap f (sym q) ∙ (both-empty (f x) (flat_map f xs) e).0
+  flat-each (x ∷ xs) e y (inr i) = flat-each xs (both-empty (f x) (flat_map f xs) e).1 y i
+
+  -- what is behind others, where it is nothing, and where it is of one
+  pub flat-same : (xs ys : List A) → flat_map f ys ≡ [] → flat_map f (xs ++ ys) ≡ flat_map f xs
+  flat-same xs ys e = flat_map-append f xs ys ∙ ap (λ zs. flat_map f xs ++ zs) e ∙ append-nil (flat_map f xs)
+
+  pub flat-push : (xs : List A) (x : A) → flat_map f (xs ++ x ∷ []) ≡ flat_map f xs ++ f x
+  flat-push xs x = flat_map-append f xs (x ∷ []) ∙ ap (λ zs. flat_map f xs ++ zs) (append-nil (f x))
 
   -- what is there comes from one of them
   pub flat-in : (y : B) (xs : List A) → In y (flat_map f xs) → (x : A) × In x xs × In y (f x)
   flat-in y [] i = absurd i
-  flat-in y (x ∷ xs) i = elim (in-cases y (f x) (flat_map f xs) i) [
-    | inl k ↦ (x, inl refl, k)
-    | inr k ↦ let r = flat-in y xs k in (r.0, inr r.1, r.2)
-  ]
+  flat-in y (x ∷ xs) i = elim (in-cases y (f x) (flat_map f xs) i) [ inl k ↦ (x, inl refl, k) | inr k ↦ let r = flat-in y xs k in (r.0, inr r.1, r.2) ]
 
   pub in-flat : (y : B) (x : A) (xs : List A) → In x xs → In y (f x) → In y (flat_map f xs)
   in-flat y x [] i k = absurd i
@@ -51,99 +51,28 @@ module _ {A B : Type 0} (f : A → List B) where
   -- of those that pass a test, where the others are empty, or they are
   pub flat-kept : (p : A → Bool) (xs : List A) → AllByRecursion (λ x. p x ≡ false → f x ≡ []) xs → flat_map f (filter p xs) ≡ flat_map f xs
   flat-kept p [] h = refl
-  flat-kept p (x ∷ xs) h = choice (p x) refl (flat-kept p xs h.1)
-    where
-      choice : (b : Bool) → p x ≡ b → flat_map f (filter p xs) ≡ flat_map f xs → flat_map f (if b then x ∷ filter p xs else filter p xs) ≡ f x ++ flat_map f xs
-      choice true e k = ap (λ ys. f x ++ ys) k
-      choice false e k = rw (h.0 e) k
+  flat-kept p (x ∷ xs) h = cond_both (p x) _ _ (λ z. flat_map f (filter p xs) ≡ flat_map f xs → flat_map f z ≡ f x ++ flat_map f xs)
+      (λ e k. ap (λ ys. f x ++ ys) k) (λ e k. rw (h.0 e) k) (flat-kept p xs h.1)
 
   pub flat-lost : (p : A → Bool) (xs : List A) → AllByRecursion (λ x. p x ≡ true → f x ≡ []) xs → flat_map f (filter p xs) ≡ []
   flat-lost p [] h = refl
-  flat-lost p (x ∷ xs) h = choice (p x) refl (flat-lost p xs h.1)
-    where
-      choice : (b : Bool) → p x ≡ b → flat_map f (filter p xs) ≡ [] → flat_map f (if b then x ∷ filter p xs else filter p xs) ≡ []
-      choice true e k = rw (h.0 e) k
-      choice false e k = k
+  flat-lost p (x ∷ xs) h = cond_both (p x) _ _ (λ z. flat_map f (filter p xs) ≡ [] → flat_map f z ≡ []) (λ e k. rw (h.0 e) k) (λ e k. k) (flat-lost p xs h.1)
 
 pub if-none : {A : Type 0} (c : Bool) → ◌≡◌ {A = List A} (if c then [] else []) []
 if-none true = refl
 if-none false = refl
 
--- ---- messages behind others
+-- what is empty is so whatever the test
+pub if-empty : {A : Type 0} (c : Bool) (xs : List A) → xs ≡ [] → (if c then xs else []) ≡ []
+if-empty true xs e = e
+if-empty false xs e = refl
 
-pub line-append : (start term : ℕ) (xs ys : List Letter) → line start term (xs ++ ys) ≡ line start term xs ++ line start term ys
-line-append start term xs ys = flat_map-append (line_of start term) xs ys
-
-pub flow-append : (start term : ℕ) (xs ys : List Letter) → flow start term (xs ++ ys) ≡ flow start term xs ++ flow start term ys
-flow-append start term xs ys = flat_map-append (flow_of start term) xs ys
-
-pub ends-append : (start term : ℕ) (xs ys : List Letter) → stream_ends_in start term (xs ++ ys) ≡ stream_ends_in start term xs ++ stream_ends_in start term ys
-ends-append start term xs ys = flat_map-append (end_of start term) xs ys
-
-pub asks-append : (term : ℕ) (xs ys : List Letter) → asks_in term (xs ++ ys) ≡ asks_in term xs ++ asks_in term ys
-asks-append term xs ys = flat_map-append (ask_of term) xs ys
-
-pub waits-append : (c term : ℕ) (xs ys : List Waiting) → asks_waiting c term (xs ++ ys) ≡ asks_waiting c term xs ++ asks_waiting c term ys
-waits-append c term xs ys = flat_map-append (wait_of c term) xs ys
+-- ---- asks that a site keeps
 
 pub kept-append : (c : ℕ) (xs ys : List Ask) → asks_kept c (xs ++ ys) ≡ asks_kept c xs ++ asks_kept c ys
 kept-append c xs ys =
     ap (λ zs. map (λ a. a.start) zs) (filter-append (λ a. a.slot == c) xs ys)
     ∙ map-append (λ a. a.start) (filter (λ a. a.slot == c) xs) (filter (λ a. a.slot == c) ys)
-
-pub views-append : (start : ℕ) (xs ys : List Letter) → views start (xs ++ ys) ≡ views start xs ++ views start ys
-views-append start xs ys = flat_map-append (view_of start) xs ys
-
-pub flow-push : (start term : ℕ) (xs : List Letter) (l : Letter) → flow start term (xs ++ l ∷ []) ≡ flow start term xs ++ flow_of start term l
-flow-push start term xs l = flow-append start term xs (l ∷ []) ∙ ap (λ zs. flow start term xs ++ zs) (append-nil (flow_of start term l))
-
-pub waits-push : (c term : ℕ) (xs : List Waiting) (x : Waiting) → asks_waiting c term (xs ++ x ∷ []) ≡ asks_waiting c term xs ++ wait_of c term x
-waits-push c term xs x = waits-append c term xs (x ∷ []) ∙ ap (λ zs. asks_waiting c term xs ++ zs) (append-nil (wait_of c term x))
-
--- messages behind others that say nothing
-pub line-same : (start term : ℕ) (xs ys : List Letter) → line start term ys ≡ [] → line start term (xs ++ ys) ≡ line start term xs
-line-same start term xs ys e = line-append start term xs ys ∙ ap (λ zs. line start term xs ++ zs) e ∙ append-nil (line start term xs)
-
-pub flow-same : (start term : ℕ) (xs ys : List Letter) → flow start term ys ≡ [] → flow start term (xs ++ ys) ≡ flow start term xs
-flow-same start term xs ys e = flow-append start term xs ys ∙ ap (λ zs. flow start term xs ++ zs) e ∙ append-nil (flow start term xs)
-
-pub ends-same : (start term : ℕ) (xs ys : List Letter) → stream_ends_in start term ys ≡ [] → stream_ends_in start term (xs ++ ys) ≡ stream_ends_in start term xs
-ends-same start term xs ys e = ends-append start term xs ys ∙ ap (λ zs. stream_ends_in start term xs ++ zs) e ∙ append-nil (stream_ends_in start term xs)
-
-pub asks-same : (term : ℕ) (xs ys : List Letter) → asks_in term ys ≡ [] → asks_in term (xs ++ ys) ≡ asks_in term xs
-asks-same term xs ys e = asks-append term xs ys ∙ ap (λ zs. asks_in term xs ++ zs) e ∙ append-nil (asks_in term xs)
-
-pub views-same : (start : ℕ) (xs ys : List Letter) → views start ys ≡ [] → views start (xs ++ ys) ≡ views start xs
-views-same start xs ys e = views-append start xs ys ∙ ap (λ zs. views start xs ++ zs) e ∙ append-nil (views start xs)
-
--- ---- a first message
-
-pub ends-cons : (start term : ℕ) (l : Letter) (ls : List Letter) → stream_ends_in start term (l ∷ ls) ≡ end_of start term l ++ stream_ends_in start term ls
-ends-cons start term l ls = refl
-
--- ---- messages that say nothing
-
-pub line-none : (start term : ℕ) (ls : List Letter) → AllByRecursion (λ l. line_of start term l ≡ []) ls → line start term ls ≡ []
-line-none start term ls h = flat-none (line_of start term) ls h
-
-pub flow-none : (start term : ℕ) (ls : List Letter) → AllByRecursion (λ l. flow_of start term l ≡ []) ls → flow start term ls ≡ []
-flow-none start term ls h = flat-none (flow_of start term) ls h
-
-pub ends-none : (start term : ℕ) (ls : List Letter) → AllByRecursion (λ l. end_of start term l ≡ []) ls → stream_ends_in start term ls ≡ []
-ends-none start term ls h = flat-none (end_of start term) ls h
-
-pub asks-none : (term : ℕ) (ls : List Letter) → AllByRecursion (λ l. ask_of term l ≡ []) ls → asks_in term ls ≡ []
-asks-none term ls h = flat-none (ask_of term) ls h
-
-pub views-none : (start : ℕ) (ls : List Letter) → AllByRecursion (λ l. view_of start l ≡ []) ls → views start ls ≡ []
-views-none start ls h = flat-none (view_of start) ls h
-
--- where nothing is said, each says nothing
-pub line-empty : (start term : ℕ) (ls : List Letter) → line start term ls ≡ [] → (l : Letter) → In l ls → line_of start term l ≡ []
-line-empty start term ls e l i = all-at (λ l. line_of start term l ≡ []) ls (flat-empty (line_of start term) ls e) l i
-
-pub ends-empty : (start term : ℕ) (ls : List Letter) → stream_ends_in start term ls ≡ [] → (l : Letter) → In l ls → end_of start term l ≡ []
-ends-empty start term ls e l i = all-at (λ l. end_of start term l ≡ []) ls (flat-empty (end_of start term) ls e) l i
 
 -- ---- for whom a message is
 
@@ -157,23 +86,12 @@ true-for start term l e = let p = and_parts (l.start == start) (l.term == term) 
 pub for-false : (start term : ℕ) (l : Letter) → (l.start ≡ start → l.term ≡ term → ⊥) → is_for start term l ≡ false
 for-false start term l n = false_from_ne_true (is_for start term l) (λ e. let p = true-for start term l e in n p.0 p.1)
 
-pub line-here : (start term : ℕ) (l : Letter) → l.start ≡ start → l.term ≡ term → line_of start term l ≡ line_in l.body
-line-here start term l s t = if-true (is_for start term l) (line_in l.body) [] (for-true start term l s t)
+-- what it says is said to one for whom it is, and nothing to another
+pub for-here : {A : Type 0} (start term : ℕ) (l : Letter) (xs : List A) → l.start ≡ start → l.term ≡ term → (if is_for start term l then xs else []) ≡ xs
+for-here start term l xs s t = if-true (is_for start term l) xs [] (for-true start term l s t)
 
-pub line-other : (start term : ℕ) (l : Letter) → (l.start ≡ start → l.term ≡ term → ⊥) → line_of start term l ≡ []
-line-other start term l n = if-false (is_for start term l) (line_in l.body) [] (for-false start term l n)
-
-pub flow-here : (start term : ℕ) (l : Letter) → l.start ≡ start → l.term ≡ term → flow_of start term l ≡ flow_in l.past l.body
-flow-here start term l s t = if-true (is_for start term l) (flow_in l.past l.body) [] (for-true start term l s t)
-
-pub flow-other : (start term : ℕ) (l : Letter) → (l.start ≡ start → l.term ≡ term → ⊥) → flow_of start term l ≡ []
-flow-other start term l n = if-false (is_for start term l) (flow_in l.past l.body) [] (for-false start term l n)
-
-pub ends-here : (start term : ℕ) (l : Letter) → l.start ≡ start → l.term ≡ term → end_of start term l ≡ end_in l.body
-ends-here start term l s t = if-true (is_for start term l) (end_in l.body) [] (for-true start term l s t)
-
-pub ends-other : (start term : ℕ) (l : Letter) → (l.start ≡ start → l.term ≡ term → ⊥) → end_of start term l ≡ []
-ends-other start term l n = if-false (is_for start term l) (end_in l.body) [] (for-false start term l n)
+pub for-other : {A : Type 0} (start term : ℕ) (l : Letter) (xs : List A) → (l.start ≡ start → l.term ≡ term → ⊥) → (if is_for start term l then xs else []) ≡ []
+for-other start term l xs n = if-false (is_for start term l) xs [] (for-false start term l n)
 
 pub asks-here : (term : ℕ) (l : Letter) → l.term ≡ term → ask_of term l ≡ ask_in l.body
 asks-here term l t = if-true (l.term == term) (ask_in l.body) [] (eq-eqb l.term term t)
@@ -184,33 +102,11 @@ views-here start l s = if-true (l.start == start) (view_in l.body) [] (eq-eqb l.
 pub views-other : (start : ℕ) (l : Letter) → (l.start ≡ start → ⊥) → view_of start l ≡ []
 views-other start l n = if-false (l.start == start) (view_in l.body) [] (false_from_ne_true (l.start == start) (λ e. n (eqb-true l.start start e)))
 
--- what says nothing to anyone says nothing to one
-pub line-plain : (start term : ℕ) (l : Letter) → line_in l.body ≡ [] → line_of start term l ≡ []
-line-plain start term l e = ap (λ x. if is_for start term l then x else []) e ∙ if-none (is_for start term l)
-
-pub flow-plain : (start term : ℕ) (l : Letter) → flow_in l.past l.body ≡ [] → flow_of start term l ≡ []
-flow-plain start term l e = ap (λ x. if is_for start term l then x else []) e ∙ if-none (is_for start term l)
-
-pub ends-plain : (start term : ℕ) (l : Letter) → end_in l.body ≡ [] → end_of start term l ≡ []
-ends-plain start term l e = ap (λ x. if is_for start term l then x else []) e ∙ if-none (is_for start term l)
-
-pub asks-plain : (term : ℕ) (l : Letter) → ask_in l.body ≡ [] → ask_of term l ≡ []
-asks-plain term l e = ap (λ x. if l.term == term then x else []) e ∙ if-none (l.term == term)
-
-pub views-plain : (start : ℕ) (l : Letter) → view_in l.body ≡ [] → view_of start l ≡ []
-views-plain start l e = ap (λ x. if l.start == start then x else []) e ∙ if-none (l.start == start)
-
 -- ---- items told apart
-
-pub puts-first : (e f : Entry) (r q : List Line) → Puts e ∷ r ≡ Puts f ∷ q → (e ≡ f) × (r ≡ q)
-puts-first e f r q k = (cc, cc)
 
 pub puts-cons : (es : List Entry) (e : Entry) (rest : List Line) → map Puts es ≡ Puts e ∷ rest → (fs : List Entry) × (es ≡ e ∷ fs) × (rest ≡ map Puts fs)
 puts-cons [] e rest k = absurd (cc)
-puts-cons (f ∷ fs) e rest k = let p = puts-first f e (map Puts fs) rest k in (fs, ap (λ x. x ∷ fs) p.0, sym p.1)
-
-pub puts-append : (es fs : List Entry) → map Puts (es ++ fs) ≡ map Puts es ++ map Puts fs
-puts-append es fs = map-append Puts es fs
+puts-cons (f ∷ fs) e rest k = (fs, cc, cc)
 
 pub repairs-not-put : (from : ℕ) (es : List Entry) (e : Entry) (r q : List Line) → Repairs from es ∷ r ≡ Puts e ∷ q → ⊥
 repairs-not-put from es e r q k = cc
@@ -223,15 +119,9 @@ pub repairs-same : (a b : ℕ) (xs ys : List Entry) (r q : List Line) → Repair
 repairs-same a b xs ys r q k = (cc, cc, cc)
 
 -- to a joiner
-pub follows-first : (e f : Entry) (r q : List Flow) → Follows e ∷ r ≡ Follows f ∷ q → (e ≡ f) × (r ≡ q)
-follows-first e f r q k = (cc, cc)
-
 pub follows-cons : (es : List Entry) (e : Entry) (rest : List Flow) → map Follows es ≡ Follows e ∷ rest → (fs : List Entry) × (es ≡ e ∷ fs) × (rest ≡ map Follows fs)
 follows-cons [] e rest k = absurd (cc)
-follows-cons (f ∷ fs) e rest k = let p = follows-first f e (map Follows fs) rest k in (fs, ap (λ x. x ∷ fs) p.0, sym p.1)
-
-pub follows-append : (es fs : List Entry) → map Follows (es ++ fs) ≡ map Follows es ++ map Follows fs
-follows-append es fs = map-append Follows es fs
+follows-cons (f ∷ fs) e rest k = (fs, cc, cc)
 
 pub begins-not-follows : (past : List Entry) (stream_start : ℕ) (e : Entry) (r q : List Flow) → Begins past stream_start ∷ r ≡ Follows e ∷ q → ⊥
 begins-not-follows past stream_start e r q k = cc
@@ -331,21 +221,21 @@ module _ (D : Deployment) (s : SiteState) (e : Entry) (slot : ℕ) (others : Lis
   pub put-line : (start term : ℕ) → is_in slot others ≡ true → start_in_view D s.view slot ≡ start → site_term s ≡ term
       → line start term (put_to D s e slot others) ≡ Puts e ∷ []
   put-line start term i a t =
-      ap (line start term) (if-true (is_in slot others) (put_letter D s e slot others ∷ []) [] i) ∙ append-nil (line_of start term (put_letter D s e slot others)) ∙ line-here start term (put_letter D s e slot others) a t
+      ap (line start term) (if-true (is_in slot others) (put_letter D s e slot others ∷ []) [] i) ∙ append-nil (line_of start term (put_letter D s e slot others)) ∙ for-here start term (put_letter D s e slot others) (line_in (put_letter D s e slot others).body) a t
 
   pub put-flow : (start term : ℕ) → flow start term (put_to D s e slot others) ≡ []
-  put-flow start term = flow-none start term (put_to D s e slot others) (put-all D s e slot others (λ l. flow_of start term l ≡ []) (λ i. flow-plain start term (put_letter D s e slot others) refl))
+  put-flow start term = flat-none (flow_of start term) (put_to D s e slot others) (put-all D s e slot others (λ l. flow_of start term l ≡ []) (λ i. if-empty _ _ refl))
 
 -- ---- what is passed on to a joiner
 
 module _ (s : SiteState) (e : Entry) (slot : ℕ) where
   pub tasks-line : (start term : ℕ) (js : List Joiner) → line start term (tasks_to s e slot js) ≡ []
-  tasks-line start term js = line-none start term (tasks_to s e slot js) (tasks-all s e slot (λ l. line_of start term l ≡ []) js (λ j i q. line-plain start term (task_letter s e slot j) refl))
+  tasks-line start term js = flat-none (line_of start term) (tasks_to s e slot js) (tasks-all s e slot (λ l. line_of start term l ≡ []) js (λ j i q. if-empty _ _ refl))
 
   -- one that is gets one, since its slot is counted once
   pub tasks-flow : (start term : ℕ) (js : List Joiner) → Distinct (map (λ j. j.slot) js) → (j : Joiner) → In j js → j.slot ≡ slot → j.start ≡ start → site_term s ≡ term
       → flow start term (tasks_to s e slot js) ≡ Follows e ∷ []
-  tasks-flow start term js d j i q a t = ap (flow start term) (alone js d i) ∙ append-nil (flow_of start term (task_letter s e slot j)) ∙ flow-here start term (task_letter s e slot j) a t
+  tasks-flow start term js d j i q a t = ap (flow start term) (alone js d i) ∙ append-nil (flow_of start term (task_letter s e slot j)) ∙ for-here start term (task_letter s e slot j) (flow_in (task_letter s e slot j).past (task_letter s e slot j).body) a t
     where
       none : (ks : List Joiner) → (In j.slot (map (λ k. k.slot) ks) → ⊥) → filter (λ k. k.slot == slot) ks ≡ []
       none ks n = in-none (filter (λ k. k.slot == slot) ks) (λ k m.
@@ -374,20 +264,20 @@ module _ (D : Deployment) (s : SiteState) (slot : ℕ) where
       c.0,
       c.1,
       c.2,
-      ap (line start term) c.3 ∙ append-nil (line_of start term (repair_letter D s slot c.0)) ∙ line-here start term (repair_letter D s slot c.0) a t,
+      ap (line start term) c.3 ∙ append-nil (line_of start term (repair_letter D s slot c.0)) ∙ for-here start term (repair_letter D s slot c.0) (line_in (repair_letter D s slot c.0).body) a t,
     )
   ]
 
   pub repair-line-other : (start term : ℕ) (rs : List Reported) → ((r : Reported) → In r rs → r.slot ≡ slot → start_in_view D s.view slot ≡ start → site_term s ≡ term → ⊥)
       → line start term (repair_to D s slot rs) ≡ []
   repair-line-other start term rs n =
-      line-none start term (repair_to D s slot rs) (repair-all D s slot (λ l. line_of start term l ≡ []) rs (λ r i q. line-other start term (repair_letter D s slot r) (n r i q)))
+      flat-none (line_of start term) (repair_to D s slot rs) (repair-all D s slot (λ l. line_of start term l ≡ []) rs (λ r i q. for-other start term (repair_letter D s slot r) (line_in (repair_letter D s slot r).body) (n r i q)))
 
   pub repair-flow : (start term : ℕ) (rs : List Reported) → flow start term (repair_to D s slot rs) ≡ []
-  repair-flow start term rs = flow-none start term (repair_to D s slot rs) (repair-all D s slot (λ l. flow_of start term l ≡ []) rs (λ r i q. flow-plain start term (repair_letter D s slot r) refl))
+  repair-flow start term rs = flat-none (flow_of start term) (repair_to D s slot rs) (repair-all D s slot (λ l. flow_of start term l ≡ []) rs (λ r i q. if-empty _ _ refl))
 
   pub repair-ends : (start term : ℕ) (rs : List Reported) → stream_ends_in start term (repair_to D s slot rs) ≡ []
-  repair-ends start term rs = ends-none start term (repair_to D s slot rs) (repair-all D s slot (λ l. end_of start term l ≡ []) rs (λ r i q. ends-plain start term (repair_letter D s slot r) refl))
+  repair-ends start term rs = flat-none (end_of start term) (repair_to D s slot rs) (repair-all D s slot (λ l. end_of start term l ≡ []) rs (λ r i q. if-empty _ _ refl))
 
 -- ---- that a stream is whole
 
@@ -395,4 +285,4 @@ module _ (s : SiteState) (slot : ℕ) where
   pub stream_ends-other : (start term : ℕ) → ((j : Joiner) → In j s.joiners → j.slot ≡ slot → j.start ≡ start → site_term s ≡ term → is_sent s j ≡ true → ⊥)
       → stream_ends_in start term (stream_ends_to s slot) ≡ []
   stream_ends-other start term n =
-      ends-none start term (stream_ends_to s slot) (stream_ends-all s slot (λ l. end_of start term l ≡ []) (λ j i q c. ends-other start term (end_letter s slot j) (λ a t. n j i q a t c)))
+      flat-none (end_of start term) (stream_ends_to s slot) (stream_ends-all s slot (λ l. end_of start term l ≡ []) (λ j i q c. for-other start term (end_letter s slot j) (end_in (end_letter s slot j).body) (λ a t. n j i q a t c)))

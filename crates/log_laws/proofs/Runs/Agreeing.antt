@@ -1,13 +1,6 @@
 -- What was everywhere in a term that was led is a prefix of the log of each later one.
-use Rattle.std.proofs.Common.{◌≡◌, ◌+◌, ◌<◌, ◌≤◌, zero, suc, List, length, take, sym, subst, ap, ◌∙◌, inl, inr, arith}
-use Rattle.std.proofs.lemmas.Bool.{cases_eq}
-use Rattle.std.specs.Prelude.{ℕ, Some}
-use Rattle.volt_base.specs.declared.entry.Entry.{Entry}
-use Rattle.cluster_steps.proofs.Lists.{same-some}
-use Rattle.log_laws.specs.Histories.{LogState, LogsHold, Entered, Leadership, EnteredOk, Last, IsSlot, known, epoch_base, part}
-use Rattle.cluster_steps.specs.Lists.{Prefix}
-use Rattle.cluster_steps.proofs.Prefixes.{prefix-trans, prefixes-order, prefix-take, take-short}
-use Rattle.log_laws.proofs.Kept.Terms.{base-least, last-below}
+use Rattle.log_laws.proofs.Names.{◌≡◌, ◌+◌, ◌<◌, ◌≤◌, zero, suc, List, length, take, sym, subst, ap, ◌∙◌, inl, inr, arith, cases_eq, ℕ, Some, Entry, same-some, Prefix, prefix-trans, prefixes-order, prefix-take, take-short, LogState, LogsHold, Entered, Leadership, EnteredOk, Last, IsSlot, known, epoch_base, part, between}
+use Rattle.log_laws.proofs.Kept.{base-least, last-below}
 
 module _ (S : LogState) (H : LogsHold S) (p v : ℕ) (g : Leadership) (led : S.logs.leadership p v ≡ Some g) where
   -- those that are everywhere in the term

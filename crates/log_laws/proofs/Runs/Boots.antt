@@ -1,30 +1,8 @@
 -- How an epoch begins: all holds of logs in the first world, and once a recovery has worked.
-use Rattle.std.proofs.Common.{◌≡◌, ◌+◌, ◌<◌, ◌≤◌, Bool, true, false, List, [], ◌∷◌, append-nil, refl, sym, subst, ap, ◌∙◌, inl, inr, ◌==◌, arith, zero, suc}
-use Rattle.std.proofs.lemmas.Bool.{and_parts, and_from, cases_Bool, eq-eqb, eqb-true, false≢true}
-use Rattle.std.proofs.lemmas.Bool.Decides.{nat_tests}
-use Rattle.std.proofs.lemmas.Nat.{mod_below}
-use Rattle.std.specs.Prelude.{ℕ, ◌*◌, ◌&&◌, not, nat_lt, if◌then◌else◌, length, map, Option, Some, None}
-use Rattle.std.specs.List.{AllByRecursion}
-use Rattle.volt_base.specs.declared.entry.Entry.{Entry}
-use Rattle.volt_wire.specs.Word.{Membership}
-use Rattle.volt_wire.specs.declared.actor.Actor.{Actor}
-use Rattle.volt_wire.specs.declared.actor.Actor.TheVariants.{Director, Client, Agent, Site, Scanner}
+use Rattle.log_laws.proofs.Names.{◌≡◌, ◌+◌, ◌<◌, ◌≤◌, Bool, true, false, List, [], ◌∷◌, append-nil, refl, sym, subst, ap, ◌∙◌, inl, inr, ◌==◌, arith, zero, suc, and_parts, and_from, cases_Bool, eq-eqb, eqb-true, false≢true, nat_tests, mod_below, ℕ, ◌*◌, ◌&&◌, not, nat_lt, if◌then◌else◌, length, map, Some, None, AllByRecursion, Entry, Membership, Actor, Director, Client, Agent, Site, Database, Deployment, slots, parts, part_of_slot, host_of_slot, is_host, is_in, term_of, copies, start_of_slot, Letter, AgentState, new_agent, starts_in, SiteState, site_term, is_joiner, is_member_site, no_site, stopped_site, member_site, World, Input, first_world, new_word, greatest_done, first_initiating, member_agent, start_from, is_of_host, new_channels, new_base, new_log, starts_anew, In, eqb-same, if-true, if-false, none-and-some, same-some, in-one, in-map-from, all-from, epoch_state, new_history, new_owner, boot-holds, recovery-holds, start_of-first, first-there, Entered, Streaming, Leadership, Logs, LogState, IsSlot, HasBeen, AckOk, EnteredOk, LeadershipOk, LeadsIn, FollowsIn, MemberOk, KeepsOk, SiteOk, ViewsOk, LoadsOk, ForeignOk, LogsHold, part, site_start, log_at, term_at, agent_to_site, between, line, views, sent_term, log_state, AuthoritativeOk, HasLogs}
 use Rattle.volt_wire.specs.declared.message.Msg.TheVariants as msg
-use Rattle.cluster_model.specs.Engine.{Database}
-use Rattle.cluster_model.specs.Words.{Deployment, slots, parts, part_of_slot, host_of_slot, is_host, is_in, term_of, copies, start_of_slot}
-use Rattle.cluster_model.specs.Letters.{Letter}
-use Rattle.cluster_model.specs.AgentState.{AgentState, new_agent}
-use Rattle.cluster_model.specs.Laws.{starts_in}
-use Rattle.cluster_model.specs.SiteState.{SiteState, Joining, site_term, is_joiner, is_member_site, no_site, stopped_site, member_site}
-use Rattle.cluster_model.specs.World.{World, Input, first_world, new_word, greatest_done, first_initiating, member_agent, start_from}
-use Rattle.cluster_model.specs.Recover.{is_of_host, new_channels, new_base, new_log, starts_anew}
 use Rattle.word_laws.specs.Histories as word
-use Rattle.cluster_steps.specs.Lists.{In}
-use Rattle.cluster_steps.proofs.Lists.{eqb-same, if-true, if-false, none-and-some, same-some, in-one, in-map-from, all-from}
-use Rattle.word_laws.proofs.Epochs.{epoch_state, new_history, new_owner, boot-holds, recovery-holds, start_of-first, first-there}
-use Rattle.log_laws.specs.Histories.{Entered, Streaming, Leadership, Logs, LogState, IsSlot, HasBeen, AckOk, EnteredOk, LeadershipOk, LeadsIn, FollowsIn, MemberOk, KeepsOk, SiteOk, ViewsOk, LoadsOk, ForeignOk, LogsHold, part, site_start, log_at, term_at, agent_to_site, between, line, views, sent_term}
-use Rattle.log_laws.proofs.Plain.Copies.{in-is_in, copy-member}
-use Rattle.log_laws.specs.Copies.{log_state, AuthoritativeOk, HasLogs}
+use Rattle.log_laws.proofs.Plain.{in-is_in, copy-member, none-or-some}
 
 -- ---- the history with which an epoch begins
 
@@ -52,11 +30,7 @@ new_logs D base start log = record {
 
 -- no start is under way, and no stream
 abbrev pub NoStart : Letter → Type 0
-NoStart l = elim l.body as (λ _. Type 0) [
-  | msg.Start s ↦ ⊥
-  | msg.StreamStart head ↦ ⊥
-  | _ ↦ Unit {0}
-]
+NoStart l = elim l.body as (λ _. Type 0) [ msg.Start s ↦ ⊥ | msg.StreamStart head ↦ ⊥ | _ ↦ Unit {0} ]
 
 -- a site that isn't running
 pub record Rests (s : SiteState) : Type 0 where
@@ -155,10 +129,7 @@ module _ (D : Deployment) (base start number next : ℕ) (agents : ℕ → Agent
 
   -- who runs is a slot
   slot-runs : (c : ℕ) → 0 < site_start T c → IsSlot T c
-  slot-runs c up = elim (cases_Bool (nat_lt c (slots D))) [
-    | inl e ↦ e
-    | inr e ↦ absurd (omega (arith, up, (k.others c e).start))
-  ]
+  slot-runs c up = elim (cases_Bool (nat_lt c (slots D))) [ inl e ↦ e | inr e ↦ absurd (omega (arith, up, (k.others c e).start)) ]
 
   -- ---- the history
 
@@ -306,10 +277,7 @@ module _ (D : Deployment) (base start number next : ℕ) (agents : ℕ → Agent
   no-views c s = ap (views s) (no-letters c)
 
   agent-runs : (h : ℕ) → 0 < (agents h).start → agents h ≡ member_agent W number start h
-  agent-runs h up = elim (cases_Bool (is_host D h)) [
-    | inl q ↦ k.hosts h q
-    | inr q ↦ absurd (omega (arith, up, ap (λ a. a.start) (k.environment h q)))
-  ]
+  agent-runs h up = elim (cases_Bool (is_host D h)) [ inl q ↦ k.hosts h q | inr q ↦ absurd (omega (arith, up, ap (λ a. a.start) (k.environment h q))) ]
 
   began-first : (c s : ℕ) (x : Bool) → nat_lt c (slots D) ≡ x → In s (if x then s_of c ∷ [] else []) → In s (T.words.history.began (host_of_slot D c))
   began-first c s true q (inl e) = subst (λ z. In z (T.words.history.began (host_of_slot D c))) e (in-one (is_host D (host_of_slot D c)) (s_of c) (slot-host D c q))
@@ -342,9 +310,7 @@ module _ (D : Deployment) (base start number next : ℕ) (agents : ℕ → Agent
   foreign-ok : (from : Actor) (c : ℕ) → AllByRecursion (ForeignOk T c from) (channel from (Site c))
   foreign-ok Director c = k.foreign Director refl c
   foreign-ok (Client n) c = k.foreign (Client n) refl c
-  foreign-ok (Agent h) c = no-start (Agent h) c refl
-  foreign-ok (Site i) c = no-start (Site i) c refl
-  foreign-ok (Scanner i) c = no-start (Scanner i) c refl
+  foreign-ok from c = no-start from c refl
 
   -- an agent has nothing that waits, is queued, or has loaded
   loaded-none : (h : ℕ) (x : Bool) → is_host D h ≡ x → (agents h).loaded ≡ []
@@ -502,17 +468,13 @@ foreign-on : (S : LogState) (from : Actor) (c : ℕ) → is_of_host from ≡ fal
     → AllByRecursion NoStart (S.words.channel from (Site c))
 foreign-on S Director c e h = h
 foreign-on S (Client n) c e h = h
-foreign-on S (Agent n) c e h = absurd (cc)
-foreign-on S (Site n) c e h = absurd (cc)
-foreign-on S (Scanner n) c e h = absurd (cc)
+foreign-on S from c e h = absurd (cc)
 
 foreign-left : (D : Deployment) (start : ℕ) (channel : Actor → Actor → List Letter) (from : Actor) (c : ℕ) → is_of_host from ≡ false
     → AllByRecursion NoStart (channel from (Site c)) → AllByRecursion NoStart (new_channels D start channel from (Site c))
 foreign-left D start channel Director c e h = subst (AllByRecursion NoStart) (sym (append-nil (channel Director (Site c)))) h
 foreign-left D start channel (Client n) c e h = subst (AllByRecursion NoStart) (sym (append-nil (channel (Client n) (Site c)))) h
-foreign-left D start channel (Agent n) c e h = absurd (cc)
-foreign-left D start channel (Site n) c e h = absurd (cc)
-foreign-left D start channel (Scanner n) c e h = absurd (cc)
+foreign-left D start channel from c e h = absurd (cc)
 
 emptied : (D : Deployment) (start : ℕ) (channel : Actor → Actor → List Letter) (from : Actor) → is_of_host from ≡ true → (c : ℕ) → new_channels D start channel from (Site c) ≡ []
 emptied D start channel from e c = rw e
@@ -523,16 +485,12 @@ stranger-rests S H c q = let kept = (H.sites c).stopped ((H.sites c).environment
   start = (H.sites c).environment q;
   term = (H.sites c).term;
   earlier = (H.sites c).earlier;
-  joining = none (S.sites c).joining refl;
+  joining = elim (none-or-some (S.sites c).joining) [ inl e ↦ e | inr (j, e) ↦ absurd (omega (arith, ((H.sites c).joiner j e).runs, (H.sites c).environment q)) ];
   view = (H.sites c).blank ((H.sites c).environment q);
   waiting = kept.0;
   asks = kept.1;
   joiners = kept.2;
 }
-  where
-    none : (o : Option Joining) → (S.sites c).joining ≡ o → (S.sites c).joining ≡ None
-    none None e = e
-    none (Some j) e = absurd (omega (arith, ((H.sites c).joiner j e).runs, (H.sites c).environment q))
 
 -- A recovery that works.
 pub anew-logs : (E : Database) (w : World) (shown : List ℕ) → HasLogs w → HasLogs (starts_anew E w shown)

@@ -1,24 +1,11 @@
 -- What the law of logs doesn't look at may be another: the disks' contents, the next start, and what others than sites and agents
 -- have sent.
-use Rattle.std.proofs.Common.{◌≡◌, false, List, refl, sym, subst, ◌∙◌, true≢false}
-use Rattle.std.proofs.Math.Path.{fun_ext}
-use Rattle.std.specs.Prelude.{ℕ}
-use Rattle.std.specs.List.{AllByRecursion}
-use Rattle.volt_wire.specs.declared.actor.Actor.{Actor}
-use Rattle.volt_wire.specs.declared.actor.Actor.TheVariants.{Director, Client, Agent, Site, Scanner}
+use Rattle.log_laws.proofs.Names.{◌≡◌, false, List, refl, sym, subst, ◌∙◌, true≢false, fun_ext, ℕ, AllByRecursion, Actor, Director, Client, Agent, Site, Scanner, Shown, same, Letter, Queued, Job_, Admission, In, Admitted, all-mono, eqb-same, grows-same, LogState, views, ViewsOk, ForeignOk, AllLoaded, AskedOk, QueuedLoadedOk, LogsHold, site_start, agent_to_site}
 use Rattle.volt_wire.specs.declared.message.Msg.TheVariants as msg
-use Rattle.cluster_model.specs.Disk.{Shown}
-use Rattle.cluster_model.specs.Letters.{same, Letter}
-use Rattle.cluster_model.specs.AgentState.{Queued, Job_, Admission}
 use Rattle.word_laws.specs.Histories as word
-use Rattle.cluster_steps.specs.Lists.{In}
-use Rattle.word_laws.specs.Histories.{Admitted}
-use Rattle.cluster_steps.proofs.Lists.{all-mono, eqb-same}
-use Rattle.word_laws.proofs.Worlds.{grows-same}
-use Rattle.log_laws.specs.Histories.{LogState, views, ViewsOk, ForeignOk, AllLoaded, AskedOk, QueuedLoadedOk, LogsHold, site_start, agent_to_site}
 use Rattle.log_laws.proofs.Agents.Words.{sites-hold, sites-kept}
 use Rattle.log_laws.proofs.Runs.Boots.{NoStart}
-use Rattle.log_laws.proofs.Kept.KeepsViews.{first_views-later, run_views-later}
+use Rattle.log_laws.proofs.Kept.{first_views-later, run_views-later}
 
 -- the channels between sites and agents, and other ones
 abbrev pub kept : (Actor → Actor → List Letter) → (Actor → Actor → List Letter) → Actor → Actor → List Letter
@@ -55,9 +42,7 @@ module _ (S : LogState) (next : ℕ) (owner : ℕ → ℕ) (channel : Actor → 
   asked : (from : Actor) (l : Letter) → AskedOk S from l → AskedOk T from l
   asked (Agent h) l k = k
   asked (Site i) l k = k
-  asked Director l k = tt
-  asked (Client n) l k = tt
-  asked (Scanner x) l k = tt
+  asked from l k = tt
 
   -- What holds is kept, where the hosts of starts that were admitted are, and others send sites no start.
   framed-holds : LogsHold S → word.WordsHold T.words → ((x : Admitted) → In x S.words.history.admitted → owner x.start ≡ S.words.owner x.start)
@@ -135,7 +120,4 @@ frames-holds S next owner channel contents H agrees words owned foreign =
   where
     sent-by : (from : Actor) (c : ℕ) (l : Letter) → ForeignOk S c from l → ForeignOk (reframed S next owner channel contents) c from l
     sent-by Director c l k = k
-    sent-by (Client n) c l k = k
-    sent-by (Agent h) c l k = k
-    sent-by (Site i) c l k = k
-    sent-by (Scanner x) c l k = k
+    sent-by from c l k = k

@@ -1,20 +1,7 @@
 -- What is firm in the authoritative log of a partition is never lost, and all that a leader counts firm is firm in it.
-use Rattle.std.proofs.Common.{◌≡◌, ◌<◌, ◌≤◌, length, take, refl, sym, subst, ap, ◌∙◌, inl, inr, arith}
-use Rattle.std.proofs.lemmas.Bool.{cases_eq, and_parts}
-use Rattle.std.proofs.lemmas.Bool.Decides.{nat_tests}
-use Rattle.std.specs.Prelude.{ℕ, nat_lt, not, Some}
-use Rattle.cluster_model.specs.Engine.{Database}
-use Rattle.cluster_model.specs.Words.{term_of, term_in}
-use Rattle.cluster_model.specs.SiteState.{is_joiner}
-use Rattle.cluster_model.specs.World.{World, Input, AuthoritativeLog}
-use Rattle.cluster_model.specs.Runs.{Reached, RunsInEpoch}
-use Rattle.cluster_steps.proofs.Lists.{same-some}
-use Rattle.log_laws.specs.Histories.{LogState, Leadership, LogsHold, part, term_at}
-use Rattle.cluster_steps.specs.Lists.{Prefix}
-use Rattle.log_laws.specs.Copies.{Leads, LeadsNext, AuthoritativeOk, KeepsFirm, IsInAuthoritative, HasLogs, log_state, log_of, authoritative_for}
-use Rattle.cluster_steps.proofs.Prefixes.{prefix-trans, prefix-length, prefix-take, take-prefix, take-grown, take-of-prefix}
+use Rattle.log_laws.proofs.Names.{◌≡◌, ◌<◌, ◌≤◌, length, take, refl, sym, subst, ap, ◌∙◌, inl, inr, arith, cases_eq, and_parts, nat_tests, ℕ, nat_lt, not, Some, Database, term_of, term_in, is_joiner, World, Input, AuthoritativeLog, Reached, RunsInEpoch, same-some, Prefix, prefix-trans, prefix-length, prefix-take, take-prefix, take-grown, take-of-prefix, LogState, Leadership, LogsHold, part, term_at, Leads, LeadsNext, AuthoritativeOk, KeepsFirm, IsInAuthoritative, HasLogs, log_state, log_of, authoritative_for}
 use Rattle.log_laws.proofs.Runs.Agreeing.{agrees-begun}
-use Rattle.log_laws.proofs.Kept.Moves.{Onward}
+use Rattle.log_laws.proofs.Kept.{Onward}
 use Rattle.log_laws.proofs.Runs.Leading.{AuthoritativeRises}
 use Rattle.log_laws.proofs.Entries.Leads.{Leading, leading}
 use Rattle.log_laws.proofs.Runs.Worlds.{logs-agree, epoch-reaches}
@@ -90,40 +77,19 @@ leading-in w k l h =
 -- What a leader counted firm is a prefix of the log of one of a term that isn't lower, in a later world of the epoch.
 pub next-leader : (v w : World) (k : HasLogs v) (n : HasLogs w) → Onward k.logs n.logs → (l m : ℕ) → LeadsNext v w l m → Prefix (take (v.sites l).firm (log_of v l)) (log_of w m)
 next-leader v w k n f l m h =
+    let S = log_state v k.owner k.history k.logs in
+    let a = leading-in v k l h.first in
+    let t = term_of a.word in
+    let T = log_state w n.owner n.history n.logs in
+    let b = leading-in w n m h.second in
+    let up : t ≤ term_of b.word = let x = h.term in let y = ap term_in a.view in let z = ap term_in b.view in omega (arith, x, y, z) in
+    let own = part S l in
+    let led : T.logs.leadership own (term_of b.word) ≡ Some b.leadership = ap (λ p. T.logs.leadership p (term_of b.word)) h.part ∙ b.led in
+    let within : S.logs.reach own t ≤ length a.leadership.log = (k.holds.leaderships own t a.leadership a.led).within in
+    let r = f.kept own t a.leadership a.led in
     subst (λ xs. Prefix (take (v.sites l).firm xs) (log_of w m)) (sym a.log) (subst (Prefix (take (v.sites l).firm a.leadership.log)) (sym b.log)
     (subst (λ xs. Prefix xs b.leadership.log) (take-grown (v.sites l).firm a.leadership.log r.0.log r.3 (omega (arith, a.member.firm, within)))
     (lasting T n.holds own t (v.sites l).firm r.0 r.1 (let e = f.reach own t in omega (arith, a.member.firm, e)) (term_of b.word) b.leadership led up).1))
-  where
-    S : LogState
-    S = log_state v k.owner k.history k.logs
-
-    T : LogState
-    T = log_state w n.owner n.history n.logs
-
-    a : Leading S l
-    a = leading-in v k l h.first
-
-    b : Leading T m
-    b = leading-in w n m h.second
-
-    own : ℕ
-    own = part S l
-
-    t : ℕ
-    t = term_of a.word
-
-    -- as the term stands in the later world
-    r : (g : Leadership) × (T.logs.leadership own t ≡ Some g) × (g.begun ≡ a.leadership.begun) × Prefix a.leadership.log g.log
-    r = f.kept own t a.leadership a.led
-
-    within : S.logs.reach own t ≤ length a.leadership.log
-    within = (k.holds.leaderships own t a.leadership a.led).within
-
-    led : T.logs.leadership own (term_of b.word) ≡ Some b.leadership
-    led = ap (λ p. T.logs.leadership p (term_of b.word)) h.part ∙ b.led
-
-    up : t ≤ term_of b.word
-    up = let x = h.term in let y = ap term_in a.view in let z = ap term_in b.view in omega (arith, x, y, z)
 
 pub next-leads : (E : Database) (input : Input) (v w : World) (l m : ℕ) → Reached E input v → RunsInEpoch E v w → LeadsNext v w l m
     → Prefix (take (v.sites l).firm (log_of v l)) (log_of w m)
@@ -131,7 +97,7 @@ next-leads E input v w l m r s = let k = logs-agree E input v r in let n = epoch
 
 -- Of a site that leads, with its partition's lead.
 pub in-authoritative : (w : World) (k : HasLogs w) (l : ℕ) → Leads w l → IsInAuthoritative w l
-in-authoritative w k l h = record {
+in-authoritative w k l h = let own = part S l in let authoritative = k.authoritative own in let low = authoritative.greatest (term_of m.word) m.leadership m.led in record {
   term = let e = term in omega (arith, low, e);
   same = λ e. m.log ∙ ap (λ g. g.log) (same-some (sym m.led ∙ ap (S.logs.leadership own) (sym term ∙ e) ∙ authoritative.led)) ∙ sym authoritative.log;
   counted = k.counted l h.runs h.leads;
@@ -142,17 +108,8 @@ in-authoritative w k l h = record {
     S : LogState
     S = log_state w k.owner k.history k.logs
 
-    own : ℕ
-    own = part S l
-
-    authoritative : AuthoritativeOk k.logs own (authoritative_for w l)
-    authoritative = k.authoritative own
-
     m : Leading S l
     m = leading-in w k l h
 
     term : term_at S l ≡ term_of m.word
     term = ap term_in m.view
-
-    low : term_of m.word ≤ (authoritative_for w l).term
-    low = authoritative.greatest (term_of m.word) m.leadership m.led

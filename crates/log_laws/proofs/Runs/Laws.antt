@@ -1,20 +1,8 @@
 -- The laws of logs, from what holds of a history.
-use Rattle.std.proofs.Common.{◌≡◌, ◌<◌, ◌≤◌, true, false, List, ◌++◌, append_assoc, refl, sym, subst, ap, ◌∙◌, ◌⊎◌, inl, inr, arith}
-use Rattle.std.proofs.lemmas.Bool.{and_parts}
-use Rattle.std.proofs.lemmas.Bool.Decides.{nat_tests}
-use Rattle.std.specs.Prelude.{ℕ, not, nat_lt, length, Option, Some, None}
-use Rattle.volt_wire.specs.Word.{Membership}
-use Rattle.cluster_model.specs.Words.{term_of, term_in}
-use Rattle.cluster_model.specs.SiteState.{SiteState, Joining, Streamed, is_joiner, is_member_site, leads}
-use Rattle.cluster_model.specs.World.{World}
-use Rattle.cluster_steps.proofs.Lists.{not-both, same-some, none-and-some}
-use Rattle.cluster_steps.specs.Lists.{Prefix}
-use Rattle.log_laws.specs.Histories.{Logs, LogState, Line, line, between, Leadership, Last, FollowsIn, LeadsIn, MemberOk, StreamIn, ViewIn, Took, LogsHold, part, site_start, log_at, term_at, epoch_base}
-use Rattle.log_laws.proofs.Plain.Copies.{leads-or-follows, is-leader}
-use Rattle.cluster_steps.proofs.Leaders.{leads-parts}
-use Rattle.cluster_steps.proofs.Prefixes.{prefix-same, prefix-trans, prefixes-compare}
-use Rattle.log_laws.proofs.Kept.Terms.{base-least, leadership-entered, last-below, running-slot}
-use Rattle.log_laws.specs.Copies.{OfOneTerm, AreCopies, Leads, HasLoaded, Follows, HasLogs, log_state}
+use Rattle.log_laws.proofs.Names.{◌≡◌, ◌<◌, ◌≤◌, true, false, List, ◌++◌, append_assoc, refl, sym, subst, ap, ◌∙◌, ◌⊎◌, inl, inr, arith, and_parts, nat_tests, ℕ, not, nat_lt, length, Option, Some, None, Membership, term_of, term_in, SiteState, Joining, Streamed, is_joiner, is_member_site, leads, World, not-both, same-some, none-and-some, Prefix, leads-parts, prefix-same, prefix-trans, prefixes-compare, Logs, LogState, Line, line, between, Leadership, Last, FollowsIn, LeadsIn, MemberOk, StreamIn, ViewIn, Took, LogsHold, part, site_start, log_at, term_at, epoch_base, OfOneTerm, AreCopies, Leads, HasLoaded, HasLogs, log_state}
+use Rattle.log_laws.specs.Copies.{Follows}
+use Rattle.log_laws.proofs.Plain.{leads-or-follows, is-leader, none-or-some}
+use Rattle.log_laws.proofs.Kept.{base-least, leadership-entered, last-below, running-slot}
 
 -- ---- sites
 
@@ -75,18 +63,17 @@ module _ (S : LogState) (H : LogsHold S) where
   -- Two copies in one term.
   copies-meet : (c d : ℕ) (w v : Membership) → 0 < site_start S c → 0 < site_start S d → MemberOk S c w → MemberOk S d v → part S c ≡ part S d → term_of w ≡ term_of v
       → Prefix (log_at S c) (log_at S d) ⊎ Prefix (log_at S d) (log_at S c)
-  copies-meet c d w v up ud m n p t = choice (S.logs.leadership (part S c) (term_of w)) refl
+  copies-meet c d w v up ud m n p t = elim (none-or-some (S.logs.leadership (part S c) (term_of w))) [
+    | inl e ↦
+        let l = last-before c w m e in
+        prefixes-compare (log_at S c) (log_at S d) l.1.leadership.log
+        (copy-entered c w l.0 m e l.1)
+        (copy-entered d v l.0 n (there None e) (last-at S.logs (part S c) (part S d) l.0 (term_of w) (term_of v) p t l.1))
+    | inr (g, e) ↦ prefixes-compare (log_at S c) (log_at S d) g.log (copy-behind c w g up m e) (copy-behind d v g ud n (there (Some g) e))
+  ]
     where
       there : (o : Option Leadership) → S.logs.leadership (part S c) (term_of w) ≡ o → S.logs.leadership (part S d) (term_of v) ≡ o
       there o e = rw (← p, ← t) e
-
-      choice : (o : Option Leadership) → S.logs.leadership (part S c) (term_of w) ≡ o → Prefix (log_at S c) (log_at S d) ⊎ Prefix (log_at S d) (log_at S c)
-      choice (Some g) e = prefixes-compare (log_at S c) (log_at S d) g.log (copy-behind c w g up m e) (copy-behind d v g ud n (there (Some g) e))
-      choice None e =
-          let l = last-before c w m e in
-          prefixes-compare (log_at S c) (log_at S d) l.1.leadership.log
-          (copy-entered c w l.0 m e l.1)
-          (copy-entered d v l.0 n (there None e) (last-at S.logs (part S c) (part S d) l.0 (term_of w) (term_of v) p t l.1))
 
   -- A leader that has what its term begins with.
   record HeldLeadership (l : ℕ) : Type 0 where
@@ -183,15 +170,7 @@ module _ (w : World) (k : HasLogs w) where
       let q = runs-member (S.sites d) a.second in
       let m = (k.holds.sites c).member r.0 r.1 in
       let n = (k.holds.sites d).member q.0 q.1 in
-      record {
-        up = r.0;
-        up_too = q.0;
-        first = m.0;
-        second = n.0;
-        member = m.2;
-        member_too = n.2;
-        term = sym (view-term S k.holds c m.0 m.1) ∙ a.alike.term ∙ view-term S k.holds d n.0 n.1;
-      }
+      search (r.0, q.0, m.2, n.2, sym (view-term S k.holds c m.0 m.1) ∙ a.alike.term ∙ view-term S k.holds d n.0 n.1)
 
   pub firm-in : (c d : ℕ) → AreCopies w c d → (S.sites d).firm ≤ length (log_at S c)
   firm-in c d a = let x = words-of c d a in firm-there S k.holds c d x.first x.second x.member x.member_too a.alike.part x.term

@@ -1,19 +1,8 @@
 -- The authoritative log of a partition, which the world keeps: what the history says of it stays so in turns of sites.
-use Rattle.std.proofs.Common.{◌≡◌, ◌<◌, ◌≤◌, Bool, true, false, refl, sym, subst, ap, ◌∙◌, inl, inr, arith}
-use Rattle.std.proofs.lemmas.Bool.{cases_eq, cases_lt, and_from, leb-true}
-use Rattle.std.proofs.lemmas.Bool.Decides.{nat_tests}
-use Rattle.std.specs.Prelude.{ℕ, nat_le, max, if◌then◌else◌, Option, Some, None}
-use Rattle.volt_wire.specs.Word.{Membership}
-use Rattle.cluster_model.specs.Words.{Deployment, term_of, term_in, leader}
-use Rattle.cluster_model.specs.SiteState.{SiteState, Joining, site_term, is_leader, leads}
-use Rattle.cluster_model.specs.World.{AuthoritativeLog, authoritative_after}
-use Rattle.cluster_steps.proofs.Lists.{none-and-some, same-some, not-both}
-use Rattle.log_laws.specs.Histories.{LogState, Logs, Leadership, LogsHold, ViewIn, LeadsIn, part, site_start, log_at, term_at}
-use Rattle.log_laws.specs.Copies.{AuthoritativeOk}
-use Rattle.log_laws.proofs.Plain.Copies.{leader-is}
-use Rattle.cluster_steps.proofs.Leaders.{leader-view, leads-parts}
-use Rattle.log_laws.proofs.Kept.Terms.{took-unnamed}
-use Rattle.log_laws.proofs.Kept.Moves.{Heads, Grown}
+use Rattle.log_laws.proofs.Names.{◌≡◌, ◌<◌, ◌≤◌, Bool, true, false, refl, sym, subst, ap, ◌∙◌, inl, inr, arith, cases_eq, cases_lt, and_from, leb-true, nat_tests, ℕ, nat_le, max, if◌then◌else◌, Some, Membership, Deployment, term_of, term_in, leader, SiteState, Joining, site_term, is_leader, leads, AuthoritativeLog, authoritative_after, none-and-some, same-some, not-both, leader-view, leads-parts, LogState, Logs, Leadership, LogsHold, ViewIn, LeadsIn, part, site_start, log_at, term_at, AuthoritativeOk}
+use Rattle.log_laws.proofs.Plain.{leader-is, none-or-some}
+use Rattle.log_laws.proofs.Kept.{took-unnamed, Heads}
+use Rattle.log_laws.proofs.Kept.Moves.{Grown}
 use Rattle.log_laws.proofs.Entries.Leads.{Leading, leading}
 
 -- ---- a site that leads by its word
@@ -21,10 +10,7 @@ use Rattle.log_laws.proofs.Entries.Leads.{Leading, leading}
 module _ (T : LogState) (H : LogsHold T) (i : ℕ) where
   -- one with a word runs
   runs-with-word : (w : Membership) → (T.sites i).view ≡ Some w → 0 < site_start T i
-  runs-with-word w e = elim (cases_eq (site_start T i) 0) [
-    | inl z ↦ absurd (none-and-some ((H.sites i).blank z) e)
-    | inr n ↦ omega (arith, n)
-  ]
+  runs-with-word w e = elim (cases_eq (site_start T i) 0) [ inl z ↦ absurd (none-and-some ((H.sites i).blank z) e) | inr n ↦ omega (arith, n) ]
 
   -- and so does one that leads
   pub leads-runs : leads T.words.deployment i (T.sites i) ≡ true → 0 < site_start T i
@@ -34,7 +20,16 @@ module _ (T : LogState) (H : LogsHold T) (i : ℕ) where
 
   -- By its word it leads: once its term has begun, it does so with what that begins with.
   pub heads-authoritative : (p t : ℕ) (g : Leadership) → Heads T.words.deployment i (T.sites i) p t → T.logs.leadership p t ≡ Some g → leads T.words.deployment i (T.sites i) ≡ true
-  heads-authoritative p t g h led = choice (T.sites i).joining refl
+  heads-authoritative p t g h led = elim (none-or-some (T.sites i).joining) [
+    | inl e ↦
+        let m = (H.sites i).member up e in
+        let same : m.0 ≡ h.word = same-some (sym m.1 ∙ h.view) in
+        let leading : LeadsIn (T.sites i) (T.logs.leadership (part T i) (term_of h.word)) =
+        subst (λ w. leader T.words.deployment w (part T i) ≡ Some i → LeadsIn (T.sites i) (T.logs.leadership (part T i) (term_of w))) same m.2.leading first in
+        and_from (is_leader T.words.deployment i (T.sites i)) (T.sites i).repaired (leader-is T.words.deployment i (T.sites i) h.word h.view e first)
+        (subst (LeadsIn (T.sites i)) here leading).0
+    | inr (j, e) ↦ absurd (joins j (subst (ViewIn T i j) h.view ((H.sites i).joiner j e).view))
+  ]
     where
       up : 0 < site_start T i
       up = runs-with-word h.word h.view
@@ -48,16 +43,6 @@ module _ (T : LogState) (H : LogsHold T) (i : ℕ) where
       -- its start was in the word that it would have taken
       joins : (j : Joining) → ViewIn T i j (Some h.word) → ⊥
       joins j k = took-unnamed T H (site_start T i) h.word i k.took h.start_is
-
-      choice : (o : Option Joining) → (T.sites i).joining ≡ o → leads T.words.deployment i (T.sites i) ≡ true
-      choice (Some j) e = absurd (joins j (subst (ViewIn T i j) h.view ((H.sites i).joiner j e).view))
-      choice None e =
-          let m = (H.sites i).member up e in
-          let same : m.0 ≡ h.word = same-some (sym m.1 ∙ h.view) in
-          let leading : LeadsIn (T.sites i) (T.logs.leadership (part T i) (term_of h.word)) =
-          subst (λ w. leader T.words.deployment w (part T i) ≡ Some i → LeadsIn (T.sites i) (T.logs.leadership (part T i) (term_of w))) same m.2.leading first in
-          and_from (is_leader T.words.deployment i (T.sites i)) (T.sites i).repaired (leader-is T.words.deployment i (T.sites i) h.word h.view e first)
-          (subst (LeadsIn (T.sites i)) here leading).0
 
 -- ---- what the history says of a lead
 
@@ -79,10 +64,7 @@ module _ (D : Deployment) (i : ℕ) (s : SiteState) (F G : Logs) (grown : Grown 
     leadership = k.leadership;
     led = led-still (none l.term);
     log = k.log;
-    greatest = λ t g is. elim (grown.led p t g is) [
-      | inl old ↦ k.greatest t g old
-      | inr new ↦ absurd (none t g is new)
-    ];
+    greatest = λ t g is. elim (grown.led p t g is) [ inl old ↦ k.greatest t g old | inr new ↦ absurd (none t g is new) ];
     firm = firm-still;
   }
 

@@ -1,34 +1,8 @@
 -- Events that change nothing of sites: those of the director, of clients and scanners, and a recovery that fails.
-use Rattle.std.proofs.Common.{◌≡◌, ◌+◌, ◌<◌, Bool, true, false, List, [], ◌∷◌, ◌++◌, append-nil, refl, sym, subst, ap, ◌∙◌, ◌==◌, arith}
-use Rattle.std.specs.Prelude.{ℕ, if◌then◌else◌, Option, Some, None}
-use Rattle.std.specs.List.{AllByRecursion}
-use Rattle.volt_wire.specs.declared.actor.Actor.{Actor}
-use Rattle.volt_wire.specs.declared.actor.Actor.TheVariants.{Director, Client, Agent, Site, Scanner}
-use Rattle.volt_wire.specs.declared.item.Item.{Item}
+use Rattle.log_laws.proofs.Names.{◌≡◌, ◌+◌, ◌<◌, Bool, true, false, List, [], ◌∷◌, append-nil, refl, sym, subst, ap, ◌∙◌, ◌==◌, arith, ℕ, Option, Some, None, AllByRecursion, Actor, Director, Client, Agent, Site, Scanner, Item, TimedItem, Database, Deployment, is_host, is_slot_of, host_of_slot, same, Letter, Sends, Turn, no_sends, open_letter, only, new_agent, stops_others, ClientState, Due, submits, submit_to, target, DirectorState, stops_host, asks_recovery, does, does_next, ScannerState, Scan, scan_block, scans, scan_turn, scanner_turn, Environment, NoMemory, World, took, sent, set_at, stop_noted, stamp_of, with_director, with_client, with_scanner, left_contents, stays_stopped, delivered, starts_in, takes-next, state_of, all-append, all-if, all-mono, set-there, starts-if, stops_all-starts, same-true, channel-holds, director-inert-holds, draws-holds, cond_both, LogState, ForeignOk, LogsHold, log_state, AuthoritativeOk, CountedIn, HasLogs}
 use Rattle.volt_wire.specs.declared.item.Item.TheVariants as item
-use Rattle.volt_wire.specs.declared.item.TimedItem.{TimedItem}
 use Rattle.volt_wire.specs.declared.message.Msg.TheVariants as msg
-use Rattle.cluster_model.specs.Engine.{Database}
-use Rattle.cluster_model.specs.Words.{Deployment, is_host, is_slot_of, host_of_slot}
-use Rattle.cluster_model.specs.Letters.{same, Letter, Sends, Turn, no_sends, open_letter, only}
-use Rattle.cluster_model.specs.AgentState.{new_agent, stops_others}
-use Rattle.cluster_model.specs.Client.{ClientState, Due, submits, submit_to, target}
-use Rattle.cluster_model.specs.Director.{DirectorState, stops_host, asks_recovery, does, does_next}
-use Rattle.cluster_model.specs.Scanner.{ScannerState, Scan, scan_block, scans, scan_turn, scanner_turn}
-use Rattle.cluster_model.specs.Environment.{Environment, NoFault, DiskFails, NoMemory, DisksShow}
-use Rattle.cluster_model.specs.World.{World, took, sent, set_at, stop_noted, stamp_of, with_director, with_client, with_scanner}
-use Rattle.cluster_model.specs.Recover.{left_contents, stays_stopped}
-use Rattle.cluster_model.specs.Events.{delivered}
-use Rattle.cluster_model.specs.Laws.{starts_in}
-use Rattle.cluster_model.proofs.Starts.{takes-next}
 use Rattle.word_laws.specs.Histories as word
-use Rattle.word_laws.specs.Chain.{state_of}
-use Rattle.cluster_steps.proofs.Lists.{all-append, all-if, all-mono, set-there}
-use Rattle.cluster_steps.proofs.Channels.{starts-if, stops_all-starts}
-use Rattle.word_laws.proofs.Steps.{same-true, channel-holds}
-use Rattle.word_laws.proofs.Draws.{director-inert-holds, draws-holds}
-use Rattle.log_laws.specs.Histories.{LogState, ForeignOk, LogsHold}
-use Rattle.log_laws.specs.Copies.{log_state, AuthoritativeOk, CountedIn, HasLogs}
 use Rattle.log_laws.proofs.Runs.Boots.{NoStart}
 use Rattle.log_laws.proofs.Runs.Frames.{Agrees, foreign-plain, frames-holds}
 
@@ -45,44 +19,34 @@ sent-foreign : (S : LogState) (channel : Actor → Actor → List Letter) (a : A
     → ((from : Actor) (c : ℕ) → AllByRecursion (ForeignOk S c from) (channel from (Site c)))
     → ((c : ℕ) → AllByRecursion NoStart (out (Site c)))
     → (from : Actor) (c : ℕ) → AllByRecursion (ForeignOk S c from) (sent channel a out from (Site c))
-sent-foreign S channel a out far before more from c = choice (same a from) refl
+sent-foreign S channel a out far before more from c = cond_both (same a from) _ _ (AllByRecursion (ForeignOk S c from))
+    (λ e. all-append (ForeignOk S c from) (channel from (Site c)) (out (Site c)) (before from c)
+    (subst (λ x. AllByRecursion (ForeignOk S c x) (out (Site c))) (same-true a from e)
+    (all-mono NoStart (ForeignOk S c a) (λ l k. foreign-plain S c a l (apart a far) k) (out (Site c)) (more c))))
+    (λ e. before from c)
   where
     apart : (b : Actor) → Foreign b → (h : ℕ) → same b (Agent h) ≡ false
-    apart Director k h = refl
-    apart (Client n) k h = refl
-    apart (Scanner x) k h = refl
     apart (Agent n) k h = absurd k
     apart (Site i) k h = absurd k
-
-    choice : (b : Bool) → same a from ≡ b → AllByRecursion (ForeignOk S c from) (if b then channel from (Site c) ++ out (Site c) else channel from (Site c))
-    choice false e = before from c
-    choice true e = all-append (ForeignOk S c from) (channel from (Site c)) (out (Site c)) (before from c)
-        (subst (λ x. AllByRecursion (ForeignOk S c x) (out (Site c))) (same-true a from e)
-        (all-mono NoStart (ForeignOk S c a) (λ l k. foreign-plain S c a l (apart a far) k) (out (Site c)) (more c)))
+    apart from k h = refl
 
 -- and what one of them took is nothing that sites get
 took-foreign : (S : LogState) (channel : Actor → Actor → List Letter) (from to : Actor) → Foreign to
     → ((a : Actor) (c : ℕ) → AllByRecursion (ForeignOk S c a) (channel a (Site c)))
     → (a : Actor) (c : ℕ) → AllByRecursion (ForeignOk S c a) (took channel from to a (Site c))
-took-foreign S channel from Director far before a c = before a c
-took-foreign S channel from (Client n) far before a c = before a c
-took-foreign S channel from (Scanner x) far before a c = before a c
 took-foreign S channel from (Agent n) far before a c = absurd far
 took-foreign S channel from (Site i) far before a c = absurd far
+took-foreign S channel from to far before a c = before a c
 
 sent-agrees : (channel : Actor → Actor → List Letter) (a : Actor) (out : Sends) → Foreign a → Agrees channel (sent channel a out)
-sent-agrees channel Director out far = record { sites = λ i c. refl; told = λ i h. refl; views = λ g c. refl; agreed = λ g h. refl }
-sent-agrees channel (Client n) out far = record { sites = λ i c. refl; told = λ i h. refl; views = λ g c. refl; agreed = λ g h. refl }
-sent-agrees channel (Scanner x) out far = record { sites = λ i c. refl; told = λ i h. refl; views = λ g c. refl; agreed = λ g h. refl }
 sent-agrees channel (Agent n) out far = absurd far
 sent-agrees channel (Site i) out far = absurd far
+sent-agrees channel from out far = record { sites = λ i c. refl; told = λ i h. refl; views = λ g c. refl; agreed = λ g h. refl }
 
 took-agrees : (channel : Actor → Actor → List Letter) (from to : Actor) → Foreign to → Agrees channel (took channel from to)
-took-agrees channel from Director far = record { sites = λ i c. refl; told = λ i h. refl; views = λ g c. refl; agreed = λ g h. refl }
-took-agrees channel from (Client n) far = record { sites = λ i c. refl; told = λ i h. refl; views = λ g c. refl; agreed = λ g h. refl }
-took-agrees channel from (Scanner x) far = record { sites = λ i c. refl; told = λ i h. refl; views = λ g c. refl; agreed = λ g h. refl }
 took-agrees channel from (Agent n) far = absurd far
 took-agrees channel from (Site i) far = absurd far
+took-agrees channel from to far = record { sites = λ i c. refl; told = λ i h. refl; views = λ g c. refl; agreed = λ g h. refl }
 
 agrees-then : (f g h : Actor → Actor → List Letter) → Agrees f g → Agrees g h → Agrees f h
 agrees-then f g h p q = record {
@@ -184,10 +148,8 @@ only-none to l b k = all-if NoStart (same to b) (l ∷ []) [] (k, tt) tt
 
 scanner_turn-none : (D : Deployment) (i : ℕ) (x : ScannerState) (from : Actor) (l : Letter) (o : Environment) (c : ℕ)
     → AllByRecursion NoStart ((scanner_turn D i x from l o).sends (Site c))
-scanner_turn-none D i x from l NoFault c = tt
-scanner_turn-none D i x from l (DiskFails answered) c = tt
 scanner_turn-none D i x from l (NoMemory answered) c = stops-none D (host_of_slot D i) _ c
-scanner_turn-none D i x from l (DisksShow shown failed) c = tt
+scanner_turn-none D i x from l y c = tt
 
 scans-none : (i : ℕ) (x : ScannerState) (s : Option Scan) (c : ℕ) → AllByRecursion NoStart ((scans i x s).sends (Site c))
 scans-none i x None c = tt
@@ -198,10 +160,8 @@ scans-none i x (Some s) c = block s.left
     block (b ∷ left) = only-none s.target _ (Site c) tt
 
 scan_turn-none : (D : Deployment) (i : ℕ) (x : ScannerState) (o : Environment) (c : ℕ) → AllByRecursion NoStart ((scan_turn D i x o).sends (Site c))
-scan_turn-none D i x NoFault c = scans-none i x x.scan c
-scan_turn-none D i x (DiskFails answered) c = scans-none i x x.scan c
 scan_turn-none D i x (NoMemory answered) c = stops-none D (host_of_slot D i) _ c
-scan_turn-none D i x (DisksShow shown failed) c = scans-none i x x.scan c
+scan_turn-none D i x y c = scans-none i x x.scan c
 
 pub to_scanner-logs : (E : Database) (w : World) (i : ℕ) (from : Actor) (ls : List Letter) (o : Environment) → (k : HasLogs w) → Keeps w k (delivered E w (Scanner i) from ls o)
 to_scanner-logs E w i from [] o k = still w k

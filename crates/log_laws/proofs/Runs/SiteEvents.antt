@@ -1,25 +1,10 @@
 -- A site takes a message, or syncs: all holds after it.
-use Rattle.std.proofs.Common.{◌≡◌, ◌<◌, Bool, true, false, List, [], ◌∷◌, ◌++◌, refl, sym, subst, ap, ◌==◌, arith, inl}
-use Rattle.std.proofs.lemmas.Bool.{eqb-true}
-use Rattle.std.proofs.lemmas.Bool.Decides.{nat_tests}
-use Rattle.std.specs.Prelude.{ℕ, take, if◌then◌else◌}
-use Rattle.volt_wire.specs.declared.actor.Actor.{Actor}
-use Rattle.volt_wire.specs.declared.actor.Actor.TheVariants.{Director, Client, Agent, Site, Scanner}
-use Rattle.volt_wire.specs.declared.message.Msg.{Msg}
+use Rattle.log_laws.proofs.Names.{◌≡◌, ◌<◌, Bool, true, false, List, [], ◌∷◌, ◌++◌, refl, sym, subst, ap, ◌==◌, arith, inl, eqb-true, nat_tests, ℕ, take, if◌then◌else◌, Actor, Agent, Site, Msg, Database, host_of_slot, after_parts, after_failure, Blocks, Letter, Turn, becomes, ◌▸◌, arrival, Arrival, Taken, Refused, Waits, SiteState, settles, ordered, site_handler, site_runs, site_takes, written, after_sync, syncs, parts_of_message, parts_of_sync, site_turn, sync_turn, Environment, NoFault, DiskFails, NoMemory, DisksShow, LogState, LogsHold, IsSlot, ForeignOk, site_start, term_at}
 use Rattle.volt_wire.specs.declared.message.Msg.TheVariants as msg
-use Rattle.cluster_model.specs.Engine.{Database}
-use Rattle.cluster_model.specs.Words.{host_of_slot}
-use Rattle.cluster_model.specs.Disk.{after_parts, after_failure}
-use Rattle.cluster_model.specs.Letters.{Blocks, Letter, Turn, becomes, ◌▸◌, arrival, Arrival, Taken, Refused, Waits}
-use Rattle.cluster_model.specs.SiteState.{SiteState}
-use Rattle.cluster_model.specs.Site.{takes_waiting, settles, ordered, site_handler, on_start, site_runs, site_takes}
-use Rattle.cluster_model.specs.Sync.{written, after_sync, syncs, parts_of_message, parts_of_sync, start_after, site_turn, sync_turn}
-use Rattle.cluster_model.specs.Environment.{Environment, NoFault, DiskFails, NoMemory, DisksShow}
-use Rattle.log_laws.specs.Histories.{LogState, LogsHold, IsSlot, ForeignOk, site_start, term_at}
-use Rattle.log_laws.proofs.Kept.Moves.{site_popped, LogsGo}
-use Rattle.log_laws.proofs.Kept.Plumbing.{goes-same, goes-turns}
+use Rattle.cluster_model.specs.Site.{takes_waiting, on_start}
+use Rattle.cluster_model.specs.Sync.{start_after}
+use Rattle.log_laws.proofs.Kept.{site_popped, LogsGo, goes-same, goes-turns, power-goes}
 use Rattle.log_laws.proofs.Messages.Pops.{pops-kind, pops-refused, pops-stopped, waits-goes}
-use Rattle.log_laws.proofs.Kept.InertTurns.{power-goes}
 use Rattle.log_laws.proofs.Firmness.Syncs.{sync-goes}
 use Rattle.log_laws.proofs.Messages.Stops.{AfterTurn, stops_so-after, stops_so-message, on_stop-after, on_start-after}
 use Rattle.log_laws.proofs.Runs.SiteTurns.{taken-after, settled-after}
@@ -62,10 +47,7 @@ start-from S H from i l ls a is = each from (rw is at (H.foreign from i)).0
   where
     each : (b : Actor) → ForeignOk S i b (record l { body = msg.Start a }) → b ≡ Agent (host_of_slot S.words.deployment i)
     each (Agent h) k = ap Agent k
-    each Director k = absurd k
-    each (Client n) k = absurd k
-    each (Site j) k = absurd k
-    each (Scanner x) k = absurd k
+    each from k = absurd k
 
 module _ (E : Database) (stamp : ℕ) (S : LogState) (H : LogsHold S) (i : ℕ) (slot : IsSlot S i) (none : S.pending i ≡ []) (from : Actor) where
   -- All holds after a site has taken a message.

@@ -1,25 +1,10 @@
 -- What a site does with a message that it takes, from its channel and of those that waited: all holds after its handler.
-use Rattle.std.proofs.Common.{◌≡◌, ◌<◌, List, [], ◌∷◌, ◌++◌, refl, sym, subst, ap, ◌∙◌, ◌⊎◌, inl, inr, arith}
-use Rattle.std.specs.Prelude.{ℕ}
-use Rattle.std.specs.List.{AllByRecursion}
-use Rattle.volt_base.specs.declared.entry.Entry.{Entry}
-use Rattle.volt_wire.specs.Word.{Membership}
-use Rattle.volt_wire.specs.declared.actor.Actor.{Actor}
-use Rattle.volt_wire.specs.declared.actor.Actor.TheVariants.{Director, Client, Agent, Site, Scanner}
-use Rattle.volt_wire.specs.declared.message.Msg.{Msg}
+use Rattle.log_laws.proofs.Names.{◌≡◌, ◌<◌, List, [], ◌∷◌, ◌++◌, refl, sym, subst, ap, ◌∙◌, ◌⊎◌, inl, inr, arith, ℕ, AllByRecursion, Entry, Membership, Actor, Director, Client, Agent, Site, Scanner, Msg, Database, host_of_slot, Blocks, Letter, becomes, arrival, Taken, Waiting, on_view, from_agent, from_site, from_scanner, from_director, site_handler, rest, eqb-same, set_at, LogState, LogsHold, AckOk, ReportOk, EndOk, SiteLetterOk, SiteWaitingFrom, SiteWaitingOk, ForeignOk, part, site_start, term_at, between, flow, is_for}
 use Rattle.volt_wire.specs.declared.message.Msg.TheVariants as msg
-use Rattle.cluster_model.specs.Engine.{Database}
-use Rattle.cluster_model.specs.Words.{host_of_slot}
-use Rattle.cluster_model.specs.Letters.{Blocks, Letter, becomes, arrival, Taken, Waiting}
-use Rattle.cluster_model.specs.Site.{on_view, from_agent, from_site, from_scanner, from_director, site_handler}
-use Rattle.cluster_model.specs.World.{rest}
-use Rattle.cluster_steps.proofs.Lists.{eqb-same}
 use Rattle.log_laws.specs.Histories as log
-use Rattle.log_laws.specs.Histories.{LogState, LogsHold, AckOk, ReportOk, EndOk, SiteLetterOk, SiteWaitingFrom, SiteWaitingOk, ForeignOk, part, site_start, term_at, between, flow}
-use Rattle.log_laws.proofs.Kept.Moves.{site_popped, left, Turns, LogsGo}
-use Rattle.log_laws.proofs.Plain.Lines.{flow-plain}
+use Rattle.log_laws.proofs.Kept.{site_popped, left, Turns, LogsGo, look-goes, goes-same, goes-turns, running-slot, logs_moved}
+use Rattle.log_laws.proofs.Plain.{if-none}
 use Rattle.log_laws.proofs.Messages.Pops.{taken-for, pops-plain, leaves}
-use Rattle.log_laws.proofs.Kept.InertTurns.{look-goes}
 use Rattle.log_laws.proofs.Entries.Puts.{on_put-goes, on_repair-goes}
 use Rattle.log_laws.proofs.Entries.Calls.{on_sp_call-goes, on_frag-goes, on_done-goes}
 use Rattle.log_laws.proofs.Firmness.Acks.{on_ack-goes}
@@ -29,8 +14,6 @@ use Rattle.log_laws.proofs.Joins.Asks.{join-ask-goes, join-ask-left-goes}
 use Rattle.log_laws.proofs.Joins.StreamStarts.{stream-start-goes}
 use Rattle.log_laws.proofs.Joins.Tasks.{task-goes}
 use Rattle.log_laws.proofs.Joins.Loads.{stream-end-goes, chunk-goes, scan-end-goes}
-use Rattle.log_laws.proofs.Kept.Plumbing.{goes-same, goes-turns}
-use Rattle.log_laws.proofs.Kept.Terms.{running-slot}
 
 -- ---- which messages are taken
 
@@ -61,29 +44,12 @@ director-handler T H i up l m = elim m as (λ m. LogsGo T i (becomes (from_direc
 
 -- ---- what was said of a message, once it has left
 
-module _ (S : LogState) (from : Actor) (i : ℕ) where
-  ack-popped : (c t n : ℕ) → AckOk S c t n → AckOk (site_popped S from i) c t n
-  ack-popped c t n k = search
+module _ (S : LogState) (ch : Actor → Actor → List Letter) (pend : ℕ → List Waiting) where
+  ack-moved : (c t n : ℕ) → AckOk S c t n → AckOk (logs_moved S ch S.sites pend) c t n
+  ack-moved c t n k = search
 
-  report-popped : (p c t n m : ℕ) (tail : List Entry) → ReportOk S p c t n m tail → ReportOk (site_popped S from i) p c t n m tail
-  report-popped p c t n m tail k = record {
-    entered = k.entered;
-    is_entered = k.is_entered;
-    position_is = k.position_is;
-    floor_is = k.floor_is;
-    tail_is = k.tail_is;
-    part_is = k.part_is;
-    word = k.word;
-    is_word = record { decided = k.is_word.decided; term_is = k.is_word.term_is };
-    follower = k.follower;
-  }
-
-module _ (S : LogState) (i : ℕ) (ws : List Waiting) where
-  ack-left : (c t n : ℕ) → AckOk S c t n → AckOk (left S i ws) c t n
-  ack-left c t n k = search
-
-  report-left : (p c t n m : ℕ) (tail : List Entry) → ReportOk S p c t n m tail → ReportOk (left S i ws) p c t n m tail
-  report-left p c t n m tail k = record {
+  report-moved : (p c t n m : ℕ) (tail : List Entry) → ReportOk S p c t n m tail → ReportOk (logs_moved S ch S.sites pend) p c t n m tail
+  report-moved p c t n m tail k = record {
     entered = k.entered;
     is_entered = k.is_entered;
     position_is = k.position_is;
@@ -129,17 +95,17 @@ module _ (E : Database) (stamp : ℕ) (S : LogState) (H : LogsHold S) (i : ℕ) 
         same-flow : flow l.start l.term (between S slot i) ≡ flow l.start l.term (between T slot i)
         same-flow =
             ap (flow l.start l.term) is
-            ∙ ap (λ xs. xs ++ flow l.start l.term ls) (flow-plain l.start l.term (record l { body = msg.StreamEnd count }) refl)
+            ∙ ap (λ xs. xs ++ flow l.start l.term ls) (if-none (is_for l.start l.term l))
             ∙ ap (flow l.start l.term) (sym (left-behind (msg.StreamEnd count) is))
 
     site-handler : (m : Msg Blocks) → S.words.channel (Site slot) (Site i) ≡ record l { body = m } ∷ ls → SiteLetterOk S slot i (record l { body = m }) → OfBody m
     site-handler m = elim m as (λ m. S.words.channel (Site slot) (Site i) ≡ record l { body = m } ∷ ls → SiteLetterOk S slot i (record l { body = m }) → OfBody m) [
       | msg.Put position e floor ↦ λ is k. let a = here k.0.0.0 k.0.0.1 in on_put-goes E S H i slot l ls position e floor is up a.0 a.1
       | msg.Ack position ↦ λ is k. let a = here k.0.0 k.0.1 in
-          on_ack-goes T (gone (msg.Ack position) is refl refl) i slot position up (ack-popped S (Site slot) i slot (term_at S i) position (rw a.1 at k.1))
+          on_ack-goes T (gone (msg.Ack position) is refl refl) i slot position up (ack-moved S T.words.channel S.pending slot (term_at S i) position (rw a.1 at k.1))
       | msg.Report position floor tail ↦ λ is k. let a = here k.0.0 k.0.1 in
           on_report-goes E T (gone (msg.Report position floor tail) is refl refl) i stamp slot position floor tail up
-          (report-popped S (Site slot) i (part S i) slot (term_at S i) position floor tail (rw a.1 at k.1))
+          (report-moved S T.words.channel S.pending (part S i) slot (term_at S i) position floor tail (rw a.1 at k.1))
       | msg.Repair from entries ↦ λ is k. let a = here k.0.0 k.0.1 in on_repair-goes E S H i slot l ls from entries is up a.0 a.1
       | msg.JoinAsk start asking ↦ λ is k. let a = here k.0.0 k.0.1 in join-ask-goes S H i slot l ls start asking is up a.0 a.1
       | msg.StreamStart head ↦ λ is k. let a = here k.0.0 k.0.1 in stream-start-goes S H i slot l ls head is up a.0 a.1
@@ -207,10 +173,10 @@ module _ (E : Database) (stamp : ℕ) (S : LogState) (H : LogsHold S) (i : ℕ) 
         | msg.StreamEnd count ↦ λ is t a k. absurd k
         | msg.Task position e ↦ λ is t a k. absurd k
         | msg.Ack position ↦ λ is t a k.
-            on_ack-goes (left S i ws) (leaves S H i _ ws is) i slot position up (ack-left S i ws slot (term_at S i) position (rw t at k.1))
+            on_ack-goes (left S i ws) (leaves S H i _ ws is) i slot position up (ack-moved S S.words.channel (set_at S.pending i ws) slot (term_at S i) position (rw t at k.1))
         | msg.Report position floor tail ↦ λ is t a k.
             on_report-goes E (left S i ws) (leaves S H i _ ws is) i stamp slot position floor tail up
-            (report-left S i ws (part S i) slot (term_at S i) position floor tail (rw t at k.1))
+            (report-moved S S.words.channel (set_at S.pending i ws) (part S i) slot (term_at S i) position floor tail (rw t at k.1))
         | msg.JoinAsk start asking ↦ λ is t a k. join-ask-left-goes S H i slot l ws start asking is up (not-none l.start (site_start S i) k.0.0 a) t
         | m ↦ λ is t a k. goes-same (left S i ws) i (leaves S H i _ ws is)
       ]

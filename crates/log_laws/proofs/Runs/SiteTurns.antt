@@ -1,26 +1,12 @@
 -- The turn of a site that takes a message: its handler, then what waited for its term, and then what settles.
-use Rattle.std.proofs.Common.{◌≡◌, ◌<◌, List, [], ◌∷◌, sym, subst, ap, ◌∙◌, inl}
-use Rattle.std.specs.Prelude.{ℕ}
-use Rattle.volt_wire.specs.declared.actor.Actor.{Actor}
-use Rattle.volt_wire.specs.declared.actor.Actor.TheVariants.{Site}
-use Rattle.cluster_model.specs.Engine.{Database}
-use Rattle.cluster_model.specs.Letters.{same, Letter, Turn, ◌▸◌, arrival, Taken}
-use Rattle.cluster_model.specs.Words.{Deployment}
-use Rattle.cluster_model.specs.SiteState.{SiteState}
-use Rattle.cluster_model.specs.Site.{site_handler, takes_waiting, tells, ends_streams, shows, takes_asks, settles, ordered}
-use Rattle.log_laws.specs.Histories.{LogState, LogsHold, site_start, term_at}
-use Rattle.log_laws.proofs.Kept.Moves.{after_site, site_popped, left, Turns, LogsGo}
-use Rattle.log_laws.proofs.Kept.Grown.{grown-on}
-use Rattle.log_laws.proofs.Kept.Plumbing.{here, after-after, goes-then, turns-then-goes}
-use Rattle.log_laws.proofs.Kept.Rests.{part-from}
+use Rattle.log_laws.proofs.Names.{◌≡◌, ◌<◌, List, [], ◌∷◌, sym, subst, ap, ◌∙◌, inl, ℕ, Actor, Site, Database, same, Letter, Turn, ◌▸◌, arrival, Taken, Deployment, SiteState, site_handler, ends_streams, shows, takes_asks, settles, ordered, then-assoc, LogState, LogsHold, site_start, term_at}
+use Rattle.cluster_model.specs.Site.{takes_waiting, tells}
+use Rattle.log_laws.proofs.Kept.{after_site, site_popped, left, Turns, LogsGo, grown-on, here, after-after, goes-then, turns-then-goes, part-from, ordered-turns, tells-goes, shows-goes, ordered-then, takes_asks-last}
 use Rattle.log_laws.proofs.Messages.Waited.{waited-goes}
-use Rattle.log_laws.proofs.Kept.Order.{ordered-turns, ordered-asks}
-use Rattle.log_laws.proofs.Kept.InertTurns.{tells-goes, shows-goes}
 use Rattle.log_laws.proofs.Messages.Stops.{AfterTurn}
 use Rattle.log_laws.proofs.Joins.Streams.{TakesAsks, takes_asks-holds}
 use Rattle.log_laws.proofs.Firmness.Ends.{ends_streams-goes}
 use Rattle.log_laws.proofs.Runs.SiteHandlers.{handler-turns, left-goes}
-use Rattle.word_laws.proofs.Hearings.{then-assoc}
 
 -- ---- what settles, but for asks that are taken up
 
@@ -46,7 +32,7 @@ asks-after E S i t up k =
     let a = takes_asks E D i t.state in
     let site : T.sites i ≡ t.state = here S i t.state (ordered t).sends o.logs in
     let r = subst (λ s. TakesAsks T i (takes_asks E D i s)) site (takes_asks-holds E T o.holds i (subst (λ s. 0 < s.start) (sym site) (subst (λ n. 0 < n) (sym k.start) up))) in
-    subst (AfterTurn S i) (sym (ordered-asks E D i t)) (
+    subst (AfterTurn S i) (sym (ordered-then t (takes_asks E D i) (takes_asks-last E D i t.state))) (
       o.logs,
       subst LogsHold (after-after S i t.state a.state (ordered t).sends a.sends o.logs o.logs) r.holds,
       grown-on D i t.state a.state S.logs o.logs (r.start ∙ ap (λ s. s.start) site) (r.view ∙ ap (λ s. s.view) site) o.grown,

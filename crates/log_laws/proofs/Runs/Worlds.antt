@@ -1,32 +1,8 @@
 -- Each world of a run has a history of which all holds, and from one recovery that works to the next it only grows.
-use Rattle.std.proofs.Common.{◌≡◌, ◌+◌, ◌<◌, Bool, true, false, List, [], ◌∷◌, ◌++◌, refl, sym, subst, ap, ◌∙◌, ◌==◌, inl, inr, arith, zero, suc}
-use Rattle.std.proofs.lemmas.Bool.{and_parts, eqb-true, false≢true, or_cases}
-use Rattle.std.proofs.lemmas.Bool.Decides.{nat_tests}
-use Rattle.std.proofs.lemmas.List.Folds.{list_any-append}
-use Rattle.std.specs.Prelude.{ℕ, ◌≤◌, ◌&&◌, ◌||◌, not, nat_lt, map, Some, None}
-use Rattle.std.specs.List.{list_any, range_with_len}
-use Rattle.volt_wire.specs.declared.actor.Actor.{Actor}
-use Rattle.volt_wire.specs.declared.actor.Actor.TheVariants.{Director, Client, Agent, Site, Scanner}
-use Rattle.volt_wire.specs.declared.event.Event.{Event}
+use Rattle.log_laws.proofs.Names.{◌≡◌, ◌+◌, ◌<◌, Bool, true, false, List, [], ◌∷◌, ◌++◌, refl, sym, subst, ap, ◌∙◌, ◌==◌, inl, inr, arith, zero, suc, and_parts, eqb-true, false≢true, or_cases, nat_tests, list_any-append, ℕ, ◌≤◌, ◌&&◌, ◌||◌, not, nat_lt, map, Some, None, list_any, range_with_len, Actor, Director, Client, Agent, Site, Scanner, Event, Database, Deployment, slots, part_of_slot, is_host, same, Letter, Turn, SiteState, is_member_site, leads, agent_turn, owes_in, may_sync, site_turn, sync_turn, Environment, NoFault, DiskFails, NoMemory, DisksShow, World, AuthoritativeLog, Stopped, Input, stamp_of, took, authoritative_after, with_site, stops_with, stays_stopped, is_actor, is_some_letter, can, allows, delivered, recovered_with, may_do, happens, step, Happening, Reached, RunsInEpoch, has_failed, may_happen, renews_by, renews_at, renews, reached-kept, in-epoch-kept, if-false, set-here, set-both, actor-host, host-apart, memory-runs, Logs, LogState, LogsHold, site_start, log_state, AuthoritativeOk, HasLogs}
 use Rattle.volt_wire.specs.declared.event.Event.TheVariants as event
-use Rattle.cluster_model.specs.Engine.{Database}
-use Rattle.cluster_model.specs.Words.{Deployment, slots, part_of_slot, is_host}
-use Rattle.cluster_model.specs.Letters.{same, Letter, Turn}
-use Rattle.cluster_model.specs.SiteState.{SiteState, is_member_site, leads}
-use Rattle.cluster_model.specs.Agent.{agent_turn}
-use Rattle.cluster_model.specs.Sync.{owes_in, may_sync, site_turn, sync_turn}
-use Rattle.cluster_model.specs.Environment.{Environment, NoFault, DiskFails, NoMemory, DisksShow}
-use Rattle.cluster_model.specs.World.{World, AuthoritativeLog, Stopped, Input, stamp_of, took, authoritative_after, with_site, stops_with}
-use Rattle.cluster_model.specs.Recover.{stays_stopped}
-use Rattle.cluster_model.specs.Events.{is_actor, is_some_letter, can, allows, delivered, recovered_with, may_do, happens, step}
-use Rattle.cluster_model.specs.Runs.{Happening, Reached, RunsInEpoch, has_failed, may_happen, renews_by, renews_at, renews}
-use Rattle.cluster_model.proofs.Runs.{reached-kept, in-epoch-kept}
-use Rattle.cluster_steps.proofs.Lists.{if-false, set-here, set-both}
-use Rattle.word_laws.proofs.Worlds.{actor-host, host-apart, memory-runs}
-use Rattle.log_laws.specs.Histories.{Logs, LogState, LogsHold, site_start}
-use Rattle.log_laws.specs.Copies.{log_state, AuthoritativeOk, HasLogs}
-use Rattle.log_laws.proofs.Kept.Moves.{Grown, Onward}
-use Rattle.log_laws.proofs.Kept.Grown.{onward-same, onward-then}
+use Rattle.log_laws.proofs.Kept.{Onward, onward-same, onward-then}
+use Rattle.log_laws.proofs.Kept.Moves.{Grown}
 use Rattle.log_laws.proofs.Runs.Leading.{AuthoritativeRises, rises-same, rises-then, authoritative-still, authoritative-turned, authoritative-rises, authoritative-counted}
 use Rattle.log_laws.proofs.Runs.Boots.{first-logs, anew-logs}
 use Rattle.log_laws.proofs.Runs.Others.{Keeps, to_client-logs, to_director-logs, to_scanner-logs, scan-logs, submit-logs, next-logs, stopped-logs}

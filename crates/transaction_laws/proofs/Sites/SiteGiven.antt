@@ -17,10 +17,10 @@ use Rattle.cluster_model.specs.Environment.{Environment}
 use Rattle.cluster_model.specs.Sync.{site_turn}
 use Rattle.cluster_steps.specs.Lists.{In}
 use Rattle.cluster_steps.proofs.Lists.{all-at, all-from, not-both, all-both, all-mono, none-and-some, same-some}
-use Rattle.log_laws.specs.Histories.{LogState, LogsHold, ReportOk, SiteLetterOk, SiteWaitingFrom, SiteWaitingOk, IsSlot, line, line_in, between, part, site_start, term_at}
+use Rattle.log_laws.specs.Histories.{LogState, LogsHold, ReportOk, SiteLetterOk, SiteWaitingFrom, SiteWaitingOk, IsSlot, line, line_in, line_of, between, part, site_start, term_at}
 use Rattle.cluster_steps.proofs.Leaders.{leader-view}
 use Rattle.log_laws.proofs.Plain.Copies.{is-leader, leader-follows-none}
-use Rattle.log_laws.proofs.Plain.Lines.{line-empty, for-true}
+use Rattle.log_laws.proofs.Plain.Lines.{flat-each, for-true}
 use Rattle.log_laws.proofs.Runs.SiteHandlers.{taken-here}
 use Rattle.disk_laws.specs.Disks.{Firm, StreamDisk, DisksHold}
 use Rattle.cluster_steps.proofs.SiteTurns.{KeepsWord, NoWord, anew, handler-keeps, stays_joiner, site_turn-cases, whole_turn, whole-keeps}
@@ -84,7 +84,7 @@ module _ (S : LogState) (H : LogsHold S) (i : ℕ) (slot : IsSlot S i) (up : 0 <
     lines : is_leader S.words.deployment i s ≡ true → (0 < l.start) × (0 < l.term) → line_in l.body ≡ []
     lines authoritative some =
         let a = taken-here (site_start S i) (term_at S i) l take some.0 some.1 in
-        let here = line-empty (site_start S i) (term_at S i) (between S c i) (no-line authoritative c) l (subst (In l) (sym is) (inl refl)) in
+        let here = flat-each (line_of (site_start S i) (term_at S i)) (between S c i) (no-line authoritative c) l (subst (In l) (sym is) (inl refl)) in
         rw (for-true (site_start S i) (term_at S i) l a.0 a.1) at here
 
     letter : SiteLetterOk S c i l
