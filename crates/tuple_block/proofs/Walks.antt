@@ -1,7 +1,7 @@
 -- What the walks of the functions with raw pointers share. Assumes `Logic`.
 --     address_had, mark_had, mark_made, address_made      an address, and a part that takes no space, taken apart and made
 --     run_of, array_of, one_zero_more, room_of            bytes one by one and as one array;  a run of zeros that grows;  bytes let go
-use mathlib.Core.Path.{◌≡◌, refl, sym, ap, subst}
+use mathlib.Core.Path.{◌≡◌, refl, subst}
 use Prim.Native.Nat.{ℕ, zero, suc, ◌+◌}
 use native.Mathlib.Omega.{arith}
 use mathlib.Core.List.{List, [], ◌∷◌, ◌++◌}
@@ -11,7 +11,7 @@ use seplogic.Ra.Ura.{Ura}
 use base.Fraction.{full_share}
 use base.Fml.{Fml, feq, fsep, fat, ftrue}
 use base.Logic.{ent, sep, emp}
-use mir.Val.{Val, Vals, vstruct, vcons, vnil, of_list, has_ty, WT}
+use mir.Val.{Val, vstruct, vcons, vnil, of_list, has_ty, WT}
 use types.Logic.{Logic, sem}
 use types.Kit.{Item, Goal, Seq, Step, step, ‵, ◌⊛◌, some, ◌$◌, ◌∵◌, !, qed, by, move, keep, drop, pick, split, rewrite, use1, use2, fsplit, fjoin, fpick, fpack, feq_i, feq_l, done}
 use denote.Array.{Array}

@@ -1,6 +1,6 @@
 -- What the bytes end as, once a `&mut` to them has ended.
 use Rattle.std.specs.Prelude.{ℕ, List, length}
-use Rattle.std.specs.Borrow.{Fml, RattleType, MutBor, Array, Lends}
+use Rattle.std.specs.Borrow.{Fml, MutBor, Array, Lends}
 use Rattle.std.specs.List.{refill}
 use denote.Builtin.{u8}
 use Rattle.tuple_block.specs.declared.memory.Memory.{Memory}

@@ -3,12 +3,11 @@ use mathlib.Core.Path.{◌≡◌, refl, sym, ap, subst}
 use mathlib.Core.Bool.{true, false}
 use mathlib.Core.List.{List, [], ◌∷◌, ◌++◌}
 use Prim.Native.Nat.{ℕ, ◌<◌, ◌^◌}
-use native.Mathlib.Omega.{arith}
 use lib.Dec.{T, lit<}
-use lib.ListN.{length, replicate, length-replicate}
+use lib.ListN.{replicate}
 use seplogic.Ra.Ura.{Ura}
 use base.Fml.{Lft, Share, Incl-trans, ftrue, fsep, flft, froom}
-use base.Logic.{SProp, ent, sep, guard, id⊢}
+use base.Logic.{SProp, ent, guard, id⊢}
 use mir.Syntax.{Body, Fn, named, ty_unit, w64}
 use mir.MapTy.{inst_fn}
 use mir.Val.{Val, vint, vptr, vstruct, vcons, vnil, vunit, has_ty, WT}
@@ -20,9 +19,9 @@ use contract.Monad.{Fun, fact}
 use contract.Running.{tables, tables_of}
 use sound.WpLaws.{FmC, fm_of, WpFn-mono}
 use types.Logic.{Logic, sem}
-use types.Kit.{Item, Post as After, any_q, ⋆, ‵, raw, ◌⊛◌, some, given, later, await, pick, learn, check, updating, now, at_ret, ◌$◌, ◌∵◌, !, qed, by, move, keep, drop, use0, use1, use2, use3, join, split, rewrite, fsplit, fsplit3, fjoin, feq_i, feq_l, flt_i, flt_l, suffices, frame, done}
+use types.Kit.{Item, Post as After, any_q, ⋆, ‵, raw, ◌⊛◌, some, given, later, await, pick, learn, check, updating, now, at_ret, ◌$◌, ◌∵◌, !, qed, by, move, keep, drop, use0, use1, use2, use3, join, split, fsplit, fsplit3, fjoin, feq_i, feq_l, flt_i, flt_l, suffices, frame, done}
 use types.Match.{live, vrt, in_variant}
-use types.Part.{whole, sub, agg}
+use types.Part.{whole, agg}
 use types.Run.{stop, fld, lit, of_opd, and_then, no_more, first, blocks, switches_on, exec, returns, enter}
 use types.ByLocal.{alloc_all, pass_all, free_all, look_at, get, get_in, get_tag, sets, sets_last, lands_as, lands_last, env}
 use denote.Builtin.{unit, usize, RefOf}
@@ -30,14 +29,14 @@ use denote.Exit.{yes}
 use denote.Laws.{Is}
 use denote.Memory.{hidden_shr}
 use denote.Param.{layout}
-use denote.RattleType.{RattleType, owns, Valss}
-use denote.RawPtr.{Ptr, RawPtr, block_ptr}
+use denote.RattleType.{RattleType, owns}
+use denote.RawPtr.{Ptr, block_ptr}
 use denote.Ref.{Bor, ShrRef}
 use denote.Signature.{plain}
 use denote.Steps.{only, nothing, owned}
 use denote.Struct.Declared as Declared
 use denote.Struct.Struct.{Struct, Struct-Makes}
-use denote.Struct.Tuple.{Tuple, tuple_type}
+use denote.Struct.Tuple.{Tuple}
 use denote.Triple.Call.{calls_at, calls_at_last}
 use denote.Triple.Clauses.{Clauses, Ended, closing}
 use denote.Triple.Entry.{on_entry}

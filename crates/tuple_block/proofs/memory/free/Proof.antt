@@ -1,5 +1,5 @@
 -- `free` gives up the bytes as room, and hands it back with the right to free it. Assumes `Logic`.
-use mathlib.Core.Path.{◌≡◌, refl, sym, ap, subst, ◌∙◌}
+use mathlib.Core.Path.{◌≡◌, refl, sym, subst, ◌∙◌}
 use mathlib.Core.List.{List, [], ◌∷◌, ◌++◌}
 use Prim.Native.Nat.{ℕ, ◌<◌, ◌^◌}
 use lib.Dec.{T, lit<}
@@ -7,7 +7,7 @@ use lib.ListN.{length}
 use seplogic.Ra.Ura.{Ura}
 use base.Fraction.{full_share}
 use base.Fml.{Lft, Share, Incl-trans, ftrue, fat, flft, froom}
-use base.Logic.{SProp, ent, sep, id⊢, never}
+use base.Logic.{SProp, ent, id⊢, never}
 use mir.Syntax.{Fn, named, ty_unit, w64}
 use mir.MapTy.{inst_fn}
 use mir.Val.{Val, vint, vptr, vunit, has_ty, WT}
@@ -27,7 +27,7 @@ use denote.Builtin.{usize, RefOf}
 use denote.Exit.{yes, no}
 use denote.Memory.{hidden_shr}
 use denote.Param.{layout}
-use denote.RattleType.{RattleType, owns}
+use denote.RattleType.{owns}
 use denote.RawPtr.{Ptr, block_ptr, in_a_block}
 use denote.Ref.{Bor, ShrRef}
 use denote.Signature.{plain}

@@ -1,17 +1,17 @@
 -- `set_zero` turns room into zeros, one byte in each turn. Assumes `Logic`.
-use mathlib.Core.Path.{◌≡◌, refl, sym, subst}
+use mathlib.Core.Path.{◌≡◌, refl}
 use mathlib.Core.List.{List, [], ◌∷◌}
 use mathlib.Core.WellFounded.InvImage
 use Prim.Native.Nat.{ℕ, zero, suc, ◌+◌, ◌-◌, ◌≤◌, ◌<◌, ◌^◌}
 use native.Mathlib.Omega.{arith}
 use lib.Dec.{lit<, ltb→lt, nltb→le}
-use lib.ListN.{replicate, length, length-replicate}
+use lib.ListN.{replicate}
 use lib.WfN.{lt-wf_rel}
 use seplogic.Ra.Ura.{Ura}
 use base.Fraction.{full_share}
-use base.Fml.{Fml, ftrue, ffalse, fat, froom}
-use base.Logic.{SProp, ent, sep, id⊢}
-use mir.Syntax.{Body, Fn, w8, w64, ty_int}
+use base.Fml.{ftrue, fat, froom}
+use base.Logic.{SProp, ent, id⊢}
+use mir.Syntax.{Body, w8, w64, ty_int}
 use mir.Val.{Val, vint, vptr, vunit}
 use prog.Memory.{Memory}
 use prog.Routine.{Routine}
@@ -20,7 +20,7 @@ use contract.Monad.{Fun}
 use contract.Running.{tables, tables_of}
 use sound.WpLaws.{WpFn-mono}
 use types.Logic.{Logic, sem}
-use types.Kit.{Item, Sq, any_q, runs, prop, regoal, ‵, raw, ◌⊛◌, at_ret, ◌$◌, ◌∵◌, !, qed, by, move, keep, drop, use0, use1, use2, join, split, rewrite, fjoin, feq_i, suffices, done}
+use types.Kit.{Item, Sq, any_q, runs, prop, regoal, ‵, ◌⊛◌, at_ret, ◌$◌, ◌∵◌, !, qed, by, move, keep, drop, use1, use2, join, split, rewrite, fjoin, feq_i, suffices, done}
 use types.Run.{stop, lit, bin, unit_lit, of_opd, init, assigns_last, first, blocks, skips, jumps, branches, exec, returns, enter, loops, again, Below}
 use types.ByLocal.{alloc_all, pass_all, free_all, look_at, get, through, sets, sets_last, env, holding, forget_but, take_at, give_at}
 use denote.Builtin.{u8, usize}

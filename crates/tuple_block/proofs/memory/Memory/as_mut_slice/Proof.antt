@@ -1,7 +1,7 @@
 -- `as_mut_slice` lends the bytes, and the memory ends as they do. Assumes `Logic`.
-use mathlib.Core.Path.{◌≡◌, refl, sym, ap, subst, ◌∙◌}
+use mathlib.Core.Path.{◌≡◌, refl, sym, subst, ◌∙◌}
 use mathlib.Core.List.{List, [], ◌∷◌, ◌++◌}
-use Prim.Native.Nat.{ℕ, ◌+◌, ◌*◌, ◌<◌, ◌^◌}
+use Prim.Native.Nat.{ℕ, ◌<◌, ◌^◌}
 use native.Mathlib.Nat.{mul-one}
 use native.Mathlib.Omega.{arith}
 use lib.ListN.{length, drop as drop_l}
@@ -30,7 +30,7 @@ use denote.Exit.{yes, no}
 use denote.Follow.{follows}
 use denote.FollowSlice.{Elements, lends_Elements}
 use denote.Index.{whole_in, whole_out}
-use denote.Memory.{mem, cell_at, part_at, part_of}
+use denote.Memory.{mem, cell_at, part_of}
 use denote.Param.{layout}
 use denote.RattleType.{RattleType, owns}
 use denote.RawPtr.{Ptr, block_ptr, in_a_block}

@@ -1,14 +1,14 @@
 -- `as_slice` shows the bytes that a `&` to the memory lends. Assumes `Logic`.
 use mathlib.Core.Path.{◌≡◌, refl, sym, ap, subst, ◌∙◌}
 use mathlib.Core.List.{List, [], ◌∷◌, ◌++◌}
-use Prim.Native.Nat.{ℕ, ◌+◌, ◌*◌, ◌<◌, ◌^◌}
+use Prim.Native.Nat.{ℕ, ◌*◌, ◌<◌, ◌^◌}
 use native.Mathlib.Nat.{mul-one}
 use native.Mathlib.Omega.{arith}
 use lib.ListN.{length}
 use seplogic.Ra.Ura.{Ura}
 use base.Fraction.{full_share}
 use base.Fml.{Lft, Share, ftrue, fat, flft}
-use base.Logic.{SProp, ent, sep, id⊢, fst∗, never}
+use base.Logic.{SProp, ent, fst∗, never}
 use mir.Syntax.{named, w64}
 use mir.Val.{Val, vint, vptr}
 use prog.Memory as memory
@@ -28,8 +28,8 @@ use denote.Exit.{yes}
 use denote.Memory.{hidden_shr, shared_of}
 use denote.Opens.{hide, unhide}
 use denote.Param.{layout}
-use denote.RattleType.{RattleType, owns}
-use denote.RawPtr.{Ptr, block_ptr, in_a_block}
+use denote.RattleType.{owns}
+use denote.RawPtr.{Ptr, in_a_block}
 use denote.Ref.{Bor, ShrRef}
 use denote.Signature.{plain}
 use denote.Slice.{ShrSlice, slice_val}
