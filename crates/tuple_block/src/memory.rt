@@ -68,7 +68,7 @@ unsafe impl<A: Allocator + Send> Send for Allocation<A> {}
 // A `&` to it gives no right.
 unsafe impl<A: Allocator> Sync for Allocation<A> {}
 
-/// So many bytes in a block of their own, all of them 0.
+/// So many bytes in a block of their own, all of them 0. A byte may lie anywhere: its alignment is 1.
 pub(crate) fn allocate<A: Allocator>(
     alloc: &A,
     len: usize,
@@ -89,7 +89,7 @@ pub(crate) fn allocate<A: Allocator>(
     }
 }
 
-/// Gives the block back.
+/// Gives the block back, whatever its bytes are.
 pub(crate) fn free<A: Allocator>(
     alloc: &A,
     address: Address,
@@ -123,7 +123,7 @@ unsafe fn set_zero(ptr: *mut u8, len: usize)
 impl Memory {
     ghost use Rattle.tuple_block.specs.Lends.{lends_bytes};
 
-    /// All of the bytes.
+    /// All of the bytes. The address and the length are those kept beside the memory.
     pub(crate) fn as_slice(&self, address: Address, len: usize) -> &[u8]
         requires { (address.ptr ≡ self.now.at) × (length self.now.bytes ≡ len) × (len < 2 ^ 63) }
         ensures { result.now ≡ self.now.bytes }
@@ -131,7 +131,7 @@ impl Memory {
         unsafe { slice::from_raw_parts(address.ptr, len) }
     }
 
-    /// All of the bytes, to be written.
+    /// All of the bytes, to be written. The address and the length are those kept beside the memory.
     pub(crate) fn as_mut_slice(&mut self, address: Address, len: usize) -> &mut [u8]
         requires { (address.ptr ≡ self.old.at) × (length self.old.bytes ≡ len) × (len < 2 ^ 63) }
         ensures* writes_back { sem 𝓛 (lends_bytes self.entry result) }
