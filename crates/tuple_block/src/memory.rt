@@ -1,7 +1,7 @@
 //! One allocation of bytes. All raw pointers of the crate are here, and each function with one is
 //! proved by hand.
 
-ghost use Rattle.std.specs.Prelude.{◌≡◌, ◌^◌, ℕ, ◌<◌, List, length, replicate, IfOk, ⊤};
+ghost use Rattle.std.specs.Prelude.{◌≡◌, ◌^◌, ℕ, ◌<◌, List, length, replicate, IfOk};
 ghost use Rattle.std.specs.Borrow.{sem};
 ghost use denote.RawPtr.{Ptr, room_for};
 ghost use base.Fml.{ftrue};
@@ -12,21 +12,10 @@ use std::marker::{Model, PhantomData, Send, Sync};
 use std::slice;
 
 /// Where a run of bytes begins. It owns nothing.
+#[derive(Clone, Copy)]
 pub struct Address {
     ptr: *mut u8,
 }
-
-impl Clone for Address {
-    ghost is_clone = { λ x y. y ≡ x };
-
-    ghost is_infallible = { λ _. ⊤ };
-
-    fn clone(&self) -> Result<Address, AllocError> {
-        Ok(*self)
-    }
-}
-
-impl Copy for Address {}
 
 unsafe impl Send for Address {}
 
