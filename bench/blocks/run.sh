@@ -1,6 +1,6 @@
 #!/bin/sh
-# Makes and drops 100,000 blocks of 512 KiB in 400 MB of address space, and prints how many bytes were found in them. A block
-# that isn't freed ends it within a second. The proved program is made in a room of its own, over the crate as it is.
+# Makes and drops 100,000 blocks of 512 KiB in 400 MB of address space, and prints how many bytes were found in them. Blocks
+# that aren't freed end it with a refusal. The proved program is made in a room of its own, over the crate as it is.
 set -eu
 bench=$(CDPATH='' cd -- "$(dirname -- "$0")" && pwd)
 room=$(mktemp -d)
