@@ -1,3 +1,5 @@
 pub mod Bits
 pub mod Layout
+pub mod Lends
+pub mod Ownership
 pub mod Tuples

@@ -2,21 +2,41 @@
 
 ghost use Rattle.std.specs.Prelude.{◌≡◌, ◌+◌, ◌≤◌, ◌++◌, length, take, drop, replicate, IfOk};
 
+use crate::memory::{Address, Allocation, Memory, allocate, free};
 use std::alloc::{AllocError, Global};
 use std::marker::Model;
 
-/// A run of bytes of a fixed length, seen as their list.
-#[derive(Drop)]
+/// A run of bytes of a fixed length, seen as their list. It is one allocation: a pointer and a
+/// length.
 pub struct Bytes {
-    bytes: Vec<u8>,
+    address: Address,
+    len: usize,
+    memory: Memory,
+    allocation: Allocation<Global>,
+    alloc: Global,
 }
 
 impl Model for Bytes {
-    ghost use Rattle.std.specs.Prelude.{ℕ, List};
+    ghost use Rattle.std.specs.Prelude.{◌≡◌, ◌^◌, ◌<◌, ℕ, List, length};
 
     ghost Value = { List ℕ };
 
-    ghost view = { λ b. b.bytes.items };
+    ghost view = { λ b. b.memory.bytes };
+
+    ghost invariant = { λ b. (b.memory.at ≡ b.address.ptr) × (length b.memory.bytes ≡ b.len) × (b.len < 2 ^ 63) × (b.allocation.at ≡ b.address.ptr) × (b.allocation.len ≡ b.len) × (b.allocation.alloc ≡ b.alloc) };
+}
+
+impl Drop for Bytes {
+    fn drop(self) {
+        let Bytes {
+            address,
+            len,
+            memory,
+            allocation,
+            alloc,
+        } = self;
+        free(&alloc, address, len, memory, allocation);
+    }
 }
 
 impl Bytes {
@@ -24,16 +44,26 @@ impl Bytes {
     pub fn zeros(alloc: Global, len: usize) -> Result<Bytes, AllocError>
         ensures { IfOk result (λ b. b ≡ replicate len 0) }
     {
-        let bytes = vec![in alloc; 0u8; len]?;
-        Ok(Bytes { bytes })
+        if len > isize::MAX as usize {
+            return Err(AllocError);
+        }
+        let (address, memory, allocation) = allocate(&alloc, len)?;
+        Ok(Bytes {
+            address,
+            len,
+            memory,
+            allocation,
+            alloc,
+        })
     }
 
     /// The same bytes, in memory of their own.
     pub fn copy(&self, alloc: Global) -> Result<Bytes, AllocError>
         ensures { IfOk result (λ b. b ≡ self.now) }
     {
-        let bytes = Vec::from_slice(alloc, &self.bytes)?;
-        Ok(Bytes { bytes })
+        let mut copy = Bytes::zeros(alloc, self.len)?;
+        copy.write(0, self.run(0, self.len));
+        Ok(copy)
     }
 
     /// The `len` bytes from `from` on.
@@ -41,7 +71,7 @@ impl Bytes {
         requires { from + len ≤ length self.now }
         ensures { result.now ≡ take len (drop from self.now) }
     {
-        &self.bytes[from..from + len]
+        &self.memory.as_slice(self.address, self.len)[from..from + len]
     }
 
     /// Puts bytes over those from `from` on.
@@ -49,6 +79,7 @@ impl Bytes {
         requires { from + length source.now ≤ length self.old }
         ensures { self.new ≡ take from self.old ++ source.now ++ drop (from + length source.now) self.old }
     {
-        self.bytes[from..from + source.len()].copy_from_slice(source);
+        let bytes = self.memory.as_mut_slice(self.address, self.len);
+        bytes[from..from + source.len()].copy_from_slice(source);
     }
 }

@@ -5,6 +5,7 @@
 mod bits;
 mod block;
 mod bytes;
+mod memory;
 mod steps;
 
 pub use block::{Block, MAX_WIDTH, PLACES};
