@@ -1,29 +1,9 @@
 -- An initiator hears that the end of a transaction stands in a partition for good.
-use Rattle.std.proofs.Common.{◌≡◌, ◌<◌, ◌≤◌, Bool, true, false, List, [], ◌∷◌, ◌++◌, append_assoc, ◌⊎◌, inl, inr, ◌==◌, refl, sym, subst, ap, ◌∙◌, arith}
-use Rattle.std.proofs.lemmas.Bool.{cases_Bool, eqb-true, or_cases}
-use Rattle.std.proofs.lemmas.List.{length_push}
-use Rattle.std.proofs.lemmas.List.Prefix.{front_rest}
-use Rattle.std.specs.Prelude.{ℕ, if◌then◌else◌, Option, Some, None}
-use Rattle.volt_base.specs.declared.entry.Entry.{Entry}
-use Rattle.volt_base.specs.declared.entry.Entry.TheVariants.{Done}
-use Rattle.volt_base.specs.declared.entry.Outcome.{Outcome}
-use Rattle.volt_wire.specs.Word.{Membership}
-use Rattle.cluster_model.specs.Engine.{Database}
-use Rattle.cluster_model.specs.Words.{all_parts, is_in, term_of}
-use Rattle.cluster_model.specs.Letters.{Turn, becomes}
-use Rattle.cluster_model.specs.AgentState.{AgentState, Phase, Off, Hears, Closes, Idle, Works, Work, Decision}
-use Rattle.cluster_model.specs.Initiator.{with_phase, with_work, all_finished, ends_job, settles, on_finished}
-use Rattle.cluster_steps.proofs.Lists.{all-first, same-some, none-and-some, all-behind, list_all-at}
-use Rattle.log_laws.specs.Histories.{LogState, LogsHold}
-use Rattle.log_laws.proofs.Plain.Copies.{is_in-in}
-use Rattle.disk_laws.specs.Disks.{Firm}
-use Rattle.transaction_laws.specs.Machine.{WellFormed, first_stage, stage}
-use Rattle.transaction_laws.specs.Transactions.{Transactions, Books, Initiates, IsPart, IsCall, OnlyCalls, Everywhere, Stood, Settled, IsEnded, JobOk, AtHand, PhaseOk, led_log, whole}
-use Rattle.transaction_laws.proofs.Kept.Moves.{InitiatorGoes}
-use Rattle.transaction_laws.proofs.Entries.Machine.{first-sound, stage-append, done-last}
+use Rattle.transaction_laws.proofs.Names.{AgentState, AtHand, Books, Bool, Closes, Database, Decision, Done, Entry, Everywhere, Firm, Hears, Idle, Initiates, IsCall, IsEnded, IsPart, JobOk, List, LogState, LogsHold, Membership, None, Off, OnlyCalls, Option, Outcome, Phase, PhaseOk, Settled, Some, Stood, Transactions, Turn, WellFormed, Work, Works, [], all-behind, all-first, all_finished, all_parts, ap, append_assoc, arith, becomes, cases_Bool, ends_job, eqb-true, false, first_stage, front_rest, if◌then◌else◌, inl, inr, is_in, is_in-in, led_log, length_push, list_all-at, none-and-some, on_finished, or_cases, refl, same-some, settles, stage, subst, sym, term_of, true, whole, with_phase, with_work, ℕ, ◌++◌, ◌<◌, ◌==◌, ◌∙◌, ◌∷◌, ◌≡◌, ◌≤◌, ◌⊎◌}
+use Rattle.transaction_laws.proofs.Kept.{InitiatorGoes}
+use Rattle.transaction_laws.proofs.Entries.{first-sound, stage-append, done-last, part-in, due-calls}
 use Rattle.transaction_laws.proofs.Initiators.Orders.{LaidOut}
 use Rattle.transaction_laws.proofs.Initiators.Turns.{goes-still, goes-from}
-use Rattle.transaction_laws.proofs.Entries.Since.{part-in, due-calls}
 use Rattle.transaction_laws.proofs.Initiators.Settling.{settles-goes, ends_job-goes}
 
 -- ---- where the last transaction ends, and its end stands for good

@@ -1,27 +1,8 @@
 -- What the leaders of partitions told of a new term: how each stands as it began.
-use Rattle.std.proofs.Common.{◌≡◌, ◌<◌, ◌≤◌, Bool, true, false, List, [], ◌∷◌, ◌++◌, length, drop, ◌⊎◌, inl, inr, ◌==◌, refl, sym, ap, ◌∙◌, le_trans, arith}
-use Rattle.std.proofs.lemmas.Bool.{cases_lt, eqb-true}
-use Rattle.std.specs.Prelude.{ℕ, Option, Some, None, option_map, if◌then◌else◌}
-use Rattle.std.specs.List.{list_all}
-use Rattle.volt_base.specs.declared.entry.Entry.{Entry}
-use Rattle.volt_base.specs.declared.entry.Outcome.{Outcome}
 use Rattle.volt_wire.specs.declared.message.Msg.TheVariants as msg
-use Rattle.cluster_model.specs.Engine.{Database}
-use Rattle.cluster_model.specs.Log.{open_in, last_done, number_of, greater}
-use Rattle.cluster_model.specs.Words.{all_parts}
-use Rattle.cluster_model.specs.AgentState.{Heard}
-use Rattle.cluster_model.specs.Initiator.{greatest_told, open_told, has_told, last_told}
-use Rattle.cluster_model.specs.Site.{standing}
-use Rattle.cluster_steps.specs.Lists.{In, Prefix}
-use Rattle.cluster_steps.proofs.Lists.{same-some, list_all-at, list_any-from, not-both, if-false}
-use Rattle.log_laws.specs.Histories.{LogState, LogsHold, Leadership}
-use Rattle.cluster_steps.proofs.Prefixes.{prefix-rest, prefix-grows, prefix-length}
-use Rattle.disk_laws.specs.Disks.{Firm}
-use Rattle.transaction_laws.specs.Machine.{WellFormed, first_stage, stage, stage_behind}
-use Rattle.transaction_laws.specs.Transactions.{Transactions, Books, LeadershipFits, IsPart, OnlyCalls, Everywhere, StateOk, Settled, whole}
-use Rattle.transaction_laws.proofs.Entries.Machine.{first-sound, stage-sound, stage-append, formed-prefix, calls-opened, calls-number, open_in-stage, last-number, done-append, calls-done}
-use Rattle.transaction_laws.proofs.Kept.Later.{everywhere-prefix}
-use Rattle.transaction_laws.proofs.Entries.Since.{whole-led, part-in}
+use Rattle.transaction_laws.proofs.Names.{Books, Bool, Database, Entry, Everywhere, Firm, Heard, In, IsPart, Leadership, LeadershipFits, List, LogState, LogsHold, None, OnlyCalls, Option, Outcome, Prefix, Settled, Some, StateOk, Transactions, WellFormed, [], all_parts, ap, arith, cases_lt, drop, eqb-true, false, first_stage, greater, greatest_told, has_told, if-false, if◌then◌else◌, inl, inr, last_done, last_told, le_trans, length, list_all, list_all-at, list_any-from, not-both, number_of, open_in, open_told, option_map, prefix-grows, prefix-length, prefix-rest, refl, same-some, stage, stage_behind, standing, sym, true, whole, ℕ, ◌++◌, ◌<◌, ◌==◌, ◌∙◌, ◌∷◌, ◌≡◌, ◌≤◌, ◌⊎◌}
+use Rattle.transaction_laws.proofs.Entries.{first-sound, stage-sound, stage-append, formed-prefix, calls-opened, calls-number, open_in-stage, last-number, done-append, calls-done, whole-led, part-in}
+use Rattle.transaction_laws.proofs.Kept.{everywhere-prefix}
 
 -- ---- lists of what was told
 

@@ -1,18 +1,6 @@
 -- Turns of an initiator: in which nothing changes, behind a part that sends no round and no end, and from another history of what is due.
-use Rattle.std.proofs.Common.{◌≡◌, [], ◌++◌, append-nil, refl, sym, subst, ap, ◌∙◌, ◌≤◌, le_trans, arith}
-use Rattle.std.specs.Prelude.{ℕ}
-use Rattle.std.specs.List.{AllByRecursion}
-use Rattle.volt_wire.specs.Word.{Membership}
-use Rattle.volt_wire.specs.declared.actor.Actor.TheVariants.{Site}
-use Rattle.cluster_model.specs.Engine.{Database}
-use Rattle.cluster_model.specs.Words.{term_of}
-use Rattle.cluster_model.specs.Letters.{Sends, no_sends, Turn, becomes, ◌▸◌}
-use Rattle.cluster_model.specs.AgentState.{AgentState}
-use Rattle.log_laws.specs.Histories.{LogState, part}
-use Rattle.disk_laws.specs.Disks.{Firm}
-use Rattle.transaction_laws.specs.Transactions.{Transactions, Books, PhaseOk, orders}
-use Rattle.transaction_laws.proofs.Kept.Moves.{SentOrder, SendsDue, InitiatorGoes}
-use Rattle.transaction_laws.proofs.Kept.Later.{books-later}
+use Rattle.transaction_laws.proofs.Names.{AgentState, AllByRecursion, Books, Database, Firm, LogState, Membership, PhaseOk, Sends, Site, Transactions, Turn, [], ap, append-nil, arith, becomes, le_trans, no_sends, orders, part, refl, subst, sym, term_of, ℕ, ◌++◌, ◌∙◌, ◌≡◌, ◌≤◌, ◌▸◌}
+use Rattle.transaction_laws.proofs.Kept.{SentOrder, SendsDue, InitiatorGoes, books-later}
 
 -- ---- what is sent
 

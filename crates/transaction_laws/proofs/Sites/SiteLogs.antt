@@ -1,25 +1,7 @@
 -- What a turn of a site makes of its log where the site leads after it.
-use Rattle.std.proofs.Common.{◌≡◌, ◌<◌, Bool, true, false, List, [], ◌∷◌, ◌++◌, append_assoc, append-nil, refl, sym, subst, ap, ◌∙◌, ◌⊎◌, inl, inr, ◌==◌, arith}
-use Rattle.std.proofs.lemmas.Bool.{false_from_ne_true}
-use Rattle.std.specs.Prelude.{ℕ, length, Some, None}
-use Rattle.std.specs.List.{AllByRecursion, list_any, list_all}
-use Rattle.volt_base.specs.declared.entry.Entry.{Entry}
-use Rattle.volt_wire.specs.declared.actor.Actor.{Actor}
-use Rattle.cluster_model.specs.Engine.{Database}
-use Rattle.cluster_model.specs.Log.{nothing_open}
-use Rattle.cluster_model.specs.Words.{Deployment, term_of, term_in}
-use Rattle.cluster_model.specs.Letters.{Letter, arrival, Taken}
-use Rattle.cluster_model.specs.SiteState.{SiteState, Reported, is_leader, leads, other_copies, site_term}
-use Rattle.cluster_model.specs.Site.{longest, lacks, takes_asks, in_new_term}
-use Rattle.cluster_model.specs.Environment.{Environment, NoFault, DiskFails, NoMemory, DisksShow}
-use Rattle.cluster_model.specs.Sync.{after_sync, site_turn, syncs, sync_turn}
-use Rattle.cluster_steps.proofs.Lists.{all-append, not-both, none-and-some}
-use Rattle.cluster_steps.proofs.Leaders.{leader-view, leads-parts, leads-from}
-use Rattle.transaction_laws.proofs.Kept.Moves.{CallsAt, IsCallAt}
-use Rattle.cluster_steps.proofs.StateSteps.{Comes, Over, ReportOf, StateSaying, StateSteps, over-moves, over-settles, over-tells, with_others}
+use Rattle.transaction_laws.proofs.Names.{Actor, AllByRecursion, Bool, Comes, Database, Deployment, DiskFails, DisksShow, Entry, Environment, Letter, List, NoFault, NoMemory, None, Over, ReportOf, Reported, SiteState, Some, StateSaying, StateSteps, Taken, [], after_sync, after_sync-walk, all-append, ap, append-nil, append_assoc, arith, arrival, false, false_from_ne_true, in_new_term, inl, inr, is_leader, lacks, leader-view, leads, leads-from, leads-parts, length, list_all, list_any, longest, none-and-some, not-both, nothing_open, other_copies, over-moves, over-settles, over-tells, refl, settled-walk, settled_turn, site_term, site_turn, subst, sym, sync_turn, syncs, takes_asks, term_in, term_of, true, with_others, written_site, wrote, ℕ, ◌++◌, ◌<◌, ◌==◌, ◌∙◌, ◌∷◌, ◌≡◌, ◌⊎◌}
+use Rattle.transaction_laws.proofs.Kept.{CallsAt, IsCallAt}
 use Rattle.transaction_laws.proofs.Sites.SiteWalk.{WaitsQuietly, WaitsReport, taken_at, taken_by, AnyReport, any-report, any-reports, asks-taken, asks-view, Walked, StopsOrBegins, NothingSeen, GoesOnSame, GoesOnNew, walked, comes-view, wrote-leader}
-use Rattle.cluster_steps.proofs.SiteWalk.{settled_turn, settled-walk, after_sync-walk}
-use Rattle.cluster_steps.proofs.SiteTurns.{wrote, written_site}
 
 -- ---- what is shown
 
