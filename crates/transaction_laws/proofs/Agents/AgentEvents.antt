@@ -2,24 +2,11 @@
 use Rattle.volt_wire.specs.declared.message.Msg.TheVariants as msg
 use Rattle.word_laws.specs.Histories as word
 use Rattle.word_laws.proofs.Moves as word_moves
-use Rattle.transaction_laws.proofs.Names.{Actor, Agent, AgentGoes, AgentState, AgentTakes, AllByRecursion, AnswerOk, Arrival, AskedOk, Bool, CallsHold, Database, Deployment, Director, DiskFails, DisksShow, Environment, Firm, Ignores, In, IsSlot, Letter, List, LogState, LogsHold, Membership, NoFault, NoMemory, PhaseOk, Refused, Rest, Runs_, Site, Some, Stops_, Taken, Transactions, Turn, WaitingAnswer, Waits, [], agent-event, agent-there, agent_handler, agent_heard, agent_runs, agent_takes, agent_turn, agent_turned, all-append, all-if, ap, arith, arrival, becomes, cases_Bool, cases_eq, comes-first, concludes, concludes-agent, concludes-none, decided-pops, false, first-agent, first-asks, handler-event, handler-grows, handler_and_word, holds-of, initiator, initiator-member, inl, inr, is_host, is_slot_of, may-join, may_decide, member-is, nat_lt, nat_tests, new_agent, none-waited, not-both, on_start, open_letter, part, refl, rest-heard, rest-of, runs-refused, runs-taken, runs-waits, slots, start-of-body, start_after, stopped-cases, stops, stops_with_host, subst, sym, taken-for, takes-cases, takes_waiting, tells, term_in, term_of, then-assoc, true, turn-cases, ℕ, ◌++◌, ◌+◌, ◌<◌, ◌==◌, ◌∙◌, ◌∷◌, ◌≡◌, ◌≤◌, ◌▸◌}
-use Rattle.transaction_laws.proofs.Kept.{NoOrder, books-later, aligned-later}
+use Rattle.transaction_laws.proofs.Names.{Actor, Agent, AgentGoes, AgentState, AgentTakes, AllByRecursion, AnswerOk, Arrival, AskedOk, Bool, CallsHold, Database, Deployment, Director, DiskFails, DisksShow, Environment, Firm, Ignores, In, IsSlot, Letter, List, LogState, LogsHold, Membership, NoFault, NoMemory, Refused, Rest, Runs_, Site, Some, Stops_, Taken, Transactions, Turn, WaitingAnswer, Waits, [], agent-event, agent-there, agent_handler, agent_heard, agent_runs, agent_takes, agent_turn, agent_turned, all-append, all-if, ap, arith, arrival, becomes, cases_Bool, cases_eq, comes-first, concludes, concludes-agent, concludes-none, decided-pops, false, first-agent, first-asks, handler-event, handler-grows, handler_and_word, holds-of, initiator, initiator-member, inl, inr, is_host, is_slot_of, may-join, may_decide, member-is, nat_lt, nat_tests, new_agent, none-waited, not-both, on_start, open_letter, part, refl, rest-heard, rest-of, runs-refused, runs-taken, runs-waits, slots, start-of-body, start_after, stopped-cases, stops, stops_with_host, subst, sym, taken-for, takes-cases, takes_waiting, tells, term_in, then-assoc, true, turn-cases, ℕ, ◌++◌, ◌+◌, ◌<◌, ◌==◌, ◌∙◌, ◌∷◌, ◌≡◌, ◌▸◌}
+use Rattle.transaction_laws.proofs.Kept.{NoOrder, calls-plain}
 use Rattle.transaction_laws.proofs.Initiators.{LaidOut}
-use Rattle.transaction_laws.proofs.Agents.AgentTurns.{Mine, CallsHandler, inert-then, told-handler, then-calls, concludes-calls, concludes-settled}
+use Rattle.transaction_laws.proofs.Agents.AgentTurns.{CallsHandler, inert-then, told-handler, then-calls, concludes-calls, concludes-settled, mine-same}
 use Rattle.transaction_laws.proofs.Agents.AgentWaits.{waited-calls}
-use Rattle.transaction_laws.proofs.Agents.AgentHandlers.{phase-kept}
-
--- after more events
-calls-later : (E : Database) (S : LogState) (F : Firm) (halted : Bool) (K : Transactions) (now stamp : ℕ) → now ≤ stamp → CallsHold E S F halted K now → CallsHold E S F halted K stamp
-calls-later E S F halted K now stamp l k = record {
-  books = books-later E S F K now stamp l k.books;
-  to_sites = k.to_sites;
-  to_agents = k.to_agents;
-  environment = k.environment;
-  sites = k.sites;
-  agents = k.agents;
-  halts = λ e shown s. let a = k.halts e shown s in (a.0, aligned-later E S.words.deployment now stamp l a.0 _ a.1);
-}
 
 -- The agent of host n took the first message from this actor, and that is its turn: what holds of words, sites, logs and
 -- transactions, holds after it.
@@ -33,29 +20,13 @@ module _ (E : Database) (S : LogState) (F : Firm) (halted : Bool) (K : Transacti
 
   -- ---- turns in which the initiator's part stays, or the agent stops
 
-  -- the agent as it is
-  as-is : (b : AgentState) → b.start ≡ a.start → b.decided ≡ a.decided → b.initiating ≡ a.initiating → AllByRecursion (WaitingAnswer E S F K) b.waiting → Mine E S F K n b
-  as-is b start word part waits = record {
-    initiating = elim (C.agents n).initiating [
-      | inl q ↦ inl (ap (λ x. x.phase) part ∙ q.0, ap (λ x. x.work) part ∙ q.1, ap (λ x. x.next) part ∙ q.2)
-      | inr q ↦ inr (
-        q.0,
-        rw start q.1.runs,
-        word ∙ q.1.has_decided,
-        rw start q.1.initiates,
-        subst (λ i. PhaseOk E S F K (term_of q.0) b i.phase) (sym part) (phase-kept E S F K (term_of q.0) a b a.initiating.phase (ap (λ i. i.work) part) (ap (λ i. i.next) part) q.2),
-      )
-    ];
-    waiting = waits;
-  }
-
   -- it stays, but for what waits
   stays-go : (b : AgentState) → b.start ≡ a.start → b.decided ≡ a.decided → b.initiating ≡ a.initiating → AllByRecursion (WaitingAnswer E S F K) b.waiting
       → AgentGoes S n from (becomes b) → AgentCallsGo E S F halted stamp n from (becomes b)
   stays-go b start word part waits r = (
     r,
     K,
-    inert-then E F halted stamp S H K C (Some from) n (becomes b) r.history r.grows (λ c. tt) (as-is b start word part waits)
+    inert-then E F halted stamp S H K C (Some from) n (becomes b) r.history r.grows (λ c. tt) (mine-same E S F K n (C.agents n) b start word part waits)
         (λ w x d init some is before. rw word (before (sym start ∙ is))),
   )
 
@@ -252,7 +223,7 @@ agent-calls E S F halted K now n from l ls o lay H k is host memory = elim (case
 ]
   where
     C : CallsHold E S F halted K (now + 1)
-    C = calls-later E S F halted K now (now + 1) (omega arith) k
+    C = calls-plain E S F halted K now H k S.words.next S.words.channel S.words.owner (λ h c. refl) (λ c h. refl) H
 
     goes : AgentGoes S n from (agent_turn E S.words.deployment n (now + 1) (S.words.agents n) from l o)
     goes = agent-event E S n (now + 1) from l ls o is host memory H

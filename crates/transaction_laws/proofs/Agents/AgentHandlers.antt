@@ -3,7 +3,7 @@ use Rattle.volt_wire.specs.declared.message.Msg.TheVariants as msg
 use Rattle.cluster_model.specs.Agent.{from_agent}
 use Rattle.transaction_laws.proofs.Names.{Actor, Admission, Agent, AgentState, AllByRecursion, AnswerOk, Books, Bool, Client, Closes, Database, Deployment, Director, Done, End, Firm, Frag, Hears, Idle, Initiates, IsPart, IsSlot, Job_, Letter, List, LogState, LogsHold, Membership, None, Off, Option, Outcome, Phase, PhaseOk, Queued, RunCall, Scanner, Sends, Site, Some, StateOk, Stood, TakeSnapshot, Transactions, Turn, Works, [], admits, agent_handler, all-if, all-mono, answers_client, ap, append-nil, arith, asks_initiator, becomes, false, flat-none, from_client, from_director, from_site, hands_on, has_loaded, if-none, if_idle, if◌then◌else◌, initiates, initiator, inl, inr, is_for, is_in, is_slot_of, letter_to, list_all, nat_lt, not, on_call, on_closed, on_decided, on_finished, on_frag_done, on_hello, on_loaded, on_mp_state, on_reply, on_word, order_in, order_of, orders, part, part_of_slot, queues, refl, same, slots_of_host, stops_with_host, subst, sym, takes_word, term_of, to_initiator, to_partition, to_slot, true, union, unless_down, with_number, works_queue, ℕ, ◌&&◌, ◌++◌, ◌<◌, ◌==◌, ◌∙◌, ◌∷◌, ◌≡◌, ◌≤◌, ◌⊎◌}
 use Rattle.transaction_laws.proofs.Kept.{NoOrder, SentOrder, SendsDue, InitiatorGoes, OffGoes, books-later}
-use Rattle.transaction_laws.proofs.Initiators.{LaidOut, slot-part, goes-still, goes-from, frag_done-goes, works_queue-goes, finished-goes, mp_state-goes}
+use Rattle.transaction_laws.proofs.Initiators.{LaidOut, slot-part, goes-still, goes-from, frag_done-goes, works_queue-goes, finished-goes, mp_state-goes, goes-if}
 
 -- ---- turns that send no order
 
@@ -198,6 +198,10 @@ module _ (E : Database) (D : Deployment) (n stamp : ℕ) (a : AgentState) (phase
     kept = inr (k.start, k.decided, k.waiting);
   }
 
+  if-off : (c : Bool) (x y : Turn AgentState) → OffGoes a x → OffGoes a y → OffGoes a (if c then x else y)
+  if-off true x y p q = p
+  if-off false x y p q = q
+
   stays-off : OffGoes a (becomes a)
   stays-off = leaves-off (becomes a) (same-leaves a)
 
@@ -214,11 +218,7 @@ module _ (E : Database) (D : Deployment) (n stamp : ℕ) (a : AgentState) (phase
   decided-off : (decided taken : Option Membership) (w : Membership) → OffGoes a (on_decided D n a decided taken w)
   decided-off (Some d) taken w = stays-off
   decided-off None None w = leaves-off (takes_word D n a w) (takes_word-leaves D n a w)
-  decided-off None (Some t) w = choice (nat_lt (term_of t) (term_of w) && not (admits w a.start))
-    where
-      choice : (b : Bool) → OffGoes a (if b then stops_with_host D n a.start else becomes a)
-      choice true = stops-off
-      choice false = stays-off
+  decided-off None (Some t) w = if-off (nat_lt (term_of t) (term_of w) && not (admits w a.start)) _ _ stops-off stays-off
 
   from_agent-off : (g : ℕ) (l : Letter) → OffGoes a (from_agent E D n stamp a g l)
   from_agent-off g l = elim l.body as (λ m. OffGoes a (from_agent E D n stamp a g (record l { body = m }))) [
@@ -238,13 +238,9 @@ module _ (E : Database) (D : Deployment) (n stamp : ℕ) (a : AgentState) (phase
 
   from_director-off : (l : Letter) → OffGoes a (from_director E D n a l)
   from_director-off l = elim l.body as (λ m. OffGoes a (from_director E D n a (record l { body = m }))) [
-    | msg.Snap ↦ choice (initiates n a a.decided)
+    | msg.Snap ↦ if-off (initiates n a a.decided) _ _ (queues-off (Job_ TakeSnapshot)) stays-off
     | m ↦ stays-off
   ]
-    where
-      choice : (b : Bool) → OffGoes a (if b then queues E D a (Job_ TakeSnapshot) else becomes a)
-      choice true = queues-off (Job_ TakeSnapshot)
-      choice false = stays-off
 
 -- The handler of an agent that isn't an initiator.
 pub handler-off : (E : Database) (D : Deployment) (n stamp : ℕ) (a : AgentState) (from : Actor) (l : Letter) → a.initiating.phase ≡ Off → a.initiating.work ≡ None → a.initiating.next ≡ 0
@@ -304,13 +300,9 @@ module _ (E : Database) (S : LogState) (F : Firm) (K : Transactions) (now stamp 
 
   handler-director : (l : Letter) → InitiatorGoes E S F K stamp n w a (from_director E S.words.deployment n a l)
   handler-director l = elim l.body as (λ m. InitiatorGoes E S F K stamp n w a (from_director E S.words.deployment n a (record l { body = m }))) [
-    | msg.Snap ↦ choice (initiates n a a.decided)
+    | msg.Snap ↦ goes-if E S F K stamp n w a _ _ _ (λ first. queues-goes (Job_ TakeSnapshot)) (λ other. leaves-goes (becomes a) (same-leaves a))
     | m ↦ leaves-goes (becomes a) (same-leaves a)
   ]
-    where
-      choice : (b : Bool) → InitiatorGoes E S F K stamp n w a (if b then queues E S.words.deployment a (Job_ TakeSnapshot) else becomes a)
-      choice true = queues-goes (Job_ TakeSnapshot)
-      choice false = leaves-goes (becomes a) (same-leaves a)
 
   handler-agent : (g : ℕ) (l : Letter) → InitiatorGoes E S F K stamp n w a (from_agent E S.words.deployment n stamp a g l)
   handler-agent g l = elim l.body as (λ m. InitiatorGoes E S F K stamp n w a (from_agent E S.words.deployment n stamp a g (record l { body = m }))) [

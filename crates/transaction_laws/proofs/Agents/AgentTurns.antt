@@ -4,7 +4,7 @@ use Rattle.word_laws.specs.Histories as word
 use Rattle.transaction_laws.proofs.Names.{Actor, Agent, AgentCalls, AgentHandler, AgentState, AllByRecursion, AnswerOk, Books, Bool, CallsHold, Closes, Database, Deployment, Firm, Grows, Hears, History, Idle, In, Initiates, IsSlot, JobOk, Letter, List, LogState, LogsHold, MayJoin, MemberOk, Membership, None, Off, Option, Phase, PhaseOk, Rest, Site, SiteCalls, Some, ToSiteOk, Transactions, Turn, WaitingAnswer, WordOf, WordsTurn, Works, [], after-after, after-handler, agent-there, agent_handler, agent_turned, all-append, all-if, all-mono, and_from, and_left, and_right, ap, append-nil, arith, becomes, cases_Bool, cases_eq, concludes, concludes-is, concludes-not, decides-state, decides_word, eqb-same, false, filter, flat-none, flat_map-append, for-false, handler-grows, if-none, if◌then◌else◌, initiates, initiates-is, initiator, inl, inr, is_down, is_for, is_in, is_initiator_in, is_member, is_other_word, is_slot_of, is_word, leader, letter_to, list_all, may_decide, members, new_agent, none-and-some, not, not-both, not_from_true, order_of, orders, part, refl, rest, same, same-some, same-word, same_word, same_word-refl, says, sent-both, set-both, set-there, site_start, start_of_slot, subst, sym, tells, tells-state, term_in, term_of, then-inert, took, took-all, true, with_phase, ℕ, ◌&&◌, ◌++◌, ◌<◌, ◌==◌, ◌||◌, ◌∙◌, ◌∷◌, ◌≡◌, ◌≤◌, ◌⊎◌, ◌▸◌}
 use Rattle.transaction_laws.proofs.Kept.{Onto, NoOrder, SentOrder, InitiatorGoes, OffGoes, answer-on, to_site-on, onto-worded, shows-worded, books-moved, phase-moved, waiting-on, KeepsWords, onto-same}
 use Rattle.transaction_laws.proofs.Initiators.{LaidOut, one-initiator, has-decided, before-below, stays-initiator, decides-heard}
-use Rattle.transaction_laws.proofs.Agents.AgentHandlers.{no-orders, handler-initiates, handler-off}
+use Rattle.transaction_laws.proofs.Agents.AgentHandlers.{no-orders, handler-initiates, handler-off, phase-kept}
 
 -- ---- messages under way to an agent
 
@@ -40,6 +40,23 @@ pub record Mine (E : Database) (S : LogState) (F : Firm) (L : Transactions) (n :
       ((a.initiating.phase ≡ Off) × (a.initiating.work ≡ None) × (a.initiating.next ≡ 0))
       ⊎ ((w : Membership) × (0 < a.start) × (a.decided ≡ Some w) × (initiator w ≡ Some (n, a.start)) × PhaseOk E S F L (term_of w) a a.initiating.phase)
   pub waiting : AllByRecursion (WaitingAnswer E S F L) a.waiting
+
+-- one whose start, word and initiator's part are as they were
+pub mine-same : (E : Database) (S : LogState) (F : Firm) (K : Transactions) (n : ℕ) → AgentCalls E S F K n → (b : AgentState) → b.start ≡ (S.words.agents n).start
+    → b.decided ≡ (S.words.agents n).decided → b.initiating ≡ (S.words.agents n).initiating → AllByRecursion (WaitingAnswer E S F K) b.waiting → Mine E S F K n b
+mine-same E S F K n k b start word part waits = let a = S.words.agents n in record {
+  initiating = elim k.initiating [
+    | inl q ↦ inl (ap (λ x. x.phase) part ∙ q.0, ap (λ x. x.work) part ∙ q.1, ap (λ x. x.next) part ∙ q.2)
+    | inr q ↦ inr (
+      q.0,
+      rw start q.1.runs,
+      word ∙ q.1.has_decided,
+      rw start q.1.initiates,
+      subst (λ i. PhaseOk E S F K (term_of q.0) b i.phase) (sym part) (phase-kept E S F K (term_of q.0) a b a.initiating.phase (ap (λ i. i.work) part) (ap (λ i. i.next) part) q.2),
+    )
+  ];
+  waiting = waits;
+}
 
 module _ (E : Database) (F : Firm) (halted : Bool) (stamp : ℕ) (S : LogState) (H : LogsHold S) (K : Transactions) (C : CallsHold E S F halted K stamp)
     (o : Option Actor) (n : ℕ) (t : Turn AgentState) (G : History) (grows : Grows S.words.history G) where
@@ -403,13 +420,8 @@ module _ (E : Database) (F : Firm) (halted : Bool) (stamp : ℕ) (S : LogState) 
 
   -- it stays as it is
   pub stays-then : (G : History) → Grows S.words.history G → CallsHold E (agent_turned S n a (λ b. []) G) F halted K stamp
-  stays-then G grows = inert-then E F halted stamp S H K C None n (becomes a) G grows (λ c. tt) (record {
-    initiating = elim (C.agents n).initiating [
-      | inl q ↦ inl q
-      | inr q ↦ inr (q.0, q.1.runs, q.1.has_decided, q.1.initiates, q.2)
-    ];
-    waiting = (C.agents n).waiting;
-  }) (λ w b d init some is before. before is)
+  stays-then G grows = inert-then E F halted stamp S H K C None n (becomes a) G grows (λ c. tt) (mine-same E S F K n (C.agents n) a refl refl refl (C.agents n).waiting)
+      (λ w b d init some is before. before is)
 
   -- its job and its next number, which it keeps
   job : JobOk K a.initiating.work × (((a.initiating.next ≡ 0) × (a.initiating.work ≡ None)) ⊎ (K.number < a.initiating.next))

@@ -2,9 +2,8 @@
 use Rattle.word_laws.specs.Histories as word
 use Rattle.transaction_laws.proofs.Names.{Actor, Admission, AdmitsNow, Agent, AgentHandler, AgentState, AgentWaitingFrom, AgentWaitingOk, AllByRecursion, AskedOk, Bool, CallsHold, Calm, CameOk, Database, Deployment, Firm, GoodWord, In, Letter, List, LogState, LogsHold, Membership, None, OnSome, Option, OwnOk, Queued, QueuedAdmissionOk, Rest, SaidBy, Sends, Some, State, Transactions, Turn, Waiting, WaitingAnswer, [], above_term, admits, admits-holds, agent-there, agent_handler, agent_turned, all-at, all-filter, all-from, all-mono, ap, arith, asked-waiting, asked_by, asks-on, becomes, calm-event, cases_Bool, concludes, concludes-not, eqb-true, false, first-agent, handler-calm, handler-grows, handler-plain, holds-of, in-cases, in-filter, initiates, initiates-is, initiator, inl, inr, is_in, is_word, loaded_by, may-join, may_decide, may_decide-cases, member-of, members-all, names, names-admits, nat_lt, nat_tests, none-taken, not-admitted, not-both, of_term, or_cases, plain-agent, refl, said-good, said_to, same_word, same_word-is, set-here, some-here, spoken, start_of, stay-agent, subst, sym, takes_each, takes_waiting, tells, tells-state, term-same, term_in, term_of, then-assoc, then-inert, true, true≢false, unless-running, unless_stopped, waiting-brings, waiting-shrinks, waits-on, with_admitted, with_admitted-admits, ℕ, ◌<◌, ◌==◌, ◌||◌, ◌∙◌, ◌∷◌, ◌≡◌, ◌▸◌}
 use Rattle.transaction_laws.proofs.Initiators.{LaidOut}
-use Rattle.transaction_laws.proofs.Agents.AgentTurns.{CallsHandler, inert-then, stays-then, told-handler, then-calls}
+use Rattle.transaction_laws.proofs.Agents.AgentTurns.{CallsHandler, inert-then, stays-then, told-handler, then-calls, mine-same}
 use Rattle.transaction_laws.proofs.Kept.{waiting-on, onto-worded}
-use Rattle.transaction_laws.proofs.Agents.AgentHandlers.{phase-kept}
 
 -- ---- a word that an initiator has just made isn't decided at once
 
@@ -224,13 +223,8 @@ module _ (E : Database) (F : Firm) (halted : Bool) (stamp n : ℕ) (S : LogState
     handler = kept-turn;
     after = K;
     heard = omega arith;
-    calls = inert-then E F halted stamp S (holds-of S h r) K C None n (becomes kept) kept-turn.handler.history (handler-grows kept-turn.handler) (λ c. tt) (record {
-      initiating = elim (C.agents n).initiating [
-        | inl q ↦ inl q
-        | inr q ↦ inr (q.0, q.1.runs, q.1.has_decided, q.1.initiates, phase-kept E S F K (term_of q.0) agent kept agent.initiating.phase refl refl q.2)
-      ];
-      waiting = all-filter (WaitingAnswer E S F K) (λ w. nat_lt here w.letter.term) agent.waiting (C.agents n).waiting;
-    }) (λ w a d init some is before. before is);
+    calls = inert-then E F halted stamp S (holds-of S h r) K C None n (becomes kept) kept-turn.handler.history (handler-grows kept-turn.handler) (λ c. tt)
+        (mine-same E S F K n (C.agents n) kept refl refl refl (all-filter (WaitingAnswer E S F K) (λ w. nat_lt here w.letter.term) agent.waiting (C.agents n).waiting)) (λ w a d init some is before. before is);
   }
 
   taken : AllByRecursion (IsWaited E F S K n) (of_term here agent.waiting)

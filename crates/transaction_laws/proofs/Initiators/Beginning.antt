@@ -1,7 +1,7 @@
 -- An initiator begins a transaction: it sends the first round of a call, or the end of a snapshot, to all partitions.
 use Rattle.volt_wire.specs.declared.message.Msg.TheVariants as msg
 use Rattle.transaction_laws.proofs.Names.{AgentState, Aligned, AllByRecursion, Blocks, Books, Bool, Database, Done, Entry, Firm, Fits, Frag, HeardPart, In, Initiates, IsOrder, IsPart, Job, List, LogState, LogsHold, Membership, Msg, NoRound, None, OfNumber, OnlyCalls, Option, Outcome, PhaseOk, Prefix, RunCall, Snapshot, Some, Stage, TakeSnapshot, Transactions, WellFormed, [], all-append, ap, append_assoc, arith, begins, body_of_round, drop, false, first_stage, in-cases, inl, inr, led_log, length, new_work, next_stage, none-and-some, order_in, point_in, prefix-grows, refl, same-some, sending, since, stage, subst, sym, term_of, to_all_leaders, true, true≢false, whole, ℕ, ◌++◌, ◌<◌, ◌∙◌, ◌∷◌, ◌≡◌, ◌≤◌}
-use Rattle.transaction_laws.proofs.Kept.{InitiatorGoes, aligned-later}
+use Rattle.transaction_laws.proofs.Kept.{InitiatorGoes, aligned-later, part-agreed}
 use Rattle.transaction_laws.proofs.Entries.{stage-append, formed-append, calls-of, calls-no-round, calls-no-end, since-more, calls-since}
 use Rattle.transaction_laws.proofs.Initiators.Orders.{LaidOut, due_with, due-more, due-kept, sends-goes}
 
@@ -118,14 +118,7 @@ module _ (E : Database) (S : LogState) (F : Firm) (K : Transactions) (now : ℕ)
   }
 
   each : (p : ℕ) → IsPart S p → HeardPart S F after p
-  each p part = let h = B.heard.each p part in record {
-    leadership = h.leadership;
-    led = h.led;
-    inside = h.inside;
-    closed = h.closed;
-    decided = λ x is. absurd (none-and-some k.none is);
-    top = h.top;
-  }
+  each p part = part-agreed S F K m o K.decided after.due p (B.heard.each p part) (λ x is. absurd (none-and-some k.none is))
 
 -- ---- the turn
 

@@ -1,7 +1,7 @@
 -- An initiator that has heard of all partitions closes what is open in some, and then goes on.
 use Rattle.volt_wire.specs.declared.message.Msg.TheVariants as msg
 use Rattle.transaction_laws.proofs.Names.{AgentState, Aligned, Books, Bool, Database, Done, Entry, Firm, Heard, HeardPart, In, Initiates, IsEnded, IsPart, JobOk, List, LogState, LogsHold, Membership, None, Option, Outcome, Settled, Some, Transactions, [], and_from, and_parts, ap, cases_Bool, closes_open, closing_outcome, done_to, eq-eqb, false, false_from_ne_true, filter, filter-in, first_stage, in-filter, in-is_in, in-map, in-map-from, inl, inr, is_in, is_in-in, not-both, open_parts, open_told, own_decision, refl, stage, subst, sym, term_of, true, true≢false, whole, ℕ, ◌&&◌, ◌<◌, ◌==◌, ◌∙◌, ◌∷◌, ◌≡◌, ◌≤◌, ◌⊎◌}
-use Rattle.transaction_laws.proofs.Kept.{InitiatorGoes, aligned-later}
+use Rattle.transaction_laws.proofs.Kept.{InitiatorGoes, aligned-later, part-agreed}
 use Rattle.transaction_laws.proofs.Entries.{stage-append, OpenAt, Closing, EndsOrSame, closing-point, aligned-ended}
 use Rattle.transaction_laws.proofs.Initiators.Orders.{LaidOut, due_with, due-kept, sends-goes}
 use Rattle.transaction_laws.proofs.Initiators.Beginning.{whole-to, whole-else}
@@ -36,14 +36,8 @@ module _ (E : Database) (S : LogState) (F : Firm) (K : Transactions) (now : ℕ)
   aligned = aligned-ended E S.words.deployment now K log B.heard.aligned p r part at o c (whole S after after.heard) either after.due
 
   each : (q : ℕ) → IsPart S q → HeardPart S F after q
-  each q other = let h = B.heard.each q other in record {
-    leadership = h.leadership;
-    led = h.led;
-    inside = h.inside;
-    closed = h.closed;
-    decided = λ x is. h.decided x (closing-point E S.words.deployment now K log B.heard.aligned o c x is);
-    top = h.top;
-  }
+  each q other = let h = B.heard.each q other in
+      part-agreed S F K K.number (Some o) K.decided after.due q h (λ x is. h.decided x (closing-point E S.words.deployment now K log B.heard.aligned o c x is))
 
   -- There it ends, once it is taken.
   closed-ended : (q : ℕ) → IsPart S q → to q ≡ true → IsEnded E S after q

@@ -1,9 +1,9 @@
 -- An initiator hears that the end of a transaction stands in a partition for good.
-use Rattle.transaction_laws.proofs.Names.{AgentState, AtHand, Books, Bool, Closes, Database, Decision, Done, Entry, Everywhere, Firm, Hears, Idle, Initiates, IsCall, IsEnded, IsPart, JobOk, List, LogState, LogsHold, Membership, None, Off, OnlyCalls, Option, Outcome, Phase, PhaseOk, Settled, Some, Stood, Transactions, Turn, WellFormed, Work, Works, [], all-behind, all-first, all_finished, all_parts, ap, append_assoc, arith, becomes, cases_Bool, ends_job, eqb-true, false, first_stage, front_rest, if◌then◌else◌, inl, inr, is_in, is_in-in, led_log, length_push, list_all-at, none-and-some, on_finished, or_cases, refl, same-some, settles, stage, subst, sym, term_of, true, whole, with_phase, with_work, ℕ, ◌++◌, ◌<◌, ◌==◌, ◌∙◌, ◌∷◌, ◌≡◌, ◌≤◌, ◌⊎◌}
+use Rattle.transaction_laws.proofs.Names.{AgentState, AtHand, Books, Closes, Database, Decision, Done, Entry, Everywhere, Firm, Hears, Idle, Initiates, IsCall, IsEnded, IsPart, JobOk, List, LogState, LogsHold, Membership, None, Off, OnlyCalls, Option, Outcome, Phase, PhaseOk, Settled, Some, Stood, Transactions, Turn, WellFormed, Work, Works, [], all-behind, all-first, all_finished, all_parts, ap, append_assoc, arith, becomes, cases_Bool, ends_job, eqb-true, false, first_stage, front_rest, if◌then◌else◌, inl, inr, is_in, is_in-in, led_log, length_push, list_all-at, none-and-some, on_finished, or_cases, refl, same-some, settles, stage, subst, sym, term_of, true, whole, with_phase, with_work, ℕ, ◌++◌, ◌<◌, ◌==◌, ◌∙◌, ◌∷◌, ◌≡◌, ◌≤◌, ◌⊎◌}
 use Rattle.transaction_laws.proofs.Kept.{InitiatorGoes}
 use Rattle.transaction_laws.proofs.Entries.{first-sound, stage-append, done-last, part-in, due-calls}
 use Rattle.transaction_laws.proofs.Initiators.Orders.{LaidOut}
-use Rattle.transaction_laws.proofs.Initiators.Turns.{goes-still, goes-from}
+use Rattle.transaction_laws.proofs.Initiators.Turns.{goes-still, goes-from, goes-if}
 use Rattle.transaction_laws.proofs.Initiators.Settling.{settles-goes, ends_job-goes}
 
 -- ---- where the last transaction ends, and its end stands for good
@@ -90,22 +90,16 @@ module _ (E : Database) (S : LogState) (F : Firm) (K : Transactions) (now stamp 
     abbrev closes : AgentState
     closes = with_phase a (Closes closing closed (p ∷ finished))
 
-    all-closed : m ≡ K.number → (b : Bool) → all_finished closed (p ∷ finished) ≡ b
-        → InitiatorGoes E S F K stamp n w a (if b then settles E S.words.deployment n a a.initiating.work else becomes closes)
-    all-closed is true all = settles-goes E S F K now stamp n w lay H B l i a start word c.0 c.3 (settled-all is all)
-    all-closed is false some = goes-still E S F K stamp n w a now closes B l refl refl refl (c.0, c.1, c.2, c.3, λ q other. ((c.4 q other).0, either q other))
+    all-closed : m ≡ K.number → InitiatorGoes E S F K stamp n w a (if all_finished closed (p ∷ finished) then settles E S.words.deployment n a a.initiating.work else becomes closes)
+    all-closed is = goes-if E S F K stamp n w a _ _ _ (λ all. settles-goes E S F K now stamp n w lay H B l i a start word c.0 c.3 (settled-all is all))
+        (λ some. goes-still E S F K stamp n w a now closes B l refl refl refl (c.0, c.1, c.2, c.3, λ q other. ((c.4 q other).0, either q other)))
       where
         either : (q : ℕ) → IsPart S q → (is_in q closed ≡ false) ⊎ (is_in q (p ∷ finished) ≡ true) → Settled E S F K q
         either q other (inl out) = (c.4 q other).1 (inl out)
         either q other (inr now) = settled-if is q other now
 
     closes-goes : InitiatorGoes E S F K stamp n w a (on_finished E S.words.deployment n a (Closes closing closed finished) a.initiating.work p m)
-    closes-goes = choice (closing == m) refl
-      where
-        choice : (b : Bool) → (closing == m) ≡ b → InitiatorGoes E S F K stamp n w a
-            (if b then (if all_finished closed (p ∷ finished) then settles E S.words.deployment n a a.initiating.work else becomes closes) else becomes a)
-        choice true is = all-closed (sym (eqb-true closing m is) ∙ c.1) (all_finished closed (p ∷ finished)) refl
-        choice false is = still
+    closes-goes = goes-if E S F K stamp n w a _ _ _ (λ is. all-closed (sym (eqb-true closing m is) ∙ c.1)) (λ is. still)
 
   -- ---- where it works
 
@@ -117,32 +111,21 @@ module _ (E : Database) (S : LogState) (F : Firm) (K : Transactions) (now stamp 
     done-if : m ≡ K.number → (q : ℕ) → IsPart S q → is_in q (p ∷ x.finished) ≡ true → Settled E S F K q
     done-if is q other = more-finished (Settled E S F K) p q x.finished (settled-now heard is (hand p part).0) (hand q other).1
 
-    all-done : m ≡ K.number → (b : Bool) → all_finished (all_parts S.words.deployment) (p ∷ x.finished) ≡ b
-        → InitiatorGoes E S F K stamp n w a (if b then ends_job E S.words.deployment n (with_work a done) x.job d.end else becomes (with_work a done))
-    all-done is true all =
-        goes-from E S F K stamp n w a K (with_work a done) (ends_job E S.words.deployment n (with_work a done) x.job d.end) refl (omega arith) refl refl refl
+    all-done : m ≡ K.number → InitiatorGoes E S F K stamp n w a
+        (if all_finished (all_parts S.words.deployment) (p ∷ x.finished) then ends_job E S.words.deployment n (with_work a done) x.job d.end else becomes (with_work a done))
+    all-done is = goes-if E S F K stamp n w a _ _ _
+        (λ all. goes-from E S F K stamp n w a K (with_work a done) (ends_job E S.words.deployment n (with_work a done) x.job d.end) refl (omega arith) refl refl refl
         (ends_job-goes E S F K now stamp n w lay H B l i (with_work a done) start word heard next
-        (λ q other. done-if is q other (list_all-at (λ y. is_in y (p ∷ x.finished)) (all_parts S.words.deployment) q all (part-in S.words.deployment q other))) x.job d.end)
-    all-done is false some = goes-still E S F K stamp n w a now (with_work a done) B l refl refl refl (
-      heard,
-      next,
-      (done, refl, job, subst (AtHand E S F K done) (sym is_decided) (λ q other. ((hand q other).0, done-if is q other))),
-    )
+        (λ q other. done-if is q other (list_all-at (λ y. is_in y (p ∷ x.finished)) (all_parts S.words.deployment) q all (part-in S.words.deployment q other))) x.job d.end))
+        (λ some. goes-still E S F K stamp n w a now (with_work a done) B l refl refl refl
+        (heard, next, (done, refl, job, subst (AtHand E S F K done) (sym is_decided) (λ q other. ((hand q other).0, done-if is q other)))))
 
     done-goes : InitiatorGoes E S F K stamp n w a (
         if x.transaction == m
         then (if all_finished (all_parts S.words.deployment) (p ∷ x.finished) then ends_job E S.words.deployment n (with_work a done) x.job d.end else becomes (with_work a done))
         else becomes a
         )
-    done-goes = choice (x.transaction == m) refl
-      where
-        choice : (b : Bool) → (x.transaction == m) ≡ b → InitiatorGoes E S F K stamp n w a (
-            if b
-            then (if all_finished (all_parts S.words.deployment) (p ∷ x.finished) then ends_job E S.words.deployment n (with_work a done) x.job d.end else becomes (with_work a done))
-            else becomes a
-            )
-        choice true is = all-done (sym (eqb-true x.transaction m is) ∙ job.0) (all_finished (all_parts S.words.deployment) (p ∷ x.finished)) refl
-        choice false is = still
+    done-goes = goes-if E S F K stamp n w a _ _ _ (λ is. all-done (sym (eqb-true x.transaction m is) ∙ job.0)) (λ is. still)
 
   works-goes : (x : Work) → K.heard ≡ term_of w → K.number < a.initiating.next → JobOk K (Some x) → AtHand E S F K x x.decision
       → InitiatorGoes E S F K stamp n w a (on_finished E S.words.deployment n a Works (Some x) p m)

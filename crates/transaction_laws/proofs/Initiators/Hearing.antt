@@ -1,9 +1,9 @@
 -- An initiator hears how the partitions stand in its term.
-use Rattle.transaction_laws.proofs.Names.{AgentState, Aligned, AllByRecursion, Books, Bool, Database, DueOk, Entry, Everywhere, Firm, Heard, HeardPart, Hears, In, Initiates, IsPart, JobOk, List, LogState, LogsHold, Membership, None, Off, OnlyCalls, Option, Outcome, Phase, PhaseOk, Prefix, Some, StateOk, Transactions, WellFormed, [], all-append, all-at, all_parts, ap, arith, becomes, cases_eq, closes_open, eqb-false, eqb-true, false, first_number, first_stage, greatest_told, has_told, hears, if◌then◌else◌, initiator, inl, inr, led_log, length, list_all, on_mp_state, open_told, point_in, prefix-append, prefix-trans, refl, same-some, since, stage, subst, sym, term_in, term_of, true, whole, with_phase, ℕ, ◌++◌, ◌+◌, ◌<◌, ◌==◌, ◌∙◌, ◌∷◌, ◌≡◌, ◌≤◌}
+use Rattle.transaction_laws.proofs.Names.{AgentState, Aligned, AllByRecursion, Books, Bool, Database, DueOk, Entry, Everywhere, Firm, Heard, HeardPart, Hears, In, Initiates, IsPart, JobOk, List, LogState, LogsHold, Membership, None, Off, OnlyCalls, Option, Outcome, Phase, PhaseOk, Prefix, Some, StateOk, Transactions, WellFormed, [], all-append, all-at, ap, arith, becomes, cases_eq, closes_open, eqb-false, eqb-true, false, first_number, first_stage, greatest_told, hears, if◌then◌else◌, initiator, inl, inr, led_log, length, on_mp_state, open_told, point_in, prefix-append, prefix-trans, refl, same-some, since, stage, subst, sym, term_in, term_of, true, whole, with_phase, ℕ, ◌++◌, ◌+◌, ◌<◌, ◌==◌, ◌∙◌, ◌∷◌, ◌≡◌, ◌≤◌}
 use Rattle.transaction_laws.proofs.Kept.{InitiatorGoes, Under, inert-leadership}
 use Rattle.transaction_laws.proofs.Entries.{under-prefix, under-trans, aligned-under, whole-led, number-since, number-within, closed-number}
 use Rattle.transaction_laws.proofs.Initiators.Orders.{LaidOut, decided-word}
-use Rattle.transaction_laws.proofs.Initiators.Turns.{goes-still, goes-from}
+use Rattle.transaction_laws.proofs.Initiators.Turns.{goes-still, goes-from, goes-if}
 use Rattle.transaction_laws.proofs.Initiators.Resting.{OverAt, resting-books}
 use Rattle.transaction_laws.proofs.Initiators.Told.{ToldIs, heard_with, told-is, told-none, told-prefix, told-number, greatest-above, greatest-below, told-by}
 use Rattle.transaction_laws.proofs.Initiators.Closing.{closes_open-goes}
@@ -208,12 +208,7 @@ module _ (E : Database) (S : LogState) (F : Firm) (K : Transactions) (now stamp 
           choice false is = goes-on K.number K.agreed (with-heard E S F K now n w H B i k.0 told k.1 tells) a refl refl refl (next-or-new (eqb-false a.initiating.next 0 is)) k.2
 
     hears-all : InitiatorGoes E S F K stamp n w a (hears E S.words.deployment n a told)
-    hears-all = choice (list_all (has_told told) (all_parts S.words.deployment)) refl
-      where
-        choice : (b : Bool) → list_all (has_told told) (all_parts S.words.deployment) ≡ b → InitiatorGoes E S F K stamp n w a
-            (if b then closes_open E S.words.deployment n (first_number a told) told (open_told told) else becomes (with_phase a (Hears told)))
-        choice true all = all-told (told-by S told all)
-        choice false some = goes-still E S F K stamp n w a now (with_phase a (Hears told)) B l refl refl refl k
+    hears-all = goes-if E S F K stamp n w a _ _ _ (λ all. all-told (told-by S told all)) (λ some. goes-still E S F K stamp n w a now (with_phase a (Hears told)) B l refl refl refl k)
 
   -- The leader of partition p tells how it stands.
   module _ (k : PhaseOk E S F K (term_of w) a a.initiating.phase) (p m : ℕ) (is_open : Bool) (outcome : Option Outcome)
@@ -222,17 +217,13 @@ module _ (E : Database) (S : LogState) (F : Firm) (K : Transactions) (now stamp 
     still = goes-still E S F K stamp n w a now a B l refl refl refl k
 
     hears-goes : (told : List Heard) → PhaseOk E S F K (term_of w) a (Hears told) → InitiatorGoes E S F K stamp n w a (on_mp_state E S.words.deployment n a (Hears told) p m is_open outcome)
-    hears-goes told h = choice (has_told told p)
-      where
-        choice : (b : Bool) → InitiatorGoes E S F K stamp n w a
-            (if b then becomes a else hears E S.words.deployment n a (told ++ record { part = p; transaction = m; is_open = is_open; outcome = outcome } ∷ []))
-        choice true = still
-        choice false = hears-all (told ++ record { part = p; transaction = m; is_open = is_open; outcome = outcome } ∷ []) (
+    hears-goes told h = goes-if E S F K stamp n w a _ _ _ (λ again. still)
+        (λ new. hears-all (told ++ record { part = p; transaction = m; is_open = is_open; outcome = outcome } ∷ []) (
           h.0,
           all-append (λ x. StateOk E S F x.part (term_of w) x.transaction x.is_open x.outcome) told (record { part = p; transaction = m; is_open = is_open; outcome = outcome } ∷ []) h.1 (state h.0, tt),
           h.2,
           h.3,
-        )
+        ))
 
     -- In any phase.
     pub mp_state-goes : InitiatorGoes E S F K stamp n w a (on_mp_state E S.words.deployment n a a.initiating.phase p m is_open outcome)

@@ -1,10 +1,10 @@
 -- A round that was answered: the next one, or the decision.
 use Rattle.volt_wire.specs.declared.message.Msg.TheVariants as msg
-use Rattle.transaction_laws.proofs.Names.{Aborted, AgentState, Aligned, AllByRecursion, AtHand, Blocks, Books, Bool, CoordStep, Database, Deployment, Done, EndFits, Entry, Fed, Finish, Firm, Fits, Frag, HeardPart, In, Initiates, IsEnded, IsOpen, IsPart, Job, JobOk, Kept, List, LogState, LogsHold, Membership, Msg, None, OfNumber, Option, Outcome, Phase, PhaseOk, Prefix, Round, RunCall, Sends, Settled, Snapshot, Some, Stage, Stood, TakeSnapshot, Transactions, WellFormed, Work, Works, [], all-append, all_parts, and_parts, ap, append-nil, append_assoc, arith, becomes, both-empty, decides, drop, ends_round, eqb-true, false, feeds, first_stage, gathers, goes_on, has_part, if◌then◌else◌, in-cases, in_order, inl, inr, is_in, is_none, is_none-none, led_log, length, length-append, list_all, list_all-at, list_any-append, nat_lt, next_stage, none-and-some, not, on_frag_done, or-false, or_cases, outcome_of, parts, point_after, point_in, prefix-grows, prefix-refl, prefix-same, refl, same-some, since, stage, stage_behind, subst, sym, term_of, to_all_leaders, true, true≢false, whole, with_work, ℕ, ◌&&◌, ◌++◌, ◌+◌, ◌<◌, ◌==◌, ◌∙◌, ◌∷◌, ◌≡◌, ◌≤◌}
+use Rattle.transaction_laws.proofs.Names.{Aborted, AgentState, Aligned, AllByRecursion, AtHand, Blocks, Books, Bool, CoordStep, Database, Deployment, Done, EndFits, Entry, Fed, Finish, Firm, Fits, Frag, HeardPart, In, Initiates, IsEnded, IsOpen, IsPart, Job, JobOk, Kept, List, LogState, LogsHold, Membership, Msg, None, OfNumber, Option, Outcome, Phase, PhaseOk, Prefix, Round, RunCall, Sends, Settled, Snapshot, Some, Stage, Stood, TakeSnapshot, Transactions, WellFormed, Work, Works, [], all-append, all_parts, and_parts, ap, append-nil, append_assoc, arith, becomes, both-empty, decides, drop, ends_round, eqb-true, false, feeds, first_stage, gathers, goes_on, has_part, in-cases, in_order, inl, inr, is_in, is_none, is_none-none, led_log, length, length-append, list_all-at, list_any-append, nat_lt, next_stage, none-and-some, not, on_frag_done, or-false, or_cases, outcome_of, parts, point_after, point_in, prefix-grows, prefix-refl, prefix-same, refl, same-some, since, stage, stage_behind, subst, sym, term_of, to_all_leaders, true, true≢false, whole, with_work, ℕ, ◌&&◌, ◌++◌, ◌+◌, ◌<◌, ◌==◌, ◌∙◌, ◌∷◌, ◌≡◌, ◌≤◌}
 use Rattle.transaction_laws.proofs.Entries.{first-sound, stage-sound, stage-append, formed-append, calls-opened, frag-last, opened-no-end, part-in, no-round-opened, stage-since, formed-since, since-more}
-use Rattle.transaction_laws.proofs.Kept.{InitiatorGoes, with_due}
+use Rattle.transaction_laws.proofs.Kept.{InitiatorGoes, with_due, part-agreed}
 use Rattle.transaction_laws.proofs.Initiators.Orders.{LaidOut, due_with, sends-goes}
-use Rattle.transaction_laws.proofs.Initiators.Turns.{goes-still}
+use Rattle.transaction_laws.proofs.Initiators.Turns.{goes-still, goes-if}
 use Rattle.transaction_laws.proofs.Initiators.Beginning.{whole-to}
 
 -- ---- a transaction that is open everywhere
@@ -232,14 +232,8 @@ module _ (E : Database) (S : LogState) (F : Firm) (K : Transactions) (now stamp 
         (λ p part. sym (append-nil (led p)) ∙ ap (λ xs. led p ++ xs) (sym (k.fed p part).none)) end_sent.due
 
     end-part : (p : ℕ) → IsPart S p → HeardPart S F end_sent p
-    end-part p part = let h = B.heard.each p part in record {
-      leadership = h.leadership;
-      led = h.led;
-      inside = h.inside;
-      closed = h.closed;
-      decided = λ x is. (prefix-same (led p) h.leadership.log (ap led_log h.led), (k.fed p part).everywhere);
-      top = h.top;
-    }
+    end-part p part = let h = B.heard.each p part in
+        part-agreed S F K K.number (Some o) led end_sent.due p h (λ x is. (prefix-same (led p) h.leadership.log (ap led_log h.led), (k.fed p part).everywhere))
 
     end-at-hand : (p : ℕ) → IsPart S p → IsEnded E S end_sent p × (is_in p v.finished ≡ true → Settled E S F end_sent p)
     end-at-hand p part = (
@@ -283,19 +277,16 @@ module _ (E : Database) (S : LogState) (F : Firm) (K : Transactions) (now stamp 
 
     -- one part more
     gathers-goes : (v : Work) → v.transaction ≡ K.number → v.decision ≡ None → AtHand E S F K v None → InitiatorGoes E S F K stamp n w a (gathers E S.words.deployment stamp a v)
-    gathers-goes v m none k = choice (list_all (has_part v.gathered) (all_parts S.words.deployment)) refl
-      where
-        choice : (b : Bool) → list_all (has_part v.gathered) (all_parts S.words.deployment) ≡ b
-            → InitiatorGoes E S F K stamp n w a (if b then ends_round E S.words.deployment stamp a v v.job else becomes (with_work a v))
-        choice true all = ends_round-goes v (record {
+    gathers-goes v m none k = goes-if E S F K stamp n w a _ _ _
+        (λ all. ends_round-goes v (record {
           transaction = m;
           decision = none;
           finished = k.0;
           opened = λ p part. (k.1 p part).0;
           fed = λ p part. (k.1 p part).1 (list_all-at (has_part v.gathered) (all_parts S.words.deployment) p all (part-in S.words.deployment p part));
-        }) v.job refl
-        choice false some = goes-still E S F K stamp n w a now (with_work a v) B low refl refl refl
-            (heard, next, (v, refl, (m, λ d is. absurd (none-and-some none is)), subst (AtHand E S F K v) (sym none) k))
+        }) v.job refl)
+        (λ some. goes-still E S F K stamp n w a now (with_work a v) B low refl refl refl
+        (heard, next, (v, refl, (m, λ d is. absurd (none-and-some none is)), subst (AtHand E S F K v) (sym none) k)))
 
 -- FragDone changes nothing but the job at hand.
 pub frag_done-goes : (E : Database) (S : LogState) (F : Firm) (K : Transactions) (now stamp n : ℕ) (w : Membership) → LaidOut S → LogsHold S → Books E S F K now → now ≤ stamp → Initiates S n w
@@ -309,20 +300,19 @@ frag_done-goes E S F K now stamp n w lay H B low i a start word ok p m round par
 
     one : (v : Work) → K.heard ≡ term_of w → K.number < a.initiating.next → JobOk K (Some v) → AtHand E S F K v v.decision
         → InitiatorGoes E S F K stamp n w a (on_frag_done E S.words.deployment stamp a Works (Some v) p m round partial)
-    one v heard next job k = choice (v.transaction == m && v.round == round && is_none v.decision && not (has_part v.gathered p)) refl
+    one v heard next job k = goes-if E S F K stamp n w a _ _ _ part-came (λ q. stay)
       where
         stood-here : v.transaction ≡ m → v.round ≡ round → Stood S F p K.heard (Frag K.number v.round body)
         stood-here e f = subst (λ t. Stood S F p t (Frag K.number v.round body)) (sym heard) (rw (f, sym job.0 ∙ e) stood)
 
-        choice : (b : Bool) → (v.transaction == m && v.round == round && is_none v.decision && not (has_part v.gathered p)) ≡ b
-            → InitiatorGoes E S F K stamp n w a (if b then gathers E S.words.deployment stamp a (record v { gathered = v.gathered ++ (p, partial) ∷ [] }) else becomes a)
-        choice true q =
+        part-came : (v.transaction == m && v.round == round && is_none v.decision && not (has_part v.gathered p)) ≡ true
+            → InitiatorGoes E S F K stamp n w a (gathers E S.words.deployment stamp a (record v { gathered = v.gathered ++ (p, partial) ∷ [] }))
+        part-came q =
             let (rest, fresh) = and_parts (v.transaction == m && v.round == round && is_none v.decision) (not (has_part v.gathered p)) q in
             let (same, undecided) = and_parts (v.transaction == m && v.round == round) (is_none v.decision) rest in
             let (number, at) = and_parts (v.transaction == m) (v.round == round) same in
             gathers-goes E S F K now stamp n w lay H B low i a word heard next ok (record v { gathered = v.gathered ++ (p, partial) ∷ [] }) job.0 (is_none-none v.decision undecided)
             (with-part E S F K now B v p partial body part (subst (AtHand E S F K v) (is_none-none v.decision undecided) k) (stood-here (eqb-true v.transaction m number) (eqb-true v.round round at)))
-        choice false q = stay
 
     go : (phase : Phase) (work : Option Work) → a.initiating.phase ≡ phase → a.initiating.work ≡ work → PhaseOk E S F K (term_of w) a phase
         → InitiatorGoes E S F K stamp n w a (on_frag_done E S.words.deployment stamp a phase work p m round partial)

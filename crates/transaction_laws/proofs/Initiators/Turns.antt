@@ -1,5 +1,5 @@
 -- Turns of an initiator: in which nothing changes, behind a part that sends no round and no end, and from another history of what is due.
-use Rattle.transaction_laws.proofs.Names.{AgentState, AllByRecursion, Books, Database, Firm, LogState, Membership, PhaseOk, Sends, Site, Transactions, Turn, [], ap, append-nil, arith, becomes, le_trans, no_sends, orders, part, refl, subst, sym, term_of, ℕ, ◌++◌, ◌∙◌, ◌≡◌, ◌≤◌, ◌▸◌}
+use Rattle.transaction_laws.proofs.Names.{AgentState, AllByRecursion, Books, Bool, Database, Firm, LogState, Membership, PhaseOk, Sends, Site, Transactions, Turn, [], ap, append-nil, arith, becomes, false, if◌then◌else◌, le_trans, no_sends, orders, part, refl, subst, sym, term_of, true, ℕ, ◌++◌, ◌∙◌, ◌≡◌, ◌≤◌, ◌▸◌}
 use Rattle.transaction_laws.proofs.Kept.{SentOrder, SendsDue, InitiatorGoes, books-later}
 
 -- ---- what is sent
@@ -25,6 +25,12 @@ sends-from S n w K L M out same due sites h = record {
 -- ---- turns
 
 module _ (E : Database) (S : LogState) (F : Firm) (K : Transactions) (stamp n : ℕ) (w : Membership) (a : AgentState) where
+  -- the one turn or the other
+  pub goes-if : (c : Bool) (x y : Turn AgentState) → (c ≡ true → InitiatorGoes E S F K stamp n w a x) → (c ≡ false → InitiatorGoes E S F K stamp n w a y)
+      → InitiatorGoes E S F K stamp n w a (if c then x else y)
+  goes-if true x y p q = p refl
+  goes-if false x y p q = q refl
+
   -- It goes on as it was, or with another state that is as good.
   pub goes-still : (now : ℕ) (b : AgentState) → Books E S F K now → now ≤ stamp → b.start ≡ a.start → b.decided ≡ a.decided → b.waiting ≡ a.waiting
       → PhaseOk E S F K (term_of w) b b.initiating.phase → InitiatorGoes E S F K stamp n w a (becomes b)

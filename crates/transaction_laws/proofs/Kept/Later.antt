@@ -1,6 +1,6 @@
 -- What holds of transactions, holds after an event that only adds to logs.
 use Rattle.volt_wire.specs.declared.message.Msg.TheVariants as msg
-use Rattle.transaction_laws.proofs.Names.{AgentCalls, AgentState, Aligned, AllByRecursion, AnswerOk, AtHand, Books, Bool, Closes, Database, Decision, Deployment, Done, DueOk, Entry, Everywhere, Fed, Firm, Frag, HeardOk, HeardPart, Hears, Idle, In, IsCall, IsEnded, IsPart, Last, Leadership, LeadershipFits, Letter, List, LogState, Logs, LogsHold, Membership, NoRound, None, OfNumber, Off, OnlyCalls, Option, OrderOk, Outcome, Phase, PhaseOk, Prefix, Settled, Site, Some, Stage, StateOk, Stood, ToSiteOk, Transactions, Waiting, WaitingAnswer, WellFormed, Work, Works, [], agrees-begun, all-append, all-at, all-behind, all-first, all-mono, ap, append-nil, append_assoc, arith, base-least, cases_Bool, cases_eq, drop, drop-append-le, drop-append_seam, epoch_base, first_stage, in-cases, in-left, in-right, initiator, initiator-member, inl, inr, known, last-below, last_done, leader, led_log, length, length-take, member-is, nat_lt, none-and-some, not-both, open_in, part, part_of_slot, parts, prefix-append, prefix-grows, prefix-length, prefix-rest, prefix-take, prefix-trans, prefixes-order, refl, same-some, since, slots, stage, stage_behind, standing, start_of_slot, subst, suc, sym, take, term_in, term_of, true, whole, zero, ℕ, ◌++◌, ◌+◌, ◌<◌, ◌∙◌, ◌∷◌, ◌≡◌, ◌≤◌, ◌⊎◌}
+use Rattle.transaction_laws.proofs.Names.{AgentCalls, AgentState, Aligned, AllByRecursion, AnswerOk, AtHand, Books, Bool, Closes, Database, Decision, Deployment, Done, DueOk, Entry, Everywhere, Fed, Firm, Frag, HeardOk, HeardPart, Hears, Idle, In, IsCall, IsEnded, IsPart, Last, Leadership, LeadershipFits, Letter, List, LogState, Logs, LogsHold, Membership, NoRound, None, OfNumber, Off, OnlyCalls, Option, OrderOk, Outcome, Phase, PhaseOk, Prefix, Settled, Site, Some, Stage, StateOk, Stood, ToSiteOk, Transactions, Waiting, WaitingAnswer, WellFormed, Work, Works, [], agrees-begun, all-append, all-at, all-behind, all-first, all-mono, ap, append-nil, append_assoc, arith, base-least, cases_Bool, cases_eq, drop, drop-append-le, drop-append_seam, epoch_base, first_stage, in-cases, in-left, in-right, initiator, initiator-member, inl, inr, known, last-below, last_done, leader, led_log, length, length-take, member-is, nat_lt, none-and-some, not-both, open_in, part, part_of_slot, parts, point_in, prefix-append, prefix-grows, prefix-length, prefix-rest, prefix-take, prefix-trans, prefixes-order, refl, same-some, since, slots, stage, stage_behind, standing, start_of_slot, subst, suc, sym, take, term_in, term_of, true, whole, zero, ℕ, ◌++◌, ◌+◌, ◌<◌, ◌∙◌, ◌∷◌, ◌≡◌, ◌≤◌, ◌⊎◌}
 use Rattle.transaction_laws.proofs.Kept.Moves.{Onto, BeginsTerm, GoesOnTerm, Moved, with_due, Under, CallsAt}
 use Rattle.transaction_laws.proofs.Entries.Machine.{AtMostOne, formed-append, formed-prefix, prefix-point, calls-only, calls-formed, calls-point, due-formed, due-opened, due-number, due-point, stage-append}
 use Rattle.transaction_laws.proofs.Entries.Since.{call-number, call-round}
@@ -81,6 +81,12 @@ heard-part S T F M o K due p k = let h = o.onward.kept p K.heard k.leadership k.
       (prefix-trans (K.decided p) k.leadership.log h.0.log d.0 h.3, everywhere-on S T F M o p K.heard (length (K.decided p)) d.1);
   top = o.tops p K.heard 0 k.top;
 }
+
+-- with another outcome that is agreed, where what stood there when that was decided is firm
+pub part-agreed : (S : LogState) (F : Firm) (K : Transactions) (number : ℕ) (agreed : Option Outcome) (decided : ℕ → List Entry) (due : ℕ → ℕ → List Entry) (p : ℕ) (h : HeardPart S F K p)
+    → ((x : ℕ) → point_in agreed ≡ Some x → Prefix (decided p) h.leadership.log × Everywhere S F p K.heard (length (decided p)))
+    → HeardPart S F (record K { number = number; agreed = agreed; decided = decided; due = due }) p
+part-agreed S F K number agreed decided due p h d = record { leadership = h.leadership; led = h.led; inside = h.inside; closed = h.closed; decided = d; top = h.top }
 
 -- ---- terms that were led and whose initiator hasn't heard of all
 
