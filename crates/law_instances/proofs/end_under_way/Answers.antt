@@ -1,5 +1,4 @@
 use Rattle.std.proofs.Common.{refl, take, drop, inl}
-use Rattle.std.specs.Prelude.{[], ◌∷◌}
 use Rattle.cluster_model.specs.Scenarios.InitiatorLostBehindDone as behind_done
 use Rattle.law_instances.specs.Instances.{ended}
 use Rattle.law_instances.proofs.Worlds.{reached-first}
