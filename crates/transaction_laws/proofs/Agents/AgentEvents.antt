@@ -130,10 +130,7 @@ module _ (E : Database) (S : LogState) (F : Firm) (halted : Bool) (K : Transacti
     record {
       history = taken-calls.handler.handler.history;
       grows = handler-grows taken-calls.handler.handler;
-      goes = elim taken-calls.handler.handler.goes [
-        | inl e ↦ inl e.0
-        | inr z ↦ inr (ap (λ b. b.own) z)
-      ];
+      goes = elim taken-calls.handler.handler.goes [ inl e ↦ inl e.0 | inr z ↦ inr (ap (λ b. b.own) z) ];
       by = taken-calls.handler.handler.by;
       holds = holds-of (agent_turned P n (whole ▸ takes_waiting E D n stamp).state (whole ▸ takes_waiting E D n stamp).sends taken-calls.handler.handler.history) taken-calls.handler.handler.holds taken-calls.handler.rest;
     },

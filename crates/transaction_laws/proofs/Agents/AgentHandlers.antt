@@ -127,10 +127,7 @@ loaded-leaves D n a slot start = if-leaves a (start == a.start) (has_loaded D n 
 -- ---- messages that aren't for the initiator
 
 abbrev ForInitiator : Actor → Letter → Type 0
-ForInitiator Director l = elim l.body as (λ _. Type 0) [
-  | msg.Snap ↦ Unit {0}
-  | _ ↦ ⊥
-]
+ForInitiator Director l = elim l.body as (λ _. Type 0) [ msg.Snap ↦ Unit {0} | _ ↦ ⊥ ]
 ForInitiator (Agent g) l = elim l.body as (λ _. Type 0) [
   | msg.Decided w ↦ Unit {0}
   | msg.MpCall call start body ↦ Unit {0}
@@ -330,10 +327,7 @@ module _ (E : Database) (S : LogState) (F : Firm) (K : Transactions) (now stamp 
 
       -- a letter with a term is of its own one
       here : 0 < l.term → l.term ≡ term_of w
-      here some = elim term [
-        | inl none ↦ absurd (omega (arith, some, none))
-        | inr is ↦ is
-      ]
+      here some = elim term [ inl none ↦ absurd (omega (arith, some, none)) | inr is ↦ is ]
 
 -- The handler of an initiator.
 pub handler-initiates : (E : Database) (S : LogState) (F : Firm) (K : Transactions) (now stamp n : ℕ) (w : Membership) → LaidOut S → LogsHold S → Books E S F K now → now ≤ stamp → Initiates S n w

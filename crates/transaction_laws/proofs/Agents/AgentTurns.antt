@@ -122,10 +122,7 @@ module _ (E : Database) (F : Firm) (halted : Bool) (stamp : ℕ) (S : LogState) 
         → ((w : Membership) → Initiates S h w → PhaseOk E S F K (term_of w) (S.words.agents h) (S.words.agents h).initiating.phase
         → PhaseOk E S F L (term_of w) (S.words.agents h) (S.words.agents h).initiating.phase) → AgentCalls E T F L h
     other-then h d still = let k = C.agents h in agent-then h (S.words.agents h) (set-there S.words.agents n t.state h d) (record {
-      initiating = elim k.initiating [
-        | inl q ↦ inl q
-        | inr q ↦ inr (q.0, q.1.runs, q.1.has_decided, q.1.initiates, still q.0 q.1 q.2)
-      ];
+      initiating = elim k.initiating [ inl q ↦ inl q | inr q ↦ inr (q.0, q.1.runs, q.1.has_decided, q.1.initiates, still q.0 q.1 q.2) ];
       waiting = all-mono _ _ (waiting-on E S S F F (onto-same S F) K L heard) (S.words.agents h).waiting k.waiting;
     })
 
@@ -317,10 +314,7 @@ off-tells a n t before g = record {
   work = ap (λ x. x.initiating.work) same ∙ g.work;
   next = ap (λ x. x.initiating.next) same ∙ g.next;
   sends = λ c. subst (AllByRecursion NoOrder) (sym (told-sites n before t c)) (g.sends c);
-  kept = elim g.kept [
-    | inl z ↦ inl (same ∙ z)
-    | inr k ↦ inr (ap (λ x. x.start) same ∙ k.0, ap (λ x. x.decided) same ∙ k.1, ap (λ x. x.waiting) same ∙ k.2)
-  ];
+  kept = elim g.kept [ inl z ↦ inl (same ∙ z) | inr k ↦ inr (ap (λ x. x.start) same ∙ k.0, ap (λ x. x.decided) same ∙ k.1, ap (λ x. x.waiting) same ∙ k.2) ];
 }
   where
     same : (tells n before t.state).state ≡ t.state
@@ -425,10 +419,7 @@ module _ (E : Database) (F : Firm) (halted : Bool) (stamp : ℕ) (S : LogState) 
 
   -- its job and its next number, which it keeps
   job : JobOk K a.initiating.work × (((a.initiating.next ≡ 0) × (a.initiating.work ≡ None)) ⊎ (K.number < a.initiating.next))
-  job = elim (C.agents n).initiating [
-    | inl q ↦ (rw q.1 tt, inl (q.2, q.1))
-    | inr q ↦ phase-job E S F K (term_of q.0) a a.initiating.phase q.2
-  ]
+  job = elim (C.agents n).initiating [ inl q ↦ (rw q.1 tt, inl (q.2, q.1)) | inr q ↦ phase-job E S F K (term_of q.0) a a.initiating.phase q.2 ]
 
   module _ (v : Membership) (own : a.own ≡ Some v) (may : may_decide n a (Some v) ≡ true) (r : AgentHandler S n (decides_word S.words.deployment n a (Some v))) where
     abbrev decides : Turn AgentState

@@ -16,10 +16,7 @@ module _ (S : State) (H : word.WordsHold S) (n : ℕ) (W V : Membership) (j h te
 
   -- what the agent says of it
   abbrev out : Sends
-  out b = elim b as (λ _. List Letter) [
-    | Agent g ↦ said_to n (word.agent_start S n) X g
-    | _ ↦ []
-  ]
+  out b = elim b as (λ _. List Letter) [ Agent g ↦ said_to n (word.agent_start S n) X g | _ ↦ [] ]
 
   -- Nobody has said a word like it.
   unsaid : (s : ℕ) (u : Membership) → In u (S.history.said s) → same_word u X ≡ true → ⊥

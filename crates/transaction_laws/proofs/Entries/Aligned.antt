@@ -282,10 +282,7 @@ module _ (E : Database) (D : Deployment) (now : ℕ) (K : Transactions) (logs : 
   again-is : (p : ℕ) → nat_lt p (parts D) ≡ true → EndsOrSame E K logs outcome again p
   again-is p part = elim (either p part) [
     | inl e ↦ inl e
-    | inr e ↦ elim (goes-on E D now K logs k p part (stage E p (logs p)).opened refl) [
-      | inl (none, is) ↦ inl (e ∙ is)
-      | inr (r, at, is) ↦ inr (r, at, e ∙ is)
-    ]
+    | inr e ↦ elim (goes-on E D now K logs k p part (stage E p (logs p)).opened refl) [ inl (none, is) ↦ inl (e ∙ is) | inr (r, at, is) ↦ inr (r, at, e ∙ is) ]
   ]
 
   again-open : (p r : ℕ) → nat_lt p (parts D) ≡ true → OpenAt E K logs p r → Aligned E D now (record K { agreed = Some outcome }) again

@@ -159,10 +159,7 @@ module _ (E : Database) (D : Deployment) (now : ℕ) (K : Transactions) (logs : 
     (either : (q : ℕ) → nat_lt q (parts D) ≡ true → EndsOrSame E K logs o after q) where
   -- what holds of the log as it was, and with the end where it was open
   of-log : (P : List Entry → Type 0) (q : ℕ) → nat_lt q (parts D) ≡ true → P (logs q) → ((r : ℕ) → OpenAt E K logs q r → P (logs q ++ Done K.number o ∷ [])) → P (after q)
-  of-log P q other was ended = elim (either q other) [
-    | inl e ↦ subst P (sym e) was
-    | inr (r, now-open, e) ↦ subst P (sym e) (ended r now-open)
-  ]
+  of-log P q other was ended = elim (either q other) [ inl e ↦ subst P (sym e) was | inr (r, now-open, e) ↦ subst P (sym e) (ended r now-open) ]
 
   of-since : (P : List Entry → Type 0) (q : ℕ) → nat_lt q (parts D) ≡ true → P (since K logs q) → P (since K logs q ++ Done K.number o ∷ []) → P (since K after q)
   of-since P q other was ended = of-log (λ xs. P (drop (length (K.closed q)) xs)) q other was

@@ -92,8 +92,7 @@ calls-number s (x ∷ es) h = absurd h.0
 
 pub calls-formed : (s : Stage) (n : ℕ) (es : List Entry) → CallsAt n es → s.opened ≡ None → s.point ≤ n → WellFormed s es
 calls-formed s n [] h e l = tt
-calls-formed s n (Sp call point body ∷ es) h e l =
-    ((e, omega (arith, l, h.0)), calls-formed (record s { point = point }) n es h.1 e (omega (arith, h.0)))
+calls-formed s n (Sp call point body ∷ es) h e l = ((e, omega (arith, l, h.0)), calls-formed (record s { point = point }) n es h.1 e (omega (arith, h.0)))
 calls-formed s n (x ∷ es) h e l = absurd h.0
 
 pub calls-point : (s : Stage) (n : ℕ) (es : List Entry) → CallsAt n es → s.point ≤ n → (stage_behind s es).point ≤ n
@@ -338,10 +337,7 @@ Shut s m = (m ≤ s.number) × ((r : ℕ) → s.opened ≡ Some (m, r) → ⊥)
 
 shut-round : (s : Stage) (m a k : ℕ) (body : List ℕ) → Sound s → Fits s (Frag a k body) → Shut s m → Shut (next_stage s (Frag a k body)) m
 shut-round s m a k body h (inl f) c = (omega (arith, c.0, f.1), λ r e. omega (arith, c.0, f.1, ap (λ y. y.0) (same-some e)))
-shut-round s m a k body h (inr f) c = (
-  omega (arith, c.0, h a f.0 f.1),
-  λ r e. c.1 f.0 (f.1 ∙ ap (λ y. Some (y, f.0)) (ap (λ y. y.0) (same-some e))),
-)
+shut-round s m a k body h (inr f) c = (omega (arith, c.0, h a f.0 f.1), λ r e. c.1 f.0 (f.1 ∙ ap (λ y. Some (y, f.0)) (ap (λ y. y.0) (same-some e))))
 
 -- It stays so.
 shut-next : (s : Stage) (x : Entry) (m : ℕ) → Sound s → Fits s x → Shut s m → Shut (next_stage s x) m
@@ -390,18 +386,12 @@ opened-number s es n m r e h f = open-of s es n (λ a b g. absurd (none-and-some
 -- the greatest number is its, unless all are calls
 pub only-number : (s : Stage) (es : List Entry) (n : ℕ) → AllByRecursion (OfNumber n) es → OnlyCalls es ⊎ ((stage_behind s es).number ≡ n)
 only-number s [] n h = inl tt
-only-number s (Sp call point body ∷ xs) n h = elim (only-number (record s { point = point }) xs n h.1) [
-  | inl c ↦ inl (tt, c)
-  | inr e ↦ inr e
-]
+only-number s (Sp call point body ∷ xs) n h = elim (only-number (record s { point = point }) xs n h.1) [ inl c ↦ inl (tt, c) | inr e ↦ inr e ]
 only-number s (Frag a b body ∷ xs) n h = let u = next_stage s (Frag a b body) in elim (only-number u xs n h.1) [
   | inl c ↦ inr (calls-number u xs c ∙ h.0)
   | inr e ↦ inr e
 ]
-only-number s (Done a o ∷ xs) n h = let u = next_stage s (Done a o) in elim (only-number u xs n h.1) [
-  | inl c ↦ inr (calls-number u xs c ∙ h.0)
-  | inr e ↦ inr e
-]
+only-number s (Done a o ∷ xs) n h = let u = next_stage s (Done a o) in elim (only-number u xs n h.1) [ inl c ↦ inr (calls-number u xs c ∙ h.0) | inr e ↦ inr e ]
 
 -- ---- what a log says of its transactions
 
@@ -437,14 +427,8 @@ done-append last (Done m o ∷ xs) ys = done-append (Some (m, o)) xs ys
 -- it was there before, or is one of these
 done-from : (last : Option (ℕ × Outcome)) (es : List Entry) (n : ℕ) (o : Outcome) → done_behind last es ≡ Some (n, o) → (last ≡ Some (n, o)) ⊎ In (Done n o) es
 done-from last [] n o e = inl e
-done-from last (Sp call point body ∷ xs) n o e = elim (done-from last xs n o e) [
-  | inl f ↦ inl f
-  | inr i ↦ inr (inr i)
-]
-done-from last (Frag m r body ∷ xs) n o e = elim (done-from last xs n o e) [
-  | inl f ↦ inl f
-  | inr i ↦ inr (inr i)
-]
+done-from last (Sp call point body ∷ xs) n o e = elim (done-from last xs n o e) [ inl f ↦ inl f | inr i ↦ inr (inr i) ]
+done-from last (Frag m r body ∷ xs) n o e = elim (done-from last xs n o e) [ inl f ↦ inl f | inr i ↦ inr (inr i) ]
 done-from last (Done m a ∷ xs) n o e = elim (done-from (Some (m, a)) xs n o e) [
   | inl f ↦ inr (inl (ap (λ x. Done x.0 x.1) (same-some f)))
   | inr i ↦ inr (inr i)

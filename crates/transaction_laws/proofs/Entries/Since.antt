@@ -90,10 +90,7 @@ module _ (E : Database) (D : Deployment) (now : ℕ) (K : Transactions) (logs : 
   )
 
   pub number-within : (stage E p (logs p)).number ≤ K.number
-  number-within = elim number-since [
-    | inl calls ↦ subst (λ n. n ≤ K.number) (sym (calls-since calls).1) (A.below p part)
-    | inr is ↦ omega (arith, is)
-  ]
+  number-within = elim number-since [ inl calls ↦ subst (λ n. n ≤ K.number) (sym (calls-since calls).1) (A.below p part) | inr is ↦ omega (arith, is) ]
 
   -- No other one is open.
   pub open-number : (m r : ℕ) → (stage E p (logs p)).opened ≡ Some (m, r) → m ≡ K.number

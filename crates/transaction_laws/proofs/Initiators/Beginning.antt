@@ -42,15 +42,7 @@ round-opens m body = record {
 }
 
 snapshot-opens : (m : ℕ) → Opens m (Done m Snapshot) (Some Snapshot)
-snapshot-opens m = record {
-  order = tt;
-  of = refl;
-  fits = λ s e l. (e, l);
-  point = λ s. refl;
-  ends = λ q e. cc;
-  round = λ e. tt;
-  none = refl;
-}
+snapshot-opens m = record { order = tt; of = refl; fits = λ s e l. (e, l); point = λ s. refl; ends = λ q e. cc; round = λ e. tt; none = refl }
 
 -- ---- where all is at rest
 

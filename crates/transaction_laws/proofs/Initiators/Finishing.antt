@@ -49,10 +49,7 @@ more_done p x = record x { finished = p ∷ x.finished }
 
 -- and of that this holds too
 more-finished : (P : ℕ → Type 0) (p q : ℕ) (finished : List ℕ) → P p → (is_in q finished ≡ true → P q) → is_in q (p ∷ finished) ≡ true → P q
-more-finished P p q finished k h is = elim (or_cases (p == q) (is_in q finished) is) [
-  | inl same ↦ subst P (eqb-true p q same) k
-  | inr before ↦ h before
-]
+more-finished P p q finished k h is = elim (or_cases (p == q) (is_in q finished) is) [ inl same ↦ subst P (eqb-true p q same) k | inr before ↦ h before ]
 
 -- ---- the turn
 
@@ -73,10 +70,7 @@ module _ (E : Database) (S : LogState) (F : Firm) (K : Transactions) (now stamp 
 
   module _ (closing : ℕ) (closed finished : List ℕ) (c : PhaseOk E S F K (term_of w) a (Closes closing closed finished)) where
     now-settled : m ≡ K.number → Settled E S F K p
-    now-settled is = elim (cases_Bool (is_in p closed)) [
-      | inl is-in ↦ settled-now c.0 is ((c.4 p part).0 is-in)
-      | inr out ↦ (c.4 p part).1 (inl out)
-    ]
+    now-settled is = elim (cases_Bool (is_in p closed)) [ inl is-in ↦ settled-now c.0 is ((c.4 p part).0 is-in) | inr out ↦ (c.4 p part).1 (inl out) ]
 
     settled-if : m ≡ K.number → (q : ℕ) → IsPart S q → is_in q (p ∷ finished) ≡ true → Settled E S F K q
     settled-if is q other = more-finished (Settled E S F K) p q finished (now-settled is) (λ before. (c.4 q other).1 (inr before))

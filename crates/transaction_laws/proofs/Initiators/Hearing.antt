@@ -80,10 +80,7 @@ module _ (E : Database) (S : LogState) (F : Firm) (K : Transactions) (now n : �
       subst (λ g. t ≤ term_in (S.words.agents g).decided) same (subst (λ o. t ≤ term_in o) (sym i.has_decided) (omega arith))
 
   heard-due : (p u : ℕ) → DueOk S after p u
-  heard-due p u = elim (B.due p u) [
-    | inl none ↦ inl none
-    | inr d ↦ inr (d.0, d.1, d.2, d.3, d.4, omega (arith, up, d.5))
-  ]
+  heard-due p u = elim (B.due p u) [ inl none ↦ inl none | inr d ↦ inr (d.0, d.1, d.2, d.3, d.4, omega (arith, up, d.5)) ]
 
   heard-books : Books E S F after now
   heard-books = record {
@@ -189,16 +186,10 @@ module _ (E : Database) (S : LogState) (F : Firm) (K : Transactions) (now stamp 
       ]
 
       next-or-new : (a.initiating.next ≡ 0 → ⊥) → K.number < a.initiating.next
-      next-or-new some = elim k.3 [
-        | inl new ↦ absurd (some new.0)
-        | inr next ↦ next
-      ]
+      next-or-new some = elim k.3 [ inl new ↦ absurd (some new.0) | inr next ↦ next ]
 
       work-of-new : a.initiating.next ≡ 0 → a.initiating.work ≡ None
-      work-of-new none = elim k.3 [
-        | inl new ↦ new.1
-        | inr next ↦ absurd (omega (arith, none, next))
-      ]
+      work-of-new none = elim k.3 [ inl new ↦ new.1 | inr next ↦ absurd (omega (arith, none, next)) ]
 
       all-told : InitiatorGoes E S F K stamp n w a (closes_open E S.words.deployment n (first_number a told) told (open_told told))
       all-told = choice (a.initiating.next == 0) refl

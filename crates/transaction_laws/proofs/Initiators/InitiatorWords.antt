@@ -171,10 +171,7 @@ module _ (S : State) (H : HistoryOk S) where
             ]
 
             unlost : is_in a at.lost ≡ false
-            unlost = elim (cases_Bool (is_in a at.lost)) [
-              | inl e ↦ absurd (not-both (is_in a w.lost) (x.within.lost a e) n)
-              | inr e ↦ e
-            ]
+            unlost = elim (cases_Bool (is_in a at.lost)) [ inl e ↦ absurd (not-both (is_in a w.lost) (x.within.lost a e) n) | inr e ↦ e ]
 
             shorter : length (firsts at.admitted) ≤ k
             shorter =

@@ -161,19 +161,11 @@ orders-books E S F K L now stamp e to B l order heard due none each aligned = re
     fits p t g part led = elim (cases_eq t L.heard) [
       | inl q ↦
           let same : whole S L L.heard p ≡ g.log ++ L.due p t = ap (λ o. led_log o ++ L.due p L.heard) (ap (S.logs.leadership p) (sym q) ∙ led) ∙ ap (λ u. g.log ++ L.due p u) (sym q) in
-          record {
-            formed = rw same at (aligned.formed p part);
-            past = rw same at (aligned.past p part);
-            unheard = λ b. absurd (omega (arith, b, q));
-          }
+          record { formed = rw same at (aligned.formed p part); past = rw same at (aligned.past p part); unheard = λ b. absurd (omega (arith, b, q)) }
       | inr d ↦
           let same : L.due p t ≡ K.due p t = due-at p t ∙ due-other S K to e p t (λ q. d (q ∙ sym heard)) in
           let k = B.leaderships p t g part led in
-          record {
-            formed = rw same k.formed;
-            past = rw same (omega (arith, l, k.past));
-            unheard = λ b. k.unheard (omega (arith, b, heard));
-          }
+          record { formed = rw same k.formed; past = rw same (omega (arith, l, k.past)); unheard = λ b. k.unheard (omega (arith, b, heard)) }
     ]
 
     ok : HeardOk E S F L stamp

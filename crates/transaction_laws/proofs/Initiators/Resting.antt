@@ -46,11 +46,5 @@ module _ (E : Database) (S : LogState) (F : Firm) (K : Transactions) (now : ℕ)
   resting-books = record {
     due = B.due;
     leaderships = λ p t g part led. let r = B.leaderships p t g part led in record { formed = r.formed; past = r.past; unheard = r.unheard };
-    heard = record {
-      word = B.heard.word;
-      is_word = B.heard.is_word;
-      by = B.heard.by;
-      each = each;
-      aligned = aligned;
-    };
+    heard = record { word = B.heard.word; is_word = B.heard.is_word; by = B.heard.by; each = each; aligned = aligned };
   }

@@ -19,10 +19,7 @@ greatest-below (y ∷ told) n h = let a = h y (inl refl) in let b = greatest-bel
 
 greater-some : (a : ℕ) (o : Option ℕ) (b : ℕ) → greater (Some a) o ≡ Some b → (a ≡ b) ⊎ (o ≡ Some b)
 greater-some a None b e = inl (cc)
-greater-some a (Some c) b e = elim (cases_lt a c) [
-  | inl l ↦ inr (ap Some (omega (arith, l, same-some e)))
-  | inr l ↦ inl (omega (arith, l, same-some e))
-]
+greater-some a (Some c) b e = elim (cases_lt a c) [ inl l ↦ inr (ap Some (omega (arith, l, same-some e))) | inr l ↦ inl (omega (arith, l, same-some e)) ]
 
 greater-none : (a : ℕ) (o : Option ℕ) → greater (Some a) o ≡ None → ⊥
 greater-none a None e = absurd (cc)
@@ -123,10 +120,7 @@ module _ (E : Database) (S : LogState) (F : Firm) (K : Transactions) (now : ℕ)
   fits = B.leaderships x.part t k.leadership k.part k.led
 
   pub told-none : K.due x.part t ≡ []
-  told-none = elim (B.due x.part t) [
-    | inl none ↦ none
-    | inr d ↦ absurd (omega (arith, up, d.5))
-  ]
+  told-none = elim (B.due x.part t) [ inl none ↦ none | inr d ↦ absurd (omega (arith, up, d.5)) ]
 
   grown : Prefix begun k.leadership.log
   grown = (H.leaderships x.part t k.leadership k.led).grown
@@ -205,8 +199,5 @@ module _ (E : Database) (S : LogState) (F : Firm) (K : Transactions) (x : Heard)
     stands = k.grown;
     calls = k.calls;
     everywhere = k.everywhere;
-    over = elim k.state [
-      | inl o ↦ absurd (not-both x.is_open o.0 shut)
-      | inr o ↦ o.1
-    ];
+    over = elim k.state [ inl o ↦ absurd (not-both x.is_open o.0 shut) | inr o ↦ o.1 ];
   }

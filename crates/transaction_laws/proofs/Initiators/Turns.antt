@@ -6,11 +6,7 @@ use Rattle.transaction_laws.proofs.Kept.{SentOrder, SendsDue, InitiatorGoes, boo
 
 -- nothing, and nothing more is due
 sends-none : (S : LogState) (n : ℕ) (w : Membership) (K : Transactions) → SendsDue S n w K K no_sends
-sends-none S n w K = record {
-  letters = λ c s. tt;
-  due = λ c a s l x. sym (append-nil (K.due (part S c) (term_of w)));
-  others = λ p t d. refl;
-}
+sends-none S n w K = record { letters = λ c s. tt; due = λ c a s l x. sym (append-nil (K.due (part S c) (term_of w))); others = λ p t d. refl }
 
 -- the same to the sites, from a history in which the same is due
 sends-from : (S : LogState) (n : ℕ) (w : Membership) (K L M : Transactions) (out same : Sends) → L.due ≡ K.due → ((c : ℕ) → same (Site c) ≡ out (Site c))

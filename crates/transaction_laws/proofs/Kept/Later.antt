@@ -203,10 +203,7 @@ rest-one (y ∷ ys) next x e = let none : ys ++ next ≡ [] = cc in inl (rest-no
 -- what is left of one order at most
 one-rest : (due taken next : List Entry) → due ≡ taken ++ next → AtMostOne due → AtMostOne next
 one-rest due taken next e (inl none) = inl (rest-none taken next (sym e ∙ none)).1
-one-rest due taken next e (inr (x, is, order)) = elim (rest-one taken next x (sym e ∙ is)) [
-  | inl none ↦ inl none
-  | inr one ↦ inr (x, one, order)
-]
+one-rest due taken next e (inr (x, is, order)) = elim (rest-one taken next x (sym e ∙ is)) [ inl none ↦ inl none | inr one ↦ inr (x, one, order) ]
 
 due-one : (S : LogState) (K : Transactions) (p t : ℕ) → DueOk S K p t → AtMostOne (K.due p t)
 due-one S K p t (inl none) = inl none
@@ -306,10 +303,7 @@ module _ (E : Database) (S T : LogState) (F M : Firm) (K : Transactions) (now st
 
   -- In a term whose initiator hasn't heard of all nothing is due.
   unheard-none : (p t : ℕ) → K.heard < t → K.due p t ≡ []
-  unheard-none p t above = elim (B.due p t) [
-    | inl none ↦ none
-    | inr (x, g, is, order, led, l) ↦ absurd (omega (arith, above, l))
-  ]
+  unheard-none p t above = elim (B.due p t) [ inl none ↦ none | inr (x, g, is, order, led, l) ↦ absurd (omega (arith, above, l)) ]
 
   -- where the term was led before
   fits-led : (p t : ℕ) → IsPart S p → (k : Went p t) → LeadershipFits E T L stamp p t k.new
@@ -542,10 +536,7 @@ module _ (E : Database) (S T : LogState) (F M : Firm) (K : Transactions) (now st
       log = ap (λ z. led_log (S.logs.leadership p K.heard) ++ z) f.none ∙ append-nil (led_log (S.logs.leadership p K.heard)) ∙ ap led_log k.was
 
       no_calls : k.runs.calls ≡ []
-      no_calls = elim k.runs.room [
-        | inl none ↦ none
-        | inr none ↦ absurd (none-and-some none (ap (λ z. (stage E p z).opened) (q.2 ∙ sym log) ∙ e))
-      ]
+      no_calls = elim k.runs.room [ inl none ↦ none | inr none ↦ absurd (none-and-some none (ap (λ z. (stage E p z).opened) (q.2 ∙ sym log) ∙ e)) ]
 
       same : led_log (T.logs.leadership p K.heard) ≡ led_log (S.logs.leadership p K.heard)
       same = ap led_log k.is ∙ q.1 ∙ ap (λ z. k.old.log ++ z) no_calls ∙ append-nil k.old.log ∙ ap led_log (sym k.was)

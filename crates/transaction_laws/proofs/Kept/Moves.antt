@@ -80,11 +80,7 @@ SentOrder S n w c l = elim l.body as (λ _. Type 0) [
 
 -- what an agent sends that isn't an initiator
 abbrev pub NoOrder : Letter → Type 0
-NoOrder l = elim l.body as (λ _. Type 0) [
-  | msg.Frag m round body ↦ ⊥
-  | msg.Done m o ↦ ⊥
-  | _ ↦ Unit {0}
-]
+NoOrder l = elim l.body as (λ _. Type 0) [ msg.Frag m round body ↦ ⊥ | msg.Done m o ↦ ⊥ | _ ↦ Unit {0} ]
 
 -- What it sends is due from then on.
 pub record SendsDue (S : LogState) (n : ℕ) (w : Membership) (K L : Transactions) (out : Sends) : Type 0 where

@@ -31,14 +31,7 @@ least-first a (b ∷ bs) n e = go (least b bs) e
 
 -- the history with which it begins: the initiator of the first word has heard of all, and all that is in the logs is over
 abbrev pub new_transactions : Database → Deployment → ℕ → (ℕ → List Entry) → Transactions
-new_transactions E D base log = record {
-  heard = base;
-  number = greatest_done E log (parts D);
-  closed = log;
-  agreed = None;
-  decided = log;
-  due = λ p t. [];
-}
+new_transactions E D base log = record { heard = base; number = greatest_done E log (parts D); closed = log; agreed = None; decided = log; due = λ p t. [] }
 
 -- Each host's agent and each slot's site runs as a member of the first word, with its partition's log, in which all is over. Nothing is
 -- under way between agents and sites.
@@ -101,12 +94,7 @@ module _ (E : Database) (S : LogState) (H : LogsHold S) (base start now : ℕ) (
   top-begins : (p : ℕ) → IsPart S p → Top S p base 0
   top-begins p q =
       let r = part-slot D p q in
-      record {
-        slot = r.0;
-        is_slot = r.1;
-        part_is = r.2;
-        all = rw (ap (λ s. s.contents) (k.members r.0 r.1).1) (inr (refl, omega arith), tt);
-      }
+      record { slot = r.0; is_slot = r.1; part_is = r.2; all = rw (ap (λ s. s.contents) (k.members r.0 r.1).1) (inr (refl, omega arith), tt) }
 
   aligned-begins : Aligned E D now K (whole S K base)
   aligned-begins = record {
@@ -249,12 +237,7 @@ module _ (E : Database) (S : LogState) (H : LogsHold S) (base start now : ℕ) (
 
 -- a partition whose log is empty
 over-first : (E : Database) (D : Deployment) (now p : ℕ) → nat_lt p (parts D) ≡ true → Recovered E D now (λ p. []) p
-over-first E D now p q = record {
-  formed = tt;
-  past = omega arith;
-  over = refl;
-  number = greatest-done E (λ p. []) (parts D) p (grind (arith, nat_tests, q));
-}
+over-first E D now p q = record { formed = tt; past = omega arith; over = refl; number = greatest-done E (λ p. []) (parts D) p (grind (arith, nat_tests, q)) }
 
 -- In the first world.
 pub first-calls : (E : Database) (I : Input) (positive : 0 < I.base) → IsLayout I.deployment.layout.hosts I.deployment.layout.sites I.deployment.layout.k → (now : ℕ)
@@ -366,10 +349,7 @@ module _ (E : Database) (w : World) (k : HasLogs w) (F : Firm) (halted : Bool) (
         written false false (inr i) = absurd i
 
         slot : (x : Bool) → nat_lt c (slots w.deployment) ≡ x → (s c ≡ shown_of w shown c) ⊎ (IsSlot old c × (s c ≡ new_content E w shown c))
-        slot true q = elim (written (nat_lt c f) (c == f) (h.one c q)) [
-          | inl i ↦ inl i
-          | inr i ↦ inr (q, i)
-        ]
+        slot true q = elim (written (nat_lt c f) (c == f) (h.one c q)) [ inl i ↦ inl i | inr i ↦ inr (q, i) ]
         slot false q =
             let out : IsSlot old c → ⊥ = λ y. not-both (nat_lt c (slots w.deployment)) y q in
             inl (h.none c out ∙ sym (get-none (w.sites c).contents (slice_index shown c) (disks.environment c out)))
@@ -379,10 +359,7 @@ module _ (E : Database) (w : World) (k : HasLogs w) (F : Firm) (halted : Bool) (
     all-or-one [] = inl refl
     all-or-one (c ∷ cs) = elim (either c) [
       | inr n ↦ inr (c, inl refl, n.1)
-      | inl o ↦ elim (all-or-one cs) [
-        | inr n ↦ inr (n.0, inr n.1, n.2)
-        | inl os ↦ inl (rw (o, os) refl)
-      ]
+      | inl o ↦ elim (all-or-one cs) [ inr n ↦ inr (n.0, inr n.1, n.2) | inl os ↦ inl (rw (o, os) refl) ]
     ]
 
     -- A new base is better than all that was shown.

@@ -99,11 +99,7 @@ module _ (E : Database) (input : Input) (w : World) (r : Reached E input w) wher
   goes-on-closed shown p may part =
       let log = recovered E w.deployment (shown_of w shown) p in
       let k = goes-on E w (length w.trace) d shown may p part in
-      record {
-        formed = k.formed;
-        rise = points-rise (first_stage E p) (length w.trace) log k.formed k.past;
-        closed = closed-none E p log k.over;
-      }
+      record { formed = k.formed; rise = points-rise (first_stage E p) (length w.trace) log k.formed k.past; closed = closed-none E p log k.over }
 
   pub goes-on-alike : (shown : List ℕ) (p q : ℕ) → MayShow w shown → IsPartOf w p → IsPartOf w q → GoesOnAlike E w shown p q
   goes-on-alike shown p q may part other = goes-on-even E w (length w.trace) d shown may p q part other

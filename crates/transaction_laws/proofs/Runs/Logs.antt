@@ -43,10 +43,7 @@ module _ (S : LogState) (H : LogsHold S) (c : ℕ) where
       seen (Some w) k = streamed w j.stream k.stream
 
   pub log-led : (site_start S c ≡ 0 → log_at S c ≡ []) → LedLog S c
-  log-led blank = elim (cases_eq (site_start S c) 0) [
-    | inl z ↦ empty-led (blank z)
-    | inr n ↦ choice (omega (arith, n)) (S.sites c).joining refl
-  ]
+  log-led blank = elim (cases_eq (site_start S c) 0) [ inl z ↦ empty-led (blank z) | inr n ↦ choice (omega (arith, n)) (S.sites c).joining refl ]
     where
       choice : 0 < site_start S c → (o : Option Joining) → (S.sites c).joining ≡ o → LedLog S c
       choice up None e = member-led up e

@@ -219,10 +219,7 @@ module _ (S : LogState) (K : Transactions) (i : ℕ) (u : SiteState) (taken : Li
   due-there p t e = if-false (test p t) (drop (length taken) (K.due p t)) (K.due p t) e
 
   pub due-unless : (p t : ℕ) → (p ≡ part S i → t ≡ term_at S i → leads S.words.deployment i u ≡ true → site_term u ≡ term_at S i → ⊥) → due_after S K i u taken p t ≡ K.due p t
-  due-unless p t n = elim (cases_Bool (test p t)) [
-    | inl e ↦ let r = test-parts p t e in absurd (n r.0 r.1 r.2 r.3)
-    | inr e ↦ due-there p t e
-  ]
+  due-unless p t n = elim (cases_Bool (test p t)) [ inl e ↦ let r = test-parts p t e in absurd (n r.0 r.1 r.2 r.3) | inr e ↦ due-there p t e ]
 
   -- in its own
   pub due-here : leads S.words.deployment i u ≡ true → site_term u ≡ term_at S i → due_after S K i u taken (part S i) (term_at S i) ≡ drop (length taken) (K.due (part S i) (term_at S i))
@@ -335,10 +332,7 @@ module _ (E : Database) (S : LogState) (H : LogsHold S) (K : Transactions) (due 
         leads-there h is heads = let r = heads-own S H i ch u out G J p t h is heads in at-moves r.0 p t r.1 (r.2 ∙ term-is r.0)
 
         go : (o : Option Leadership) → G.leadership p t ≡ o → MovedHere p t
-        go (Some h) e = elim (grown.led p t h e) [
-          | inl old ↦ still h e old
-          | inr new ↦ leads-there h e new
-        ]
+        go (Some h) e = elim (grown.led p t h e) [ inl old ↦ still h e old | inr new ↦ leads-there h e new ]
         go None e = let none = unled (S.logs.leadership p t) refl in inl (e ∙ sym none, let n = none-due p t none in due-none S K i u taken p t n ∙ sym n)
           where
             unled : (o : Option Leadership) → S.logs.leadership p t ≡ o → S.logs.leadership p t ≡ None

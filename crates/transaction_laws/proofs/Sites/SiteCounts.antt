@@ -12,10 +12,7 @@ Counted D i s = (n : ℕ) → acknowledged D i s ≡ Some n → n ≤ s.firm
 
 -- A word that makes the site a member is of a term above its mark.
 abbrev pub AboveMark : Deployment → ℕ → SiteState → Actor → Letter → Type 0
-AboveMark D i s (Agent h) l = elim l.body as (λ _. Type 0) [
-  | msg.View w ↦ stays_joiner D i s w ≡ false → s.mark < term_of w
-  | _ ↦ Unit {0}
-]
+AboveMark D i s (Agent h) l = elim l.body as (λ _. Type 0) [ msg.View w ↦ stays_joiner D i s w ≡ false → s.mark < term_of w | _ ↦ Unit {0} ]
 AboveMark D i s from l = Unit {0}
 
 abbrev pub Unrepaired : SiteState → Type 0
@@ -165,10 +162,7 @@ module _ (E : Database) (D : Deployment) (i : ℕ) (v : SiteState) where
   last = (takes_asks E D i v).state
 
   asks-leader : is_leader D i last ≡ is_leader D i v
-  asks-leader = elim (asks-taken E D i v) [
-    | inl e ↦ ap (is_leader D i) e
-    | inr k ↦ ap (is_leader D i) k.is
-  ]
+  asks-leader = elim (asks-taken E D i v) [ inl e ↦ ap (is_leader D i) e | inr k ↦ ap (is_leader D i) k.is ]
 
   -- with a joiner more the least is no greater
   more-counted : (new : Joiner) → Counted D i v → Counted D i (record v { joiners = v.joiners ++ new ∷ [] })
@@ -184,10 +178,7 @@ module _ (E : Database) (D : Deployment) (i : ℕ) (v : SiteState) where
       omega (arith, k, l)
 
   asks-counted : Counted D i v → Counted D i last
-  asks-counted c = elim (asks-taken E D i v) [
-    | inl e ↦ subst (Counted D i) (sym e) c
-    | inr k ↦ subst (Counted D i) (sym k.is) (more-counted k.new c)
-  ]
+  asks-counted c = elim (asks-taken E D i v) [ inl e ↦ subst (Counted D i) (sym e) c | inr k ↦ subst (Counted D i) (sym k.is) (more-counted k.new c) ]
 
   asks-joined : (low : ℕ) → low ≤ length last.log → AllByRecursion (λ j. low ≤ j.stream_start) v.joiners → AllByRecursion (λ j. low ≤ j.stream_start) last.joiners
   asks-joined low long h = elim (asks-taken E D i v) [

@@ -96,10 +96,7 @@ module _ (S : LogState) (H : LogsHold S) (i : ℕ) (slot : IsSlot S i) (up : 0 <
 
           go : (o : Option Streamed) → j.stream ≡ o → s.mark ≡ term_at S i
           go None q = absurd (not-both j.is_loaded (((H.sites i).joiner j joins).based (word-based S H i slot up h l w ls is take j joins v e)) (unstreamed S H i j joins q).0)
-          go (Some st) q = elim (cases_Bool halted) [
-            | inl x ↦ absurd (stopped x st q)
-            | inr x ↦ on x st q
-          ]
+          go (Some st) q = elim (cases_Bool halted) [ inl x ↦ absurd (stopped x st q) | inr x ↦ on x st q ]
 
       below : stays_joiner S.words.deployment i s w ≡ false → s.mark < term_of w
       below enters = choice s.joining refl

@@ -54,15 +54,7 @@ started-then : (D : Deployment) (stamp i : ℕ) (s m u : SiteState) (P : Reporte
     → Started D stamp i s u P
 started-then D stamp i s m u P k view runs =
     let r = runs-then stamp (repaired_log s k.reports) m.log u.log (record { more = k.more; is = k.log_is; at = k.at; room = k.room }) runs in
-    record {
-      reports = k.reports;
-      ok = k.ok;
-      each = rw view k.each;
-      more = r.more;
-      log_is = r.is;
-      at = r.at;
-      room = r.room;
-    }
+    record { reports = k.reports; ok = k.ok; each = rw view k.each; more = r.more; log_is = r.is; at = r.at; room = r.room }
 
 started-from : (D : Deployment) (stamp i : ℕ) (s m u : SiteState) (P : Reported → Type 0) → m.log ≡ s.log → Started D stamp i m u P → Started D stamp i s u P
 started-from D stamp i s m u P same k = record {
@@ -140,15 +132,7 @@ module _ (D : Deployment) (stamp i : ℕ) (P : Reported → Type 0) where
       steady = λ _ ready. absurd (not-both s.repaired ready un);
       begins = λ _ still ok. inr (
         refl,
-        record {
-          reports = s.reports;
-          ok = ok;
-          each = all;
-          more = [];
-          log_is = sym (append-nil (repaired_log s s.reports));
-          at = tt;
-          room = inl refl;
-        },
+        record { reports = s.reports; ok = ok; each = all; more = []; log_is = sym (append-nil (repaired_log s s.reports)); at = tt; room = inl refl },
       );
     };
     reported = λ s r p. record {
@@ -222,10 +206,7 @@ module _ (E : Database) (D : Deployment) (stamp i : ℕ) (s : SiteState) (from :
     begins-term : (b : SiteState) → b.log ≡ s.log → b.repaired ≡ false → AllByRecursion P b.reports → LogGoes D stamp i P b u → leads D i u ≡ true → Started D stamp i s u P
     begins-term b log un ok k led =
         let p = leads-parts D i u led in
-        elim (k.begins (sym k.same ∙ p.0) un ok) [
-          | inl a ↦ absurd (not-both u.repaired p.1 a.0)
-          | inr a ↦ started-from D stamp i s b u P log a.1
-        ]
+        elim (k.begins (sym k.same ∙ p.0) un ok) [ inl a ↦ absurd (not-both u.repaired p.1 a.0) | inr a ↦ started-from D stamp i s b u P log a.1 ]
 
     pub site-starts : 0 < s.start → (arrival s.start (site_term s) l ≡ Taken → Comes D i s from l) → AllByRecursion WaitsQuietly s.waiting
         → leads D i u ≡ true → (leads D i s ≡ true → u.view ≡ s.view → ⊥) → (u.view ≡ s.view → AllByRecursion P s.reports)
@@ -243,8 +224,7 @@ module _ (E : Database) (D : Deployment) (stamp i : ℕ) (s : SiteState) (from :
 
         stays : (c : Bool) → leads D i s ≡ c → (log : List Entry) → (leads D i s ≡ false → log ≡ s.log) → LogGoes D stamp i P (record s { log = log }) u → Started D stamp i s u P
         stays true e log other k = absurd (anew e k.view)
-        stays false e log other k =
-            begins-term (record s { log = log }) (other e) (unrepaired (sym k.same ∙ (leads-parts D i u led).0) e) (held k.view) k led
+        stays false e log other k = begins-term (record s { log = log }) (other e) (unrepaired (sym k.same ∙ (leads-parts D i u led).0) e) (held k.view) k led
 
         go : Walked E D i (LogGoes D stamp i P) s from l u → Started D stamp i s u P
         go (StopsOrBegins view joiners) = absurd (stopped-not-leads D i u view led)

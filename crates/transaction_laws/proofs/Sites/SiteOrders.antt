@@ -88,11 +88,7 @@ module _ (S : LogState) (H : LogsHold S) (i : ℕ) (slot : IsSlot S i) where
   ]
     where
       at : Arrival → List Entry
-      at a = elim a as (λ _. List Entry) [
-        | Taken ↦ order_in l.body
-        | Refused ↦ []
-        | Waits ↦ []
-      ]
+      at a = elim a as (λ _. List Entry) [ Taken ↦ order_in l.body | Refused ↦ [] | Waits ↦ [] ]
 
       none-taken : order_in l.body ≡ [] → (a : Arrival) → at a ≡ []
       none-taken e Taken = e

@@ -85,10 +85,7 @@ module _ (E : Database) (T : LogState) (J : LogsHold T) (M : Firm) (halted : Boo
 
     -- what it counts firm is everywhere
     everywhere : (n : ℕ) → n ≤ s.firm → Everywhere T M (part T i) (term_of k.word) n
-    everywhere n l = record {
-      reach = let a = k.member.firm in omega (arith, l, a);
-      firm = let a = disk.firm in omega (arith, l, a);
-    }
+    everywhere n l = record { reach = let a = k.member.firm in omega (arith, l, a); firm = let a = disk.firm in omega (arith, l, a) }
 
     -- An answer is of an entry that is firm.
     answer-stood : (term : ℕ) (e : Entry) → AnswersFirm D i s term e → (0 < term) × Stood T M (part T i) term e
@@ -130,12 +127,7 @@ module _ (E : Database) (T : LogState) (J : LogsHold T) (M : Firm) (halted : Boo
           go false e q = absurd (none-and-some refl q)
 
       own-top : Top T (part T i) (term_of k.word) 0
-      own-top = record {
-        slot = i;
-        is_slot = slot;
-        part_is = refl;
-        all = rw disk.shows (inr (own-mark ∙ term-is, omega arith), tt);
-      }
+      own-top = record { slot = i; is_slot = slot; part_is = refl; all = rw disk.shows (inr (own-mark ∙ term-is, omega arith), tt) }
 
       told-state : (m : ℕ) (is_open : Bool) (outcome : Option Outcome) → standing (open_in s.log) (last_done E (part T i) s.log) ≡ msg.MpState m is_open outcome
           → L.heard < term_of k.word → StateOk E T M (part T i) (term_of k.word) m is_open outcome

@@ -7,18 +7,8 @@ use Rattle.transaction_laws.proofs.Names.{Actor, Agent, AllByRecursion, Arrival,
 
 -- Nothing of these kinds waits for a term.
 abbrev pub InertKind : Actor → Letter → Type 0
-InertKind (Site slot) l = elim l.body as (λ _. Type 0) [
-  | msg.Put position e floor ↦ ⊥
-  | msg.Repair from entries ↦ ⊥
-  | msg.StreamStart head ↦ ⊥
-  | _ ↦ Unit {0}
-]
-InertKind (Agent h) l = elim l.body as (λ _. Type 0) [
-  | msg.View w ↦ ⊥
-  | msg.Frag m round body ↦ ⊥
-  | msg.Done m o ↦ ⊥
-  | _ ↦ Unit {0}
-]
+InertKind (Site slot) l = elim l.body as (λ _. Type 0) [ msg.Put position e floor ↦ ⊥ | msg.Repair from entries ↦ ⊥ | msg.StreamStart head ↦ ⊥ | _ ↦ Unit {0} ]
+InertKind (Agent h) l = elim l.body as (λ _. Type 0) [ msg.View w ↦ ⊥ | msg.Frag m round body ↦ ⊥ | msg.Done m o ↦ ⊥ | _ ↦ Unit {0} ]
 InertKind from l = Unit {0}
 
 abbrev pub WaitsQuietly : Waiting → Type 0
@@ -51,10 +41,7 @@ abbrev pub AnyReport : Reported → Type 0
 AnyReport r = Unit {0}
 
 pub any-report : (from : Actor) (l : Letter) → ReportOf AnyReport from l
-any-report (Site slot) l = elim l.body as (λ b. ReportOf AnyReport (Site slot) (record l { body = b })) [
-  | msg.Report position floor tail ↦ tt
-  | b ↦ tt
-]
+any-report (Site slot) l = elim l.body as (λ b. ReportOf AnyReport (Site slot) (record l { body = b })) [ msg.Report position floor tail ↦ tt | b ↦ tt ]
 any-report from l = tt
 
 pub any-reports : (term : ℕ) (ws : List Waiting) → AllByRecursion (WaitsReport AnyReport term) ws
@@ -102,11 +89,7 @@ taken_from (Agent h) l = order_in l.body
 taken_from from l = []
 
 abbrev pub taken_at : Arrival → Actor → Letter → List Entry
-taken_at a from l = elim a as (λ _. List Entry) [
-  | Taken ↦ taken_from from l
-  | Refused ↦ []
-  | Waits ↦ []
-]
+taken_at a from l = elim a as (λ _. List Entry) [ Taken ↦ taken_from from l | Refused ↦ [] | Waits ↦ [] ]
 
 abbrev pub taken_by : SiteState → Actor → Letter → List Entry
 taken_by s from l = taken_at (arrival s.start (site_term s) l) from l
@@ -190,10 +173,7 @@ module _ (E : Database) (D : Deployment) (i : ℕ) (v : SiteState) where
   }))
 
   pub asks-view : (takes_asks E D i v).state.view ≡ v.view
-  asks-view = elim asks-taken [
-    | inl e ↦ ap (λ s. s.view) e
-    | inr k ↦ ap (λ s. s.view) k.is
-  ]
+  asks-view = elim asks-taken [ inl e ↦ ap (λ s. s.view) e | inr k ↦ ap (λ s. s.view) k.is ]
 
 -- ---- a turn
 
