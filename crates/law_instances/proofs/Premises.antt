@@ -1,9 +1,13 @@
 -- What the laws ask of the last world, by evaluation.
-use Rattle.std.proofs.Common.{refl, arith}
+use Rattle.std.proofs.Common.{◌≡◌, refl, sym, ◌∙◌, arith}
 use Rattle.cluster_model.specs.Scenarios.InitiatorLostBehindDone as behind_done
-use Rattle.log_laws.specs.Copies.{AreCopies, Leads, LeadsNext}
+use Rattle.cluster_model.specs.Scenarios.LostAndRejoined as rejoined
+use Rattle.cluster_model.specs.SiteState.{site_term}
+use Rattle.cluster_model.specs.Runs.{IsRun}
+use Rattle.cluster_model.specs.Toy.{toy}
+use Rattle.log_laws.specs.Copies.{AreCopies, HasLoaded, Leads, LeadsNext, OfOneTerm}
 use Rattle.transaction_laws.specs.Worlds.{IsInitiator}
-use Rattle.law_instances.specs.Instances.{answered}
+use Rattle.law_instances.specs.Instances.{answered, joins, loaded}
 
 -- the slots 4 and 5 have the copies of partition 2, and run
 pub copies-of-two : AreCopies behind_done.last 5 4
@@ -20,3 +24,22 @@ host-1 = record { runs = omega arith; word = _; decided = refl; initiates = refl
 -- the leaders of partition 1: slot 3 when its first call was answered, and slot 2 behind the loss
 pub leads-next : LeadsNext answered behind_done.last 3 2
 leads-next = record { first = record { runs = refl; leads = refl }; second = record { runs = refl; leads = refl }; part = refl; term = omega arith }
+
+-- slot 0 has joined slot 1, which leads, and has loaded
+pub joins-run : IsRun toy joins rejoined.start
+joins-run = search
+
+pub has-loaded : HasLoaded loaded 0
+has-loaded = (_, refl, refl)
+
+pub leads-alone : Leads loaded 1
+leads-alone = record { runs = refl; leads = refl }
+
+joiner-term : site_term (loaded.sites 0) ≡ 2
+joiner-term = refl
+
+leader-term : site_term (loaded.sites 1) ≡ 2
+leader-term = refl
+
+pub joined-to : OfOneTerm loaded 0 1
+joined-to = record { part = refl; term = joiner-term ∙ sym leader-term }

@@ -1,5 +1,5 @@
 -- Worlds of a scenario are reached.
-use Rattle.std.proofs.Common.{refl, ◌≡◌, List, [], ◌++◌}
+use Rattle.std.proofs.Common.{refl, List, []}
 use Rattle.cluster_model.specs.World.{World, Input, IsInput, first_world}
 use Rattle.cluster_model.specs.Runs.{Happening, IsRun, run, Reached, RunsTo, RunsInEpoch, IsOneEpoch}
 use Rattle.cluster_model.specs.Toy.{toy}

@@ -3,39 +3,50 @@
 #![tactic(auto)]
 
 ghost use Rattle.std.specs.Prelude.{◌≡◌, ◌≤◌, ◌⊎◌, ℕ, length, take, [], ◌∷◌};
+ghost use Rattle.volt_base.specs.declared.entry.Entry.TheVariants.{Sp};
 ghost use Rattle.volt_wire.specs.Word.{Membership};
-ghost use Rattle.cluster_steps.specs.Lists.{Prefix, In};
+ghost use Rattle.volt_wire.specs.declared.actor.Actor.{Actor};
+ghost use Rattle.volt_wire.specs.declared.actor.Actor.TheVariants.{Agent};
+ghost use Rattle.volt_wire.specs.declared.end.End.TheVariants as end;
+ghost use Rattle.volt_wire.specs.declared.event.Event.TheVariants as event;
+ghost use Rattle.volt_wire.specs.declared.message.Msg.TheVariants as msg;
+ghost use Rattle.cluster_model.specs.Laws.{EndsWith, left_by};
+ghost use Rattle.cluster_model.specs.Letters.{open_letter};
+ghost use Rattle.cluster_model.specs.Runs.{IsRun};
 ghost use Rattle.cluster_model.specs.Scenarios.InitiatorLostBehindDone as behind_done;
-ghost use Rattle.cluster_model.specs.Toy.{toy, gives};
+ghost use Rattle.cluster_model.specs.Scenarios.LostAndRejoined as rejoined;
+ghost use Rattle.cluster_model.specs.Toy.{toy, gives, put};
+ghost use Rattle.cluster_model.specs.Words.{term_of, part_of_slot};
+ghost use Rattle.cluster_steps.specs.Lists.{Prefix};
 ghost use Rattle.word_laws.specs.Chain.{HasDecided, HasWord, InEpoch, OneStartPerHost};
 ghost use Rattle.word_laws.specs.Histories.{Comparable};
-ghost use Rattle.cluster_model.specs.Words.{term_of, part_of_slot};
 ghost use Rattle.word_laws.specs.Lost.{LostAreStopped};
-ghost use Rattle.transaction_laws.specs.Machine.{RiseWithin, WellFormed, first_stage, points};
-ghost use Rattle.log_laws.specs.Copies.{KeepsFirm, IsInAuthoritative, HasLogs, log_of};
+ghost use Rattle.log_laws.specs.Copies.{Follows, KeepsFirm, IsInAuthoritative, HasLogs, log_of};
 ghost use Rattle.disk_laws.specs.Survival.{Survives, GoesOnWithFirm};
+ghost use Rattle.reply_laws.specs.UnderWay.{CallStandsFirm, RoundStandsFirm, EndStandsFirm};
+ghost use Rattle.transaction_laws.specs.Machine.{RiseWithin, WellFormed, first_stage, points};
 ghost use Rattle.transaction_laws.specs.Worlds.{GoesOnClosed, GoesOnAlike, IsInitiator, StandsOrIsOpen, EndsAlike};
-ghost use Rattle.reply_laws.specs.UnderWay.{CallStandsFirm};
-ghost use Rattle.volt_wire.specs.declared.end.End.TheVariants as end;
-ghost use Rattle.law_instances.specs.Instances.{answered, first_shown};
+ghost use Rattle.law_instances.specs.Instances.{answered, asked, ended, first_shown, heeding, heedless, joins, loaded, stopped};
 
 use cluster_model::laws::{AnyDatabase, runs_lead_on};
 use cluster_model::scenarios;
 use disk_laws::{firm_entries_survive, no_choice_lacks_firm_entries};
 use log_laws::{
-    copies_are_comparable, copies_follow_their_leader, firm_entries_are_everywhere,
-    firm_entries_are_never_lost, later_leaders_have_what_was_firm,
+    a_loaded_joiner_follows, copies_are_comparable, copies_follow_their_leader,
+    firm_entries_are_everywhere, firm_entries_are_never_lost, later_leaders_have_what_was_firm,
     leaders_agree_with_the_authoritative_log, logs_have_a_history,
 };
-use reply_laws::replies_are_of_firm_entries;
+use reply_laws::{
+    answers_of_rounds_are_of_firm_entries, ends_are_of_firm_entries, replies_are_of_firm_entries,
+};
 use transaction_laws::{
     a_call_ends_in_one_way, an_applied_call_stands_or_is_open, logs_are_well_formed,
     one_initiator_runs, points_never_fall, recoveries_apply_a_call_in_all_partitions,
     recoveries_go_on_with_closed_logs,
 };
 use word_laws::{
-    a_term_names_one_decided_word, decided_words_form_a_chain, lost_starts_are_stopped,
-    one_start_per_host, words_have_a_history,
+    a_stopped_agent_has_said_closed_last, a_term_names_one_decided_word,
+    decided_words_form_a_chain, lost_starts_are_stopped, one_start_per_host, words_have_a_history,
 };
 
 /// The database of accounts over which scenarios are worked out. No value of it is made.
@@ -138,4 +149,46 @@ pub fn next_leader()
     scenarios::initiator_lost_behind_done();
     runs_lead_on::<SmallDatabase>();
     later_leaders_have_what_was_firm::<SmallDatabase>();
+}
+
+/// The site of a host that came back has loaded its tables: it has the entry of the leader's log, which is
+/// firm.
+pub fn loaded_joiner()
+    ensures run { IsRun toy joins rejoined.start }
+    ensures follows { Follows loaded 0 1 }
+    ensures log { log_of loaded 0 ≡ Sp 1 4 (put 1 10) ∷ [] }
+{
+    scenarios::lost_and_rejoined();
+    a_loaded_joiner_follows::<SmallDatabase>();
+}
+
+/// When the first round of the call on all partitions is firm in partition 1, its part is under way to the
+/// initiator: the round stands among the firm entries, and the part is the balance that the database
+/// answers to it there.
+pub fn part_of_a_round_under_way()
+    ensures { RoundStandsFirm toy asked 3 1 1 (10 ∷ []) }
+{
+    scenarios::initiator_lost_behind_done();
+    runs_lead_on::<SmallDatabase>();
+    answers_of_rounds_are_of_firm_entries::<SmallDatabase>();
+}
+
+/// When the next initiator's end of it is firm in partition 0, slot 1 tells that: an end of the
+/// transaction stands among the firm entries.
+pub fn end_under_way()
+    ensures { EndStandsFirm ended 1 1 }
+{
+    scenarios::initiator_lost_behind_done();
+    runs_lead_on::<SmallDatabase>();
+    ends_are_of_firm_entries::<SmallDatabase>();
+}
+
+/// The agent of host 0, which takes its Stop, says to agent 2 last that its start is closed. A word that
+/// comes to it then has it say nothing.
+pub fn stopped_agent()
+    ensures closed { EndsWith (open_letter (msg.Closed 1)) (stopped.channel (Agent 0) (Agent 2)) }
+    ensures silent { (b : Actor) → heedless.channel (Agent 0) b
+        ≡ left_by heeding (event.Deliver (Agent 0) (Agent 1)) (Agent 0) b }
+{
+    a_stopped_agent_has_said_closed_last::<SmallDatabase>();
 }

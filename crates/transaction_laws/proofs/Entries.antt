@@ -5,3 +5,9 @@ pub mod Endings
 pub mod Aligned
 pub mod Points
 pub mod Even
+pub use Machine.*
+pub use Since.*
+pub use Endings.*
+pub use Aligned.*
+pub use Points.*
+pub use Even.*

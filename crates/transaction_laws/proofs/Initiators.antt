@@ -11,3 +11,15 @@ pub mod Outcomes
 pub mod Closing
 pub mod Hearing
 pub mod Rounds
+pub use InitiatorWords.*
+pub use Orders.*
+pub use Turns.*
+pub use Beginning.*
+pub use Resting.*
+pub use Settling.*
+pub use Finishing.*
+pub use Told.*
+pub use Outcomes.*
+pub use Closing.*
+pub use Hearing.*
+pub use Rounds.*

@@ -3,3 +3,7 @@ pub mod Moves
 pub mod Later
 pub mod Worded
 pub mod Others
+pub use Moves.*
+pub use Later.*
+pub use Worded.*
+pub use Others.*

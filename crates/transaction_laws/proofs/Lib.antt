@@ -1,3 +1,5 @@
+-- What other crates name, for all proofs of this one.
+pub mod Names
 pub mod Entries
 pub mod Kept
 pub mod Initiators

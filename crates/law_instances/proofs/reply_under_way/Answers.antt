@@ -1,5 +1,4 @@
 use Rattle.std.proofs.Common.{refl, take, drop, inl}
-use Rattle.std.specs.Prelude.{[], ◌∷◌}
 use Rattle.cluster_model.specs.Scenarios.InitiatorLostBehindDone as behind_done
 use Rattle.volt_wire.specs.declared.end.End.TheVariants as end
 use Rattle.cluster_model.specs.Toy.{gives}

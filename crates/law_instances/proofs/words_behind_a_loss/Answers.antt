@@ -1,5 +1,4 @@
 use Rattle.law_instances.proofs.words_behind_a_loss.Goals as goal
-use Rattle.std.proofs.Common.{refl}
 use Rattle.cluster_model.specs.Scenarios.InitiatorLostBehindDone as behind_done
 use Rattle.law_instances.proofs.Worlds.{reached-last, reached-first, runs-in-epoch}
 

@@ -1,56 +1,12 @@
 -- An agent takes a message: what holds of transactions, holds after all that it does then.
-use Rattle.std.proofs.Common.{◌≡◌, ◌+◌, ◌<◌, Bool, true, false, List, [], ◌∷◌, ◌++◌, inl, inr, refl, sym, subst, ap, ◌∙◌, ◌==◌, arith}
-use Rattle.std.proofs.lemmas.Bool.{cases_Bool, cases_eq}
-use Rattle.std.proofs.lemmas.Bool.Decides.{nat_tests}
-use Rattle.std.specs.Prelude.{ℕ, ◌≤◌, nat_lt, Some}
-use Rattle.std.specs.List.{AllByRecursion}
-use Rattle.volt_wire.specs.Word.{Membership}
-use Rattle.volt_wire.specs.declared.actor.Actor.{Actor}
-use Rattle.volt_wire.specs.declared.actor.Actor.TheVariants.{Director, Agent, Site}
 use Rattle.volt_wire.specs.declared.message.Msg.TheVariants as msg
-use Rattle.cluster_model.specs.Engine.{Database}
-use Rattle.cluster_model.specs.Words.{Deployment, slots, is_host, is_slot_of, term_of, term_in, initiator}
-use Rattle.cluster_model.specs.Letters.{Letter, Turn, becomes, open_letter, ◌▸◌, arrival, Arrival, Taken, Refused, Waits}
-use Rattle.cluster_model.specs.AgentState.{AgentState, new_agent, stops, stops_with_host}
-use Rattle.cluster_model.specs.Agent.{may_decide, agent_handler, handler_and_word, takes_waiting, agent_runs, agent_takes, agent_turn, start_after, on_start}
-use Rattle.cluster_model.specs.Environment.{Environment, NoFault, DiskFails, NoMemory, DisksShow}
 use Rattle.word_laws.specs.Histories as word
-use Rattle.cluster_steps.specs.Lists.{In}
-use Rattle.cluster_steps.proofs.Lists.{all-append, all-if, not-both}
-use Rattle.word_laws.proofs.Members.{initiator-member}
-use Rattle.word_laws.proofs.Agreement.{member-is}
 use Rattle.word_laws.proofs.Moves as word_moves
-use Rattle.word_laws.proofs.Turns.{tells, concludes}
-use Rattle.word_laws.proofs.Arrivals.{AgentTakes, Stops_, Ignores, Runs_, takes-cases, runs-taken, runs-waits, runs-refused, turn-cases, stopped-cases}
-use Rattle.word_laws.proofs.Hearings.{handler-grows, agent-there, then-assoc, concludes-none}
-use Rattle.word_laws.proofs.AgentEvents.{handler-event, none-waited, comes-first, start-of-body}
-use Rattle.log_laws.specs.Histories.{LogState, AskedOk, IsSlot, part, LogsHold}
-use Rattle.log_laws.proofs.Messages.Pops.{taken-for}
-use Rattle.log_laws.proofs.Agents.Views.{agent_turned}
-use Rattle.log_laws.proofs.Agents.AgentTurns.{Rest, rest-of, holds-of, agent_heard, rest-heard}
-use Rattle.log_laws.proofs.Agents.AgentWords.{concludes-agent}
-use Rattle.log_laws.proofs.Agents.AgentHandlers.{may-join, first-agent}
-use Rattle.log_laws.proofs.Agents.AgentEvents.{AgentGoes, first-asks, decided-pops, agent-event}
-use Rattle.disk_laws.specs.Disks.{Firm}
-use Rattle.transaction_laws.specs.Transactions.{Transactions, PhaseOk, AnswerOk, WaitingAnswer, CallsHold}
-use Rattle.transaction_laws.proofs.Kept.Moves.{NoOrder}
-use Rattle.transaction_laws.proofs.Initiators.Orders.{LaidOut}
-use Rattle.transaction_laws.proofs.Kept.Later.{books-later}
-use Rattle.transaction_laws.proofs.Kept.Worded.{aligned-later}
-use Rattle.transaction_laws.proofs.Agents.AgentTurns.{Mine, CallsHandler, inert-then, told-handler, then-calls, concludes-calls, concludes-settled}
-use Rattle.transaction_laws.proofs.Agents.AgentWaits.{phase-same, waited-calls}
-
--- after more events
-calls-later : (E : Database) (S : LogState) (F : Firm) (halted : Bool) (K : Transactions) (now stamp : ℕ) → now ≤ stamp → CallsHold E S F halted K now → CallsHold E S F halted K stamp
-calls-later E S F halted K now stamp l k = record {
-  books = books-later E S F K now stamp l k.books;
-  to_sites = k.to_sites;
-  to_agents = k.to_agents;
-  environment = k.environment;
-  sites = k.sites;
-  agents = k.agents;
-  halts = λ e shown s. let a = k.halts e shown s in (a.0, aligned-later E S.words.deployment now stamp l a.0 _ a.1);
-}
+use Rattle.transaction_laws.proofs.Names.{Actor, Agent, AgentGoes, AgentState, AgentTakes, AllByRecursion, AnswerOk, Arrival, AskedOk, Bool, CallsHold, Database, Deployment, Director, DiskFails, DisksShow, Environment, Firm, Ignores, In, IsSlot, Letter, List, LogState, LogsHold, Membership, NoFault, NoMemory, Refused, Rest, Runs_, Site, Some, Stops_, Taken, Transactions, Turn, WaitingAnswer, Waits, [], agent-event, agent-there, agent_handler, agent_heard, agent_runs, agent_takes, agent_turn, agent_turned, all-append, all-if, ap, arith, arrival, becomes, cases_Bool, cases_eq, comes-first, concludes, concludes-agent, concludes-none, decided-pops, false, first-agent, first-asks, handler-event, handler-grows, handler_and_word, holds-of, initiator, initiator-member, inl, inr, is_host, is_slot_of, may-join, may_decide, member-is, nat_lt, nat_tests, new_agent, none-waited, not-both, on_start, open_letter, part, refl, rest-heard, rest-of, runs-refused, runs-taken, runs-waits, slots, start-of-body, start_after, stopped-cases, stops, stops_with_host, subst, sym, taken-for, takes-cases, takes_waiting, tells, term_in, then-assoc, true, turn-cases, ℕ, ◌++◌, ◌+◌, ◌<◌, ◌==◌, ◌∙◌, ◌∷◌, ◌≡◌, ◌▸◌}
+use Rattle.transaction_laws.proofs.Kept.{NoOrder, calls-plain}
+use Rattle.transaction_laws.proofs.Initiators.{LaidOut}
+use Rattle.transaction_laws.proofs.Agents.AgentTurns.{CallsHandler, inert-then, told-handler, then-calls, concludes-calls, concludes-settled, mine-same}
+use Rattle.transaction_laws.proofs.Agents.AgentWaits.{waited-calls}
 
 -- The agent of host n took the first message from this actor, and that is its turn: what holds of words, sites, logs and
 -- transactions, holds after it.
@@ -64,29 +20,13 @@ module _ (E : Database) (S : LogState) (F : Firm) (halted : Bool) (K : Transacti
 
   -- ---- turns in which the initiator's part stays, or the agent stops
 
-  -- the agent as it is
-  as-is : (b : AgentState) → b.start ≡ a.start → b.decided ≡ a.decided → b.initiating ≡ a.initiating → AllByRecursion (WaitingAnswer E S F K) b.waiting → Mine E S F K n b
-  as-is b start word part waits = record {
-    initiating = elim (C.agents n).initiating [
-      | inl q ↦ inl (ap (λ x. x.phase) part ∙ q.0, ap (λ x. x.work) part ∙ q.1, ap (λ x. x.next) part ∙ q.2)
-      | inr q ↦ inr (
-        q.0,
-        rw start q.1.runs,
-        word ∙ q.1.has_decided,
-        rw start q.1.initiates,
-        subst (λ i. PhaseOk E S F K (term_of q.0) b i.phase) (sym part) (phase-same E S F K (term_of q.0) a b a.initiating.phase part q.2),
-      )
-    ];
-    waiting = waits;
-  }
-
   -- it stays, but for what waits
   stays-go : (b : AgentState) → b.start ≡ a.start → b.decided ≡ a.decided → b.initiating ≡ a.initiating → AllByRecursion (WaitingAnswer E S F K) b.waiting
       → AgentGoes S n from (becomes b) → AgentCallsGo E S F halted stamp n from (becomes b)
   stays-go b start word part waits r = (
     r,
     K,
-    inert-then E F halted stamp S H K C (Some from) n (becomes b) r.history r.grows (λ c. tt) (as-is b start word part waits)
+    inert-then E F halted stamp S H K C (Some from) n (becomes b) r.history r.grows (λ c. tt) (mine-same E S F K n (C.agents n) b start word part waits)
         (λ w x d init some is before. rw word (before (sym start ∙ is))),
   )
 
@@ -190,10 +130,7 @@ module _ (E : Database) (S : LogState) (F : Firm) (halted : Bool) (K : Transacti
     record {
       history = taken-calls.handler.handler.history;
       grows = handler-grows taken-calls.handler.handler;
-      goes = elim taken-calls.handler.handler.goes [
-        | inl e ↦ inl e.0
-        | inr z ↦ inr (ap (λ b. b.own) z)
-      ];
+      goes = elim taken-calls.handler.handler.goes [ inl e ↦ inl e.0 | inr z ↦ inr (ap (λ b. b.own) z) ];
       by = taken-calls.handler.handler.by;
       holds = holds-of (agent_turned P n (whole ▸ takes_waiting E D n stamp).state (whole ▸ takes_waiting E D n stamp).sends taken-calls.handler.handler.history) taken-calls.handler.handler.holds taken-calls.handler.rest;
     },
@@ -283,7 +220,7 @@ agent-calls E S F halted K now n from l ls o lay H k is host memory = elim (case
 ]
   where
     C : CallsHold E S F halted K (now + 1)
-    C = calls-later E S F halted K now (now + 1) (omega arith) k
+    C = calls-plain E S F halted K now H k S.words.next S.words.channel S.words.owner (λ h c. refl) (λ c h. refl) H
 
     goes : AgentGoes S n from (agent_turn E S.words.deployment n (now + 1) (S.words.agents n) from l o)
     goes = agent-event E S n (now + 1) from l ls o is host memory H

@@ -1,33 +1,9 @@
 -- The handler of a message that an agent takes: what it does with transactions, as their initiator or not.
-use Rattle.std.proofs.Common.{◌≡◌, ◌<◌, Bool, true, false, List, [], ◌∷◌, ◌++◌, append-nil, ◌⊎◌, inl, inr, refl, sym, subst, ap, ◌∙◌, ◌==◌, arith}
-use Rattle.std.specs.Prelude.{ℕ, ◌≤◌, ◌&&◌, not, nat_lt, if◌then◌else◌, Option, Some, None}
-use Rattle.std.specs.List.{AllByRecursion, list_all}
-use Rattle.volt_base.specs.declared.entry.Entry.TheVariants.{Frag, Done}
-use Rattle.volt_base.specs.declared.entry.Outcome.{Outcome}
-use Rattle.volt_wire.specs.Word.{Membership}
-use Rattle.volt_wire.specs.declared.actor.Actor.{Actor}
-use Rattle.volt_wire.specs.declared.actor.Actor.TheVariants.{Director, Client, Agent, Site, Scanner}
-use Rattle.volt_wire.specs.declared.end.End.{End}
 use Rattle.volt_wire.specs.declared.message.Msg.TheVariants as msg
-use Rattle.cluster_model.specs.Engine.{Database}
-use Rattle.cluster_model.specs.Words.{Deployment, part_of_slot, slots_of_host, is_in, with_number, admits, union, term_of, initiator, is_slot_of}
-use Rattle.cluster_model.specs.Letters.{Letter, Sends, Turn, becomes, letter_to, same}
-use Rattle.cluster_model.specs.AgentState.{AgentState, Phase, Off, Hears, Closes, Idle, Works, Queued, Job_, Admission, RunCall, TakeSnapshot, initiates, answers_client, on_reply, stops_with_host}
-use Rattle.cluster_model.specs.Initiator.{works_queue, if_idle, queues, on_frag_done, on_finished, on_mp_state}
-use Rattle.cluster_model.specs.Agent.{to_slot, to_partition, to_initiator, hands_on, unless_down, on_call, on_closed, on_word, on_hello, takes_word, on_decided, asks_initiator, has_loaded, on_loaded, from_agent, from_site, from_director, from_client, agent_handler}
-use Rattle.cluster_steps.proofs.Lists.{all-mono, all-if}
-use Rattle.log_laws.specs.Histories.{LogState, LogsHold, IsSlot, is_for, part}
-use Rattle.log_laws.proofs.Plain.Lines.{flat-none, if-none}
-use Rattle.disk_laws.specs.Disks.{Firm}
-use Rattle.transaction_laws.specs.Transactions.{Transactions, Books, IsPart, Stood, StateOk, Initiates, PhaseOk, AnswerOk, order_in, order_of, orders}
-use Rattle.transaction_laws.proofs.Kept.Moves.{NoOrder, SentOrder, SendsDue, InitiatorGoes, OffGoes}
-use Rattle.transaction_laws.proofs.Kept.Later.{books-later}
-use Rattle.transaction_laws.proofs.Initiators.Orders.{LaidOut, slot-part}
-use Rattle.transaction_laws.proofs.Initiators.Turns.{goes-still, goes-from}
-use Rattle.transaction_laws.proofs.Initiators.Rounds.{frag_done-goes}
-use Rattle.transaction_laws.proofs.Initiators.Settling.{works_queue-goes}
-use Rattle.transaction_laws.proofs.Initiators.Finishing.{finished-goes}
-use Rattle.transaction_laws.proofs.Initiators.Hearing.{mp_state-goes}
+use Rattle.cluster_model.specs.Agent.{from_agent}
+use Rattle.transaction_laws.proofs.Names.{Actor, Admission, Agent, AgentState, AllByRecursion, AnswerOk, Books, Bool, Client, Closes, Database, Deployment, Director, Done, End, Firm, Frag, Hears, Idle, Initiates, IsPart, IsSlot, Job_, Letter, List, LogState, LogsHold, Membership, None, Off, Option, Outcome, Phase, PhaseOk, Queued, RunCall, Scanner, Sends, Site, Some, StateOk, Stood, TakeSnapshot, Transactions, Turn, Works, [], admits, agent_handler, all-if, all-mono, answers_client, ap, append-nil, arith, asks_initiator, becomes, false, flat-none, from_client, from_director, from_site, hands_on, has_loaded, if-none, if_idle, if◌then◌else◌, initiates, initiator, inl, inr, is_for, is_in, is_slot_of, letter_to, list_all, nat_lt, not, on_call, on_closed, on_decided, on_finished, on_frag_done, on_hello, on_loaded, on_mp_state, on_reply, on_word, order_in, order_of, orders, part, part_of_slot, queues, refl, same, slots_of_host, stops_with_host, subst, sym, takes_word, term_of, to_initiator, to_partition, to_slot, true, union, unless_down, with_number, works_queue, ℕ, ◌&&◌, ◌++◌, ◌<◌, ◌==◌, ◌∙◌, ◌∷◌, ◌≡◌, ◌≤◌, ◌⊎◌}
+use Rattle.transaction_laws.proofs.Kept.{NoOrder, SentOrder, SendsDue, InitiatorGoes, OffGoes, books-later}
+use Rattle.transaction_laws.proofs.Initiators.{LaidOut, slot-part, goes-still, goes-from, frag_done-goes, works_queue-goes, finished-goes, mp_state-goes, goes-if}
 
 -- ---- turns that send no order
 
@@ -151,10 +127,7 @@ loaded-leaves D n a slot start = if-leaves a (start == a.start) (has_loaded D n 
 -- ---- messages that aren't for the initiator
 
 abbrev ForInitiator : Actor → Letter → Type 0
-ForInitiator Director l = elim l.body as (λ _. Type 0) [
-  | msg.Snap ↦ Unit {0}
-  | _ ↦ ⊥
-]
+ForInitiator Director l = elim l.body as (λ _. Type 0) [ msg.Snap ↦ Unit {0} | _ ↦ ⊥ ]
 ForInitiator (Agent g) l = elim l.body as (λ _. Type 0) [
   | msg.Decided w ↦ Unit {0}
   | msg.MpCall call start body ↦ Unit {0}
@@ -167,8 +140,7 @@ ForInitiator (Site c) l = elim l.body as (λ _. Type 0) [
   | msg.MpState m is_open outcome ↦ Unit {0}
   | _ ↦ ⊥
 ]
-ForInitiator (Client c) l = ⊥
-ForInitiator (Scanner x) l = ⊥
+ForInitiator from l = ⊥
 
 handler-leaves : (E : Database) (D : Deployment) (n stamp : ℕ) (a : AgentState) (from : Actor) (l : Letter) → (ForInitiator from l → ⊥) → LeavesInitiating a (agent_handler E D n stamp a from l)
 handler-leaves E D n stamp a Director l none =
@@ -223,6 +195,10 @@ module _ (E : Database) (D : Deployment) (n stamp : ℕ) (a : AgentState) (phase
     kept = inr (k.start, k.decided, k.waiting);
   }
 
+  if-off : (c : Bool) (x y : Turn AgentState) → OffGoes a x → OffGoes a y → OffGoes a (if c then x else y)
+  if-off true x y p q = p
+  if-off false x y p q = q
+
   stays-off : OffGoes a (becomes a)
   stays-off = leaves-off (becomes a) (same-leaves a)
 
@@ -239,11 +215,7 @@ module _ (E : Database) (D : Deployment) (n stamp : ℕ) (a : AgentState) (phase
   decided-off : (decided taken : Option Membership) (w : Membership) → OffGoes a (on_decided D n a decided taken w)
   decided-off (Some d) taken w = stays-off
   decided-off None None w = leaves-off (takes_word D n a w) (takes_word-leaves D n a w)
-  decided-off None (Some t) w = choice (nat_lt (term_of t) (term_of w) && not (admits w a.start))
-    where
-      choice : (b : Bool) → OffGoes a (if b then stops_with_host D n a.start else becomes a)
-      choice true = stops-off
-      choice false = stays-off
+  decided-off None (Some t) w = if-off (nat_lt (term_of t) (term_of w) && not (admits w a.start)) _ _ stops-off stays-off
 
   from_agent-off : (g : ℕ) (l : Letter) → OffGoes a (from_agent E D n stamp a g l)
   from_agent-off g l = elim l.body as (λ m. OffGoes a (from_agent E D n stamp a g (record l { body = m }))) [
@@ -263,13 +235,9 @@ module _ (E : Database) (D : Deployment) (n stamp : ℕ) (a : AgentState) (phase
 
   from_director-off : (l : Letter) → OffGoes a (from_director E D n a l)
   from_director-off l = elim l.body as (λ m. OffGoes a (from_director E D n a (record l { body = m }))) [
-    | msg.Snap ↦ choice (initiates n a a.decided)
+    | msg.Snap ↦ if-off (initiates n a a.decided) _ _ (queues-off (Job_ TakeSnapshot)) stays-off
     | m ↦ stays-off
   ]
-    where
-      choice : (b : Bool) → OffGoes a (if b then queues E D a (Job_ TakeSnapshot) else becomes a)
-      choice true = queues-off (Job_ TakeSnapshot)
-      choice false = stays-off
 
 -- The handler of an agent that isn't an initiator.
 pub handler-off : (E : Database) (D : Deployment) (n stamp : ℕ) (a : AgentState) (from : Actor) (l : Letter) → a.initiating.phase ≡ Off → a.initiating.work ≡ None → a.initiating.next ≡ 0
@@ -283,13 +251,10 @@ handler-off E D n stamp a (Scanner x) l phase work next = leaves-off E D n stamp
 -- ---- the handler of an initiator
 
 -- What holds of its phase goes by its job at hand and its next number.
-phase-kept : (E : Database) (S : LogState) (F : Firm) (K : Transactions) (t : ℕ) (a b : AgentState) (phase : Phase) → b.initiating.work ≡ a.initiating.work → b.initiating.next ≡ a.initiating.next
+pub phase-kept : (E : Database) (S : LogState) (F : Firm) (K : Transactions) (t : ℕ) (a b : AgentState) (phase : Phase) → b.initiating.work ≡ a.initiating.work → b.initiating.next ≡ a.initiating.next
     → PhaseOk E S F K t a phase → PhaseOk E S F K t b phase
 phase-kept E S F K t a b Off work next k = absurd k
-phase-kept E S F K t a b (Hears told) work next k = rw (work, next) k
-phase-kept E S F K t a b (Closes m parts finished) work next k = rw (work, next) k
-phase-kept E S F K t a b Idle work next k = rw (work, next) k
-phase-kept E S F K t a b Works work next k = rw (work, next) k
+phase-kept E S F K t a b phase work next k = rw (work, next) k
 
 module _ (E : Database) (S : LogState) (F : Firm) (K : Transactions) (now stamp n : ℕ) (w : Membership) (lay : LaidOut S) (H : LogsHold S) (B : Books E S F K now) (low : now ≤ stamp)
     (i : Initiates S n w) (phase : PhaseOk E S F K (term_of w) (S.words.agents n) (S.words.agents n).initiating.phase) where
@@ -332,13 +297,9 @@ module _ (E : Database) (S : LogState) (F : Firm) (K : Transactions) (now stamp 
 
   handler-director : (l : Letter) → InitiatorGoes E S F K stamp n w a (from_director E S.words.deployment n a l)
   handler-director l = elim l.body as (λ m. InitiatorGoes E S F K stamp n w a (from_director E S.words.deployment n a (record l { body = m }))) [
-    | msg.Snap ↦ choice (initiates n a a.decided)
+    | msg.Snap ↦ goes-if E S F K stamp n w a _ _ _ (λ first. queues-goes (Job_ TakeSnapshot)) (λ other. leaves-goes (becomes a) (same-leaves a))
     | m ↦ leaves-goes (becomes a) (same-leaves a)
   ]
-    where
-      choice : (b : Bool) → InitiatorGoes E S F K stamp n w a (if b then queues E S.words.deployment a (Job_ TakeSnapshot) else becomes a)
-      choice true = queues-goes (Job_ TakeSnapshot)
-      choice false = leaves-goes (becomes a) (same-leaves a)
 
   handler-agent : (g : ℕ) (l : Letter) → InitiatorGoes E S F K stamp n w a (from_agent E S.words.deployment n stamp a g l)
   handler-agent g l = elim l.body as (λ m. InitiatorGoes E S F K stamp n w a (from_agent E S.words.deployment n stamp a g (record l { body = m }))) [
@@ -366,10 +327,7 @@ module _ (E : Database) (S : LogState) (F : Firm) (K : Transactions) (now stamp 
 
       -- a letter with a term is of its own one
       here : 0 < l.term → l.term ≡ term_of w
-      here some = elim term [
-        | inl none ↦ absurd (omega (arith, some, none))
-        | inr is ↦ is
-      ]
+      here some = elim term [ inl none ↦ absurd (omega (arith, some, none)) | inr is ↦ is ]
 
 -- The handler of an initiator.
 pub handler-initiates : (E : Database) (S : LogState) (F : Firm) (K : Transactions) (now stamp n : ℕ) (w : Membership) → LaidOut S → LogsHold S → Books E S F K now → now ≤ stamp → Initiates S n w

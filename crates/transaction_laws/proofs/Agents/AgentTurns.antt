@@ -1,44 +1,10 @@
 -- Turns of agents: what holds of transactions, holds after them.
-use Rattle.std.proofs.Common.{◌≡◌, ◌<◌, Bool, true, false, List, [], ◌∷◌, ◌++◌, append-nil, ◌⊎◌, inl, inr, refl, sym, subst, ap, ◌∙◌, ◌==◌, arith}
-use Rattle.std.proofs.lemmas.Bool.{cases_Bool, cases_eq, and_from, and_left, and_right, not_from_true}
-use Rattle.std.proofs.lemmas.Grind.{flat_map-append}
-use Rattle.std.specs.Prelude.{ℕ, ◌≤◌, ◌&&◌, ◌||◌, not, filter, if◌then◌else◌, Option, Some, None}
-use Rattle.std.specs.List.{AllByRecursion, list_all}
-use Rattle.volt_wire.specs.Word.{Membership}
-use Rattle.volt_wire.specs.declared.actor.Actor.{Actor}
-use Rattle.volt_wire.specs.declared.actor.Actor.TheVariants.{Agent, Site}
 use Rattle.volt_wire.specs.declared.message.Msg.TheVariants as msg
-use Rattle.cluster_model.specs.Engine.{Database}
-use Rattle.cluster_model.specs.Words.{Deployment, is_slot_of, is_in, term_of, term_in, same_word, members, is_member, initiator, leader, start_of_slot, is_down}
-use Rattle.cluster_model.specs.Letters.{same, Letter, Turn, becomes, ◌▸◌, letter_to, Waiting}
-use Rattle.cluster_model.specs.AgentState.{AgentState, Phase, Off, Hears, Closes, Idle, Works, new_agent, is_initiator_in, initiates}
-use Rattle.cluster_model.specs.Initiator.{with_phase}
-use Rattle.cluster_model.specs.Agent.{is_other_word, says, is_word, may_decide, decides_word, agent_handler}
-use Rattle.cluster_model.specs.World.{took, rest}
 use Rattle.word_laws.specs.Histories as word
-use Rattle.cluster_steps.specs.Lists.{In}
-use Rattle.word_laws.specs.Histories.{History}
-use Rattle.cluster_steps.proofs.Lists.{all-mono, all-append, all-if, same-some, not-both, eqb-same, set-there, set-both}
-use Rattle.word_laws.proofs.Algebra.{same_word-refl}
-use Rattle.word_laws.proofs.Members.{initiates-is}
-use Rattle.cluster_steps.proofs.Channels.{sent-both, took-all}
-use Rattle.word_laws.proofs.Moves.{Grows}
-use Rattle.word_laws.proofs.Turns.{tells, tells-state, concludes, concludes-not, concludes-is, decides-state}
-use Rattle.word_laws.proofs.Steps.{after-after}
-use Rattle.word_laws.proofs.Hearings.{WordsTurn, handler-grows, agent-there, after-handler, then-inert}
-use Rattle.log_laws.specs.Histories.{LogState, LogsHold, WordOf, MemberOk, IsSlot, is_for, part, site_start}
-use Rattle.log_laws.proofs.Plain.Lines.{flat-none, if-none, for-false}
-use Rattle.log_laws.proofs.Kept.Terms.{same-word}
-use Rattle.log_laws.proofs.Agents.Views.{agent_turned}
-use Rattle.log_laws.proofs.Agents.AgentTurns.{Rest, MayJoin, AgentHandler}
-use Rattle.disk_laws.specs.Disks.{Firm}
-use Rattle.transaction_laws.specs.Transactions.{Transactions, Books, JobOk, PhaseOk, Initiates, AnswerOk, ToSiteOk, WaitingAnswer, SiteCalls, AgentCalls, CallsHold, orders, order_of}
-use Rattle.transaction_laws.proofs.Kept.Moves.{Onto, NoOrder, SentOrder, InitiatorGoes, OffGoes}
-use Rattle.transaction_laws.proofs.Kept.Later.{answer-on, to_site-on, books-worded}
-use Rattle.transaction_laws.proofs.Initiators.Orders.{LaidOut}
-use Rattle.transaction_laws.proofs.Agents.AgentHandlers.{no-orders, handler-initiates, handler-off}
-use Rattle.transaction_laws.proofs.Kept.Worded.{onto-worded, phase-worded, shows-worded}
-use Rattle.transaction_laws.proofs.Initiators.InitiatorWords.{one-initiator, has-decided, before-below, stays-initiator, decides-heard}
+use Rattle.transaction_laws.proofs.Names.{Actor, Agent, AgentCalls, AgentHandler, AgentState, AllByRecursion, AnswerOk, Books, Bool, CallsHold, Closes, Database, Deployment, Firm, Grows, Hears, History, Idle, In, Initiates, IsSlot, JobOk, Letter, List, LogState, LogsHold, MayJoin, MemberOk, Membership, None, Off, Option, Phase, PhaseOk, Rest, Site, SiteCalls, Some, ToSiteOk, Transactions, Turn, WaitingAnswer, WordOf, WordsTurn, Works, [], after-after, after-handler, agent-there, agent_handler, agent_turned, all-append, all-if, all-mono, and_from, and_left, and_right, ap, append-nil, arith, becomes, cases_Bool, cases_eq, concludes, concludes-is, concludes-not, decides-state, decides_word, eqb-same, false, filter, flat-none, flat_map-append, for-false, handler-grows, if-none, if◌then◌else◌, initiates, initiates-is, initiator, inl, inr, is_down, is_for, is_in, is_initiator_in, is_member, is_other_word, is_slot_of, is_word, leader, letter_to, list_all, may_decide, members, new_agent, none-and-some, not, not-both, not_from_true, order_of, orders, part, refl, rest, same, same-some, same-word, same_word, same_word-refl, says, sent-both, set-both, set-there, site_start, start_of_slot, subst, sym, tells, tells-state, term_in, term_of, then-inert, took, took-all, true, with_phase, ℕ, ◌&&◌, ◌++◌, ◌<◌, ◌==◌, ◌||◌, ◌∙◌, ◌∷◌, ◌≡◌, ◌≤◌, ◌⊎◌, ◌▸◌}
+use Rattle.transaction_laws.proofs.Kept.{Onto, NoOrder, SentOrder, InitiatorGoes, OffGoes, answer-on, to_site-on, onto-worded, shows-worded, books-moved, phase-moved, waiting-on, KeepsWords, onto-same}
+use Rattle.transaction_laws.proofs.Initiators.{LaidOut, one-initiator, has-decided, before-below, stays-initiator, decides-heard}
+use Rattle.transaction_laws.proofs.Agents.AgentHandlers.{no-orders, handler-initiates, handler-off, phase-kept}
 
 -- ---- messages under way to an agent
 
@@ -75,6 +41,23 @@ pub record Mine (E : Database) (S : LogState) (F : Firm) (L : Transactions) (n :
       ⊎ ((w : Membership) × (0 < a.start) × (a.decided ≡ Some w) × (initiator w ≡ Some (n, a.start)) × PhaseOk E S F L (term_of w) a a.initiating.phase)
   pub waiting : AllByRecursion (WaitingAnswer E S F L) a.waiting
 
+-- one whose start, word and initiator's part are as they were
+pub mine-same : (E : Database) (S : LogState) (F : Firm) (K : Transactions) (n : ℕ) → AgentCalls E S F K n → (b : AgentState) → b.start ≡ (S.words.agents n).start
+    → b.decided ≡ (S.words.agents n).decided → b.initiating ≡ (S.words.agents n).initiating → AllByRecursion (WaitingAnswer E S F K) b.waiting → Mine E S F K n b
+mine-same E S F K n k b start word part waits = let a = S.words.agents n in record {
+  initiating = elim k.initiating [
+    | inl q ↦ inl (ap (λ x. x.phase) part ∙ q.0, ap (λ x. x.work) part ∙ q.1, ap (λ x. x.next) part ∙ q.2)
+    | inr q ↦ inr (
+      q.0,
+      rw start q.1.runs,
+      word ∙ q.1.has_decided,
+      rw start q.1.initiates,
+      subst (λ i. PhaseOk E S F K (term_of q.0) b i.phase) (sym part) (phase-kept E S F K (term_of q.0) a b a.initiating.phase (ap (λ i. i.work) part) (ap (λ i. i.next) part) q.2),
+    )
+  ];
+  waiting = waits;
+}
+
 module _ (E : Database) (F : Firm) (halted : Bool) (stamp : ℕ) (S : LogState) (H : LogsHold S) (K : Transactions) (C : CallsHold E S F halted K stamp)
     (o : Option Actor) (n : ℕ) (t : Turn AgentState) (G : History) (grows : Grows S.words.history G) where
   -- the state after it
@@ -89,20 +72,11 @@ module _ (E : Database) (F : Firm) (halted : Bool) (stamp : ℕ) (S : LogState) 
   onto : Onto S T F F
   onto = onto-worded S T.words.agents T.words.channel G grows.decided F
 
-  phase-then : (L : Transactions) (u : ℕ) (a : AgentState) (x : Phase) → PhaseOk E S F L u a x → PhaseOk E T F L u a x
-  phase-then L u a x k = phase-worded S T.words.agents T.words.channel G grows.decided E F L u a x k
-
   -- ---- what others have, and what is under way
 
-  module _ (L : Transactions) (heard : K.heard ≤ L.heard) where
-    answers-then : (from : Transactions) → from.heard ≤ L.heard → (c : ℕ) (l : Letter) → AnswerOk E S F from (part S c) l → AnswerOk E T F L (part S c) l
-    answers-then from low c l k = answer-on E S T F F onto from L low (part S c) l k
-
-    pub waits-then : (from : Transactions) → from.heard ≤ L.heard → (x : Waiting) → WaitingAnswer E S F from x → WaitingAnswer E T F L x
-    waits-then from low x k = elim x.from as (λ a. WaitingAnswer E S F from (record x { from = a }) → WaitingAnswer E T F L (record x { from = a })) [
-      | Site c ↦ λ k. (k.0, answers-then from low c x.letter k.1)
-      | a ↦ λ k. tt
-    ] k
+  module _ (L : Transactions) (B : Books E S F L stamp) (heard : K.heard ≤ L.heard) where
+    phase-then : (u : ℕ) (a : AgentState) (x : Phase) → PhaseOk E S F L u a x → PhaseOk E T F L u a x
+    phase-then = phase-moved E S T F F L stamp stamp L.due (omega arith) H (λ p t b. absurd (none-and-some b.none b.led)) onto (λ p t q. inl (refl, refl)) B
 
     to_sites-then : ((c : ℕ) → IsSlot S c → AllByRecursion (ToSiteOk S n c) (t.sends (Site c))) → (h c : ℕ) → IsSlot S c → AllByRecursion (ToSiteOk T h c) (T.words.channel (Agent h) (Site c))
     to_sites-then letters h c slot = sent-both (AllByRecursion (ToSiteOk T h c)) (left S.words.channel o n) n t.sends h (Site c)
@@ -116,7 +90,7 @@ module _ (E : Database) (F : Firm) (halted : Bool) (stamp : ℕ) (S : LogState) 
 
     to_agents-then : (c h : ℕ) → IsSlot S c → AllByRecursion (AnswerOk E T F L (part S c)) (T.words.channel (Site c) (Agent h))
     to_agents-then c h slot = left-all (AnswerOk E T F L (part S c)) S.words.channel o n (Site c) (Agent h)
-        (all-mono (AnswerOk E S F K (part S c)) (AnswerOk E T F L (part S c)) (answers-then K heard c) (S.words.channel (Site c) (Agent h)) (C.to_agents c h slot))
+        (all-mono (AnswerOk E S F K (part S c)) (AnswerOk E T F L (part S c)) (answer-on E S T F F onto K L heard (part S c)) (S.words.channel (Site c) (Agent h)) (C.to_agents c h slot))
 
     site-then : (c : ℕ) → SiteCalls S K c → DueThen L c → SiteCalls T L c
     site-then c k due = record {
@@ -127,43 +101,30 @@ module _ (E : Database) (F : Firm) (halted : Bool) (stamp : ℕ) (S : LogState) 
       unrepaired = k.unrepaired;
     }
 
-    -- the agent itself, and another one
-    mine-then : Mine E S F L n t.state → AgentCalls E T F L n
-    mine-then k = record {
+    -- an agent that is as far as this, and the agent itself and another one
+    agent-then : (h : ℕ) (a : AgentState) → T.words.agents h ≡ a → Mine E S F L h a → AgentCalls E T F L h
+    agent-then h a here k = record {
       initiating = elim k.initiating [
-        | inl q ↦ inl (ap (λ a. a.initiating.phase) here ∙ q.0, ap (λ a. a.initiating.work) here ∙ q.1, ap (λ a. a.initiating.next) here ∙ q.2)
+        | inl q ↦ inl (rw here q)
         | inr q ↦ inr (
           q.0,
           record { runs = rw here q.1; has_decided = rw here q.2; initiates = rw here q.3 },
-          subst (λ a. PhaseOk E T F L (term_of q.0) a a.initiating.phase) (sym here) (phase-then L (term_of q.0) t.state t.state.initiating.phase q.4),
+          subst (λ a. PhaseOk E T F L (term_of q.0) a a.initiating.phase) (sym here) (phase-then (term_of q.0) a a.initiating.phase q.4),
         )
       ];
-      waiting = subst (λ a. AllByRecursion (WaitingAnswer E T F L) a.waiting) (sym here)
-          (all-mono (WaitingAnswer E S F L) (WaitingAnswer E T F L) (waits-then L (omega arith)) t.state.waiting k.waiting);
+      waiting = subst (λ a. AllByRecursion (WaitingAnswer E T F L) a.waiting) (sym here) (all-mono _ _ (waiting-on E S T F F onto L L (omega arith)) a.waiting k.waiting);
     }
-      where
-        here : T.words.agents n ≡ t.state
-        here = agent-there (base S o n).words n t.state t.sends G
+
+    mine-then : Mine E S F L n t.state → AgentCalls E T F L n
+    mine-then = agent-then n t.state (agent-there (base S o n).words n t.state t.sends G)
 
     other-then : (h : ℕ) → (h ≡ n → ⊥)
         → ((w : Membership) → Initiates S h w → PhaseOk E S F K (term_of w) (S.words.agents h) (S.words.agents h).initiating.phase
         → PhaseOk E S F L (term_of w) (S.words.agents h) (S.words.agents h).initiating.phase) → AgentCalls E T F L h
-    other-then h d still = let k = C.agents h in record {
-      initiating = elim k.initiating [
-        | inl q ↦ inl (ap (λ a. a.initiating.phase) there ∙ q.0, ap (λ a. a.initiating.work) there ∙ q.1, ap (λ a. a.initiating.next) there ∙ q.2)
-        | inr q ↦ inr (
-          q.0,
-          record { runs = rw there q.1.runs; has_decided = rw there q.1.has_decided; initiates = rw there q.1.initiates },
-          subst (λ a. PhaseOk E T F L (term_of q.0) a a.initiating.phase) (sym there)
-              (phase-then L (term_of q.0) (S.words.agents h) (S.words.agents h).initiating.phase (still q.0 q.1 q.2)),
-        )
-      ];
-      waiting = subst (λ a. AllByRecursion (WaitingAnswer E T F L) a.waiting) (sym there)
-          (all-mono (WaitingAnswer E S F K) (WaitingAnswer E T F L) (waits-then K heard) (S.words.agents h).waiting k.waiting);
-    }
-      where
-        there : T.words.agents h ≡ S.words.agents h
-        there = set-there S.words.agents n t.state h d
+    other-then h d still = let k = C.agents h in agent-then h (S.words.agents h) (set-there S.words.agents n t.state h d) (record {
+      initiating = elim k.initiating [ inl q ↦ inl q | inr q ↦ inr (q.0, q.1.runs, q.1.has_decided, q.1.initiates, still q.0 q.1 q.2) ];
+      waiting = all-mono _ _ (waiting-on E S S F F (onto-same S F) K L heard) (S.words.agents h).waiting k.waiting;
+    })
 
   -- ---- the whole
 
@@ -177,20 +138,19 @@ module _ (E : Database) (F : Firm) (halted : Bool) (stamp : ℕ) (S : LogState) 
       → PhaseOk E S F L (term_of w) (S.words.agents h) (S.words.agents h).initiating.phase) where
     calls-then : CallsHold E T F halted L stamp
     calls-then = record {
-      books = books-worded E S T F L stamp H refl refl refl grows.decided by B;
-      to_sites = to_sites-then L heard letters;
-      to_agents = to_agents-then L heard;
+      books = books-moved E S T F F L stamp stamp L.due (omega arith) H (λ p t b. absurd (none-and-some b.none b.led)) onto (λ p t q. inl (refl, refl)) B by (λ p t q. refl);
+      to_sites = to_sites-then L B heard letters;
+      to_agents = to_agents-then L B heard;
       environment = λ c h out. left-none S.words.channel o n (Site c) (Agent h) (C.environment c h out);
-      sites = λ c slot up. let k = C.sites c slot up in site-then L heard c k (due c slot up k);
+      sites = λ c slot up. let k = C.sites c slot up in site-then L B heard c k (due c slot up k);
       agents = λ h. elim (cases_eq h n) [
-        | inl e ↦ subst (AgentCalls E T F L) (sym e) (mine-then L heard mine)
-        | inr d ↦ other-then L heard h d (others h d)
+        | inl e ↦ subst (AgentCalls E T F L) (sym e) (mine-then L B heard mine)
+        | inr d ↦ other-then L B heard h d (others h d)
       ];
       halts = λ e shown k. C.halts e shown (shows-worded S T.words.agents T.words.channel G grows.decided shown k);
     }
       where
-        by : (w : Membership) (h a : ℕ) → In w S.words.history.decided → initiator w ≡ Some (h, a) → 0 < a → (T.words.agents h).start ≡ a
-            → ((S.words.agents h).start ≡ a → L.heard ≤ term_in (S.words.agents h).decided) → L.heard ≤ term_in (T.words.agents h).decided
+        by : KeepsWords S T L.heard
         by w h a d init some is before = set-both (λ z x. initiator w ≡ Some (z, a) → x.start ≡ a
             → ((S.words.agents z).start ≡ a → L.heard ≤ term_in (S.words.agents z).decided) → L.heard ≤ term_in x.decided)
             S.words.agents n t.state (λ init is before. own w a d init some is before) (λ z q init is before. before is) h init is before
@@ -224,13 +184,6 @@ sent-elsewhere S n w c start term d l k = elim l.body as (λ m. SentOrder S n w 
   where
     other : l.term ≡ term_of w → is_for start term l ≡ false
     other e = for-false start term l (λ a b. d (sym b ∙ e))
-
--- what waits, with a later history
-waits-heard : (E : Database) (S : LogState) (F : Firm) (K L : Transactions) → K.heard ≤ L.heard → (x : Waiting) → WaitingAnswer E S F K x → WaitingAnswer E S F L x
-waits-heard E S F K L low x k = elim x.from as (λ a. WaitingAnswer E S F K (record x { from = a }) → WaitingAnswer E S F L (record x { from = a })) [
-  | Site c ↦ λ k. (k.0, answer-on E S S F F (onto-worded S S.words.agents S.words.channel S.words.history (λ w i. i) F) K L low (part S c) x.letter k.1)
-  | a ↦ λ k. tt
-] k
 
 -- a site that runs as a member of this word
 member-of : (S : LogState) → LogsHold S → (c : ℕ) → 0 < site_start S c → (v : Membership) → (S.sites c).joining ≡ None → (S.sites c).view ≡ Some v → MemberOk S c v
@@ -286,7 +239,7 @@ module _ (E : Database) (F : Firm) (halted : Bool) (stamp : ℕ) (S : LogState) 
         (record {
           initiating = inr (w, subst (λ s. 0 < s) (sym g.start) i.runs, g.decided ∙ i.has_decided, i.initiates ∙ ap (λ a. Some (n, a)) (sym g.start), g.phase);
           waiting = subst (AllByRecursion (WaitingAnswer E S F L)) (sym g.waiting)
-              (all-mono (WaitingAnswer E S F K) (WaitingAnswer E S F L) (waits-heard E S F K L g.heard) (S.words.agents n).waiting (C.agents n).waiting);
+              (all-mono _ _ (waiting-on E S S F F (onto-same S F) K L g.heard) (S.words.agents n).waiting (C.agents n).waiting);
         })
         (λ h d v k. absurd (d (one-initiator S H.words h n v w k i)))
 
@@ -330,8 +283,7 @@ tells-sites n before a c = choice (is_other_word before a.own) a.own
   where
     choice : (b : Bool) (own : Option Membership) → (if b then says n a own else becomes a).sends (Site c) ≡ []
     choice true None = refl
-    choice true (Some w) = refl
-    choice false own = refl
+    choice b own = refl
 
 told-sites : (n : ℕ) (before : Option Membership) (t : Turn AgentState) (c : ℕ) → (t ▸ tells n before).sends (Site c) ≡ t.sends (Site c)
 told-sites n before t c = ap (λ xs. t.sends (Site c) ++ xs) (tells-sites n before t.state c) ∙ append-nil (t.sends (Site c))
@@ -362,10 +314,7 @@ off-tells a n t before g = record {
   work = ap (λ x. x.initiating.work) same ∙ g.work;
   next = ap (λ x. x.initiating.next) same ∙ g.next;
   sends = λ c. subst (AllByRecursion NoOrder) (sym (told-sites n before t c)) (g.sends c);
-  kept = elim g.kept [
-    | inl z ↦ inl (same ∙ z)
-    | inr k ↦ inr (ap (λ x. x.start) same ∙ k.0, ap (λ x. x.decided) same ∙ k.1, ap (λ x. x.waiting) same ∙ k.2)
-  ];
+  kept = elim g.kept [ inl z ↦ inl (same ∙ z) | inr k ↦ inr (ap (λ x. x.start) same ∙ k.0, ap (λ x. x.decided) same ∙ k.1, ap (λ x. x.waiting) same ∙ k.2) ];
 }
   where
     same : (tells n before t.state).state ≡ t.state
@@ -465,20 +414,12 @@ module _ (E : Database) (F : Firm) (halted : Bool) (stamp : ℕ) (S : LogState) 
 
   -- it stays as it is
   pub stays-then : (G : History) → Grows S.words.history G → CallsHold E (agent_turned S n a (λ b. []) G) F halted K stamp
-  stays-then G grows = inert-then E F halted stamp S H K C None n (becomes a) G grows (λ c. tt) (record {
-    initiating = elim (C.agents n).initiating [
-      | inl q ↦ inl q
-      | inr q ↦ inr (q.0, q.1.runs, q.1.has_decided, q.1.initiates, q.2)
-    ];
-    waiting = (C.agents n).waiting;
-  }) (λ w b d init some is before. before is)
+  stays-then G grows = inert-then E F halted stamp S H K C None n (becomes a) G grows (λ c. tt) (mine-same E S F K n (C.agents n) a refl refl refl (C.agents n).waiting)
+      (λ w b d init some is before. before is)
 
   -- its job and its next number, which it keeps
   job : JobOk K a.initiating.work × (((a.initiating.next ≡ 0) × (a.initiating.work ≡ None)) ⊎ (K.number < a.initiating.next))
-  job = elim (C.agents n).initiating [
-    | inl q ↦ (rw q.1 tt, inl (q.2, q.1))
-    | inr q ↦ phase-job E S F K (term_of q.0) a a.initiating.phase q.2
-  ]
+  job = elim (C.agents n).initiating [ inl q ↦ (rw q.1 tt, inl (q.2, q.1)) | inr q ↦ phase-job E S F K (term_of q.0) a a.initiating.phase q.2 ]
 
   module _ (v : Membership) (own : a.own ≡ Some v) (may : may_decide n a (Some v) ≡ true) (r : AgentHandler S n (decides_word S.words.deployment n a (Some v))) where
     abbrev decides : Turn AgentState

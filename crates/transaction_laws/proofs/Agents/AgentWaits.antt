@@ -1,41 +1,9 @@
 -- Messages that waited for an agent's term: it decides no word while it takes them, and what holds of transactions, holds after that.
-use Rattle.std.proofs.Common.{◌≡◌, ◌<◌, Bool, true, false, List, [], ◌∷◌, inl, inr, refl, sym, subst, ap, ◌∙◌, ◌==◌, true≢false, arith}
-use Rattle.std.proofs.lemmas.Bool.{cases_Bool, or_cases, eqb-true}
-use Rattle.std.proofs.lemmas.Bool.Decides.{nat_tests}
-use Rattle.std.specs.Prelude.{ℕ, ◌||◌, nat_lt, Option, Some, None}
-use Rattle.std.specs.List.{AllByRecursion}
-use Rattle.volt_wire.specs.Word.{Membership}
-use Rattle.volt_wire.specs.declared.actor.Actor.{Actor}
-use Rattle.volt_wire.specs.declared.actor.Actor.TheVariants.{Agent}
-use Rattle.cluster_model.specs.Engine.{Database}
-use Rattle.cluster_model.specs.Words.{Deployment, is_in, admits, start_of, initiator, term_of, term_in, same_word, with_admitted}
-use Rattle.cluster_model.specs.Letters.{Letter, Sends, Turn, becomes, ◌▸◌, Waiting, of_term, above_term}
-use Rattle.cluster_model.specs.AgentState.{AgentState, Phase, Off, Hears, Closes, Idle, Works, Queued, Admission, initiates}
-use Rattle.cluster_model.specs.Agent.{is_word, may_decide, agent_handler, unless_stopped, takes_each, takes_waiting}
 use Rattle.word_laws.specs.Histories as word
-use Rattle.cluster_steps.specs.Lists.{In, OnSome}
-use Rattle.word_laws.specs.Histories.{State, GoodWord, SaidBy, OwnOk, CameOk, QueuedAdmissionOk, AgentWaitingFrom, AgentWaitingOk, names}
-use Rattle.cluster_steps.proofs.Lists.{all-mono, all-filter, all-from, all-at, in-filter, in-cases, some-here, not-both, set-here}
-use Rattle.word_laws.proofs.Algebra.{same_word-is, names-admits, with_admitted-admits}
-use Rattle.word_laws.proofs.Members.{members-all, initiates-is}
-use Rattle.word_laws.proofs.Calm.{Calm, AdmitsNow, asked_by, loaded_by, handler-calm}
-use Rattle.word_laws.proofs.Agreement.{said-good, member-of, term-same}
-use Rattle.word_laws.proofs.Turns.{tells, tells-state, concludes, concludes-not, may_decide-cases}
-use Rattle.word_laws.proofs.Arrivals.{unless-running, waiting-brings}
-use Rattle.word_laws.proofs.Steps.{waiting-shrinks}
-use Rattle.word_laws.proofs.Hearings.{handler-grows, handler-plain, agent-there, then-assoc, then-inert}
-use Rattle.word_laws.proofs.AgentEvents.{calm-event, asked-waiting, none-taken}
-use Rattle.word_laws.proofs.OwnWords.{said_to, spoken}
-use Rattle.word_laws.proofs.Admissions.{not-admitted, admits-holds}
-use Rattle.log_laws.specs.Histories.{LogState, AskedOk, LogsHold}
-use Rattle.log_laws.proofs.Agents.Views.{agent_turned}
-use Rattle.log_laws.proofs.Agents.AgentTurns.{Rest, holds-of, AgentHandler, plain-agent, stay-agent}
-use Rattle.log_laws.proofs.Agents.AgentHandlers.{may-join, first-agent}
-use Rattle.log_laws.proofs.Agents.AgentEvents.{waits-on, asks-on}
-use Rattle.disk_laws.specs.Disks.{Firm}
-use Rattle.transaction_laws.specs.Transactions.{Transactions, PhaseOk, WaitingAnswer, CallsHold}
-use Rattle.transaction_laws.proofs.Initiators.Orders.{LaidOut}
-use Rattle.transaction_laws.proofs.Agents.AgentTurns.{CallsHandler, waits-then, inert-then, stays-then, told-handler, then-calls}
+use Rattle.transaction_laws.proofs.Names.{Actor, Admission, AdmitsNow, Agent, AgentHandler, AgentState, AgentWaitingFrom, AgentWaitingOk, AllByRecursion, AskedOk, Bool, CallsHold, Calm, CameOk, Database, Deployment, Firm, GoodWord, In, Letter, List, LogState, LogsHold, Membership, None, OnSome, Option, OwnOk, Queued, QueuedAdmissionOk, Rest, SaidBy, Sends, Some, State, Transactions, Turn, Waiting, WaitingAnswer, [], above_term, admits, admits-holds, agent-there, agent_handler, agent_turned, all-at, all-filter, all-from, all-mono, ap, arith, asked-waiting, asked_by, asks-on, becomes, calm-event, cases_Bool, concludes, concludes-not, eqb-true, false, first-agent, handler-calm, handler-grows, handler-plain, holds-of, in-cases, in-filter, initiates, initiates-is, initiator, inl, inr, is_in, is_word, loaded_by, may-join, may_decide, may_decide-cases, member-of, members-all, names, names-admits, nat_lt, nat_tests, none-taken, not-admitted, not-both, of_term, or_cases, plain-agent, refl, said-good, said_to, same_word, same_word-is, set-here, some-here, spoken, start_of, stay-agent, subst, sym, takes_each, takes_waiting, tells, tells-state, term-same, term_in, term_of, then-assoc, then-inert, true, true≢false, unless-running, unless_stopped, waiting-brings, waiting-shrinks, waits-on, with_admitted, with_admitted-admits, ℕ, ◌<◌, ◌==◌, ◌||◌, ◌∙◌, ◌∷◌, ◌≡◌, ◌▸◌}
+use Rattle.transaction_laws.proofs.Initiators.{LaidOut}
+use Rattle.transaction_laws.proofs.Agents.AgentTurns.{CallsHandler, inert-then, stays-then, told-handler, then-calls, mine-same}
+use Rattle.transaction_laws.proofs.Kept.{waiting-on, onto-worded}
 
 -- ---- a word that an initiator has just made isn't decided at once
 
@@ -48,10 +16,7 @@ module _ (S : State) (H : word.WordsHold S) (n : ℕ) (W V : Membership) (j h te
 
   -- what the agent says of it
   abbrev out : Sends
-  out b = elim b as (λ _. List Letter) [
-    | Agent g ↦ said_to n (word.agent_start S n) X g
-    | _ ↦ []
-  ]
+  out b = elim b as (λ _. List Letter) [ Agent g ↦ said_to n (word.agent_start S n) X g | _ ↦ [] ]
 
   -- Nobody has said a word like it.
   unsaid : (s : ℕ) (u : Membership) → In u (S.history.said s) → same_word u X ≡ true → ⊥
@@ -200,7 +165,8 @@ waited-still : (E : Database) (F : Firm) (halted : Bool) (stamp n : ℕ) (S : Lo
 waited-still E F halted stamp n S H K C t r same y k = record {
   from = (waits-on S n t r.handler (y ∷ []) (k.from, tt)).0;
   asked = (asks-on S n t r.handler (y ∷ []) (k.asked, tt)).0;
-  answer = waits-then E F halted stamp S H K C None n t r.handler.handler.history (handler-grows r.handler.handler) r.after r.heard K r.heard y k.answer;
+  answer = let T = agent_turned S n t.state t.sends r.handler.handler.history in
+      waiting-on E S T F F (onto-worded S T.words.agents T.words.channel r.handler.handler.history (handler-grows r.handler.handler).decided F) K r.after r.heard y k.answer;
   term = k.term ∙ sym (ap (λ b. term_in b.decided) (agent-there S.words n t.state t.sends r.handler.handler.history) ∙ ap term_in same);
 }
 
@@ -224,14 +190,6 @@ waited-each E F halted stamp n (x ∷ ws) S lay h r K C up w settled =
 
     one : OneWaited E F halted stamp S K n t
     one = waited-one E F halted stamp S lay h r K C n up x.from x.letter w.0.from w.0.asked w.0.answer w.0.term settled
-
--- What holds of an initiator's phase goes by its part alone.
-pub phase-same : (E : Database) (S : LogState) (F : Firm) (K : Transactions) (t : ℕ) (a b : AgentState) (phase : Phase) → b.initiating ≡ a.initiating → PhaseOk E S F K t a phase → PhaseOk E S F K t b phase
-phase-same E S F K t a b Off e k = k
-phase-same E S F K t a b (Hears told) e k = rw e k
-phase-same E S F K t a b (Closes m parts finished) e k = rw e k
-phase-same E S F K t a b Idle e k = rw e k
-phase-same E S F K t a b Works e k = rw e k
 
 -- The agent takes those of its term, and keeps those of higher ones.
 module _ (E : Database) (F : Firm) (halted : Bool) (stamp n : ℕ) (S : LogState) (lay : LaidOut S) (h : word.WordsHold S.words) (r : Rest S) (K : Transactions) (C : CallsHold E S F halted K stamp)
@@ -262,13 +220,8 @@ module _ (E : Database) (F : Firm) (halted : Bool) (stamp n : ℕ) (S : LogState
     handler = kept-turn;
     after = K;
     heard = omega arith;
-    calls = inert-then E F halted stamp S (holds-of S h r) K C None n (becomes kept) kept-turn.handler.history (handler-grows kept-turn.handler) (λ c. tt) (record {
-      initiating = elim (C.agents n).initiating [
-        | inl q ↦ inl q
-        | inr q ↦ inr (q.0, q.1.runs, q.1.has_decided, q.1.initiates, phase-same E S F K (term_of q.0) agent kept agent.initiating.phase refl q.2)
-      ];
-      waiting = all-filter (WaitingAnswer E S F K) (λ w. nat_lt here w.letter.term) agent.waiting (C.agents n).waiting;
-    }) (λ w a d init some is before. before is);
+    calls = inert-then E F halted stamp S (holds-of S h r) K C None n (becomes kept) kept-turn.handler.history (handler-grows kept-turn.handler) (λ c. tt)
+        (mine-same E S F K n (C.agents n) kept refl refl refl (all-filter (WaitingAnswer E S F K) (λ w. nat_lt here w.letter.term) agent.waiting (C.agents n).waiting)) (λ w a d init some is before. before is);
   }
 
   taken : AllByRecursion (IsWaited E F S K n) (of_term here agent.waiting)

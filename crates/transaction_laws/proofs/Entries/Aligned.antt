@@ -1,25 +1,5 @@
 -- Logs in which one transaction at most isn't over everywhere: fewer entries of them, and what a recovery makes of them.
-use Rattle.std.proofs.Common.{◌≡◌, ◌<◌, ◌-◌, zero, suc, true, List, [], ◌∷◌, ◌++◌, ◌⊎◌, inl, inr, ◌==◌, length, drop, take, refl, sym, subst, ap, ◌∙◌, append-nil, append_assoc, take-append-drop, arith}
-use Rattle.std.proofs.Math.Seq.{drop-append_seam}
-use Rattle.std.proofs.lemmas.Bool.{cases_lt, cases_eq}
-use Rattle.std.proofs.lemmas.Bool.Decides.{nat_tests}
-use Rattle.std.proofs.lemmas.List.{drop-append-le, append_cancel_left}
-use Rattle.std.specs.Prelude.{ℕ, ◌≤◌, nat_lt, map, Option, Some, None, option_map, unwrap_or}
-use Rattle.std.specs.List.{AllByRecursion}
-use Rattle.volt_base.specs.declared.entry.Entry.{Entry}
-use Rattle.volt_base.specs.declared.entry.Entry.TheVariants.{Done}
-use Rattle.volt_base.specs.declared.entry.Outcome.{Outcome}
-use Rattle.volt_base.specs.declared.entry.Outcome.TheVariants.{Dropped}
-use Rattle.cluster_model.specs.Engine.{Database}
-use Rattle.cluster_model.specs.Log.{open_in, last_done, greater, number_of}
-use Rattle.cluster_model.specs.Words.{Deployment, parts, all_parts}
-use Rattle.cluster_model.specs.Disk.{Shown, chosen, recovered, greatest_open, resolved, closed, resolved_log}
-use Rattle.cluster_model.specs.World.{greatest_done}
-use Rattle.cluster_steps.specs.Lists.{In, Prefix}
-use Rattle.cluster_steps.proofs.Lists.{all-first, same-some, none-and-some, eqb-same, if-true, in-left, in-cases, in-map, in-map-from, all-at, all-from, all-append, all-mono, all-behind}
-use Rattle.cluster_steps.proofs.Prefixes.{prefix-refl, prefix-none, prefix-trans, prefix-same, prefixes-compare, prefix-drop, drop-behind}
-use Rattle.transaction_laws.specs.Machine.{WellFormed, first_stage, stage}
-use Rattle.transaction_laws.specs.Transactions.{Transactions, IsCall, OnlyCalls, OfNumber, NoRound, Aligned, point_in, since}
+use Rattle.transaction_laws.proofs.Names.{Aligned, AllByRecursion, Database, Deployment, Done, Dropped, Entry, In, IsCall, List, NoRound, None, OfNumber, OnlyCalls, Option, Outcome, Prefix, Shown, Some, Transactions, WellFormed, [], all-append, all-at, all-behind, all-first, all-from, all-mono, all_parts, ap, append-nil, append_assoc, append_cancel_left, arith, cases_eq, cases_lt, chosen, closed, drop, drop-append-le, drop-append_seam, drop-behind, eqb-same, first_stage, greater, greatest_done, greatest_open, if-true, in-cases, in-left, in-map, in-map-from, inl, inr, last_done, length, map, nat_lt, nat_tests, none-and-some, number_of, open_in, option_map, parts, point_in, prefix-drop, prefix-none, prefix-refl, prefix-same, prefix-trans, prefixes-compare, recovered, refl, resolved, resolved_log, same-some, since, stage, subst, suc, sym, take, take-append-drop, true, unwrap_or, zero, ℕ, ◌++◌, ◌-◌, ◌<◌, ◌==◌, ◌∙◌, ◌∷◌, ◌≡◌, ◌≤◌, ◌⊎◌}
 use Rattle.transaction_laws.proofs.Kept.Moves.{Under}
 use Rattle.transaction_laws.proofs.Entries.Since.{call-number, call-round, part-in, in-part, open-number}
 use Rattle.transaction_laws.proofs.Entries.Endings.{OpenAt, Closing, EndsOrSame, end-last, known-closing, closing-fits, closing-past, aligned-ended}
@@ -105,12 +85,12 @@ in-under x xs ys order f i = elim (in-cases x f.prefix f.calls (subst (In x) f.i
 -- ---- aligned logs
 
 -- fewer entries of them
-pub aligned-under : (E : Database) (D : Deployment) (before now : ℕ) (K : Transactions) (logs fewer : ℕ → List Entry) → before ≤ now → Aligned E D before K logs
+pub aligned-under : (E : Database) (D : Deployment) (before now : ℕ) (K : Transactions) (heard : ℕ) (logs fewer : ℕ → List Entry) → before ≤ now → Aligned E D before K logs
     → ((p : ℕ) → nat_lt p (parts D) ≡ true → WellFormed (first_stage E p) (fewer p) × ((stage E p (fewer p)).point ≤ now))
     → ((p : ℕ) → nat_lt p (parts D) ≡ true → Under (fewer p) (logs p) × Prefix (K.closed p) (fewer p))
     → ((p x : ℕ) → nat_lt p (parts D) ≡ true → point_in K.agreed ≡ Some x → Prefix (K.decided p) (fewer p))
-    → Aligned E D now K fewer
-aligned-under E D before now K logs fewer l k f u d = record {
+    → Aligned E D now (record K { heard = heard }) fewer
+aligned-under E D before now K heard logs fewer l k f u d = record {
   formed = λ p part. (f p part).0;
   past = λ p part. (f p part).1;
   prefix = λ p part. (u p part).1;
@@ -131,7 +111,7 @@ aligned-under E D before now K logs fewer l k f u d = record {
 -- the same logs
 aligned-same : (E : Database) (D : Deployment) (now : ℕ) (K : Transactions) (logs same : ℕ → List Entry) → Aligned E D now K logs
     → ((p : ℕ) → nat_lt p (parts D) ≡ true → same p ≡ logs p) → Aligned E D now K same
-aligned-same E D now K logs same k is = aligned-under E D now now K logs same (omega arith) k
+aligned-same E D now K logs same k is = aligned-under E D now now K K.heard logs same (omega arith) k
     (λ p part. let e = sym (is p part) in
     (subst (WellFormed (first_stage E p)) e (k.formed p part), subst (λ z. (stage E p z).point ≤ now) e (k.past p part)))
     (λ p part. (under-prefix (same p) (logs p) (prefix-same (same p) (logs p) (is p part)), subst (Prefix (K.closed p)) (sym (is p part)) (k.prefix p part)))
@@ -302,14 +282,11 @@ module _ (E : Database) (D : Deployment) (now : ℕ) (K : Transactions) (logs : 
   again-is : (p : ℕ) → nat_lt p (parts D) ≡ true → EndsOrSame E K logs outcome again p
   again-is p part = elim (either p part) [
     | inl e ↦ inl e
-    | inr e ↦ elim (goes-on E D now K logs k p part (stage E p (logs p)).opened refl) [
-      | inl (none, is) ↦ inl (e ∙ is)
-      | inr (r, at, is) ↦ inr (r, at, e ∙ is)
-    ]
+    | inr e ↦ elim (goes-on E D now K logs k p part (stage E p (logs p)).opened refl) [ inl (none, is) ↦ inl (e ∙ is) | inr (r, at, is) ↦ inr (r, at, e ∙ is) ]
   ]
 
   again-open : (p r : ℕ) → nat_lt p (parts D) ≡ true → OpenAt E K logs p r → Aligned E D now (record K { agreed = Some outcome }) again
-  again-open p r part at = aligned-ended E D now K logs k p r part at outcome (closing E D now K logs k p r part at) again again-is
+  again-open p r part at = aligned-ended E D now K logs k p r part at outcome (closing E D now K logs k p r part at) again again-is K.due
 
   -- where nothing is open, they are the same
   again-same : ((p : ℕ) → p < parts D → (stage E p (logs p)).opened ≡ None) → (p : ℕ) → nat_lt p (parts D) ≡ true → again p ≡ logs p

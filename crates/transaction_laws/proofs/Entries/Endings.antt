@@ -1,20 +1,5 @@
 -- How the transaction that is open in one of aligned logs may end, and that they stay aligned then.
-use Rattle.std.proofs.Common.{◌≡◌, ◌<◌, ◌≤◌, Bool, true, false, List, [], ◌∷◌, ◌++◌, length, drop, ◌⊎◌, inl, inr, ◌==◌, refl, sym, subst, ap, ◌∙◌, arith}
-use Rattle.std.proofs.lemmas.Bool.{cases_lt, eqb-true}
-use Rattle.std.specs.Prelude.{ℕ, nat_lt, if◌then◌else◌, Option, Some, None, unwrap_or}
-use Rattle.std.specs.List.{AllByRecursion}
-use Rattle.volt_base.specs.declared.entry.Entry.{Entry}
-use Rattle.volt_base.specs.declared.entry.Entry.TheVariants.{Done}
-use Rattle.volt_base.specs.declared.entry.Outcome.{Outcome}
-use Rattle.volt_base.specs.declared.entry.Outcome.TheVariants.{Dropped, Kept, Aborted, Snapshot}
-use Rattle.cluster_model.specs.Engine.{Database}
-use Rattle.cluster_model.specs.Log.{last_done, outcome_if_last, first_outcome}
-use Rattle.cluster_model.specs.Words.{Deployment, parts}
-use Rattle.cluster_steps.specs.Lists.{In, Prefix}
-use Rattle.cluster_steps.proofs.Lists.{same-some, none-and-some, eqb-same, if-true, in-cases, all-at, all-append}
-use Rattle.cluster_steps.proofs.Prefixes.{prefix-grows}
-use Rattle.transaction_laws.specs.Machine.{WellFormed, EndFits, first_stage, stage, point_after}
-use Rattle.transaction_laws.specs.Transactions.{Transactions, Aligned, OfNumber, point_in, since}
+use Rattle.transaction_laws.proofs.Names.{Aborted, Aligned, AllByRecursion, Bool, Database, Deployment, Done, Dropped, EndFits, Entry, In, Kept, List, None, OfNumber, Option, Outcome, Prefix, Snapshot, Some, Transactions, WellFormed, [], all-append, all-at, ap, arith, cases_lt, drop, eqb-same, eqb-true, false, first_outcome, first_stage, if-true, if◌then◌else◌, in-cases, inl, inr, last_done, length, nat_lt, none-and-some, outcome_if_last, parts, point_after, point_in, prefix-grows, refl, same-some, since, stage, subst, sym, true, unwrap_or, ℕ, ◌++◌, ◌<◌, ◌==◌, ◌∙◌, ◌∷◌, ◌≡◌, ◌≤◌, ◌⊎◌}
 use Rattle.transaction_laws.proofs.Entries.Machine.{first-sound, stage-sound, stage-append, formed-append, formed-rest, opened-point, last-in, in-last}
 use Rattle.transaction_laws.proofs.Entries.Since.{no-round-opened, log-since, stage-since, since-more, calls-since}
 
@@ -174,10 +159,7 @@ module _ (E : Database) (D : Deployment) (now : ℕ) (K : Transactions) (logs : 
     (either : (q : ℕ) → nat_lt q (parts D) ≡ true → EndsOrSame E K logs o after q) where
   -- what holds of the log as it was, and with the end where it was open
   of-log : (P : List Entry → Type 0) (q : ℕ) → nat_lt q (parts D) ≡ true → P (logs q) → ((r : ℕ) → OpenAt E K logs q r → P (logs q ++ Done K.number o ∷ [])) → P (after q)
-  of-log P q other was ended = elim (either q other) [
-    | inl e ↦ subst P (sym e) was
-    | inr (r, now-open, e) ↦ subst P (sym e) (ended r now-open)
-  ]
+  of-log P q other was ended = elim (either q other) [ inl e ↦ subst P (sym e) was | inr (r, now-open, e) ↦ subst P (sym e) (ended r now-open) ]
 
   of-since : (P : List Entry → Type 0) (q : ℕ) → nat_lt q (parts D) ≡ true → P (since K logs q) → P (since K logs q ++ Done K.number o ∷ []) → P (since K after q)
   of-since P q other was ended = of-log (λ xs. P (drop (length (K.closed q)) xs)) q other was
@@ -203,8 +185,8 @@ module _ (E : Database) (D : Deployment) (now : ℕ) (K : Transactions) (logs : 
         | inr (inr j) ↦ absurd j
       ])
 
-  pub aligned-ended : Aligned E D now (record K { agreed = Some o }) after
-  aligned-ended = record {
+  pub aligned-ended : (due : ℕ → ℕ → List Entry) → Aligned E D now (record K { agreed = Some o; due = due }) after
+  aligned-ended due = record {
     formed = formed;
     past = past;
     prefix = λ q other. prefix q other (K.closed q) (k.prefix q other);

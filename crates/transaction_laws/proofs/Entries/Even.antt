@@ -1,16 +1,5 @@
 -- The ends that apply calls on all partitions in aligned logs.
-use Rattle.std.proofs.Common.{◌≡◌, ◌<◌, true, List, ◌⊎◌, inl, inr, refl, sym, subst, ap, ◌∙◌, arith}
-use Rattle.std.proofs.lemmas.Bool.{cases_lt}
-use Rattle.std.specs.Prelude.{ℕ, nat_lt, Option, Some, None}
-use Rattle.volt_base.specs.declared.entry.Entry.{Entry}
-use Rattle.volt_base.specs.declared.entry.Entry.TheVariants.{Done}
-use Rattle.volt_base.specs.declared.entry.Outcome.{Outcome}
-use Rattle.cluster_model.specs.Engine.{Database}
-use Rattle.cluster_model.specs.Words.{Deployment, parts}
-use Rattle.cluster_steps.specs.Lists.{In}
-use Rattle.cluster_steps.proofs.Lists.{same-some, in-left, in-right, in-cases, all-at}
-use Rattle.transaction_laws.specs.Machine.{WellFormed, first_stage, stage}
-use Rattle.transaction_laws.specs.Transactions.{Transactions, Aligned, OfNumber, point_in, since}
+use Rattle.transaction_laws.proofs.Names.{Aligned, Database, Deployment, Done, Entry, In, List, None, OfNumber, Option, Outcome, Some, Transactions, WellFormed, all-at, ap, arith, cases_lt, first_stage, in-cases, in-left, in-right, inl, inr, nat_lt, parts, point_in, refl, same-some, since, stage, subst, sym, true, ℕ, ◌<◌, ◌∙◌, ◌≡◌, ◌⊎◌}
 use Rattle.transaction_laws.proofs.Entries.Machine.{first-sound, stage-append, formed-prefix, formed-rest, open-ends, end-number, one-end}
 use Rattle.transaction_laws.proofs.Entries.Since.{calls-no-end, log-since, open-number}
 

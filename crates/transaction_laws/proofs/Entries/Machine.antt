@@ -1,17 +1,5 @@
 -- Which entries fit behind which log: what follows for logs and their prefixes.
-use Rattle.std.proofs.Common.{◌≡◌, ◌<◌, List, [], ◌∷◌, ◌++◌, ◌⊎◌, inl, inr, refl, sym, subst, ap, ◌∙◌, append-nil, arith}
-use Rattle.std.specs.Prelude.{ℕ, ◌≤◌, Option, Some, None, option_map}
-use Rattle.std.specs.List.{AllByRecursion}
-use Rattle.volt_base.specs.declared.entry.Entry.{Entry}
-use Rattle.volt_base.specs.declared.entry.Entry.TheVariants.{Sp, Frag, Done}
-use Rattle.volt_base.specs.declared.entry.Outcome.{Outcome}
-use Rattle.volt_base.specs.declared.entry.Outcome.TheVariants.{Dropped, Kept, Aborted, Snapshot}
-use Rattle.cluster_model.specs.Engine.{Database}
-use Rattle.cluster_model.specs.Log.{open_in, open_behind, last_done, done_behind, number_of}
-use Rattle.cluster_steps.specs.Lists.{In, Prefix}
-use Rattle.cluster_steps.proofs.Lists.{same-some, none-and-some}
-use Rattle.transaction_laws.specs.Machine.{Stage, first_stage, next_stage, stage_behind, stage, IsOpen, Fits, WellFormed}
-use Rattle.transaction_laws.specs.Transactions.{OnlyCalls, IsOrder, OfNumber}
+use Rattle.transaction_laws.proofs.Names.{Aborted, AllByRecursion, Database, Done, Dropped, Entry, Fits, Frag, In, IsOpen, IsOrder, Kept, List, None, OfNumber, OnlyCalls, Option, Outcome, Prefix, Snapshot, Some, Sp, Stage, WellFormed, [], ap, append-nil, arith, done_behind, first_stage, inl, inr, last_done, next_stage, none-and-some, number_of, open_behind, open_in, option_map, refl, same-some, stage, stage_behind, subst, sym, ℕ, ◌++◌, ◌<◌, ◌∙◌, ◌∷◌, ◌≡◌, ◌≤◌, ◌⊎◌}
 use Rattle.transaction_laws.proofs.Kept.Moves.{CallsAt}
 
 -- ---- stages
@@ -66,8 +54,7 @@ next-point s (Sp call point body) f = f.1
 next-point s (Frag m round body) f = omega arith
 next-point s (Done m (Kept call point)) f = f.1
 next-point s (Done m (Aborted call point)) f = f.1
-next-point s (Done m Dropped) f = omega arith
-next-point s (Done m Snapshot) f = omega arith
+next-point s (Done m o) f = omega arith
 
 pub number-rises : (s : Stage) (xs : List Entry) → Sound s → WellFormed s xs → s.number ≤ (stage_behind s xs).number
 number-rises s [] h k = omega arith
@@ -90,34 +77,28 @@ prefix-point s xs ys (more, e) k = subst (λ z. (stage_behind s xs).point ≤ z.
 pub calls-only : (n : ℕ) (es : List Entry) → CallsAt n es → OnlyCalls es
 calls-only n [] h = tt
 calls-only n (Sp call point body ∷ es) h = (tt, calls-only n es h.1)
-calls-only n (Frag m round body ∷ es) h = absurd h.0
-calls-only n (Done m o ∷ es) h = absurd h.0
+calls-only n (x ∷ es) h = absurd h.0
 
 -- They change neither what is open nor the number.
 pub calls-opened : (s : Stage) (es : List Entry) → OnlyCalls es → (stage_behind s es).opened ≡ s.opened
 calls-opened s [] h = refl
 calls-opened s (Sp call point body ∷ es) h = calls-opened (record s { point = point }) es h.1
-calls-opened s (Frag m round body ∷ es) h = absurd h.0
-calls-opened s (Done m o ∷ es) h = absurd h.0
+calls-opened s (x ∷ es) h = absurd h.0
 
 pub calls-number : (s : Stage) (es : List Entry) → OnlyCalls es → (stage_behind s es).number ≡ s.number
 calls-number s [] h = refl
 calls-number s (Sp call point body ∷ es) h = calls-number (record s { point = point }) es h.1
-calls-number s (Frag m round body ∷ es) h = absurd h.0
-calls-number s (Done m o ∷ es) h = absurd h.0
+calls-number s (x ∷ es) h = absurd h.0
 
 pub calls-formed : (s : Stage) (n : ℕ) (es : List Entry) → CallsAt n es → s.opened ≡ None → s.point ≤ n → WellFormed s es
 calls-formed s n [] h e l = tt
-calls-formed s n (Sp call point body ∷ es) h e l =
-    ((e, omega (arith, l, h.0)), calls-formed (record s { point = point }) n es h.1 e (omega (arith, h.0)))
-calls-formed s n (Frag m round body ∷ es) h e l = absurd h.0
-calls-formed s n (Done m o ∷ es) h e l = absurd h.0
+calls-formed s n (Sp call point body ∷ es) h e l = ((e, omega (arith, l, h.0)), calls-formed (record s { point = point }) n es h.1 e (omega (arith, h.0)))
+calls-formed s n (x ∷ es) h e l = absurd h.0
 
 pub calls-point : (s : Stage) (n : ℕ) (es : List Entry) → CallsAt n es → s.point ≤ n → (stage_behind s es).point ≤ n
 calls-point s n [] h l = l
 calls-point s n (Sp call point body ∷ es) h l = calls-point (record s { point = point }) n es h.1 (omega (arith, h.0))
-calls-point s n (Frag m round body ∷ es) h l = absurd h.0
-calls-point s n (Done m o ∷ es) h l = absurd h.0
+calls-point s n (x ∷ es) h l = absurd h.0
 
 -- ---- what is due behind a log, at most one round or end
 
@@ -186,8 +167,7 @@ order-point s u (Sp call point body) n o low high = absurd o
 order-point s u (Frag m round body) n o low high = low
 order-point s u (Done m (Kept call point)) n o low high = high
 order-point s u (Done m (Aborted call point)) n o low high = high
-order-point s u (Done m Dropped) n o low high = low
-order-point s u (Done m Snapshot) n o low high = low
+order-point s u (Done m z) n o low high = low
 
 one-point : (s u : Stage) (due : List Entry) (n : ℕ) → AtMostOne due → u.point ≤ n → (stage_behind s due).point ≤ n → (stage_behind u due).point ≤ n
 one-point s u due n (inl none) low high = subst (λ z. (stage_behind u z).point ≤ n) (sym none) low
@@ -357,10 +337,7 @@ Shut s m = (m ≤ s.number) × ((r : ℕ) → s.opened ≡ Some (m, r) → ⊥)
 
 shut-round : (s : Stage) (m a k : ℕ) (body : List ℕ) → Sound s → Fits s (Frag a k body) → Shut s m → Shut (next_stage s (Frag a k body)) m
 shut-round s m a k body h (inl f) c = (omega (arith, c.0, f.1), λ r e. omega (arith, c.0, f.1, ap (λ y. y.0) (same-some e)))
-shut-round s m a k body h (inr f) c = (
-  omega (arith, c.0, h a f.0 f.1),
-  λ r e. c.1 f.0 (f.1 ∙ ap (λ y. Some (y, f.0)) (ap (λ y. y.0) (same-some e))),
-)
+shut-round s m a k body h (inr f) c = (omega (arith, c.0, h a f.0 f.1), λ r e. c.1 f.0 (f.1 ∙ ap (λ y. Some (y, f.0)) (ap (λ y. y.0) (same-some e))))
 
 -- It stays so.
 shut-next : (s : Stage) (x : Entry) (m : ℕ) → Sound s → Fits s x → Shut s m → Shut (next_stage s x) m
@@ -409,18 +386,12 @@ opened-number s es n m r e h f = open-of s es n (λ a b g. absurd (none-and-some
 -- the greatest number is its, unless all are calls
 pub only-number : (s : Stage) (es : List Entry) (n : ℕ) → AllByRecursion (OfNumber n) es → OnlyCalls es ⊎ ((stage_behind s es).number ≡ n)
 only-number s [] n h = inl tt
-only-number s (Sp call point body ∷ xs) n h = elim (only-number (record s { point = point }) xs n h.1) [
-  | inl c ↦ inl (tt, c)
-  | inr e ↦ inr e
-]
+only-number s (Sp call point body ∷ xs) n h = elim (only-number (record s { point = point }) xs n h.1) [ inl c ↦ inl (tt, c) | inr e ↦ inr e ]
 only-number s (Frag a b body ∷ xs) n h = let u = next_stage s (Frag a b body) in elim (only-number u xs n h.1) [
   | inl c ↦ inr (calls-number u xs c ∙ h.0)
   | inr e ↦ inr e
 ]
-only-number s (Done a o ∷ xs) n h = let u = next_stage s (Done a o) in elim (only-number u xs n h.1) [
-  | inl c ↦ inr (calls-number u xs c ∙ h.0)
-  | inr e ↦ inr e
-]
+only-number s (Done a o ∷ xs) n h = let u = next_stage s (Done a o) in elim (only-number u xs n h.1) [ inl c ↦ inr (calls-number u xs c ∙ h.0) | inr e ↦ inr e ]
 
 -- ---- what a log says of its transactions
 
@@ -456,14 +427,8 @@ done-append last (Done m o ∷ xs) ys = done-append (Some (m, o)) xs ys
 -- it was there before, or is one of these
 done-from : (last : Option (ℕ × Outcome)) (es : List Entry) (n : ℕ) (o : Outcome) → done_behind last es ≡ Some (n, o) → (last ≡ Some (n, o)) ⊎ In (Done n o) es
 done-from last [] n o e = inl e
-done-from last (Sp call point body ∷ xs) n o e = elim (done-from last xs n o e) [
-  | inl f ↦ inl f
-  | inr i ↦ inr (inr i)
-]
-done-from last (Frag m r body ∷ xs) n o e = elim (done-from last xs n o e) [
-  | inl f ↦ inl f
-  | inr i ↦ inr (inr i)
-]
+done-from last (Sp call point body ∷ xs) n o e = elim (done-from last xs n o e) [ inl f ↦ inl f | inr i ↦ inr (inr i) ]
+done-from last (Frag m r body ∷ xs) n o e = elim (done-from last xs n o e) [ inl f ↦ inl f | inr i ↦ inr (inr i) ]
 done-from last (Done m a ∷ xs) n o e = elim (done-from (Some (m, a)) xs n o e) [
   | inl f ↦ inr (inl (ap (λ x. Done x.0 x.1) (same-some f)))
   | inr i ↦ inr (inr i)
@@ -493,8 +458,7 @@ last-in E p prefix es n o h l e = elim (done-from (last_done E p prefix) es n o 
 pub calls-done : (last : Option (ℕ × Outcome)) (es : List Entry) → OnlyCalls es → done_behind last es ≡ last
 calls-done last [] h = refl
 calls-done last (Sp call point body ∷ es) h = calls-done last es h.1
-calls-done last (Frag m round body ∷ es) h = absurd h.0
-calls-done last (Done m o ∷ es) h = absurd h.0
+calls-done last (x ∷ es) h = absurd h.0
 
 -- Where nothing is open, entries of a number that isn't above the greatest one are calls.
 only-again : (s : Stage) (es : List Entry) (n : ℕ) → WellFormed s es → AllByRecursion (OfNumber n) es → s.opened ≡ None → n ≤ s.number → OnlyCalls es

@@ -1,10 +1,5 @@
 -- The points of a log into which each entry fits never fall.
-use Rattle.std.proofs.Common.{◌≤◌, List, [], ◌∷◌}
-use Rattle.std.specs.Prelude.{ℕ}
-use Rattle.volt_base.specs.declared.entry.Entry.{Entry}
-use Rattle.volt_base.specs.declared.entry.Entry.TheVariants.{Sp, Frag, Done}
-use Rattle.volt_base.specs.declared.entry.Outcome.TheVariants.{Dropped, Kept, Aborted, Snapshot}
-use Rattle.transaction_laws.specs.Machine.{Stage, WellFormed, RiseWithin, next_stage, stage_behind, points}
+use Rattle.transaction_laws.proofs.Names.{Aborted, Done, Dropped, Entry, Frag, Kept, List, RiseWithin, Snapshot, Sp, Stage, WellFormed, [], next_stage, points, stage_behind, ℕ, ◌∷◌, ◌≤◌}
 
 -- from the last point before it on, up to the last one in it
 pub points-rise : (s : Stage) (high : ℕ) (log : List Entry) → WellFormed s log → (stage_behind s log).point ≤ high → RiseWithin s.point high (points log)

@@ -1,21 +1,5 @@
 -- Aligned logs: what stands in one behind what is over, and where it is by then.
-use Rattle.std.proofs.Common.{◌≡◌, ◌≤◌, true, List, [], ◌∷◌, ◌++◌, append-nil, ◌⊎◌, inl, inr, refl, sym, subst, ap, ◌∙◌, length, drop, arith}
-use Rattle.std.proofs.lemmas.Bool.Decides.{nat_tests}
-use Rattle.std.proofs.lemmas.List.{drop-append-le}
-use Rattle.std.specs.Prelude.{ℕ, nat_lt, Some, None}
-use Rattle.std.specs.List.{AllByRecursion}
-use Rattle.volt_base.specs.declared.entry.Entry.{Entry}
-use Rattle.volt_base.specs.declared.entry.Entry.TheVariants.{Sp, Frag, Done}
-use Rattle.volt_base.specs.declared.entry.Outcome.{Outcome}
-use Rattle.cluster_model.specs.Engine.{Database}
-use Rattle.cluster_model.specs.Words.{Deployment, parts, all_parts}
-use Rattle.cluster_steps.specs.Lists.{In}
-use Rattle.cluster_steps.proofs.Lists.{all-at, all-mono}
-use Rattle.log_laws.specs.Histories.{LogState, Leadership}
-use Rattle.log_laws.proofs.Plain.Copies.{range-in, in-range}
-use Rattle.cluster_steps.proofs.Prefixes.{prefix-length, prefix-rest}
-use Rattle.transaction_laws.specs.Machine.{Stage, WellFormed, first_stage, stage, stage_behind}
-use Rattle.transaction_laws.specs.Transactions.{Transactions, Aligned, IsCall, OnlyCalls, IsOrder, OfNumber, NoRound, DueOk, since, led_log, whole}
+use Rattle.transaction_laws.proofs.Names.{Aligned, AllByRecursion, Database, Deployment, Done, DueOk, Entry, Frag, In, IsCall, IsOrder, Leadership, List, LogState, NoRound, None, OfNumber, OnlyCalls, Outcome, Some, Sp, Stage, Transactions, WellFormed, [], all-at, all-mono, all_parts, ap, append-nil, arith, drop, drop-append-le, first_stage, in-range, inl, inr, led_log, length, nat_lt, nat_tests, parts, prefix-length, prefix-rest, range-in, refl, since, stage, stage_behind, subst, sym, true, whole, ℕ, ◌++◌, ◌∙◌, ◌∷◌, ◌≡◌, ◌≤◌, ◌⊎◌}
 use Rattle.transaction_laws.proofs.Entries.Machine.{first-sound, stage-append, formed-rest, prefix-number, calls-opened, calls-number, opened-number, only-number}
 
 -- ---- lists
@@ -32,8 +16,7 @@ in-part D p i = let l = (in-range p 0 (parts D) i).1 in grind (arith, nat_tests,
 -- They are of any number, and no rounds.
 pub call-number : (n : ℕ) (x : Entry) → IsCall x → OfNumber n x
 call-number n (Sp call point body) h = tt
-call-number n (Frag m round body) h = absurd h
-call-number n (Done m o) h = absurd h
+call-number n x h = absurd h
 
 pub call-round : (x : Entry) → IsCall x → NoRound x
 call-round (Sp call point body) h = tt
@@ -107,10 +90,7 @@ module _ (E : Database) (D : Deployment) (now : ℕ) (K : Transactions) (logs : 
   )
 
   pub number-within : (stage E p (logs p)).number ≤ K.number
-  number-within = elim number-since [
-    | inl calls ↦ subst (λ n. n ≤ K.number) (sym (calls-since calls).1) (A.below p part)
-    | inr is ↦ omega (arith, is)
-  ]
+  number-within = elim number-since [ inl calls ↦ subst (λ n. n ≤ K.number) (sym (calls-since calls).1) (A.below p part) | inr is ↦ omega (arith, is) ]
 
   -- No other one is open.
   pub open-number : (m r : ℕ) → (stage E p (logs p)).opened ≡ Some (m, r) → m ≡ K.number

@@ -1,31 +1,9 @@
 -- An initiator begins a transaction: it sends the first round of a call, or the end of a snapshot, to all partitions.
-use Rattle.std.proofs.Common.{◌≡◌, ◌<◌, ◌≤◌, Bool, drop, length, true, false, List, [], ◌∷◌, ◌++◌, append_assoc, inl, inr, refl, sym, subst, ap, ◌∙◌, true≢false, arith}
-use Rattle.std.specs.Prelude.{ℕ, Option, Some, None}
-use Rattle.std.specs.List.{AllByRecursion}
-use Rattle.volt_base.specs.declared.entry.Entry.{Entry}
-use Rattle.volt_base.specs.declared.entry.Entry.TheVariants.{Frag, Done}
-use Rattle.volt_base.specs.declared.entry.Outcome.{Outcome}
-use Rattle.volt_base.specs.declared.entry.Outcome.TheVariants.{Snapshot}
-use Rattle.volt_wire.specs.Word.{Membership}
-use Rattle.volt_wire.specs.declared.message.Msg.{Msg}
 use Rattle.volt_wire.specs.declared.message.Msg.TheVariants as msg
-use Rattle.cluster_model.specs.Engine.{Database}
-use Rattle.cluster_model.specs.Words.{term_of}
-use Rattle.cluster_model.specs.Letters.{Blocks}
-use Rattle.cluster_model.specs.AgentState.{AgentState, Job, RunCall, TakeSnapshot}
-use Rattle.cluster_model.specs.Initiator.{to_all_leaders, new_work, begins, body_of_round}
-use Rattle.cluster_steps.specs.Lists.{In, Prefix}
-use Rattle.cluster_steps.proofs.Lists.{in-cases, all-append, same-some, none-and-some}
-use Rattle.log_laws.specs.Histories.{LogState, LogsHold}
-use Rattle.cluster_steps.proofs.Prefixes.{prefix-grows}
-use Rattle.disk_laws.specs.Disks.{Firm}
-use Rattle.transaction_laws.specs.Machine.{Stage, Fits, WellFormed, first_stage, next_stage, stage}
-use Rattle.transaction_laws.specs.Transactions.{Transactions, Books, HeardPart, Aligned, Initiates, IsPart, IsOrder, OnlyCalls, OfNumber, NoRound, point_in, order_in, since, led_log, whole}
-use Rattle.transaction_laws.proofs.Kept.Moves.{InitiatorGoes, SendsDue}
-use Rattle.transaction_laws.proofs.Entries.Machine.{stage-append, formed-append}
-use Rattle.transaction_laws.proofs.Kept.Later.{books-later}
-use Rattle.transaction_laws.proofs.Initiators.Orders.{LaidOut, due_with, due-more, due-kept, orders-sent, orders-books}
-use Rattle.transaction_laws.proofs.Entries.Since.{calls-of, calls-no-round, calls-no-end, since-more, calls-since}
+use Rattle.transaction_laws.proofs.Names.{AgentState, Aligned, AllByRecursion, Blocks, Books, Bool, Database, Done, Entry, Firm, Fits, Frag, HeardPart, In, Initiates, IsOrder, IsPart, Job, List, LogState, LogsHold, Membership, Msg, NoRound, None, OfNumber, OnlyCalls, Option, Outcome, PhaseOk, Prefix, RunCall, Snapshot, Some, Stage, TakeSnapshot, Transactions, WellFormed, [], all-append, ap, append_assoc, arith, begins, body_of_round, drop, false, first_stage, in-cases, inl, inr, led_log, length, new_work, next_stage, none-and-some, order_in, point_in, prefix-grows, refl, same-some, sending, since, stage, subst, sym, term_of, to_all_leaders, true, true≢false, whole, ℕ, ◌++◌, ◌<◌, ◌∙◌, ◌∷◌, ◌≡◌, ◌≤◌}
+use Rattle.transaction_laws.proofs.Kept.{InitiatorGoes, aligned-later, part-agreed}
+use Rattle.transaction_laws.proofs.Entries.{stage-append, formed-append, calls-of, calls-no-round, calls-no-end, since-more, calls-since}
+use Rattle.transaction_laws.proofs.Initiators.Orders.{LaidOut, due_with, due-more, due-kept, sends-goes}
 
 -- ---- what is due from then on
 
@@ -64,15 +42,7 @@ round-opens m body = record {
 }
 
 snapshot-opens : (m : ℕ) → Opens m (Done m Snapshot) (Some Snapshot)
-snapshot-opens m = record {
-  order = tt;
-  of = refl;
-  fits = λ s e l. (e, l);
-  point = λ s. refl;
-  ends = λ q e. cc;
-  round = λ e. tt;
-  none = refl;
-}
+snapshot-opens m = record { order = tt; of = refl; fits = λ s e l. (e, l); point = λ s. refl; ends = λ q e. cc; round = λ e. tt; none = refl }
 
 -- ---- where all is at rest
 
@@ -140,17 +110,7 @@ module _ (E : Database) (S : LogState) (F : Firm) (K : Transactions) (now : ℕ)
   }
 
   each : (p : ℕ) → IsPart S p → HeardPart S F after p
-  each p part = let h = B.heard.each p part in record {
-    leadership = h.leadership;
-    led = h.led;
-    inside = h.inside;
-    closed = h.closed;
-    decided = λ x is. absurd (none-and-some k.none is);
-    top = h.top;
-  }
-
-  books : Books E S F after now
-  books = orders-books E S F K after now now e (λ p. true) B (omega arith) k.order refl refl (λ p part t. (rest p part).0) each aligned
+  each p part = part-agreed S F K m o K.decided after.due p (B.heard.each p part) (λ x is. absurd (none-and-some k.none is))
 
 -- ---- the turn
 
@@ -159,46 +119,35 @@ module _ (E : Database) (S : LogState) (F : Firm) (K : Transactions) (now stamp 
   abbrev m : ℕ
   m = a.initiating.next
 
-  sends : (e : Entry) (o : Option Outcome) (x : Msg Blocks) → order_in x ≡ e ∷ [] → SendsDue S n w K (begun_with S K m e o) (to_all_leaders S.words.deployment a.decided x)
-  sends e o x is = subst (λ d. SendsDue S n w K (begun_with S K m e o) (to_all_leaders S.words.deployment d x)) (sym word)
-      (orders-sent E S F K (begun_with S K m e o) now n w lay H B i heard x e is (λ p. true) refl)
+  -- It sends this to all leaders.
+  begun-goes : (b : AgentState) (e : Entry) (o : Option Outcome) → Opens m e o → (x : Msg Blocks) → order_in x ≡ e ∷ [] → b.start ≡ a.start → b.decided ≡ a.decided → b.waiting ≡ a.waiting
+      → PhaseOk E S F (begun_with S K m e o) (term_of w) b b.initiating.phase → InitiatorGoes E S F K stamp n w a (sending b (to_all_leaders S.words.deployment a.decided x))
+  begun-goes b e o k x is = sends-goes E S F K (begun_with S K m e o) now stamp n w lay H B l i heard a b x e (λ p. true) (to_all_leaders S.words.deployment a.decided x)
+      (ap (λ d. to_all_leaders S.words.deployment d x) word) is k.order refl refl (λ p part t. (rest p part).0) (each E S F K now B m next e o k rest)
+      (aligned-later E S.words.deployment now stamp l (begun_with S K m e o) (whole S (begun_with S K m e o) K.heard) (aligned E S F K now B m next e o k rest))
 
   pub begins-goes : (job : Job) → InitiatorGoes E S F K stamp n w a (begins E S.words.deployment a job)
-  begins-goes (RunCall call host from body) = let e = Frag m 1 (body_of_round (E.asks body [])) in let k = round-opens m (body_of_round (E.asks body [])) in record {
-    after = begun_with S K m e None;
-    books = books-later E S F (begun_with S K m e None) now stamp l (books E S F K now B m next e None k rest);
-    heard = omega arith;
-    start = refl;
-    decided = refl;
-    waiting = refl;
-    phase = (
-      heard,
-      omega arith,
-      (
-        new_work (RunCall call host from body) m,
-        refl,
-        (refl, λ d is. absurd (cc)),
-        (refl, λ p part. (ap (λ s. s.opened) (stage-is E S F K now B m next e None k rest p part), λ none. absurd (true≢false (sym none)))),
-      ),
-    );
-    sends = sends e None (msg.Frag m 1 (body_of_round (E.asks body []))) refl;
-  }
-  begins-goes TakeSnapshot = let e = Done m Snapshot in let k = snapshot-opens m in record {
-    after = begun_with S K m e (Some Snapshot);
-    books = books-later E S F (begun_with S K m e (Some Snapshot)) now stamp l (books E S F K now B m next e (Some Snapshot) k rest);
-    heard = omega arith;
-    start = refl;
-    decided = refl;
-    waiting = refl;
-    phase = (
-      heard,
-      omega arith,
-      (
-        record (new_work TakeSnapshot m) { decision = Some (record { outcome = Snapshot; end = None }) },
-        refl,
-        (refl, λ d is. ap (λ x. Some x.outcome) (same-some is)),
-        λ p part. let s = stage-is E S F K now B m next e (Some Snapshot) k rest p part in ((ap (λ s. s.opened) s, ap (λ s. s.number) s), λ none. absurd (true≢false (sym none))),
-      ),
-    );
-    sends = sends e (Some Snapshot) (msg.Done m Snapshot) refl;
-  }
+  begins-goes (RunCall call host from body) =
+      let first = body_of_round (E.asks body []) in
+      let e = Frag m 1 first in
+      let k = round-opens m first in
+      let work = new_work (RunCall call host from body) m in
+      begun-goes (begins E S.words.deployment a (RunCall call host from body)).state e None k (msg.Frag m 1 first) refl refl refl refl (
+        heard,
+        omega arith,
+        (work, refl, (refl, λ d is. absurd (cc)), (refl, λ p part. (ap (λ s. s.opened) (stage-is E S F K now B m next e None k rest p part), λ none. absurd (true≢false (sym none))))),
+      )
+  begins-goes TakeSnapshot =
+      let e = Done m Snapshot in
+      let k = snapshot-opens m in
+      let work = record (new_work TakeSnapshot m) { decision = Some (record { outcome = Snapshot; end = None }) } in
+      begun-goes (begins E S.words.deployment a TakeSnapshot).state e (Some Snapshot) k (msg.Done m Snapshot) refl refl refl refl (
+        heard,
+        omega arith,
+        (
+          work,
+          refl,
+          (refl, λ d is. ap (λ x. Some x.outcome) (same-some is)),
+          λ p part. let s = stage-is E S F K now B m next e (Some Snapshot) k rest p part in ((ap (λ s. s.opened) s, ap (λ s. s.number) s), λ none. absurd (true≢false (sym none))),
+        ),
+      )

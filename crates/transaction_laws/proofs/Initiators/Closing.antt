@@ -1,28 +1,9 @@
 -- An initiator that has heard of all partitions closes what is open in some, and then goes on.
-use Rattle.std.proofs.Common.{◌≡◌, ◌<◌, ◌≤◌, Bool, true, false, List, [], ◌∷◌, ◌⊎◌, inl, inr, ◌==◌, refl, sym, subst, ap, ◌∙◌, true≢false, arith}
-use Rattle.std.proofs.lemmas.Bool.{cases_Bool, eq-eqb, and_parts, and_from, false_from_ne_true}
-use Rattle.std.specs.Prelude.{ℕ, Option, Some, None, filter, ◌&&◌}
-use Rattle.volt_base.specs.declared.entry.Entry.{Entry}
-use Rattle.volt_base.specs.declared.entry.Entry.TheVariants.{Done}
-use Rattle.volt_base.specs.declared.entry.Outcome.{Outcome}
-use Rattle.volt_wire.specs.Word.{Membership}
 use Rattle.volt_wire.specs.declared.message.Msg.TheVariants as msg
-use Rattle.cluster_model.specs.Engine.{Database}
-use Rattle.cluster_model.specs.Words.{is_in, term_of}
-use Rattle.cluster_model.specs.AgentState.{AgentState, Heard}
-use Rattle.cluster_model.specs.Initiator.{open_told, own_decision, closing_outcome, open_parts, done_to, closes_open}
-use Rattle.cluster_steps.specs.Lists.{In}
-use Rattle.cluster_steps.proofs.Lists.{not-both, in-map, in-map-from, in-filter, filter-in}
-use Rattle.log_laws.specs.Histories.{LogState, LogsHold}
-use Rattle.log_laws.proofs.Plain.Copies.{is_in-in, in-is_in}
-use Rattle.disk_laws.specs.Disks.{Firm}
-use Rattle.transaction_laws.specs.Machine.{first_stage, stage}
-use Rattle.transaction_laws.specs.Transactions.{Transactions, Books, HeardPart, Aligned, Initiates, IsPart, Settled, IsEnded, JobOk, whole}
-use Rattle.transaction_laws.proofs.Kept.Moves.{InitiatorGoes, SendsDue}
-use Rattle.transaction_laws.proofs.Entries.Machine.{stage-append}
-use Rattle.transaction_laws.proofs.Kept.Later.{books-later}
-use Rattle.transaction_laws.proofs.Initiators.Orders.{LaidOut, due_with, due-kept, orders-sent, orders-books}
-use Rattle.transaction_laws.proofs.Entries.Endings.{OpenAt, Closing, EndsOrSame, closing-point, aligned-ended}
+use Rattle.transaction_laws.proofs.Names.{AgentState, Aligned, Books, Bool, Database, Done, Entry, Firm, Heard, HeardPart, In, Initiates, IsEnded, IsPart, JobOk, List, LogState, LogsHold, Membership, None, Option, Outcome, Settled, Some, Transactions, [], and_from, and_parts, ap, cases_Bool, closes_open, closing_outcome, done_to, eq-eqb, false, false_from_ne_true, filter, filter-in, first_stage, in-filter, in-is_in, in-map, in-map-from, inl, inr, is_in, is_in-in, not-both, open_parts, open_told, own_decision, refl, stage, subst, sym, term_of, true, true≢false, whole, ℕ, ◌&&◌, ◌<◌, ◌==◌, ◌∙◌, ◌∷◌, ◌≡◌, ◌≤◌, ◌⊎◌}
+use Rattle.transaction_laws.proofs.Kept.{InitiatorGoes, aligned-later, part-agreed}
+use Rattle.transaction_laws.proofs.Entries.{stage-append, OpenAt, Closing, EndsOrSame, closing-point, aligned-ended}
+use Rattle.transaction_laws.proofs.Initiators.Orders.{LaidOut, due_with, due-kept, sends-goes}
 use Rattle.transaction_laws.proofs.Initiators.Beginning.{whole-to, whole-else}
 use Rattle.transaction_laws.proofs.Initiators.Settling.{settles-goes}
 use Rattle.transaction_laws.proofs.Initiators.Told.{ToldIs, open-some, open-none, told-settled}
@@ -52,33 +33,11 @@ module _ (E : Database) (S : LogState) (F : Firm) (K : Transactions) (now : ℕ)
   ]
 
   aligned : Aligned E S.words.deployment now after (whole S after after.heard)
-  aligned = let A = aligned-ended E S.words.deployment now K log B.heard.aligned p r part at o c (whole S after after.heard) either in record {
-    formed = A.formed;
-    past = A.past;
-    prefix = A.prefix;
-    over = A.over;
-    below = A.below;
-    only = A.only;
-    fresh = A.fresh;
-    ends = A.ends;
-    snapshot = A.snapshot;
-    decided = A.decided;
-    agreed = A.agreed;
-    even = A.even;
-  }
+  aligned = aligned-ended E S.words.deployment now K log B.heard.aligned p r part at o c (whole S after after.heard) either after.due
 
   each : (q : ℕ) → IsPart S q → HeardPart S F after q
-  each q other = let h = B.heard.each q other in record {
-    leadership = h.leadership;
-    led = h.led;
-    inside = h.inside;
-    closed = h.closed;
-    decided = λ x is. h.decided x (closing-point E S.words.deployment now K log B.heard.aligned o c x is);
-    top = h.top;
-  }
-
-  closed-books : Books E S F after now
-  closed-books = orders-books E S F K after now now e to B (omega arith) tt refl refl (λ q other _. none q other) each aligned
+  each q other = let h = B.heard.each q other in
+      part-agreed S F K K.number (Some o) K.decided after.due q h (λ x is. h.decided x (closing-point E S.words.deployment now K log B.heard.aligned o c x is))
 
   -- There it ends, once it is taken.
   closed-ended : (q : ℕ) → IsPart S q → to q ≡ true → IsEnded E S after q
@@ -156,21 +115,12 @@ module _ (E : Database) (S : LogState) (F : Firm) (K : Transactions) (now stamp 
         either (inl out) = still-settled E S F K now B y.part at.0 (stand y here).part at.1 o ends to opened none p out (settled p part (shut out))
         either (inr never) = absurd (true≢false (sym never))
 
-    sends : SendsDue S n w K closed (done_to S.words.deployment a.decided (open_parts K.number told) K.number o)
-    sends = subst (λ d. SendsDue S n w K closed (done_to S.words.deployment d (open_parts K.number told) K.number o)) (sym word)
-        (orders-sent E S F K closed now n w lay H B i heard (msg.Done K.number o) (Done K.number o) refl to refl)
-
     closes-goes : InitiatorGoes E S F K stamp n w a (closes_open E S.words.deployment n a told (Some K.number))
-    closes-goes = record {
-      after = closed;
-      books = books-later E S F closed now stamp l (closed-books E S F K now B y.part at.0 (stand y here).part at.1 o ends to opened none);
-      heard = omega arith;
-      start = refl;
-      decided = refl;
-      waiting = refl;
-      phase = (heard, refl, closing-job E S F K now B told stand tells y here still a.initiating.work job closed.due, next, each-closes);
-      sends = sends;
-    }
+    closes-goes = let parts = open_parts K.number told in sends-goes E S F K closed now stamp n w lay H B l i heard a (closes_open E S.words.deployment n a told (Some K.number)).state
+        (msg.Done K.number o) (Done K.number o) to (done_to S.words.deployment a.decided parts K.number o) (ap (λ d. done_to S.words.deployment d parts K.number o) word) refl tt refl refl
+        (λ p part _. none p part) (each E S F K now B y.part at.0 (stand y here).part at.1 o ends to opened none)
+        (aligned-later E S.words.deployment now stamp l closed (whole S closed K.heard) (aligned E S F K now B y.part at.0 (stand y here).part at.1 o ends to opened none)) refl refl refl
+        (heard, refl, closing-job E S F K now B told stand tells y here still a.initiating.work job closed.due, next, each-closes)
 
   -- It closes what is open, or goes on.
   pub closes_open-goes : InitiatorGoes E S F K stamp n w a (closes_open E S.words.deployment n a told (open_told told))

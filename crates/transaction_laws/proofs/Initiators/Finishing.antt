@@ -1,29 +1,9 @@
 -- An initiator hears that the end of a transaction stands in a partition for good.
-use Rattle.std.proofs.Common.{◌≡◌, ◌<◌, ◌≤◌, Bool, true, false, List, [], ◌∷◌, ◌++◌, append_assoc, ◌⊎◌, inl, inr, ◌==◌, refl, sym, subst, ap, ◌∙◌, arith}
-use Rattle.std.proofs.lemmas.Bool.{cases_Bool, eqb-true, or_cases}
-use Rattle.std.proofs.lemmas.List.{length_push}
-use Rattle.std.proofs.lemmas.List.Prefix.{front_rest}
-use Rattle.std.specs.Prelude.{ℕ, if◌then◌else◌, Option, Some, None}
-use Rattle.volt_base.specs.declared.entry.Entry.{Entry}
-use Rattle.volt_base.specs.declared.entry.Entry.TheVariants.{Done}
-use Rattle.volt_base.specs.declared.entry.Outcome.{Outcome}
-use Rattle.volt_wire.specs.Word.{Membership}
-use Rattle.cluster_model.specs.Engine.{Database}
-use Rattle.cluster_model.specs.Words.{all_parts, is_in, term_of}
-use Rattle.cluster_model.specs.Letters.{Turn, becomes}
-use Rattle.cluster_model.specs.AgentState.{AgentState, Phase, Off, Hears, Closes, Idle, Works, Work, Decision}
-use Rattle.cluster_model.specs.Initiator.{with_phase, with_work, all_finished, ends_job, settles, on_finished}
-use Rattle.cluster_steps.proofs.Lists.{all-first, same-some, none-and-some, all-behind, list_all-at}
-use Rattle.log_laws.specs.Histories.{LogState, LogsHold}
-use Rattle.log_laws.proofs.Plain.Copies.{is_in-in}
-use Rattle.disk_laws.specs.Disks.{Firm}
-use Rattle.transaction_laws.specs.Machine.{WellFormed, first_stage, stage}
-use Rattle.transaction_laws.specs.Transactions.{Transactions, Books, Initiates, IsPart, IsCall, OnlyCalls, Everywhere, Stood, Settled, IsEnded, JobOk, AtHand, PhaseOk, led_log, whole}
-use Rattle.transaction_laws.proofs.Kept.Moves.{InitiatorGoes}
-use Rattle.transaction_laws.proofs.Entries.Machine.{first-sound, stage-append, done-last}
+use Rattle.transaction_laws.proofs.Names.{AgentState, AtHand, Books, Closes, Database, Decision, Done, Entry, Everywhere, Firm, Hears, Idle, Initiates, IsCall, IsEnded, IsPart, JobOk, List, LogState, LogsHold, Membership, None, Off, OnlyCalls, Option, Outcome, Phase, PhaseOk, Settled, Some, Stood, Transactions, Turn, WellFormed, Work, Works, [], all-behind, all-first, all_finished, all_parts, ap, append_assoc, arith, becomes, cases_Bool, ends_job, eqb-true, false, first_stage, front_rest, if◌then◌else◌, inl, inr, is_in, is_in-in, led_log, length_push, list_all-at, none-and-some, on_finished, or_cases, refl, same-some, settles, stage, subst, sym, term_of, true, whole, with_phase, with_work, ℕ, ◌++◌, ◌<◌, ◌==◌, ◌∙◌, ◌∷◌, ◌≡◌, ◌≤◌, ◌⊎◌}
+use Rattle.transaction_laws.proofs.Kept.{InitiatorGoes}
+use Rattle.transaction_laws.proofs.Entries.{first-sound, stage-append, done-last, part-in, due-calls}
 use Rattle.transaction_laws.proofs.Initiators.Orders.{LaidOut}
-use Rattle.transaction_laws.proofs.Initiators.Turns.{goes-still, goes-from}
-use Rattle.transaction_laws.proofs.Entries.Since.{part-in, due-calls}
+use Rattle.transaction_laws.proofs.Initiators.Turns.{goes-still, goes-from, goes-if}
 use Rattle.transaction_laws.proofs.Initiators.Settling.{settles-goes, ends_job-goes}
 
 -- ---- where the last transaction ends, and its end stands for good
@@ -69,10 +49,7 @@ more_done p x = record x { finished = p ∷ x.finished }
 
 -- and of that this holds too
 more-finished : (P : ℕ → Type 0) (p q : ℕ) (finished : List ℕ) → P p → (is_in q finished ≡ true → P q) → is_in q (p ∷ finished) ≡ true → P q
-more-finished P p q finished k h is = elim (or_cases (p == q) (is_in q finished) is) [
-  | inl same ↦ subst P (eqb-true p q same) k
-  | inr before ↦ h before
-]
+more-finished P p q finished k h is = elim (or_cases (p == q) (is_in q finished) is) [ inl same ↦ subst P (eqb-true p q same) k | inr before ↦ h before ]
 
 -- ---- the turn
 
@@ -93,10 +70,7 @@ module _ (E : Database) (S : LogState) (F : Firm) (K : Transactions) (now stamp 
 
   module _ (closing : ℕ) (closed finished : List ℕ) (c : PhaseOk E S F K (term_of w) a (Closes closing closed finished)) where
     now-settled : m ≡ K.number → Settled E S F K p
-    now-settled is = elim (cases_Bool (is_in p closed)) [
-      | inl is-in ↦ settled-now c.0 is ((c.4 p part).0 is-in)
-      | inr out ↦ (c.4 p part).1 (inl out)
-    ]
+    now-settled is = elim (cases_Bool (is_in p closed)) [ inl is-in ↦ settled-now c.0 is ((c.4 p part).0 is-in) | inr out ↦ (c.4 p part).1 (inl out) ]
 
     settled-if : m ≡ K.number → (q : ℕ) → IsPart S q → is_in q (p ∷ finished) ≡ true → Settled E S F K q
     settled-if is q other = more-finished (Settled E S F K) p q finished (now-settled is) (λ before. (c.4 q other).1 (inr before))
@@ -110,22 +84,16 @@ module _ (E : Database) (S : LogState) (F : Firm) (K : Transactions) (now stamp 
     abbrev closes : AgentState
     closes = with_phase a (Closes closing closed (p ∷ finished))
 
-    all-closed : m ≡ K.number → (b : Bool) → all_finished closed (p ∷ finished) ≡ b
-        → InitiatorGoes E S F K stamp n w a (if b then settles E S.words.deployment n a a.initiating.work else becomes closes)
-    all-closed is true all = settles-goes E S F K now stamp n w lay H B l i a start word c.0 c.3 (settled-all is all)
-    all-closed is false some = goes-still E S F K stamp n w a now closes B l refl refl refl (c.0, c.1, c.2, c.3, λ q other. ((c.4 q other).0, either q other))
+    all-closed : m ≡ K.number → InitiatorGoes E S F K stamp n w a (if all_finished closed (p ∷ finished) then settles E S.words.deployment n a a.initiating.work else becomes closes)
+    all-closed is = goes-if E S F K stamp n w a _ _ _ (λ all. settles-goes E S F K now stamp n w lay H B l i a start word c.0 c.3 (settled-all is all))
+        (λ some. goes-still E S F K stamp n w a now closes B l refl refl refl (c.0, c.1, c.2, c.3, λ q other. ((c.4 q other).0, either q other)))
       where
         either : (q : ℕ) → IsPart S q → (is_in q closed ≡ false) ⊎ (is_in q (p ∷ finished) ≡ true) → Settled E S F K q
         either q other (inl out) = (c.4 q other).1 (inl out)
         either q other (inr now) = settled-if is q other now
 
     closes-goes : InitiatorGoes E S F K stamp n w a (on_finished E S.words.deployment n a (Closes closing closed finished) a.initiating.work p m)
-    closes-goes = choice (closing == m) refl
-      where
-        choice : (b : Bool) → (closing == m) ≡ b → InitiatorGoes E S F K stamp n w a
-            (if b then (if all_finished closed (p ∷ finished) then settles E S.words.deployment n a a.initiating.work else becomes closes) else becomes a)
-        choice true is = all-closed (sym (eqb-true closing m is) ∙ c.1) (all_finished closed (p ∷ finished)) refl
-        choice false is = still
+    closes-goes = goes-if E S F K stamp n w a _ _ _ (λ is. all-closed (sym (eqb-true closing m is) ∙ c.1)) (λ is. still)
 
   -- ---- where it works
 
@@ -137,32 +105,21 @@ module _ (E : Database) (S : LogState) (F : Firm) (K : Transactions) (now stamp 
     done-if : m ≡ K.number → (q : ℕ) → IsPart S q → is_in q (p ∷ x.finished) ≡ true → Settled E S F K q
     done-if is q other = more-finished (Settled E S F K) p q x.finished (settled-now heard is (hand p part).0) (hand q other).1
 
-    all-done : m ≡ K.number → (b : Bool) → all_finished (all_parts S.words.deployment) (p ∷ x.finished) ≡ b
-        → InitiatorGoes E S F K stamp n w a (if b then ends_job E S.words.deployment n (with_work a done) x.job d.end else becomes (with_work a done))
-    all-done is true all =
-        goes-from E S F K stamp n w a K (with_work a done) (ends_job E S.words.deployment n (with_work a done) x.job d.end) refl (omega arith) refl refl refl
+    all-done : m ≡ K.number → InitiatorGoes E S F K stamp n w a
+        (if all_finished (all_parts S.words.deployment) (p ∷ x.finished) then ends_job E S.words.deployment n (with_work a done) x.job d.end else becomes (with_work a done))
+    all-done is = goes-if E S F K stamp n w a _ _ _
+        (λ all. goes-from E S F K stamp n w a K (with_work a done) (ends_job E S.words.deployment n (with_work a done) x.job d.end) refl (omega arith) refl refl refl
         (ends_job-goes E S F K now stamp n w lay H B l i (with_work a done) start word heard next
-        (λ q other. done-if is q other (list_all-at (λ y. is_in y (p ∷ x.finished)) (all_parts S.words.deployment) q all (part-in S.words.deployment q other))) x.job d.end)
-    all-done is false some = goes-still E S F K stamp n w a now (with_work a done) B l refl refl refl (
-      heard,
-      next,
-      (done, refl, job, subst (AtHand E S F K done) (sym is_decided) (λ q other. ((hand q other).0, done-if is q other))),
-    )
+        (λ q other. done-if is q other (list_all-at (λ y. is_in y (p ∷ x.finished)) (all_parts S.words.deployment) q all (part-in S.words.deployment q other))) x.job d.end))
+        (λ some. goes-still E S F K stamp n w a now (with_work a done) B l refl refl refl
+        (heard, next, (done, refl, job, subst (AtHand E S F K done) (sym is_decided) (λ q other. ((hand q other).0, done-if is q other)))))
 
     done-goes : InitiatorGoes E S F K stamp n w a (
         if x.transaction == m
         then (if all_finished (all_parts S.words.deployment) (p ∷ x.finished) then ends_job E S.words.deployment n (with_work a done) x.job d.end else becomes (with_work a done))
         else becomes a
         )
-    done-goes = choice (x.transaction == m) refl
-      where
-        choice : (b : Bool) → (x.transaction == m) ≡ b → InitiatorGoes E S F K stamp n w a (
-            if b
-            then (if all_finished (all_parts S.words.deployment) (p ∷ x.finished) then ends_job E S.words.deployment n (with_work a done) x.job d.end else becomes (with_work a done))
-            else becomes a
-            )
-        choice true is = all-done (sym (eqb-true x.transaction m is) ∙ job.0) (all_finished (all_parts S.words.deployment) (p ∷ x.finished)) refl
-        choice false is = still
+    done-goes = goes-if E S F K stamp n w a _ _ _ (λ is. all-done (sym (eqb-true x.transaction m is) ∙ job.0)) (λ is. still)
 
   works-goes : (x : Work) → K.heard ≡ term_of w → K.number < a.initiating.next → JobOk K (Some x) → AtHand E S F K x x.decision
       → InitiatorGoes E S F K stamp n w a (on_finished E S.words.deployment n a Works (Some x) p m)

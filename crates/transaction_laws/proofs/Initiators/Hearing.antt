@@ -1,29 +1,9 @@
 -- An initiator hears how the partitions stand in its term.
-use Rattle.std.proofs.Common.{◌≡◌, ◌+◌, ◌<◌, ◌≤◌, Bool, true, false, List, [], ◌∷◌, ◌++◌, length, inl, inr, ◌==◌, refl, sym, subst, ap, ◌∙◌, arith}
-use Rattle.std.proofs.lemmas.Bool.{cases_eq, eqb-true, eqb-false}
-use Rattle.std.specs.Prelude.{ℕ, Option, Some, None, if◌then◌else◌}
-use Rattle.std.specs.List.{AllByRecursion, list_all}
-use Rattle.volt_base.specs.declared.entry.Entry.{Entry}
-use Rattle.volt_base.specs.declared.entry.Outcome.{Outcome}
-use Rattle.volt_wire.specs.Word.{Membership}
-use Rattle.cluster_model.specs.Engine.{Database}
-use Rattle.cluster_model.specs.Words.{all_parts, term_of, term_in, initiator}
-use Rattle.cluster_model.specs.Letters.{becomes}
-use Rattle.cluster_model.specs.AgentState.{AgentState, Phase, Off, Hears, Closes, Idle, Works, Heard}
-use Rattle.cluster_model.specs.Initiator.{with_phase, greatest_told, open_told, has_told, first_number, closes_open, hears, on_mp_state}
-use Rattle.cluster_steps.specs.Lists.{In, Prefix}
-use Rattle.cluster_steps.proofs.Lists.{same-some, all-append, all-at}
-use Rattle.log_laws.specs.Histories.{LogState, LogsHold}
-use Rattle.cluster_steps.proofs.Prefixes.{prefix-trans, prefix-append}
-use Rattle.disk_laws.specs.Disks.{Firm}
-use Rattle.transaction_laws.specs.Machine.{WellFormed, first_stage, stage}
-use Rattle.transaction_laws.specs.Transactions.{Transactions, Books, HeardPart, DueOk, Aligned, Initiates, IsPart, OnlyCalls, Everywhere, StateOk, JobOk, PhaseOk, point_in, since, led_log, whole}
-use Rattle.transaction_laws.proofs.Kept.Moves.{InitiatorGoes, Under}
-use Rattle.transaction_laws.proofs.Entries.Aligned.{under-prefix, under-trans, aligned-under}
-use Rattle.transaction_laws.proofs.Kept.Later.{inert-leadership}
+use Rattle.transaction_laws.proofs.Names.{AgentState, Aligned, AllByRecursion, Books, Bool, Database, DueOk, Entry, Everywhere, Firm, Heard, HeardPart, Hears, In, Initiates, IsPart, JobOk, List, LogState, LogsHold, Membership, None, Off, OnlyCalls, Option, Outcome, Phase, PhaseOk, Prefix, Some, StateOk, Transactions, WellFormed, [], all-append, all-at, ap, arith, becomes, cases_eq, closes_open, eqb-false, eqb-true, false, first_number, first_stage, greatest_told, hears, if◌then◌else◌, initiator, inl, inr, led_log, length, on_mp_state, open_told, point_in, prefix-append, prefix-trans, refl, same-some, since, stage, subst, sym, term_in, term_of, true, whole, with_phase, ℕ, ◌++◌, ◌+◌, ◌<◌, ◌==◌, ◌∙◌, ◌∷◌, ◌≡◌, ◌≤◌}
+use Rattle.transaction_laws.proofs.Kept.{InitiatorGoes, Under, inert-leadership}
+use Rattle.transaction_laws.proofs.Entries.{under-prefix, under-trans, aligned-under, whole-led, number-since, number-within, closed-number}
 use Rattle.transaction_laws.proofs.Initiators.Orders.{LaidOut, decided-word}
-use Rattle.transaction_laws.proofs.Initiators.Turns.{goes-still, goes-from}
-use Rattle.transaction_laws.proofs.Entries.Since.{whole-led, number-since, number-within, closed-number}
+use Rattle.transaction_laws.proofs.Initiators.Turns.{goes-still, goes-from, goes-if}
 use Rattle.transaction_laws.proofs.Initiators.Resting.{OverAt, resting-books}
 use Rattle.transaction_laws.proofs.Initiators.Told.{ToldIs, heard_with, told-is, told-none, told-prefix, told-number, greatest-above, greatest-below, told-by}
 use Rattle.transaction_laws.proofs.Initiators.Closing.{closes_open-goes}
@@ -88,27 +68,11 @@ module _ (E : Database) (S : LogState) (F : Firm) (K : Transactions) (now n : �
   of-told : (P : ℕ → Type 0) → ((x : Heard) → StateOk E S F x.part t x.transaction x.is_open x.outcome → P x.part) → (p : ℕ) → IsPart S p → P p
   of-told P h p part = let (x, at, k) = tells p part in subst P at (h x k)
 
-  still-aligned : Aligned E S.words.deployment now K (whole S K t)
-  still-aligned = aligned-under E S.words.deployment now now K (whole S K K.heard) (whole S K t) (omega arith) B.heard.aligned
+  heard-aligned : Aligned E S.words.deployment now after (whole S after t)
+  heard-aligned = aligned-under E S.words.deployment now now K t (whole S K K.heard) (whole S K t) (omega arith) B.heard.aligned
       (of-told (λ p. WellFormed (first_stage E p) (whole S K t p) × ((stage E p (whole S K t p)).point ≤ now)) (fits-still E S F K now H B t up))
       (of-told (λ p. Under (whole S K t p) (whole S K K.heard p) × Prefix (K.closed p) (whole S K t p)) (under-before E S F K now H B t up))
       (λ p y part. of-told (λ p. point_in K.agreed ≡ Some y → Prefix (K.decided p) (whole S K t p)) (λ x k is. decided-still E S F K now H B t up x k y is) p part)
-
-  heard-aligned : Aligned E S.words.deployment now after (whole S after t)
-  heard-aligned = let A = still-aligned in record {
-    formed = A.formed;
-    past = A.past;
-    prefix = A.prefix;
-    over = A.over;
-    below = A.below;
-    only = A.only;
-    fresh = A.fresh;
-    ends = A.ends;
-    snapshot = A.snapshot;
-    decided = A.decided;
-    agreed = A.agreed;
-    even = A.even;
-  }
 
   -- It is heard by this agent.
   heard-by : (h a : ℕ) → initiator w ≡ Some (h, a) → (S.words.agents h).start ≡ a → t ≤ term_in (S.words.agents h).decided
@@ -116,10 +80,7 @@ module _ (E : Database) (S : LogState) (F : Firm) (K : Transactions) (now n : �
       subst (λ g. t ≤ term_in (S.words.agents g).decided) same (subst (λ o. t ≤ term_in o) (sym i.has_decided) (omega arith))
 
   heard-due : (p u : ℕ) → DueOk S after p u
-  heard-due p u = elim (B.due p u) [
-    | inl none ↦ inl none
-    | inr d ↦ inr (d.0, d.1, d.2, d.3, d.4, omega (arith, up, d.5))
-  ]
+  heard-due p u = elim (B.due p u) [ inl none ↦ inl none | inr d ↦ inr (d.0, d.1, d.2, d.3, d.4, omega (arith, up, d.5)) ]
 
   heard-books : Books E S F after now
   heard-books = record {
@@ -225,16 +186,10 @@ module _ (E : Database) (S : LogState) (F : Firm) (K : Transactions) (now stamp 
       ]
 
       next-or-new : (a.initiating.next ≡ 0 → ⊥) → K.number < a.initiating.next
-      next-or-new some = elim k.3 [
-        | inl new ↦ absurd (some new.0)
-        | inr next ↦ next
-      ]
+      next-or-new some = elim k.3 [ inl new ↦ absurd (some new.0) | inr next ↦ next ]
 
       work-of-new : a.initiating.next ≡ 0 → a.initiating.work ≡ None
-      work-of-new none = elim k.3 [
-        | inl new ↦ new.1
-        | inr next ↦ absurd (omega (arith, none, next))
-      ]
+      work-of-new none = elim k.3 [ inl new ↦ new.1 | inr next ↦ absurd (omega (arith, none, next)) ]
 
       all-told : InitiatorGoes E S F K stamp n w a (closes_open E S.words.deployment n (first_number a told) told (open_told told))
       all-told = choice (a.initiating.next == 0) refl
@@ -244,12 +199,7 @@ module _ (E : Database) (S : LogState) (F : Firm) (K : Transactions) (now stamp 
           choice false is = goes-on K.number K.agreed (with-heard E S F K now n w H B i k.0 told k.1 tells) a refl refl refl (next-or-new (eqb-false a.initiating.next 0 is)) k.2
 
     hears-all : InitiatorGoes E S F K stamp n w a (hears E S.words.deployment n a told)
-    hears-all = choice (list_all (has_told told) (all_parts S.words.deployment)) refl
-      where
-        choice : (b : Bool) → list_all (has_told told) (all_parts S.words.deployment) ≡ b → InitiatorGoes E S F K stamp n w a
-            (if b then closes_open E S.words.deployment n (first_number a told) told (open_told told) else becomes (with_phase a (Hears told)))
-        choice true all = all-told (told-by S told all)
-        choice false some = goes-still E S F K stamp n w a now (with_phase a (Hears told)) B l refl refl refl k
+    hears-all = goes-if E S F K stamp n w a _ _ _ (λ all. all-told (told-by S told all)) (λ some. goes-still E S F K stamp n w a now (with_phase a (Hears told)) B l refl refl refl k)
 
   -- The leader of partition p tells how it stands.
   module _ (k : PhaseOk E S F K (term_of w) a a.initiating.phase) (p m : ℕ) (is_open : Bool) (outcome : Option Outcome)
@@ -258,17 +208,13 @@ module _ (E : Database) (S : LogState) (F : Firm) (K : Transactions) (now stamp 
     still = goes-still E S F K stamp n w a now a B l refl refl refl k
 
     hears-goes : (told : List Heard) → PhaseOk E S F K (term_of w) a (Hears told) → InitiatorGoes E S F K stamp n w a (on_mp_state E S.words.deployment n a (Hears told) p m is_open outcome)
-    hears-goes told h = choice (has_told told p)
-      where
-        choice : (b : Bool) → InitiatorGoes E S F K stamp n w a
-            (if b then becomes a else hears E S.words.deployment n a (told ++ record { part = p; transaction = m; is_open = is_open; outcome = outcome } ∷ []))
-        choice true = still
-        choice false = hears-all (told ++ record { part = p; transaction = m; is_open = is_open; outcome = outcome } ∷ []) (
+    hears-goes told h = goes-if E S F K stamp n w a _ _ _ (λ again. still)
+        (λ new. hears-all (told ++ record { part = p; transaction = m; is_open = is_open; outcome = outcome } ∷ []) (
           h.0,
           all-append (λ x. StateOk E S F x.part (term_of w) x.transaction x.is_open x.outcome) told (record { part = p; transaction = m; is_open = is_open; outcome = outcome } ∷ []) h.1 (state h.0, tt),
           h.2,
           h.3,
-        )
+        ))
 
     -- In any phase.
     pub mp_state-goes : InitiatorGoes E S F K stamp n w a (on_mp_state E S.words.deployment n a a.initiating.phase p m is_open outcome)
@@ -277,6 +223,4 @@ module _ (E : Database) (S : LogState) (F : Firm) (K : Transactions) (now stamp 
         choice : (phase : Phase) → PhaseOk E S F K (term_of w) a phase → InitiatorGoes E S F K stamp n w a (on_mp_state E S.words.deployment n a phase p m is_open outcome)
         choice Off h = absurd h
         choice (Hears told) h = hears-goes told h
-        choice (Closes closing closed finished) h = still
-        choice Idle h = still
-        choice Works h = still
+        choice phase h = still

@@ -1,28 +1,6 @@
 -- Initiators of words: one that runs is the initiator of each later word, and so no two agents that run are initiators.
-use Rattle.std.proofs.Common.{◌≡◌, ◌+◌, ◌<◌, ◌≤◌, zero, suc, Bool, true, false, List, [], ◌∷◌, ◌++◌, map, length, refl, sym, subst, ap, ◌∙◌, ◌⊎◌, inl, inr, ◌==◌, true≢false, arith}
-use Rattle.std.proofs.lemmas.Bool.{cond_both, cases_Bool, cases_eq, or_cases, or_left, or_right, not-false, not_from_true, not_from_false, eqb-true, le-leb}
-use Rattle.std.proofs.lemmas.List.{length-map}
-use Rattle.std.proofs.lemmas.List.Elements.{filter-append}
-use Rattle.std.proofs.lemmas.Option.{none-some}
-use Rattle.std.specs.Prelude.{ℕ, ◌||◌, not, filter, nat_le, Option, Some, None}
-use Rattle.std.specs.List.{list_all}
-use Rattle.volt_wire.specs.Word.{Membership}
-use Rattle.cluster_model.specs.Engine.{Database}
-use Rattle.cluster_model.specs.Words.{is_in, term_of, term_in, not_lost, members, initiator, admits, first_of}
-use Rattle.cluster_model.specs.Agent.{may_decide}
-use Rattle.cluster_model.specs.Laws.{RiseFrom}
 use Rattle.word_laws.specs.Histories as word
-use Rattle.cluster_steps.specs.Lists.{In}
-use Rattle.word_laws.specs.Histories.{State, Within, Recorded, GoodWord, AdmittedOk, HistoryOk, names}
-use Rattle.cluster_steps.proofs.Lists.{some-here, same-some, not-both, all-from, filter-all, list_all-from, list_any-in, list_any-from, in-filter, in-map-from, all-at, eqb-same}
-use Rattle.word_laws.proofs.Algebra.{firsts, any-firsts, admits-firsts, subset-length, rise-below, within-cases, within-refl, names-admits}
-use Rattle.word_laws.proofs.Members.{first-in, in-not_lost, is_member-start, initiator-member}
-use Rattle.word_laws.proofs.Turns.{may_decide-cases}
-use Rattle.word_laws.proofs.Agreement.{hosts-of, one-first, one-start, term-same, member-is, runs-not-lost}
-use Rattle.log_laws.specs.Histories.{LogState, epoch_base, sent_term}
-use Rattle.log_laws.proofs.Agents.Decided.{decides-above}
-use Rattle.disk_laws.specs.Disks.{Firm}
-use Rattle.transaction_laws.specs.Transactions.{Transactions, HeardOk, Initiates}
+use Rattle.transaction_laws.proofs.Names.{AdmittedOk, Bool, Database, Firm, GoodWord, HeardOk, HistoryOk, In, Initiates, List, LogState, Membership, None, Option, Recorded, RiseFrom, Some, State, Transactions, Within, [], admits, admits-firsts, all-at, all-from, any-firsts, ap, arith, cases_Bool, cases_eq, cond_both, decides-above, epoch_base, eqb-same, eqb-true, false, filter, filter-all, filter-append, first-in, first_of, firsts, hosts-of, in-filter, in-map-from, in-not_lost, initiator, initiator-member, inl, inr, is_in, is_member-start, le-leb, length, length-map, list_all, list_all-from, list_any-from, list_any-in, map, may_decide, may_decide-cases, member-is, members, names, names-admits, nat_le, none-some, not, not-both, not-false, not_from_false, not_from_true, not_lost, one-first, one-start, or_cases, or_left, or_right, refl, rise-below, runs-not-lost, same-some, sent_term, some-here, subset-length, subst, suc, sym, term-same, term_in, term_of, true, true≢false, within-cases, within-refl, zero, ℕ, ◌++◌, ◌+◌, ◌<◌, ◌==◌, ◌||◌, ◌∙◌, ◌∷◌, ◌≡◌, ◌≤◌, ◌⊎◌}
 
 -- ---- the first of those that stay
 
@@ -193,10 +171,7 @@ module _ (S : State) (H : HistoryOk S) where
             ]
 
             unlost : is_in a at.lost ≡ false
-            unlost = elim (cases_Bool (is_in a at.lost)) [
-              | inl e ↦ absurd (not-both (is_in a w.lost) (x.within.lost a e) n)
-              | inr e ↦ e
-            ]
+            unlost = elim (cases_Bool (is_in a at.lost)) [ inl e ↦ absurd (not-both (is_in a w.lost) (x.within.lost a e) n) | inr e ↦ e ]
 
             shorter : length (firsts at.admitted) ≤ k
             shorter =

@@ -1,28 +1,7 @@
 -- Rounds and ends that an initiator sends to the leaders of its word.
-use Rattle.std.proofs.Common.{◌≡◌, ◌<◌, Bool, true, false, List, [], ◌∷◌, ◌++◌, append-nil, refl, sym, ap, ◌∙◌, inl, inr, ◌==◌, ◌+◌, arith}
-use Rattle.std.proofs.lemmas.Bool.{and_parts, and_from, and_left, and_right, cases_eq, eqb-true, eq-eqb, false_from_ne_true, ltb-true, lt-ltb}
-use Rattle.std.proofs.lemmas.Bool.Decides.{nat_tests}
-use Rattle.std.specs.Prelude.{ℕ, ◌*◌, ◌/◌, ◌%◌, ◌≤◌, ◌&&◌, nat_lt, nat_le, if◌then◌else◌, Option, Some, None}
-use Rattle.std.specs.List.{AllByRecursion}
-use Rattle.volt_base.specs.declared.entry.Entry.{Entry}
-use Rattle.volt_wire.specs.Word.{Membership}
-use Rattle.volt_wire.specs.declared.actor.Actor.TheVariants.{Site}
-use Rattle.volt_wire.specs.declared.message.Msg.{Msg}
 use Rattle.volt_wire.specs.declared.message.Msg.TheVariants as msg
-use Rattle.cluster_model.specs.Engine.{Database}
-use Rattle.cluster_model.specs.Words.{slots, parts, term_of, leader, start_of_slot, is_some_of}
-use Rattle.cluster_model.specs.Letters.{Blocks, Letter, letter_in}
-use Rattle.cluster_model.specs.Initiator.{to_leader, to_leaders}
-use Rattle.cluster_steps.specs.Lists.{In}
-use Rattle.word_laws.specs.Histories.{names}
-use Rattle.cluster_steps.proofs.Lists.{eqb-same, if-true, if-false, some-here}
-use Rattle.word_laws.proofs.Members.{is_some_of-is}
-use Rattle.log_laws.specs.Histories.{LogState, LogsHold, Leadership, IsSlot, part}
-use Rattle.log_laws.proofs.Kept.Terms.{some-term, some-start}
-use Rattle.disk_laws.specs.Disks.{Firm}
-use Rattle.cluster_model.specs.Words.{IsLaidOut}
-use Rattle.transaction_laws.specs.Transactions.{Transactions, Books, HeardPart, HeardOk, LeadershipFits, DueOk, Aligned, Initiates, IsPart, IsOrder, OrderOk, led_log, whole, order_in, order_of, orders}
-use Rattle.transaction_laws.proofs.Kept.Moves.{SendsDue, SentOrder}
+use Rattle.transaction_laws.proofs.Names.{AgentState, Aligned, AllByRecursion, Blocks, Books, Bool, Database, DueOk, Entry, Firm, HeardOk, HeardPart, In, Initiates, IsLaidOut, IsOrder, IsPart, IsSlot, Leadership, LeadershipFits, Letter, List, LogState, LogsHold, Membership, Msg, None, Option, OrderOk, PhaseOk, Sends, Site, Some, Transactions, [], and_from, and_left, and_parts, and_right, ap, append-nil, arith, cases_eq, eq-eqb, eqb-same, eqb-true, false, false_from_ne_true, if-false, if-true, if◌then◌else◌, inl, inr, is_some_of, is_some_of-is, leader, led_log, letter_in, lt-ltb, ltb-true, names, nat_le, nat_lt, nat_tests, order_in, order_of, orders, part, parts, refl, sending, slots, some-here, some-start, some-term, start_of_slot, subst, sym, term_of, to_leader, to_leaders, true, whole, ℕ, ◌%◌, ◌&&◌, ◌*◌, ◌++◌, ◌+◌, ◌/◌, ◌<◌, ◌==◌, ◌∙◌, ◌∷◌, ◌≡◌, ◌≤◌}
+use Rattle.transaction_laws.proofs.Kept.{SendsDue, SentOrder, InitiatorGoes}
 
 -- the layout is one that isn't refused
 abbrev pub LaidOut : LogState → Type 0
@@ -89,7 +68,7 @@ order-one start term m e is =
     ∙ if-true (start == start && term == term) (order_in m) [] (and_from (start == start) (term == term) (eqb-same start) (eqb-same term)) ∙ is
 
 -- What an initiator sends to leaders of partitions is due from then on.
-pub orders-sent : (E : Database) (S : LogState) (F : Firm) (K L : Transactions) (now n : ℕ) (w : Membership) → LaidOut S → LogsHold S → Books E S F K now → Initiates S n w → K.heard ≡ term_of w
+orders-sent : (E : Database) (S : LogState) (F : Firm) (K L : Transactions) (now n : ℕ) (w : Membership) → LaidOut S → LogsHold S → Books E S F K now → Initiates S n w → K.heard ≡ term_of w
     → (m : Msg Blocks) (e : Entry) → order_in m ≡ e ∷ [] → (to : ℕ → Bool) → L.due ≡ due_with S K to e
     → SendsDue S n w K L (to_leaders S.words.deployment w to m)
 orders-sent E S F K L now n w lay H B i heard m e is to due = record { letters = letters; due = more; others = others }
@@ -144,7 +123,7 @@ orders-sent E S F K L now n w lay H B i heard m e is to due = record { letters =
     others p t other = ap (λ f. f p t) due ∙ due-other S K to e p t (λ q. other (q ∙ heard))
 
 -- So all holds, with a history in which this is due: where nothing was, and the entry fits.
-pub orders-books : (E : Database) (S : LogState) (F : Firm) (K L : Transactions) (now stamp : ℕ) (e : Entry) (to : ℕ → Bool) → Books E S F K now → now ≤ stamp → IsOrder e
+orders-books : (E : Database) (S : LogState) (F : Firm) (K L : Transactions) (now stamp : ℕ) (e : Entry) (to : ℕ → Bool) → Books E S F K now → now ≤ stamp → IsOrder e
     → L.heard ≡ K.heard → L.due ≡ due_with S K to e
     → ((p : ℕ) → IsPart S p → to p ≡ true → K.due p K.heard ≡ [])
     → ((p : ℕ) → IsPart S p → HeardPart S F L p)
@@ -182,19 +161,11 @@ orders-books E S F K L now stamp e to B l order heard due none each aligned = re
     fits p t g part led = elim (cases_eq t L.heard) [
       | inl q ↦
           let same : whole S L L.heard p ≡ g.log ++ L.due p t = ap (λ o. led_log o ++ L.due p L.heard) (ap (S.logs.leadership p) (sym q) ∙ led) ∙ ap (λ u. g.log ++ L.due p u) (sym q) in
-          record {
-            formed = rw same at (aligned.formed p part);
-            past = rw same at (aligned.past p part);
-            unheard = λ b. absurd (omega (arith, b, q));
-          }
+          record { formed = rw same at (aligned.formed p part); past = rw same at (aligned.past p part); unheard = λ b. absurd (omega (arith, b, q)) }
       | inr d ↦
           let same : L.due p t ≡ K.due p t = due-at p t ∙ due-other S K to e p t (λ q. d (q ∙ sym heard)) in
           let k = B.leaderships p t g part led in
-          record {
-            formed = rw same k.formed;
-            past = rw same (omega (arith, l, k.past));
-            unheard = λ b. k.unheard (omega (arith, b, heard));
-          }
+          record { formed = rw same k.formed; past = rw same (omega (arith, l, k.past)); unheard = λ b. k.unheard (omega (arith, b, heard)) }
     ]
 
     ok : HeardOk E S F L stamp
@@ -205,3 +176,20 @@ orders-books E S F K L now stamp e to B l order heard due none each aligned = re
       each = each;
       aligned = aligned;
     }
+
+-- A turn in which it sends this to leaders of partitions, with a history in which it is due.
+pub sends-goes : (E : Database) (S : LogState) (F : Firm) (K L : Transactions) (now stamp n : ℕ) (w : Membership) → LaidOut S → LogsHold S → Books E S F K now → now ≤ stamp → Initiates S n w
+    → K.heard ≡ term_of w → (a b : AgentState) (m : Msg Blocks) (e : Entry) (to : ℕ → Bool) (out : Sends) → out ≡ to_leaders S.words.deployment w to m → order_in m ≡ e ∷ [] → IsOrder e
+    → L.heard ≡ K.heard → L.due ≡ due_with S K to e → ((p : ℕ) → IsPart S p → to p ≡ true → K.due p K.heard ≡ []) → ((p : ℕ) → IsPart S p → HeardPart S F L p)
+    → Aligned E S.words.deployment stamp L (whole S L L.heard)
+    → b.start ≡ a.start → b.decided ≡ a.decided → b.waiting ≡ a.waiting → PhaseOk E S F L (term_of w) b b.initiating.phase → InitiatorGoes E S F K stamp n w a (sending b out)
+sends-goes E S F K L now stamp n w lay H B low i heard a b m e to out is one order same due none each aligned start decided waiting phase = record {
+  after = L;
+  books = orders-books E S F K L now stamp e to B low order same due none each aligned;
+  heard = omega (arith, same);
+  start = start;
+  decided = decided;
+  waiting = waiting;
+  phase = phase;
+  sends = subst (λ o. SendsDue S n w K L o) (sym is) (orders-sent E S F K L now n w lay H B i heard m e one to due);
+}

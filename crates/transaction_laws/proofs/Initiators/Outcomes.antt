@@ -1,23 +1,6 @@
 -- The outcome with which an initiator closes a transaction that partitions told open.
-use Rattle.std.proofs.Common.{◌≡◌, true, false, List, inl, inr, ◌==◌, refl, sym, subst, ap, ◌∙◌}
-use Rattle.std.proofs.lemmas.Bool.{eq-eqb, false_from_ne_true}
-use Rattle.std.specs.Prelude.{ℕ, Option, Some, None, map}
-use Rattle.volt_base.specs.declared.entry.Entry.{Entry}
-use Rattle.volt_base.specs.declared.entry.Entry.TheVariants.{Done}
-use Rattle.volt_base.specs.declared.entry.Outcome.{Outcome}
-use Rattle.cluster_model.specs.Engine.{Database}
-use Rattle.cluster_model.specs.Log.{first_outcome}
-use Rattle.cluster_model.specs.AgentState.{Heard, Work, Decision}
-use Rattle.cluster_model.specs.Initiator.{last_told, own_decision, closing_outcome}
-use Rattle.cluster_steps.specs.Lists.{In}
-use Rattle.cluster_steps.proofs.Lists.{not-both, if-true, in-map, in-map-from}
-use Rattle.log_laws.specs.Histories.{LogState}
-use Rattle.disk_laws.specs.Disks.{Firm}
-use Rattle.transaction_laws.specs.Machine.{first_stage, stage, stage_behind}
-use Rattle.transaction_laws.specs.Transactions.{Transactions, Books, Aligned, IsPart, JobOk, since, whole}
-use Rattle.transaction_laws.proofs.Entries.Machine.{first-sound, stage-sound, opened-no-end}
-use Rattle.transaction_laws.proofs.Entries.Since.{stage-since, formed-since, open-number}
-use Rattle.transaction_laws.proofs.Entries.Endings.{OpenAt, Closing, end_of, end-last, known-closing, open-no-snapshot}
+use Rattle.transaction_laws.proofs.Names.{Aligned, Books, Database, Decision, Done, Entry, Firm, Heard, In, IsPart, JobOk, List, LogState, None, Option, Outcome, Some, Transactions, Work, ap, closing_outcome, eq-eqb, false, false_from_ne_true, first_outcome, first_stage, if-true, in-map, in-map-from, inl, inr, last_told, map, not-both, own_decision, refl, since, stage, stage_behind, subst, sym, true, whole, ℕ, ◌==◌, ◌∙◌, ◌≡◌}
+use Rattle.transaction_laws.proofs.Entries.{first-sound, stage-sound, opened-no-end, stage-since, formed-since, open-number, OpenAt, Closing, end_of, end-last, known-closing, open-no-snapshot}
 use Rattle.transaction_laws.proofs.Initiators.Told.{ToldIs, told-opened, told-last, last-shut}
 
 -- All partitions have told, and one that the transaction is open.

@@ -1,15 +1,6 @@
 -- Where all is over but for calls on one partition, the history may have it so: with what is over by then, and no outcome that is agreed.
-use Rattle.std.proofs.Common.{◌≡◌, ◌≤◌, List, length, drop}
-use Rattle.std.specs.Prelude.{ℕ, Some, None}
-use Rattle.volt_base.specs.declared.entry.Entry.{Entry}
-use Rattle.cluster_model.specs.Engine.{Database}
-use Rattle.log_laws.specs.Histories.{LogState, Leadership}
-use Rattle.cluster_steps.specs.Lists.{Prefix}
-use Rattle.disk_laws.specs.Disks.{Firm}
-use Rattle.transaction_laws.specs.Machine.{stage}
-use Rattle.transaction_laws.specs.Transactions.{Transactions, Books, HeardPart, Aligned, IsPart, OnlyCalls, Everywhere, since, whole}
-use Rattle.transaction_laws.proofs.Entries.Since.{calls-of, calls-no-end}
-use Rattle.transaction_laws.proofs.Entries.Even.{AppliedInAll}
+use Rattle.transaction_laws.proofs.Names.{Aligned, Books, Database, Entry, Everywhere, Firm, HeardPart, IsPart, Leadership, List, LogState, None, OnlyCalls, Prefix, Some, Transactions, drop, length, since, stage, whole, ℕ, ◌≡◌, ◌≤◌}
+use Rattle.transaction_laws.proofs.Entries.{calls-of, calls-no-end, AppliedInAll}
 
 -- Of a partition: this prefix of its log is over and firm, and calls on one partition alone stand behind it.
 pub record OverAt (E : Database) (S : LogState) (F : Firm) (K : Transactions) (p : ℕ) (prefix : List Entry) : Type 0 where
@@ -55,11 +46,5 @@ module _ (E : Database) (S : LogState) (F : Firm) (K : Transactions) (now : ℕ)
   resting-books = record {
     due = B.due;
     leaderships = λ p t g part led. let r = B.leaderships p t g part led in record { formed = r.formed; past = r.past; unheard = r.unheard };
-    heard = record {
-      word = B.heard.word;
-      is_word = B.heard.is_word;
-      by = B.heard.by;
-      each = each;
-      aligned = aligned;
-    };
+    heard = record { word = B.heard.word; is_word = B.heard.is_word; by = B.heard.by; each = each; aligned = aligned };
   }

@@ -1,34 +1,10 @@
 -- A round that was answered: the next one, or the decision.
-use Rattle.std.proofs.Common.{◌≡◌, ◌<◌, Bool, true, false, List, [], ◌∷◌, ◌++◌, append-nil, append_assoc, length-append, refl, sym, subst, ap, ◌∙◌, inl, inr, ◌==◌, ◌+◌, arith, true≢false}
-use Rattle.std.proofs.lemmas.Bool.{and_parts, eqb-true, or_cases}
-use Rattle.std.proofs.lemmas.List.Folds.{list_any-append}
-use Rattle.std.specs.Prelude.{ℕ, ◌≤◌, ◌&&◌, not, nat_lt, drop, if◌then◌else◌, length, Option, Some, None, is_none}
-use Rattle.std.specs.List.{AllByRecursion, list_all}
-use Rattle.volt_base.specs.declared.entry.Entry.{Entry}
-use Rattle.volt_base.specs.declared.entry.Entry.TheVariants.{Frag, Done}
-use Rattle.volt_base.specs.declared.entry.Outcome.{Outcome}
-use Rattle.volt_base.specs.declared.entry.Outcome.TheVariants.{Dropped, Kept, Aborted, Snapshot}
-use Rattle.volt_wire.specs.Word.{Membership}
-use Rattle.volt_wire.specs.declared.message.Msg.{Msg}
 use Rattle.volt_wire.specs.declared.message.Msg.TheVariants as msg
-use Rattle.cluster_model.specs.Engine.{Database, CoordStep, Round, Finish}
-use Rattle.cluster_model.specs.Words.{Deployment, parts, all_parts, is_in, term_of}
-use Rattle.cluster_model.specs.Letters.{Blocks, becomes, sending}
-use Rattle.cluster_model.specs.AgentState.{AgentState, Phase, Off, Hears, Closes, Idle, Works, Work, Job, RunCall, TakeSnapshot}
-use Rattle.cluster_model.specs.Initiator.{to_all_leaders, with_work, has_part, in_order, outcome_of, decides, goes_on, feeds, ends_round, gathers, on_frag_done}
-use Rattle.cluster_steps.specs.Lists.{In, Prefix}
-use Rattle.cluster_steps.proofs.Lists.{or-false, is_none-none, same-some, list_all-at, all-append, in-cases, none-and-some}
-use Rattle.log_laws.specs.Histories.{LogState, LogsHold}
-use Rattle.log_laws.proofs.Plain.Lines.{both-empty}
-use Rattle.cluster_steps.proofs.Prefixes.{prefix-refl, prefix-same, prefix-grows}
-use Rattle.disk_laws.specs.Disks.{Firm}
-use Rattle.transaction_laws.specs.Machine.{Stage, IsOpen, WellFormed, Fits, EndFits, point_after, first_stage, next_stage, stage_behind, stage}
-use Rattle.transaction_laws.specs.Transactions.{Transactions, Books, Initiates, IsPart, IsOrder, HeardPart, Stood, Fed, IsEnded, Settled, AtHand, JobOk, PhaseOk, Aligned, led_log, whole, OfNumber, since, point_in, order_in}
-use Rattle.transaction_laws.proofs.Entries.Machine.{first-sound, stage-sound, stage-append, formed-append, calls-opened, frag-last, opened-no-end}
-use Rattle.transaction_laws.proofs.Kept.Moves.{SendsDue, InitiatorGoes, with_due}
-use Rattle.transaction_laws.proofs.Initiators.Orders.{LaidOut, due_with, orders-sent, orders-books}
-use Rattle.transaction_laws.proofs.Initiators.Turns.{goes-still}
-use Rattle.transaction_laws.proofs.Entries.Since.{part-in, no-round-opened, stage-since, formed-since, since-more}
+use Rattle.transaction_laws.proofs.Names.{Aborted, AgentState, Aligned, AllByRecursion, AtHand, Blocks, Books, Bool, CoordStep, Database, Deployment, Done, EndFits, Entry, Fed, Finish, Firm, Fits, Frag, HeardPart, In, Initiates, IsEnded, IsOpen, IsPart, Job, JobOk, Kept, List, LogState, LogsHold, Membership, Msg, None, OfNumber, Option, Outcome, Phase, PhaseOk, Prefix, Round, RunCall, Sends, Settled, Snapshot, Some, Stage, Stood, TakeSnapshot, Transactions, WellFormed, Work, Works, [], all-append, all_parts, and_parts, ap, append-nil, append_assoc, arith, becomes, both-empty, decides, drop, ends_round, eqb-true, false, feeds, first_stage, gathers, goes_on, has_part, in-cases, in_order, inl, inr, is_in, is_none, is_none-none, led_log, length, length-append, list_all-at, list_any-append, nat_lt, next_stage, none-and-some, not, on_frag_done, or-false, or_cases, outcome_of, parts, point_after, point_in, prefix-grows, prefix-refl, prefix-same, refl, same-some, since, stage, stage_behind, subst, sym, term_of, to_all_leaders, true, true≢false, whole, with_work, ℕ, ◌&&◌, ◌++◌, ◌+◌, ◌<◌, ◌==◌, ◌∙◌, ◌∷◌, ◌≡◌, ◌≤◌}
+use Rattle.transaction_laws.proofs.Entries.{first-sound, stage-sound, stage-append, formed-append, calls-opened, frag-last, opened-no-end, part-in, no-round-opened, stage-since, formed-since, since-more}
+use Rattle.transaction_laws.proofs.Kept.{InitiatorGoes, with_due, part-agreed}
+use Rattle.transaction_laws.proofs.Initiators.Orders.{LaidOut, due_with, sends-goes}
+use Rattle.transaction_laws.proofs.Initiators.Turns.{goes-still, goes-if}
 use Rattle.transaction_laws.proofs.Initiators.Beginning.{whole-to}
 
 -- ---- a transaction that is open everywhere
@@ -56,14 +32,12 @@ module _ (E : Database) (D : Deployment) (now : ℕ) (K : Transactions) (logs : 
 end-fits : (s : Stage) (m x : ℕ) (o : Outcome) → point_in (Some o) ≡ Some x → IsOpen s m → s.point ≤ x → EndFits s m o
 end-fits s m x (Kept call point) e k l = (k, omega (arith, l, same-some e))
 end-fits s m x (Aborted call point) e k l = (k, omega (arith, l, same-some e))
-end-fits s m x Dropped e k l = absurd (none-and-some refl e)
-end-fits s m x Snapshot e k l = absurd (none-and-some refl e)
+end-fits s m x o e k l = absurd (none-and-some refl e)
 
 end-point : (now x : ℕ) (o : Outcome) → point_in (Some o) ≡ Some x → point_after now o ≡ x
 end-point now x (Kept call point) e = same-some e
 end-point now x (Aborted call point) e = same-some e
-end-point now x Dropped e = absurd (none-and-some refl e)
-end-point now x Snapshot e = absurd (none-and-some refl e)
+end-point now x o e = absurd (none-and-some refl e)
 
 module _ (E : Database) (D : Deployment) (now : ℕ) (K : Transactions) (logs next : ℕ → List Entry) (round : ℕ) (e : Entry) (k : Aligned E D now K logs)
     (opened : (p : ℕ) → nat_lt p (parts D) ≡ true → (stage E p (logs p)).opened ≡ Some (K.number, round))
@@ -206,21 +180,8 @@ with-part E S F K now B v p partial body part k stood = (k.0, λ q is. ((k.1 q i
 -- `a` is the agent as the turn has it by then: with its start and word.
 module _ (E : Database) (S : LogState) (F : Firm) (K : Transactions) (now stamp n : ℕ) (w : Membership) (lay : LaidOut S) (H : LogsHold S) (B : Books E S F K now) (low : now ≤ stamp)
     (i : Initiates S n w) (a : AgentState) (word : a.decided ≡ Some w) (heard : K.heard ≡ term_of w) (next : K.number < a.initiating.next) where
-  -- It sends this to all leaders, with a history in which it is due.
-  sends-goes : (L : Transactions) (b : AgentState) (m : Msg Blocks) (e : Entry) → order_in m ≡ e ∷ [] → IsOrder e → L.heard ≡ K.heard → L.due ≡ due_with S K (λ p. true) e
-      → ((p : ℕ) → IsPart S p → K.due p K.heard ≡ []) → ((p : ℕ) → IsPart S p → HeardPart S F L p) → Aligned E S.words.deployment stamp L (whole S L L.heard)
-      → b.start ≡ a.start → b.decided ≡ a.decided → b.waiting ≡ a.waiting → PhaseOk E S F L (term_of w) b b.initiating.phase
-      → InitiatorGoes E S F K stamp n w a (sending b (to_all_leaders S.words.deployment a.decided m))
-  sends-goes L b m e is order same due none each aligned start decided waiting phase = record {
-    after = L;
-    books = orders-books E S F K L now stamp e (λ p. true) B low order same due (λ p part y. none p part) each aligned;
-    heard = omega (arith, same);
-    start = start;
-    decided = decided;
-    waiting = waiting;
-    phase = phase;
-    sends = subst (λ o. SendsDue S n w K L (to_all_leaders S.words.deployment o m)) (sym word) (orders-sent E S F K L now n w lay H B i heard m e is (λ p. true) due);
-  }
+  abbrev all : Msg Blocks → Sends
+  all m = to_all_leaders S.words.deployment a.decided m
 
   -- the next round goes out
   module _ (v : Work) (k : RoundDone E S F K v) (body : List ℕ) where
@@ -249,8 +210,9 @@ module _ (E : Database) (S : LogState) (F : Firm) (K : Transactions) (now stamp 
     )
 
     round-goes : InitiatorGoes E S F K stamp n w a (goes_on S.words.deployment stamp a v (Round body))
-    round-goes = sends-goes round_sent (with_work a fresh_round) (msg.Frag v.transaction (v.round + 1) body) (Frag v.transaction (v.round + 1) body) refl tt refl refl
-        (λ p part. (k.fed p part).none) round-part round-aligned refl refl refl
+    round-goes = let m = msg.Frag v.transaction (v.round + 1) body in sends-goes E S F K round_sent now stamp n w lay H B low i heard a (with_work a fresh_round) m
+        (Frag v.transaction (v.round + 1) body) (λ p. true) (all m) (ap (λ o. to_all_leaders S.words.deployment o m) word) refl tt refl refl
+        (λ p part y. (k.fed p part).none) round-part round-aligned refl refl refl
         (heard, next, (fresh_round, refl, (k.transaction, λ d is. absurd (none-and-some k.decision is)), subst (AtHand E S F round_sent fresh_round) (sym k.decision) round-at-hand))
 
   -- or the decision
@@ -270,14 +232,8 @@ module _ (E : Database) (S : LogState) (F : Firm) (K : Transactions) (now stamp 
         (λ p part. sym (append-nil (led p)) ∙ ap (λ xs. led p ++ xs) (sym (k.fed p part).none)) end_sent.due
 
     end-part : (p : ℕ) → IsPart S p → HeardPart S F end_sent p
-    end-part p part = let h = B.heard.each p part in record {
-      leadership = h.leadership;
-      led = h.led;
-      inside = h.inside;
-      closed = h.closed;
-      decided = λ x is. (prefix-same (led p) h.leadership.log (ap led_log h.led), (k.fed p part).everywhere);
-      top = h.top;
-    }
+    end-part p part = let h = B.heard.each p part in
+        part-agreed S F K K.number (Some o) led end_sent.due p h (λ x is. (prefix-same (led p) h.leadership.log (ap led_log h.led), (k.fed p part).everywhere))
 
     end-at-hand : (p : ℕ) → IsPart S p → IsEnded E S end_sent p × (is_in p v.finished ≡ true → Settled E S F end_sent p)
     end-at-hand p part = (
@@ -290,8 +246,10 @@ module _ (E : Database) (S : LogState) (F : Firm) (K : Transactions) (now stamp 
       → InitiatorGoes E S F K stamp n w a (decides S.words.deployment stamp a v keep reply)
   decision-goes v k keep reply point =
       let o = outcome_of keep v.job stamp in
-      sends-goes (end_sent v k o point) (decides S.words.deployment stamp a v keep reply).state (msg.Done v.transaction o) (Done v.transaction o) refl tt refl refl
-      (λ p part. (k.fed p part).none) (end-part v k o point) (end-aligned v k o point) refl refl refl
+      let m = msg.Done v.transaction o in
+      sends-goes E S F K (end_sent v k o point) now stamp n w lay H B low i heard a (decides S.words.deployment stamp a v keep reply).state m
+      (Done v.transaction o) (λ p. true) (all m) (ap (λ d. to_all_leaders S.words.deployment d m) word) refl tt refl refl
+      (λ p part y. (k.fed p part).none) (end-part v k o point) (end-aligned v k o point) refl refl refl
       (heard, next, (_, refl, (k.transaction, λ d is. ap (λ x. Some x.outcome) (same-some is)), end-at-hand v k o point))
 
   -- what the call asks for next
@@ -319,19 +277,16 @@ module _ (E : Database) (S : LogState) (F : Firm) (K : Transactions) (now stamp 
 
     -- one part more
     gathers-goes : (v : Work) → v.transaction ≡ K.number → v.decision ≡ None → AtHand E S F K v None → InitiatorGoes E S F K stamp n w a (gathers E S.words.deployment stamp a v)
-    gathers-goes v m none k = choice (list_all (has_part v.gathered) (all_parts S.words.deployment)) refl
-      where
-        choice : (b : Bool) → list_all (has_part v.gathered) (all_parts S.words.deployment) ≡ b
-            → InitiatorGoes E S F K stamp n w a (if b then ends_round E S.words.deployment stamp a v v.job else becomes (with_work a v))
-        choice true all = ends_round-goes v (record {
+    gathers-goes v m none k = goes-if E S F K stamp n w a _ _ _
+        (λ all. ends_round-goes v (record {
           transaction = m;
           decision = none;
           finished = k.0;
           opened = λ p part. (k.1 p part).0;
           fed = λ p part. (k.1 p part).1 (list_all-at (has_part v.gathered) (all_parts S.words.deployment) p all (part-in S.words.deployment p part));
-        }) v.job refl
-        choice false some = goes-still E S F K stamp n w a now (with_work a v) B low refl refl refl
-            (heard, next, (v, refl, (m, λ d is. absurd (none-and-some none is)), subst (AtHand E S F K v) (sym none) k))
+        }) v.job refl)
+        (λ some. goes-still E S F K stamp n w a now (with_work a v) B low refl refl refl
+        (heard, next, (v, refl, (m, λ d is. absurd (none-and-some none is)), subst (AtHand E S F K v) (sym none) k)))
 
 -- FragDone changes nothing but the job at hand.
 pub frag_done-goes : (E : Database) (S : LogState) (F : Firm) (K : Transactions) (now stamp n : ℕ) (w : Membership) → LaidOut S → LogsHold S → Books E S F K now → now ≤ stamp → Initiates S n w
@@ -345,28 +300,23 @@ frag_done-goes E S F K now stamp n w lay H B low i a start word ok p m round par
 
     one : (v : Work) → K.heard ≡ term_of w → K.number < a.initiating.next → JobOk K (Some v) → AtHand E S F K v v.decision
         → InitiatorGoes E S F K stamp n w a (on_frag_done E S.words.deployment stamp a Works (Some v) p m round partial)
-    one v heard next job k = choice (v.transaction == m && v.round == round && is_none v.decision && not (has_part v.gathered p)) refl
+    one v heard next job k = goes-if E S F K stamp n w a _ _ _ part-came (λ q. stay)
       where
         stood-here : v.transaction ≡ m → v.round ≡ round → Stood S F p K.heard (Frag K.number v.round body)
         stood-here e f = subst (λ t. Stood S F p t (Frag K.number v.round body)) (sym heard) (rw (f, sym job.0 ∙ e) stood)
 
-        choice : (b : Bool) → (v.transaction == m && v.round == round && is_none v.decision && not (has_part v.gathered p)) ≡ b
-            → InitiatorGoes E S F K stamp n w a (if b then gathers E S.words.deployment stamp a (record v { gathered = v.gathered ++ (p, partial) ∷ [] }) else becomes a)
-        choice true q =
+        part-came : (v.transaction == m && v.round == round && is_none v.decision && not (has_part v.gathered p)) ≡ true
+            → InitiatorGoes E S F K stamp n w a (gathers E S.words.deployment stamp a (record v { gathered = v.gathered ++ (p, partial) ∷ [] }))
+        part-came q =
             let (rest, fresh) = and_parts (v.transaction == m && v.round == round && is_none v.decision) (not (has_part v.gathered p)) q in
             let (same, undecided) = and_parts (v.transaction == m && v.round == round) (is_none v.decision) rest in
             let (number, at) = and_parts (v.transaction == m) (v.round == round) same in
             gathers-goes E S F K now stamp n w lay H B low i a word heard next ok (record v { gathered = v.gathered ++ (p, partial) ∷ [] }) job.0 (is_none-none v.decision undecided)
             (with-part E S F K now B v p partial body part (subst (AtHand E S F K v) (is_none-none v.decision undecided) k) (stood-here (eqb-true v.transaction m number) (eqb-true v.round round at)))
-        choice false q = stay
 
     go : (phase : Phase) (work : Option Work) → a.initiating.phase ≡ phase → a.initiating.work ≡ work → PhaseOk E S F K (term_of w) a phase
         → InitiatorGoes E S F K stamp n w a (on_frag_done E S.words.deployment stamp a phase work p m round partial)
     go Works (Some v) is at (heard, next, (x, same, job, k)) =
         let e : x ≡ v = same-some (sym same ∙ at) in
         one v heard next (subst (λ z. JobOk K (Some z)) e job) (subst (λ z. AtHand E S F K z z.decision) e k)
-    go Works None is at k = stay
-    go Off work is at k = stay
-    go (Hears told) work is at k = stay
-    go (Closes c parts finished) work is at k = stay
-    go Idle work is at k = stay
+    go x work is at k = stay

@@ -1,31 +1,10 @@
 -- An initiator for which all partitions are settled: it ends the job at hand, and begins the next one or is idle.
-use Rattle.std.proofs.Common.{◌≡◌, ◌<◌, ◌≤◌, Bool, true, false, List, [], ◌∷◌, ◌++◌, length, drop, refl, sym, subst, ap, ◌∙◌, inl, inr, true≢false, ◌==◌, arith}
-use Rattle.std.specs.Prelude.{ℕ, ◌&&◌, nat_lt, if◌then◌else◌, Option, Some, None}
-use Rattle.volt_base.specs.declared.entry.Entry.{Entry}
-use Rattle.volt_base.specs.declared.entry.Entry.TheVariants.{Done}
-use Rattle.volt_base.specs.declared.entry.Outcome.{Outcome}
-use Rattle.volt_wire.specs.Word.{Membership}
-use Rattle.volt_wire.specs.declared.end.End.{End}
 use Rattle.volt_wire.specs.declared.message.Msg.TheVariants as msg
-use Rattle.volt_wire.specs.declared.actor.Actor.TheVariants.{Agent}
-use Rattle.cluster_model.specs.Engine.{Database}
-use Rattle.cluster_model.specs.Words.{Deployment, parts, term_of, with_admitted}
-use Rattle.cluster_model.specs.Letters.{Turn, becomes, sending, only, letter_to}
-use Rattle.cluster_model.specs.AgentState.{AgentState, Work, Job, RunCall, TakeSnapshot, Idle, Queued, Job_, Admission, is_down_in, client_of, answers_client, on_reply}
-use Rattle.cluster_model.specs.Initiator.{begins, admitting, works_queue, answers, no_work, rests, ends_job, settles}
-use Rattle.cluster_steps.specs.Lists.{In, Prefix}
-use Rattle.cluster_steps.proofs.Lists.{in-left, in-cases}
-use Rattle.log_laws.specs.Histories.{LogState, LogsHold}
-use Rattle.cluster_steps.proofs.Prefixes.{prefix-rest}
-use Rattle.disk_laws.specs.Disks.{Firm}
-use Rattle.transaction_laws.specs.Machine.{first_stage, stage}
-use Rattle.transaction_laws.specs.Transactions.{Transactions, Books, Initiates, IsPart, OnlyCalls, Settled, PhaseOk, whole}
-use Rattle.transaction_laws.proofs.Kept.Moves.{InitiatorGoes}
-use Rattle.transaction_laws.proofs.Entries.Machine.{first-sound, prefix-number, stage-append, calls-opened}
+use Rattle.transaction_laws.proofs.Names.{Admission, Agent, AgentState, Books, Bool, Database, Deployment, Done, End, Entry, Firm, Idle, In, Initiates, IsPart, Job, Job_, List, LogState, LogsHold, Membership, None, OnlyCalls, Option, Outcome, PhaseOk, Prefix, Queued, RunCall, Settled, Some, TakeSnapshot, Transactions, Turn, Work, [], admitting, answers, answers_client, ap, arith, becomes, begins, client_of, drop, ends_job, false, first_stage, if◌then◌else◌, in-cases, in-left, inl, inr, is_down_in, length, letter_to, nat_lt, no_work, on_reply, only, parts, prefix-rest, refl, rests, sending, settles, stage, subst, sym, term_of, true, true≢false, whole, with_admitted, works_queue, ℕ, ◌&&◌, ◌++◌, ◌<◌, ◌==◌, ◌∙◌, ◌∷◌, ◌≡◌, ◌≤◌}
+use Rattle.transaction_laws.proofs.Kept.{InitiatorGoes}
+use Rattle.transaction_laws.proofs.Entries.{first-sound, prefix-number, stage-append, calls-opened, whole-led, number-within, calls-no-end, AppliedInAll, even-logs}
 use Rattle.transaction_laws.proofs.Initiators.Orders.{LaidOut}
 use Rattle.transaction_laws.proofs.Initiators.Turns.{Aside, goes-still, goes-from, goes-then}
-use Rattle.transaction_laws.proofs.Entries.Since.{whole-led, number-within, calls-no-end}
-use Rattle.transaction_laws.proofs.Entries.Even.{AppliedInAll, even-logs}
 use Rattle.transaction_laws.proofs.Initiators.Beginning.{AtRest, begins-goes}
 use Rattle.transaction_laws.proofs.Initiators.Resting.{OverAt, resting, resting-books}
 

@@ -1,27 +1,8 @@
 -- What the leaders of partitions told of a new term: how each stands as it began.
-use Rattle.std.proofs.Common.{◌≡◌, ◌<◌, ◌≤◌, Bool, true, false, List, [], ◌∷◌, ◌++◌, length, drop, ◌⊎◌, inl, inr, ◌==◌, refl, sym, ap, ◌∙◌, le_trans, arith}
-use Rattle.std.proofs.lemmas.Bool.{cases_lt, eqb-true}
-use Rattle.std.specs.Prelude.{ℕ, Option, Some, None, option_map, if◌then◌else◌}
-use Rattle.std.specs.List.{list_all}
-use Rattle.volt_base.specs.declared.entry.Entry.{Entry}
-use Rattle.volt_base.specs.declared.entry.Outcome.{Outcome}
 use Rattle.volt_wire.specs.declared.message.Msg.TheVariants as msg
-use Rattle.cluster_model.specs.Engine.{Database}
-use Rattle.cluster_model.specs.Log.{open_in, last_done, number_of, greater}
-use Rattle.cluster_model.specs.Words.{all_parts}
-use Rattle.cluster_model.specs.AgentState.{Heard}
-use Rattle.cluster_model.specs.Initiator.{greatest_told, open_told, has_told, last_told}
-use Rattle.cluster_model.specs.Site.{standing}
-use Rattle.cluster_steps.specs.Lists.{In, Prefix}
-use Rattle.cluster_steps.proofs.Lists.{same-some, list_all-at, list_any-from, not-both, if-false}
-use Rattle.log_laws.specs.Histories.{LogState, LogsHold, Leadership}
-use Rattle.cluster_steps.proofs.Prefixes.{prefix-rest, prefix-grows, prefix-length}
-use Rattle.disk_laws.specs.Disks.{Firm}
-use Rattle.transaction_laws.specs.Machine.{WellFormed, first_stage, stage, stage_behind}
-use Rattle.transaction_laws.specs.Transactions.{Transactions, Books, LeadershipFits, IsPart, OnlyCalls, Everywhere, StateOk, Settled, whole}
-use Rattle.transaction_laws.proofs.Entries.Machine.{first-sound, stage-sound, stage-append, formed-prefix, calls-opened, calls-number, open_in-stage, last-number, done-append, calls-done}
-use Rattle.transaction_laws.proofs.Kept.Later.{everywhere-prefix}
-use Rattle.transaction_laws.proofs.Entries.Since.{whole-led, part-in}
+use Rattle.transaction_laws.proofs.Names.{Books, Bool, Database, Entry, Everywhere, Firm, Heard, In, IsPart, Leadership, LeadershipFits, List, LogState, LogsHold, None, OnlyCalls, Option, Outcome, Prefix, Settled, Some, StateOk, Transactions, WellFormed, [], all_parts, ap, arith, cases_lt, drop, eqb-true, false, first_stage, greater, greatest_told, has_told, if-false, if◌then◌else◌, inl, inr, last_done, last_told, le_trans, length, list_all, list_all-at, list_any-from, not-both, number_of, open_in, open_told, option_map, prefix-grows, prefix-length, prefix-rest, refl, same-some, stage, stage_behind, standing, sym, true, whole, ℕ, ◌++◌, ◌<◌, ◌==◌, ◌∙◌, ◌∷◌, ◌≡◌, ◌≤◌, ◌⊎◌}
+use Rattle.transaction_laws.proofs.Entries.{first-sound, stage-sound, stage-append, formed-prefix, calls-opened, calls-number, open_in-stage, last-number, done-append, calls-done, whole-led, part-in}
+use Rattle.transaction_laws.proofs.Kept.{everywhere-prefix}
 
 -- ---- lists of what was told
 
@@ -38,10 +19,7 @@ greatest-below (y ∷ told) n h = let a = h y (inl refl) in let b = greatest-bel
 
 greater-some : (a : ℕ) (o : Option ℕ) (b : ℕ) → greater (Some a) o ≡ Some b → (a ≡ b) ⊎ (o ≡ Some b)
 greater-some a None b e = inl (cc)
-greater-some a (Some c) b e = elim (cases_lt a c) [
-  | inl l ↦ inr (ap Some (omega (arith, l, same-some e)))
-  | inr l ↦ inl (omega (arith, l, same-some e))
-]
+greater-some a (Some c) b e = elim (cases_lt a c) [ inl l ↦ inr (ap Some (omega (arith, l, same-some e))) | inr l ↦ inl (omega (arith, l, same-some e)) ]
 
 greater-none : (a : ℕ) (o : Option ℕ) → greater (Some a) o ≡ None → ⊥
 greater-none a None e = absurd (cc)
@@ -142,10 +120,7 @@ module _ (E : Database) (S : LogState) (F : Firm) (K : Transactions) (now : ℕ)
   fits = B.leaderships x.part t k.leadership k.part k.led
 
   pub told-none : K.due x.part t ≡ []
-  told-none = elim (B.due x.part t) [
-    | inl none ↦ none
-    | inr d ↦ absurd (omega (arith, up, d.5))
-  ]
+  told-none = elim (B.due x.part t) [ inl none ↦ none | inr d ↦ absurd (omega (arith, up, d.5)) ]
 
   grown : Prefix begun k.leadership.log
   grown = (H.leaderships x.part t k.leadership k.led).grown
@@ -224,8 +199,5 @@ module _ (E : Database) (S : LogState) (F : Firm) (K : Transactions) (x : Heard)
     stands = k.grown;
     calls = k.calls;
     everywhere = k.everywhere;
-    over = elim k.state [
-      | inl o ↦ absurd (not-both x.is_open o.0 shut)
-      | inr o ↦ o.1
-    ];
+    over = elim k.state [ inl o ↦ absurd (not-both x.is_open o.0 shut) | inr o ↦ o.1 ];
   }

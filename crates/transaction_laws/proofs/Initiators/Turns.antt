@@ -1,28 +1,12 @@
 -- Turns of an initiator: in which nothing changes, behind a part that sends no round and no end, and from another history of what is due.
-use Rattle.std.proofs.Common.{◌≡◌, [], ◌++◌, append-nil, refl, sym, subst, ap, ◌∙◌, ◌≤◌, le_trans, arith}
-use Rattle.std.specs.Prelude.{ℕ}
-use Rattle.std.specs.List.{AllByRecursion}
-use Rattle.volt_wire.specs.Word.{Membership}
-use Rattle.volt_wire.specs.declared.actor.Actor.TheVariants.{Site}
-use Rattle.cluster_model.specs.Engine.{Database}
-use Rattle.cluster_model.specs.Words.{term_of}
-use Rattle.cluster_model.specs.Letters.{Sends, no_sends, Turn, becomes, ◌▸◌}
-use Rattle.cluster_model.specs.AgentState.{AgentState}
-use Rattle.log_laws.specs.Histories.{LogState, part}
-use Rattle.disk_laws.specs.Disks.{Firm}
-use Rattle.transaction_laws.specs.Transactions.{Transactions, Books, PhaseOk, orders}
-use Rattle.transaction_laws.proofs.Kept.Moves.{SentOrder, SendsDue, InitiatorGoes}
-use Rattle.transaction_laws.proofs.Kept.Later.{books-later}
+use Rattle.transaction_laws.proofs.Names.{AgentState, AllByRecursion, Books, Bool, Database, Firm, LogState, Membership, PhaseOk, Sends, Site, Transactions, Turn, [], ap, append-nil, arith, becomes, false, if◌then◌else◌, le_trans, no_sends, orders, part, refl, subst, sym, term_of, true, ℕ, ◌++◌, ◌∙◌, ◌≡◌, ◌≤◌, ◌▸◌}
+use Rattle.transaction_laws.proofs.Kept.{SentOrder, SendsDue, InitiatorGoes, books-later}
 
 -- ---- what is sent
 
 -- nothing, and nothing more is due
 sends-none : (S : LogState) (n : ℕ) (w : Membership) (K : Transactions) → SendsDue S n w K K no_sends
-sends-none S n w K = record {
-  letters = λ c s. tt;
-  due = λ c a s l x. sym (append-nil (K.due (part S c) (term_of w)));
-  others = λ p t d. refl;
-}
+sends-none S n w K = record { letters = λ c s. tt; due = λ c a s l x. sym (append-nil (K.due (part S c) (term_of w))); others = λ p t d. refl }
 
 -- the same to the sites, from a history in which the same is due
 sends-from : (S : LogState) (n : ℕ) (w : Membership) (K L M : Transactions) (out same : Sends) → L.due ≡ K.due → ((c : ℕ) → same (Site c) ≡ out (Site c))
@@ -37,6 +21,12 @@ sends-from S n w K L M out same due sites h = record {
 -- ---- turns
 
 module _ (E : Database) (S : LogState) (F : Firm) (K : Transactions) (stamp n : ℕ) (w : Membership) (a : AgentState) where
+  -- the one turn or the other
+  pub goes-if : (c : Bool) (x y : Turn AgentState) → (c ≡ true → InitiatorGoes E S F K stamp n w a x) → (c ≡ false → InitiatorGoes E S F K stamp n w a y)
+      → InitiatorGoes E S F K stamp n w a (if c then x else y)
+  goes-if true x y p q = p refl
+  goes-if false x y p q = q refl
+
   -- It goes on as it was, or with another state that is as good.
   pub goes-still : (now : ℕ) (b : AgentState) → Books E S F K now → now ≤ stamp → b.start ≡ a.start → b.decided ≡ a.decided → b.waiting ≡ a.waiting
       → PhaseOk E S F K (term_of w) b b.initiating.phase → InitiatorGoes E S F K stamp n w a (becomes b)

@@ -1,32 +1,6 @@
 -- What holds of transactions, holds after an event that only adds to logs.
-use Rattle.std.proofs.Common.{◌≡◌, ◌<◌, zero, suc, Bool, true, List, [], ◌∷◌, ◌++◌, ◌⊎◌, inl, inr, ◌+◌, length, drop, take, length-take, refl, sym, subst, ap, ◌∙◌, append-nil, append_assoc, arith}
-use Rattle.std.proofs.lemmas.Bool.{cases_Bool, cases_eq}
-use Rattle.std.proofs.lemmas.List.{drop-append-le}
-use Rattle.std.proofs.Math.Seq.{drop-append_seam}
-use Rattle.std.specs.Prelude.{ℕ, ◌≤◌, nat_lt, Option, Some, None}
-use Rattle.std.specs.List.{AllByRecursion}
-use Rattle.volt_base.specs.declared.entry.Entry.{Entry}
-use Rattle.volt_base.specs.declared.entry.Entry.TheVariants.{Frag, Done}
-use Rattle.volt_base.specs.declared.entry.Outcome.{Outcome}
-use Rattle.volt_wire.specs.Word.{Membership}
 use Rattle.volt_wire.specs.declared.message.Msg.TheVariants as msg
-use Rattle.cluster_model.specs.Engine.{Database}
-use Rattle.cluster_model.specs.Log.{open_in, last_done}
-use Rattle.cluster_model.specs.Words.{parts, part_of_slot, slots, term_in, leader, start_of_slot, initiator}
-use Rattle.cluster_model.specs.Letters.{Letter}
-use Rattle.cluster_model.specs.AgentState.{AgentState, Phase, Off, Hears, Closes, Idle, Works, Work, Decision}
-use Rattle.cluster_model.specs.Site.{standing}
-use Rattle.cluster_steps.specs.Lists.{In, Prefix}
-use Rattle.cluster_steps.proofs.Lists.{all-first, same-some, none-and-some, not-both, in-left, in-right, in-cases, all-at, all-append, all-mono, all-behind}
-use Rattle.word_laws.proofs.Agreement.{member-is}
-use Rattle.word_laws.proofs.Members.{initiator-member}
-use Rattle.log_laws.specs.Histories.{LogState, Logs, Leadership, Last, LogsHold, known, epoch_base, part}
-use Rattle.cluster_steps.proofs.Prefixes.{prefix-refl, prefix-append, prefix-trans, prefix-grows, prefix-length, prefixes-order, prefix-take, prefix-rest}
-use Rattle.log_laws.proofs.Kept.Terms.{base-least, last-below}
-use Rattle.log_laws.proofs.Runs.Agreeing.{agrees-begun}
-use Rattle.disk_laws.specs.Disks.{Firm, Top, AtLeast}
-use Rattle.transaction_laws.specs.Machine.{Stage, WellFormed, first_stage, stage_behind, stage}
-use Rattle.transaction_laws.specs.Transactions.{Transactions, Books, LeadershipFits, HeardPart, HeardOk, DueOk, Aligned, IsPart, IsCall, OnlyCalls, OfNumber, NoRound, Everywhere, Stood, StateOk, OrderOk, AnswerOk, ToSiteOk, Settled, Fed, IsEnded, AtHand, PhaseOk, led_log, whole, since}
+use Rattle.transaction_laws.proofs.Names.{AgentCalls, AgentState, Aligned, AllByRecursion, AnswerOk, AtHand, Books, Bool, Closes, Database, Decision, Deployment, Done, DueOk, Entry, Everywhere, Fed, Firm, Frag, HeardOk, HeardPart, Hears, Idle, In, IsCall, IsEnded, IsPart, Last, Leadership, LeadershipFits, Letter, List, LogState, Logs, LogsHold, Membership, NoRound, None, OfNumber, Off, OnlyCalls, Option, OrderOk, Outcome, Phase, PhaseOk, Prefix, Settled, Site, Some, Stage, StateOk, Stood, ToSiteOk, Transactions, Waiting, WaitingAnswer, WellFormed, Work, Works, [], agrees-begun, all-append, all-at, all-behind, all-first, all-mono, ap, append-nil, append_assoc, arith, base-least, cases_Bool, cases_eq, drop, drop-append-le, drop-append_seam, epoch_base, first_stage, in-cases, in-left, in-right, initiator, initiator-member, inl, inr, known, last-below, last_done, leader, led_log, length, length-take, member-is, nat_lt, none-and-some, not-both, open_in, part, part_of_slot, parts, point_in, prefix-append, prefix-grows, prefix-length, prefix-rest, prefix-take, prefix-trans, prefixes-order, refl, same-some, since, slots, stage, stage_behind, standing, start_of_slot, subst, suc, sym, take, term_in, term_of, true, whole, zero, ℕ, ◌++◌, ◌+◌, ◌<◌, ◌∙◌, ◌∷◌, ◌≡◌, ◌≤◌, ◌⊎◌}
 use Rattle.transaction_laws.proofs.Kept.Moves.{Onto, BeginsTerm, GoesOnTerm, Moved, with_due, Under, CallsAt}
 use Rattle.transaction_laws.proofs.Entries.Machine.{AtMostOne, formed-append, formed-prefix, prefix-point, calls-only, calls-formed, calls-point, due-formed, due-opened, due-number, due-point, stage-append}
 use Rattle.transaction_laws.proofs.Entries.Since.{call-number, call-round}
@@ -69,6 +43,13 @@ answer-on E S T F M o K L h p l k = elim l.body as (λ m. AnswerOk E S F K p (re
   | _ ↦ λ k. tt
 ] k
 
+-- of one that waits for an agent
+pub waiting-on : (E : Database) (S T : LogState) (F M : Firm) → Onto S T F M → (K L : Transactions) → K.heard ≤ L.heard → (x : Waiting) → WaitingAnswer E S F K x → WaitingAnswer E T M L x
+waiting-on E S T F M o K L h x k = elim x.from as (λ a. WaitingAnswer E S F K (record x { from = a }) → WaitingAnswer E T M L (record x { from = a })) [
+  | Site c ↦ λ k. subst (λ D. (nat_lt c (slots D) ≡ true) × AnswerOk E T M L (part_of_slot D c) x.letter) (sym o.deployment) (k.0, answer-on E S T F M o K L h (part S c) x.letter k.1)
+  | _ ↦ λ k. tt
+] k
+
 order-on : (S T : LogState) (F M : Firm) → Onto S T F M → (h c : ℕ) (l : Letter) → OrderOk S h c l → OrderOk T h c l
 order-on S T F M o h c l k = let r = o.onward.kept (part S c) l.term k.leadership k.led in record {
   addressed = k.addressed;
@@ -100,6 +81,12 @@ heard-part S T F M o K due p k = let h = o.onward.kept p K.heard k.leadership k.
       (prefix-trans (K.decided p) k.leadership.log h.0.log d.0 h.3, everywhere-on S T F M o p K.heard (length (K.decided p)) d.1);
   top = o.tops p K.heard 0 k.top;
 }
+
+-- with another outcome that is agreed, where what stood there when that was decided is firm
+pub part-agreed : (S : LogState) (F : Firm) (K : Transactions) (number : ℕ) (agreed : Option Outcome) (decided : ℕ → List Entry) (due : ℕ → ℕ → List Entry) (p : ℕ) (h : HeardPart S F K p)
+    → ((x : ℕ) → point_in agreed ≡ Some x → Prefix (decided p) h.leadership.log × Everywhere S F p K.heard (length (decided p)))
+    → HeardPart S F (record K { number = number; agreed = agreed; decided = decided; due = due }) p
+part-agreed S F K number agreed decided due p h d = record { leadership = h.leadership; led = h.led; inside = h.inside; closed = h.closed; decided = d; top = h.top }
 
 -- ---- terms that were led and whose initiator hasn't heard of all
 
@@ -216,10 +203,7 @@ rest-one (y ∷ ys) next x e = let none : ys ++ next ≡ [] = cc in inl (rest-no
 -- what is left of one order at most
 one-rest : (due taken next : List Entry) → due ≡ taken ++ next → AtMostOne due → AtMostOne next
 one-rest due taken next e (inl none) = inl (rest-none taken next (sym e ∙ none)).1
-one-rest due taken next e (inr (x, is, order)) = elim (rest-one taken next x (sym e ∙ is)) [
-  | inl none ↦ inl none
-  | inr one ↦ inr (x, one, order)
-]
+one-rest due taken next e (inr (x, is, order)) = elim (rest-one taken next x (sym e ∙ is)) [ inl none ↦ inl none | inr one ↦ inr (x, one, order) ]
 
 due-one : (S : LogState) (K : Transactions) (p t : ℕ) → DueOk S K p t → AtMostOne (K.due p t)
 due-one S K p t (inl none) = inl none
@@ -249,20 +233,31 @@ goes-inert E F G due next stamp p t k none =
 
 -- ---- the turn of a site
 
-module _ (E : Database) (S T : LogState) (F M : Firm) (K : Transactions) (now : ℕ) (due : ℕ → ℕ → List Entry) (H : LogsHold S) (J : LogsHold T) (o : Onto S T F M)
-    (moved : (p t : ℕ) → IsPart S p → Moved E S.logs T.logs K.due due (now + 1) p t) (B : Books E S F K now) where
+-- The initiator of a decided word that still runs has a word of a term that isn't lower, if it had one.
+abbrev pub KeepsWords : LogState → LogState → ℕ → Type 0
+KeepsWords S T heard = (w : Membership) (h a : ℕ) → In w S.words.history.decided → initiator w ≡ Some (h, a) → 0 < a → (T.words.agents h).start ≡ a
+    → ((S.words.agents h).start ≡ a → heard ≤ term_in (S.words.agents h).decided) → heard ≤ term_in (T.words.agents h).decided
+
+-- where agents stay as they are
+pub keeps-same : (S T : LogState) (heard : ℕ) → T.words.agents ≡ S.words.agents → KeepsWords S T heard
+keeps-same S T heard same w h a d first some is before = let e = ap (λ f. f h) same in rw e (before (sym (ap (λ x. x.start) e) ∙ is))
+
+-- All that words and logs hold, where a term begins.
+module _ (E : Database) (S T : LogState) (F M : Firm) (K : Transactions) (now stamp : ℕ) (due : ℕ → ℕ → List Entry) (later : now ≤ stamp) (H : LogsHold S)
+    (J : (p t : ℕ) → BeginsTerm E S.logs T.logs (K.due p t) (due p t) stamp p t → LogsHold T) (o : Onto S T F M)
+    (moved : (p t : ℕ) → IsPart S p → Moved E S.logs T.logs K.due due stamp p t) (B : Books E S F K now) where
   abbrev L : Transactions
   L = with_due K due
 
   -- what the leader of a term took
   abbrev Went : ℕ → ℕ → Type 0
-  Went p t = GoesOnTerm E S.logs T.logs (K.due p t) (due p t) (now + 1) p t
+  Went p t = GoesOnTerm E S.logs T.logs (K.due p t) (due p t) stamp p t
 
   -- a term that was led goes on
   goes-at : (p t : ℕ) (g : Leadership) → IsPart S p → S.logs.leadership p t ≡ Some g → (k : Went p t) × (k.old ≡ g)
   goes-at p t g part led = from (moved p t part)
     where
-      from : Moved E S.logs T.logs K.due due (now + 1) p t → (k : Went p t) × (k.old ≡ g)
+      from : Moved E S.logs T.logs K.due due stamp p t → (k : Went p t) × (k.old ≡ g)
       from (inl (same, next)) = (
         record {
           old = g;
@@ -308,57 +303,57 @@ module _ (E : Database) (S T : LogState) (F M : Firm) (K : Transactions) (now : 
 
   -- In a term whose initiator hasn't heard of all nothing is due.
   unheard-none : (p t : ℕ) → K.heard < t → K.due p t ≡ []
-  unheard-none p t above = elim (B.due p t) [
-    | inl none ↦ none
-    | inr (x, g, is, order, led, l) ↦ absurd (omega (arith, above, l))
-  ]
+  unheard-none p t above = elim (B.due p t) [ inl none ↦ none | inr (x, g, is, order, led, l) ↦ absurd (omega (arith, above, l)) ]
 
   -- where the term was led before
-  fits-led : (p t : ℕ) → IsPart S p → (k : Went p t) → LeadershipFits E T L (now + 1) p t k.new
+  fits-led : (p t : ℕ) → IsPart S p → (k : Went p t) → LeadershipFits E T L stamp p t k.new
   fits-led p t part k = record {
-    formed = between-formed E p (now + 1) (k.old.log ++ K.due p t) (k.new.log ++ due p t) b f.formed (omega (arith, f.past));
-    past = between-point E p (now + 1) (k.old.log ++ K.due p t) (k.new.log ++ due p t) b f.formed (omega (arith, f.past));
+    formed = between-formed E p stamp (k.old.log ++ K.due p t) (k.new.log ++ due p t) b f.formed (omega (arith, f.past, later));
+    past = between-point E p stamp (k.old.log ++ K.due p t) (k.new.log ++ due p t) b f.formed (omega (arith, f.past, later));
     unheard = λ above.
-        let q = goes-inert E S.logs T.logs (K.due p t) (due p t) (now + 1) p t k (unheard-none p t above) in
+        let q = goes-inert E S.logs T.logs (K.due p t) (due p t) stamp p t k (unheard-none p t above) in
         let n = length k.old.begun in
         let e : drop n k.new.log ≡ drop n k.old.log ++ k.runs.calls =
         ap (drop n) q.1 ∙ drop-append-le n k.old.log k.runs.calls (prefix-length k.old.begun k.old.log (H.leaderships p t k.old k.was).grown) in
         subst (λ z. OnlyCalls (drop (length z) k.new.log)) (sym k.begun) (subst OnlyCalls (sym e)
-        (all-append IsCall (drop n k.old.log) k.runs.calls (f.unheard above) (calls-only (now + 1) k.runs.calls k.runs.at)));
+        (all-append IsCall (drop n k.old.log) k.runs.calls (f.unheard above) (calls-only stamp k.runs.calls k.runs.at)));
   }
     where
       f : LeadershipFits E S K now p t k.old
       f = B.leaderships p t k.old part k.was
 
-      b : Between E p (now + 1) (k.old.log ++ K.due p t) (k.new.log ++ due p t)
-      b = between-goes E S.logs T.logs (K.due p t) (due p t) (now + 1) p t k (due-one S K p t (B.due p t))
-
-  -- the epoch is the same
-  same-base : epoch_base T ≡ epoch_base S
-  same-base = sym (J.words.history.decided_good S.words.history.first (o.decided S.words.history.first H.words.history.first_decided)).base
+      b : Between E p stamp (k.old.log ++ K.due p t) (k.new.log ++ due p t)
+      b = between-goes E S.logs T.logs (K.due p t) (due p t) stamp p t k (due-one S K p t (B.due p t))
 
   abbrev FitsThen : ℕ → ℕ → Leadership → Type 0
-  FitsThen p t g = LeadershipFits E T L (now + 1) p t g
+  FitsThen p t g = LeadershipFits E T L stamp p t g
 
   abbrev Starts : ℕ → ℕ → Type 0
-  Starts p t = BeginsTerm E S.logs T.logs (K.due p t) (due p t) (now + 1) p t
+  Starts p t = BeginsTerm E S.logs T.logs (K.due p t) (due p t) stamp p t
 
   -- what a new term begins with fits, if the logs of those before do
   begun-fits : (p t : ℕ) (k : Starts p t) → ((v : ℕ) (g : Leadership) → v < t → T.logs.leadership p v ≡ Some g → FitsThen p v g)
-      → WellFormed (first_stage E p) k.leadership.begun × ((stage E p k.leadership.begun).point ≤ now + 1)
+      → WellFormed (first_stage E p) k.leadership.begun × ((stage E p k.leadership.begun).point ≤ stamp)
   begun-fits p t k earlier = (
     formed-prefix (first_stage E p) k.leadership.begun (b.1.leadership.log ++ due p b.0) whole f.formed,
     omega (arith, prefix-point (first_stage E p) k.leadership.begun (b.1.leadership.log ++ due p b.0) whole f.formed, f.past),
   )
     where
+      N : LogsHold T
+      N = J p t k
+
+      -- the epoch is the same
+      same-base : epoch_base T ≡ epoch_base S
+      same-base = sym (N.words.history.decided_good S.words.history.first (o.decided S.words.history.first H.words.history.first_decided)).base
+
       above : epoch_base T < t
-      above = let r = J.leaderships p t k.leadership k.led in elim (cases_eq t (epoch_base T)) [
+      above = let r = N.leaderships p t k.leadership k.led in elim (cases_eq t (epoch_base T)) [
         | inl e ↦ let f = H.first p in absurd (none-and-some k.none (ap (S.logs.leadership p) (e ∙ same-base) ∙ f.1))
-        | inr d ↦ omega (arith, base-least T J r.word r.is_word.decided, r.is_word.term_is, d)
+        | inr d ↦ omega (arith, base-least T N r.word r.is_word.decided, r.is_word.term_is, d)
       ]
 
       b : (v : ℕ) × (l : Last T.logs p v t) × Prefix k.leadership.begun l.leadership.log
-      b = begun-behind T J p t k.leadership k.led above
+      b = begun-behind T N p t k.leadership k.led above
 
       f : FitsThen p b.0 b.1.leadership
       f = earlier b.0 b.1.leadership b.1.below b.1.led
@@ -367,14 +362,14 @@ module _ (E : Database) (S T : LogState) (F M : Firm) (K : Transactions) (now : 
       whole = prefix-grows k.leadership.begun b.1.leadership.log (due p b.0) b.2
 
   -- and so does its log
-  fits-begun : (p t : ℕ) (k : Starts p t) → WellFormed (first_stage E p) k.leadership.begun → (stage E p k.leadership.begun).point ≤ now + 1 → FitsThen p t k.leadership
+  fits-begun : (p t : ℕ) (k : Starts p t) → WellFormed (first_stage E p) k.leadership.begun → (stage E p k.leadership.begun).point ≤ stamp → FitsThen p t k.leadership
   fits-begun p t k formed low = record {
     formed = subst (WellFormed s) (sym log) (formed-append s k.leadership.begun k.runs.calls formed (calls k.runs.room));
-    past = subst (λ z. (stage_behind s z).point ≤ now + 1) (sym log)
-        (subst (λ z. z.point ≤ now + 1) (sym (stage-append s k.leadership.begun k.runs.calls))
-        (calls-point (stage E p k.leadership.begun) (now + 1) k.runs.calls k.runs.at low));
+    past = subst (λ z. (stage_behind s z).point ≤ stamp) (sym log)
+        (subst (λ z. z.point ≤ stamp) (sym (stage-append s k.leadership.begun k.runs.calls))
+        (calls-point (stage E p k.leadership.begun) stamp k.runs.calls k.runs.at low));
     unheard = λ above. subst OnlyCalls (sym (ap (drop (length k.leadership.begun)) k.runs.is ∙ drop-append_seam k.leadership.begun k.runs.calls))
-        (calls-only (now + 1) k.runs.calls k.runs.at);
+        (calls-only stamp k.runs.calls k.runs.at);
   }
     where
       s : Stage
@@ -385,15 +380,15 @@ module _ (E : Database) (S T : LogState) (F M : Firm) (K : Transactions) (now : 
 
       calls : (k.runs.calls ≡ []) ⊎ ((stage E p k.leadership.begun).opened ≡ None) → WellFormed (stage E p k.leadership.begun) k.runs.calls
       calls (inl none) = subst (WellFormed (stage E p k.leadership.begun)) (sym none) tt
-      calls (inr e) = calls-formed (stage E p k.leadership.begun) (now + 1) k.runs.calls k.runs.at e low
+      calls (inr e) = calls-formed (stage E p k.leadership.begun) stamp k.runs.calls k.runs.at e low
 
   -- all that are led fit
-  fits-up : (m p t : ℕ) (g : Leadership) → IsPart S p → t < m → T.logs.leadership p t ≡ Some g → LeadershipFits E T L (now + 1) p t g
+  fits-up : (m p t : ℕ) (g : Leadership) → IsPart S p → t < m → T.logs.leadership p t ≡ Some g → LeadershipFits E T L stamp p t g
   fits-up zero p t g part small led = absurd (omega (arith, small))
   fits-up (suc m) p t g part small led = from (λ v h low is. fits-up m p v h part (omega (arith, low, small)) is) (S.logs.leadership p t) refl (moved p t part)
     where
       from : ((v : ℕ) (h : Leadership) → v < t → T.logs.leadership p v ≡ Some h → FitsThen p v h) → (x : Option Leadership) → S.logs.leadership p t ≡ x
-          → Moved E S.logs T.logs K.due due (now + 1) p t → FitsThen p t g
+          → Moved E S.logs T.logs K.due due stamp p t → FitsThen p t g
       from earlier (Some h) e x = let k = (goes-at p t h part e).0 in subst (FitsThen p t) (same-some (sym k.is ∙ led)) (fits-led p t part k)
       from earlier None e (inl (same, next)) = absurd (none-and-some e (sym same ∙ led))
       from earlier None e (inr (inr k)) = absurd (none-and-some e k.was)
@@ -408,19 +403,19 @@ module _ (E : Database) (S T : LogState) (F M : Firm) (K : Transactions) (now : 
   abbrev after : ℕ → List Entry
   after = whole T L K.heard
 
-  heard-between : (p : ℕ) (part : IsPart S p) → (b : Between E p (now + 1) (before p) (after p)) × Prefix (B.heard.each p part).leadership.log b.log
+  heard-between : (p : ℕ) (part : IsPart S p) → (b : Between E p stamp (before p) (after p)) × Prefix (B.heard.each p part).leadership.log b.log
   heard-between p part =
       let h = B.heard.each p part in
       let r = goes-at p K.heard h.leadership part h.led in
       let k = r.0 in
-      let b = between-goes E S.logs T.logs (K.due p K.heard) (due p K.heard) (now + 1) p K.heard k (due-one S K p K.heard (B.due p K.heard)) in
+      let b = between-goes E S.logs T.logs (K.due p K.heard) (due p K.heard) stamp p K.heard k (due-one S K p K.heard (B.due p K.heard)) in
       let was : before p ≡ k.old.log ++ K.due p K.heard = ap (λ z. led_log z ++ K.due p K.heard) k.was in
       let is : after p ≡ k.new.log ++ due p K.heard = ap (λ z. led_log z ++ due p K.heard) k.is in (
         record { log = b.log; calls = b.calls; due = b.due; was = was ∙ b.was; is = is ∙ b.is; at = b.at; one = b.one; room = b.room },
         subst (λ z. Prefix z.log b.log) r.1 (prefix-append k.old.log k.taken),
       )
 
-  abbrev between : (p : ℕ) → IsPart S p → Between E p (now + 1) (before p) (after p)
+  abbrev between : (p : ℕ) → IsPart S p → Between E p stamp (before p) (after p)
   between p part = (heard-between p part).0
 
   -- what its log had when the last transaction was begun
@@ -435,38 +430,55 @@ module _ (E : Database) (S T : LogState) (F M : Firm) (K : Transactions) (now : 
   on-part p part = subst (λ D. nat_lt p (parts D) ≡ true) o.deployment part
 
   -- The logs stay aligned.
-  heard-aligned : Aligned E S.words.deployment (now + 1) L after
+  heard-aligned : Aligned E S.words.deployment stamp L after
   heard-aligned = record {
-    formed = λ p part. between-formed E p (now + 1) (before p) (after p) (between p part) (k.formed p part) (late p part);
-    past = λ p part. between-point E p (now + 1) (before p) (after p) (between p part) (k.formed p part) (late p part);
-    prefix = λ p part. between-prefix E p (now + 1) (before p) (after p) (between p part) (K.closed p) (closed p part);
+    formed = λ p part. between-formed E p stamp (before p) (after p) (between p part) (k.formed p part) (late p part);
+    past = λ p part. between-point E p stamp (before p) (after p) (between p part) (k.formed p part) (late p part);
+    prefix = λ p part. between-prefix E p stamp (before p) (after p) (between p part) (K.closed p) (closed p part);
     over = k.over;
     below = k.below;
-    only = λ p part. between-all E p (now + 1) (before p) (after p) (between p part) (OfNumber K.number) (call-number K.number) (length (K.closed p)) (short p part) (k.only p part);
-    fresh = λ p q part other e. between-all E q (now + 1) (before q) (after q) (between q other) IsCall (λ x c. c) (length (K.closed q)) (short q other) (k.fresh p q part other e);
-    ends = λ p part u i. k.ends p part u (between-in E p (now + 1) (before p) (after p) (between p part) (Done K.number u) (λ c. c) (length (K.closed p)) (short p part) i);
-    snapshot = λ p part e. between-all E p (now + 1) (before p) (after p) (between p part) NoRound call-round (length (K.closed p)) (short p part) (k.snapshot p part e);
+    only = λ p part. between-all E p stamp (before p) (after p) (between p part) (OfNumber K.number) (call-number K.number) (length (K.closed p)) (short p part) (k.only p part);
+    fresh = λ p q part other e. between-all E q stamp (before q) (after q) (between q other) IsCall (λ x c. c) (length (K.closed q)) (short q other) (k.fresh p q part other e);
+    ends = λ p part u i. k.ends p part u (between-in E p stamp (before p) (after p) (between p part) (Done K.number u) (λ c. c) (length (K.closed p)) (short p part) i);
+    snapshot = λ p part e. between-all E p stamp (before p) (after p) (between p part) NoRound call-round (length (K.closed p)) (short p part) (k.snapshot p part e);
     decided = λ p x part e.
         let d = k.decided p x part e in
         let prefix = prefix-trans (K.decided p) (B.heard.each p part).leadership.log (between p part).log ((B.heard.each p part).decided x e).0 (heard-between p part).1 in
-        (between-prefix E p (now + 1) (before p) (after p) (between p part) (K.decided p) prefix, d.1, d.2);
-    agreed = λ x e. omega (arith, k.agreed x e);
+        (between-prefix E p stamp (before p) (after p) (between p part) (K.decided p) prefix, d.1, d.2);
+    agreed = λ x e. omega (arith, k.agreed x e, later);
     even = k.even;
   }
     where
       k : Aligned E S.words.deployment now K before
       k = B.heard.aligned
 
-      late : (p : ℕ) → IsPart S p → (stage E p (before p)).point ≤ now + 1
-      late p part = omega (arith, k.past p part)
+      late : (p : ℕ) → IsPart S p → (stage E p (before p)).point ≤ stamp
+      late p part = omega (arith, k.past p part, later)
 
-  heard-on : T.words.agents ≡ S.words.agents → HeardOk E T M L (now + 1)
-  heard-on agents = record {
-    word = B.heard.word;
-    is_word = record { decided = o.decided B.heard.word B.heard.is_word.decided; term_is = B.heard.is_word.term_is };
-    by = subst (λ x. (h a : ℕ) → initiator B.heard.word ≡ Some (h, a) → (x h).start ≡ a → K.heard ≤ term_in (x h).decided) (sym agents) B.heard.by;
+  heard-on : KeepsWords S T K.heard → HeardOk E T M L stamp
+  heard-on by = record {
+    word = word;
+    is_word = record { decided = o.decided word B.heard.is_word.decided; term_is = B.heard.is_word.term_is };
+    by = λ h a first start. by word h a B.heard.is_word.decided first (some h a first) start (B.heard.by h a first);
     each = λ p part. heard-part S T F M o K due p (B.heard.each p (on-part p part));
-    aligned = subst (λ D. Aligned E D (now + 1) L (whole T L K.heard)) (sym o.deployment) heard-aligned;
+    aligned = subst (λ D. Aligned E D stamp L (whole T L K.heard)) (sym o.deployment) heard-aligned;
+  }
+    where
+      word : Membership
+      word = B.heard.word
+
+      -- an initiator has begun
+      some : (h a : ℕ) → initiator word ≡ Some (h, a) → 0 < a
+      some h a first =
+          let good = H.words.history.decided_good word B.heard.is_word.decided in
+          (good.named_begun a (member-is S.words H.words.history word h a good (initiator-member word h a first)).0).some
+
+  -- All that the history says holds then.
+  pub books-moved : KeepsWords S T K.heard → ((p t : ℕ) → (IsPart S p → ⊥) → due p t ≡ K.due p t) → Books E T M L stamp
+  books-moved by others = record {
+    due = due-at others;
+    leaderships = λ p t g part led. fits-up (t + 1) p t g (on-part p part) (omega arith) led;
+    heard = heard-on by;
   }
 
   -- ---- initiators
@@ -480,7 +492,7 @@ module _ (E : Database) (S T : LogState) (F M : Firm) (K : Transactions) (now : 
     prefix = u.prefix;
     stands = prefix-trans u.prefix k.old.log k.new.log stands (k.runs.calls, q.1);
     calls = subst OnlyCalls (sym behind) (all-append IsCall (drop n k.old.log) k.runs.calls
-        (subst (λ z. OnlyCalls (drop n z.log)) (sym r.1) u.calls) (calls-only (now + 1) k.runs.calls k.runs.at));
+        (subst (λ z. OnlyCalls (drop n z.log)) (sym r.1) u.calls) (calls-only stamp k.runs.calls k.runs.at));
     everywhere = everywhere-on S T F M o p K.heard n u.everywhere;
     over = u.over;
   }
@@ -495,7 +507,7 @@ module _ (E : Database) (S T : LogState) (F M : Firm) (K : Transactions) (now : 
       n = length u.prefix
 
       q : (due p K.heard ≡ []) × (k.new.log ≡ k.old.log ++ k.runs.calls) × (k.old.log ++ k.taken ≡ k.old.log)
-      q = goes-inert E S.logs T.logs (K.due p K.heard) (due p K.heard) (now + 1) p K.heard k u.none
+      q = goes-inert E S.logs T.logs (K.due p K.heard) (due p K.heard) stamp p K.heard k u.none
 
       stands : Prefix u.prefix k.old.log
       stands = subst (λ z. Prefix u.prefix z.log) (sym r.1) u.stands
@@ -505,7 +517,7 @@ module _ (E : Database) (S T : LogState) (F M : Firm) (K : Transactions) (now : 
 
   -- Where the last transaction ended, it has ended.
   ended-on : (p : ℕ) → IsPart S p → IsEnded E S K p → IsEnded E T L p
-  ended-on p part e = (between-opened E p (now + 1) (before p) (after p) (between p part) ∙ e.0, between-number E p (now + 1) (before p) (after p) (between p part) ∙ e.1)
+  ended-on p part e = (between-opened E p stamp (before p) (after p) (between p part) ∙ e.0, between-number E p stamp (before p) (after p) (between p part) ∙ e.1)
 
   -- While a transaction is open and nothing is due, the log stays as it is.
   fed-on : (p : ℕ) (x : ℕ × ℕ) → IsPart S p → (stage E p (before p)).opened ≡ Some x → Fed S F K p → Fed T M L p
@@ -518,16 +530,13 @@ module _ (E : Database) (S T : LogState) (F M : Firm) (K : Transactions) (now : 
       k = (goes-at p K.heard (B.heard.each p part).leadership part (B.heard.each p part).led).0
 
       q : (due p K.heard ≡ []) × (k.new.log ≡ k.old.log ++ k.runs.calls) × (k.old.log ++ k.taken ≡ k.old.log)
-      q = goes-inert E S.logs T.logs (K.due p K.heard) (due p K.heard) (now + 1) p K.heard k f.none
+      q = goes-inert E S.logs T.logs (K.due p K.heard) (due p K.heard) stamp p K.heard k f.none
 
       log : before p ≡ k.old.log
       log = ap (λ z. led_log (S.logs.leadership p K.heard) ++ z) f.none ∙ append-nil (led_log (S.logs.leadership p K.heard)) ∙ ap led_log k.was
 
       no_calls : k.runs.calls ≡ []
-      no_calls = elim k.runs.room [
-        | inl none ↦ none
-        | inr none ↦ absurd (none-and-some none (ap (λ z. (stage E p z).opened) (q.2 ∙ sym log) ∙ e))
-      ]
+      no_calls = elim k.runs.room [ inl none ↦ none | inr none ↦ absurd (none-and-some none (ap (λ z. (stage E p z).opened) (q.2 ∙ sym log) ∙ e)) ]
 
       same : led_log (T.logs.leadership p K.heard) ≡ led_log (S.logs.leadership p K.heard)
       same = ap led_log k.is ∙ q.1 ∙ ap (λ z. k.old.log ++ z) no_calls ∙ append-nil k.old.log ∙ ap led_log (sym k.was)
@@ -537,7 +546,7 @@ module _ (E : Database) (S T : LogState) (F M : Firm) (K : Transactions) (now : 
   at-hand-on w None h = (
     h.0,
     λ p part. let is = on-part p part in let r = h.1 p is in
-        (between-opened E p (now + 1) (before p) (after p) (between p is) ∙ r.0, λ has. fed-on p (K.number, w.round) is r.0 (r.1 has)),
+        (between-opened E p stamp (before p) (after p) (between p is) ∙ r.0, λ has. fed-on p (K.number, w.round) is r.0 (r.1 has)),
   )
   at-hand-on w (Some d) h = λ p part. let is = on-part p part in let r = h p is in (ended-on p is r.0, λ done. settled-on p is (r.1 done))
 
@@ -546,127 +555,52 @@ module _ (E : Database) (S T : LogState) (F M : Firm) (K : Transactions) (now : 
   idle-on p part h =
       let t = taken-at p K.heard part in (
         (rest-none t.0 (due p K.heard) (sym t.1 ∙ h.0)).1,
-        between-all E p (now + 1) (before p) (after p) (between p part) IsCall (λ x c. c) (length (K.closed p)) (short p part) h.1,
+        between-all E p stamp (before p) (after p) (between p part) IsCall (λ x c. c) (length (K.closed p)) (short p part) h.1,
       )
 
--- With what it makes of the logs of leaders, all that the history says holds at its stamp, and so does what holds of initiators. Nobody's word
--- and no start of an agent changes.
-pub books-moved : (E : Database) (S T : LogState) (F M : Firm) (K : Transactions) (now : ℕ) (due : ℕ → ℕ → List Entry) → LogsHold S → LogsHold T → Onto S T F M
-    → T.words.agents ≡ S.words.agents → ((p t : ℕ) → IsPart S p → Moved E S.logs T.logs K.due due (now + 1) p t)
-    → ((p t : ℕ) → (IsPart S p → ⊥) → due p t ≡ K.due p t)
-    → Books E S F K now → Books E T M (with_due K due) (now + 1)
-books-moved E S T F M K now due H J o agents moved others B = record {
-  due = due-at E S T F M K now due H J o moved B others;
-  leaderships = λ p t g part led. fits-up E S T F M K now due H J o moved B (t + 1) p t g (on-part E S T F M K now due H J o moved B p part) (omega arith) led;
-  heard = heard-on E S T F M K now due H J o moved B agents;
-}
+  -- An agent that stays as it is is as far as it was.
+  pub phase-moved : (t : ℕ) (a : AgentState) (phase : Phase) → PhaseOk E S F K t a phase → PhaseOk E T M L t a phase
+  phase-moved t a Off k = k
+  phase-moved t a (Hears told) k = (k.0, all-mono _ _ (λ x. state-on E S T F M o x.part t x.transaction x.is_open x.outcome) told k.1, k.2, k.3)
+  phase-moved t a (Closes m parts finished) k = (
+    k.0,
+    k.1,
+    k.2,
+    k.3,
+    λ p part. let is = on-part p part in let r = k.4 p is in (λ one. ended-on p is (r.0 one), λ over. settled-on p is (r.1 over)),
+  )
+  phase-moved t a Idle k = (k.0, k.1, k.2, λ p part. let is = on-part p part in idle-on p is (k.3 p is))
+  phase-moved t a Works k = (k.0, k.1, (k.2.0, k.2.1, k.2.2, at-hand-on k.2.0 k.2.0.decision k.2.3))
 
-pub phase-moved : (E : Database) (S T : LogState) (F M : Firm) (K : Transactions) (now : ℕ) (due : ℕ → ℕ → List Entry) → LogsHold S → LogsHold T → Onto S T F M
-    → ((p t : ℕ) → IsPart S p → Moved E S.logs T.logs K.due due (now + 1) p t)
-    → Books E S F K now → (t : ℕ) (a : AgentState) (phase : Phase) → PhaseOk E S F K t a phase → PhaseOk E T M (with_due K due) t a phase
-phase-moved E S T F M K now due H J o moved B t a Off k = k
-phase-moved E S T F M K now due H J o moved B t a (Hears told) k = (
-  k.0,
-  all-mono (λ x. StateOk E S F x.part t x.transaction x.is_open x.outcome) (λ x. StateOk E T M x.part t x.transaction x.is_open x.outcome)
-      (λ x y. state-on E S T F M o x.part t x.transaction x.is_open x.outcome y) told k.1,
-  k.2,
-  k.3,
-)
-phase-moved E S T F M K now due H J o moved B t a (Closes m parts finished) k = (
-  k.0,
-  k.1,
-  k.2,
-  k.3,
-  λ p part.
-      let is = on-part E S T F M K now due H J o moved B p part in
-      let r = k.4 p is in
-      (λ one. ended-on E S T F M K now due H J o moved B p is (r.0 one), λ over. settled-on E S T F M K now due H J o moved B p is (r.1 over)),
-)
-phase-moved E S T F M K now due H J o moved B t a Idle k = (
-  k.0,
-  k.1,
-  k.2,
-  λ p part.
-      let is = on-part E S T F M K now due H J o moved B p part in
-      idle-on E S T F M K now due H J o moved B p is (k.3 p is),
-)
-phase-moved E S T F M K now due H J o moved B t a Works k =
-    (k.0, k.1, (k.2.0, k.2.1, k.2.2, at-hand-on E S T F M K now due H J o moved B k.2.0 k.2.0.decision k.2.3))
+  pub agent-moved : (h : ℕ) → T.words.agents h ≡ S.words.agents h → AgentCalls E S F K h → AgentCalls E T M L h
+  agent-moved h same k = record {
+    initiating = elim k.initiating [
+      | inl off ↦ inl (rw same off)
+      | inr (w, i, phase) ↦ inr (
+        w,
+        record { runs = rw same i.runs; has_decided = rw same i.has_decided; initiates = rw same i.initiates },
+        subst (λ a. PhaseOk E T M L (term_of w) a a.initiating.phase) (sym same) (phase-moved (term_of w) (S.words.agents h) (S.words.agents h).initiating.phase phase),
+      )
+    ];
+    waiting = subst (λ a. AllByRecursion (WaitingAnswer E T M L) a.waiting) (sym same)
+        (all-mono _ _ (waiting-on E S T F M o K L (omega arith)) (S.words.agents h).waiting k.waiting);
+  }
 
 -- ---- later
+
+pub aligned-later : (E : Database) (D : Deployment) (now stamp : ℕ) → now ≤ stamp → (K : Transactions) (logs : ℕ → List Entry) → Aligned E D now K logs → Aligned E D stamp K logs
+aligned-later E D now stamp l K logs k = aligned-under E D now stamp K K.heard logs logs l k (λ p part. (k.formed p part, omega (arith, k.past p part, l)))
+    (λ p part. (under-refl (logs p), k.prefix p part)) (λ p x part e. (k.decided p x part e).0)
 
 pub books-later : (E : Database) (S : LogState) (F : Firm) (K : Transactions) (now stamp : ℕ) → now ≤ stamp → Books E S F K now → Books E S F K stamp
 books-later E S F K now stamp l B = record {
   due = B.due;
   leaderships = λ p t g part led. let f = B.leaderships p t g part led in record { formed = f.formed; past = omega (arith, f.past, l); unheard = f.unheard };
-  heard = record {
-    word = B.heard.word;
-    is_word = B.heard.is_word;
-    by = B.heard.by;
-    each = B.heard.each;
-    aligned = aligned-under E S.words.deployment now stamp K logs logs l k (λ p part. (k.formed p part, omega (arith, k.past p part, l)))
-        (λ p part. (under-refl (logs p), k.prefix p part)) (λ p x part e. (k.decided p x part e).0);
+  heard = let h = B.heard in record {
+    word = h.word;
+    is_word = h.is_word;
+    by = h.by;
+    each = h.each;
+    aligned = aligned-later E S.words.deployment now stamp l K (whole S K K.heard) h.aligned;
   };
 }
-  where
-    logs : ℕ → List Entry
-    logs = whole S K K.heard
-
-    k : Aligned E S.words.deployment now K logs
-    k = B.heard.aligned
-
--- with another state of words, in which an agent's own start and word are not lower
-pub books-worded : (E : Database) (S T : LogState) (F : Firm) (K : Transactions) (now : ℕ) → LogsHold S → T.words.deployment ≡ S.words.deployment → T.logs ≡ S.logs → T.sites ≡ S.sites
-    → ((w : Membership) → In w S.words.history.decided → In w T.words.history.decided)
-    → ((w : Membership) (h a : ℕ) → In w S.words.history.decided → initiator w ≡ Some (h, a) → 0 < a → (T.words.agents h).start ≡ a
-    → ((S.words.agents h).start ≡ a → K.heard ≤ term_in (S.words.agents h).decided) → K.heard ≤ term_in (T.words.agents h).decided)
-    → Books E S F K now → Books E T F K now
-books-worded E S T F K now H deployment logs sites decided by B = record {
-  due = λ p t. owed p t (B.due p t);
-  leaderships = λ p t g part led. let f = B.leaderships p t g (here p part) (ap (λ G. G.leadership p t) (sym logs) ∙ led) in
-      record { formed = f.formed; past = f.past; unheard = f.unheard };
-  heard = record {
-    word = word;
-    is_word = record { decided = decided word B.heard.is_word.decided; term_is = B.heard.is_word.term_is };
-    by = λ h a first start. by word h a B.heard.is_word.decided first (some h a first) start (B.heard.by h a first);
-    each = λ p part. heard-part S T F F onto K K.due p (B.heard.each p (here p part));
-    aligned = subst (λ D. Aligned E D now K (whole T K K.heard)) (sym deployment)
-        (subst (λ G. Aligned E S.words.deployment now K (λ p. led_log (G.leadership p K.heard) ++ K.due p K.heard)) (sym logs) B.heard.aligned);
-  };
-}
-  where
-    word : Membership
-    word = B.heard.word
-
-    here : (p : ℕ) → IsPart T p → IsPart S p
-    here p part = subst (λ D. nat_lt p (parts D) ≡ true) deployment part
-
-    top : (p m n : ℕ) → Top S p m n → Top T p m n
-    top p m n k = record {
-      slot = k.slot;
-      is_slot = subst (λ D. nat_lt k.slot (slots D) ≡ true) (sym deployment) k.is_slot;
-      part_is = subst (λ D. part_of_slot D k.slot ≡ p) (sym deployment) k.part_is;
-      all = subst (λ x. AllByRecursion (AtLeast m n) (x k.slot).contents) (sym sites) k.all;
-    }
-
-    onto : Onto S T F F
-    onto = record {
-      deployment = deployment;
-      decided = decided;
-      onward = record {
-        kept = λ p t g led. (g, ap (λ G. G.leadership p t) logs ∙ led, refl, prefix-refl g.log);
-        reach = λ p t. omega (arith, ap (λ G. G.reach p t) logs);
-      };
-      firm = λ p. omega arith;
-      tops = top;
-    }
-
-    owed : (p t : ℕ) → DueOk S K p t → DueOk T K p t
-    owed p t (inl none) = inl none
-    owed p t (inr (x, g, is, order, led, l)) = inr (x, g, is, order, ap (λ G. G.leadership p t) logs ∙ led, l)
-
-    -- an initiator has begun
-    some : (h a : ℕ) → initiator word ≡ Some (h, a) → 0 < a
-    some h a first =
-        let good = H.words.history.decided_good word B.heard.is_word.decided in
-        (good.named_begun a (member-is S.words H.words.history word h a good (initiator-member word h a first)).0).some

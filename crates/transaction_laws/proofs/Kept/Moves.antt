@@ -1,30 +1,13 @@
 -- Of what the proofs speak: what an event makes of the history of transactions.
-use Rattle.std.proofs.Common.{◌≡◌, List, [], ◌++◌, ◌⊎◌}
-use Rattle.std.specs.Prelude.{ℕ, ◌≤◌, Some, None}
-use Rattle.std.specs.List.{AllByRecursion}
-use Rattle.volt_base.specs.declared.entry.Entry.{Entry}
-use Rattle.volt_base.specs.declared.entry.Entry.TheVariants.{Sp, Frag, Done}
-use Rattle.volt_wire.specs.Word.{Membership}
-use Rattle.volt_wire.specs.declared.actor.Actor.TheVariants.{Site}
 use Rattle.volt_wire.specs.declared.message.Msg.TheVariants as msg
-use Rattle.cluster_model.specs.Engine.{Database}
-use Rattle.cluster_model.specs.Words.{term_of, leader, start_of_slot}
-use Rattle.cluster_model.specs.Letters.{Letter, Sends, Turn}
-use Rattle.cluster_model.specs.AgentState.{AgentState, Off, new_agent}
-use Rattle.cluster_steps.specs.Lists.{In, Prefix}
-use Rattle.log_laws.specs.Histories.{LogState, Logs, Leadership, IsSlot, part}
-use Rattle.log_laws.proofs.Kept.Moves.{Onward}
-use Rattle.disk_laws.specs.Disks.{Firm, Top}
-use Rattle.transaction_laws.specs.Machine.{stage}
-use Rattle.transaction_laws.specs.Transactions.{Transactions, Books, OnlyCalls, OrderOk, PhaseOk, orders}
+use Rattle.transaction_laws.proofs.Names.{AgentState, AllByRecursion, Books, Database, Entry, Firm, In, IsSlot, Leadership, Letter, List, LogState, Logs, Membership, None, Off, OnlyCalls, Onward, OrderOk, PhaseOk, Prefix, Sends, Site, Some, Sp, Top, Transactions, Turn, [], leader, new_agent, orders, part, stage, start_of_slot, term_of, ℕ, ◌++◌, ◌≡◌, ◌≤◌, ◌⊎◌}
 
 -- ---- entries
 
 -- calls on one partition that run at this stamp
 abbrev pub IsCallAt : ℕ → Entry → Type 0
 IsCallAt stamp (Sp call point body) = point ≡ stamp
-IsCallAt stamp (Frag m round body) = ⊥
-IsCallAt stamp (Done m o) = ⊥
+IsCallAt stamp x = ⊥
 
 abbrev pub CallsAt : ℕ → List Entry → Type 0
 CallsAt stamp es = AllByRecursion (IsCallAt stamp) es
@@ -97,11 +80,7 @@ SentOrder S n w c l = elim l.body as (λ _. Type 0) [
 
 -- what an agent sends that isn't an initiator
 abbrev pub NoOrder : Letter → Type 0
-NoOrder l = elim l.body as (λ _. Type 0) [
-  | msg.Frag m round body ↦ ⊥
-  | msg.Done m o ↦ ⊥
-  | _ ↦ Unit {0}
-]
+NoOrder l = elim l.body as (λ _. Type 0) [ msg.Frag m round body ↦ ⊥ | msg.Done m o ↦ ⊥ | _ ↦ Unit {0} ]
 
 -- What it sends is due from then on.
 pub record SendsDue (S : LogState) (n : ℕ) (w : Membership) (K L : Transactions) (out : Sends) : Type 0 where

@@ -1,16 +1,5 @@
 -- A site that isn't running has no log.
-use Rattle.std.proofs.Common.{◌≡◌, ◌<◌, [], refl, arith}
-use Rattle.std.specs.Prelude.{ℕ}
-use Rattle.std.specs.List.{AllByRecursion}
-use Rattle.volt_wire.specs.declared.actor.Actor.{Actor}
-use Rattle.cluster_model.specs.Engine.{Database}
-use Rattle.cluster_model.specs.Words.{Deployment}
-use Rattle.cluster_model.specs.Letters.{Letter}
-use Rattle.cluster_model.specs.SiteState.{SiteState}
-use Rattle.cluster_model.specs.Sync.{site_turn, sync_turn}
-use Rattle.cluster_model.specs.Environment.{Environment}
-use Rattle.cluster_steps.proofs.Lists.{all-mono}
-use Rattle.cluster_steps.proofs.SiteTurns.{NoWord, PlainWaiting, plain-word, sync_turn-cases, syncs-stays, taken-stays, site_turn-cases}
+use Rattle.transaction_laws.proofs.Names.{Actor, AllByRecursion, Database, Deployment, Environment, Letter, NoWord, PlainWaiting, SiteState, [], all-mono, arith, plain-word, refl, site_turn, site_turn-cases, sync_turn, sync_turn-cases, syncs-stays, taken-stays, ℕ, ◌<◌, ◌≡◌}
 
 abbrev pub Blank : SiteState → Type 0
 Blank s = s.start ≡ 0 → s.log ≡ []

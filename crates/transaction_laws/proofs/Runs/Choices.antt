@@ -1,24 +1,7 @@
 -- What a recovery chooses, where none was stopped since the last one that worked: logs of which one transaction at most isn't over everywhere.
-use Rattle.std.proofs.Common.{◌≡◌, ◌≤◌, false, List, ◌++◌, length, take, take_all, length-take, sym, subst, ap, ◌∙◌, inl, inr, arith}
-use Rattle.std.proofs.lemmas.Bool.{cases_lt}
-use Rattle.std.specs.Prelude.{ℕ, Some}
-use Rattle.volt_base.specs.declared.entry.Entry.{Entry}
-use Rattle.cluster_model.specs.Engine.{Database}
-use Rattle.cluster_model.specs.Disk.{Shown, chosen}
-use Rattle.cluster_steps.proofs.Lists.{all-at}
-use Rattle.log_laws.specs.Histories.{LogState, LogsHold, Leadership, part}
-use Rattle.cluster_steps.specs.Lists.{Prefix}
-use Rattle.cluster_steps.proofs.Prefixes.{prefix-trans, prefix-append, prefix-take, prefixes-order, take-grown}
-use Rattle.disk_laws.specs.Disks.{Written, Firm, ContentOk, DisksHold, Shows, shown_at}
-use Rattle.disk_laws.proofs.Order.{Chosen, top-chosen, at_least-mark}
-use Rattle.disk_laws.proofs.Contents.{firm-within, firm-prefix}
-use Rattle.disk_laws.proofs.Choices.{shows-slot, chosen-firm}
-use Rattle.transaction_laws.specs.Machine.{WellFormed, first_stage, stage}
-use Rattle.transaction_laws.specs.Transactions.{Transactions, Books, LeadershipFits, HeardPart, Aligned, Everywhere, IsPart, led_log, whole}
-use Rattle.transaction_laws.proofs.Kept.Moves.{Under}
-use Rattle.transaction_laws.proofs.Entries.Machine.{formed-prefix, prefix-point}
-use Rattle.transaction_laws.proofs.Entries.Aligned.{under-prefix, under-trans, aligned-under}
-use Rattle.transaction_laws.proofs.Kept.Later.{inert-leadership}
+use Rattle.transaction_laws.proofs.Names.{Aligned, Books, Chosen, ContentOk, Database, DisksHold, Entry, Everywhere, Firm, HeardPart, IsPart, Leadership, LeadershipFits, List, LogState, LogsHold, Prefix, Shown, Shows, Some, Transactions, WellFormed, Written, all-at, ap, arith, at_least-mark, cases_lt, chosen, chosen-firm, false, firm-prefix, firm-within, first_stage, inl, inr, led_log, length, length-take, part, prefix-append, prefix-take, prefix-trans, prefixes-order, shown_at, shows-slot, stage, subst, sym, take, take-grown, take_all, top-chosen, whole, ℕ, ◌++◌, ◌∙◌, ◌≡◌, ◌≤◌}
+use Rattle.transaction_laws.proofs.Kept.{Under, inert-leadership}
+use Rattle.transaction_laws.proofs.Entries.{formed-prefix, prefix-point, under-prefix, under-trans, aligned-under}
 
 module _ (E : Database) (S : LogState) (F : Firm) (K : Transactions) (now : ℕ) (H : LogsHold S) (disks : DisksHold S F false) (B : Books E S F K now) (shown : ℕ → Shown)
     (shows : Shows S shown) (p : ℕ) (is_part : IsPart S p) where
@@ -99,7 +82,7 @@ module _ (E : Database) (S : LogState) (F : Firm) (K : Transactions) (now : ℕ)
 pub choice-aligned : (E : Database) (S : LogState) (F : Firm) (K : Transactions) (now : ℕ) → LogsHold S → DisksHold S F false → Books E S F K now → (shown : ℕ → Shown) → Shows S shown
     → Aligned E S.words.deployment now K (chosen S.words.deployment shown)
 choice-aligned E S F K now H disks B shown shows =
-    aligned-under E S.words.deployment now now K (whole S K K.heard) (chosen S.words.deployment shown) (omega arith) B.heard.aligned
+    aligned-under E S.words.deployment now now K K.heard (whole S K K.heard) (chosen S.words.deployment shown) (omega arith) B.heard.aligned
     (λ p q. chosen-formed E S F K now H disks B shown shows p q)
     (λ p q. (chosen-under E S F K now H disks B shown shows p q, (let k = B.heard.each p q in chosen-has E S F K now H disks B shown shows p q (K.closed p) k.inside k.closed)))
     (λ p x q e. let k = (B.heard.each p q).decided x e in chosen-has E S F K now H disks B shown shows p q (K.decided p) k.0 k.1)

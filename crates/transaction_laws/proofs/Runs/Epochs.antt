@@ -1,49 +1,8 @@
 -- How an epoch begins: all holds of transactions in the first world, once a recovery has worked, and after one that was stopped.
-use Rattle.std.proofs.Common.{◌≡◌, ◌<◌, ◌≤◌, Bool, true, false, List, [], ◌∷◌, ◌++◌, ◌+◌, ◌==◌, ◌⊎◌, append-nil, drop, length, refl, sym, subst, ap, ◌∙◌, inl, inr, arith, zero, suc}
-use Rattle.std.proofs.lemmas.Bool.{and_parts, cases_Bool, eq-eqb, eqb-true, false≢true}
-use Rattle.std.proofs.lemmas.Bool.Decides.{nat_tests}
-use Rattle.std.proofs.lemmas.List.{drop_all}
-use Rattle.std.proofs.lemmas.Nat.{div-mul-add}
-use Rattle.std.proofs.Math.Nat.{div-mul-le_self}
-use Rattle.std.specs.Prelude.{ℕ, ◌/◌, nat_lt, if◌then◌else◌, map, unwrap_or, option_map, slice_index, Option, Some, None}
-use Rattle.volt_base.specs.declared.entry.Entry.{Entry}
-use Rattle.volt_base.specs.declared.entry.Entry.TheVariants.{Done}
-use Rattle.volt_wire.specs.Word.{Membership}
-use Rattle.volt_wire.specs.declared.actor.Actor.TheVariants.{Agent, Site}
 use Rattle.volt_wire.specs.declared.event.Event.TheVariants as event
-use Rattle.partition_ring.specs.Placement.{IsLayout, slot_of, slots_of_part}
-use Rattle.cluster_model.specs.Engine.{Database}
-use Rattle.cluster_model.specs.Words.{Deployment, slots, parts, part_of_slot, is_host, term_of, term_in, initiator}
-use Rattle.cluster_model.specs.Disk.{Shown, best_of, chosen, mark_of, recovered}
-use Rattle.cluster_model.specs.Letters.{Waiting}
-use Rattle.cluster_model.specs.Environment.{DisksShow}
-use Rattle.cluster_model.specs.AgentState.{AgentState, Off, Idle, new_agent}
-use Rattle.cluster_model.specs.SiteState.{SiteState, no_site, stopped_site, member_site, other_copies}
-use Rattle.cluster_model.specs.Site.{acked_in, own_ack, least, lesser}
-use Rattle.cluster_model.specs.World.{World, Input, first_world, new_word, greatest_done, start_from, member_agent}
-use Rattle.cluster_model.specs.Recover.{shown_of, new_base, new_log, new_content, starts_anew, stays_stopped}
-use Rattle.cluster_model.specs.Events.{is_stopped, may_recover, is_shown, is_slot_or_none, allows}
-use Rattle.cluster_steps.specs.Lists.{In}
-use Rattle.word_laws.specs.Histories.{names}
-use Rattle.cluster_steps.proofs.Lists.{all-mono, eqb-same, if-true, if-false, some-here, same-some, none-and-some, not-both}
-use Rattle.word_laws.proofs.Epochs.{initiator-first}
-use Rattle.log_laws.specs.Histories.{LogState, LogsHold, IsSlot, Leadership, part, site_start}
-use Rattle.log_laws.specs.Copies.{log_state, HasLogs}
-use Rattle.log_laws.proofs.Plain.Copies.{slots-part}
-use Rattle.cluster_steps.proofs.Prefixes.{prefix-refl}
-use Rattle.log_laws.proofs.Kept.Grown.{onward-same}
-use Rattle.log_laws.proofs.Runs.Boots.{first_leadership, new_logs, first-logs, anew-logs, first-logs-are, anew-logs-are}
-use Rattle.disk_laws.specs.Disks.{AtLeast, Top, Firm, DisksHold, Shows}
-use Rattle.disk_laws.proofs.Boots.{firm_in}
-use Rattle.disk_laws.proofs.Choices.{shows-slot, get-none, disk-shows, world-shows}
-use Rattle.disk_laws.proofs.Order.{at_least-mark, best-chosen}
-use Rattle.disk_laws.proofs.Recoveries.{new-above, left-top, agent-stopped, site-stopped}
-use Rattle.transaction_laws.specs.Transactions.{Transactions, Everywhere, Aligned, Books, HeardPart, HeardOk, LeadershipFits, IsPart, SiteCalls, InitiatingOk, PhaseOk, AnswerOk, ToSiteOk, WaitingAnswer, CallsHold, acknowledged, since, whole, led_log, orders}
-use Rattle.transaction_laws.proofs.Kept.Moves.{Onto}
-use Rattle.transaction_laws.proofs.Entries.Aligned.{greatest-done, Recovered, aligned-recovered, aligned-again, recovered-even}
-use Rattle.transaction_laws.proofs.Entries.Even.{AppliedInAll}
-use Rattle.transaction_laws.proofs.Kept.Worded.{aligned-later}
-use Rattle.transaction_laws.proofs.Kept.Later.{everywhere-on, answer-on, to_site-on, books-later}
+use Rattle.transaction_laws.proofs.Names.{Agent, AgentState, Aligned, AnswerOk, AtLeast, Books, Bool, CallsHold, Database, Deployment, DisksHold, DisksShow, Done, Entry, Everywhere, Firm, HasLogs, HeardOk, HeardPart, Idle, In, InitiatingOk, Input, IsLayout, IsPart, IsSlot, Leadership, LeadershipFits, List, LogState, LogsHold, Membership, None, Off, Option, PhaseOk, Shown, Shows, Site, SiteCalls, SiteState, Some, ToSiteOk, Top, Transactions, World, [], acked_in, acknowledged, agent-stopped, all-mono, allows, and_parts, anew-logs, anew-logs-are, ap, append-nil, arith, at_least-mark, best-chosen, best_of, cases_Bool, chosen, disk-shows, div-mul-add, div-mul-le_self, drop, drop_all, eq-eqb, eqb-same, eqb-true, false, false≢true, firm_in, first-logs, first-logs-are, first_leadership, first_world, get-none, greatest_done, if-false, if-true, if◌then◌else◌, initiator, initiator-first, inl, inr, is_host, is_shown, is_slot_or_none, is_stopped, least, led_log, left-top, length, lesser, log_state, map, mark_of, may_recover, member_agent, member_site, names, nat_lt, nat_tests, new-above, new_agent, new_base, new_content, new_log, new_logs, new_word, no_site, none-and-some, not-both, onward-same, option_map, orders, other_copies, own_ack, part, part_of_slot, parts, prefix-refl, recovered, refl, same-some, shown_of, shows-slot, since, site-stopped, site_start, slice_index, slot_of, slots, slots-part, slots_of_part, some-here, start_from, starts_anew, stays_stopped, stopped_site, subst, suc, sym, term_in, term_of, true, unwrap_or, whole, world-shows, zero, ℕ, ◌++◌, ◌+◌, ◌/◌, ◌<◌, ◌==◌, ◌∙◌, ◌∷◌, ◌≡◌, ◌≤◌, ◌⊎◌}
+use Rattle.transaction_laws.proofs.Kept.{Onto, aligned-later, answer-on, to_site-on, books-later, books-moved, keeps-same, waiting-on}
+use Rattle.transaction_laws.proofs.Entries.{greatest-done, Recovered, aligned-recovered, aligned-again, recovered-even, AppliedInAll}
 use Rattle.transaction_laws.proofs.Runs.Choices.{choice-aligned}
 
 -- ---- numbers
@@ -72,14 +31,7 @@ least-first a (b ∷ bs) n e = go (least b bs) e
 
 -- the history with which it begins: the initiator of the first word has heard of all, and all that is in the logs is over
 abbrev pub new_transactions : Database → Deployment → ℕ → (ℕ → List Entry) → Transactions
-new_transactions E D base log = record {
-  heard = base;
-  number = greatest_done E log (parts D);
-  closed = log;
-  agreed = None;
-  decided = log;
-  due = λ p t. [];
-}
+new_transactions E D base log = record { heard = base; number = greatest_done E log (parts D); closed = log; agreed = None; decided = log; due = λ p t. [] }
 
 -- Each host's agent and each slot's site runs as a member of the first word, with its partition's log, in which all is over. Nothing is
 -- under way between agents and sites.
@@ -142,12 +94,7 @@ module _ (E : Database) (S : LogState) (H : LogsHold S) (base start now : ℕ) (
   top-begins : (p : ℕ) → IsPart S p → Top S p base 0
   top-begins p q =
       let r = part-slot D p q in
-      record {
-        slot = r.0;
-        is_slot = r.1;
-        part_is = r.2;
-        all = rw (ap (λ s. s.contents) (k.members r.0 r.1).1) (inr (refl, omega arith), tt);
-      }
+      record { slot = r.0; is_slot = r.1; part_is = r.2; all = rw (ap (λ s. s.contents) (k.members r.0 r.1).1) (inr (refl, omega arith), tt) }
 
   aligned-begins : Aligned E D now K (whole S K base)
   aligned-begins = record {
@@ -290,12 +237,7 @@ module _ (E : Database) (S : LogState) (H : LogsHold S) (base start now : ℕ) (
 
 -- a partition whose log is empty
 over-first : (E : Database) (D : Deployment) (now p : ℕ) → nat_lt p (parts D) ≡ true → Recovered E D now (λ p. []) p
-over-first E D now p q = record {
-  formed = tt;
-  past = omega arith;
-  over = refl;
-  number = greatest-done E (λ p. []) (parts D) p (grind (arith, nat_tests, q));
-}
+over-first E D now p q = record { formed = tt; past = omega arith; over = refl; number = greatest-done E (λ p. []) (parts D) p (grind (arith, nat_tests, q)) }
 
 -- In the first world.
 pub first-calls : (E : Database) (I : Input) (positive : 0 < I.base) → IsLayout I.deployment.layout.hosts I.deployment.layout.sites I.deployment.layout.k → (now : ℕ)
@@ -407,10 +349,7 @@ module _ (E : Database) (w : World) (k : HasLogs w) (F : Firm) (halted : Bool) (
         written false false (inr i) = absurd i
 
         slot : (x : Bool) → nat_lt c (slots w.deployment) ≡ x → (s c ≡ shown_of w shown c) ⊎ (IsSlot old c × (s c ≡ new_content E w shown c))
-        slot true q = elim (written (nat_lt c f) (c == f) (h.one c q)) [
-          | inl i ↦ inl i
-          | inr i ↦ inr (q, i)
-        ]
+        slot true q = elim (written (nat_lt c f) (c == f) (h.one c q)) [ inl i ↦ inl i | inr i ↦ inr (q, i) ]
         slot false q =
             let out : IsSlot old c → ⊥ = λ y. not-both (nat_lt c (slots w.deployment)) y q in
             inl (h.none c out ∙ sym (get-none (w.sites c).contents (slice_index shown c) (disks.environment c out)))
@@ -420,10 +359,7 @@ module _ (E : Database) (w : World) (k : HasLogs w) (F : Firm) (halted : Bool) (
     all-or-one [] = inl refl
     all-or-one (c ∷ cs) = elim (either c) [
       | inr n ↦ inr (c, inl refl, n.1)
-      | inl o ↦ elim (all-or-one cs) [
-        | inr n ↦ inr (n.0, inr n.1, n.2)
-        | inl os ↦ inl (rw (o, os) refl)
-      ]
+      | inl o ↦ elim (all-or-one cs) [ inr n ↦ inr (n.0, inr n.1, n.2) | inl os ↦ inl (rw (o, os) refl) ]
     ]
 
     -- A new base is better than all that was shown.
@@ -468,31 +404,9 @@ module _ (E : Database) (w : World) (k : HasLogs w) (F : Firm) (halted : Bool) (
       tops = left-top E w k F halted disks shown f owner k.history b e;
     }
 
-    books : Books E old F K stamp
-    books = books-later E old F K now stamp later calls.books
-
-    heard-left : (p : ℕ) → HeardPart old F K p → HeardPart (left b) F K p
-    heard-left p q = record {
-      leadership = q.leadership;
-      led = q.led;
-      inside = q.inside;
-      closed = everywhere-on old (left b) F F onto p K.heard (length (K.closed p)) q.closed;
-      decided = λ x a. let r = q.decided x a in (r.0, everywhere-on old (left b) F F onto p K.heard (length (K.decided p)) r.1);
-      top = onto.tops p K.heard 0 q.top;
-    }
-
     books-left : Books E (left b) F K stamp
-    books-left = record {
-      due = books.due;
-      leaderships = λ p t g q led. let r = books.leaderships p t g q led in record { formed = r.formed; past = r.past; unheard = r.unheard };
-      heard = record {
-        word = books.heard.word;
-        is_word = record { decided = books.heard.is_word.decided; term_is = books.heard.is_word.term_is };
-        by = books.heard.by;
-        each = λ p q. heard-left p (books.heard.each p q);
-        aligned = books.heard.aligned;
-      };
-    }
+    books-left = books-moved E old (left b) F F K now stamp K.due later k.holds (λ p t n. absurd (none-and-some n.none n.led)) onto (λ p t q. inl (refl, refl)) calls.books
+        (keeps-same old (left b) K.heard refl) (λ p t q. refl)
 
     -- no agent runs, so none is an initiator
     initiating-left : (h : ℕ) → InitiatingOk E old F K h → InitiatingOk E (left b) F K h
@@ -500,12 +414,6 @@ module _ (E : Database) (w : World) (k : HasLogs w) (F : Firm) (halted : Bool) (
     initiating-left h (inr (v, i, phase)) =
         let down = agent-stopped E w k F halted disks shown f owner k.history stopped h in
         absurd (omega (arith, i.runs, down))
-
-    waiting-left : (x : Waiting) → WaitingAnswer E old F K x → WaitingAnswer E (left b) F K x
-    waiting-left x q = elim x.from as (λ a. WaitingAnswer E old F K (record x { from = a }) → WaitingAnswer E (left b) F K (record x { from = a })) [
-      | Site c ↦ λ q. (q.0, answer-on E old (left b) F F onto K K (omega arith) (part old c) x.letter q.1)
-      | _ ↦ λ q. q
-    ] q
 
     calls-left : CallsHold E (left b) F true K stamp
     calls-left = record {
@@ -517,7 +425,7 @@ module _ (E : Database) (w : World) (k : HasLogs w) (F : Firm) (halted : Bool) (
       sites = λ c q up. let down = site-stopped E w k F halted disks shown f owner k.history stopped c in absurd (omega (arith, up, down));
       agents = λ h. record {
         initiating = initiating-left h (calls.agents h).initiating;
-        waiting = all-mono (WaitingAnswer E old F K) (WaitingAnswer E (left b) F K) waiting-left (w.agents h).waiting (calls.agents h).waiting;
+        waiting = all-mono _ _ (waiting-on E old (left b) F F onto K K (omega arith)) (w.agents h).waiting (calls.agents h).waiting;
       };
       halts = λ _. chosen-after b e;
     }

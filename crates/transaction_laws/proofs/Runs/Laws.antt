@@ -1,33 +1,8 @@
 -- The laws of transactions, from what holds in each world of a run.
-use Rattle.std.proofs.Common.{◌≡◌, true, List, ◌++◌, length, refl, ap, ◌∙◌, arith, inl, inr}
-use Rattle.std.specs.Prelude.{ℕ, Some, None, option_map, is_none}
-use Rattle.volt_base.specs.declared.entry.Entry.{Entry}
-use Rattle.volt_base.specs.declared.entry.Outcome.{Outcome}
-use Rattle.volt_base.specs.declared.entry.Outcome.TheVariants.{Dropped, Kept, Aborted, Snapshot}
-use Rattle.cluster_model.specs.Disk.{chosen, recovered}
-use Rattle.cluster_model.specs.Engine.{Database}
-use Rattle.cluster_model.specs.Log.{nothing_open}
-use Rattle.cluster_model.specs.Recover.{shown_of}
-use Rattle.cluster_model.specs.Runs.{Reached}
-use Rattle.cluster_model.specs.Words.{part_of_slot}
-use Rattle.cluster_model.specs.World.{World, Input}
-use Rattle.log_laws.specs.Histories.{LogState}
-use Rattle.cluster_steps.specs.Lists.{Prefix}
-use Rattle.log_laws.specs.Copies.{log_state, log_of}
-use Rattle.cluster_steps.proofs.Prefixes.{prefix-append, prefix-trans}
-use Rattle.disk_laws.specs.Survival.{MayShow}
-use Rattle.disk_laws.proofs.Boots.{firm_in}
-use Rattle.disk_laws.proofs.Choices.{world-shows}
-use Rattle.transaction_laws.specs.Machine.{WellFormed, RiseWithin, first_stage, stage, points}
-use Rattle.transaction_laws.specs.Transactions.{Transactions, Aligned, point_in}
-use Rattle.transaction_laws.specs.Worlds.{IsSlotOf, IsPartOf, IsInitiator, GoesOnClosed, IsApplied, GoesOnAlike, EndsAlike, StandsOrIsOpen}
-use Rattle.transaction_laws.proofs.Entries.Machine.{formed-prefix, prefix-point, open_in-stage}
-use Rattle.transaction_laws.proofs.Entries.Aligned.{Recovered, aligned-recovered, recovered-even}
-use Rattle.transaction_laws.proofs.Entries.Even.{one-way, stands-or-open}
+use Rattle.transaction_laws.proofs.Names.{Aborted, Aligned, Database, EndsAlike, Entry, GoesOnAlike, GoesOnClosed, Input, IsApplied, IsInitiator, IsPartOf, IsSlotOf, Kept, List, LogState, MayShow, None, Outcome, Prefix, Reached, RiseWithin, Some, StandsOrIsOpen, Transactions, WellFormed, World, ap, arith, chosen, firm_in, first_stage, inl, inr, is_none, length, log_of, log_state, nothing_open, option_map, part_of_slot, point_in, points, prefix-append, prefix-trans, recovered, refl, shown_of, stage, true, world-shows, ℕ, ◌++◌, ◌∙◌, ◌≡◌}
+use Rattle.transaction_laws.proofs.Entries.{formed-prefix, prefix-point, open_in-stage, Recovered, aligned-recovered, recovered-even, one-way, stands-or-open, points-rise}
+use Rattle.transaction_laws.proofs.Initiators.{slot-part, one-initiator}
 use Rattle.transaction_laws.proofs.Runs.Leads.{leads-aligned}
-use Rattle.transaction_laws.proofs.Initiators.Orders.{slot-part}
-use Rattle.transaction_laws.proofs.Entries.Points.{points-rise}
-use Rattle.transaction_laws.proofs.Initiators.InitiatorWords.{one-initiator}
 use Rattle.transaction_laws.proofs.Runs.Logs.{LedLog, log-led}
 use Rattle.transaction_laws.proofs.Runs.Epochs.{any-aligned}
 use Rattle.transaction_laws.proofs.Runs.Worlds.{HasCalls, calls-agree}
@@ -68,8 +43,7 @@ module _ (E : Database) (now : ℕ) (w : World) (d : HasCalls E now w) (i : ℕ)
 applied-point : (o : Outcome) → IsApplied o → (x : ℕ) × (point_in (Some o) ≡ Some x)
 applied-point (Kept call point) k = (point, refl)
 applied-point (Aborted call point) k = (point, refl)
-applied-point Dropped k = absurd k
-applied-point Snapshot k = absurd k
+applied-point o k = absurd k
 
 closed-none : (E : Database) (p : ℕ) (log : List Entry) → (stage E p log).opened ≡ None → nothing_open log ≡ true
 closed-none E p log e = ap is_none (open_in-stage E p log ∙ ap (option_map (λ x. x.0)) e)
@@ -125,11 +99,7 @@ module _ (E : Database) (input : Input) (w : World) (r : Reached E input w) wher
   goes-on-closed shown p may part =
       let log = recovered E w.deployment (shown_of w shown) p in
       let k = goes-on E w (length w.trace) d shown may p part in
-      record {
-        formed = k.formed;
-        rise = points-rise (first_stage E p) (length w.trace) log k.formed k.past;
-        closed = closed-none E p log k.over;
-      }
+      record { formed = k.formed; rise = points-rise (first_stage E p) (length w.trace) log k.formed k.past; closed = closed-none E p log k.over }
 
   pub goes-on-alike : (shown : List ℕ) (p q : ℕ) → MayShow w shown → IsPartOf w p → IsPartOf w q → GoesOnAlike E w shown p q
   goes-on-alike shown p q may part other = goes-on-even E w (length w.trace) d shown may p q part other

@@ -1,22 +1,7 @@
 -- The leads of all partitions, the logs of their leaders of the greatest terms, are aligned.
-use Rattle.std.proofs.Common.{◌≡◌, ◌≤◌, List, ◌++◌, length, sym, subst, ap, ◌∙◌, inl, inr, arith}
-use Rattle.std.proofs.lemmas.Bool.{cases_eq}
-use Rattle.std.specs.Prelude.{ℕ}
-use Rattle.volt_base.specs.declared.entry.Entry.{Entry}
-use Rattle.cluster_model.specs.Engine.{Database}
-use Rattle.cluster_model.specs.World.{AuthoritativeLog}
-use Rattle.cluster_steps.proofs.Lists.{same-some}
-use Rattle.log_laws.specs.Histories.{LogState, LogsHold}
-use Rattle.cluster_steps.specs.Lists.{Prefix}
-use Rattle.log_laws.specs.Copies.{AuthoritativeOk}
-use Rattle.cluster_steps.proofs.Prefixes.{prefix-append, prefix-trans}
-use Rattle.disk_laws.specs.Disks.{Firm}
-use Rattle.transaction_laws.specs.Machine.{WellFormed, first_stage, stage}
-use Rattle.transaction_laws.specs.Transactions.{Transactions, Books, LeadershipFits, HeardPart, Aligned, Everywhere, IsPart, led_log, whole}
-use Rattle.transaction_laws.proofs.Kept.Moves.{Under}
-use Rattle.transaction_laws.proofs.Entries.Machine.{formed-prefix, prefix-point}
-use Rattle.transaction_laws.proofs.Entries.Aligned.{under-prefix, under-trans, aligned-under}
-use Rattle.transaction_laws.proofs.Kept.Later.{inert-leadership, everywhere-prefix}
+use Rattle.transaction_laws.proofs.Names.{Aligned, AuthoritativeLog, AuthoritativeOk, Books, Database, Entry, Everywhere, Firm, HeardPart, IsPart, LeadershipFits, List, LogState, LogsHold, Prefix, Transactions, WellFormed, ap, arith, cases_eq, first_stage, inl, inr, led_log, length, prefix-append, prefix-trans, same-some, stage, subst, sym, whole, ℕ, ◌++◌, ◌∙◌, ◌≡◌, ◌≤◌}
+use Rattle.transaction_laws.proofs.Kept.{Under, inert-leadership, everywhere-prefix}
+use Rattle.transaction_laws.proofs.Entries.{formed-prefix, prefix-point, under-prefix, under-trans, aligned-under}
 
 module _ (E : Database) (S : LogState) (F : Firm) (K : Transactions) (now : ℕ) (H : LogsHold S) (B : Books E S F K now) (p : ℕ) (part : IsPart S p) (l : AuthoritativeLog) (k : AuthoritativeOk S.logs p l) where
   abbrev h : HeardPart S F K p
@@ -54,7 +39,7 @@ module _ (E : Database) (S : LogState) (F : Firm) (K : Transactions) (now : ℕ)
 pub leads-aligned : (E : Database) (S : LogState) (F : Firm) (K : Transactions) (now : ℕ) → LogsHold S → Books E S F K now → (authoritative : ℕ → AuthoritativeLog) → ((p : ℕ) → AuthoritativeOk S.logs p (authoritative p))
     → Aligned E S.words.deployment now K (λ p. (authoritative p).log)
 leads-aligned E S F K now H B authoritative k =
-    aligned-under E S.words.deployment now now K (whole S K K.heard) (λ p. (authoritative p).log) (omega arith) B.heard.aligned
+    aligned-under E S.words.deployment now now K K.heard (whole S K K.heard) (λ p. (authoritative p).log) (omega arith) B.heard.aligned
     (λ p q. authoritative-fits E S F K now H B p q (authoritative p) (k p))
     (λ p q. (
       authoritative-under E S F K now H B p q (authoritative p) (k p),

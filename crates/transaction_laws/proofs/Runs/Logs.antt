@@ -1,15 +1,5 @@
 -- The log of each site is a prefix of the log of a term's leader.
-use Rattle.std.proofs.Common.{◌≡◌, ◌<◌, [], ◌++◌, append_assoc, refl, sym, subst, ap, ◌∙◌, inl, inr, arith}
-use Rattle.std.proofs.lemmas.Bool.{cases_eq}
-use Rattle.std.specs.Prelude.{ℕ, Option, Some, None}
-use Rattle.volt_wire.specs.Word.{Membership}
-use Rattle.cluster_model.specs.Words.{term_of, term_in}
-use Rattle.cluster_model.specs.SiteState.{Joining, Streamed}
-use Rattle.log_laws.specs.Histories.{LogState, LogsHold, Leadership, ViewIn, StreamIn, epoch_base, part, site_start, log_at, term_at}
-use Rattle.cluster_steps.specs.Lists.{Prefix}
-use Rattle.log_laws.proofs.Kept.Terms.{base-least}
-use Rattle.cluster_steps.proofs.Prefixes.{prefix-none}
-use Rattle.disk_laws.proofs.Contents.{member-behind}
+use Rattle.transaction_laws.proofs.Names.{Joining, Leadership, LogState, LogsHold, Membership, None, Option, Prefix, Some, StreamIn, Streamed, ViewIn, [], ap, append_assoc, arith, base-least, cases_eq, epoch_base, inl, inr, log_at, member-behind, part, prefix-none, refl, site_start, subst, sym, term_at, term_in, term_of, ℕ, ◌++◌, ◌<◌, ◌∙◌, ◌≡◌}
 
 -- Of a slot's log: its partition's leader had it, in some term.
 pub record LedLog (S : LogState) (c : ℕ) : Type 0 where
@@ -53,10 +43,7 @@ module _ (S : LogState) (H : LogsHold S) (c : ℕ) where
       seen (Some w) k = streamed w j.stream k.stream
 
   pub log-led : (site_start S c ≡ 0 → log_at S c ≡ []) → LedLog S c
-  log-led blank = elim (cases_eq (site_start S c) 0) [
-    | inl z ↦ empty-led (blank z)
-    | inr n ↦ choice (omega (arith, n)) (S.sites c).joining refl
-  ]
+  log-led blank = elim (cases_eq (site_start S c) 0) [ inl z ↦ empty-led (blank z) | inr n ↦ choice (omega (arith, n)) (S.sites c).joining refl ]
     where
       choice : 0 < site_start S c → (o : Option Joining) → (S.sites c).joining ≡ o → LedLog S c
       choice up None e = member-led up e

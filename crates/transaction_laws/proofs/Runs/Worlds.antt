@@ -1,47 +1,11 @@
 -- In each world of a run all that is to hold of transactions holds.
-use Rattle.std.proofs.Common.{◌≡◌, ◌<◌, Bool, true, false, List, [], ◌∷◌, ◌++◌, length, length-append, refl, sym, subst, ap, ◌∙◌, ◌==◌, ◌+◌, arith}
-use Rattle.std.proofs.lemmas.Bool.{and_parts}
-use Rattle.std.specs.Prelude.{ℕ, ◌&&◌, not, nat_lt, if◌then◌else◌, Some, None}
-use Rattle.volt_wire.specs.declared.actor.Actor.{Actor}
-use Rattle.volt_wire.specs.declared.actor.Actor.TheVariants.{Director, Client, Agent, Site, Scanner}
-use Rattle.volt_wire.specs.declared.event.Event.{Event}
 use Rattle.volt_wire.specs.declared.event.Event.TheVariants as event
-use Rattle.cluster_model.specs.Engine.{Database}
-use Rattle.cluster_model.specs.Words.{slots, part_of_slot, is_host}
-use Rattle.cluster_model.specs.Letters.{Letter, Turn}
-use Rattle.cluster_model.specs.SiteState.{SiteState, no_site, member_site}
-use Rattle.cluster_model.specs.Agent.{agent_turn}
-use Rattle.cluster_model.specs.Sync.{may_sync, site_turn, sync_turn}
-use Rattle.cluster_model.specs.Environment.{Environment, NoFault, DiskFails, NoMemory, DisksShow}
-use Rattle.cluster_model.specs.World.{World, Stopped, Input, IsInput, first_world, stamp_of, took, with_site, stops_with, new_word, start_from}
-use Rattle.cluster_model.specs.Recover.{new_base, new_log, new_site, starts_anew, stays_stopped}
-use Rattle.cluster_model.specs.Events.{is_actor, is_some_letter, is_shown, is_slot_or_none, may_recover, can, allows, delivered, recovered_with, may_do, happens, step}
-use Rattle.cluster_model.specs.Runs.{Happening, Reached, has_failed, may_happen}
-use Rattle.cluster_model.proofs.Runs.{reached-kept}
 use Rattle.word_laws.specs.Histories as word
-use Rattle.cluster_steps.proofs.Lists.{if-false, set-both}
-use Rattle.word_laws.proofs.Worlds.{actor-host, host-apart, memory-runs}
-use Rattle.log_laws.specs.Histories.{Logs, LogState, LogsHold}
-use Rattle.log_laws.specs.Copies.{log_state, HasLogs}
-use Rattle.log_laws.proofs.Kept.Moves.{Grown}
-use Rattle.log_laws.proofs.Runs.Boots.{first-logs, anew-logs}
-use Rattle.log_laws.proofs.Runs.Others.{Keeps, to_client-logs, to_director-logs, to_scanner-logs, scan-logs, submit-logs, next-logs, stopped-logs}
-use Rattle.log_laws.proofs.Runs.SiteEvents.{turn-after, sync-after}
-use Rattle.log_laws.proofs.Runs.Worlds.{actor-slot, site-reaches, site-next}
-use Rattle.disk_laws.specs.Disks.{Firm, DisksHold}
-use Rattle.disk_laws.proofs.SiteDisks.{authoritative-raised}
-use Rattle.disk_laws.proofs.Syncs.{sync-disks, sync-runs}
-use Rattle.disk_laws.proofs.Recoveries.{stopped-hold}
-use Rattle.disk_laws.proofs.Boots.{firm_in, first-disks, anew-disks}
-use Rattle.disk_laws.proofs.Others.{disks-plain, disks-agent}
-use Rattle.reply_laws.proofs.Turns.{waits-plain}
-use Rattle.disk_laws.proofs.SiteTurns.{site_turn-kept}
-use Rattle.transaction_laws.specs.Transactions.{Transactions, CallsHold}
-use Rattle.cluster_model.specs.Words.{IsLaidOut}
-use Rattle.transaction_laws.proofs.Runs.Blank.{Blank, turn-blank, sync-blank}
-use Rattle.transaction_laws.proofs.Kept.Others.{calls-plain}
+use Rattle.transaction_laws.proofs.Names.{Actor, Agent, Bool, CallsHold, Client, Database, Director, DiskFails, DisksHold, DisksShow, Environment, Event, Firm, Grown, Happening, HasLogs, Input, IsInput, IsLaidOut, Keeps, Letter, List, LogState, Logs, LogsHold, NoFault, NoMemory, None, Reached, Scanner, Site, SiteState, Some, Stopped, Transactions, Turn, World, [], actor-host, actor-slot, agent_turn, allows, and_parts, anew-disks, anew-logs, ap, arith, authoritative-raised, can, delivered, disks-agent, disks-plain, false, firm_in, first-disks, first-logs, first_world, happens, has_failed, host-apart, if-false, if◌then◌else◌, is_actor, is_host, is_shown, is_slot_or_none, is_some_letter, length, length-append, log_state, may_do, may_happen, may_recover, may_sync, member_site, memory-runs, nat_lt, new_base, new_log, new_site, new_word, next-logs, no_site, not, part_of_slot, reached-kept, recovered_with, refl, scan-logs, set-both, site-next, site-reaches, site_turn, site_turn-kept, slots, stamp_of, start_from, starts_anew, stays_stopped, step, stopped-hold, stopped-logs, stops_with, submit-logs, subst, sym, sync-after, sync-disks, sync-runs, sync_turn, to_client-logs, to_director-logs, to_scanner-logs, took, true, turn-after, waits-plain, with_site, ℕ, ◌&&◌, ◌++◌, ◌+◌, ◌<◌, ◌==◌, ◌∙◌, ◌∷◌, ◌≡◌}
+use Rattle.transaction_laws.proofs.Kept.{calls-plain}
 use Rattle.transaction_laws.proofs.Agents.AgentEvents.{agent-calls}
 use Rattle.transaction_laws.proofs.Sites.SiteEvents.{site-calls, sync-calls}
+use Rattle.transaction_laws.proofs.Runs.Blank.{Blank, turn-blank, sync-blank}
 use Rattle.transaction_laws.proofs.Runs.Epochs.{first-calls, anew-calls, stopped-calls}
 
 -- ---- worlds
@@ -314,26 +278,16 @@ noted E now w trace d = let n = d.logs in record {
 delivered-trace : (E : Database) (w : World) (to from : Actor) (ls : List Letter) (o : Environment) → (delivered E w to from ls o).trace ≡ w.trace
 delivered-trace E w to from [] o = refl
 delivered-trace E w Director from (l ∷ ls) o = refl
-delivered-trace E w (Client n) from (l ∷ ls) o = refl
-delivered-trace E w (Agent h) from (l ∷ ls) o = refl
-delivered-trace E w (Site i) from (l ∷ ls) o = refl
-delivered-trace E w (Scanner i) from (l ∷ ls) o = refl
+delivered-trace E w to from (l ∷ ls) o = refl
 
 recovered-trace : (E : Database) (w : World) (o : Environment) → (recovered_with E w o).trace ≡ w.trace
-recovered-trace E w NoFault = refl
-recovered-trace E w (DiskFails answered) = refl
-recovered-trace E w (NoMemory answered) = refl
 recovered-trace E w (DisksShow shown None) = refl
-recovered-trace E w (DisksShow shown (Some failed)) = refl
+recovered-trace E w o = refl
 
 happens-trace : (E : Database) (w : World) (e : Event) (o : Environment) → (happens E w e o).trace ≡ w.trace
 happens-trace E w (event.Deliver to from) o = delivered-trace E w to from (w.channel from to) o
-happens-trace E w (event.Sync i) o = refl
-happens-trace E w (event.Scan i) o = refl
 happens-trace E w event.Recover o = recovered-trace E w o
-happens-trace E w event.Item o = refl
-happens-trace E w (event.Submit n) o = refl
-happens-trace E w (event.Idle a) o = refl
+happens-trace E w e o = refl
 
 step-calls : (E : Database) (w : World) (e : Happening) → may_happen w e ≡ true → HasCalls E (length w.trace) w → HasCalls E (length (step E w e).trace) (step E w e)
 step-calls E w e may d =

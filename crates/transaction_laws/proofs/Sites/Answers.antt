@@ -1,14 +1,5 @@
 -- What a site of these laws answers to an initiator: its entry, and that this is firm.
-use Rattle.std.proofs.Common.{◌≡◌, ◌≤◌, true, List, [], ◌∷◌, ◌++◌, refl, subst}
-use Rattle.std.specs.Prelude.{ℕ}
-use Rattle.std.specs.List.{AllByRecursion}
-use Rattle.volt_base.specs.declared.entry.Entry.{Entry}
-use Rattle.cluster_model.specs.Engine.{Database}
-use Rattle.cluster_model.specs.Words.{Deployment}
-use Rattle.cluster_model.specs.SiteState.{SiteState, site_term, leads}
-use Rattle.cluster_steps.specs.Lists.{Prefix}
-use Rattle.reply_laws.specs.Answers.{Answered, ClaimsFit}
-use Rattle.transaction_laws.specs.Transactions.{EntryAt, ToOrders, WaitsPlain}
+use Rattle.transaction_laws.proofs.Names.{AllByRecursion, Answered, ClaimsFit, Database, Deployment, Entry, EntryAt, List, Prefix, SiteState, ToOrders, WaitsPlain, [], leads, refl, site_term, subst, true, ℕ, ◌++◌, ◌∷◌, ◌≡◌, ◌≤◌}
 
 -- No round and no end waits for a term.
 abbrev pub NoOrderWaits : SiteState → Type 0
@@ -38,8 +29,4 @@ answers-firm D i u P term e term_is k is = record {
 
 -- What is claimed of rounds and ends is so as their answers are held.
 pub orders-fit : (E : Database) (p : ℕ) → ClaimsFit E p ToOrders
-orders-fit E p = record {
-  call = λ log call start point body. tt;
-  round = λ log m round body. (body, refl);
-  end = λ log m o. (o, refl);
-}
+orders-fit E p = record { call = λ log call start point body. tt; round = λ log m round body. (body, refl); end = λ log m o. (o, refl) }

@@ -1,33 +1,7 @@
 -- A turn of a site, in its effect on the logs of leaders: the term that it leads goes on with calls behind what was due, or it begins.
-use Rattle.std.proofs.Common.{◌≡◌, ◌<◌, Bool, true, false, List, [], ◌++◌, append_assoc, append-nil, length-append, length-drop, refl, sym, subst, ap, ◌∙◌, ◌⊎◌, inl, inr, ◌==◌, arith}
-use Rattle.std.proofs.lemmas.Bool.{and_from, and_parts, cases_Bool, eq-eqb, eqb-true}
-use Rattle.std.proofs.lemmas.List.{drop_all, nil_from_length}
-use Rattle.std.proofs.Math.Seq.{drop-append_seam}
-use Rattle.std.specs.Prelude.{ℕ, ◌≤◌, ◌-◌, ◌&&◌, length, drop, if◌then◌else◌, Option, Some, None, option_map}
-use Rattle.volt_base.specs.declared.entry.Entry.{Entry}
-use Rattle.volt_wire.specs.declared.actor.Actor.{Actor}
-use Rattle.cluster_model.specs.Engine.{Database}
-use Rattle.cluster_model.specs.Log.{open_in, nothing_open}
-use Rattle.cluster_model.specs.Words.{Deployment, term_of, term_in, start_of_slot}
-use Rattle.cluster_model.specs.Letters.{Letter, Sends}
-use Rattle.cluster_model.specs.SiteState.{SiteState, Reported, site_term, leads}
-use Rattle.cluster_model.specs.Site.{longest, lacks}
-use Rattle.cluster_steps.specs.Lists.{In, Prefix}
-use Rattle.cluster_steps.proofs.Lists.{all-first, all-at, all-behind, eqb-same, if-false, if-true, is_none-none, none-and-some, same-some}
-use Rattle.log_laws.specs.Histories.{LogState, Logs, Entered, Leadership, WordOf, LogsHold, IsSlot, LeadsIn, MemberOk, ReportOk, part, site_start, log_at, term_at}
-use Rattle.log_laws.proofs.Plain.Copies.{leader-is}
-use Rattle.cluster_steps.proofs.Leaders.{leads-from}
-use Rattle.cluster_steps.proofs.Prefixes.{prefix-length, prefixes-order}
-use Rattle.log_laws.proofs.Kept.Moves.{Enters, Grown, Heads, after_site}
-use Rattle.log_laws.proofs.Kept.Plumbing.{here}
-use Rattle.log_laws.proofs.Kept.Terms.{entered-start, leadership-entered, running-slot, same-word}
-use Rattle.log_laws.proofs.Entries.Leads.{Leading, leading}
-use Rattle.log_laws.proofs.NewTerms.Beginning.{longest-cases}
-use Rattle.log_laws.proofs.Runs.Leading.{heads-authoritative, leads-runs}
-use Rattle.transaction_laws.specs.Machine.{first_stage, stage}
-use Rattle.transaction_laws.specs.Transactions.{Transactions, DueOk}
-use Rattle.transaction_laws.proofs.Kept.Moves.{IsCallAt, CallsAt, RunsBehind, Moved}
-use Rattle.transaction_laws.proofs.Entries.Machine.{calls-only, calls-opened, open_in-stage, stage-append}
+use Rattle.transaction_laws.proofs.Names.{Actor, Bool, Database, Deployment, DueOk, Entered, Enters, Entry, Grown, Heads, In, IsSlot, Leadership, Leading, LeadsIn, Letter, List, LogState, Logs, LogsHold, MemberOk, None, Option, Prefix, ReportOk, Reported, Sends, SiteState, Some, Transactions, WordOf, [], after_site, all-at, all-behind, all-first, and_from, and_parts, ap, append-nil, append_assoc, arith, cases_Bool, drop, drop-append_seam, drop_all, entered-start, eq-eqb, eqb-same, eqb-true, false, first_stage, heads-authoritative, here, if-false, if-true, if◌then◌else◌, inl, inr, is_none-none, lacks, leader-is, leadership-entered, leading, leads, leads-from, leads-runs, length, length-append, length-drop, log_at, longest, longest-cases, nil_from_length, none-and-some, nothing_open, open_in, option_map, part, prefix-length, prefixes-order, refl, running-slot, same-some, same-word, site_start, site_term, stage, start_of_slot, subst, sym, term_at, term_in, term_of, true, ℕ, ◌&&◌, ◌++◌, ◌-◌, ◌<◌, ◌==◌, ◌∙◌, ◌≡◌, ◌≤◌, ◌⊎◌}
+use Rattle.transaction_laws.proofs.Kept.{IsCallAt, CallsAt, RunsBehind, Moved}
+use Rattle.transaction_laws.proofs.Entries.{calls-only, calls-opened, open_in-stage, stage-append}
 use Rattle.transaction_laws.proofs.Sites.SiteLogs.{SteadyLog, Started, repaired_log}
 
 -- ---- logs
@@ -245,10 +219,7 @@ module _ (S : LogState) (K : Transactions) (i : ℕ) (u : SiteState) (taken : Li
   due-there p t e = if-false (test p t) (drop (length taken) (K.due p t)) (K.due p t) e
 
   pub due-unless : (p t : ℕ) → (p ≡ part S i → t ≡ term_at S i → leads S.words.deployment i u ≡ true → site_term u ≡ term_at S i → ⊥) → due_after S K i u taken p t ≡ K.due p t
-  due-unless p t n = elim (cases_Bool (test p t)) [
-    | inl e ↦ let r = test-parts p t e in absurd (n r.0 r.1 r.2 r.3)
-    | inr e ↦ due-there p t e
-  ]
+  due-unless p t n = elim (cases_Bool (test p t)) [ inl e ↦ let r = test-parts p t e in absurd (n r.0 r.1 r.2 r.3) | inr e ↦ due-there p t e ]
 
   -- in its own
   pub due-here : leads S.words.deployment i u ≡ true → site_term u ≡ term_at S i → due_after S K i u taken (part S i) (term_at S i) ≡ drop (length taken) (K.due (part S i) (term_at S i))
@@ -361,10 +332,7 @@ module _ (E : Database) (S : LogState) (H : LogsHold S) (K : Transactions) (due 
         leads-there h is heads = let r = heads-own S H i ch u out G J p t h is heads in at-moves r.0 p t r.1 (r.2 ∙ term-is r.0)
 
         go : (o : Option Leadership) → G.leadership p t ≡ o → MovedHere p t
-        go (Some h) e = elim (grown.led p t h e) [
-          | inl old ↦ still h e old
-          | inr new ↦ leads-there h e new
-        ]
+        go (Some h) e = elim (grown.led p t h e) [ inl old ↦ still h e old | inr new ↦ leads-there h e new ]
         go None e = let none = unled (S.logs.leadership p t) refl in inl (e ∙ sym none, let n = none-due p t none in due-none S K i u taken p t n ∙ sym n)
           where
             unled : (o : Option Leadership) → S.logs.leadership p t ≡ o → S.logs.leadership p t ≡ None

@@ -1,30 +1,7 @@
 -- What a turn of a site leaves of what a leader counts.
-use Rattle.std.proofs.Common.{◌≡◌, ◌<◌, ◌≤◌, Bool, true, false, List, [], ◌∷◌, ◌++◌, append_assoc, refl, sym, subst, ap, ◌∙◌, inl, inr, ◌==◌, arith}
-use Rattle.std.proofs.lemmas.Bool.{eqb-true}
-use Rattle.std.proofs.lemmas.List.{map-append}
-use Rattle.std.specs.Prelude.{ℕ, map, max, min, length, if◌then◌else◌, Option, Some, None}
-use Rattle.std.specs.List.{AllByRecursion}
-use Rattle.volt_wire.specs.Word.{Membership}
-use Rattle.volt_wire.specs.declared.actor.Actor.{Actor}
-use Rattle.volt_wire.specs.declared.actor.Actor.TheVariants.{Agent}
 use Rattle.volt_wire.specs.declared.message.Msg.TheVariants as msg
-use Rattle.cluster_model.specs.Engine.{Database}
-use Rattle.cluster_model.specs.Words.{Deployment, term_of}
-use Rattle.cluster_model.specs.Letters.{Letter, becomes, arrival, Taken}
-use Rattle.cluster_model.specs.SiteState.{SiteState, Joining, Joiner, is_leader, leads, other_copies, site_term}
-use Rattle.cluster_model.specs.Site.{acked_in, own_ack, copy_acks, lesser, least, least_of, firm_now, floor_now, sends_firm, counts, takes_asks, in_new_term}
-use Rattle.cluster_model.specs.Environment.{Environment, NoFault, DiskFails, NoMemory, DisksShow}
-use Rattle.cluster_model.specs.Sync.{after_sync, site_turn, syncs, sync_turn}
-use Rattle.cluster_steps.proofs.Lists.{if-true, all-append, not-both, none-and-some}
-use Rattle.cluster_steps.proofs.Leaders.{leader-view, leads-parts, leads-from}
-use Rattle.cluster_steps.proofs.Least.{lesser-parts, least_of-below}
-use Rattle.cluster_steps.proofs.SiteTurns.{stays_joiner}
-use Rattle.transaction_laws.specs.Transactions.{acknowledged}
-use Rattle.cluster_steps.proofs.StateSteps.{Comes, Over, StateSaying, StateSteps, over-moves, over-settles, over-tells, with_others}
+use Rattle.transaction_laws.proofs.Names.{Actor, Agent, AllByRecursion, Bool, Comes, Database, Deployment, DiskFails, DisksShow, Environment, Joiner, Joining, Letter, List, Membership, NoFault, NoMemory, None, Option, Over, SiteState, Some, StateSaying, StateSteps, Taken, Wrote, [], acked_in, acknowledged, after_sync, after_sync-walk, all-append, ap, append_assoc, arith, arrival, becomes, begins_at, copy_acks, counts, eqb-true, false, firm_now, floor_now, if-true, if◌then◌else◌, in_new_term, inl, inr, is_leader, leader-view, leads, leads-from, leads-parts, least, least_of, least_of-below, length, lesser, lesser-parts, map, map-append, max, min, none-and-some, not-both, other_copies, over-moves, over-settles, over-tells, own_ack, refl, sends_firm, settled-walk, settled_turn, site_term, site_turn, stays_joiner, subst, sym, sync_turn, syncs, takes_asks, term_of, true, with_others, written_site, wrote, ℕ, ◌++◌, ◌<◌, ◌==◌, ◌∙◌, ◌∷◌, ◌≡◌, ◌≤◌}
 use Rattle.transaction_laws.proofs.Sites.SiteWalk.{WaitsQuietly, AnyReport, any-report, any-reports, asks-taken, asks-view, Walked, StopsOrBegins, NothingSeen, GoesOnSame, GoesOnNew, walked}
-use Rattle.cluster_steps.proofs.Frames.{begins_at}
-use Rattle.cluster_steps.proofs.SiteWalk.{settled_turn, settled-walk, after_sync-walk}
-use Rattle.cluster_steps.proofs.SiteTurns.{Wrote, wrote, written_site}
 use Rattle.transaction_laws.proofs.Sites.SiteLogs.{stopped-not-leads, sync-steady}
 
 -- ---- what is shown
@@ -35,10 +12,7 @@ Counted D i s = (n : ℕ) → acknowledged D i s ≡ Some n → n ≤ s.firm
 
 -- A word that makes the site a member is of a term above its mark.
 abbrev pub AboveMark : Deployment → ℕ → SiteState → Actor → Letter → Type 0
-AboveMark D i s (Agent h) l = elim l.body as (λ _. Type 0) [
-  | msg.View w ↦ stays_joiner D i s w ≡ false → s.mark < term_of w
-  | _ ↦ Unit {0}
-]
+AboveMark D i s (Agent h) l = elim l.body as (λ _. Type 0) [ msg.View w ↦ stays_joiner D i s w ≡ false → s.mark < term_of w | _ ↦ Unit {0} ]
 AboveMark D i s from l = Unit {0}
 
 abbrev pub Unrepaired : SiteState → Type 0
@@ -188,10 +162,7 @@ module _ (E : Database) (D : Deployment) (i : ℕ) (v : SiteState) where
   last = (takes_asks E D i v).state
 
   asks-leader : is_leader D i last ≡ is_leader D i v
-  asks-leader = elim (asks-taken E D i v) [
-    | inl e ↦ ap (is_leader D i) e
-    | inr k ↦ ap (is_leader D i) k.is
-  ]
+  asks-leader = elim (asks-taken E D i v) [ inl e ↦ ap (is_leader D i) e | inr k ↦ ap (is_leader D i) k.is ]
 
   -- with a joiner more the least is no greater
   more-counted : (new : Joiner) → Counted D i v → Counted D i (record v { joiners = v.joiners ++ new ∷ [] })
@@ -207,10 +178,7 @@ module _ (E : Database) (D : Deployment) (i : ℕ) (v : SiteState) where
       omega (arith, k, l)
 
   asks-counted : Counted D i v → Counted D i last
-  asks-counted c = elim (asks-taken E D i v) [
-    | inl e ↦ subst (Counted D i) (sym e) c
-    | inr k ↦ subst (Counted D i) (sym k.is) (more-counted k.new c)
-  ]
+  asks-counted c = elim (asks-taken E D i v) [ inl e ↦ subst (Counted D i) (sym e) c | inr k ↦ subst (Counted D i) (sym k.is) (more-counted k.new c) ]
 
   asks-joined : (low : ℕ) → low ≤ length last.log → AllByRecursion (λ j. low ≤ j.stream_start) v.joiners → AllByRecursion (λ j. low ≤ j.stream_start) last.joiners
   asks-joined low long h = elim (asks-taken E D i v) [
@@ -372,11 +340,9 @@ pub sync-joined : (E : Database) (D : Deployment) (i : ℕ) (s : SiteState) (o :
     → AllByRecursion (λ j. low ≤ j.stream_start) (sync_turn E D i s o).state.joiners
 sync-joined E D i s NoFault low held led long = syncs-joined E D i s low held led long
 sync-joined E D i s (DisksShow shown failed) low held led long = syncs-joined E D i s low held led long
-sync-joined E D i s (DiskFails answered) low held led long = tt
-sync-joined E D i s (NoMemory answered) low held led long = tt
+sync-joined E D i s o low held led long = tt
 
 pub sync-unrepaired : (E : Database) (D : Deployment) (i : ℕ) (s : SiteState) (o : Environment) → Unrepaired s → Unrepaired (sync_turn E D i s o).state
 sync-unrepaired E D i s NoFault h = syncs-unrepaired E D i s h
 sync-unrepaired E D i s (DisksShow shown failed) h = syncs-unrepaired E D i s h
-sync-unrepaired E D i s (DiskFails answered) h = λ un. refl
-sync-unrepaired E D i s (NoMemory answered) h = λ un. refl
+sync-unrepaired E D i s o h = λ un. refl

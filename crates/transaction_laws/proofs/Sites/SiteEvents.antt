@@ -1,28 +1,7 @@
 -- A site takes a message, or syncs: all that holds of transactions holds after it.
-use Rattle.std.proofs.Common.{◌≡◌, ◌<◌, Bool, true, List, [], ◌∷◌, ◌++◌, append-nil, refl, sym, ◌∙◌, ◌⊎◌, inl, ◌+◌}
-use Rattle.std.specs.Prelude.{ℕ, length, None}
-use Rattle.std.specs.List.{AllByRecursion}
-use Rattle.volt_base.specs.declared.entry.Entry.{Entry}
-use Rattle.volt_wire.specs.declared.actor.Actor.{Actor}
-use Rattle.volt_wire.specs.declared.actor.Actor.TheVariants.{Agent, Site}
-use Rattle.cluster_model.specs.Engine.{Database}
-use Rattle.cluster_model.specs.Letters.{Letter}
-use Rattle.cluster_model.specs.Environment.{Environment}
-use Rattle.cluster_model.specs.SiteState.{SiteState, leads}
-use Rattle.cluster_model.specs.Sync.{site_turn, sync_turn}
-use Rattle.cluster_steps.proofs.Lists.{all-at, all-from, all-mono}
-use Rattle.cluster_steps.proofs.SiteTurns.{NoWord, PlainWaiting, plain-word, sync-waits, turn-waits}
-use Rattle.log_laws.specs.Histories.{LogState, Logs, LogsHold, IsSlot, part, site_start, log_at}
-use Rattle.log_laws.proofs.Kept.Moves.{Enters, Grown, after_site, site_popped}
-use Rattle.log_laws.proofs.Kept.Terms.{some-start}
-use Rattle.log_laws.proofs.Entries.Leads.{Leading, leading}
-use Rattle.disk_laws.specs.Disks.{DisksHold, Firm}
-use Rattle.reply_laws.proofs.Turns.{no-log, site_turn-answers, sync_turn-answers, waits-plain}
-use Rattle.disk_laws.proofs.SiteDisks.{Raised}
-use Rattle.disk_laws.proofs.Turning.{DisksGo, fewer}
-use Rattle.transaction_laws.specs.Transactions.{Transactions, CallsHold, SiteCalls, ToOrders, ToSiteOk, WaitsPlain}
-use Rattle.transaction_laws.proofs.Kept.Moves.{with_due}
-use Rattle.transaction_laws.proofs.Initiators.Orders.{LaidOut}
+use Rattle.transaction_laws.proofs.Names.{Actor, Agent, AllByRecursion, Bool, CallsHold, Database, DisksGo, DisksHold, Enters, Entry, Environment, Firm, Grown, IsSlot, Leading, Letter, List, LogState, Logs, LogsHold, NoWord, None, PlainWaiting, Raised, Site, SiteCalls, SiteState, ToOrders, ToSiteOk, Transactions, WaitsPlain, [], after_site, all-at, all-from, all-mono, append-nil, fewer, inl, leading, leads, length, log_at, no-log, part, plain-word, refl, site_popped, site_start, site_turn, site_turn-answers, some-start, sym, sync-waits, sync_turn, sync_turn-answers, true, turn-waits, waits-plain, ℕ, ◌++◌, ◌+◌, ◌<◌, ◌∙◌, ◌∷◌, ◌≡◌, ◌⊎◌}
+use Rattle.transaction_laws.proofs.Kept.{with_due}
+use Rattle.transaction_laws.proofs.Initiators.{LaidOut}
 use Rattle.transaction_laws.proofs.Sites.Leaderships.{OwnTurn, due_after, runs}
 use Rattle.transaction_laws.proofs.Sites.Answers.{orders-fit}
 use Rattle.transaction_laws.proofs.Sites.SiteCounts.{sync-counted, sync-joined, sync-unrepaired}

@@ -1,32 +1,6 @@
 -- What the laws of logs and of disks give of a message that a site takes, and of those that wait at it.
-use Rattle.std.proofs.Common.{◌≡◌, ◌<◌, ◌≤◌, Bool, true, false, List, [], ◌∷◌, refl, sym, subst, ap, ◌∙◌, inl, inr, arith}
-use Rattle.std.proofs.lemmas.Bool.{cases_Bool}
-use Rattle.std.specs.Prelude.{ℕ, length, Option, Some, None}
-use Rattle.std.specs.List.{AllByRecursion}
-use Rattle.volt_wire.specs.Word.{Membership}
-use Rattle.volt_wire.specs.declared.actor.Actor.{Actor}
-use Rattle.volt_wire.specs.declared.actor.Actor.TheVariants.{Director, Client, Agent, Site, Scanner}
-use Rattle.volt_wire.specs.declared.message.Msg.{Msg}
 use Rattle.volt_wire.specs.declared.message.Msg.TheVariants as msg
-use Rattle.cluster_model.specs.Engine.{Database}
-use Rattle.cluster_model.specs.Words.{term_of, term_in}
-use Rattle.cluster_model.specs.Letters.{Blocks, Letter, Turn, Waiting, arrival, Taken}
-use Rattle.cluster_model.specs.SiteState.{SiteState, Joining, Streamed, Reported, is_leader, leads, site_term}
-use Rattle.cluster_model.specs.Site.{site_handler}
-use Rattle.cluster_model.specs.Environment.{Environment}
-use Rattle.cluster_model.specs.Sync.{site_turn}
-use Rattle.cluster_steps.specs.Lists.{In}
-use Rattle.cluster_steps.proofs.Lists.{all-at, all-from, not-both, all-both, all-mono, none-and-some, same-some}
-use Rattle.log_laws.specs.Histories.{LogState, LogsHold, ReportOk, SiteLetterOk, SiteWaitingFrom, SiteWaitingOk, IsSlot, line, line_in, line_of, between, part, site_start, term_at}
-use Rattle.cluster_steps.proofs.Leaders.{leader-view}
-use Rattle.log_laws.proofs.Plain.Copies.{is-leader, leader-follows-none}
-use Rattle.log_laws.proofs.Plain.Lines.{flat-each, for-true}
-use Rattle.log_laws.proofs.Runs.SiteHandlers.{taken-here}
-use Rattle.disk_laws.specs.Disks.{Firm, StreamDisk, DisksHold}
-use Rattle.cluster_steps.proofs.SiteTurns.{KeepsWord, NoWord, anew, handler-keeps, stays_joiner, site_turn-cases, whole_turn, whole-keeps}
-use Rattle.disk_laws.proofs.Worded.{later-term, unstreamed, word-based, word-unnamed}
-use Rattle.transaction_laws.specs.Transactions.{WaitsPlain}
-use Rattle.cluster_steps.proofs.StateSteps.{Comes, ReportOf}
+use Rattle.transaction_laws.proofs.Names.{Actor, Agent, AllByRecursion, Blocks, Bool, Comes, Database, DisksHold, Environment, Firm, In, IsSlot, Joining, KeepsWord, Letter, List, LogState, LogsHold, Membership, Msg, NoWord, None, Option, ReportOf, ReportOk, Reported, Site, SiteLetterOk, SiteState, SiteWaitingFrom, SiteWaitingOk, Some, StreamDisk, Streamed, Taken, Turn, Waiting, WaitsPlain, [], all-at, all-both, all-from, all-mono, anew, ap, arith, arrival, between, cases_Bool, false, for-true, handler-keeps, inl, inr, is-leader, is_leader, later-term, leader-follows-none, leader-view, leads, length, line, flat-each, line_of, line_in, none-and-some, not-both, part, refl, same-some, site_handler, site_start, site_term, site_turn, site_turn-cases, stays_joiner, subst, sym, taken-here, term_at, term_in, term_of, true, unstreamed, whole-keeps, whole_turn, word-based, word-unnamed, ℕ, ◌<◌, ◌∙◌, ◌∷◌, ◌≡◌, ◌≤◌}
 use Rattle.transaction_laws.proofs.Sites.SiteWalk.{WaitsQuietly, quiet-word, waits-quietly, taken_by}
 use Rattle.transaction_laws.proofs.Sites.SiteLogs.{SteadyLog, Started, stopped-not-leads, site-steady, site-starts}
 use Rattle.transaction_laws.proofs.Sites.SiteCounts.{Counted, AboveMark, Unrepaired, site-counted, site-joined, site-unrepaired}
@@ -50,10 +24,7 @@ waiting-report S i t x k = go x.from x.letter k.1
       | msg.Report position floor tail ↦ λ k e. subst (λ n. ReportOk S (part S i) j n position floor tail) e k.1
       | b ↦ λ k e. tt
     ]
-    go (Agent h) l = λ k e. tt
-    go Director l = λ k e. tt
-    go (Client n) l = λ k e. tt
-    go (Scanner n) l = λ k e. tt
+    go from l = λ k e. tt
 
 pub waiting-reports : (S : LogState) → LogsHold S → (i : ℕ) → 0 < site_start S i → (t : ℕ)
     → AllByRecursion (λ x. x.letter.term ≡ t → ReportOf (ReportsOk S (part S i) t) x.from x.letter) (S.sites i).waiting
@@ -125,10 +96,7 @@ module _ (S : LogState) (H : LogsHold S) (i : ℕ) (slot : IsSlot S i) (up : 0 <
 
           go : (o : Option Streamed) → j.stream ≡ o → s.mark ≡ term_at S i
           go None q = absurd (not-both j.is_loaded (((H.sites i).joiner j joins).based (word-based S H i slot up h l w ls is take j joins v e)) (unstreamed S H i j joins q).0)
-          go (Some st) q = elim (cases_Bool halted) [
-            | inl x ↦ absurd (stopped x st q)
-            | inr x ↦ on x st q
-          ]
+          go (Some st) q = elim (cases_Bool halted) [ inl x ↦ absurd (stopped x st q) | inr x ↦ on x st q ]
 
       below : stays_joiner S.words.deployment i s w ≡ false → s.mark < term_of w
       below enters = choice s.joining refl
@@ -156,9 +124,7 @@ module _ (S : LogState) (H : LogsHold S) (i : ℕ) (slot : IsSlot S i) (up : 0 <
         go : (from : Actor) → S.words.channel from (Site i) ≡ l ∷ ls → Comes S.words.deployment i s from l
         go (Site c) e = site-from c l ls e take
         go (Agent h) e = agent h l.body e
-        go Director e = tt
-        go (Client n) e = tt
-        go (Scanner x) e = tt
+        go from e = tt
 
     pub site-above : (F : Firm) (halted : Bool) → DisksHold S F halted → AboveMark S.words.deployment i s from l
     site-above F halted K = go from is
@@ -171,20 +137,14 @@ module _ (S : LogState) (H : LogsHold S) (i : ℕ) (slot : IsSlot S i) (up : 0 <
 
         go : (from : Actor) → S.words.channel from (Site i) ≡ l ∷ ls → AboveMark S.words.deployment i s from l
         go (Agent h) e = agent h l.body e
-        go (Site c) e = tt
-        go Director e = tt
-        go (Client n) e = tt
-        go (Scanner x) e = tt
+        go from e = tt
 
     pub site-report : ReportOf (ReportsOk S (part S i) (term_at S i)) from l
     site-report = go from is
       where
         go : (from : Actor) → S.words.channel from (Site i) ≡ l ∷ ls → ReportOf (ReportsOk S (part S i) (term_at S i)) from l
         go (Site c) e = report-from c l ls e take
-        go (Agent h) e = tt
-        go Director e = tt
-        go (Client n) e = tt
-        go (Scanner x) e = tt
+        go from e = tt
 
 -- ---- the turn
 
@@ -227,10 +187,7 @@ module _ (E : Database) (stamp : ℕ) (S : LogState) (H : LogsHold S) (i : ℕ) 
       go : (from : Actor) → ((c : ℕ) → from ≡ Site c → u.view ≡ (S.sites i).view) → ReportOf (ReportsOk S (part S i) (term_at S i)) from l
           → ReportOf (ReportsOk S (part S i) (site_term u)) from l
       go (Site c) same k = subst (λ n. ReportOf (ReportsOk S (part S i) n) (Site c) l) (sym (ap term_in (same c refl))) k
-      go (Agent h) same k = tt
-      go Director same k = tt
-      go (Client n) same k = tt
-      go (Scanner x) same k = tt
+      go from same k = tt
 
   pub given-starts : leads S.words.deployment i u ≡ true → (leads S.words.deployment i (S.sites i) ≡ true → u.view ≡ (S.sites i).view → ⊥)
       → Started S.words.deployment stamp i (S.sites i) u (ReportsOk S (part S i) (site_term u))

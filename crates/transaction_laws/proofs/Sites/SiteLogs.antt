@@ -1,25 +1,7 @@
 -- What a turn of a site makes of its log where the site leads after it.
-use Rattle.std.proofs.Common.{◌≡◌, ◌<◌, Bool, true, false, List, [], ◌∷◌, ◌++◌, append_assoc, append-nil, refl, sym, subst, ap, ◌∙◌, ◌⊎◌, inl, inr, ◌==◌, arith}
-use Rattle.std.proofs.lemmas.Bool.{false_from_ne_true}
-use Rattle.std.specs.Prelude.{ℕ, length, Some, None}
-use Rattle.std.specs.List.{AllByRecursion, list_any, list_all}
-use Rattle.volt_base.specs.declared.entry.Entry.{Entry}
-use Rattle.volt_wire.specs.declared.actor.Actor.{Actor}
-use Rattle.cluster_model.specs.Engine.{Database}
-use Rattle.cluster_model.specs.Log.{nothing_open}
-use Rattle.cluster_model.specs.Words.{Deployment, term_of, term_in}
-use Rattle.cluster_model.specs.Letters.{Letter, arrival, Taken}
-use Rattle.cluster_model.specs.SiteState.{SiteState, Reported, is_leader, leads, other_copies, site_term}
-use Rattle.cluster_model.specs.Site.{longest, lacks, takes_asks, in_new_term}
-use Rattle.cluster_model.specs.Environment.{Environment, NoFault, DiskFails, NoMemory, DisksShow}
-use Rattle.cluster_model.specs.Sync.{after_sync, site_turn, syncs, sync_turn}
-use Rattle.cluster_steps.proofs.Lists.{all-append, not-both, none-and-some}
-use Rattle.cluster_steps.proofs.Leaders.{leader-view, leads-parts, leads-from}
-use Rattle.transaction_laws.proofs.Kept.Moves.{CallsAt, IsCallAt}
-use Rattle.cluster_steps.proofs.StateSteps.{Comes, Over, ReportOf, StateSaying, StateSteps, over-moves, over-settles, over-tells, with_others}
+use Rattle.transaction_laws.proofs.Names.{Actor, AllByRecursion, Bool, Comes, Database, Deployment, DiskFails, DisksShow, Entry, Environment, Letter, List, NoFault, NoMemory, None, Over, ReportOf, Reported, SiteState, Some, StateSaying, StateSteps, Taken, [], after_sync, after_sync-walk, all-append, ap, append-nil, append_assoc, arith, arrival, false, false_from_ne_true, in_new_term, inl, inr, is_leader, lacks, leader-view, leads, leads-from, leads-parts, length, list_all, list_any, longest, none-and-some, not-both, nothing_open, other_copies, over-moves, over-settles, over-tells, refl, settled-walk, settled_turn, site_term, site_turn, subst, sym, sync_turn, syncs, takes_asks, term_in, term_of, true, with_others, written_site, wrote, ℕ, ◌++◌, ◌<◌, ◌==◌, ◌∙◌, ◌∷◌, ◌≡◌, ◌⊎◌}
+use Rattle.transaction_laws.proofs.Kept.{CallsAt, IsCallAt}
 use Rattle.transaction_laws.proofs.Sites.SiteWalk.{WaitsQuietly, WaitsReport, taken_at, taken_by, AnyReport, any-report, any-reports, asks-taken, asks-view, Walked, StopsOrBegins, NothingSeen, GoesOnSame, GoesOnNew, walked, comes-view, wrote-leader}
-use Rattle.cluster_steps.proofs.SiteWalk.{settled_turn, settled-walk, after_sync-walk}
-use Rattle.cluster_steps.proofs.SiteTurns.{wrote, written_site}
 
 -- ---- what is shown
 
@@ -72,15 +54,7 @@ started-then : (D : Deployment) (stamp i : ℕ) (s m u : SiteState) (P : Reporte
     → Started D stamp i s u P
 started-then D stamp i s m u P k view runs =
     let r = runs-then stamp (repaired_log s k.reports) m.log u.log (record { more = k.more; is = k.log_is; at = k.at; room = k.room }) runs in
-    record {
-      reports = k.reports;
-      ok = k.ok;
-      each = rw view k.each;
-      more = r.more;
-      log_is = r.is;
-      at = r.at;
-      room = r.room;
-    }
+    record { reports = k.reports; ok = k.ok; each = rw view k.each; more = r.more; log_is = r.is; at = r.at; room = r.room }
 
 started-from : (D : Deployment) (stamp i : ℕ) (s m u : SiteState) (P : Reported → Type 0) → m.log ≡ s.log → Started D stamp i m u P → Started D stamp i s u P
 started-from D stamp i s m u P same k = record {
@@ -158,15 +132,7 @@ module _ (D : Deployment) (stamp i : ℕ) (P : Reported → Type 0) where
       steady = λ _ ready. absurd (not-both s.repaired ready un);
       begins = λ _ still ok. inr (
         refl,
-        record {
-          reports = s.reports;
-          ok = ok;
-          each = all;
-          more = [];
-          log_is = sym (append-nil (repaired_log s s.reports));
-          at = tt;
-          room = inl refl;
-        },
+        record { reports = s.reports; ok = ok; each = all; more = []; log_is = sym (append-nil (repaired_log s s.reports)); at = tt; room = inl refl },
       );
     };
     reported = λ s r p. record {
@@ -240,10 +206,7 @@ module _ (E : Database) (D : Deployment) (stamp i : ℕ) (s : SiteState) (from :
     begins-term : (b : SiteState) → b.log ≡ s.log → b.repaired ≡ false → AllByRecursion P b.reports → LogGoes D stamp i P b u → leads D i u ≡ true → Started D stamp i s u P
     begins-term b log un ok k led =
         let p = leads-parts D i u led in
-        elim (k.begins (sym k.same ∙ p.0) un ok) [
-          | inl a ↦ absurd (not-both u.repaired p.1 a.0)
-          | inr a ↦ started-from D stamp i s b u P log a.1
-        ]
+        elim (k.begins (sym k.same ∙ p.0) un ok) [ inl a ↦ absurd (not-both u.repaired p.1 a.0) | inr a ↦ started-from D stamp i s b u P log a.1 ]
 
     pub site-starts : 0 < s.start → (arrival s.start (site_term s) l ≡ Taken → Comes D i s from l) → AllByRecursion WaitsQuietly s.waiting
         → leads D i u ≡ true → (leads D i s ≡ true → u.view ≡ s.view → ⊥) → (u.view ≡ s.view → AllByRecursion P s.reports)
@@ -261,8 +224,7 @@ module _ (E : Database) (D : Deployment) (stamp i : ℕ) (s : SiteState) (from :
 
         stays : (c : Bool) → leads D i s ≡ c → (log : List Entry) → (leads D i s ≡ false → log ≡ s.log) → LogGoes D stamp i P (record s { log = log }) u → Started D stamp i s u P
         stays true e log other k = absurd (anew e k.view)
-        stays false e log other k =
-            begins-term (record s { log = log }) (other e) (unrepaired (sym k.same ∙ (leads-parts D i u led).0) e) (held k.view) k led
+        stays false e log other k = begins-term (record s { log = log }) (other e) (unrepaired (sym k.same ∙ (leads-parts D i u led).0) e) (held k.view) k led
 
         go : Walked E D i (LogGoes D stamp i P) s from l u → Started D stamp i s u P
         go (StopsOrBegins view joiners) = absurd (stopped-not-leads D i u view led)

@@ -1,30 +1,7 @@
 -- Rounds and ends under way to a site: which of them it takes, and what is due to it then.
-use Rattle.std.proofs.Common.{◌≡◌, true, false, List, [], ◌∷◌, ◌++◌, append-nil, refl, sym, subst, ap, ◌∙◌, ◌⊎◌, inl, inr, ◌==◌, ◌≤◌, arith}
-use Rattle.std.proofs.lemmas.Bool.{cases_Bool, false_from_ne_true}
-use Rattle.std.proofs.lemmas.Bool.Decides.{nat_tests}
-use Rattle.std.proofs.Math.Seq.{drop-append_seam}
-use Rattle.std.specs.Prelude.{ℕ, ◌&&◌, length, drop, if◌then◌else◌, Some, None}
-use Rattle.std.specs.List.{AllByRecursion}
-use Rattle.volt_base.specs.declared.entry.Entry.{Entry}
-use Rattle.volt_base.specs.declared.entry.Entry.TheVariants.{Frag, Done}
-use Rattle.volt_wire.specs.declared.actor.Actor.{Actor}
-use Rattle.volt_wire.specs.declared.actor.Actor.TheVariants.{Director, Client, Agent, Site, Scanner}
 use Rattle.volt_wire.specs.declared.message.Msg.TheVariants as msg
-use Rattle.cluster_model.specs.Words.{term_of, term_in, initiator}
-use Rattle.cluster_model.specs.Letters.{same, Letter, arrival, Arrival, Taken, Refused, Waits}
-use Rattle.cluster_model.specs.SiteState.{SiteState}
-use Rattle.cluster_model.specs.World.{rest}
-use Rattle.cluster_steps.proofs.Lists.{all-mono, and-false, eqb-same, if-false, if-true, none-and-some, not-both, same-some}
 use Rattle.word_laws.proofs.Steps as word_steps
-use Rattle.log_laws.specs.Histories.{LogState, LogsHold, IsSlot, is_for, part, site_start, term_at}
-use Rattle.log_laws.proofs.Plain.Lines.{both-empty, flat-none, for-false, for-true, if-none, true-for}
-use Rattle.log_laws.proofs.Messages.Pops.{refused-for, waits-for}
-use Rattle.log_laws.proofs.Runs.SiteHandlers.{taken-here}
-use Rattle.log_laws.proofs.Kept.Moves.{site_popped}
-use Rattle.log_laws.proofs.Kept.Plumbing.{popped-here}
-use Rattle.log_laws.proofs.Kept.Terms.{leadership-entered, same-word}
-use Rattle.log_laws.proofs.Entries.Leads.{Leading}
-use Rattle.transaction_laws.specs.Transactions.{Transactions, DueOk, OrderOk, SiteCalls, ToSiteOk, WaitsPlain, order_in, order_of, orders}
+use Rattle.transaction_laws.proofs.Names.{Actor, Agent, AllByRecursion, Arrival, Client, Director, Done, DueOk, Entry, Frag, IsSlot, Leading, Letter, List, LogState, LogsHold, None, OrderOk, Refused, Scanner, Site, SiteCalls, SiteState, Some, Taken, ToSiteOk, Transactions, Waits, WaitsPlain, [], all-mono, and-false, ap, append-nil, arith, arrival, both-empty, cases_Bool, drop, drop-append_seam, eqb-same, false, false_from_ne_true, flat-none, for-false, for-true, if-false, if-none, if-true, if◌then◌else◌, initiator, inl, inr, is_for, leadership-entered, length, nat_tests, none-and-some, not-both, order_in, order_of, orders, part, popped-here, refl, refused-for, rest, same, same-some, same-word, site_popped, site_start, subst, sym, taken-here, term_at, term_in, term_of, true, true-for, waits-for, ℕ, ◌&&◌, ◌++◌, ◌==◌, ◌∙◌, ◌∷◌, ◌≡◌, ◌≤◌, ◌⊎◌}
 use Rattle.transaction_laws.proofs.Sites.SiteWalk.{taken_by}
 
 -- ---- channels to a site that takes a message
@@ -111,16 +88,11 @@ module _ (S : LogState) (H : LogsHold S) (i : ℕ) (slot : IsSlot S i) where
   ]
     where
       at : Arrival → List Entry
-      at a = elim a as (λ _. List Entry) [
-        | Taken ↦ order_in l.body
-        | Refused ↦ []
-        | Waits ↦ []
-      ]
+      at a = elim a as (λ _. List Entry) [ Taken ↦ order_in l.body | Refused ↦ [] | Waits ↦ [] ]
 
       none-taken : order_in l.body ≡ [] → (a : Arrival) → at a ≡ []
       none-taken e Taken = e
-      none-taken e Refused = refl
-      none-taken e Waits = refl
+      none-taken e a = refl
 
       either : OrderOk S h i l → (a : Arrival) → arrival (site_start S i) (term_at S i) l ≡ a → order_of (site_start S i) (term_at S i) l ≡ at a
       either o Taken e = let q = taken-here (site_start S i) (term_at S i) l e o.addressed.0 o.addressed.1 in own-ordered (site_start S i) (term_at S i) l q.0 q.1
@@ -178,10 +150,7 @@ module _ (S : LogState) (H : LogsHold S) (K : Transactions) (due : (p t : ℕ) �
         | inr n ↦ inl (sym take ∙ if-false (is_for (site_start S i) (term_at S i) l) (order_in l.body) [] n)
       ]
     ]
-    taking (Site c) okl = inl (takes-nothing (arrival (site_start S i) (term_at S i) l))
-    taking Director okl = inl (takes-nothing (arrival (site_start S i) (term_at S i) l))
-    taking (Client n) okl = inl (takes-nothing (arrival (site_start S i) (term_at S i) l))
-    taking (Scanner x) okl = inl (takes-nothing (arrival (site_start S i) (term_at S i) l))
+    taking from okl = inl (takes-nothing (arrival (site_start S i) (term_at S i) l))
 
     -- of a channel from the initiator: what it takes, and what is under way behind that
     module _ (h a : ℕ) (init : initiator k.word ≡ Some (h, a)) (e : from ≡ Agent h) where

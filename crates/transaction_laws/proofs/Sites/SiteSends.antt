@@ -1,32 +1,8 @@
 -- What a site says to agents, after its turn: its answers are of entries that are firm, and how its partition stands is as its term began.
-use Rattle.std.proofs.Common.{◌≡◌, ◌<◌, Bool, true, false, List, [], ◌∷◌, ◌++◌, max, refl, sym, subst, ap, ◌∙◌, inr, ◌==◌, arith}
-use Rattle.std.proofs.lemmas.Bool.{and_parts, eqb-true}
-use Rattle.std.specs.Prelude.{ℕ, ◌≤◌, length, drop, map, if◌then◌else◌, Option, Some, None, option_map}
-use Rattle.std.specs.List.{AllByRecursion, list_all}
-use Rattle.volt_base.specs.declared.entry.Entry.{Entry}
-use Rattle.volt_base.specs.declared.entry.Entry.TheVariants.{Frag, Done}
-use Rattle.volt_base.specs.declared.entry.Outcome.{Outcome}
 use Rattle.volt_wire.specs.declared.message.Msg.TheVariants as msg
-use Rattle.cluster_model.specs.Engine.{Database}
-use Rattle.cluster_model.specs.Log.{open_in, last_done}
-use Rattle.cluster_model.specs.Words.{Deployment, term_of, term_in, is_some_of}
-use Rattle.cluster_model.specs.Letters.{Letter}
-use Rattle.cluster_model.specs.SiteState.{SiteState, Joiner, site_term, leads, other_copies}
-use Rattle.cluster_model.specs.Site.{acked_in, copy_acks, has_all_on_disk, least, lesser, own_ack, standing}
-use Rattle.cluster_steps.proofs.Lists.{all-append, none-and-some}
-use Rattle.word_laws.proofs.Members.{is_some_of-is}
-use Rattle.log_laws.specs.Histories.{LogState, LogsHold, IsSlot, part, site_start}
-use Rattle.cluster_steps.specs.Lists.{Prefix}
-use Rattle.cluster_steps.proofs.Prefixes.{prefix-length, prefix-rest}
-use Rattle.log_laws.proofs.Kept.Terms.{some-term}
-use Rattle.log_laws.proofs.Entries.Leads.{Leading, leading}
-use Rattle.log_laws.proofs.Runs.Leading.{leads-runs}
-use Rattle.disk_laws.specs.Disks.{DisksHold, Firm, MemberDisk, Top}
-use Rattle.transaction_laws.specs.Machine.{first_stage, stage}
-use Rattle.transaction_laws.specs.Transactions.{Transactions, ToOrders, AnswerOk, Books, CountsOk, Everywhere, IsPart, OnlyCalls, EntryAt, StateOk, Stood, acknowledged}
-use Rattle.reply_laws.specs.Answers.{SentAnswer}
+use Rattle.transaction_laws.proofs.Names.{AllByRecursion, AnswerOk, Books, Bool, CountsOk, Database, Deployment, DisksHold, Done, Entry, EntryAt, Everywhere, Firm, Frag, IsPart, IsSlot, Joiner, Leading, Letter, List, LogState, LogsHold, MemberDisk, None, OnlyCalls, Option, Outcome, Prefix, SentAnswer, SiteState, Some, StateOk, Stood, ToOrders, Top, Transactions, [], acked_in, acknowledged, all-append, and_parts, ap, arith, copy_acks, drop, eqb-true, false, first_stage, has_all_on_disk, if◌then◌else◌, inr, is_some_of, is_some_of-is, last_done, leading, leads, leads-runs, least, length, lesser, list_all, map, max, none-and-some, open_in, option_map, other_copies, own_ack, part, prefix-length, prefix-rest, refl, site_start, site_term, some-term, stage, standing, subst, sym, term_in, term_of, true, ℕ, ◌++◌, ◌<◌, ◌==◌, ◌∙◌, ◌∷◌, ◌≡◌, ◌≤◌}
+use Rattle.transaction_laws.proofs.Entries.{calls-done, calls-opened, done-append, open_in-stage, stage-append}
 use Rattle.transaction_laws.proofs.Sites.Answers.{AnswersFirm, answers-firm}
-use Rattle.transaction_laws.proofs.Entries.Machine.{calls-done, calls-opened, done-append, open_in-stage, stage-append}
 
 -- ---- the least of what was acknowledged
 
@@ -109,10 +85,7 @@ module _ (E : Database) (T : LogState) (J : LogsHold T) (M : Firm) (halted : Boo
 
     -- what it counts firm is everywhere
     everywhere : (n : ℕ) → n ≤ s.firm → Everywhere T M (part T i) (term_of k.word) n
-    everywhere n l = record {
-      reach = let a = k.member.firm in omega (arith, l, a);
-      firm = let a = disk.firm in omega (arith, l, a);
-    }
+    everywhere n l = record { reach = let a = k.member.firm in omega (arith, l, a); firm = let a = disk.firm in omega (arith, l, a) }
 
     -- An answer is of an entry that is firm.
     answer-stood : (term : ℕ) (e : Entry) → AnswersFirm D i s term e → (0 < term) × Stood T M (part T i) term e
@@ -154,12 +127,7 @@ module _ (E : Database) (T : LogState) (J : LogsHold T) (M : Firm) (halted : Boo
           go false e q = absurd (none-and-some refl q)
 
       own-top : Top T (part T i) (term_of k.word) 0
-      own-top = record {
-        slot = i;
-        is_slot = slot;
-        part_is = refl;
-        all = rw disk.shows (inr (own-mark ∙ term-is, omega arith), tt);
-      }
+      own-top = record { slot = i; is_slot = slot; part_is = refl; all = rw disk.shows (inr (own-mark ∙ term-is, omega arith), tt) }
 
       told-state : (m : ℕ) (is_open : Bool) (outcome : Option Outcome) → standing (open_in s.log) (last_done E (part T i) s.log) ≡ msg.MpState m is_open outcome
           → L.heard < term_of k.word → StateOk E T M (part T i) (term_of k.word) m is_open outcome

@@ -1,36 +1,7 @@
 -- What holds of transactions, after a turn of a site: from what is so of the site's own turn.
-use Rattle.std.proofs.Common.{◌≡◌, ◌<◌, Bool, true, false, List, [], max, refl, sym, subst, ap, ◌∙◌, ◌⊎◌, inl, inr, ◌+◌, arith}
-use Rattle.std.proofs.lemmas.Bool.{cases_eq}
-use Rattle.std.specs.Prelude.{ℕ, ◌≤◌, length, drop, if◌then◌else◌, Option, Some, None}
-use Rattle.std.specs.List.{AllByRecursion}
-use Rattle.volt_base.specs.declared.entry.Entry.{Entry}
-use Rattle.volt_wire.specs.Word.{Membership}
-use Rattle.volt_wire.specs.declared.actor.Actor.{Actor}
-use Rattle.volt_wire.specs.declared.actor.Actor.TheVariants.{Director, Client, Agent, Site, Scanner}
-use Rattle.cluster_model.specs.Engine.{Database}
-use Rattle.cluster_model.specs.Words.{Deployment, term_of, term_in, leader, initiator}
-use Rattle.cluster_model.specs.Disk.{Shown, chosen}
-use Rattle.cluster_model.specs.Letters.{Letter, Sends, Waiting}
-use Rattle.cluster_model.specs.SiteState.{SiteState, site_term, leads}
-use Rattle.cluster_steps.specs.Lists.{In}
-use Rattle.cluster_steps.proofs.Lists.{all-append, all-at, all-from, all-mono, in-none, none-and-some, same-some}
-use Rattle.log_laws.specs.Histories.{LogState, Logs, LeadsIn, Leadership, LogsHold, IsSlot, part, site_start, log_at, term_at}
-use Rattle.log_laws.proofs.Plain.Copies.{leader-is}
-use Rattle.cluster_steps.proofs.Leaders.{leader-view, leads-from}
-use Rattle.cluster_steps.proofs.Prefixes.{prefix-length}
-use Rattle.log_laws.proofs.Kept.Moves.{Enters, Grown}
-use Rattle.log_laws.proofs.Kept.Plumbing.{here, sent-either, there}
-use Rattle.log_laws.proofs.Kept.Terms.{same-word}
-use Rattle.log_laws.proofs.Entries.Leads.{Leading, leading}
-use Rattle.log_laws.proofs.Runs.Leading.{leads-runs}
-use Rattle.disk_laws.specs.Disks.{DisksHold, Firm, Shows, Top, shown_at}
-use Rattle.disk_laws.proofs.SiteDisks.{Raised}
-use Rattle.transaction_laws.specs.Transactions.{Transactions, Aligned, Books, CallsHold, CountsOk, ToOrders, AgentCalls, AnswerOk, InitiatingOk, IsPart, SiteCalls, ToSiteOk, WaitingAnswer, orders}
-use Rattle.transaction_laws.proofs.Kept.Moves.{Moved, Onto, with_due}
-use Rattle.transaction_laws.proofs.Kept.Worded.{aligned-later}
-use Rattle.transaction_laws.proofs.Kept.Later.{answer-on, books-moved, phase-moved, to_site-on}
-use Rattle.transaction_laws.proofs.Initiators.Orders.{LaidOut, slot-part}
-use Rattle.reply_laws.specs.Answers.{HoldsAnswers, SentAnswer, TurnAnswers}
+use Rattle.transaction_laws.proofs.Names.{Actor, Agent, AgentCalls, Aligned, AllByRecursion, AnswerOk, Books, Bool, CallsHold, CountsOk, Database, Deployment, DisksHold, Enters, Entry, Firm, Grown, HoldsAnswers, In, IsPart, IsSlot, Leadership, Leading, LeadsIn, Letter, List, LogState, Logs, LogsHold, Membership, None, Option, Raised, Sends, SentAnswer, Shown, Shows, Site, SiteCalls, SiteState, Some, ToOrders, ToSiteOk, Top, Transactions, TurnAnswers, [], all-append, all-at, all-from, all-mono, ap, arith, cases_eq, chosen, drop, false, here, if◌then◌else◌, in-none, initiator, inl, inr, leader, leader-is, leader-view, leading, leads, leads-from, leads-runs, length, log_at, max, none-and-some, orders, part, prefix-length, refl, same-some, same-word, sent-either, shown_at, site_start, site_term, subst, sym, term_at, term_in, term_of, there, true, ℕ, ◌+◌, ◌<◌, ◌∙◌, ◌≡◌, ◌≤◌, ◌⊎◌}
+use Rattle.transaction_laws.proofs.Kept.{Moved, Onto, with_due, aligned-later, answer-on, books-moved, to_site-on, agent-moved, keeps-same}
+use Rattle.transaction_laws.proofs.Initiators.{LaidOut, slot-part}
 use Rattle.transaction_laws.proofs.Sites.Answers.{NoOrderWaits}
 use Rattle.transaction_laws.proofs.Sites.SiteSends.{answers-ok}
 use Rattle.transaction_laws.proofs.Sites.Leaderships.{OwnTurn, all-moved, due-here, due-none, due-unless, due_after, heads-own, authoritative-on, led-before, next, runs, start, unled-due}
@@ -89,37 +60,16 @@ module _ (E : Database) (S : LogState) (H : LogsHold S) (F M : Firm) (halted : B
     moved p t _ = all-moved E S H K C.books.due (now + 1) i ch u out G J grown enters on taken facts.own p t
 
     books : Books E T M L (now + 1)
-    books = books-moved E S T F M K now due H J onto refl moved
-        (λ p t n. due-unless S K i u taken p t (λ e _ _ _. n (subst (IsPart S) (sym e) (slot-part S lay i slot)))) C.books
+    books = books-moved E S T F M K now (now + 1) due (omega arith) H (λ p t b. J) onto moved C.books (keeps-same S T K.heard refl)
+        (λ p t n. due-unless S K i u taken p t (λ e _ _ _. n (subst (IsPart S) (sym e) (slot-part S lay i slot))))
 
     -- ---- agents, and what is under way
 
     answer-kept : (p : ℕ) (l : Letter) → AnswerOk E S F K p l → AnswerOk E T M L p l
     answer-kept = answer-on E S T F M onto K L (omega arith)
 
-    initiating-kept : (h : ℕ) → InitiatingOk E S F K h → InitiatingOk E T M L h
-    initiating-kept h (inl off) = inl off
-    initiating-kept h (inr (w, k, phase)) = inr (
-      w,
-      record { runs = k.runs; has_decided = k.has_decided; initiates = k.initiates },
-      phase-moved E S T F M K now due H J onto moved C.books (term_of w) (S.words.agents h) (S.words.agents h).initiating.phase phase,
-    )
-
-    waiting-kept : (x : Waiting) → WaitingAnswer E S F K x → WaitingAnswer E T M L x
-    waiting-kept x = go x.from x.letter
-      where
-        go : (from : Actor) (l : Letter) → WaitingAnswer E S F K (record { from = from; letter = l }) → WaitingAnswer E T M L (record { from = from; letter = l })
-        go (Site c) l k = (k.0, answer-kept (part S c) l k.1)
-        go (Agent h) l k = tt
-        go Director l k = tt
-        go (Client n) l k = tt
-        go (Scanner y) l k = tt
-
     agents : (h : ℕ) → AgentCalls E T M L h
-    agents h = let a = C.agents h in record {
-      initiating = initiating-kept h a.initiating;
-      waiting = all-mono (WaitingAnswer E S F K) (WaitingAnswer E T M L) waiting-kept (S.words.agents h).waiting a.waiting;
-    }
+    agents h = agent-moved E S T F M K now (now + 1) due (omega arith) H (λ p t b. J) onto moved C.books h refl (C.agents h)
 
     to_sites : (h c : ℕ) → IsSlot S c → AllByRecursion (ToSiteOk T h c) (ch (Agent h) (Site c))
     to_sites h c is = all-from (ToSiteOk T h c) (ch (Agent h) (Site c)) (λ l m. to_site-on S T F M onto h c l

@@ -1,49 +1,14 @@
 -- What a whole turn of a site comes to, for a relation of its states that goes on over each small step.
-use Rattle.std.proofs.Common.{◌≡◌, ◌<◌, Bool, true, false, List, [], ◌∷◌, ◌++◌, append-nil, refl, sym, subst, ap, ◌∙◌, ◌⊎◌, inl, inr}
-use Rattle.std.specs.Prelude.{ℕ, length, Option, Some, None, is_some, ◌&&◌, not}
-use Rattle.std.specs.List.{AllByRecursion}
-use Rattle.volt_base.specs.declared.entry.Entry.{Entry}
-use Rattle.volt_base.specs.declared.entry.Entry.TheVariants.{Frag, Done}
-use Rattle.volt_wire.specs.Word.{Membership}
-use Rattle.volt_wire.specs.declared.actor.Actor.{Actor}
-use Rattle.volt_wire.specs.declared.actor.Actor.TheVariants.{Director, Client, Agent, Site, Scanner}
-use Rattle.volt_wire.specs.declared.message.Msg.{Msg}
 use Rattle.volt_wire.specs.declared.message.Msg.TheVariants as msg
-use Rattle.cluster_model.specs.Engine.{Database}
-use Rattle.cluster_model.specs.Log.{answer_behind}
-use Rattle.cluster_model.specs.Words.{Deployment, part_of_slot, host_of_slot, is_member, term_of}
-use Rattle.cluster_model.specs.Letters.{Blocks, Letter, Waiting, Turn, letter_in, arrival, Arrival, Taken, Refused, Waits}
-use Rattle.cluster_model.specs.SiteState.{SiteState, Joining, Reported, Joiner, is_leader, leads, site_term}
-use Rattle.cluster_model.specs.Site.{in_new_term, on_view, holds, holds_for, initiator_in, leads_with, on_frag, on_done, works_calls, takes_asks, site_handler, from_agent}
-use Rattle.cluster_model.specs.Environment.{Environment}
-use Rattle.cluster_model.specs.Sync.{site_turn}
-use Rattle.cluster_steps.specs.Lists.{In}
-use Rattle.cluster_steps.proofs.Lists.{all-at, all-from, not-both}
-use Rattle.cluster_steps.proofs.Leaders.{leader-same}
-use Rattle.cluster_steps.proofs.Frames.{holds_for-cases}
-use Rattle.cluster_steps.proofs.Steps.{KnownOf, with_entry}
-use Rattle.cluster_steps.proofs.SiteWalk.{handler-walk, leads_with-walk, works_calls-walk}
-use Rattle.cluster_steps.proofs.SiteTurns.{ForHost, NoWord, Wrote, takes_asks-cases, enters-walk, handler-keeps, joins-walk, stays_joiner, site_turn-cases, view-keeps, whole_turn, whole-keeps, worked_turn, worked-walk}
-use Rattle.cluster_steps.proofs.StateSteps.{Comes, ComesPlainly, Over, Plainly, ReportOf, StateSteps, over-steps, over-tells, with_others}
-use Rattle.log_laws.specs.Histories.{LogState, SiteWaitingFrom, SiteWaitingOk}
-use Rattle.transaction_laws.specs.Transactions.{WaitsPlain, order_in}
+use Rattle.cluster_model.specs.Site.{from_agent}
+use Rattle.transaction_laws.proofs.Names.{Actor, Agent, AllByRecursion, Arrival, Blocks, Bool, Client, Comes, ComesPlainly, Database, Deployment, Director, Done, Entry, Environment, ForHost, Frag, In, Joiner, Joining, KnownOf, Letter, List, LogState, Membership, Msg, NoWord, None, Option, Over, Plainly, Refused, ReportOf, Reported, Scanner, Site, SiteState, SiteWaitingFrom, SiteWaitingOk, Some, StateSteps, Taken, Turn, Waiting, Waits, WaitsPlain, Wrote, [], all-at, all-from, answer_behind, ap, append-nil, arrival, enters-walk, false, handler-keeps, handler-walk, holds, holds_for, holds_for-cases, host_of_slot, in_new_term, initiator_in, inl, inr, is_leader, is_member, is_some, joins-walk, leader-same, leads, leads_with, leads_with-walk, length, letter_in, not, not-both, on_done, on_frag, on_view, order_in, over-steps, over-tells, part_of_slot, refl, site_handler, site_term, site_turn, site_turn-cases, stays_joiner, subst, sym, takes_asks, takes_asks-cases, term_of, true, view-keeps, whole-keeps, whole_turn, with_entry, with_others, worked-walk, worked_turn, works_calls, works_calls-walk, ℕ, ◌&&◌, ◌++◌, ◌<◌, ◌∙◌, ◌∷◌, ◌≡◌, ◌⊎◌}
 
 -- ---- messages
 
 -- Nothing of these kinds waits for a term.
 abbrev pub InertKind : Actor → Letter → Type 0
-InertKind (Site slot) l = elim l.body as (λ _. Type 0) [
-  | msg.Put position e floor ↦ ⊥
-  | msg.Repair from entries ↦ ⊥
-  | msg.StreamStart head ↦ ⊥
-  | _ ↦ Unit {0}
-]
-InertKind (Agent h) l = elim l.body as (λ _. Type 0) [
-  | msg.View w ↦ ⊥
-  | msg.Frag m round body ↦ ⊥
-  | msg.Done m o ↦ ⊥
-  | _ ↦ Unit {0}
-]
+InertKind (Site slot) l = elim l.body as (λ _. Type 0) [ msg.Put position e floor ↦ ⊥ | msg.Repair from entries ↦ ⊥ | msg.StreamStart head ↦ ⊥ | _ ↦ Unit {0} ]
+InertKind (Agent h) l = elim l.body as (λ _. Type 0) [ msg.View w ↦ ⊥ | msg.Frag m round body ↦ ⊥ | msg.Done m o ↦ ⊥ | _ ↦ Unit {0} ]
 InertKind from l = Unit {0}
 
 abbrev pub WaitsQuietly : Waiting → Type 0
@@ -65,9 +30,7 @@ waits-quietly S c x k p = go x.from x.letter k.1 p
       | msg.Done m o ↦ λ k p. p
       | b ↦ λ k p. tt
     ]
-    go Director l = λ k p. tt
-    go (Client n) l = λ k p. tt
-    go (Scanner n) l = λ k p. tt
+    go from l = λ k p. tt
 
 -- P of a report that waits for a term
 abbrev pub WaitsReport : (Reported → Type 0) → ℕ → Waiting → Type 0
@@ -78,14 +41,8 @@ abbrev pub AnyReport : Reported → Type 0
 AnyReport r = Unit {0}
 
 pub any-report : (from : Actor) (l : Letter) → ReportOf AnyReport from l
-any-report (Site slot) l = elim l.body as (λ b. ReportOf AnyReport (Site slot) (record l { body = b })) [
-  | msg.Report position floor tail ↦ tt
-  | b ↦ tt
-]
-any-report (Agent h) l = tt
-any-report Director l = tt
-any-report (Client n) l = tt
-any-report (Scanner x) l = tt
+any-report (Site slot) l = elim l.body as (λ b. ReportOf AnyReport (Site slot) (record l { body = b })) [ msg.Report position floor tail ↦ tt | b ↦ tt ]
+any-report from l = tt
 
 pub any-reports : (term : ℕ) (ws : List Waiting) → AllByRecursion (WaitsReport AnyReport term) ws
 any-reports term ws = all-from (WaitsReport AnyReport term) ws (λ x i e. any-report x.from x.letter)
@@ -115,19 +72,14 @@ quiet-plainly D i P (Agent h) l k r s = (plainly k, comes k, r)
       | msg.View w ↦ λ k. absurd k
       | b ↦ λ k. tt
     ]
-quiet-plainly D i P Director l k r s = (tt, tt, r)
-quiet-plainly D i P (Client n) l k r s = (tt, tt, r)
-quiet-plainly D i P (Scanner x) l k r s = (tt, tt, r)
+quiet-plainly D i P from l k r s = (tt, tt, r)
 
 pub quiet-word : (from : Actor) (l : Letter) → InertKind from l → NoWord from l
 quiet-word (Agent h) l k = (elim l.body as (λ b. InertKind (Agent h) (record l { body = b }) → NoWord (Agent h) (record l { body = b })) [
   | msg.View w ↦ λ k. k
   | b ↦ λ k. tt
 ]) k
-quiet-word (Site slot) l k = tt
-quiet-word Director l k = tt
-quiet-word (Client n) l k = tt
-quiet-word (Scanner x) l k = tt
+quiet-word from l k = tt
 
 -- ---- rounds and ends
 
@@ -137,11 +89,7 @@ taken_from (Agent h) l = order_in l.body
 taken_from from l = []
 
 abbrev pub taken_at : Arrival → Actor → Letter → List Entry
-taken_at a from l = elim a as (λ _. List Entry) [
-  | Taken ↦ taken_from from l
-  | Refused ↦ []
-  | Waits ↦ []
-]
+taken_at a from l = elim a as (λ _. List Entry) [ Taken ↦ taken_from from l | Refused ↦ [] | Waits ↦ [] ]
 
 abbrev pub taken_by : SiteState → Actor → Letter → List Entry
 taken_by s from l = taken_at (arrival s.start (site_term s) l) from l
@@ -153,10 +101,7 @@ host-none (Agent h) l k = (elim l.body as (λ m. ForHost (record l { body = m })
   | msg.Done m o ↦ λ k. absurd k
   | m ↦ λ k. refl
 ]) k
-host-none (Site slot) l k = refl
-host-none (Scanner x) l k = refl
-host-none Director l k = refl
-host-none (Client n) l k = refl
+host-none from l k = refl
 
 -- A goes on from the site with the round or end that a leader takes.
 record TakenHandler (D : Deployment) (i : ℕ) (A : SiteState → SiteState → Type 0) (s : SiteState) (taken : List Entry) (u : SiteState) : Type 0 where
@@ -228,10 +173,7 @@ module _ (E : Database) (D : Deployment) (i : ℕ) (v : SiteState) where
   }))
 
   pub asks-view : (takes_asks E D i v).state.view ≡ v.view
-  asks-view = elim asks-taken [
-    | inl e ↦ ap (λ s. s.view) e
-    | inr k ↦ ap (λ s. s.view) k.is
-  ]
+  asks-view = elim asks-taken [ inl e ↦ ap (λ s. s.view) e | inr k ↦ ap (λ s. s.view) k.is ]
 
 -- ---- a turn
 
@@ -328,8 +270,7 @@ module _ (E : Database) (D : Deployment) (stamp i : ℕ) (P : Reported → Type 
     where
       none : (a : Arrival) → arrival s.start (site_term s) l ≡ a → (arrival s.start (site_term s) l ≡ Taken → ForHost l) → taken_by s from l ≡ []
       none Taken e f = ap (λ a. taken_at a from l) e ∙ host-none from l (f e)
-      none Refused e f = ap (λ a. taken_at a from l) e
-      none Waits e f = ap (λ a. taken_at a from l) e
+      none z e f = ap (λ a. taken_at a from l) e
 
 -- a word that comes is of a later term
 pub comes-view : (D : Deployment) (i : ℕ) (s : SiteState) (from : Actor) (l : Letter) (h : ℕ) (w : Membership) → from ≡ Agent h → l.body ≡ msg.View w → Comes D i s from l

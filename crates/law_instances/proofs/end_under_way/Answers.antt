@@ -1,0 +1,12 @@
+use Rattle.std.proofs.Common.{refl, take, drop, inl}
+use Rattle.cluster_model.specs.Scenarios.InitiatorLostBehindDone as behind_done
+use Rattle.law_instances.specs.Instances.{ended}
+use Rattle.law_instances.proofs.Worlds.{reached-first}
+use Rattle.law_instances.proofs.end_under_way.Goals as goal
+
+pub returns : goal.returns
+returns c =
+    let s = c.initiator_lost_behind_done.ensures in
+    let on = c.runs_lead_on.ensures.on behind_done.start (take 132 behind_done.events) (drop 132 behind_done.events) s.run in
+    let reached = c.runs_lead_on.ensures.reached behind_done.input behind_done.start ended (reached-first behind_done.input s.input) on.0 in
+    c.ends_are_of_firm_entries.ensures behind_done.input ended 1 1 1 _ reached (inl refl) refl
