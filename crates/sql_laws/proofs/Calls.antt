@@ -33,7 +33,7 @@ use Rattle.sql_laws.specs.Alone.{OnOnePart}
 
 -- ---- statements of a procedure
 
-statement_at : (catalog : Contents) (single : Bool) (statements : List Prepared) (n : ℕ) (statement : Prepared) → AllByRecursion (IsStatement catalog single) statements → slice_get statements n ≡ Some statement → IsStatement catalog single statement
+pub statement_at : (catalog : Contents) (single : Bool) (statements : List Prepared) (n : ℕ) (statement : Prepared) → AllByRecursion (IsStatement catalog single) statements → slice_get statements n ≡ Some statement → IsStatement catalog single statement
 statement_at catalog single [] n statement all e = absurd (cc)
 statement_at catalog single (s ∷ statements) zero statement all e = subst (IsStatement catalog single) (let f : Some s ≡ Some statement = e in cc) all.0
 statement_at catalog single (s ∷ statements) (suc n) statement all e = statement_at catalog single statements n statement all.1 e
@@ -43,7 +43,7 @@ writes_partitioned catalog statement is n e =
     let two = and_parts (is_one_partition statement.scope) (is_partitioned catalog (written_by statement.action)) is.suits in
     subst (λ o. is_partitioned catalog o ≡ true) e two.1
 
-runs_on_many : (catalog : Contents) (statement : Prepared) → IsStatement catalog false statement → statement.scope ≡ OnePartition → ⊥
+pub runs_on_many : (catalog : Contents) (statement : Prepared) → IsStatement catalog false statement → statement.scope ≡ OnePartition → ⊥
 runs_on_many catalog statement is e = both_ways (is_one_partition statement.scope) (not-true (is_one_partition statement.scope) is.suits) (ap is_one_partition e)
 
 -- ---- a talk leaves what its statements leave
@@ -130,7 +130,7 @@ own-share parts part catalog db is =
       others = λ n none. refl;
     }
 
-procedure_at : (catalog : Contents) (procs : List (ProcDef × Program)) (n : ℕ) (proc : ProcDef × Program) → AllByRecursion (λ proc. IsProcedure catalog proc.0 proc.1) procs → slice_get procs n ≡ Some proc → IsProcedure catalog proc.0 proc.1
+pub procedure_at : (catalog : Contents) (procs : List (ProcDef × Program)) (n : ℕ) (proc : ProcDef × Program) → AllByRecursion (λ proc. IsProcedure catalog proc.0 proc.1) procs → slice_get procs n ≡ Some proc → IsProcedure catalog proc.0 proc.1
 procedure_at catalog [] n proc all e = absurd (cc)
 procedure_at catalog (p ∷ procs) zero proc all e = subst (λ (proc : ProcDef × Program). IsProcedure catalog proc.0 proc.1) (let f : Some p ≡ Some proc = e in cc) all.0
 procedure_at catalog (p ∷ procs) (suc n) proc all e = procedure_at catalog procs n proc all.1 e

@@ -61,8 +61,8 @@ put_back_rows parts part table old new = with_rows table new (filter (λ row. no
 abbrev pub put_back : ℕ → Contents → ℕ → Database → Database → Database
 put_back parts catalog part db new = map (λ t. put_back_rows parts part t.0 t.1.0 t.1.1) (zip catalog.tables (zip db new))
 
--- an abort leaves the database as it was
-abbrev pub kept : Database → Database → ProcReply → Database × ProcReply
+-- an abort leaves what there is as it was
+abbrev pub kept : {A : Type 0} → A → A → ProcReply → A × ProcReply
 kept old new (reply.Ok rows) = (new, reply.Ok rows)
 kept old new (reply.Abort cause) = (old, reply.Abort cause)
 

@@ -28,7 +28,7 @@ equal Less e = absurd (cc)
 equal Equal e = refl
 equal Greater e = absurd (cc)
 
-agree_at : (key : List ℕ) (a b : Cells) (c : ℕ) → agree key a b ≡ true → list_any (λ k. k == c) key ≡ true → at a c ≡ at b c
+pub agree_at : (key : List ℕ) (a b : Cells) (c : ℕ) → agree key a b ≡ true → list_any (λ k. k == c) key ≡ true → at a c ≡ at b c
 agree_at key a b c e here = map-among (at a) (at b) c key (row_cmp-equal (picked key a) (picked key b) (equal (row_cmp (picked key a) (picked key b)) e)) here
 
 -- ---- twins by partitions

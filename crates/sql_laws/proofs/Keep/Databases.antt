@@ -141,7 +141,7 @@ before_or_not Greater e f = refl
 pub behind_it : (table : Table) (row new : Cells) → comes_before table row new ≡ false → agree table.key row new ≡ false → comes_before table new row ≡ true
 behind_it table row new e f = ap is_lt (row_total.antisymm (picked table.key new) (picked table.key row)) ∙ before_or_not (row_cmp (picked table.key row) (picked table.key new)) e f
 
-through : (table : Table) (a b d : Cells) → comes_before table a b ≡ true → comes_before table b d ≡ true → comes_before table a d ≡ true
+pub through : (table : Table) (a b d : Cells) → comes_before table a b ≡ true → comes_before table b d ≡ true → comes_before table a d ≡ true
 through table a b d e f = ap is_lt (row_total.trans (picked table.key a) (picked table.key b) (picked table.key d) (less (row_cmp (picked table.key a) (picked table.key b)) e) (less (row_cmp (picked table.key b) (picked table.key d)) f))
   where
     less : (r : Ordering) → is_lt r ≡ true → r ≡ Less
