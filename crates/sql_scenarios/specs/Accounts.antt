@@ -1,0 +1,69 @@
+-- The accounts of the example, in databases with a few rows.
+use Rattle.std.specs.Prelude.{◌≡◌, ℕ, List, [], ◌∷◌, map, codes, ℤ, pos, negsuc, Option, Some, None}
+use Rattle.volt_value.specs.declared.value.Value.{Value}
+use Rattle.volt_value.specs.declared.value.Value.TheVariants.{Null, Int}
+use Rattle.sql_plan.specs.declared.fault.Fault.{Fault}
+use Rattle.sql_plan.specs.declared.reply.ProcReply.{ProcReply}
+use Rattle.sql_plan.specs.declared.reply.ProcReply.TheVariants as reply
+use Rattle.sql_plan.specs.declared.reply.Cause.TheVariants as cause
+use Rattle.sql_plan.specs.declared.expression.Scalar.TheVariants.{Column as Col}
+use Rattle.sql_plan.specs.declared.expression.Cond.TheVariants.{And}
+use Rattle.sql_plan.specs.declared.prepared.Action.TheVariants.{Select}
+use Rattle.sql_plan.specs.declared.prepared.Prepared.{Prepared}
+use Rattle.sql_plan.specs.declared.select.RowLimit.TheVariants.{Number}
+use Rattle.sql_plan.specs.declared.select.Shape.TheVariants.{Rows}
+use Rattle.sql_plan.specs.Rows.{Cells}
+use Rattle.sql_meaning.specs.Calls.{Call, call}
+use Rattle.sql_meaning.specs.Database.{Database}
+use Rattle.sql_meaning.specs.WellFormed.{ascending}
+use Rattle.sql_meaning.specs.Starter.{plan}
+use Rattle.sql_scenarios.specs.Builders.{int, reading}
+
+-- ---- databases and statements
+
+-- accounts of these ids with these balances
+abbrev pub accounts : List (ℕ × ℤ) → Database
+accounts rows = map (λ row. int row.0 ∷ Int row.1 ∷ []) rows ∷ []
+
+-- SELECT id, bal FROM acct ORDER BY bal LIMIT 2
+abbrev pub two_least : Prepared
+two_least =
+    reading (codes "id" ∷ codes "bal" ∷ [])
+    (Select (record {
+      left = 0;
+      right = None;
+      filter = And [];
+      shape = Rows (Col 0 ∷ Col 1 ∷ []) (ascending 1 ∷ ascending 0 ∷ []);
+      limit = Some (Number (pos 2));
+    }))
+
+-- ---- calls
+
+abbrev pub called : ℕ → List Value → Call
+called proc args = record { proc = proc; args = args }
+
+abbrev pub put : ℕ → Value → Call
+put id balance = called 0 (int id ∷ balance ∷ [])
+
+abbrev pub get : ℕ → Call
+get id = called 1 (int id ∷ [])
+
+abbrev pub add : ℕ → ℤ → Call
+add id n = called 2 (int id ∷ Int n ∷ [])
+
+abbrev pub move : ℕ → ℕ → ℕ → Call
+move src dst n = called 3 (int src ∷ int dst ∷ int n ∷ [])
+
+abbrev pub total : Call
+total = called 4 []
+
+-- of so many partitions, a call makes of a database another one, and answers rows
+abbrev pub Answers : ℕ → Database → Call → Database → List Cells → Type 0
+Answers parts db c new rows = call (plan parts) db c ≡ (new, reply.Ok (record { rows = rows }))
+
+-- or it is aborted, and the database stays
+abbrev pub Faults : ℕ → Database → Call → Fault → Type 0
+Faults parts db c fault = call (plan parts) db c ≡ (db, reply.Abort (cause.Fault fault))
+
+abbrev pub Ends : ℕ → Database → Call → List ℕ → Type 0
+Ends parts db c text = call (plan parts) db c ≡ (db, reply.Abort (cause.User text))

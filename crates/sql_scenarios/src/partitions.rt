@@ -1,0 +1,36 @@
+//! Statements whose parts the partitions make, each on its share.
+
+ghost use Rattle.std.specs.Prelude.{[], ◌∷◌, negsuc, pos};
+ghost use Rattle.sql_plan.specs.declared.fault.Fault.TheVariants.{Overflow};
+ghost use Rattle.sql_meaning.specs.Starter.{catalog, total_balance};
+ghost use Rattle.sql_scenarios.specs.Accounts.{accounts, two_least};
+ghost use Rattle.sql_scenarios.specs.Builders.{Fails, Gives, PartsFail, PartsGive, ids, int};
+
+/// Sums are exact over all partitions before their range is judged: accounts 1, 2 and 3 lie in the
+/// partitions 1, 2 and 0 of three.
+pub fn sums_of_all()
+    ensures greatest { PartsGive 3 catalog total_balance
+        (accounts ((1, pos 9223372036854775805) ∷ (2, pos 1) ∷ (3, pos 1) ∷ []))
+        (ids (9223372036854775807 ∷ [])) }
+    ensures beyond { PartsFail 3 catalog total_balance
+        (accounts ((1, pos 9223372036854775805) ∷ (2, pos 1) ∷ (3, pos 1) ∷ (4, pos 1) ∷ [])) Overflow }
+    ensures back { PartsGive 3 catalog total_balance
+        (accounts ((1, pos 9223372036854775807) ∷ (2, pos 1) ∷ (3, negsuc 0) ∷ []))
+        (ids (9223372036854775807 ∷ [])) }
+    ensures whole { Gives catalog total_balance
+        (accounts ((1, pos 9223372036854775807) ∷ (2, pos 1) ∷ (3, negsuc 0) ∷ []))
+        (ids (9223372036854775807 ∷ [])) }
+    ensures whole_beyond { Fails catalog total_balance
+        (accounts ((1, pos 9223372036854775805) ∷ (2, pos 1) ∷ (3, pos 1) ∷ (4, pos 1) ∷ [])) Overflow }
+{}
+
+/// LIMIT takes the first rows of all partitions: accounts 1, 2, 3 and 5 lie in the partitions 1, 3, 0
+/// and 2 of four.
+pub fn first_rows_of_all()
+    ensures parts { PartsGive 4 catalog two_least
+        (accounts ((1, pos 5) ∷ (2, pos 5) ∷ (3, pos 7) ∷ (5, pos 5) ∷ []))
+        ((int 1 ∷ int 5 ∷ []) ∷ (int 2 ∷ int 5 ∷ []) ∷ []) }
+    ensures whole { Gives catalog two_least
+        (accounts ((1, pos 5) ∷ (2, pos 5) ∷ (3, pos 7) ∷ (5, pos 5) ∷ []))
+        ((int 1 ∷ int 5 ∷ []) ∷ (int 2 ∷ int 5 ∷ []) ∷ []) }
+{}
