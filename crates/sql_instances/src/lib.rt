@@ -1,0 +1,83 @@
+//! Each law of what SQL means at the example of accounts: the laws hold of every plan and database, so
+//! of these. Their premises are met here, so none of them speaks of nothing.
+#![tactic(auto)]
+
+ghost use Rattle.std.specs.Prelude.{◌≡◌, ◌<◌, ℕ, List, [], ◌∷◌, negsuc, pos};
+ghost use Rattle.sql_plan.specs.declared.prepared.Scope.TheVariants.{OnePartition};
+ghost use Rattle.sql_meaning.specs.Calls.{call};
+ghost use Rattle.sql_meaning.specs.Database.{Database, IsDatabase, share};
+ghost use Rattle.sql_meaning.specs.Plans.{IsPlan};
+ghost use Rattle.sql_meaning.specs.Starter.{balance_of, catalog, plan, total_balance};
+ghost use Rattle.sql_laws.specs.Alone.{OnOnePart};
+ghost use Rattle.sql_laws.specs.InRounds.{InRounds};
+ghost use Rattle.sql_laws.specs.Parts.{IsOfOnePart, IsOfParts};
+ghost use Rattle.sql_scenarios.specs.Accounts.{accounts, add, move};
+ghost use Rattle.sql_scenarios.specs.Builders.{ids, int, PartsGive};
+ghost use Rattle.sql_instances.specs.Instances.{one, three, two};
+
+use sql_laws::{
+    aborts_change_nothing, calls_in_rounds_give_what_they_mean, calls_keep_databases,
+    calls_on_one_partition_are_of_its_share, databases_are_told_by_their_shares,
+    statements_are_of_their_parts, statements_on_one_partition_are_of_one_part,
+};
+use sql_scenarios::{accounts_change, overdrawn_accounts};
+
+/// The example's catalog, statements and programs are what the laws take.
+pub fn example_is_a_plan()
+    ensures { IsPlan (plan 3) }
+{}
+
+/// The sum over three partitions is what their parts come to, and no sum of theirs is out of range.
+pub fn total_of_three_partitions()
+    ensures { IsOfParts 3 catalog total_balance [] three }
+{
+    statements_are_of_their_parts();
+}
+
+/// A balance is read on its partition, which has all there is for it.
+pub fn balance_on_its_partition()
+    ensures { IsOfOnePart 3 catalog 2 (balance_of OnePartition) (int 2 ∷ []) (share 3 catalog 2 three) }
+{
+    statements_on_one_partition_are_of_one_part();
+}
+
+/// A database of which each of three partitions has the accounts that it has here is this one.
+pub fn accounts_told_by_their_shares()
+    ensures { (other : Database) → IsDatabase catalog other
+        → ((part : ℕ) → part < 3 → share 3 catalog part other ≡ share 3 catalog part three)
+        → other ≡ three }
+{
+    databases_are_told_by_their_shares();
+}
+
+/// A balance moves from one partition to another one in rounds.
+pub fn move_in_rounds()
+    ensures { InRounds (plan 3) two (move 1 2 4) }
+{
+    calls_in_rounds_give_what_they_mean();
+}
+
+/// What is added to account 2 depends on partition 2 alone, and the shares of partitions 0 and 1 stay.
+pub fn account_on_its_partition()
+    ensures alone { OnOnePart (plan 3) three (add 2 (pos 4)) 2 }
+    ensures first { share 3 catalog 0 (call (plan 3) three (add 2 (pos 4))).0 ≡ share 3 catalog 0 three }
+    ensures second { share 3 catalog 1 (call (plan 3) three (add 2 (pos 4))).0 ≡ share 3 catalog 1 three }
+{
+    calls_on_one_partition_are_of_its_share();
+}
+
+/// More is taken from an account than there is.
+pub fn overdrawn_account_stays()
+    ensures { (call (plan 1) one (add 1 (negsuc 10))).0 ≡ one }
+{
+    aborts_change_nothing();
+    overdrawn_accounts();
+}
+
+/// What an account was put into is a database.
+pub fn database_behind_a_put()
+    ensures { IsDatabase catalog one }
+{
+    calls_keep_databases();
+    accounts_change();
+}
