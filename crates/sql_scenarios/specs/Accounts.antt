@@ -25,6 +25,16 @@ use Rattle.sql_scenarios.specs.Builders.{int, reading}
 abbrev pub accounts : List (ℕ × ℤ) → Database
 accounts rows = map (λ row. int row.0 ∷ Int row.1 ∷ []) rows ∷ []
 
+-- two accounts; what is taken from the first of them; and when it has moved to the other one
+abbrev pub two : Database
+two = accounts ((1, pos 10) ∷ (2, pos 5) ∷ [])
+
+abbrev pub taken : Database
+taken = accounts ((1, pos 6) ∷ (2, pos 5) ∷ [])
+
+abbrev pub moved : Database
+moved = accounts ((1, pos 6) ∷ (2, pos 9) ∷ [])
+
 -- SELECT id, bal FROM acct ORDER BY bal LIMIT 2
 abbrev pub two_least : Prepared
 two_least =

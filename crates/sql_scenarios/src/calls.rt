@@ -3,7 +3,7 @@
 ghost use Rattle.std.specs.Prelude.{[], ◌∷◌, codes, negsuc, pos};
 ghost use Rattle.volt_value.specs.declared.value.Value.TheVariants.{Null};
 ghost use Rattle.sql_plan.specs.declared.fault.Fault.TheVariants.{Duplicate, NullInColumn, Overflow};
-ghost use Rattle.sql_scenarios.specs.Accounts.{Answers, Ends, Faults, accounts, add, get, put, total};
+ghost use Rattle.sql_scenarios.specs.Accounts.{Answers, Ends, Faults, accounts, add, get, move, moved, put, total, two};
 ghost use Rattle.sql_scenarios.specs.Builders.{ids, int};
 
 /// Accounts are put, read and added to.
@@ -20,6 +20,13 @@ pub fn accounts_change()
 pub fn overdrawn_accounts()
     ensures below_zero { Ends 1 (accounts ((1, pos 10) ∷ [])) (add 1 (negsuc 10)) (codes "below zero") }
     ensures no_account { Ends 1 (accounts ((1, pos 10) ∷ [])) (add 2 (pos 1)) (codes "no account") }
+{}
+
+/// A balance moves between accounts of two partitions, or there isn't enough of it.
+pub fn balances_move()
+    ensures enough { Answers 3 two (move 1 2 4) moved (ids (6 ∷ [])) }
+    ensures too_much { Ends 3 two (move 1 2 11) (codes "cannot move") }
+    ensures no_account { Ends 3 two (move 1 3 4) (codes "cannot move") }
 {}
 
 /// Three partitions: the sum of all balances, and a balance too many.

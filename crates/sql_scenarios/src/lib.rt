@@ -9,7 +9,7 @@ mod groups;
 mod partitions;
 mod truths;
 
-pub use calls::{accounts_change, overdrawn_accounts, sums_out_of_range};
+pub use calls::{accounts_change, balances_move, overdrawn_accounts, sums_out_of_range};
 pub use changes::{keys_of_whole_tables, least_fault_of_changes, rows_that_fit};
 pub use faults::{conditions_stop_early, least_fault_of_a_row, least_fault_over_rows};
 pub use groups::{groups_of_no_rows, groups_with_null, order_over_groups};
