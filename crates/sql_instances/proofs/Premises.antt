@@ -17,8 +17,8 @@ use Rattle.sql_meaning.specs.WellFormed.{gives, is_scope, IsPrepared}
 use Rattle.sql_meaning.specs.Plans.{IsStatement, IsProcedure, IsPlan}
 use Rattle.sql_meaning.specs.Starter.{catalog, integers, put_row, balance_of, update_balance, total_balance, bigints, plain, add, move, on_first, plan}
 use Rattle.sql_instances.proofs.Classes.{classes}
-use Rattle.sql_scenarios.specs.Accounts.{accounts}
-use Rattle.sql_instances.specs.Instances.{three, two}
+use Rattle.sql_scenarios.specs.Accounts.{accounts, two}
+use Rattle.sql_instances.specs.Instances.{three}
 
 pub is_catalog : IsCatalog catalog
 is_catalog =

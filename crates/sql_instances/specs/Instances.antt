@@ -9,10 +9,6 @@ use Rattle.sql_scenarios.specs.Builders.{int}
 abbrev pub three : Database
 three = accounts ((1, pos 9223372036854775805) ∷ (2, pos 1) ∷ (3, pos 1) ∷ [])
 
--- accounts in two of three partitions
-abbrev pub two : Database
-two = accounts ((1, pos 10) ∷ (2, pos 5) ∷ [])
-
 -- an account alone
 abbrev pub one : Database
 one = accounts ((1, pos 10) ∷ [])

@@ -4,34 +4,38 @@
 
 ghost use Rattle.std.specs.Prelude.{◌≡◌, ◌<◌, ℕ, List, [], ◌∷◌, negsuc, pos};
 ghost use Rattle.sql_plan.specs.declared.prepared.Scope.TheVariants.{OnePartition};
+ghost use Rattle.sql_plan.specs.declared.reply.ProcReply.TheVariants as reply;
 ghost use Rattle.sql_meaning.specs.Calls.{call};
 ghost use Rattle.sql_meaning.specs.Database.{Database, IsDatabase, share};
 ghost use Rattle.sql_meaning.specs.Plans.{IsPlan};
+ghost use Rattle.sql_meaning.specs.Rounds.{call_in_rounds};
 ghost use Rattle.sql_meaning.specs.Starter.{balance_of, catalog, plan, total_balance};
 ghost use Rattle.sql_laws.specs.Alone.{OnOnePart};
-ghost use Rattle.sql_laws.specs.InRounds.{InRounds};
-ghost use Rattle.sql_laws.specs.Parts.{IsOfOnePart, IsOfParts};
-ghost use Rattle.sql_scenarios.specs.Accounts.{accounts, add, move};
-ghost use Rattle.sql_scenarios.specs.Builders.{ids, int, PartsGive};
-ghost use Rattle.sql_instances.specs.Instances.{one, three, two};
+ghost use Rattle.sql_laws.specs.InRounds.{InRounds, shares_of};
+ghost use Rattle.sql_laws.specs.Parts.{HasShares, IsOfOnePart, IsOfParts};
+ghost use Rattle.sql_scenarios.specs.Accounts.{accounts, add, move, moved, two};
+ghost use Rattle.sql_scenarios.specs.Builders.{ids, int};
+ghost use Rattle.sql_instances.specs.Instances.{one, three};
 
 use sql_laws::{
     aborts_change_nothing, calls_in_rounds_give_what_they_mean, calls_keep_databases,
     calls_on_one_partition_are_of_its_share, databases_are_told_by_their_shares,
     statements_are_of_their_parts, statements_on_one_partition_are_of_one_part,
 };
-use sql_scenarios::{accounts_change, overdrawn_accounts};
+use sql_scenarios::{accounts_change, balances_move, overdrawn_accounts, sums_of_all};
 
 /// The example's catalog, statements and programs are what the laws take.
 pub fn example_is_a_plan()
     ensures { IsPlan (plan 3) }
 {}
 
-/// The sum over three partitions is what their parts come to, and no sum of theirs is out of range.
+/// The sum over three partitions is what their parts come to, and each partition's share stays.
 pub fn total_of_three_partitions()
-    ensures { IsOfParts 3 catalog total_balance [] three }
+    ensures parts { IsOfParts 3 catalog total_balance [] three }
+    ensures share { HasShares 3 catalog total_balance [] three three }
 {
     statements_are_of_their_parts();
+    sums_of_all();
 }
 
 /// A balance is read on its partition, which has all there is for it.
@@ -50,11 +54,19 @@ pub fn accounts_told_by_their_shares()
     databases_are_told_by_their_shares();
 }
 
-/// A balance moves from one partition to another one in rounds.
+/// A balance moves from one partition to another one in rounds. What each round gives isn't evaluated:
+/// the reply and the shares are those of the whole database.
 pub fn move_in_rounds()
-    ensures { InRounds (plan 3) two (move 1 2 4) }
+    ensures rounds { InRounds (plan 3) two (move 1 2 4) }
+    ensures reply { (call_in_rounds (plan 3) (shares_of (plan 3) two) (move 1 2 4)).1
+        ≡ reply.Ok (record { rows = ids (6 ∷ []) }) }
+    ensures source { (call_in_rounds (plan 3) (shares_of (plan 3) two) (move 1 2 4)).0 1
+        ≡ share 3 catalog 1 moved }
+    ensures destination { (call_in_rounds (plan 3) (shares_of (plan 3) two) (move 1 2 4)).0 2
+        ≡ share 3 catalog 2 moved }
 {
     calls_in_rounds_give_what_they_mean();
+    balances_move();
 }
 
 /// What is added to account 2 depends on partition 2 alone, and the shares of partitions 0 and 1 stay.

@@ -12,12 +12,14 @@ use Rattle.sql_plan.specs.declared.expression.Scalar.{Scalar}
 use Rattle.sql_plan.specs.declared.expression.Scalar.TheVariants.{Literal, Column as Col}
 use Rattle.sql_plan.specs.declared.expression.Cond.{Cond}
 use Rattle.sql_plan.specs.declared.expression.Cond.TheVariants.{And}
-use Rattle.sql_plan.specs.declared.prepared.Action.TheVariants.{Insert, Update, Delete}
+use Rattle.sql_plan.specs.declared.prepared.Action.TheVariants.{Insert, Update, Delete, Select}
 use Rattle.sql_plan.specs.declared.prepared.Prepared.{Prepared}
 use Rattle.sql_plan.specs.declared.prepared.Scope.TheVariants.{AllPartitions, Replicated}
+use Rattle.sql_plan.specs.declared.select.Shape.TheVariants.{Rows}
 use Rattle.sql_plan.specs.Rows.{Cells}
+use Rattle.sql_meaning.specs.WellFormed.{ascending}
 use Rattle.sql_meaning.specs.Database.{Database}
-use Rattle.sql_scenarios.specs.Builders.{int, changing}
+use Rattle.sql_scenarios.specs.Builders.{int, changing, reading}
 
 -- ---- CREATE TABLE notes (id BIGINT NOT NULL, label VARCHAR(2) NOT NULL, draft VARCHAR(3), PRIMARY KEY (id)), partitioned on id
 
@@ -61,6 +63,11 @@ text characters = Text characters
 abbrev pub with_notes : List Cells → Database
 with_notes rows = rows ∷ [] ∷ []
 
+abbrev pub four_notes : Database
+four_notes =
+    with_notes
+    (note 1 (text (codes "B")) Null ∷ note 2 (text (codes "a")) Null ∷ note 3 (text (codes "ab")) Null ∷ note 4 (text (codes "b")) Null ∷ [])
+
 abbrev pub with_codes : List (ℕ × Value) → Database
 with_codes rows = [] ∷ map (λ row. int row.0 ∷ row.1 ∷ []) rows ∷ []
 
@@ -73,6 +80,12 @@ new_note id label draft = changing AllPartitions (Insert (record { table = 0; va
 -- UPDATE notes SET label = draft
 abbrev pub label_drafts : Prepared
 label_drafts = changing AllPartitions (Update (record { table = 0; values = Col 0 ∷ Col 2 ∷ Col 2 ∷ []; filter = And [] }))
+
+-- SELECT id FROM notes WHERE filter
+abbrev pub notes_where : Cond → Prepared
+notes_where filter =
+    reading (codes "id" ∷ [])
+    (Select (record { left = 0; right = None; filter = filter; shape = Rows (Col 0 ∷ []) (ascending 0 ∷ []); limit = None }))
 
 -- INSERT INTO codes VALUES (id, code)
 abbrev pub new_code : Scalar → Scalar → Prepared

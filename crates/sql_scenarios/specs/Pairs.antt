@@ -1,9 +1,9 @@
 -- Pairs of numbers, each of which may be NULL.
-use Rattle.std.specs.Prelude.{ℕ, Bool, true, false, List, [], ◌∷◌, codes, ℤ, pos, negsuc, Option, Some, None}
+use Rattle.std.specs.Prelude.{ℕ, Bool, true, false, List, [], ◌∷◌, ◌++◌, codes, ℤ, pos, negsuc, Option, Some, None}
 use Rattle.volt_value.specs.declared.value.Value.{Value}
 use Rattle.volt_value.specs.declared.value.Value.TheVariants.{Null, Int}
 use Rattle.volt_value.specs.declared.column.ColType.TheVariants.{Big}
-use Rattle.volt_catalog.specs.declared.column.Column.{Column}
+use Rattle.volt_catalog.specs.declared.column.Column.{Column as TableColumn}
 use Rattle.volt_catalog.specs.declared.table.Table.{Table}
 use Rattle.volt_catalog.specs.Rules.{Contents}
 use Rattle.sql_parse.specs.declared.expression.Comparison.TheVariants as compare
@@ -18,6 +18,7 @@ use Rattle.sql_plan.specs.declared.select.Aggregated.TheVariants.{CountRows, Cou
 use Rattle.sql_plan.specs.declared.select.GroupOutput.{GroupOutput}
 use Rattle.sql_plan.specs.declared.select.GroupOutput.TheVariants as output
 use Rattle.sql_plan.specs.declared.select.Order.{Order}
+use Rattle.sql_plan.specs.declared.select.OrderBy.TheVariants.{Column}
 use Rattle.sql_plan.specs.declared.select.RowLimit.{RowLimit}
 use Rattle.sql_plan.specs.declared.select.Shape.TheVariants.{Rows, Total, Groups}
 use Rattle.sql_plan.specs.Rows.{Cells}
@@ -27,7 +28,7 @@ use Rattle.sql_scenarios.specs.Builders.{int, num, reading, by_output}
 
 -- ---- CREATE TABLE pairs (id BIGINT NOT NULL, a BIGINT, b BIGINT, PRIMARY KEY (id)), partitioned on id
 
-abbrev pub number : Bool → List ℕ → Column
+abbrev pub number : Bool → List ℕ → TableColumn
 number not_null name = record { name = name; kind = Big; not_null = not_null }
 
 abbrev pub pairs : Table
@@ -113,6 +114,25 @@ ids_where filter = selecting (codes "id" ∷ []) (Col 0 ∷ []) filter (ascendin
 
 abbrev pub every : Cond
 every = And []
+
+-- SELECT id FROM pairs ORDER BY order LIMIT limit: ids tell rows apart
+abbrev pub ids_by : List Order → Option RowLimit → Prepared
+ids_by order limit = selecting (codes "id" ∷ []) (Col 0 ∷ []) every (order ++ ascending 0 ∷ []) limit
+
+abbrev pub descending : ℕ → Order
+descending n = record { by = Column n; descending = true }
+
+-- SELECT p.id, q.id FROM pairs p JOIN pairs q ON on WHERE filter
+abbrev pub joined : Cond → Cond → Prepared
+joined on filter =
+    reading (codes "id" ∷ codes "id" ∷ [])
+    (Select (record {
+      left = 0;
+      right = Some (record { table = 0; on = on });
+      filter = filter;
+      shape = Rows (Col 0 ∷ Col 3 ∷ []) (ascending 0 ∷ ascending 3 ∷ []);
+      limit = None;
+    }))
 
 -- SELECT e AS x FROM pairs ORDER BY id LIMIT limit
 abbrev pub values_of : List Scalar → Option RowLimit → Prepared

@@ -1,13 +1,17 @@
 //! INSERT, UPDATE and DELETE: their faults, and when two rows have one key.
 
-ghost use Rattle.std.specs.Prelude.{[], ◌∷◌, codes};
+ghost use Rattle.std.specs.Prelude.{◌≡◌, [], ◌∷◌, codes, pos, Err, Ok, Some};
 ghost use Rattle.volt_value.specs.declared.value.Value.TheVariants.{Null, Text};
 ghost use Rattle.sql_parse.specs.declared.expression.Arithmetic.TheVariants.{Subtract};
 ghost use Rattle.sql_parse.specs.declared.expression.Comparison.TheVariants as compare;
-ghost use Rattle.sql_plan.specs.declared.fault.Fault.TheVariants.{DivideByZero, Duplicate, NullInColumn, TooLong};
+ghost use Rattle.sql_plan.specs.declared.fault.Fault.TheVariants.{DivideByZero, Duplicate, NullInColumn, TooLong, WrongPartition};
 ghost use Rattle.sql_plan.specs.declared.expression.Scalar.TheVariants.{Chain, Column as Col, Literal};
 ghost use Rattle.sql_plan.specs.declared.expression.Cond.TheVariants.{Compare};
-ghost use Rattle.sql_scenarios.specs.Builders.{Fails, Makes, divided, int, null, num};
+ghost use Rattle.sql_meaning.specs.Starter as accounts;
+ghost use Rattle.sql_meaning.specs.Starter.{put_row};
+ghost use Rattle.sql_meaning.specs.Statements.{means};
+ghost use Rattle.sql_scenarios.specs.Accounts.{accounts as accounts_of};
+ghost use Rattle.sql_scenarios.specs.Builders.{Fails, Makes, counted, divided, int, null, num};
 ghost use Rattle.sql_scenarios.specs.Notes.{catalog, drop_codes, label_drafts, new_code, new_note, note, set_codes, with_codes, with_notes};
 
 /// A new row is judged as a whole: each value and each column, but for a column whose value faulted.
@@ -45,4 +49,14 @@ pub fn keys_of_whole_tables()
     ensures made_equal { Fails catalog (set_codes (num 3)) (with_codes ((1, int 1) ∷ (2, int 2) ∷ [])) Duplicate }
     ensures dropped { Makes catalog (drop_codes (Compare compare.Less (Col 1) (num 2)))
         (with_codes ((1, int 1) ∷ (2, int 2) ∷ (3, Null) ∷ [])) (with_codes ((2, int 2) ∷ (3, Null) ∷ [])) 1 }
+{}
+
+/// In a procedure on one partition: account 1 lies in partition 1 of three.
+pub fn rows_of_other_partitions()
+    ensures here { means 3 accounts.catalog (Some 1) put_row (int 1 ∷ int 5 ∷ []) (accounts_of [])
+        ≡ Ok (accounts_of ((1, pos 5) ∷ []), counted 1) }
+    ensures elsewhere { means 3 accounts.catalog (Some 0) put_row (int 1 ∷ int 5 ∷ []) (accounts_of [])
+        ≡ Err WrongPartition }
+    ensures row_first { means 3 accounts.catalog (Some 0) put_row (int 1 ∷ Null ∷ []) (accounts_of [])
+        ≡ Err NullInColumn }
 {}

@@ -1,13 +1,14 @@
 //! Which fault a SELECT has, where expressions and rows have several.
 
-ghost use Rattle.std.specs.Prelude.{[], ◌∷◌, negsuc, pos, None, Some};
-ghost use Rattle.volt_value.specs.declared.value.Value.TheVariants.{Int};
+ghost use Rattle.std.specs.Prelude.{◌≡◌, [], ◌∷◌, negsuc, pos, Err, None, Some};
+ghost use Rattle.volt_value.specs.declared.value.Value.TheVariants.{Int, Null};
 ghost use Rattle.sql_parse.specs.declared.expression.Arithmetic.TheVariants.{Divide, Multiply, Subtract};
 ghost use Rattle.sql_parse.specs.declared.expression.Comparison.TheVariants as compare;
 ghost use Rattle.sql_plan.specs.declared.fault.Fault.TheVariants.{DivideByZero, OutOfRange, Overflow};
 ghost use Rattle.sql_plan.specs.declared.expression.Scalar.TheVariants.{Chain, Literal};
 ghost use Rattle.sql_plan.specs.declared.expression.Cond.TheVariants.{And, Between, Compare, In, Or};
-ghost use Rattle.sql_plan.specs.declared.select.RowLimit.TheVariants.{Number};
+ghost use Rattle.sql_plan.specs.declared.select.RowLimit.TheVariants.{Number, Param};
+ghost use Rattle.sql_meaning.specs.Statements.{means};
 ghost use Rattle.sql_scenarios.specs.Builders.{Fails, Gives, divided, ids, multiplied, num, null, too_great};
 ghost use Rattle.sql_scenarios.specs.Pairs.{a, b, catalog, every, ids_where, last_overflows, selecting, values_of, with_zero};
 
@@ -60,6 +61,8 @@ pub fn least_fault_over_rows()
     ensures past_limit { Fails catalog (values_of (multiplied b (num 2) ∷ []) (Some (Number (pos 1))))
         last_overflows Overflow }
     ensures limit { Fails catalog (values_of (a ∷ []) (Some (Number (negsuc 0)))) last_overflows OutOfRange }
+    ensures limit_null { means 3 catalog None (values_of (a ∷ []) (Some (Param 0))) (Null ∷ []) last_overflows
+        ≡ Err OutOfRange }
     ensures row_and_limit { Fails catalog (values_of (divided (num 10) a ∷ []) (Some (Number (negsuc 0))))
         last_overflows DivideByZero }
     ensures no_rows { Gives catalog (values_of (a ∷ []) (Some (Number (pos 0)))) last_overflows [] }

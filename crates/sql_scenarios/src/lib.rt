@@ -6,12 +6,18 @@ mod calls;
 mod changes;
 mod faults;
 mod groups;
+mod orders;
 mod partitions;
+mod programs;
 mod truths;
 
 pub use calls::{accounts_change, balances_move, overdrawn_accounts, sums_out_of_range};
-pub use changes::{keys_of_whole_tables, least_fault_of_changes, rows_that_fit};
+pub use changes::{
+    keys_of_whole_tables, least_fault_of_changes, rows_of_other_partitions, rows_that_fit,
+};
 pub use faults::{conditions_stop_early, least_fault_of_a_row, least_fault_over_rows};
 pub use groups::{groups_of_no_rows, groups_with_null, order_over_groups};
-pub use partitions::{first_rows_of_all, sums_of_all};
-pub use truths::{ands_and_ors, comparisons_with_null, lists_and_ranges};
+pub use orders::{order_of_rows, rows_of_two_tables};
+pub use partitions::{counts_of_all, first_rows_of_all, sums_of_all};
+pub use programs::{limits_of_programs, results_and_loops};
+pub use truths::{ands_and_ors, comparisons_with_null, lists_and_ranges, texts_by_bytes};

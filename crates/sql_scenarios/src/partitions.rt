@@ -1,10 +1,11 @@
 //! Statements whose parts the partitions make, each on its share.
 
 ghost use Rattle.std.specs.Prelude.{[], ◌∷◌, negsuc, pos};
-ghost use Rattle.sql_plan.specs.declared.fault.Fault.TheVariants.{Overflow};
+ghost use Rattle.sql_plan.specs.declared.fault.Fault.TheVariants.{Duplicate, Overflow};
 ghost use Rattle.sql_meaning.specs.Starter.{catalog, total_balance};
-ghost use Rattle.sql_scenarios.specs.Accounts.{accounts, two_least};
-ghost use Rattle.sql_scenarios.specs.Builders.{Fails, Gives, PartsFail, PartsGive, ids, int};
+ghost use Rattle.sql_scenarios.specs.Accounts.{accounts, new_account, one_more, two_least};
+ghost use Rattle.sql_scenarios.specs.Builders.{Fails, Gives, PartsFail, PartsGive, ids, int, num};
+ghost use Rattle.sql_scenarios.specs.Notes as notes;
 
 /// Sums are exact over all partitions before their range is judged: accounts 1, 2 and 3 lie in the
 /// partitions 1, 2 and 0 of three.
@@ -17,7 +18,10 @@ pub fn sums_of_all()
     ensures back { PartsGive 3 catalog total_balance
         (accounts ((1, pos 9223372036854775807) ∷ (2, pos 1) ∷ (3, negsuc 0) ∷ []))
         (ids (9223372036854775807 ∷ [])) }
-    ensures whole { Gives catalog total_balance
+    ensures whole_greatest { Gives catalog total_balance
+        (accounts ((1, pos 9223372036854775805) ∷ (2, pos 1) ∷ (3, pos 1) ∷ []))
+        (ids (9223372036854775807 ∷ [])) }
+    ensures whole_back { Gives catalog total_balance
         (accounts ((1, pos 9223372036854775807) ∷ (2, pos 1) ∷ (3, negsuc 0) ∷ []))
         (ids (9223372036854775807 ∷ [])) }
     ensures whole_beyond { Fails catalog total_balance
@@ -33,4 +37,15 @@ pub fn first_rows_of_all()
     ensures whole { Gives catalog two_least
         (accounts ((1, pos 5) ∷ (2, pos 5) ∷ (3, pos 7) ∷ (5, pos 5) ∷ []))
         ((int 1 ∷ int 5 ∷ []) ∷ (int 2 ∷ int 5 ∷ []) ∷ []) }
+{}
+
+/// Counts are added over partitions; of tables that all partitions have, changes count once. A new row
+/// counts in the partition where it lies.
+pub fn counts_of_all()
+    ensures added { PartsGive 3 catalog one_more
+        (accounts ((1, pos 5) ∷ (2, pos 5) ∷ (3, pos 7) ∷ (4, pos 5) ∷ [])) (ids (4 ∷ [])) }
+    ensures once { PartsGive 3 notes.catalog (notes.set_codes (num 3))
+        (notes.with_codes ((1, int 1) ∷ [])) (ids (1 ∷ [])) }
+    ensures one_row { PartsGive 3 catalog (new_account 5 8) (accounts ((1, pos 5) ∷ [])) (ids (1 ∷ [])) }
+    ensures taken { PartsFail 3 catalog (new_account 1 8) (accounts ((1, pos 5) ∷ [])) Duplicate }
 {}

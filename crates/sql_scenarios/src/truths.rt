@@ -1,11 +1,15 @@
 //! Conditions over all choices of 1, 0 and NULL: which rows they hold for, and which ones their NOT
 //! holds for. For all others they are unknown.
 
-ghost use Rattle.std.specs.Prelude.{[], ◌∷◌};
+ghost use Rattle.std.specs.Prelude.{[], ◌∷◌, codes};
+ghost use Rattle.volt_value.specs.declared.value.Value.TheVariants.{Text};
 ghost use Rattle.sql_parse.specs.declared.expression.Comparison.TheVariants as compare;
+ghost use Rattle.sql_plan.specs.declared.expression.Scalar.TheVariants.{Column as Col, Literal};
 ghost use Rattle.sql_plan.specs.declared.expression.Cond.TheVariants.{And, Between, Compare, In, IsNull, Not, Or};
 ghost use Rattle.sql_scenarios.specs.Builders.{Gives, ids, num, null};
 ghost use Rattle.sql_scenarios.specs.Pairs.{a, b, a_holds, b_holds, catalog, ids_where, truths};
+ghost use Rattle.sql_scenarios.specs.Notes.{four_notes, notes_where};
+ghost use Rattle.sql_scenarios.specs.Notes as notes;
 
 /// `a = 1` and `b = 1`, put together by AND, OR and NOT.
 pub fn ands_and_ors()
@@ -50,4 +54,14 @@ pub fn lists_and_ranges()
     ensures not_below_b { Gives catalog (ids_where (Not (Between a (num 0) b))) truths (ids (2 ∷ [])) }
     ensures never_below_b { Gives catalog (ids_where (Not (Between a (num 2) b))) truths
         (ids (1 ∷ 2 ∷ 3 ∷ 4 ∷ 5 ∷ 6 ∷ [])) }
+{}
+
+/// Texts compare by their bytes: the labels are `B`, `a`, `ab` and `b`.
+pub fn texts_by_bytes()
+    ensures less { Gives notes.catalog (notes_where (Compare compare.Less (Col 1)
+        (Literal (Text (codes "a"))))) four_notes (ids (1 ∷ [])) }
+    ensures between { Gives notes.catalog (notes_where (Between (Col 1) (Literal (Text (codes "a")))
+        (Literal (Text (codes "ab"))))) four_notes (ids (2 ∷ 3 ∷ [])) }
+    ensures among { Gives notes.catalog (notes_where (In (Col 1) (Literal (Text (codes "b"))
+        ∷ Literal (Text (codes "B")) ∷ []))) four_notes (ids (1 ∷ 4 ∷ [])) }
 {}

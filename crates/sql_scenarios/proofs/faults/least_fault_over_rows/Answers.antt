@@ -13,6 +13,9 @@ returns-clause-past_limit c = simp meanings
 pub returns-clause-limit : goal.returns-clause-limit
 returns-clause-limit c = simp meanings
 
+pub returns-clause-limit_null : goal.returns-clause-limit_null
+returns-clause-limit_null c = simp meanings
+
 pub returns-clause-row_and_limit : goal.returns-clause-row_and_limit
 returns-clause-row_and_limit c = simp meanings
 

@@ -10,8 +10,11 @@ returns-clause-beyond c = simp meanings
 pub returns-clause-back : goal.returns-clause-back
 returns-clause-back c = simp meanings
 
-pub returns-clause-whole : goal.returns-clause-whole
-returns-clause-whole c = simp meanings
+pub returns-clause-whole_greatest : goal.returns-clause-whole_greatest
+returns-clause-whole_greatest c = simp meanings
+
+pub returns-clause-whole_back : goal.returns-clause-whole_back
+returns-clause-whole_back c = simp meanings
 
 pub returns-clause-whole_beyond : goal.returns-clause-whole_beyond
 returns-clause-whole_beyond c = simp meanings
