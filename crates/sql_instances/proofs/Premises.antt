@@ -17,8 +17,12 @@ use Rattle.sql_meaning.specs.WellFormed.{gives, is_scope, IsPrepared}
 use Rattle.sql_meaning.specs.Plans.{IsStatement, IsProcedure, IsPlan}
 use Rattle.sql_meaning.specs.Starter.{catalog, integers, put_row, balance_of, update_balance, total_balance, bigints, plain, add, move, on_first, plan}
 use Rattle.sql_instances.proofs.Classes.{classes}
-use Rattle.sql_scenarios.specs.Accounts.{accounts, two}
-use Rattle.sql_instances.specs.Instances.{three}
+use Rattle.sql_plan.specs.Rows.{Cells}
+use Rattle.sql_laws.proofs.Keep.Databases.{rows-none}
+use Rattle.sql_scenarios.specs.Builders.{num}
+use Rattle.sql_scenarios.specs.Notes as notes
+use Rattle.sql_scenarios.specs.Accounts.{accounts, one_more, two}
+use Rattle.sql_instances.specs.Instances.{code, four, three}
 
 pub is_catalog : IsCatalog catalog
 is_catalog =
@@ -33,29 +37,24 @@ is_catalog =
 
 -- ---- databases
 
-pub none_more : (n : ℕ) → AreRows catalog (suc n) []
-none_more n = record { fit = refl; ordered = refl; unique = refl }
+accounts_are : (rows : List Cells) → AreRows catalog 0 rows → IsDatabase catalog (rows ∷ [])
+accounts_are rows are = record { tables = refl; each = each }
+  where
+    each : (n : ℕ) → AreRows catalog n (rows_of (rows ∷ []) n)
+    each zero = are
+    each (suc n) = rows-none catalog (suc n)
 
 pub database-three : IsDatabase catalog three
-database-three = record { tables = refl; each = each }
-  where
-    each : (n : ℕ) → AreRows catalog n (rows_of three n)
-    each zero = record { fit = refl; ordered = refl; unique = refl }
-    each (suc n) = none_more n
+database-three = accounts_are (rows_of three 0) (record { fit = refl; ordered = refl; unique = refl })
 
 pub database-two : IsDatabase catalog two
-database-two = record { tables = refl; each = each }
-  where
-    each : (n : ℕ) → AreRows catalog n (rows_of two n)
-    each zero = record { fit = refl; ordered = refl; unique = refl }
-    each (suc n) = none_more n
+database-two = accounts_are (rows_of two 0) (record { fit = refl; ordered = refl; unique = refl })
+
+pub database-four : IsDatabase catalog four
+database-four = accounts_are (rows_of four 0) (record { fit = refl; ordered = refl; unique = refl })
 
 pub database-none : IsDatabase catalog (accounts [])
-database-none = record { tables = refl; each = each }
-  where
-    each : (n : ℕ) → AreRows catalog n (rows_of (accounts []) n)
-    each zero = record { fit = refl; ordered = refl; unique = refl }
-    each (suc n) = none_more n
+database-none = accounts_are [] (rows-none catalog 0)
 
 -- ---- statements
 
@@ -102,6 +101,45 @@ total_balance-prepared =
       scope = refl;
       action = record { left = lit< tt; join = refl; filter = simp classes; shape = simp classes; limit = refl; distributes = refl };
     }
+
+-- ---- accounts and codes that change
+
+pub one_more-prepared : IsPrepared catalog one_more
+one_more-prepared =
+    record {
+      few_params = lit≤ tt;
+      few_columns = lit≤ tt;
+      scope = refl;
+      action = (record { table = lit< tt; values = simp classes; key = simp classes; filter = simp classes }, refl);
+    }
+
+pub is_catalog-notes : IsCatalog notes.catalog
+is_catalog-notes =
+    record {
+      few_tables = lit≤ tt;
+      few_indexes = lit≤ tt;
+      table_names = refl;
+      index_names = refl;
+      tables = refl;
+      indexes = refl;
+    }
+
+pub set_codes-prepared : IsPrepared notes.catalog (notes.set_codes (num 3))
+set_codes-prepared =
+    record {
+      few_params = lit≤ tt;
+      few_columns = lit≤ tt;
+      scope = refl;
+      action = (record { table = lit< tt; values = simp classes; key = simp classes; filter = simp classes }, refl);
+    }
+
+pub database-code : IsDatabase notes.catalog (code 1)
+database-code = record { tables = refl; each = each }
+  where
+    each : (n : ℕ) → AreRows notes.catalog n (rows_of (code 1) n)
+    each zero = record { fit = refl; ordered = refl; unique = refl }
+    each (suc zero) = record { fit = refl; ordered = refl; unique = refl }
+    each (suc (suc n)) = rows-none notes.catalog (suc (suc n))
 
 -- ---- procedures
 

@@ -13,16 +13,19 @@ ghost use Rattle.sql_meaning.specs.Starter.{balance_of, catalog, plan, total_bal
 ghost use Rattle.sql_laws.specs.Alone.{OnOnePart};
 ghost use Rattle.sql_laws.specs.InRounds.{InRounds, shares_of};
 ghost use Rattle.sql_laws.specs.Parts.{HasShares, IsOfOnePart, IsOfParts};
-ghost use Rattle.sql_scenarios.specs.Accounts.{accounts, add, move, moved, two};
-ghost use Rattle.sql_scenarios.specs.Builders.{ids, int};
-ghost use Rattle.sql_instances.specs.Instances.{one, three};
+ghost use Rattle.sql_scenarios.specs.Accounts.{accounts, add, move, moved, one_more, two};
+ghost use Rattle.sql_scenarios.specs.Builders.{ids, int, num};
+ghost use Rattle.sql_scenarios.specs.Notes as notes;
+ghost use Rattle.sql_instances.specs.Instances.{code, four, four_more, one, three};
 
 use sql_laws::{
     aborts_change_nothing, calls_in_rounds_give_what_they_mean, calls_keep_databases,
     calls_on_one_partition_are_of_its_share, databases_are_told_by_their_shares,
     statements_are_of_their_parts, statements_on_one_partition_are_of_one_part,
 };
-use sql_scenarios::{accounts_change, balances_move, overdrawn_accounts, sums_of_all};
+use sql_scenarios::{
+    accounts_change, balances_move, counts_of_all, overdrawn_accounts, sums_of_all,
+};
 
 /// The example's catalog, statements and programs are what the laws take.
 pub fn example_is_a_plan()
@@ -36,6 +39,24 @@ pub fn total_of_three_partitions()
 {
     statements_are_of_their_parts();
     sums_of_all();
+}
+
+/// Each partition adds one to the balances of its share, and so does the whole.
+pub fn update_of_three_partitions()
+    ensures parts { IsOfParts 3 catalog one_more [] four }
+    ensures shares { HasShares 3 catalog one_more [] four four_more }
+{
+    statements_are_of_their_parts();
+    counts_of_all();
+}
+
+/// Each partition sets a code that all partitions have.
+pub fn update_of_all_copies()
+    ensures parts { IsOfParts 3 notes.catalog (notes.set_codes (num 3)) [] (code 1) }
+    ensures shares { HasShares 3 notes.catalog (notes.set_codes (num 3)) [] (code 1) (code 3) }
+{
+    statements_are_of_their_parts();
+    counts_of_all();
 }
 
 /// A balance is read on its partition, which has all there is for it.

@@ -4,7 +4,7 @@ ghost use Rattle.std.specs.Prelude.{[], ◌∷◌, negsuc, pos};
 ghost use Rattle.sql_plan.specs.declared.fault.Fault.TheVariants.{Duplicate, Overflow};
 ghost use Rattle.sql_meaning.specs.Starter.{catalog, total_balance};
 ghost use Rattle.sql_scenarios.specs.Accounts.{accounts, new_account, one_more, two_least};
-ghost use Rattle.sql_scenarios.specs.Builders.{Fails, Gives, PartsFail, PartsGive, ids, int, num};
+ghost use Rattle.sql_scenarios.specs.Builders.{Fails, Gives, Makes, PartsFail, PartsGive, ids, int, num};
 ghost use Rattle.sql_scenarios.specs.Notes as notes;
 
 /// Sums are exact over all partitions before their range is judged: accounts 1, 2 and 3 lie in the
@@ -44,8 +44,13 @@ pub fn first_rows_of_all()
 pub fn counts_of_all()
     ensures added { PartsGive 3 catalog one_more
         (accounts ((1, pos 5) ∷ (2, pos 5) ∷ (3, pos 7) ∷ (4, pos 5) ∷ [])) (ids (4 ∷ [])) }
+    ensures made { Makes catalog one_more
+        (accounts ((1, pos 5) ∷ (2, pos 5) ∷ (3, pos 7) ∷ (4, pos 5) ∷ []))
+        (accounts ((1, pos 6) ∷ (2, pos 6) ∷ (3, pos 8) ∷ (4, pos 6) ∷ [])) 4 }
     ensures once { PartsGive 3 notes.catalog (notes.set_codes (num 3))
         (notes.with_codes ((1, int 1) ∷ [])) (ids (1 ∷ [])) }
+    ensures made_once { Makes notes.catalog (notes.set_codes (num 3))
+        (notes.with_codes ((1, int 1) ∷ [])) (notes.with_codes ((1, int 3) ∷ [])) 1 }
     ensures one_row { PartsGive 3 catalog (new_account 5 8) (accounts ((1, pos 5) ∷ [])) (ids (1 ∷ [])) }
     ensures taken { PartsFail 3 catalog (new_account 1 8) (accounts ((1, pos 5) ∷ [])) Duplicate }
 {}
