@@ -1,11 +1,13 @@
 //! The order of rows without groups, and two tables in one FROM.
 
-ghost use Rattle.std.specs.Prelude.{[], ◌∷◌, pos, None, Some};
+ghost use Rattle.std.specs.Prelude.{◌≡◌, List, [], ◌∷◌, length, pos, Err, None, Ok, Some};
 ghost use Rattle.sql_parse.specs.declared.expression.Comparison.TheVariants as compare;
-ghost use Rattle.sql_plan.specs.declared.fault.Fault.TheVariants.{DivideByZero};
+ghost use Rattle.sql_plan.specs.declared.fault.Fault.TheVariants.{DivideByZero, TooManyRows};
 ghost use Rattle.sql_plan.specs.declared.expression.Scalar.TheVariants.{Column as Col};
 ghost use Rattle.sql_plan.specs.declared.expression.Cond.TheVariants.{And, Compare};
 ghost use Rattle.sql_plan.specs.declared.select.RowLimit.TheVariants.{Number};
+ghost use Rattle.sql_plan.specs.Rows.{Cells};
+ghost use Rattle.sql_meaning.specs.Selects.{if_few};
 ghost use Rattle.sql_meaning.specs.WellFormed.{ascending};
 ghost use Rattle.sql_scenarios.specs.Builders.{Fails, Gives, PartsGive, divided, ids, int, num, too_great};
 ghost use Rattle.sql_scenarios.specs.Pairs.{a, b, catalog, descending, every, grouped, ids_by, joined, with_zero};
@@ -40,4 +42,10 @@ pub fn rows_of_two_tables()
         (Compare compare.Equal too_great (num 1))) with_zero [] }
     ensures on_first { Fails catalog (joined (Compare compare.Equal (divided (num 10) a) (num 1))
         (Compare compare.Equal too_great (num 1))) with_zero DivideByZero }
+{}
+
+/// A result has at most 10,000 rows.
+pub fn rows_of_a_result()
+    ensures enough { (rows : List Cells) → length rows ≡ 10000 → if_few rows ≡ Ok rows }
+    ensures too_many { (rows : List Cells) → length rows ≡ 10001 → if_few rows ≡ Err TooManyRows }
 {}

@@ -40,19 +40,30 @@ pub fn comparisons_with_null()
         (ids (1 ∷ 2 ∷ 3 ∷ 4 ∷ 5 ∷ 6 ∷ [])) }
 {}
 
-/// `a IN (b, 2)`, `a IN (1, NULL)`, `a BETWEEN b AND 0`, `a BETWEEN 0 AND b`, `a BETWEEN 2 AND b`.
-pub fn lists_and_ranges()
+/// `1 IN (a, b)`, `NULL IN (a, b)`, `a IN (b, 2)` and `a IN (1, NULL)`.
+pub fn lists_of_values()
+    ensures one { Gives catalog (ids_where (In (num 1) (a ∷ b ∷ []))) truths
+        (ids (1 ∷ 2 ∷ 3 ∷ 4 ∷ 7 ∷ [])) }
+    ensures not_one { Gives catalog (ids_where (Not (In (num 1) (a ∷ b ∷ [])))) truths (ids (5 ∷ [])) }
+    ensures of_null { Gives catalog (ids_where (In null (a ∷ b ∷ []))) truths (ids []) }
+    ensures not_of_null { Gives catalog (ids_where (Not (In null (a ∷ b ∷ [])))) truths (ids []) }
     ensures among { Gives catalog (ids_where (In a (b ∷ num 2 ∷ []))) truths (ids (1 ∷ 5 ∷ [])) }
     ensures not_among { Gives catalog (ids_where (Not (In a (b ∷ num 2 ∷ [])))) truths (ids (2 ∷ 4 ∷ [])) }
     ensures among_null { Gives catalog (ids_where (In a (num 1 ∷ null ∷ []))) truths
         (ids (1 ∷ 2 ∷ 3 ∷ [])) }
     ensures not_among_null { Gives catalog (ids_where (Not (In a (num 1 ∷ null ∷ [])))) truths (ids []) }
-    ensures above_b { Gives catalog (ids_where (Between a b (num 0))) truths (ids (5 ∷ [])) }
-    ensures not_above_b { Gives catalog (ids_where (Not (Between a b (num 0)))) truths
-        (ids (1 ∷ 2 ∷ 3 ∷ 4 ∷ [])) }
-    ensures below_b { Gives catalog (ids_where (Between a (num 0) b)) truths (ids (1 ∷ 4 ∷ 5 ∷ [])) }
-    ensures not_below_b { Gives catalog (ids_where (Not (Between a (num 0) b))) truths (ids (2 ∷ [])) }
-    ensures never_below_b { Gives catalog (ids_where (Not (Between a (num 2) b))) truths
+{}
+
+/// 0, 1 and NULL between `a` and `b`, and `a` between 2 and `b`.
+pub fn ranges_of_values()
+    ensures zero { Gives catalog (ids_where (Between (num 0) a b)) truths (ids (4 ∷ 5 ∷ [])) }
+    ensures not_zero { Gives catalog (ids_where (Not (Between (num 0) a b))) truths (ids (1 ∷ 2 ∷ 3 ∷ [])) }
+    ensures one { Gives catalog (ids_where (Between (num 1) a b)) truths (ids (1 ∷ 4 ∷ [])) }
+    ensures not_one { Gives catalog (ids_where (Not (Between (num 1) a b))) truths (ids (2 ∷ 5 ∷ 8 ∷ [])) }
+    ensures of_null { Gives catalog (ids_where (Between null a b)) truths (ids []) }
+    ensures not_of_null { Gives catalog (ids_where (Not (Between null a b))) truths (ids []) }
+    ensures above { Gives catalog (ids_where (Between a (num 2) b)) truths (ids []) }
+    ensures not_above { Gives catalog (ids_where (Not (Between a (num 2) b))) truths
         (ids (1 ∷ 2 ∷ 3 ∷ 4 ∷ 5 ∷ 6 ∷ [])) }
 {}
 
