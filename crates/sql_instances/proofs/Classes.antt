@@ -1,5 +1,5 @@
 -- Whether classes fit, variant by variant.
-use Rattle.std.proofs.Common.{◌≡◌, ℕ, Bool, List, map, Option, sym, ap, ◌∙◌}
+use Rattle.std.proofs.Common.{◌≡◌, ℕ, Bool, List, map, Option, ap}
 use Rattle.volt_value.specs.declared.value.Value.{Value}
 use Rattle.volt_value.specs.declared.column.Class.{Class}
 use Rattle.sql_parse.specs.declared.expression.Arithmetic.{Arithmetic}

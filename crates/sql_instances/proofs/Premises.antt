@@ -1,20 +1,15 @@
 -- The example's plan and databases are what the laws take.
-use Rattle.std.proofs.Common.{◌≡◌, ℕ, zero, suc, ◌+◌, ◌<◌, ◌≤◌, Bool, true, false, List, [], ◌∷◌, map, length, codes, ℤ, pos, negsuc, Option, Some, None, sym, refl, ap, ◌∙◌, lit<, lit≤}
-use Rattle.volt_value.specs.declared.value.Value.{Value}
-use Rattle.volt_value.specs.declared.column.Class.{Class}
-use Rattle.volt_catalog.specs.Rules.{Contents}
+use Rattle.std.proofs.Common.{◌≡◌, ℕ, zero, suc, ◌≤◌, true, List, [], ◌∷◌, codes, None, refl, lit<, lit≤}
 use Rattle.volt_catalog.specs.Catalog.{IsCatalog}
 use Rattle.volt_value.specs.declared.column.Class.TheVariants as class
 use Rattle.sql_parse.specs.declared.expression.Arithmetic.TheVariants.{Add, Subtract}
-use Rattle.sql_plan.specs.declared.plan.Plan.{Plan}
 use Rattle.sql_plan.specs.declared.expression.Scalar.{Scalar}
 use Rattle.sql_plan.specs.declared.expression.Scalar.TheVariants.{Param, Column as Col, Chain}
-use Rattle.sql_plan.specs.declared.prepared.Prepared.{Prepared}
 use Rattle.sql_plan.specs.declared.prepared.Scope.{Scope}
 use Rattle.sql_plan.specs.declared.prepared.Scope.TheVariants.{OnePartition, AllPartitions}
-use Rattle.sql_meaning.specs.Database.{Database, rows_of, AreRows, IsDatabase}
+use Rattle.sql_meaning.specs.Database.{rows_of, AreRows, IsDatabase}
 use Rattle.sql_meaning.specs.WellFormed.{gives, is_scope, IsPrepared}
-use Rattle.sql_meaning.specs.Plans.{IsStatement, IsProcedure, IsPlan}
+use Rattle.sql_meaning.specs.Plans.{IsProcedure, IsPlan}
 use Rattle.sql_meaning.specs.Starter.{catalog, integers, put_row, balance_of, update_balance, total_balance, bigints, plain, add, move, on_first, plan}
 use Rattle.sql_instances.proofs.Classes.{classes}
 use Rattle.sql_plan.specs.Rows.{Cells}
@@ -184,9 +179,13 @@ move-procedure =
       part = refl;
       statements = (
         record { prepared = balance_of-prepared AllPartitions refl; suits = refl },
-        (record { prepared = balance_of-prepared AllPartitions refl; suits = refl },
-        (record { prepared = update_balance-prepared AllPartitions (Chain (Col 1) ((Subtract, Param 0) ∷ [])) refl (simp classes); suits = refl },
-        (record { prepared = update_balance-prepared AllPartitions (Chain (Col 1) ((Add, Param 0) ∷ [])) refl (simp classes); suits = refl }, tt))),
+        (
+          record { prepared = balance_of-prepared AllPartitions refl; suits = refl },
+          (
+            record { prepared = update_balance-prepared AllPartitions (Chain (Col 1) ((Subtract, Param 0) ∷ [])) refl (simp classes); suits = refl },
+            (record { prepared = update_balance-prepared AllPartitions (Chain (Col 1) ((Add, Param 0) ∷ [])) refl (simp classes); suits = refl }, tt),
+          ),
+        ),
       );
       steps = simp classes;
     }

@@ -1,6 +1,5 @@
 -- What the instances speak of.
-use Rattle.std.specs.Prelude.{ℕ, List, [], ◌∷◌, ℤ, pos, negsuc}
-use Rattle.sql_plan.specs.Rows.{Cells}
+use Rattle.std.specs.Prelude.{ℕ, [], ◌∷◌, pos}
 use Rattle.sql_meaning.specs.Database.{Database}
 use Rattle.sql_scenarios.specs.Accounts.{accounts}
 use Rattle.sql_scenarios.specs.Builders.{int}

@@ -1,5 +1,5 @@
 -- Calls: what they leave, what they read, and rounds.
-use Rattle.std.proofs.Common.{◌≡◌, ℕ, zero, suc, ◌<◌, ◌≤◌, Bool, true, false, not, cond, ◌&&◌, List, [], ◌∷◌, map, filter, slice_get, Option, Some, None, is_some, option_map, Result, Ok, Err, sym, refl, ap, ◌∙◌, subst, inl, inr, arith}
+use Rattle.std.proofs.Common.{◌≡◌, ℕ, zero, suc, Bool, true, false, List, [], ◌∷◌, filter, slice_get, Option, Some, None, is_some, option_map, Result, Ok, Err, sym, refl, ap, ◌∙◌, subst, inl, inr}
 use Rattle.std.specs.List.{list_all, AllByRecursion}
 use Rattle.std.specs.Option.{option_and_then}
 use Rattle.std.proofs.lemmas.Bool.{cases_Bool, and_parts, and_from, both_ways, not-true}
@@ -9,8 +9,7 @@ use Rattle.volt_catalog.specs.Catalog.{IsCatalog}
 use Rattle.sql_plan.specs.declared.fault.Fault.{Fault}
 use Rattle.sql_plan.specs.declared.plan.Plan.{Plan}
 use Rattle.sql_plan.specs.declared.prepared.Prepared.{Prepared}
-use Rattle.sql_plan.specs.declared.prepared.Scope.{Scope}
-use Rattle.sql_plan.specs.declared.prepared.Scope.TheVariants.{OnePartition, AllPartitions, Replicated}
+use Rattle.sql_plan.specs.declared.prepared.Scope.TheVariants.{OnePartition}
 use Rattle.sql_plan.specs.declared.program.Program.{Program}
 use Rattle.sql_plan.specs.declared.reply.Cause.{Cause}
 use Rattle.sql_plan.specs.declared.reply.ProcReply.{ProcReply}
@@ -24,7 +23,7 @@ use Rattle.sql_meaning.specs.Statements.{means}
 use Rattle.sql_meaning.specs.Programs.{Talk, Returns, Aborts, Asks, talk_of}
 use Rattle.sql_meaning.specs.Replies.{sized}
 use Rattle.sql_meaning.specs.Calls.{Answers, after_answer, settled, statement_means, answers_of, ran, Call, put_back, kept, run_call, on_part, part_of_args, run_on, call_of, call, part_of_call, own_call_of, own_call, serial}
-use Rattle.sql_meaning.specs.Plans.{is_one_partition, is_partitioned, suits, IsStatement, IsProcedure, IsPlan}
+use Rattle.sql_meaning.specs.Plans.{is_one_partition, is_partitioned, IsStatement, IsProcedure, IsPlan}
 use Rattle.sql_laws.proofs.Plain.Rows.{rows_of-share}
 use Rattle.sql_laws.proofs.Keep.Databases.{database-share}
 use Rattle.sql_laws.proofs.Keep.Statements.{Own, means-database, means-own}

@@ -1,5 +1,5 @@
 -- A statement and its parts, put together from what holds of its answer, of the shares, and of databases.
-use Rattle.std.proofs.Common.{◌≡◌, ℕ, ◌<◌, List, Option, None, Result, Ok, Err, sym, refl, ap, ◌∙◌}
+use Rattle.std.proofs.Common.{◌≡◌, ℕ, ◌<◌, List, None, Result, Ok, sym, ap, ◌∙◌}
 use Rattle.volt_catalog.specs.Rules.{Contents}
 use Rattle.volt_catalog.specs.Catalog.{IsCatalog}
 use Rattle.sql_plan.specs.declared.fault.Fault.{Fault}

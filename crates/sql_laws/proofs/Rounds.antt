@@ -1,16 +1,14 @@
 -- A call that runs in rounds gives what it means on the whole database.
-use Rattle.std.proofs.Common.{◌≡◌, ℕ, zero, suc, ◌+◌, ◌<◌, ◌≤◌, Bool, true, false, cond, if◌then◌else◌, nat_le, List, [], ◌∷◌, map, length, slice_get, Option, Some, None, is_some, option_map, Result, Ok, Err, sym, refl, ap, ◌∙◌, subst, arith}
+use Rattle.std.proofs.Common.{◌≡◌, ℕ, zero, suc, ◌+◌, ◌<◌, Bool, true, false, if◌then◌else◌, nat_le, List, [], ◌∷◌, map, length, slice_get, Option, Some, None, is_some, option_map, Result, Ok, Err, sym, refl, ap, ◌∙◌, subst, arith}
 use Rattle.std.specs.List.{range_with_len, AllByRecursion}
 use Rattle.std.specs.Option.{option_and_then}
 use Rattle.volt_catalog.specs.declared.procedure.ProcDef.{ProcDef}
 use Rattle.volt_catalog.specs.Rules.{Contents}
 use Rattle.volt_catalog.specs.Catalog.{IsCatalog}
 use Rattle.sql_plan.specs.declared.fault.Fault.{Fault}
-use Rattle.sql_plan.specs.declared.partial.Partial.{Partial}
 use Rattle.sql_plan.specs.declared.plan.Plan.{Plan}
 use Rattle.sql_plan.specs.declared.prepared.Prepared.{Prepared}
 use Rattle.sql_plan.specs.declared.program.Program.{Program}
-use Rattle.sql_plan.specs.declared.reply.Cause.{Cause}
 use Rattle.sql_plan.specs.declared.reply.Cause.TheVariants as cause
 use Rattle.sql_plan.specs.declared.reply.ProcReply.{ProcReply}
 use Rattle.sql_plan.specs.declared.reply.ProcReply.TheVariants as reply
@@ -18,12 +16,11 @@ use Rattle.sql_plan.specs.declared.row.Rows.{Rows}
 use Rattle.sql_plan.specs.Rows.{Cells}
 use Rattle.sql_meaning.specs.Judged.{with, collected}
 use Rattle.sql_meaning.specs.Database.{Database, share, IsDatabase}
-use Rattle.sql_meaning.specs.Statements.{means}
-use Rattle.sql_meaning.specs.Parts.{part_means, merged, all_parts, given_by_parts}
+use Rattle.sql_meaning.specs.Parts.{part_means, merged, given_by_parts}
 use Rattle.sql_meaning.specs.Programs.{Talk, Returns, Aborts, Asks, talk_of}
 use Rattle.sql_meaning.specs.Replies.{most_bytes, reply_bytes, sized}
-use Rattle.sql_meaning.specs.Calls.{settled, statement_means, answers_of, after_answer, ran, Call, kept, run_call, part_of_args, run_on, call_of, call, part_of_call}
-use Rattle.sql_meaning.specs.Rounds.{share_after, round_answer, round_shares, in_rounds, run_in_rounds, call_in_rounds_of, call_in_rounds}
+use Rattle.sql_meaning.specs.Calls.{settled, statement_means, answers_of, after_answer, ran, Call, kept, run_call, part_of_args, run_on, call_of, part_of_call}
+use Rattle.sql_meaning.specs.Rounds.{share_after, round_answer, round_shares, in_rounds, run_in_rounds, call_in_rounds_of}
 use Rattle.sql_meaning.specs.Plans.{IsStatement, IsProcedure, IsPlan}
 use Rattle.sql_laws.specs.InRounds.{shares_of, InRounds}
 use Rattle.sql_laws.proofs.Statements.{in_parts, shares_after}
@@ -129,7 +126,7 @@ rounds-call plan is_plan db c is none = by (slice_get plan.procs c.proc) refl no
         let end = ran plan.parts plan.catalog None proc.1 c.args db in
         let rounds = in_rounds plan.parts plan.catalog proc.1 (talk_of proc.1 c.args) (shares_of plan db) in
         let agree = talk-agrees plan.parts is_plan.some_part plan.catalog is_plan.catalog proc.1 (subst (λ b. AllByRecursion (IsStatement plan.catalog b) proc.1.statements) single procedure.statements)
-            (talk_of proc.1 c.args) (talk-gives_up proc.1 c.args) db is (shares_of plan db) (λ p below. refl) in
+        (talk_of proc.1 c.args) (talk-gives_up proc.1 c.args) db is (shares_of plan db) (λ p below. refl) in
         subst (λ r. Same plan (kept db end.0 (sized end.1)) (kept (shares_of plan db) rounds.0 (sized r))) (sym agree.0)
         (kept_answer (shares_of plan db) rounds.0 db end.0 (sized end.1), kept_same end rounds (sized end.1) (λ rows e. agree.1 rows (sized-ok end.1 rows e)))
 

@@ -1,12 +1,11 @@
 -- A program gives up at the first fault of a statement.
-use Rattle.std.proofs.Common.{◌≡◌, ℕ, ◌+◌, Bool, true, false, cond, if◌then◌else◌, nat_lt, List, [], ◌∷◌, map, Option, Result, Ok, Err, sym, refl, ap, ◌∙◌, subst}
+use Rattle.std.proofs.Common.{◌≡◌, ℕ, ◌+◌, Bool, true, false, if◌then◌else◌, nat_lt, List, [], ◌∷◌, map, Option, Result, Ok, Err, sym, refl, subst}
 use Rattle.sql_plan.specs.declared.fault.Fault.{Fault}
-use Rattle.sql_plan.specs.declared.reply.Cause.{Cause}
 use Rattle.sql_plan.specs.declared.reply.Cause.TheVariants as cause
 use Rattle.sql_plan.specs.declared.program.Program.{Program}
 use Rattle.sql_plan.specs.declared.program.ProgramStep.{ProgramStep, roll-ProgramStep, map-ProgramStep}
 use Rattle.sql_plan.specs.declared.program.ProgramStep.TheOpen.{ProgramStep-F as s}
-use Rattle.sql_plan.specs.declared.program.ProgramStep.TheFolds.{fold-ProgramStep, fold-roll-ProgramStep, ind-ProgramStep}
+use Rattle.sql_plan.specs.declared.program.ProgramStep.TheFolds.{fold-roll-ProgramStep, ind-ProgramStep}
 use Rattle.sql_plan.specs.declared.program.Returned.{Returned}
 use Rattle.sql_plan.specs.declared.program.Returned.TheVariants as returned
 use Rattle.sql_plan.specs.Rows.{Cells}

@@ -1,6 +1,6 @@
 -- A program on all partitions, in rounds: each partition makes its part of each statement on its own share,
 -- and what the parts come to is answered.
-use Rattle.std.specs.Prelude.{ℕ, List, [], ◌∷◌, slice_get, Option, Some, None, Result, Ok, Err}
+use Rattle.std.specs.Prelude.{ℕ, List, [], slice_get, Option, Some, None, Result, Ok, Err}
 use Rattle.volt_catalog.specs.declared.procedure.ProcDef.{ProcDef}
 use Rattle.volt_catalog.specs.Rules.{Contents}
 use Rattle.sql_plan.specs.declared.fault.Fault.{Fault}

@@ -1,14 +1,11 @@
 -- A balance moves from one account to another one, or it doesn't.
-use Rattle.std.proofs.Common.{◌≡◌, ℕ, Bool, true, false, List, [], ◌∷◌, map, length, drop, codes, pos, Option, Some, None, Result, Ok, Err, sym, refl, ap, ◌∙◌}
+use Rattle.std.proofs.Common.{◌≡◌, ℕ, true, false, List, [], ◌∷◌, map, length, drop, codes, pos, Some, None, Ok, refl, ap, ◌∙◌}
 use Rattle.sql_parse.specs.declared.expression.Arithmetic.TheVariants.{Add, Subtract}
 use Rattle.sql_parse.specs.declared.expression.Comparison.TheVariants as compare
-use Rattle.volt_value.specs.declared.value.Value.{Value}
-use Rattle.volt_value.specs.declared.value.Value.TheVariants.{Null, Int}
-use Rattle.sql_plan.specs.declared.expression.Scalar.{Scalar}
+use Rattle.volt_value.specs.declared.value.Value.TheVariants.{Int}
 use Rattle.sql_plan.specs.declared.expression.Scalar.TheVariants.{Literal, Column as Col, Param, Chain}
 use Rattle.sql_plan.specs.declared.expression.Cond.{Cond}
 use Rattle.sql_plan.specs.declared.expression.Cond.TheVariants.{Compare, Or}
-use Rattle.sql_plan.specs.declared.prepared.Prepared.{Prepared}
 use Rattle.sql_plan.specs.declared.prepared.Scope.TheVariants.{AllPartitions}
 use Rattle.sql_plan.specs.declared.program.ProgramStep.{ProgramStep}
 use Rattle.sql_plan.specs.declared.program.ProgramStep.TheVariants.{Sql, If, Abort, Return}
@@ -16,19 +13,16 @@ use Rattle.sql_plan.specs.declared.program.ProgramValue.{ProgramValue}
 use Rattle.sql_plan.specs.declared.program.ProgramValue.TheVariants.{Variable, Rows, First}
 use Rattle.sql_plan.specs.declared.program.Returned.TheVariants.{Values}
 use Rattle.sql_plan.specs.declared.reply.Cause.TheVariants as cause
-use Rattle.sql_plan.specs.declared.reply.ProcReply.{ProcReply}
 use Rattle.sql_plan.specs.declared.reply.ProcReply.TheVariants as reply
 use Rattle.sql_plan.specs.Rows.{Cells}
-use Rattle.sql_meaning.specs.Judged.{collected}
 use Rattle.sql_meaning.specs.Values.{at}
-use Rattle.sql_meaning.specs.Expressions.{scalar_of, holds}
-use Rattle.sql_meaning.specs.Database.{Database}
+use Rattle.sql_meaning.specs.Expressions.{holds}
 use Rattle.sql_meaning.specs.Statements.{means}
 use Rattle.sql_meaning.specs.Programs.{Known, Goes, Returns, cells_at, all_of, does, at_start}
 use Rattle.sql_meaning.specs.Calls.{ran}
 use Rattle.sql_meaning.specs.Starter.{catalog, balance_of, update_balance, move}
 use Rattle.sql_meaning.proofs.Meanings.{meanings, does_Abort}
-use Rattle.sql_scenarios.specs.Accounts.{accounts, two, taken, moved}
+use Rattle.sql_scenarios.specs.Accounts.{two, taken, moved}
 use Rattle.sql_scenarios.specs.Builders.{int, ids, counted}
 use Rattle.sql_scenarios.proofs.Runs.{later, with_answer, end, sql-ends, if-ends, return-ends}
 
@@ -43,10 +37,10 @@ asked = Rows 0 ∷ Rows 1 ∷ First 0 0 ∷ Variable 2 ∷ []
 abbrev refused : Cond
 refused =
     Or (
-      Compare compare.Equal (Param 0) (Literal (Int (pos 0)))
-      ∷ Compare compare.Equal (Param 1) (Literal (Int (pos 0)))
-      ∷ Compare compare.Less (Param 2) (Param 3)
-      ∷ [])
+    Compare compare.Equal (Param 0) (Literal (Int (pos 0)))
+    ∷ Compare compare.Equal (Param 1) (Literal (Int (pos 0)))
+    ∷ Compare compare.Less (Param 2) (Param 3)
+    ∷ [])
 
 abbrev rest : List ProgramStep
 rest =

@@ -1,7 +1,6 @@
 -- How a run of a program ends, step by step: a long run isn't evaluated at once.
-use Rattle.std.proofs.Common.{◌≡◌, ℕ, ◌+◌, Bool, true, false, cond, if◌then◌else◌, nat_lt, List, [], ◌∷◌, map, slice_get, Option, Some, None, Result, Ok, Err, sym, refl, ap, ◌∙◌}
+use Rattle.std.proofs.Common.{◌≡◌, ℕ, ◌+◌, Bool, true, if◌then◌else◌, nat_lt, List, [], ◌∷◌, map, slice_get, Option, Some, None, Ok, ap, ◌∙◌}
 use Rattle.volt_catalog.specs.Rules.{Contents}
-use Rattle.sql_plan.specs.declared.fault.Fault.{Fault}
 use Rattle.sql_plan.specs.declared.expression.Scalar.{Scalar}
 use Rattle.sql_plan.specs.declared.expression.Cond.{Cond}
 use Rattle.sql_plan.specs.declared.prepared.Prepared.{Prepared}
@@ -10,7 +9,6 @@ use Rattle.sql_plan.specs.declared.program.ProgramStep.{ProgramStep}
 use Rattle.sql_plan.specs.declared.program.ProgramStep.TheVariants.{Sql, If, Return}
 use Rattle.sql_plan.specs.declared.program.ProgramValue.{ProgramValue}
 use Rattle.sql_plan.specs.declared.program.Returned.TheVariants.{Values}
-use Rattle.sql_plan.specs.declared.reply.Cause.TheVariants as cause
 use Rattle.sql_plan.specs.declared.reply.ProcReply.{ProcReply}
 use Rattle.sql_plan.specs.declared.reply.ProcReply.TheVariants as reply
 use Rattle.sql_plan.specs.Rows.{Cells}
@@ -18,7 +16,7 @@ use Rattle.sql_meaning.specs.Judged.{collected}
 use Rattle.sql_meaning.specs.Expressions.{scalar_of, holds}
 use Rattle.sql_meaning.specs.Database.{Database}
 use Rattle.sql_meaning.specs.Statements.{means}
-use Rattle.sql_meaning.specs.Programs.{Talk, Returns, Aborts, Asks, Known, Goes, arguments, most_steps, most_statements, or_abort, keep_rows, all_of, does}
+use Rattle.sql_meaning.specs.Programs.{Talk, Returns, Known, Goes, arguments, most_steps, most_statements, or_abort, keep_rows, all_of, does}
 use Rattle.sql_meaning.specs.Calls.{after_answer, settled, statement_means, answers_of}
 use Rattle.sql_meaning.proofs.Meanings.{does_Sql, does_If, does_Return}
 

@@ -1,6 +1,5 @@
 -- A program that sums the rows of a result.
-use Rattle.std.proofs.Common.{◌≡◌, ℕ, List, [], ◌∷◌, map, drop, Option, Some, None, Ok, refl, ◌∙◌}
-use Rattle.sql_plan.specs.declared.reply.ProcReply.{ProcReply}
+use Rattle.std.proofs.Common.{◌≡◌, List, [], ◌∷◌, map, drop, Some, None, refl, ◌∙◌}
 use Rattle.sql_plan.specs.declared.reply.ProcReply.TheVariants as reply
 use Rattle.sql_plan.specs.Rows.{Cells}
 use Rattle.sql_meaning.specs.Calls.{ran}

@@ -1,9 +1,8 @@
 -- The accounts of the example, in databases with a few rows.
-use Rattle.std.specs.Prelude.{◌≡◌, ℕ, List, [], ◌∷◌, map, codes, ℤ, pos, negsuc, Option, Some, None}
+use Rattle.std.specs.Prelude.{◌≡◌, ℕ, List, [], ◌∷◌, map, codes, ℤ, pos, Some, None}
 use Rattle.volt_value.specs.declared.value.Value.{Value}
-use Rattle.volt_value.specs.declared.value.Value.TheVariants.{Null, Int}
+use Rattle.volt_value.specs.declared.value.Value.TheVariants.{Int}
 use Rattle.sql_plan.specs.declared.fault.Fault.{Fault}
-use Rattle.sql_plan.specs.declared.reply.ProcReply.{ProcReply}
 use Rattle.sql_plan.specs.declared.reply.ProcReply.TheVariants as reply
 use Rattle.sql_plan.specs.declared.reply.Cause.TheVariants as cause
 use Rattle.sql_parse.specs.declared.expression.Arithmetic.TheVariants.{Add}

@@ -1,11 +1,10 @@
 -- Short forms for rows, expressions and statements, and what is said of a statement.
-use Rattle.std.specs.Prelude.{◌≡◌, ℕ, Bool, true, false, List, [], ◌∷◌, map, codes, ℤ, pos, negsuc, Option, Some, None, Ok, Err}
+use Rattle.std.specs.Prelude.{◌≡◌, ℕ, Bool, List, [], ◌∷◌, map, pos, None, Ok, Err}
 use Rattle.volt_value.specs.declared.value.Value.{Value}
-use Rattle.volt_value.specs.declared.value.Value.TheVariants.{Null, Int, Text}
+use Rattle.volt_value.specs.declared.value.Value.TheVariants.{Null, Int}
 use Rattle.volt_value.specs.declared.column.Class.TheVariants as class
 use Rattle.volt_catalog.specs.Rules.{Contents}
-use Rattle.sql_parse.specs.declared.expression.Arithmetic.TheVariants.{Add, Subtract, Multiply, Divide}
-use Rattle.sql_parse.specs.declared.expression.Comparison.{Comparison}
+use Rattle.sql_parse.specs.declared.expression.Arithmetic.TheVariants.{Multiply, Divide}
 use Rattle.sql_plan.specs.declared.fault.Fault.{Fault}
 use Rattle.sql_plan.specs.declared.expression.Scalar.{Scalar}
 use Rattle.sql_plan.specs.declared.expression.Scalar.TheVariants.{Literal, Chain}

@@ -1,7 +1,7 @@
 -- Notes, in a table that is partitioned by their ids, and codes, of which each partition has all rows.
-use Rattle.std.specs.Prelude.{ℕ, Bool, true, false, List, [], ◌∷◌, map, codes, ℤ, pos, negsuc, Option, Some, None}
+use Rattle.std.specs.Prelude.{ℕ, Bool, true, false, List, [], ◌∷◌, map, codes, Some, None}
 use Rattle.volt_value.specs.declared.value.Value.{Value}
-use Rattle.volt_value.specs.declared.value.Value.TheVariants.{Null, Int, Text}
+use Rattle.volt_value.specs.declared.value.Value.TheVariants.{Null, Text}
 use Rattle.volt_value.specs.declared.column.ColType.{ColType}
 use Rattle.volt_value.specs.declared.column.ColType.TheVariants.{Big, Varchar}
 use Rattle.volt_catalog.specs.declared.column.Column.{Column}
@@ -9,7 +9,7 @@ use Rattle.volt_catalog.specs.declared.table.Table.{Table}
 use Rattle.volt_catalog.specs.declared.table.IndexDef.{IndexDef}
 use Rattle.volt_catalog.specs.Rules.{Contents}
 use Rattle.sql_plan.specs.declared.expression.Scalar.{Scalar}
-use Rattle.sql_plan.specs.declared.expression.Scalar.TheVariants.{Literal, Column as Col}
+use Rattle.sql_plan.specs.declared.expression.Scalar.TheVariants.{Column as Col}
 use Rattle.sql_plan.specs.declared.expression.Cond.{Cond}
 use Rattle.sql_plan.specs.declared.expression.Cond.TheVariants.{And}
 use Rattle.sql_plan.specs.declared.prepared.Action.TheVariants.{Insert, Update, Delete, Select}

@@ -1,7 +1,7 @@
 -- Pairs of numbers, each of which may be NULL.
-use Rattle.std.specs.Prelude.{ℕ, Bool, true, false, List, [], ◌∷◌, ◌++◌, codes, ℤ, pos, negsuc, Option, Some, None}
+use Rattle.std.specs.Prelude.{ℕ, Bool, true, false, List, [], ◌∷◌, ◌++◌, codes, Option, Some, None}
 use Rattle.volt_value.specs.declared.value.Value.{Value}
-use Rattle.volt_value.specs.declared.value.Value.TheVariants.{Null, Int}
+use Rattle.volt_value.specs.declared.value.Value.TheVariants.{Null}
 use Rattle.volt_value.specs.declared.column.ColType.TheVariants.{Big}
 use Rattle.volt_catalog.specs.declared.column.Column.{Column as TableColumn}
 use Rattle.volt_catalog.specs.declared.table.Table.{Table}
@@ -15,7 +15,6 @@ use Rattle.sql_plan.specs.declared.prepared.Action.TheVariants.{Select}
 use Rattle.sql_plan.specs.declared.prepared.Prepared.{Prepared}
 use Rattle.sql_plan.specs.declared.select.Aggregated.{Aggregated}
 use Rattle.sql_plan.specs.declared.select.Aggregated.TheVariants.{CountRows, Count, Sum, Min, Max}
-use Rattle.sql_plan.specs.declared.select.GroupOutput.{GroupOutput}
 use Rattle.sql_plan.specs.declared.select.GroupOutput.TheVariants as output
 use Rattle.sql_plan.specs.declared.select.Order.{Order}
 use Rattle.sql_plan.specs.declared.select.OrderBy.TheVariants.{Column}

@@ -1,4 +1,4 @@
-use Rattle.std.proofs.Common.{◌≡◌, ℕ, [], ◌∷◌, sym, refl, ap, ◌∙◌, subst, codes, pos, negsuc, lit<, lit≤}
+use Rattle.std.proofs.Common.{lit<}
 use Rattle.sql_instances.proofs.Premises.{is_catalog, database-three}
 use Rattle.sql_meaning.specs.Starter.{catalog}
 use Rattle.sql_instances.specs.Instances.{three}

@@ -1,4 +1,4 @@
-use Rattle.std.proofs.Common.{◌≡◌, ℕ, [], ◌∷◌, sym, refl, ap, ◌∙◌, subst, codes, pos, negsuc, lit<, lit≤}
+use Rattle.std.proofs.Common.{[], ◌∷◌, refl}
 use Rattle.sql_meaning.specs.Starter.{catalog, balance_of}
 use Rattle.sql_instances.specs.Instances.{three}
 use Rattle.sql_plan.specs.declared.prepared.Scope.TheVariants.{OnePartition}

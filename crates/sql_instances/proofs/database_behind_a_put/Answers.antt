@@ -1,4 +1,4 @@
-use Rattle.std.proofs.Common.{◌≡◌, ℕ, [], ◌∷◌, sym, refl, ap, ◌∙◌, subst, codes, pos, negsuc, lit<, lit≤}
+use Rattle.std.proofs.Common.{[], subst, lit≤}
 use Rattle.sql_instances.proofs.Premises.{is_plan, database-none}
 use Rattle.sql_meaning.specs.Starter.{catalog, plan}
 use Rattle.sql_plan.specs.declared.reply.ProcReply.{ProcReply}

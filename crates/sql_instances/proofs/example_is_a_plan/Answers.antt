@@ -1,4 +1,4 @@
-use Rattle.std.proofs.Common.{◌≡◌, ℕ, [], ◌∷◌, sym, refl, ap, ◌∙◌, subst, codes, pos, negsuc, lit<, lit≤}
+use Rattle.std.proofs.Common.{lit≤}
 use Rattle.sql_instances.proofs.Premises.{is_plan}
 use Rattle.sql_instances.proofs.example_is_a_plan.Goals as goal
 

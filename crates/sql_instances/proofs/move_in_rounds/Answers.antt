@@ -1,4 +1,4 @@
-use Rattle.std.proofs.Common.{◌≡◌, ℕ, refl, ap, ◌∙◌, lit<, lit≤}
+use Rattle.std.proofs.Common.{refl, ap, ◌∙◌, lit<, lit≤}
 use Rattle.sql_plan.specs.declared.reply.ProcReply.{ProcReply}
 use Rattle.sql_meaning.specs.Database.{Database, share}
 use Rattle.sql_meaning.specs.Starter.{catalog, plan}

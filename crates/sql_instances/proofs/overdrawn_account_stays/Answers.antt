@@ -1,4 +1,4 @@
-use Rattle.std.proofs.Common.{◌≡◌, ℕ, [], ◌∷◌, sym, refl, ap, ◌∙◌, subst, codes, pos, negsuc, lit<, lit≤}
+use Rattle.std.proofs.Common.{ap, codes, negsuc}
 use Rattle.sql_meaning.specs.Starter.{plan}
 use Rattle.sql_instances.specs.Instances.{one}
 use Rattle.sql_plan.specs.declared.reply.Cause.TheVariants as cause

@@ -1,4 +1,4 @@
-use Rattle.std.proofs.Common.{◌≡◌, ℕ, [], ◌∷◌, lit<}
+use Rattle.std.proofs.Common.{[], ◌∷◌, lit<}
 use Rattle.sql_meaning.specs.Starter.{catalog, total_balance}
 use Rattle.sql_scenarios.specs.Builders.{ids}
 use Rattle.sql_instances.specs.Instances.{three}

@@ -1,4 +1,4 @@
-use Rattle.std.proofs.Common.{◌≡◌, ℕ, [], ◌∷◌, lit<}
+use Rattle.std.proofs.Common.{[], lit<}
 use Rattle.sql_scenarios.specs.Builders.{counted, num}
 use Rattle.sql_scenarios.specs.Notes as notes
 use Rattle.sql_instances.specs.Instances.{code}

@@ -1,4 +1,4 @@
-use Rattle.std.proofs.Common.{◌≡◌, ℕ, [], ◌∷◌, lit<}
+use Rattle.std.proofs.Common.{[], lit<}
 use Rattle.sql_meaning.specs.Starter.{catalog}
 use Rattle.sql_scenarios.specs.Accounts.{one_more}
 use Rattle.sql_scenarios.specs.Builders.{counted}

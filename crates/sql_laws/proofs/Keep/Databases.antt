@@ -1,6 +1,6 @@
 -- Databases: tables with other rows, shares, rows that are taken out, and rows that are put in.
-use Rattle.std.proofs.Common.{◌≡◌, ℕ, zero, suc, ◌+◌, ◌<◌, ◌≤◌, Bool, true, false, not, cond, if◌then◌else◌, ◌==◌, ◌&&◌, ◌||◌, List, [], ◌∷◌, map, filter, length, slice_get, slice_set, Option, Some, None, unwrap_or, Result, Ok, Err, sym, refl, ap, ◌∙◌, subst, inl, inr, arith, length-set}
-use Rattle.std.specs.List.{list_any, list_all, zip, filter_map, cons_option, AllByRecursion}
+use Rattle.std.proofs.Common.{◌≡◌, ℕ, zero, suc, ◌<◌, ◌≤◌, Bool, true, false, not, ◌&&◌, List, [], ◌∷◌, map, filter, length, sym, refl, ap, ◌∙◌, subst, inl, inr, arith, length-set}
+use Rattle.std.specs.List.{list_any, list_all, zip}
 use Rattle.std.specs.Ordering.{is_lt, is_eq, ordering_reverse}
 use Rattle.std.specs.declared.cmp.Ordering.{Ordering}
 use Rattle.std.specs.declared.cmp.Ordering.TheVariants.{Less, Equal, Greater}
@@ -8,10 +8,9 @@ use Rattle.std.proofs.lemmas.Bool.{cases_Bool, and_parts, and_from, or_parts, or
 use Rattle.volt_catalog.specs.declared.table.Table.{Table}
 use Rattle.volt_catalog.specs.Rules.{Contents}
 use Rattle.sql_plan.specs.Rows.{Cells, row_cmp, row_total}
-use Rattle.sql_meaning.specs.Tables.{no_table, table_at, picked, is_row, agree, has_twins, unique_keys, comes_before, with_row, rise, lies_in}
+use Rattle.sql_meaning.specs.Tables.{table_at, picked, is_row, agree, has_twins, unique_keys, comes_before, with_row, rise, lies_in}
 use Rattle.sql_meaning.specs.Database.{Database, rows_of, set_rows, AreRows, IsDatabase, share}
 use Rattle.sql_laws.proofs.Plain.Rows.{rows_of-share}
-use Rattle.sql_laws.proofs.Change.Twins.{has_any_twins}
 use Rattle.sql_laws.proofs.Change.Inserts.{no_twins-filter}
 
 -- ---- all of some

@@ -1,6 +1,6 @@
 -- A database is told by the shares of its partitions.
-use Rattle.std.proofs.Common.{◌≡◌, ℕ, zero, suc, ◌+◌, ◌<◌, ◌≤◌, Bool, true, false, not, cond, if◌then◌else◌, ◌==◌, ◌||◌, List, [], ◌∷◌, ◌++◌, map, filter, fold, length, Option, Some, None, option_map, sym, refl, ap, ◌∙◌, subst, inl, inr, arith}
-use Rattle.std.specs.List.{flat_map, list_any, list_all, range_with_len}
+use Rattle.std.proofs.Common.{◌≡◌, ℕ, zero, suc, ◌+◌, ◌<◌, ◌≤◌, true, false, ◌==◌, List, [], ◌∷◌, ◌++◌, filter, fold, Option, Some, None, option_map, sym, refl, ap, ◌∙◌, inl, inr, arith}
+use Rattle.std.specs.List.{flat_map, list_any, range_with_len}
 use Rattle.std.specs.Ordering.{is_lt, ordering_reverse}
 use Rattle.std.specs.declared.cmp.Ordering.{Ordering}
 use Rattle.std.specs.declared.cmp.Ordering.TheVariants.{Less, Equal, Greater}
@@ -13,8 +13,8 @@ use Rattle.sql_meaning.specs.Values.{at}
 use Rattle.sql_meaning.specs.Tables.{table_at, picked, agree, comes_before, with_row, with_rows, rise, part_of_value, is_part, lies_in}
 use Rattle.sql_meaning.specs.Database.{Database, rows_of, IsDatabase, share}
 use Rattle.sql_meaning.specs.Parts.{all_parts}
-use Rattle.sql_laws.proofs.Plain.Folds.{filter_all, Apart, fold_parts, range-distinct, range-has}
-use Rattle.sql_laws.proofs.Plain.Rows.{filter-same, rows_of-share}
+use Rattle.sql_laws.proofs.Plain.Folds.{filter_all, fold_parts, range-distinct, range-has}
+use Rattle.sql_laws.proofs.Plain.Rows.{rows_of-share}
 use Rattle.sql_laws.proofs.Fits.{part_column, part_of_value-within}
 use Rattle.sql_laws.proofs.Change.Twins.{agree_at, any_same}
 use Rattle.sql_laws.proofs.Keep.Databases.{behind_it, through}
