@@ -9,3 +9,4 @@ pub mod Calls
 pub mod Parts
 pub mod Talks
 pub mod Rounds
+pub mod Serial

@@ -19,8 +19,8 @@ use Rattle.sql_meaning.specs.Database.{Database, share, IsDatabase}
 use Rattle.sql_meaning.specs.Parts.{part_means, merged, given_by_parts}
 use Rattle.sql_meaning.specs.Programs.{Talk, Returns, Aborts, Asks, talk_of}
 use Rattle.sql_meaning.specs.Replies.{most_bytes, reply_bytes, sized}
-use Rattle.sql_meaning.specs.Calls.{settled, statement_means, answers_of, after_answer, ran, Call, kept, run_call, part_of_args, run_on, call_of, part_of_call}
-use Rattle.sql_meaning.specs.Rounds.{share_after, round_answer, round_shares, in_rounds, run_in_rounds, call_in_rounds_of}
+use Rattle.sql_meaning.specs.Calls.{settled, statement_means, answers_of, after_answer, ran, Call, kept, run_call, part_of_args, run_on, call_of, call, part_of_call}
+use Rattle.sql_meaning.specs.Rounds.{share_after, round_answer, round_shares, in_rounds, run_in_rounds, call_in_rounds_of, call_in_rounds}
 use Rattle.sql_meaning.specs.Plans.{IsStatement, IsProcedure, IsPlan}
 use Rattle.sql_laws.specs.InRounds.{shares_of, InRounds}
 use Rattle.sql_laws.proofs.Statements.{in_parts, shares_after}
@@ -106,42 +106,43 @@ sized-ok r rows e = by (nat_le (length (reply_bytes r)) most_bytes) e
     by false e = absurd (cc)
 
 -- the same reply, and the shares of the same database
-abbrev Same : Plan → Database × ProcReply → (ℕ → Database) × ProcReply → Type 0
+abbrev pub Same : Plan → Database × ProcReply → (ℕ → Database) × ProcReply → Type 0
 Same plan whole rounds = (rounds.1 ≡ whole.1) × ((part : ℕ) → part < plan.parts → rounds.0 part ≡ share plan.parts plan.catalog part whole.0)
 
-pub rounds-call : (plan : Plan) → IsPlan plan → (db : Database) (c : Call) → IsDatabase plan.catalog db → part_of_call plan c ≡ None → InRounds plan db c
-rounds-call plan is_plan db c is none = by (slice_get plan.procs c.proc) refl none
+-- over any shares that are those of the database
+pub rounds-call-of : (plan : Plan) → IsPlan plan → (db : Database) (c : Call) → IsDatabase plan.catalog db → part_of_call plan c ≡ None
+    → (own : ℕ → Database) → ((part : ℕ) → part < plan.parts → own part ≡ share plan.parts plan.catalog part db) → Same plan (call plan db c) (call_in_rounds plan own c)
+rounds-call-of plan is_plan db c is none own are = same_call (slice_get plan.procs c.proc) refl none
   where
     kept_same : (whole : Database × ProcReply) (rounds : (ℕ → Database) × ProcReply) (r : ProcReply) → ((rows : Rows) → r ≡ reply.Ok rows → (part : ℕ) → part < plan.parts → rounds.0 part ≡ share plan.parts plan.catalog part whole.0)
-        → (part : ℕ) → part < plan.parts → (kept (shares_of plan db) rounds.0 r).0 part ≡ share plan.parts plan.catalog part (kept db whole.0 r).0
-    kept_same whole rounds (reply.Ok rows) are = are rows refl
-    kept_same whole rounds (reply.Abort why) are = λ part below. refl
+        → (part : ℕ) → part < plan.parts → (kept own rounds.0 r).0 part ≡ share plan.parts plan.catalog part (kept db whole.0 r).0
+    kept_same whole rounds (reply.Ok rows) so = so rows refl
+    kept_same whole rounds (reply.Abort why) so = are
 
     kept_answer : {A B : Type 0} (a b : A) (x y : B) (r : ProcReply) → (kept a b r).1 ≡ (kept x y r).1
     kept_answer a b x y (reply.Ok rows) = refl
     kept_answer a b x y (reply.Abort why) = refl
 
-    run_same : (proc : ProcDef × Program) → IsProcedure plan.catalog proc.0 proc.1 → is_some proc.0.part ≡ false → Same plan (run_call plan None proc.1 c.args db) (run_in_rounds plan proc.1 c.args (shares_of plan db))
+    run_same : (proc : ProcDef × Program) → IsProcedure plan.catalog proc.0 proc.1 → is_some proc.0.part ≡ false → Same plan (run_call plan None proc.1 c.args db) (run_in_rounds plan proc.1 c.args own)
     run_same proc procedure single =
         let end = ran plan.parts plan.catalog None proc.1 c.args db in
-        let rounds = in_rounds plan.parts plan.catalog proc.1 (talk_of proc.1 c.args) (shares_of plan db) in
+        let rounds = in_rounds plan.parts plan.catalog proc.1 (talk_of proc.1 c.args) own in
         let agree = talk-agrees plan.parts is_plan.some_part plan.catalog is_plan.catalog proc.1 (subst (λ b. AllByRecursion (IsStatement plan.catalog b) proc.1.statements) single procedure.statements)
-        (talk_of proc.1 c.args) (talk-gives_up proc.1 c.args) db is (shares_of plan db) (λ p below. refl) in
-        subst (λ r. Same plan (kept db end.0 (sized end.1)) (kept (shares_of plan db) rounds.0 (sized r))) (sym agree.0)
-        (kept_answer (shares_of plan db) rounds.0 db end.0 (sized end.1), kept_same end rounds (sized end.1) (λ rows e. agree.1 rows (sized-ok end.1 rows e)))
+        (talk_of proc.1 c.args) (talk-gives_up proc.1 c.args) db is own are in
+        subst (λ r. Same plan (kept db end.0 (sized end.1)) (kept own rounds.0 (sized r))) (sym agree.0)
+        (kept_answer own rounds.0 db end.0 (sized end.1), kept_same end rounds (sized end.1) (λ rows e. agree.1 rows (sized-ok end.1 rows e)))
 
     no_part : (o : Option (ℕ × ℕ × ℕ)) → (f : ℕ × ℕ × ℕ → ℕ) → option_map f o ≡ None → is_some o ≡ false
     no_part None f e = refl
     no_part (Some x) f e = absurd (cc)
 
     same_call : (o : Option (ProcDef × Program)) → slice_get plan.procs c.proc ≡ o → option_and_then (λ (proc : ProcDef × Program). part_of_args plan.parts proc.0 c.args) o ≡ None
-        → Same plan (call_of plan c.args db o) (call_in_rounds_of plan c.args (shares_of plan db) o)
-    same_call None at_c none = (refl, λ part below. refl)
+        → Same plan (call_of plan c.args db o) (call_in_rounds_of plan c.args own o)
+    same_call None at_c none = (refl, are)
     same_call (Some proc) at_c none =
-        subst (λ o. Same plan (run_on plan proc.1 c.args db o) (run_in_rounds plan proc.1 c.args (shares_of plan db))) (sym none)
+        subst (λ o. Same plan (run_on plan proc.1 c.args db o) (run_in_rounds plan proc.1 c.args own)) (sym none)
         (run_same proc (procedure_at plan.catalog plan.procs c.proc proc is_plan.procs at_c) (no_part proc.0.part _ none))
 
-    by : (o : Option (ProcDef × Program)) → slice_get plan.procs c.proc ≡ o → option_and_then (λ (proc : ProcDef × Program). part_of_args plan.parts proc.0 c.args) o ≡ None → InRounds plan db c
-    by o at_c none =
-        let both = same_call o at_c none in
-        subst (λ o. Same plan (call_of plan c.args db o) (call_in_rounds_of plan c.args (shares_of plan db) o) → InRounds plan db c) at_c (λ same. record { reply = same.0; shares = same.1 }) both
+pub rounds-call : (plan : Plan) → IsPlan plan → (db : Database) (c : Call) → IsDatabase plan.catalog db → part_of_call plan c ≡ None → InRounds plan db c
+rounds-call plan is_plan db c is none =
+    let same = rounds-call-of plan is_plan db c is none (shares_of plan db) (λ part below. refl) in record { reply = same.0; shares = same.1 }

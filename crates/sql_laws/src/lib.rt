@@ -19,6 +19,7 @@ ghost use Rattle.sql_meaning.specs.Plans.{IsPlan};
 ghost use Rattle.sql_meaning.specs.WellFormed.{IsPrepared};
 ghost use Rattle.sql_laws.specs.Alone.{OnOnePart};
 ghost use Rattle.sql_laws.specs.InRounds.{InRounds};
+ghost use Rattle.sql_laws.specs.OnShares.{OnShares};
 ghost use Rattle.sql_laws.specs.Parts.{IsOfOnePart, IsOfParts};
 
 /// A statement on the whole database gives what its parts on the partitions come to: rows in one order
@@ -50,6 +51,14 @@ pub fn databases_are_told_by_their_shares()
 pub fn calls_in_rounds_give_what_they_mean()
     ensures { (plan : Plan) (db : Database) (c : Call) → IsPlan plan → IsDatabase plan.catalog db
         → part_of_call plan c ≡ None → InRounds plan db c }
+{}
+
+/// Calls one after another give the same replies and leave the same shares on one database and where
+/// each partition has its share alone: there a call on one partition runs on that partition's share,
+/// and any other call in rounds.
+pub fn runs_on_shares_give_what_they_mean()
+    ensures { (plan : Plan) (db : Database) (calls : List Call) → IsPlan plan
+        → IsDatabase plan.catalog db → OnShares plan db calls }
 {}
 
 /// A call that aborts leaves the database as it was.
