@@ -8,12 +8,13 @@ ghost use Rattle.sql_plan.specs.declared.reply.ProcReply.TheVariants as reply;
 ghost use Rattle.sql_meaning.specs.Calls.{call};
 ghost use Rattle.sql_meaning.specs.Database.{Database, IsDatabase, share};
 ghost use Rattle.sql_meaning.specs.Plans.{IsPlan};
-ghost use Rattle.sql_meaning.specs.Rounds.{call_in_rounds};
+ghost use Rattle.sql_meaning.specs.Rounds.{call_in_rounds, serial_on_shares};
 ghost use Rattle.sql_meaning.specs.Starter.{balance_of, catalog, plan, total_balance};
 ghost use Rattle.sql_laws.specs.Alone.{OnOnePart};
 ghost use Rattle.sql_laws.specs.InRounds.{InRounds, shares_of};
+ghost use Rattle.sql_laws.specs.OnShares.{OnShares};
 ghost use Rattle.sql_laws.specs.Parts.{HasShares, IsOfOnePart, IsOfParts};
-ghost use Rattle.sql_scenarios.specs.Accounts.{accounts, add, move, moved, one_more, two};
+ghost use Rattle.sql_scenarios.specs.Accounts.{accounts, add, get, move, moved, one_more, two};
 ghost use Rattle.sql_scenarios.specs.Builders.{ids, int, num};
 ghost use Rattle.sql_scenarios.specs.Notes as notes;
 ghost use Rattle.sql_instances.specs.Instances.{code, four, four_more, one, three};
@@ -21,7 +22,7 @@ ghost use Rattle.sql_instances.specs.Instances.{code, four, four_more, one, thre
 use sql_laws::{
     aborts_change_nothing, calls_in_rounds_give_what_they_mean, calls_keep_databases,
     calls_on_one_partition_are_of_its_share, databases_are_told_by_their_shares,
-    statements_are_of_their_parts, statements_on_one_partition_are_of_one_part,
+    runs_on_shares_give_what_they_mean, statements_are_of_their_parts, statements_on_one_partition_are_of_one_part,
 };
 use sql_scenarios::{
     accounts_change, balances_move, counts_of_all, overdrawn_accounts, sums_of_all,
@@ -87,6 +88,16 @@ pub fn move_in_rounds()
         ≡ share 3 catalog 2 moved }
 {
     calls_in_rounds_give_what_they_mean();
+    balances_move();
+}
+
+/// A balance moves and is read, where each of three partitions has its share alone.
+pub fn move_and_get_on_shares()
+    ensures run { OnShares (plan 3) two (move 1 2 4 ∷ get 1 ∷ []) }
+    ensures replies { (serial_on_shares (plan 3) (shares_of (plan 3) two) (move 1 2 4 ∷ get 1 ∷ [])).1
+        ≡ reply.Ok (record { rows = ids (6 ∷ []) }) ∷ reply.Ok (record { rows = ids (6 ∷ []) }) ∷ [] }
+{
+    runs_on_shares_give_what_they_mean();
     balances_move();
 }
 

@@ -25,6 +25,7 @@ pub fn overdrawn_accounts()
 /// A balance moves between accounts of two partitions, or there isn't enough of it.
 pub fn balances_move()
     ensures enough { Answers 3 two (move 1 2 4) moved (ids (6 ∷ [])) }
+    ensures read_behind { Answers 3 moved (get 1) moved (ids (6 ∷ [])) }
     ensures too_much { Ends 3 two (move 1 2 11) (codes "cannot move") }
     ensures no_account { Ends 3 two (move 1 3 4) (codes "cannot move") }
 {}
