@@ -22,7 +22,8 @@ ghost use Rattle.sql_instances.specs.Instances.{code, four, four_more, one, thre
 use sql_laws::{
     aborts_change_nothing, calls_in_rounds_give_what_they_mean, calls_keep_databases,
     calls_on_one_partition_are_of_its_share, databases_are_told_by_their_shares,
-    runs_on_shares_give_what_they_mean, statements_are_of_their_parts, statements_on_one_partition_are_of_one_part,
+    runs_on_shares_give_what_they_mean, statements_are_of_their_parts,
+    statements_on_one_partition_are_of_one_part,
 };
 use sql_scenarios::{
     accounts_change, balances_move, counts_of_all, overdrawn_accounts, sums_of_all,

@@ -42,9 +42,9 @@ module _ (plan : Plan) (is_plan : IsPlan plan) where
           let here : own part ≡ share plan.parts plan.catalog part db = are part (part-within c part e) in (
             ap (λ (d : Database). (own_call plan part d c).1) here ∙ sym law.reply,
             λ q below. elim (cases_eq q part) [
-                | inl same ↦ rw (eq-eqb q part same) (ap (λ (d : Database). (own_call plan part d c).0) here ∙ sym law.own ∙ ap (λ (p : ℕ). share plan.parts plan.catalog p (call plan db c).0) (sym same))
-                | inr other ↦ rw (ne_eqb q part other) (are q below ∙ sym (law.others q other))
-              ],
+              | inl same ↦ rw (eq-eqb q part same) (ap (λ (d : Database). (own_call plan part d c).0) here ∙ sym law.own ∙ ap (λ (p : ℕ). share plan.parts plan.catalog p (call plan db c).0) (sym same))
+              | inr other ↦ rw (ne_eqb q part other) (are q below ∙ sym (law.others q other))
+            ],
           )
 
   pub serial-same : (calls : List Call) (db : Database) → IsDatabase plan.catalog db → (own : ℕ → Database) → Are db own

@@ -22,6 +22,8 @@ pub fn order_of_rows()
         (ids (3 ∷ 1 ∷ 5 ∷ 2 ∷ 6 ∷ 4 ∷ [])) }
     ensures first_three { Gives catalog (ids_by (ascending 1 ∷ []) (Some (Number (pos 3)))) grouped
         (ids (4 ∷ 6 ∷ 2 ∷ [])) }
+    ensures two_in_parts { PartsGive 3 catalog (ids_by (ascending 1 ∷ []) (Some (Number (pos 2)))) grouped
+        (ids (4 ∷ 6 ∷ [])) }
     ensures in_parts { PartsGive 3 catalog (ids_by (ascending 1 ∷ []) (Some (Number (pos 3)))) grouped
         (ids (4 ∷ 6 ∷ 2 ∷ [])) }
 {}

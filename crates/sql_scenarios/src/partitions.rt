@@ -7,8 +7,8 @@ ghost use Rattle.sql_scenarios.specs.Accounts.{accounts, new_account, one_more, 
 ghost use Rattle.sql_scenarios.specs.Builders.{Fails, Gives, Makes, PartsFail, PartsGive, ids, int, num};
 ghost use Rattle.sql_scenarios.specs.Notes as notes;
 
-/// Sums are exact over all partitions before their range is judged: accounts 1, 2 and 3 lie in the
-/// partitions 1, 2 and 0 of three.
+/// Sums are exact over all partitions before their range is judged, those of one partition too: accounts
+/// 1 and 2 lie in the partitions 1 and 2 of three, and accounts 3 and 4 in partition 0.
 pub fn sums_of_all()
     ensures greatest { PartsGive 3 catalog total_balance
         (accounts ((1, pos 9223372036854775805) ∷ (2, pos 1) ∷ (3, pos 1) ∷ []))
@@ -16,13 +16,16 @@ pub fn sums_of_all()
     ensures beyond { PartsFail 3 catalog total_balance
         (accounts ((1, pos 9223372036854775805) ∷ (2, pos 1) ∷ (3, pos 1) ∷ (4, pos 1) ∷ [])) Overflow }
     ensures back { PartsGive 3 catalog total_balance
-        (accounts ((1, pos 9223372036854775807) ∷ (2, pos 1) ∷ (3, negsuc 0) ∷ []))
+        (accounts ((1, pos 1) ∷ (2, negsuc 0) ∷ (3, pos 9223372036854775807) ∷ []))
+        (ids (9223372036854775807 ∷ [])) }
+    ensures part_beyond { PartsGive 3 catalog total_balance
+        (accounts ((1, negsuc 0) ∷ (3, pos 9223372036854775807) ∷ (4, pos 1) ∷ []))
         (ids (9223372036854775807 ∷ [])) }
     ensures whole_greatest { Gives catalog total_balance
         (accounts ((1, pos 9223372036854775805) ∷ (2, pos 1) ∷ (3, pos 1) ∷ []))
         (ids (9223372036854775807 ∷ [])) }
     ensures whole_back { Gives catalog total_balance
-        (accounts ((1, pos 9223372036854775807) ∷ (2, pos 1) ∷ (3, negsuc 0) ∷ []))
+        (accounts ((1, pos 1) ∷ (2, negsuc 0) ∷ (3, pos 9223372036854775807) ∷ []))
         (ids (9223372036854775807 ∷ [])) }
     ensures whole_beyond { Fails catalog total_balance
         (accounts ((1, pos 9223372036854775805) ∷ (2, pos 1) ∷ (3, pos 1) ∷ (4, pos 1) ∷ [])) Overflow }

@@ -13,5 +13,8 @@ returns-clause-by_both c = simp meanings
 pub returns-clause-first_three : goal.returns-clause-first_three
 returns-clause-first_three c = simp meanings
 
+pub returns-clause-two_in_parts : goal.returns-clause-two_in_parts
+returns-clause-two_in_parts c = simp meanings
+
 pub returns-clause-in_parts : goal.returns-clause-in_parts
 returns-clause-in_parts c = simp meanings

@@ -10,6 +10,9 @@ returns-clause-beyond c = simp meanings
 pub returns-clause-back : goal.returns-clause-back
 returns-clause-back c = simp meanings
 
+pub returns-clause-part_beyond : goal.returns-clause-part_beyond
+returns-clause-part_beyond c = simp meanings
+
 pub returns-clause-whole_greatest : goal.returns-clause-whole_greatest
 returns-clause-whole_greatest c = simp meanings
 
