@@ -1,16 +1,15 @@
 -- Calls one after another, where each partition has its share alone.
-use Rattle.std.proofs.Common.{◌≡◌, ℕ, ◌<◌, Bool, cond, if◌then◌else◌, ◌==◌, List, [], ◌∷◌, slice_get, Option, Some, None, option_map, sym, refl, ap, ◌∙◌, subst, inl, inr, arith}
+use Rattle.std.proofs.Common.{◌≡◌, ℕ, ◌<◌, List, [], ◌∷◌, slice_get, Option, Some, None, option_map, sym, refl, ap, ◌∙◌, subst, inl, inr}
 use Rattle.std.specs.Option.{option_and_then}
 use Rattle.std.proofs.lemmas.Bool.{cases_eq, eq-eqb, ne_eqb}
 use Rattle.volt_catalog.specs.declared.procedure.ProcDef.{ProcDef}
 use Rattle.sql_plan.specs.declared.plan.Plan.{Plan}
 use Rattle.sql_plan.specs.declared.program.Program.{Program}
-use Rattle.sql_plan.specs.declared.reply.ProcReply.{ProcReply}
 use Rattle.sql_meaning.specs.Values.{at}
 use Rattle.sql_meaning.specs.Tables.{part_of_value}
 use Rattle.sql_meaning.specs.Database.{Database, share, IsDatabase}
 use Rattle.sql_meaning.specs.Calls.{Call, part_of_args, call, part_of_call, own_call, serial}
-use Rattle.sql_meaning.specs.Rounds.{with_share, call_by_part, call_on_shares, serial_on_shares}
+use Rattle.sql_meaning.specs.Rounds.{call_by_part, call_on_shares, serial_on_shares}
 use Rattle.sql_meaning.specs.Plans.{IsPlan}
 use Rattle.sql_laws.proofs.Fits.{part_of_value-within}
 use Rattle.sql_laws.proofs.Calls.{call-database, one_part-call}
