@@ -1,4 +1,4 @@
-use Rattle.std.proofs.Common.{◌≡◌, ℕ, List, [], ◌∷◌, refl, ap, ◌∙◌, lit≤}
+use Rattle.std.proofs.Common.{[], ◌∷◌, ap, ◌∙◌, lit≤}
 use Rattle.sql_plan.specs.declared.reply.ProcReply.{ProcReply}
 use Rattle.sql_plan.specs.declared.reply.ProcReply.TheVariants as reply
 use Rattle.sql_meaning.specs.Calls.{call}
