@@ -1,5 +1,5 @@
 -- Calls: what they leave, what they read, and rounds.
-use Rattle.std.proofs.Common.{◌≡◌, ℕ, zero, suc, ◌<◌, ◌≤◌, Bool, true, false, not, cond, ◌&&◌, List, [], ◌∷◌, map, filter, slice_get, Option, Some, None, is_some, option_map, Result, Ok, Err, sym, refl, ap, ◌∙◌, subst, inl, inr, arith}
+use Rattle.std.proofs.Common.{◌≡◌, ℕ, zero, suc, Bool, true, false, List, [], ◌∷◌, filter, slice_get, Option, Some, None, is_some, option_map, Result, Ok, Err, sym, refl, ap, ◌∙◌, subst, inl, inr}
 use Rattle.std.specs.List.{list_all, AllByRecursion}
 use Rattle.std.specs.Option.{option_and_then}
 use Rattle.std.proofs.lemmas.Bool.{cases_Bool, and_parts, and_from, both_ways, not-true}
@@ -9,8 +9,7 @@ use Rattle.volt_catalog.specs.Catalog.{IsCatalog}
 use Rattle.sql_plan.specs.declared.fault.Fault.{Fault}
 use Rattle.sql_plan.specs.declared.plan.Plan.{Plan}
 use Rattle.sql_plan.specs.declared.prepared.Prepared.{Prepared}
-use Rattle.sql_plan.specs.declared.prepared.Scope.{Scope}
-use Rattle.sql_plan.specs.declared.prepared.Scope.TheVariants.{OnePartition, AllPartitions, Replicated}
+use Rattle.sql_plan.specs.declared.prepared.Scope.TheVariants.{OnePartition}
 use Rattle.sql_plan.specs.declared.program.Program.{Program}
 use Rattle.sql_plan.specs.declared.reply.Cause.{Cause}
 use Rattle.sql_plan.specs.declared.reply.ProcReply.{ProcReply}
@@ -24,7 +23,7 @@ use Rattle.sql_meaning.specs.Statements.{means}
 use Rattle.sql_meaning.specs.Programs.{Talk, Returns, Aborts, Asks, talk_of}
 use Rattle.sql_meaning.specs.Replies.{sized}
 use Rattle.sql_meaning.specs.Calls.{Answers, after_answer, settled, statement_means, answers_of, ran, Call, put_back, kept, run_call, on_part, part_of_args, run_on, call_of, call, part_of_call, own_call_of, own_call, serial}
-use Rattle.sql_meaning.specs.Plans.{is_one_partition, is_partitioned, suits, IsStatement, IsProcedure, IsPlan}
+use Rattle.sql_meaning.specs.Plans.{is_one_partition, is_partitioned, IsStatement, IsProcedure, IsPlan}
 use Rattle.sql_laws.proofs.Plain.Rows.{rows_of-share}
 use Rattle.sql_laws.proofs.Keep.Databases.{database-share}
 use Rattle.sql_laws.proofs.Keep.Statements.{Own, means-database, means-own}
@@ -33,7 +32,7 @@ use Rattle.sql_laws.specs.Alone.{OnOnePart}
 
 -- ---- statements of a procedure
 
-statement_at : (catalog : Contents) (single : Bool) (statements : List Prepared) (n : ℕ) (statement : Prepared) → AllByRecursion (IsStatement catalog single) statements → slice_get statements n ≡ Some statement → IsStatement catalog single statement
+pub statement_at : (catalog : Contents) (single : Bool) (statements : List Prepared) (n : ℕ) (statement : Prepared) → AllByRecursion (IsStatement catalog single) statements → slice_get statements n ≡ Some statement → IsStatement catalog single statement
 statement_at catalog single [] n statement all e = absurd (cc)
 statement_at catalog single (s ∷ statements) zero statement all e = subst (IsStatement catalog single) (let f : Some s ≡ Some statement = e in cc) all.0
 statement_at catalog single (s ∷ statements) (suc n) statement all e = statement_at catalog single statements n statement all.1 e
@@ -43,7 +42,7 @@ writes_partitioned catalog statement is n e =
     let two = and_parts (is_one_partition statement.scope) (is_partitioned catalog (written_by statement.action)) is.suits in
     subst (λ o. is_partitioned catalog o ≡ true) e two.1
 
-runs_on_many : (catalog : Contents) (statement : Prepared) → IsStatement catalog false statement → statement.scope ≡ OnePartition → ⊥
+pub runs_on_many : (catalog : Contents) (statement : Prepared) → IsStatement catalog false statement → statement.scope ≡ OnePartition → ⊥
 runs_on_many catalog statement is e = both_ways (is_one_partition statement.scope) (not-true (is_one_partition statement.scope) is.suits) (ap is_one_partition e)
 
 -- ---- a talk leaves what its statements leave
@@ -130,7 +129,7 @@ own-share parts part catalog db is =
       others = λ n none. refl;
     }
 
-procedure_at : (catalog : Contents) (procs : List (ProcDef × Program)) (n : ℕ) (proc : ProcDef × Program) → AllByRecursion (λ proc. IsProcedure catalog proc.0 proc.1) procs → slice_get procs n ≡ Some proc → IsProcedure catalog proc.0 proc.1
+pub procedure_at : (catalog : Contents) (procs : List (ProcDef × Program)) (n : ℕ) (proc : ProcDef × Program) → AllByRecursion (λ proc. IsProcedure catalog proc.0 proc.1) procs → slice_get procs n ≡ Some proc → IsProcedure catalog proc.0 proc.1
 procedure_at catalog [] n proc all e = absurd (cc)
 procedure_at catalog (p ∷ procs) zero proc all e = subst (λ (proc : ProcDef × Program). IsProcedure catalog proc.0 proc.1) (let f : Some p ≡ Some proc = e in cc) all.0
 procedure_at catalog (p ∷ procs) (suc n) proc all e = procedure_at catalog procs n proc all.1 e

@@ -1,17 +1,16 @@
 -- What holds of the partitioning column of a table, and of the rows that the table has.
-use Rattle.std.proofs.Common.{◌≡◌, ℕ, zero, suc, ◌+◌, ◌*◌, ◌/◌, ◌%◌, ◌<◌, ◌≤◌, Bool, true, false, not, cond, ◌==◌, ◌&&◌, ◌||◌, nat_lt, nat_le, List, [], ◌∷◌, map, length, slice_get, Option, Some, None, unwrap_or, Result, Ok, Err, is_ok, sym, refl, ap, ◌∙◌, subst, inl, inr, arith, mod-lt, div-lt_iff_lt-mul, mul-lt-mul_of_pos_right, mul_comm, lit<, ◌⊎◌, add-zero}
+use Rattle.std.proofs.Common.{◌≡◌, ℕ, zero, suc, ◌+◌, ◌*◌, ◌%◌, ◌<◌, true, false, not, ◌==◌, ◌&&◌, nat_lt, List, [], ◌∷◌, map, length, slice_get, Some, None, unwrap_or, is_ok, sym, refl, ap, ◌∙◌, subst, inl, inr, arith, mod-lt, div-lt_iff_lt-mul, mul-lt-mul_of_pos_right, mul_comm, lit<, ◌⊎◌, add-zero}
 use Rattle.std.specs.List.{list_any, list_all, enumerate_from, zip, AllByRecursion}
-use Rattle.std.proofs.lemmas.Bool.{cases_Bool, and_parts, or_cases, eqb-true, ltb-true, not-true, not-false, both_ways, and_right}
+use Rattle.std.proofs.lemmas.Bool.{and_parts, or_cases, eqb-true, ltb-true, not-true, not-false, both_ways, and_right}
 use Rattle.volt_value.specs.declared.value.Value.{Value}
-use Rattle.volt_value.specs.declared.value.Value.TheVariants.{Null, Int, Text}
+use Rattle.volt_value.specs.declared.value.Value.TheVariants.{Null}
 use Rattle.volt_value.specs.Spelling.{value_bytes}
 use Rattle.volt_catalog.specs.declared.column.Column.{Column}
 use Rattle.volt_catalog.specs.declared.table.Table.{Table}
 use Rattle.volt_catalog.specs.Names.{differ}
 use Rattle.volt_catalog.specs.Rules.{Contents, has_columns, lack_part, within_limits}
 use Rattle.volt_catalog.specs.Catalog.{IsCatalog, is_table, has_part_in_key}
-use Rattle.partition_ring.specs.Buckets.{hash_of, buckets, bucket_of, partition_of}
-use Rattle.sql_plan.specs.declared.fault.Fault.{Fault}
+use Rattle.partition_ring.specs.Buckets.{hash_of}
 use Rattle.sql_plan.specs.Rows.{Cells}
 use Rattle.sql_meaning.specs.Values.{at}
 use Rattle.sql_meaning.specs.Tables.{no_table, table_at, takes_null, taken, in_columns, is_row, part_of_value}

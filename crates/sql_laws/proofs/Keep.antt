@@ -1,3 +1,4 @@
 pub mod Databases
 pub mod Statements
 pub mod PutBack
+pub mod Told

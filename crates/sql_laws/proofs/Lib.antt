@@ -6,3 +6,7 @@ pub mod Change
 pub mod Statements
 pub mod Keep
 pub mod Calls
+pub mod Parts
+pub mod Talks
+pub mod Rounds
+pub mod Serial

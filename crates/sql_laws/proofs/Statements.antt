@@ -1,7 +1,7 @@
 -- A statement on the whole database is its parts on the partitions, put together.
-use Rattle.std.proofs.Common.{◌≡◌, ℕ, zero, suc, ◌+◌, ◌<◌, ◌≤◌, Bool, true, false, not, cond, if◌then◌else◌, ◌||◌, ◌==◌, length, List, [], ◌∷◌, ◌++◌, map, filter, take, sum_by, Option, Some, None, option_map, is_some, Result, Ok, Err, sym, refl, ap, ◌∙◌, subst, inl, inr, arith, zero-add, ◌⊎◌}
+use Rattle.std.proofs.Common.{◌≡◌, ℕ, ◌+◌, ◌<◌, Bool, true, false, if◌then◌else◌, ◌||◌, ◌==◌, length, List, [], ◌∷◌, map, take, sum_by, Option, Some, None, option_map, is_some, Result, Ok, Err, sym, refl, ap, ◌∙◌, arith, zero-add}
 use Rattle.std.specs.List.{list_any, filter_map}
-use Rattle.std.proofs.lemmas.Bool.{or_parts, or_cases, both_ways, not-true}
+use Rattle.std.proofs.lemmas.Bool.{or_parts, not-true}
 use Rattle.volt_value.specs.declared.column.Class.{Class}
 use Rattle.volt_catalog.specs.declared.table.Table.{Table}
 use Rattle.volt_catalog.specs.Rules.{Contents}
@@ -31,7 +31,7 @@ use Rattle.sql_meaning.specs.Groups.{arguments_of, all_gathered_of, by_key}
 use Rattle.sql_meaning.specs.Selects.{product, joined_with, from_rows, if_kept, all_kept, limit_of, output_row, group_entry, selected, selected_by}
 use Rattle.sql_meaning.specs.Statements.{insert_means, change_means, action_means, means}
 use Rattle.sql_meaning.specs.Parts.{keyed_row, group_of, elsewhere, part_of_insert, part_of_change, part_by_shape, part_of_action, part_means, count_in, merged_by, merged_action, parts_that_count, merged, all_parts, given_by_parts}
-use Rattle.sql_meaning.specs.WellFormed.{from_classes, from_key, distributes, names_partitioned, tables_of, joined_table, is_scope, IsShape, IsSelect, IsAction, IsPrepared}
+use Rattle.sql_meaning.specs.WellFormed.{from_classes, from_key, distributes, names_partitioned, joined_table, is_scope, IsShape, IsAction, IsPrepared}
 use Rattle.sql_laws.proofs.Plain.Folds.{filter_all, range-cons, range-has}
 use Rattle.sql_laws.proofs.Plain.Faults.{least-same}
 use Rattle.sql_laws.proofs.Plain.Judgements.{with_with, with_same, collected_unless, all_least, least_fault-map}

@@ -1,1 +1,4 @@
 pub mod Alone
+pub mod Parts
+pub mod InRounds
+pub mod OnShares

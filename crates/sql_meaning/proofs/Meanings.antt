@@ -1,5 +1,5 @@
 -- What trees mean, variant by variant.
-use Rattle.std.proofs.Common.{◌≡◌, ℕ, List, [], ◌∷◌, map, Option, Ok, Some, None, ap, ◌∙◌, refl}
+use Rattle.std.proofs.Common.{◌≡◌, ℕ, List, [], ◌∷◌, map, Option, Ok, None, ap, ◌∙◌}
 use Rattle.volt_value.specs.declared.value.Value.{Value}
 use Rattle.expr_parse.specs.declared.expression.Arithmetic.{Arithmetic}
 use Rattle.expr_parse.specs.declared.expression.Comparison.{Comparison}

@@ -1,5 +1,5 @@
 -- What a call means: a database and a reply. And what many calls mean, one after another.
-use Rattle.std.specs.Prelude.{ℕ, Bool, true, false, not, List, [], ◌∷◌, map, zip, filter, slice_get, Option, Some, None, option_map, option_and_then, Result, Ok, Err}
+use Rattle.std.specs.Prelude.{ℕ, not, List, [], ◌∷◌, map, zip, filter, slice_get, Option, Some, None, option_map, option_and_then, Result, Ok, Err}
 use Rattle.volt_catalog.specs.declared.procedure.ProcDef.{ProcDef}
 use Rattle.volt_catalog.specs.declared.table.Table.{Table}
 use Rattle.volt_catalog.specs.Rules.{Contents}
@@ -61,8 +61,8 @@ put_back_rows parts part table old new = with_rows table new (filter (λ row. no
 abbrev pub put_back : ℕ → Contents → ℕ → Database → Database → Database
 put_back parts catalog part db new = map (λ t. put_back_rows parts part t.0 t.1.0 t.1.1) (zip catalog.tables (zip db new))
 
--- an abort leaves the database as it was
-abbrev pub kept : Database → Database → ProcReply → Database × ProcReply
+-- an abort leaves what there is as it was
+abbrev pub kept : {A : Type 0} → A → A → ProcReply → A × ProcReply
 kept old new (reply.Ok rows) = (new, reply.Ok rows)
 kept old new (reply.Abort cause) = (old, reply.Abort cause)
 

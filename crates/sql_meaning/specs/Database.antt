@@ -1,7 +1,6 @@
 -- The database.
-use Rattle.std.specs.Prelude.{◌≡◌, ℕ, Bool, true, false, List, [], ◌∷◌, map, zip, filter, slice_get, slice_set, unwrap_or, length, Option, Some, None}
+use Rattle.std.specs.Prelude.{◌≡◌, ℕ, true, false, List, [], map, zip, filter, slice_get, slice_set, unwrap_or, length}
 use Rattle.std.specs.List.{list_any, list_all}
-use Rattle.volt_catalog.specs.declared.table.Table.{Table}
 use Rattle.volt_catalog.specs.Rules.{Contents}
 use Rattle.sql_plan.specs.Rows.{Cells}
 use Rattle.sql_meaning.specs.Tables.{table_at, is_row, has_twins, unique_keys, rise, lies_in}

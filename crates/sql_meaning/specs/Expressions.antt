@@ -1,6 +1,6 @@
 -- What expressions mean, over a row and arguments. Evaluation goes from left to right, and the first
 -- fault that it reaches is the expression's.
-use Rattle.std.specs.Prelude.{ℕ, Bool, true, false, List, [], ◌∷◌, map, Option, Some, None, Result, Ok, Err}
+use Rattle.std.specs.Prelude.{Bool, true, false, List, [], ◌∷◌, map, Some, None, Result, Ok}
 use Rattle.volt_value.specs.declared.value.Value.{Value}
 use Rattle.expr_parse.specs.declared.expression.Arithmetic.{Arithmetic}
 use Rattle.expr_parse.specs.declared.expression.Comparison.{Comparison}

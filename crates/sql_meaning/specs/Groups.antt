@@ -1,9 +1,9 @@
 -- What aggregates make of the values of a group.
-use Rattle.std.specs.Prelude.{ℕ, ◌+◌, Bool, true, false, not, if◌then◌else◌, List, [], ◌∷◌, ◌++◌, map, length, count_by, ℤ, pos, ◌+ℤ◌, Option, Some, None, Result, Ok, Err}
+use Rattle.std.specs.Prelude.{not, if◌then◌else◌, List, [], ◌∷◌, ◌++◌, map, length, count_by, ℤ, pos, ◌+ℤ◌, Option, Some, None, Result, Ok}
 use Rattle.std.specs.List.{enumerate_from}
 use Rattle.std.specs.Ordering.{is_lt}
 use Rattle.volt_value.specs.declared.value.Value.{Value}
-use Rattle.volt_value.specs.declared.value.Value.TheVariants.{Null, Int, Text}
+use Rattle.volt_value.specs.declared.value.Value.TheVariants.{Null, Int}
 use Rattle.volt_value.specs.Order.{value_cmp}
 use Rattle.sql_plan.specs.declared.fault.Fault.{Fault}
 use Rattle.sql_plan.specs.declared.select.Aggregated.{Aggregated}
@@ -11,7 +11,7 @@ use Rattle.sql_plan.specs.declared.select.Aggregated.TheVariants as agg
 use Rattle.sql_plan.specs.declared.partial.Gathered.{Gathered}
 use Rattle.sql_plan.specs.declared.partial.Gathered.TheVariants as gathered
 use Rattle.sql_plan.specs.Rows.{Cells, row_cmp}
-use Rattle.sql_meaning.specs.Judged.{with, collected}
+use Rattle.sql_meaning.specs.Judged.{collected}
 use Rattle.sql_meaning.specs.Values.{at, in_range, is_null}
 use Rattle.sql_meaning.specs.Expressions.{Reads, scalar_of}
 use Rattle.sql_meaning.specs.Maps.{put_all}

@@ -14,6 +14,5 @@ pub mod Replies
 pub mod Calls
 pub mod Parts
 pub mod Starter
-pub mod Scenarios
 pub mod Plans
 pub mod Rounds

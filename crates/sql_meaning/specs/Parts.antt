@@ -1,5 +1,5 @@
 -- What a statement means on one partition, and what the partitions' parts come to.
-use Rattle.std.specs.Prelude.{ℕ, ◌+◌, ℤ, Bool, true, false, if◌then◌else◌, List, [], ◌∷◌, map, flat_map, sum_by, take, Option, Some, None, Result, Ok, Err}
+use Rattle.std.specs.Prelude.{ℕ, ◌+◌, ℤ, if◌then◌else◌, List, [], ◌∷◌, map, flat_map, sum_by, take, Option, None, Result, Ok, Err}
 use Rattle.std.specs.List.{range_with_len}
 use Rattle.volt_value.specs.declared.value.Value.{Value}
 use Rattle.volt_value.specs.declared.value.Value.TheVariants.{Null}
@@ -18,11 +18,10 @@ use Rattle.sql_plan.specs.declared.prepared.Action.TheVariants.{Insert, Update, 
 use Rattle.sql_plan.specs.declared.prepared.InsertPlan.{InsertPlan}
 use Rattle.sql_plan.specs.declared.prepared.Prepared.{Prepared}
 use Rattle.sql_plan.specs.declared.prepared.Scope.{Scope}
-use Rattle.sql_plan.specs.declared.prepared.Scope.TheVariants.{OnePartition, AllPartitions, Replicated}
+use Rattle.sql_plan.specs.declared.prepared.Scope.TheVariants.{OnePartition, Replicated}
 use Rattle.sql_plan.specs.declared.row_key.Directed.{Directed}
 use Rattle.sql_plan.specs.declared.select.Aggregated.{Aggregated}
 use Rattle.sql_plan.specs.declared.select.Aggregated.TheVariants as agg
-use Rattle.sql_plan.specs.declared.select.GroupOutput.{GroupOutput}
 use Rattle.sql_plan.specs.declared.select.Order.{Order}
 use Rattle.sql_plan.specs.declared.select.SelectPlan.{SelectPlan}
 use Rattle.sql_plan.specs.declared.select.Shape.{Shape}
@@ -31,7 +30,7 @@ use Rattle.sql_plan.specs.Rows.{Cells, row_cmp}
 use Rattle.sql_meaning.specs.Judged.{with, both, collected}
 use Rattle.sql_meaning.specs.Expressions.{Reads}
 use Rattle.sql_meaning.specs.Tables.{table_at, lies_in}
-use Rattle.sql_meaning.specs.Database.{Database, rows_of, set_rows, share}
+use Rattle.sql_meaning.specs.Database.{Database, rows_of, set_rows}
 use Rattle.sql_meaning.specs.Maps.{put_all}
 use Rattle.sql_meaning.specs.Changes.{Fate, inserted_row, inserted, updated, deleted, changed, counted}
 use Rattle.sql_meaning.specs.Groups.{sum_of_two, min_of_two, max_of_two, arguments_of, all_gathered_of, by_key}

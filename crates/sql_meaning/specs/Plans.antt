@@ -1,5 +1,5 @@
 -- What holds of each compiled program, and of the whole plan of an input.
-use Rattle.std.specs.Prelude.{◌≡◌, ℕ, ◌<◌, ◌≤◌, Bool, true, false, not, ◌&&◌, ◌||◌, ◌==◌, nat_lt, nat_le, List, [], ◌∷◌, ◌++◌, map, length, slice_get, Option, Some, None, option_to_list, is_some}
+use Rattle.std.specs.Prelude.{◌≡◌, ℕ, ◌≤◌, Bool, true, false, not, ◌&&◌, ◌==◌, nat_lt, nat_le, List, [], ◌∷◌, ◌++◌, map, length, slice_get, Option, Some, None, option_to_list, is_some}
 use Rattle.std.specs.List.{list_all, AllByRecursion}
 use Rattle.volt_value.specs.declared.column.Class.{Class}
 use Rattle.volt_value.specs.declared.column.Class.TheVariants as class
@@ -7,13 +7,12 @@ use Rattle.volt_value.specs.declared.column.ColType.{ColType}
 use Rattle.volt_value.specs.Columns.{class_of}
 use Rattle.volt_catalog.specs.declared.column.Column.{Column}
 use Rattle.volt_catalog.specs.declared.procedure.ProcDef.{ProcDef}
-use Rattle.volt_catalog.specs.declared.table.Table.{Table}
 use Rattle.volt_catalog.specs.Rules.{Contents}
 use Rattle.volt_catalog.specs.Catalog.{IsCatalog}
 use Rattle.sql_plan.specs.declared.plan.Plan.{Plan}
 use Rattle.sql_plan.specs.declared.prepared.Prepared.{Prepared}
 use Rattle.sql_plan.specs.declared.prepared.Scope.{Scope}
-use Rattle.sql_plan.specs.declared.prepared.Scope.TheVariants.{OnePartition, AllPartitions, Replicated}
+use Rattle.sql_plan.specs.declared.prepared.Scope.TheVariants.{OnePartition}
 use Rattle.sql_plan.specs.declared.program.Program.{Program}
 use Rattle.sql_plan.specs.declared.program.ProgramStep.{ProgramStep, fold-ProgramStep}
 use Rattle.sql_plan.specs.declared.program.ProgramStep.TheOpen.{ProgramStep-F as s}

@@ -1,9 +1,8 @@
 -- What a program means: what it asks of the database, one statement after another, and how it ends.
-use Rattle.std.specs.Prelude.{ℕ, ◌+◌, Bool, true, false, nat_lt, if◌then◌else◌, List, [], ◌∷◌, ◌++◌, map, length, slice_get, slice_set, replicate, unwrap_or, ◌-◌, ℤ, pos, Option, Some, None, Result, Ok, Err}
+use Rattle.std.specs.Prelude.{ℕ, ◌+◌, nat_lt, if◌then◌else◌, List, [], ◌∷◌, ◌++◌, map, length, slice_get, slice_set, replicate, unwrap_or, ◌-◌, pos, Option, Some, None, Result, Ok, Err}
 use Rattle.volt_value.specs.declared.value.Value.{Value}
 use Rattle.volt_value.specs.declared.value.Value.TheVariants.{Null, Int}
 use Rattle.sql_plan.specs.declared.fault.Fault.{Fault}
-use Rattle.sql_plan.specs.declared.expression.Scalar.{Scalar}
 use Rattle.sql_plan.specs.declared.reply.Cause.{Cause}
 use Rattle.sql_plan.specs.declared.reply.Cause.TheVariants as cause
 use Rattle.sql_plan.specs.declared.program.Program.{Program}

@@ -1,5 +1,5 @@
 -- An example: accounts, in a table that is partitioned by their ids.
-use Rattle.std.specs.Prelude.{ℕ, zero, suc, ◌+◌, Bool, true, false, List, [], ◌∷◌, codes, ℤ, pos, negsuc, Option, Some, None}
+use Rattle.std.specs.Prelude.{ℕ, zero, suc, ◌+◌, true, List, [], ◌∷◌, codes, pos, Some, None}
 use Rattle.volt_value.specs.declared.value.Value.TheVariants.{Int}
 use Rattle.volt_value.specs.declared.column.Class.{Class}
 use Rattle.volt_value.specs.declared.column.Class.TheVariants as class
@@ -13,23 +13,20 @@ use Rattle.expr_parse.specs.declared.expression.Arithmetic.TheVariants.{Add, Sub
 use Rattle.expr_parse.specs.declared.expression.Comparison.TheVariants as compare
 use Rattle.sql_plan.specs.declared.expression.Scalar.{Scalar}
 use Rattle.sql_plan.specs.declared.expression.Scalar.TheVariants.{Literal, Column as Col, Param, Chain}
-use Rattle.sql_plan.specs.declared.expression.Cond.{Cond}
 use Rattle.sql_plan.specs.declared.expression.Cond.TheVariants.{Compare, And, Or}
 use Rattle.sql_plan.specs.declared.plan.Plan.{Plan}
 use Rattle.sql_plan.specs.declared.prepared.Action.{Action}
-use Rattle.sql_plan.specs.declared.prepared.Action.TheVariants.{Insert, Update, Delete, Select}
+use Rattle.sql_plan.specs.declared.prepared.Action.TheVariants.{Insert, Update, Select}
 use Rattle.sql_plan.specs.declared.prepared.Prepared.{Prepared}
 use Rattle.sql_plan.specs.declared.prepared.Scope.{Scope}
 use Rattle.sql_plan.specs.declared.prepared.Scope.TheVariants.{OnePartition, AllPartitions}
 use Rattle.sql_plan.specs.declared.program.Program.{Program}
-use Rattle.sql_plan.specs.declared.program.ProgramStep.{ProgramStep}
-use Rattle.sql_plan.specs.declared.program.ProgramStep.TheVariants.{Let, Sql, If, For, Abort, Return}
+use Rattle.sql_plan.specs.declared.program.ProgramStep.TheVariants.{Let, Sql, If, Abort, Return}
 use Rattle.sql_plan.specs.declared.program.ProgramValue.{ProgramValue}
 use Rattle.sql_plan.specs.declared.program.ProgramValue.TheVariants.{Variable, Rows, First}
 use Rattle.sql_plan.specs.declared.program.Returned.TheVariants as returned
 use Rattle.sql_plan.specs.declared.select.Aggregated.TheVariants.{Sum}
 use Rattle.sql_plan.specs.declared.select.Shape.TheVariants as shape
-use Rattle.sql_plan.specs.Rows.{Cells}
 use Rattle.sql_meaning.specs.WellFormed.{modified_tuples, ascending}
 
 -- ---- CREATE TABLE acct (id BIGINT NOT NULL, bal BIGINT NOT NULL, PRIMARY KEY (id)), partitioned on id

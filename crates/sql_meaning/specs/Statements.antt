@@ -1,5 +1,5 @@
 -- What a statement means: a new database and rows, or a fault. A statement with a fault changes nothing.
-use Rattle.std.specs.Prelude.{ℕ, Bool, true, false, if◌then◌else◌, List, Option, Some, None, Result, Ok, Err}
+use Rattle.std.specs.Prelude.{ℕ, Bool, true, if◌then◌else◌, List, Option, Some, None, Result, Ok, Err}
 use Rattle.volt_catalog.specs.Rules.{Contents}
 use Rattle.sql_plan.specs.declared.fault.Fault.{Fault}
 use Rattle.sql_plan.specs.declared.fault.Fault.TheVariants.{WrongPartition}

@@ -1,6 +1,6 @@
 -- Rows of a table: which it may have, their keys, and the partition that each lies in.
 use Rattle.std.specs.Prelude.{ℕ, ◌==◌, Bool, true, false, not, ◌&&◌, ◌||◌, if◌then◌else◌, List, [], ◌∷◌, map, zip, slice_get, unwrap_or, length, filter, Option, Some, None, option_map, Result, Ok, Err, is_ok}
-use Rattle.std.specs.List.{list_any, list_all, filter_map, enumerate_from}
+use Rattle.std.specs.List.{list_any, list_all, enumerate_from}
 use Rattle.std.specs.Ordering.{is_eq, is_lt}
 use Rattle.volt_value.specs.declared.value.Value.{Value}
 use Rattle.volt_value.specs.declared.value.Value.TheVariants.{Null}
@@ -10,7 +10,6 @@ use Rattle.volt_value.specs.Columns.{value_fits}
 use Rattle.volt_value.specs.Spelling.{value_bytes}
 use Rattle.volt_catalog.specs.declared.column.Column.{Column}
 use Rattle.volt_catalog.specs.declared.table.Table.{Table}
-use Rattle.volt_catalog.specs.declared.table.IndexDef.{IndexDef}
 use Rattle.volt_catalog.specs.Rules.{Contents}
 use Rattle.partition_ring.specs.Buckets.{partition_of}
 use Rattle.sql_plan.specs.declared.fault.Fault.{Fault}

@@ -1,7 +1,7 @@
 -- An UPDATE or a DELETE on the whole database is its parts on the partitions.
-use Rattle.std.proofs.Common.{◌≡◌, ℕ, zero, suc, ◌+◌, ◌<◌, ◌≤◌, Bool, true, false, cond, if◌then◌else◌, nat_lt, nat_le, ◌==◌, ◌||◌, List, [], ◌∷◌, ◌++◌, map, filter, fold, count_by, sum_by, length, Option, Some, None, option_map, Result, Ok, Err, sym, refl, ap, ◌∙◌, subst, inl, inr, arith, add_comm, add_assoc, add-zero, zero-add}
+use Rattle.std.proofs.Common.{◌≡◌, ℕ, ◌+◌, ◌<◌, Bool, true, false, cond, if◌then◌else◌, nat_lt, nat_le, ◌==◌, ◌||◌, List, [], ◌∷◌, map, filter, count_by, sum_by, Option, Some, None, option_map, Result, Ok, Err, sym, refl, ap, ◌∙◌, inl, inr, arith, add_comm, add_assoc, add-zero, zero-add}
 use Rattle.std.specs.List.{list_any, AllByRecursion, filter_map, cons_option}
-use Rattle.std.proofs.lemmas.Bool.{cases_Bool, eq-eqb, eqb-true, both_ways, ltb-true, or_cases}
+use Rattle.std.proofs.lemmas.Bool.{cases_Bool, eqb-true, both_ways, ltb-true, or_cases}
 use Rattle.std.proofs.lemmas.Bool.Decides.{nat_tests}
 use Rattle.volt_catalog.specs.Rules.{Contents}
 use Rattle.volt_catalog.specs.Catalog.{IsCatalog}
@@ -14,15 +14,15 @@ use Rattle.sql_plan.specs.Rows.{Cells}
 use Rattle.sql_meaning.specs.Judged.{with, lesser, least, fault_in, value_in, unless, collected}
 use Rattle.sql_meaning.specs.Values.{at}
 use Rattle.sql_meaning.specs.Expressions.{Reads}
-use Rattle.sql_meaning.specs.Tables.{table_at, without_twins, part_of_value, lies_in, is_part, part_of_row}
+use Rattle.sql_meaning.specs.Tables.{table_at, part_of_value, lies_in, is_part}
 use Rattle.sql_meaning.specs.Database.{Database, rows_of, set_rows, share, IsDatabase}
 use Rattle.sql_meaning.specs.Changes.{Fate, left_of, is_change, changed, counted}
 use Rattle.sql_meaning.specs.Statements.{change_means}
 use Rattle.sql_meaning.specs.Parts.{part_of_change, count_in, all_parts}
 use Rattle.sql_laws.proofs.Plain.Folds.{range-has, range-distinct}
-use Rattle.sql_laws.proofs.Plain.Faults.{least-comm, least-assoc, least-none, least-same}
+use Rattle.sql_laws.proofs.Plain.Faults.{least-comm, least-assoc, least-none}
 use Rattle.sql_laws.proofs.Plain.Totals.{total, total-map, total-same, total_parts, total_filter, fold_is}
-use Rattle.sql_laws.proofs.Plain.Judgements.{with_unless, with_with, first_of, unless_unless, unless_same, all_least, least_fault-map, collected_unless, value_or}
+use Rattle.sql_laws.proofs.Plain.Judgements.{with_unless, first_of, all_least, least_fault-map, collected_unless}
 use Rattle.sql_laws.proofs.Plain.Rows.{filter-same, rows_of-share, share-set_rows}
 use Rattle.sql_laws.proofs.Trees.Small.{small, IsSmall}
 use Rattle.sql_laws.proofs.Fits.{part_of_value-within}

@@ -1,6 +1,6 @@
 -- An INSERT on the whole database is its parts on the partitions.
-use Rattle.std.proofs.Common.{◌≡◌, ℕ, zero, suc, ◌+◌, ◌<◌, ◌≤◌, Bool, true, false, cond, if◌then◌else◌, ◌==◌, ◌&&◌, ◌||◌, List, [], ◌∷◌, map, filter, sum_by, Option, Some, None, option_map, Result, Ok, Err, sym, refl, ap, ◌∙◌, subst, inl, inr, arith, add_comm, add_assoc, add-zero}
-use Rattle.std.specs.List.{list_any, AllByRecursion}
+use Rattle.std.proofs.Common.{◌≡◌, ℕ, zero, suc, ◌+◌, ◌<◌, Bool, true, false, cond, if◌then◌else◌, List, [], ◌∷◌, map, filter, sum_by, Option, Some, None, option_map, Result, Ok, Err, sym, refl, ap, ◌∙◌, inl, inr, arith, add_comm, add_assoc, add-zero}
+use Rattle.std.specs.List.{list_any}
 use Rattle.std.proofs.lemmas.Bool.{cases_Bool, or_parts, or_from, eqb-true}
 use Rattle.volt_catalog.specs.Rules.{Contents}
 use Rattle.volt_catalog.specs.Catalog.{IsCatalog}
@@ -10,18 +10,17 @@ use Rattle.sql_plan.specs.declared.partial.Partial.{Partial}
 use Rattle.sql_plan.specs.declared.partial.Partial.TheVariants as partial
 use Rattle.sql_plan.specs.declared.prepared.InsertPlan.{InsertPlan}
 use Rattle.sql_plan.specs.declared.prepared.Scope.{Scope}
-use Rattle.sql_plan.specs.declared.prepared.Scope.TheVariants.{OnePartition, AllPartitions, Replicated}
 use Rattle.sql_plan.specs.Rows.{Cells}
 use Rattle.sql_meaning.specs.Judged.{with, least, unless, collected}
 use Rattle.sql_meaning.specs.Values.{at}
 use Rattle.sql_meaning.specs.Tables.{table_at, agree, has_twins, unique_keys, with_row, part_of_value, is_part, lies_in}
 use Rattle.sql_meaning.specs.Database.{Database, rows_of, set_rows, share, IsDatabase}
 use Rattle.sql_meaning.specs.Changes.{inserted_row, inserted, counted}
-use Rattle.sql_meaning.specs.Statements.{is_here, insert_means}
+use Rattle.sql_meaning.specs.Statements.{insert_means}
 use Rattle.sql_meaning.specs.Parts.{elsewhere, part_of_insert, count_in, all_parts}
 use Rattle.sql_laws.proofs.Plain.Folds.{range-has, range-distinct, range-cons}
 use Rattle.sql_laws.proofs.Plain.Faults.{least-same}
-use Rattle.sql_laws.proofs.Plain.Totals.{total, total-map, total-same, total_parts, total_filter}
+use Rattle.sql_laws.proofs.Plain.Totals.{total, total-map, total-same, total_parts}
 use Rattle.sql_laws.proofs.Plain.Judgements.{with_unless, all_least, collected_unless}
 use Rattle.sql_laws.proofs.Plain.Rows.{filter-same, rows_of-share, share-set_rows}
 use Rattle.sql_laws.proofs.Fits.{part_of_value-within}

@@ -1,7 +1,7 @@
 -- New rows: their faults come before Duplicate, and an UPDATE keeps the primary key.
-use Rattle.std.proofs.Common.{◌≡◌, ℕ, zero, suc, ◌+◌, ◌<◌, ◌≤◌, Bool, true, false, cond, if◌then◌else◌, nat_le, ◌==◌, ◌&&◌, ◌||◌, List, [], ◌∷◌, map, length, slice_get, Option, Some, None, Result, Ok, Err, sym, refl, ap, ◌∙◌, subst, inl, inr, arith}
-use Rattle.std.specs.List.{list_any, list_all, enumerate_from, zip, AllByRecursion, filter_map, cons_option}
-use Rattle.std.proofs.lemmas.Bool.{cases_Bool, and_parts, or_cases, eqb-true}
+use Rattle.std.proofs.Common.{◌≡◌, ℕ, zero, suc, ◌+◌, ◌<◌, Bool, true, false, if◌then◌else◌, ◌==◌, List, [], ◌∷◌, map, length, slice_get, Option, Some, None, Result, Ok, Err, sym, refl, ap, ◌∙◌, subst, inl, inr, arith}
+use Rattle.std.specs.List.{list_any, enumerate_from, zip, AllByRecursion, filter_map}
+use Rattle.std.proofs.lemmas.Bool.{and_parts, or_cases, eqb-true}
 use Rattle.volt_value.specs.declared.value.Value.{Value}
 use Rattle.volt_value.specs.declared.value.Value.TheVariants.{Null, Int, Text}
 use Rattle.volt_value.specs.declared.column.Misfit.{Misfit}
@@ -10,7 +10,6 @@ use Rattle.volt_value.specs.Columns.{value_fits}
 use Rattle.volt_catalog.specs.declared.column.Column.{Column}
 use Rattle.volt_catalog.specs.declared.table.Table.{Table}
 use Rattle.volt_catalog.specs.Rules.{Contents}
-use Rattle.volt_catalog.specs.Catalog.{IsCatalog}
 use Rattle.sql_plan.specs.declared.fault.Fault.{Fault}
 use Rattle.sql_plan.specs.declared.expression.Scalar.{Scalar}
 use Rattle.sql_plan.specs.declared.prepared.UpdatePlan.{UpdatePlan}
@@ -18,14 +17,14 @@ use Rattle.sql_plan.specs.declared.prepared.DeletePlan.{DeletePlan}
 use Rattle.sql_plan.specs.Rows.{Cells}
 use Rattle.sql_meaning.specs.Judged.{with, least, fault_in, value_in, least_fault, unless, collected}
 use Rattle.sql_meaning.specs.Values.{at}
-use Rattle.sql_meaning.specs.Expressions.{Reads, scalar_of, holds}
+use Rattle.sql_meaning.specs.Expressions.{holds}
 use Rattle.sql_meaning.specs.Tables.{table_at, takes_null, if_fits, taken, in_columns, new_row}
 use Rattle.sql_meaning.specs.Changes.{values_of, Fate, Stays, Becomes, Goes, updated, deleted, left_of}
-use Rattle.sql_meaning.specs.WellFormed.{is_column, is_that_column, keep, IsUpdate}
+use Rattle.sql_meaning.specs.WellFormed.{is_that_column, keep}
 use Rattle.sql_laws.proofs.Plain.Judgements.{fault_in_unless}
 use Rattle.sql_laws.proofs.Trees.Small.{small, IsSmall, with_small, if_small, scalar_small, holds_small}
 use Rattle.sql_laws.proofs.Trees.Conjuncts.{column_means}
-use Rattle.sql_laws.proofs.Fits.{IsPartColumn, part_column}
+use Rattle.sql_laws.proofs.Fits.{IsPartColumn}
 use Rattle.sql_laws.proofs.Change.Fates.{small_least}
 
 -- ---- what columns take

@@ -1,11 +1,10 @@
 -- Two rows that agree on a unique key lie in one partition: so a table has twins where a partition has some.
-use Rattle.std.proofs.Common.{◌≡◌, ℕ, zero, suc, ◌+◌, ◌<◌, ◌≤◌, Bool, true, false, not, cond, if◌then◌else◌, ◌==◌, ◌&&◌, ◌||◌, List, [], ◌∷◌, ◌++◌, map, filter, length, slice_get, Option, Some, None, unwrap_or, Result, Ok, Err, sym, refl, ap, ◌∙◌, subst, inl, inr, arith, ◌⊎◌}
+use Rattle.std.proofs.Common.{◌≡◌, ℕ, ◌<◌, Bool, true, false, not, cond, if◌then◌else◌, ◌==◌, ◌&&◌, ◌||◌, List, [], ◌∷◌, map, filter, slice_get, Option, Some, None, unwrap_or, Ok, Err, sym, refl, ap, ◌∙◌, subst, inl, inr, arith}
 use Rattle.std.specs.List.{list_any, list_all}
 use Rattle.std.specs.declared.cmp.Ordering.{Ordering}
 use Rattle.std.specs.declared.cmp.Ordering.TheVariants.{Less, Equal, Greater}
 use Rattle.std.specs.Ordering.{is_eq, is_lt}
-use Rattle.std.proofs.lemmas.Bool.{cases_Bool, and_parts, and_from, or_cases, or_parts, or_left, or_right, or_from, eqb-true, eq-eqb, eqb-false, both_ways, not-true, not-false, false_from_ne_true}
-use Rattle.volt_value.specs.declared.value.Value.{Value}
+use Rattle.std.proofs.lemmas.Bool.{cases_Bool, and_parts, and_from, eqb-true, eqb-false, both_ways, not-true, not-false, false_from_ne_true}
 use Rattle.volt_catalog.specs.declared.table.Table.{Table}
 use Rattle.volt_catalog.specs.declared.table.IndexDef.{IndexDef}
 use Rattle.volt_catalog.specs.Rules.{Contents, lack_part, part_column_of, is_table_with}
@@ -15,11 +14,11 @@ use Rattle.sql_plan.specs.declared.fault.Fault.TheVariants.{Duplicate}
 use Rattle.sql_plan.specs.Rows.{Cells, row_cmp, row_total}
 use Rattle.sql_meaning.specs.Judged.{unless}
 use Rattle.sql_meaning.specs.Values.{at}
-use Rattle.sql_meaning.specs.Tables.{no_table, table_at, picked, unique_keys, agree, has_twins, without_twins, comes_before, with_row, rise, part_of_value, lies_in}
+use Rattle.sql_meaning.specs.Tables.{no_table, table_at, picked, unique_keys, agree, has_twins, without_twins, comes_before, with_row, rise, part_of_value}
 use Rattle.sql_meaning.specs.Parts.{all_parts}
 use Rattle.sql_laws.proofs.Plain.Folds.{range-has}
 use Rattle.sql_laws.proofs.Plain.Orders.{row_cmp-equal, map-among}
-use Rattle.sql_laws.proofs.Fits.{IsPartColumn, part_column, part_of_value-within}
+use Rattle.sql_laws.proofs.Fits.{part_column, part_of_value-within}
 
 -- ---- rows that agree
 
@@ -28,7 +27,7 @@ equal Less e = absurd (cc)
 equal Equal e = refl
 equal Greater e = absurd (cc)
 
-agree_at : (key : List ℕ) (a b : Cells) (c : ℕ) → agree key a b ≡ true → list_any (λ k. k == c) key ≡ true → at a c ≡ at b c
+pub agree_at : (key : List ℕ) (a b : Cells) (c : ℕ) → agree key a b ≡ true → list_any (λ k. k == c) key ≡ true → at a c ≡ at b c
 agree_at key a b c e here = map-among (at a) (at b) c key (row_cmp-equal (picked key a) (picked key b) (equal (row_cmp (picked key a) (picked key b)) e)) here
 
 -- ---- twins by partitions

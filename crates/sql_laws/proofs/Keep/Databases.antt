@@ -1,6 +1,6 @@
 -- Databases: tables with other rows, shares, rows that are taken out, and rows that are put in.
-use Rattle.std.proofs.Common.{◌≡◌, ℕ, zero, suc, ◌+◌, ◌<◌, ◌≤◌, Bool, true, false, not, cond, if◌then◌else◌, ◌==◌, ◌&&◌, ◌||◌, List, [], ◌∷◌, map, filter, length, slice_get, slice_set, Option, Some, None, unwrap_or, Result, Ok, Err, sym, refl, ap, ◌∙◌, subst, inl, inr, arith, length-set}
-use Rattle.std.specs.List.{list_any, list_all, zip, filter_map, cons_option, AllByRecursion}
+use Rattle.std.proofs.Common.{◌≡◌, ℕ, zero, suc, ◌<◌, ◌≤◌, Bool, true, false, not, ◌&&◌, List, [], ◌∷◌, map, filter, length, sym, refl, ap, ◌∙◌, subst, inl, inr, arith, length-set}
+use Rattle.std.specs.List.{list_any, list_all, zip}
 use Rattle.std.specs.Ordering.{is_lt, is_eq, ordering_reverse}
 use Rattle.std.specs.declared.cmp.Ordering.{Ordering}
 use Rattle.std.specs.declared.cmp.Ordering.TheVariants.{Less, Equal, Greater}
@@ -8,10 +8,9 @@ use Rattle.std.proofs.lemmas.Bool.{cases_Bool, and_parts, and_from, or_parts, or
 use Rattle.volt_catalog.specs.declared.table.Table.{Table}
 use Rattle.volt_catalog.specs.Rules.{Contents}
 use Rattle.sql_plan.specs.Rows.{Cells, row_cmp, row_total}
-use Rattle.sql_meaning.specs.Tables.{no_table, table_at, picked, is_row, agree, has_twins, unique_keys, comes_before, with_row, rise, lies_in}
+use Rattle.sql_meaning.specs.Tables.{table_at, picked, is_row, agree, has_twins, unique_keys, comes_before, with_row, rise, lies_in}
 use Rattle.sql_meaning.specs.Database.{Database, rows_of, set_rows, AreRows, IsDatabase, share}
 use Rattle.sql_laws.proofs.Plain.Rows.{rows_of-share}
-use Rattle.sql_laws.proofs.Change.Twins.{has_any_twins}
 use Rattle.sql_laws.proofs.Change.Inserts.{no_twins-filter}
 
 -- ---- all of some
@@ -141,7 +140,7 @@ before_or_not Greater e f = refl
 pub behind_it : (table : Table) (row new : Cells) → comes_before table row new ≡ false → agree table.key row new ≡ false → comes_before table new row ≡ true
 behind_it table row new e f = ap is_lt (row_total.antisymm (picked table.key new) (picked table.key row)) ∙ before_or_not (row_cmp (picked table.key row) (picked table.key new)) e f
 
-through : (table : Table) (a b d : Cells) → comes_before table a b ≡ true → comes_before table b d ≡ true → comes_before table a d ≡ true
+pub through : (table : Table) (a b d : Cells) → comes_before table a b ≡ true → comes_before table b d ≡ true → comes_before table a d ≡ true
 through table a b d e f = ap is_lt (row_total.trans (picked table.key a) (picked table.key b) (picked table.key d) (less (row_cmp (picked table.key a) (picked table.key b)) e) (less (row_cmp (picked table.key b) (picked table.key d)) f))
   where
     less : (r : Ordering) → is_lt r ≡ true → r ≡ Less

@@ -1,5 +1,5 @@
 -- The rows of a partition put back among those of the others.
-use Rattle.std.proofs.Common.{◌≡◌, ℕ, zero, suc, ◌+◌, ◌<◌, ◌≤◌, Bool, true, false, not, cond, if◌then◌else◌, ◌==◌, ◌&&◌, ◌||◌, List, [], ◌∷◌, ◌++◌, map, filter, length, slice_get, Option, Some, None, option_map, unwrap_or, Result, Ok, Err, sym, refl, ap, ◌∙◌, subst, inl, inr, arith, append_assoc, append-nil}
+use Rattle.std.proofs.Common.{◌≡◌, ℕ, zero, suc, ◌<◌, Bool, true, false, not, cond, if◌then◌else◌, ◌||◌, List, [], ◌∷◌, ◌++◌, map, filter, length, slice_get, Option, Some, None, option_map, unwrap_or, sym, refl, ap, ◌∙◌, subst, inl, inr, arith, append_assoc, append-nil}
 use Rattle.std.specs.List.{list_any, list_all, zip}
 use Rattle.std.specs.Ordering.{is_lt, is_eq}
 use Rattle.std.specs.declared.cmp.Ordering.{Ordering}
@@ -10,14 +10,14 @@ use Rattle.volt_catalog.specs.Rules.{Contents}
 use Rattle.volt_catalog.specs.Catalog.{IsCatalog}
 use Rattle.sql_plan.specs.Rows.{Cells, row_cmp}
 use Rattle.sql_meaning.specs.Values.{at}
-use Rattle.sql_meaning.specs.Tables.{no_table, table_at, picked, is_row, agree, has_twins, comes_before, with_row, with_rows, rise, part_of_value, is_part, lies_in}
+use Rattle.sql_meaning.specs.Tables.{no_table, table_at, picked, is_row, agree, comes_before, with_row, with_rows, rise, part_of_value, is_part, lies_in}
 use Rattle.sql_meaning.specs.Database.{Database, rows_of, AreRows, IsDatabase, share}
 use Rattle.sql_meaning.specs.Calls.{put_back_rows, put_back}
 use Rattle.sql_meaning.specs.Parts.{all_parts}
 use Rattle.sql_laws.proofs.Plain.Rows.{filter-same, rows_of-share}
 use Rattle.sql_laws.proofs.Plain.Orders.{row_cmp-equal}
 use Rattle.sql_laws.proofs.Change.Twins.{in_part, any_same, any_none, has_any_twins, twins_of_parts, filter-with_row}
-use Rattle.sql_laws.proofs.Keep.Databases.{all_filtered, all_when, filter_whole, filter_nothing, rows-filter, all-with_row, rise-with_row, rise_filtered, database-share}
+use Rattle.sql_laws.proofs.Keep.Databases.{all_filtered, all_when, filter_whole, rows-filter, all-with_row, rise-with_row, rise_filtered, database-share}
 use Rattle.sql_laws.proofs.Plain.Folds.{filter_all}
 use Rattle.sql_laws.proofs.Keep.Statements.{same_lies, Own}
 

@@ -1,7 +1,7 @@
 -- A statement leaves a database, and in a procedure on one partition all its rows stay in the partition.
-use Rattle.std.proofs.Common.{◌≡◌, ℕ, zero, suc, ◌+◌, ◌<◌, ◌≤◌, Bool, true, false, not, cond, if◌then◌else◌, ◌==◌, ◌&&◌, ◌||◌, nat_lt, List, [], ◌∷◌, map, filter, length, slice_get, Option, Some, None, option_map, unwrap_or, is_some, Result, Ok, Err, is_ok, sym, refl, ap, ◌∙◌, subst, inl, inr, arith, ◌⊎◌}
-use Rattle.std.specs.List.{list_any, list_all, zip, enumerate_from, filter_map, cons_option}
-use Rattle.std.proofs.lemmas.Bool.{cases_Bool, and_parts, and_from, or_parts, eqb-true, eq-eqb, both_ways, cases_eq, cases_lt, ltb-true}
+use Rattle.std.proofs.Common.{◌≡◌, ℕ, suc, ◌+◌, ◌<◌, ◌≤◌, Bool, true, false, not, if◌then◌else◌, ◌==◌, ◌&&◌, nat_lt, List, [], ◌∷◌, map, length, slice_get, Option, Some, None, option_map, is_some, Result, Ok, Err, is_ok, sym, refl, ap, ◌∙◌, subst, inl, inr, arith, ◌⊎◌}
+use Rattle.std.specs.List.{list_all, zip, enumerate_from, filter_map, cons_option}
+use Rattle.std.proofs.lemmas.Bool.{and_parts, and_from, or_parts, eq-eqb, both_ways, cases_eq, cases_lt, ltb-true}
 use Rattle.volt_value.specs.declared.value.Value.{Value}
 use Rattle.volt_value.specs.declared.column.Class.{Class}
 use Rattle.volt_value.specs.Columns.{class_of}
@@ -22,20 +22,20 @@ use Rattle.sql_plan.specs.declared.prepared.DeletePlan.{DeletePlan}
 use Rattle.sql_plan.specs.declared.prepared.Prepared.{Prepared}
 use Rattle.sql_plan.specs.Prepared.{written_by}
 use Rattle.sql_plan.specs.Rows.{Cells, row_cmp}
-use Rattle.sql_meaning.specs.Judged.{with, fault_in, value_in, least_fault, unless, collected}
+use Rattle.sql_meaning.specs.Judged.{with, collected}
 use Rattle.sql_meaning.specs.Values.{at}
 use Rattle.sql_meaning.specs.Expressions.{Reads, scalar_of, holds}
-use Rattle.sql_meaning.specs.Tables.{no_table, table_at, taken, in_columns, new_row, is_row, picked, agree, has_twins, unique_keys, without_twins, comes_before, with_row, rise, part_of_value, part_of_row, is_part, lies_in}
+use Rattle.sql_meaning.specs.Tables.{table_at, taken, in_columns, new_row, is_row, picked, has_twins, comes_before, with_row, rise, part_of_value, is_part, lies_in}
 use Rattle.sql_meaning.specs.Database.{Database, rows_of, set_rows, AreRows, IsDatabase}
-use Rattle.sql_meaning.specs.Changes.{values_of, inserted_row, inserted, Fate, Stays, Becomes, Goes, updated, deleted, left_of, is_change, changed, counted}
+use Rattle.sql_meaning.specs.Changes.{values_of, inserted_row, inserted, Fate, Stays, Becomes, updated, deleted, left_of, changed, counted}
 use Rattle.sql_meaning.specs.Selects.{selected}
 use Rattle.sql_meaning.specs.Statements.{is_here, insert_means, change_means, action_means, means}
-use Rattle.sql_meaning.specs.WellFormed.{give_each, is_that_column, keep, IsInsert, IsUpdate, IsDelete, IsAction, IsPrepared}
+use Rattle.sql_meaning.specs.WellFormed.{give_each, is_that_column, keep, IsInsert, IsUpdate, IsAction, IsPrepared}
 use Rattle.sql_laws.proofs.Plain.Orders.{map-among}
 use Rattle.sql_laws.proofs.Plain.Judgements.{first_of}
-use Rattle.sql_laws.proofs.Fits.{IsPartColumn, part_column, table_rules}
+use Rattle.sql_laws.proofs.Fits.{part_column, table_rules}
 use Rattle.sql_laws.proofs.Change.Twins.{has_any_twins, duplicate, without_twins-is}
-use Rattle.sql_laws.proofs.Change.Fates.{fates, fate_faults, rows_left, changes, changed_is, left_in, left_values, ok_unless}
+use Rattle.sql_laws.proofs.Change.Fates.{fate_faults, rows_left, changes, changed_is, left_in, left_values, ok_unless}
 use Rattle.sql_laws.proofs.Change.Rows.{deleted-stays, cell, ok_first, ok_rest, ok_none, with_ok, taken_same, new_row-value, value_at_column}
 use Rattle.sql_laws.proofs.Keep.Databases.{rows_of-set, rows_of-set_past, rows_of-set_other, database-set, all-with_row, rise-with_row, apart-with_row}
 

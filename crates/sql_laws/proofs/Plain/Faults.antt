@@ -1,12 +1,11 @@
 -- The least of faults, in any order and over any parts.
-use Rattle.std.proofs.Common.{◌≡◌, ℕ, ◌<◌, ◌≤◌, Bool, true, false, cond, nat_le, List, [], ◌∷◌, ◌++◌, map, fold, filter, Option, Some, None, Result, Ok, Err, sym, refl, ap, ◌∙◌, subst, inl, inr, arith}
-use Rattle.std.specs.List.{flat_map, filter_map, cons_option}
+use Rattle.std.proofs.Common.{◌≡◌, nat_le, Option, Some, None, sym, refl, ap, ◌∙◌, inl, inr, arith}
 use Rattle.std.proofs.lemmas.Bool.{cases_Bool, leb-true, leb-false}
 use Rattle.std.proofs.lemmas.Bool.Decides.{nat_tests}
 use Rattle.sql_plan.specs.declared.fault.Fault.{Fault}
 use Rattle.sql_plan.specs.declared.fault.Fault.TheVariants.{Overflow, DivideByZero, NullInColumn, OutOfRange, TooLong, WrongPartition, Duplicate, TooManyRows}
 use Rattle.sql_plan.specs.Faults.{code_of, fault_of}
-use Rattle.sql_meaning.specs.Judged.{with, lesser, least, fault_in, value_in, least_fault, unless, collected, both}
+use Rattle.sql_meaning.specs.Judged.{lesser, least}
 
 code_back : (f : Fault) → fault_of (code_of f) ≡ Some f
 code_back Overflow = refl

@@ -1,7 +1,7 @@
 -- What aggregates gather of two lists of values is what they gather of each, joined; and joining goes in any order.
-use Rattle.std.proofs.Common.{◌≡◌, ℕ, ◌+◌, Bool, true, false, not, cond, if◌then◌else◌, List, [], ◌∷◌, ◌++◌, map, length, count_by, Option, Some, None, ℤ, ◌+ℤ◌, sym, refl, ap, ◌∙◌, subst, inl, inr, ◌⊎◌, arith, add_comm, add_assoc, length-append}
+use Rattle.std.proofs.Common.{◌≡◌, ℕ, ◌+◌, Bool, true, false, not, cond, if◌then◌else◌, List, [], ◌∷◌, ◌++◌, map, Option, Some, None, ℤ, sym, refl, ap, ◌∙◌, subst, inl, inr, ◌⊎◌, add_comm, add_assoc, length-append}
 use lib.IntN.{+ℤ_assoc, +ℤ_comm}
-use Rattle.std.specs.List.{enumerate_from, fold}
+use Rattle.std.specs.List.{enumerate_from}
 use Rattle.std.specs.declared.cmp.Ordering.{Ordering}
 use Rattle.std.specs.declared.cmp.Ordering.TheVariants.{Less, Equal, Greater}
 use Rattle.std.specs.Cmp.{IsTotalOrder, back_total}

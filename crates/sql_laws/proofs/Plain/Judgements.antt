@@ -1,8 +1,8 @@
 -- Each judgement is a fault and a value: `unless fault value`. What is made of such.
-use Rattle.std.proofs.Common.{◌≡◌, ℕ, Bool, true, false, cond, List, [], ◌∷◌, ◌++◌, map, Option, Some, None, Result, Ok, Err, sym, refl, ap, ◌∙◌, inl, inr}
-use Rattle.std.specs.List.{filter_map, cons_option}
+use Rattle.std.proofs.Common.{◌≡◌, List, [], ◌∷◌, map, Option, Some, None, Result, Ok, Err, sym, refl, ap, ◌∙◌}
+use Rattle.std.specs.List.{filter_map}
 use Rattle.sql_plan.specs.declared.fault.Fault.{Fault}
-use Rattle.sql_meaning.specs.Judged.{with, lesser, least, fault_in, value_in, least_fault, unless, collected, both}
+use Rattle.sql_meaning.specs.Judged.{with, least, fault_in, value_in, least_fault, unless, collected, both}
 use Rattle.sql_laws.proofs.Plain.Faults.{least-assoc, least-comm, least-none, least-same}
 use Rattle.sql_laws.proofs.Plain.Totals.{total}
 

@@ -1,12 +1,11 @@
 -- Rows and keys that compare as equal are equal.
-use Rattle.std.proofs.Common.{◌≡◌, ℕ, Bool, true, false, ◌==◌, ◌||◌, List, [], ◌∷◌, ◌++◌, map, sym, refl, ap, ◌∙◌, subst, inl, inr}
+use Rattle.std.proofs.Common.{◌≡◌, ℕ, true, ◌==◌, List, [], ◌∷◌, ◌++◌, map, sym, refl, ap, subst, inl, inr}
 use Rattle.std.specs.List.{list_any}
 use Rattle.std.specs.Ordering.{ordering_then}
 use Rattle.std.specs.Cmp.Lexicographic.{slice_cmp}
 use Rattle.std.specs.declared.cmp.Ordering.{Ordering}
 use Rattle.std.specs.declared.cmp.Ordering.TheVariants.{Less, Equal, Greater}
 use Rattle.std.proofs.lemmas.Bool.{or_cases, eqb-true}
-use Rattle.volt_value.specs.declared.value.Value.{Value}
 use Rattle.volt_value.specs.Order.{value_cmp}
 use Rattle.volt_value.proofs.OrderLemmas.{value_cmp-equal}
 use Rattle.sql_plan.specs.declared.row_key.Directed.{Directed}

@@ -1,10 +1,9 @@
 -- What is put into a map from the parts of a list, one part after another, is what is put in from all of it.
-use Rattle.std.proofs.Common.{◌≡◌, ℕ, Bool, true, false, ◌==◌, List, [], ◌∷◌, ◌++◌, map, filter, fold, Option, Some, None, sym, refl, ap, ◌∙◌, subst, inl, inr}
+use Rattle.std.proofs.Common.{◌≡◌, ℕ, Bool, true, false, List, [], ◌∷◌, ◌++◌, filter, fold, Option, Some, None, sym, refl, ap, ◌∙◌}
 use Rattle.std.specs.List.{flat_map, list_any, AllByRecursion, filter_map, cons_option}
 use Rattle.std.specs.declared.cmp.Ordering.{Ordering}
 use Rattle.sql_meaning.specs.Maps.{put, put_all}
-use Rattle.sql_laws.proofs.Plain.Folds.{Distinct, fold_parts, fold_filter, fold-append}
-use Rattle.sql_laws.proofs.Plain.Maps.{put_all-append}
+use Rattle.sql_laws.proofs.Plain.Folds.{Distinct, fold_parts, fold_filter}
 
 pub filter_map-append : {X Y : Type 0} (f : X → Option Y) (xs ys : List X) → filter_map f (xs ++ ys) ≡ filter_map f xs ++ filter_map f ys
 filter_map-append f [] ys = refl

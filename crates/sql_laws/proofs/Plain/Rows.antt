@@ -1,8 +1,7 @@
 -- Rows at places, products of rows, and the rows of tables in a partition's share.
-use Rattle.std.proofs.Common.{◌≡◌, ℕ, zero, suc, ◌+◌, ◌<◌, ◌≤◌, Bool, true, false, cond, ◌&&◌, ◌||◌, List, [], ◌∷◌, ◌++◌, map, filter, length, slice_get, slice_set, Option, Some, None, unwrap_or, sym, refl, ap, ◌∙◌, inl, inr, arith}
-use Rattle.std.specs.List.{flat_map, AllByRecursion, zip}
+use Rattle.std.proofs.Common.{◌≡◌, ℕ, zero, suc, ◌+◌, ◌<◌, Bool, cond, ◌&&◌, List, [], ◌∷◌, ◌++◌, map, filter, length, slice_get, slice_set, unwrap_or, refl, ap, ◌∙◌, inl, inr, arith}
+use Rattle.std.specs.List.{AllByRecursion, zip}
 use Rattle.std.proofs.lemmas.Bool.{cases_Bool}
-use Rattle.volt_value.specs.declared.value.Value.{Value}
 use Rattle.volt_catalog.specs.declared.table.Table.{Table}
 use Rattle.volt_catalog.specs.Rules.{Contents}
 use Rattle.sql_plan.specs.Rows.{Cells}

@@ -1,8 +1,8 @@
 -- What the items of a list come to, in a monoid where order doesn't count: the same over its parts.
-use Rattle.std.proofs.Common.{◌≡◌, ℕ, Bool, true, false, cond, ◌==◌, List, [], ◌∷◌, ◌++◌, map, fold, filter, sym, refl, ap, ◌∙◌, inl, inr}
+use Rattle.std.proofs.Common.{◌≡◌, ℕ, Bool, true, false, List, [], ◌∷◌, ◌++◌, map, fold, filter, sym, refl, ap, ◌∙◌, inl, inr}
 use Rattle.std.specs.List.{flat_map, list_any, AllByRecursion}
 use Rattle.std.proofs.lemmas.Bool.{cases_Bool}
-use Rattle.sql_laws.proofs.Plain.Folds.{Distinct, fold_parts, fold_filter, fold-append}
+use Rattle.sql_laws.proofs.Plain.Folds.{Distinct, fold_parts}
 
 module _ {M : Type 0} (op : M → M → M) (unit : M) where
   -- what all come to

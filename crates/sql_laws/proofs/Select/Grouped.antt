@@ -1,24 +1,22 @@
 -- The groups of all partitions, put together, are those of the whole; and what is gathered of all rows.
-use Rattle.std.proofs.Common.{◌≡◌, ℕ, ◌+◌, ◌<◌, Bool, true, false, cond, if◌then◌else◌, ◌==◌, List, [], ◌∷◌, ◌++◌, map, filter, fold, Option, Some, None, option_map, Result, Ok, Err, sym, refl, ap, ◌∙◌, subst, inl, inr, append-nil, append_assoc}
+use Rattle.std.proofs.Common.{◌≡◌, ℕ, ◌<◌, true, false, List, [], ◌∷◌, ◌++◌, map, filter, fold, Option, Some, None, option_map, sym, refl, ap, ◌∙◌, append-nil, append_assoc}
 use Rattle.std.specs.List.{flat_map, list_any, AllByRecursion, filter_map, cons_option}
 use Rattle.volt_catalog.specs.Rules.{Contents}
 use Rattle.volt_catalog.specs.Catalog.{IsCatalog}
-use Rattle.sql_plan.specs.declared.fault.Fault.{Fault}
 use Rattle.sql_plan.specs.declared.partial.Gathered.{Gathered}
 use Rattle.sql_plan.specs.declared.select.Aggregated.{Aggregated}
 use Rattle.sql_plan.specs.declared.select.SelectPlan.{SelectPlan}
 use Rattle.sql_plan.specs.Rows.{Cells, row_cmp, row_total}
-use Rattle.sql_meaning.specs.Expressions.{Reads}
 use Rattle.sql_meaning.specs.Database.{Database, share, IsDatabase}
 use Rattle.sql_meaning.specs.Groups.{arguments_of, all_gathered_of, by_key}
-use Rattle.sql_meaning.specs.Maps.{put, put_all}
+use Rattle.sql_meaning.specs.Maps.{put_all}
 use Rattle.sql_meaning.specs.Selects.{from_rows, group_entry}
 use Rattle.sql_meaning.specs.Parts.{all_joined, all_parts}
 use Rattle.sql_meaning.specs.WellFormed.{distributes}
-use Rattle.sql_laws.proofs.Plain.Folds.{range-distinct, range-cons, fold_parts, fold_filter, fold-append}
+use Rattle.sql_laws.proofs.Plain.Folds.{range-distinct, range-cons, fold_parts, fold_filter}
 use Rattle.sql_laws.proofs.Plain.Maps.{swap, absorb_all, map-put_all}
 use Rattle.sql_laws.proofs.Plain.Orders.{row_cmp-equal, map-map}
-use Rattle.sql_laws.proofs.Plain.Parts.{put_some, swap_some, puts_parts, filter_map-flat}
+use Rattle.sql_laws.proofs.Plain.Parts.{swap_some, puts_parts, filter_map-flat}
 use Rattle.sql_laws.proofs.Plain.Gathering.{all_joined-comm, all_joined-assoc, all_gathered_of-append}
 use Rattle.sql_laws.proofs.Select.Homes.{is_home, has_home, is_home-one, from_rows-share}
 use Rattle.sql_laws.proofs.Select.Kept.{entry_in, given, entries, no_entries}

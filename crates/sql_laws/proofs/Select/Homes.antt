@@ -1,11 +1,11 @@
 -- The rows of FROM on a partition's share are those of the whole that lie in the partition. Rows of two
 -- tables that lie in no common partition aren't kept.
-use Rattle.std.proofs.Common.{◌≡◌, ℕ, zero, suc, ◌+◌, ◌<◌, ◌≤◌, Bool, true, false, not, cond, ◌==◌, ◌&&◌, ◌||◌, List, [], ◌∷◌, ◌++◌, map, filter, length, slice_get, Option, Some, None, option_map, Result, Ok, Err, is_some, if◌then◌else◌, sym, refl, ap, ◌∙◌, subst, inl, inr, arith, ◌⊎◌}
-use Rattle.std.specs.List.{list_any, list_all, AllByRecursion, flat_map}
+use Rattle.std.proofs.Common.{◌≡◌, ℕ, ◌+◌, ◌<◌, Bool, true, false, cond, ◌==◌, ◌&&◌, ◌||◌, List, [], ◌∷◌, ◌++◌, map, filter, length, Option, Some, None, option_map, Result, Ok, Err, is_some, if◌then◌else◌, sym, refl, ap, ◌∙◌, subst, inl, inr, arith}
+use Rattle.std.specs.List.{list_any, AllByRecursion}
 use Rattle.std.specs.declared.cmp.Ordering.{Ordering}
 use Rattle.std.specs.declared.cmp.Ordering.TheVariants.{Less, Equal, Greater}
 use Rattle.std.specs.Ordering.{is_eq}
-use Rattle.std.proofs.lemmas.Bool.{cases_Bool, and_parts, and_from, or_cases, or_parts, eqb-true, eqb-false, eq-eqb, both_ways, cases_eq}
+use Rattle.std.proofs.lemmas.Bool.{and_parts, and_from, or_cases, eqb-true, eq-eqb, both_ways}
 use Rattle.volt_value.specs.declared.value.Value.{Value}
 use Rattle.volt_value.specs.declared.value.Value.TheVariants.{Null, Int, Text}
 use Rattle.volt_value.specs.Order.{value_cmp}
@@ -21,15 +21,15 @@ use Rattle.sql_plan.specs.declared.fault.Fault.{Fault}
 use Rattle.sql_plan.specs.Rows.{Cells}
 use Rattle.sql_meaning.specs.Judged.{with}
 use Rattle.sql_meaning.specs.Values.{Truth, at, comparison, is_true}
-use Rattle.sql_meaning.specs.Expressions.{Reads, cond_of, holds}
-use Rattle.sql_meaning.specs.Tables.{table_at, is_row, part_of_value, part_of_row, is_part, lies_in}
-use Rattle.sql_meaning.specs.Database.{Database, rows_of, share, AreRows, IsDatabase}
+use Rattle.sql_meaning.specs.Expressions.{cond_of, holds}
+use Rattle.sql_meaning.specs.Tables.{table_at, is_row, part_of_value, is_part, lies_in}
+use Rattle.sql_meaning.specs.Database.{Database, rows_of, share, IsDatabase}
 use Rattle.sql_meaning.specs.Selects.{product, joined_with, from_rows, meets_on, is_kept}
 use Rattle.sql_meaning.specs.Parts.{all_parts}
 use Rattle.sql_meaning.specs.WellFormed.{conjuncts_of, tell_parts, distributes_by, distributes}
 use Rattle.sql_laws.proofs.Plain.Folds.{range-has}
 use Rattle.sql_laws.proofs.Plain.Rows.{at-left, at-right, product-filter, filter-same, rows_of-share}
-use Rattle.sql_laws.proofs.Trees.Conjuncts.{Tells, tells, all_plain-append, tell_parts-append, Fine}
+use Rattle.sql_laws.proofs.Trees.Conjuncts.{tells, tell_parts-append, Fine}
 use Rattle.sql_laws.proofs.Fits.{IsPartColumn, part_column, part_of_value-within, is_row-length, is_row-key, each-row}
 
 -- the partition of a row by a column, where there is one

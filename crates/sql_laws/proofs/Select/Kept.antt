@@ -1,20 +1,20 @@
 -- What the rows that are kept give, and their faults, on the partitions and on the whole.
-use Rattle.std.proofs.Common.{◌≡◌, ℕ, ◌<◌, Bool, true, false, cond, if◌then◌else◌, ◌==◌, List, [], ◌∷◌, ◌++◌, map, filter, Option, Some, None, Result, Ok, Err, sym, refl, ap, ◌∙◌, subst, inl, inr}
-use Rattle.std.specs.List.{flat_map, list_any, AllByRecursion, filter_map, cons_option}
+use Rattle.std.proofs.Common.{◌≡◌, ℕ, ◌<◌, true, false, List, [], ◌∷◌, map, Option, None, Result, Ok, Err, refl, ap, ◌∙◌}
+use Rattle.std.specs.List.{list_any, AllByRecursion, filter_map, cons_option}
 use Rattle.volt_catalog.specs.Rules.{Contents}
 use Rattle.volt_catalog.specs.Catalog.{IsCatalog}
 use Rattle.sql_plan.specs.declared.fault.Fault.{Fault}
 use Rattle.sql_plan.specs.declared.select.SelectPlan.{SelectPlan}
 use Rattle.sql_plan.specs.Rows.{Cells}
-use Rattle.sql_meaning.specs.Judged.{with, least, fault_in, value_in, least_fault, unless, collected}
+use Rattle.sql_meaning.specs.Judged.{least, fault_in, value_in, least_fault, unless}
 use Rattle.sql_meaning.specs.Expressions.{Reads}
 use Rattle.sql_meaning.specs.Database.{Database, share, IsDatabase}
 use Rattle.sql_meaning.specs.Selects.{from_rows, is_kept, if_kept, all_kept}
 use Rattle.sql_meaning.specs.Parts.{all_parts}
 use Rattle.sql_meaning.specs.WellFormed.{distributes}
-use Rattle.sql_laws.proofs.Plain.Folds.{Distinct, range-distinct}
+use Rattle.sql_laws.proofs.Plain.Folds.{range-distinct}
 use Rattle.sql_laws.proofs.Plain.Faults.{least-comm, least-assoc, least-none}
-use Rattle.sql_laws.proofs.Plain.Totals.{total, total_parts, total_filter}
+use Rattle.sql_laws.proofs.Plain.Totals.{total_parts, total_filter}
 use Rattle.sql_laws.proofs.Plain.Judgements.{with_unless, all_least, least_fault-map}
 use Rattle.sql_laws.proofs.Select.Homes.{is_home, has_home, is_home-one, from_rows-share, homeless_rows}
 

@@ -1,29 +1,20 @@
 -- A SELECT on one database is its one part, and on tables that all partitions have each part is the same.
-use Rattle.std.proofs.Common.{◌≡◌, ℕ, ◌<◌, Bool, true, false, List, [], ◌∷◌, ◌++◌, map, filter, Option, Some, None, Result, Ok, Err, sym, refl, ap, ◌∙◌, append-nil}
-use Rattle.std.specs.List.{flat_map}
-use Rattle.volt_catalog.specs.Rules.{Contents}
+use Rattle.std.proofs.Common.{◌≡◌, ℕ, List, [], ◌∷◌, ◌++◌, map, Option, Result, Ok, sym, ap, ◌∙◌, append-nil}
 use Rattle.sql_plan.specs.declared.fault.Fault.{Fault}
-use Rattle.sql_plan.specs.declared.expression.Scalar.{Scalar}
-use Rattle.sql_plan.specs.declared.partial.Gathered.{Gathered}
 use Rattle.sql_plan.specs.declared.partial.Group.{Group}
-use Rattle.sql_plan.specs.declared.partial.Partial.{Partial}
 use Rattle.sql_plan.specs.declared.partial.Partial.TheVariants as partial
 use Rattle.sql_plan.specs.declared.row_key.Directed.{Directed}
 use Rattle.sql_plan.specs.declared.select.Aggregated.{Aggregated}
-use Rattle.sql_plan.specs.declared.select.GroupOutput.{GroupOutput}
-use Rattle.sql_plan.specs.declared.select.Order.{Order}
 use Rattle.sql_plan.specs.declared.select.SelectPlan.{SelectPlan}
 use Rattle.sql_plan.specs.declared.select.Shape.{Shape}
 use Rattle.sql_plan.specs.declared.select.Shape.TheVariants as shape
-use Rattle.sql_plan.specs.Keys.{key_cmp}
 use Rattle.sql_plan.specs.Rows.{Cells, row_cmp, row_total}
 use Rattle.sql_meaning.specs.Judged.{with, both}
-use Rattle.sql_meaning.specs.Expressions.{Reads}
 use Rattle.sql_meaning.specs.Database.{Database}
-use Rattle.sql_meaning.specs.Maps.{put_all, latest}
+use Rattle.sql_meaning.specs.Maps.{put_all}
 use Rattle.sql_meaning.specs.Groups.{arguments_of, all_gathered_of, by_key}
-use Rattle.sql_meaning.specs.Selects.{all_kept, limit_of, within, if_few, output_row, group_entry, finished_rows, finished_groups, aggregates_in_order, selected_by}
-use Rattle.sql_meaning.specs.Parts.{keyed_row, group_of, part_by_shape, rows_in, groups_in, all_joined, merged_by}
+use Rattle.sql_meaning.specs.Selects.{all_kept, limit_of, output_row, group_entry, finished_rows, finished_groups, selected_by}
+use Rattle.sql_meaning.specs.Parts.{keyed_row, group_of, part_by_shape, all_joined, merged_by}
 use Rattle.sql_laws.proofs.Plain.Orders.{map-map, row_cmp-equal}
 use Rattle.sql_laws.proofs.Plain.Maps.{absorb}
 use Rattle.sql_laws.proofs.Plain.Judgements.{with_with, with_same}

@@ -1,17 +1,15 @@
 -- Rows of different partitions have different keys, so that they may be put in order one partition after another.
-use Rattle.std.proofs.Common.{◌≡◌, ℕ, ◌+◌, ◌<◌, Bool, true, false, cond, if◌then◌else◌, ◌==◌, ◌&&◌, ◌||◌, List, [], ◌∷◌, ◌++◌, map, filter, length, Option, Some, None, option_map, is_some, Result, Ok, Err, sym, refl, ap, ◌∙◌, subst, inl, inr}
-use Rattle.std.specs.List.{flat_map, list_any, AllByRecursion, filter_map}
-use Rattle.std.specs.declared.cmp.Ordering.{Ordering}
-use Rattle.std.specs.declared.cmp.Ordering.TheVariants.{Less, Equal, Greater}
+use Rattle.std.proofs.Common.{◌≡◌, ℕ, ◌+◌, ◌<◌, Bool, true, false, if◌then◌else◌, ◌==◌, ◌&&◌, ◌||◌, List, [], ◌∷◌, ◌++◌, map, length, Option, Some, None, is_some, Result, Ok, Err, sym, refl, ap, ◌∙◌, subst, inl, inr}
+use Rattle.std.specs.List.{flat_map, list_any}
+use Rattle.std.specs.declared.cmp.Ordering.TheVariants.{Equal}
 use Rattle.std.proofs.lemmas.Bool.{and_parts, or_cases, or_left, or_right, eqb-true, eq-eqb}
 use Rattle.volt_value.specs.declared.value.Value.{Value}
-use Rattle.volt_catalog.specs.declared.table.Table.{Table}
 use Rattle.volt_catalog.specs.Rules.{Contents}
 use Rattle.volt_catalog.specs.Catalog.{IsCatalog}
 use Rattle.sql_plan.specs.declared.fault.Fault.{Fault}
 use Rattle.sql_plan.specs.declared.expression.Scalar.{Scalar}
 use Rattle.sql_plan.specs.declared.row_key.Directed.{Directed}
-use Rattle.sql_plan.specs.declared.row_key.Directed.TheVariants.{Ascending, Descending}
+use Rattle.sql_plan.specs.declared.row_key.Directed.TheVariants.{Ascending}
 use Rattle.sql_plan.specs.declared.select.JoinPlan.{JoinPlan}
 use Rattle.sql_plan.specs.declared.select.Order.{Order}
 use Rattle.sql_plan.specs.declared.select.SelectPlan.{SelectPlan}
@@ -19,10 +17,10 @@ use Rattle.sql_plan.specs.Keys.{key_cmp, key_total}
 use Rattle.sql_plan.specs.Rows.{Cells}
 use Rattle.sql_meaning.specs.Judged.{with, collected}
 use Rattle.sql_meaning.specs.Values.{at}
-use Rattle.sql_meaning.specs.Expressions.{Reads, scalar_of}
+use Rattle.sql_meaning.specs.Expressions.{scalar_of}
 use Rattle.sql_meaning.specs.Tables.{table_at, part_of_value, is_part}
 use Rattle.sql_meaning.specs.Database.{Database, share, IsDatabase}
-use Rattle.sql_meaning.specs.Maps.{put, put_all, latest}
+use Rattle.sql_meaning.specs.Maps.{put_all, latest}
 use Rattle.sql_meaning.specs.Selects.{from_rows, is_kept, directed, ordered_by, keyed, output_row}
 use Rattle.sql_meaning.specs.Parts.{all_parts}
 use Rattle.sql_meaning.specs.WellFormed.{right_table, right_key, from_key, ascending, IsOrder, distributes}
@@ -30,7 +28,7 @@ use Rattle.sql_laws.proofs.Plain.Folds.{range-distinct}
 use Rattle.sql_laws.proofs.Plain.Maps.{swap_apart}
 use Rattle.sql_laws.proofs.Plain.Orders.{key_cmp-equal, map-behind, map-among, map-map}
 use Rattle.sql_laws.proofs.Plain.Parts.{put_some, puts_parts}
-use Rattle.sql_laws.proofs.Fits.{IsPartColumn, part_column}
+use Rattle.sql_laws.proofs.Fits.{part_column}
 use Rattle.sql_laws.proofs.Select.Homes.{part_by, right_column, left_table, right_part, is_home, has_home, is_home-one, from_rows-share, behind}
 use Rattle.sql_laws.proofs.Select.Kept.{entry_in, given, entries, no_entries}
 

@@ -1,5 +1,5 @@
 -- A SELECT on the whole database is its parts on the partitions, put together.
-use Rattle.std.proofs.Common.{◌≡◌, ℕ, ◌<◌, Bool, true, false, cond, List, [], ◌∷◌, ◌++◌, map, map-id, take, Option, Some, None, Result, Ok, Err, sym, refl, ap, ◌∙◌, subst}
+use Rattle.std.proofs.Common.{◌≡◌, ℕ, ◌<◌, true, List, [], ◌∷◌, ◌++◌, map, map-id, Option, Some, None, Result, Ok, sym, refl, ap, ◌∙◌}
 use Rattle.std.specs.List.{flat_map}
 use Rattle.volt_catalog.specs.Rules.{Contents}
 use Rattle.volt_catalog.specs.Catalog.{IsCatalog}
@@ -25,11 +25,11 @@ use Rattle.sql_meaning.specs.Database.{Database, share, IsDatabase}
 use Rattle.sql_meaning.specs.Maps.{put_all, latest}
 use Rattle.sql_meaning.specs.Groups.{arguments_of, all_gathered_of, by_key}
 use Rattle.sql_meaning.specs.Selects.{from_rows, all_kept, limit_of, within, if_few, output_row, group_entry, finished_rows, finished_groups, aggregates_in_order, selected_by}
-use Rattle.sql_meaning.specs.Parts.{keyed_row, group_of, part_by_shape, rows_in, groups_in, first_limit, all_joined, joined_groups, merged_by, all_parts}
+use Rattle.sql_meaning.specs.Parts.{keyed_row, group_of, part_by_shape, rows_in, groups_in, first_limit, all_joined, merged_by, all_parts}
 use Rattle.sql_meaning.specs.WellFormed.{from_key, IsOrder, distributes}
 use Rattle.sql_laws.proofs.Plain.Folds.{range-cons}
 use Rattle.sql_laws.proofs.Plain.Orders.{map-map}
-use Rattle.sql_laws.proofs.Plain.Judgements.{value_or, as_unless, with_unless, both_unless, all_least, all_least-least, collected_unless}
+use Rattle.sql_laws.proofs.Plain.Judgements.{value_or, with_unless, both_unless, all_least, all_least-least, collected_unless}
 use Rattle.sql_laws.proofs.Select.Homes.{has_home}
 use Rattle.sql_laws.proofs.Select.Kept.{entries, row_faults, kept_is, faults_parts}
 use Rattle.sql_laws.proofs.Select.Ordered.{ordered_parts}

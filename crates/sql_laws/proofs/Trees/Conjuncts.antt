@@ -1,27 +1,22 @@
 -- Where the conjuncts of a condition tell parts, rows of different partitions don't meet it, and don't fault.
-use Rattle.std.proofs.Common.{◌≡◌, ℕ, zero, suc, ◌+◌, ◌<◌, Bool, true, false, cond, ◌&&◌, ◌||◌, ◌==◌, List, [], ◌∷◌, ◌++◌, map, Option, Some, None, Result, Ok, Err, sym, refl, ap, ◌∙◌, subst, inl, inr, arith, IsOk, is_ok, ◌⊎◌}
-use Rattle.std.specs.List.{flat_map, list_all, list_any}
-use Rattle.std.specs.declared.cmp.Ordering.{Ordering}
-use Rattle.std.specs.declared.cmp.Ordering.TheVariants.{Less, Equal, Greater}
-use Rattle.std.proofs.lemmas.Bool.{cases_Bool, and_parts, or_cases, eqb-true, and_from}
+use Rattle.std.proofs.Common.{◌≡◌, ℕ, Bool, true, false, ◌&&◌, ◌||◌, List, [], ◌∷◌, ◌++◌, map, Some, None, Result, Ok, Err, sym, refl, ap, ◌∙◌, subst, inl, inr, is_ok, ◌⊎◌}
+use Rattle.std.specs.List.{flat_map, list_all}
+use Rattle.std.proofs.lemmas.Bool.{and_parts, or_cases, eqb-true, and_from}
 use Rattle.volt_value.specs.declared.value.Value.{Value}
-use Rattle.volt_value.specs.declared.value.Value.TheVariants.{Null, Int, Text}
-use Rattle.volt_value.specs.Order.{value_cmp}
-use Rattle.expr_parse.specs.declared.expression.Arithmetic.{Arithmetic}
 use Rattle.expr_parse.specs.declared.expression.Comparison.{Comparison}
 use Rattle.expr_parse.specs.declared.expression.Comparison.TheVariants as compare
 use Rattle.sql_plan.specs.declared.fault.Fault.{Fault}
 use Rattle.sql_plan.specs.declared.expression.Scalar.{Scalar, roll-Scalar, map-Scalar}
 use Rattle.sql_plan.specs.declared.expression.Scalar.TheOpen.{Scalar-F as s}
-use Rattle.sql_plan.specs.declared.expression.Scalar.TheFolds.{fold-Scalar, fold-roll-Scalar, ind-Scalar}
+use Rattle.sql_plan.specs.declared.expression.Scalar.TheFolds.{fold-roll-Scalar, ind-Scalar}
 use Rattle.sql_plan.specs.declared.expression.Cond.{Cond, roll-Cond, map-Cond}
 use Rattle.sql_plan.specs.declared.expression.Cond.TheOpen.{Cond-F as c}
-use Rattle.sql_plan.specs.declared.expression.Cond.TheFolds.{fold-Cond, fold-roll-Cond, ind-Cond}
+use Rattle.sql_plan.specs.declared.expression.Cond.TheFolds.{fold-roll-Cond, ind-Cond}
 use Rattle.sql_plan.specs.Rows.{Cells}
 use Rattle.sql_meaning.specs.Judged.{with}
-use Rattle.sql_meaning.specs.Values.{Truth, at, comparison, is_null, is_true, opposite, conjunction, disjunction}
-use Rattle.sql_meaning.specs.Expressions.{Reads, scalar_step, scalar_of, and_then, or_else, all_true, some_true, comparing, cond_step, cond_of, holds}
-use Rattle.sql_meaning.specs.WellFormed.{is_equality, is_column_step, is_column, is_plain_step, is_plain, Conjunct, other_conjunct, equates, all_plain, conjuncts_step, conjuncts_of, tell_parts}
+use Rattle.sql_meaning.specs.Values.{Truth, at, comparison, is_null, opposite, conjunction, disjunction}
+use Rattle.sql_meaning.specs.Expressions.{Reads, scalar_step, scalar_of, and_then, or_else, all_true, some_true, comparing, cond_step, cond_of}
+use Rattle.sql_meaning.specs.WellFormed.{is_equality, is_column_step, is_column, is_plain_step, is_plain, Conjunct, equates, all_plain, conjuncts_step, conjuncts_of, tell_parts}
 use Rattle.sql_laws.proofs.Trees.Small.{scalar_of_roll, cond_of_roll}
 
 -- a judgement without a fault

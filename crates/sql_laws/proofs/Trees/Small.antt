@@ -1,5 +1,5 @@
 -- The faults of expressions and of rows come before Duplicate.
-use Rattle.std.proofs.Common.{◌≡◌, ℕ, ◌+◌, ◌<◌, Bool, true, false, cond, nat_lt, List, [], ◌∷◌, map, Option, Some, None, Result, Ok, Err, ℤ, pos, negsuc, ◌+ℤ◌, ◌-ℤ◌, ◌*ℤ◌, neg_ℤ, nat_abs, int_div, ◌==◌, if◌then◌else◌, sym, refl, ap, ◌∙◌, subst, inl, inr, arith}
+use Rattle.std.proofs.Common.{◌≡◌, Bool, true, false, nat_lt, List, [], ◌∷◌, map, Option, Some, None, Result, Ok, Err, ℤ, ◌+ℤ◌, ◌-ℤ◌, ◌*ℤ◌, neg_ℤ, nat_abs, int_div, ◌==◌, if◌then◌else◌, refl, ap, subst, inl, inr}
 use Rattle.std.proofs.lemmas.Bool.{cases_Bool}
 use Rattle.volt_value.specs.declared.value.Value.{Value}
 use Rattle.volt_value.specs.declared.value.Value.TheVariants.{Null, Int, Text}
@@ -12,14 +12,14 @@ use Rattle.sql_plan.specs.declared.fault.Fault.{Fault}
 use Rattle.sql_plan.specs.declared.fault.Fault.TheVariants.{DivideByZero}
 use Rattle.sql_plan.specs.declared.expression.Scalar.{Scalar, roll-Scalar, map-Scalar}
 use Rattle.sql_plan.specs.declared.expression.Scalar.TheOpen.{Scalar-F as s}
-use Rattle.sql_plan.specs.declared.expression.Scalar.TheFolds.{fold-Scalar, fold-roll-Scalar, ind-Scalar}
+use Rattle.sql_plan.specs.declared.expression.Scalar.TheFolds.{fold-roll-Scalar, ind-Scalar}
 use Rattle.sql_plan.specs.declared.expression.Cond.{Cond, roll-Cond, map-Cond}
 use Rattle.sql_plan.specs.declared.expression.Cond.TheOpen.{Cond-F as c}
-use Rattle.sql_plan.specs.declared.expression.Cond.TheFolds.{fold-Cond, fold-roll-Cond, ind-Cond}
+use Rattle.sql_plan.specs.declared.expression.Cond.TheFolds.{fold-roll-Cond, ind-Cond}
 use Rattle.sql_plan.specs.Faults.{code_of}
 use Rattle.sql_plan.specs.Rows.{Cells}
 use Rattle.sql_meaning.specs.Judged.{with, fault_in}
-use Rattle.sql_meaning.specs.Values.{Truth, at, in_range, of_numbers, operation, negation, comparison, is_null, is_true, opposite, conjunction, disjunction}
+use Rattle.sql_meaning.specs.Values.{Truth, in_range, of_numbers, operation, negation, comparison, is_null, is_true, opposite, conjunction, disjunction}
 use Rattle.sql_meaning.specs.Expressions.{Reads, chain, scalar_step, scalar_of, and_then, or_else, all_true, some_true, comparing, cond_step, cond_of, holds}
 
 -- a fault before Duplicate, or none

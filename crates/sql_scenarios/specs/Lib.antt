@@ -1,0 +1,4 @@
+pub mod Builders
+pub mod Pairs
+pub mod Notes
+pub mod Accounts
