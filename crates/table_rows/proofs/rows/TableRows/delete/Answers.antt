@@ -1,0 +1,16 @@
+use Rattle.table_rows.specs.Standing.{standing_table}
+use Rattle.table_rows.proofs.ReadLemmas.{delete_is, none_deleted}
+use Rattle.table_rows.proofs.rows.TableRows.delete.Goals as goal
+
+pub returns-in_ok-take_out-in-Some-clause-deleted : goal.returns-in_ok-take_out-in-Some-clause-deleted
+returns-in_ok-take_out-in-Some-clause-deleted c =
+    let held = rw c.as_slice.ensures.value at c.in-Some.ensures.held in
+    let keys = rw c.as_mut_slice.ensures.value at c.take_out.ensures.keys in
+    rw (← c.self.view_is)
+    (delete_is c.self.inside.slots c.take_out.new.slots c.self.inside.indexes.items c.take_out.new.indexes c.in-Some.place c.args.key.now
+    c.place_of.ensures.spread c.self.invariant held c.in_ok-take_out-in-Some.ensures.taken keys)
+
+pub returns-in-None-clause-deleted : goal.returns-in-None-clause-deleted
+returns-in-None-clause-deleted c =
+    let none = rw c.as_slice.ensures.value at c.in-None.ensures.row in
+    rw (← c.self.view_is) (none_deleted (standing_table c.self.inside.slots c.self.inside.indexes.items) c.args.key.now none)
