@@ -1,16 +1,21 @@
 -- What is read of the table that rows and indexes stand for, and what it is without a row or with another.
-use Rattle.std.proofs.Common.{◌≡◌, ℕ, ◌<◌, zero, suc, Bool, true, false, cond, List, [], ◌∷◌, map, length, slice_get, Option, Some, None, is_some, IfSome, option_and_then, refl, sym, ap, ap₂, ◌∙◌, subst}
+use Rattle.std.proofs.Common.{◌≡◌, ◌⊎◌, ℕ, Vec, get_or, arith, ◌<◌, zero, suc, Bool, true, false, cond, List, [], ◌∷◌, map, length, slice_get, Option, Some, None, is_some, IfSome, option_and_then, refl, sym, ap, ap₂, ◌∙◌, subst}
 use Rattle.std.proofs.lemmas.Bool.{false≢true}
+use Rattle.std.proofs.lemmas.List.{with_items_is, length-map}
+use Rattle.std.proofs.lemmas.Option.{slice_get-get_or}
+use Rattle.std.specs.Vec.{with_items}
 use Rattle.std.specs.List.{AllByRecursion}
 use Rattle.std.specs.Option.{unwrap_or}
 use Rattle.std.specs.Set.{remove_key}
 use Rattle.volt_value.specs.declared.value.Value.{Value}
 use Rattle.volt_index.specs.Index.{Contents, place_of, places_between}
-use Rattle.row_codec.specs.Packing.{IsRow}
+use Rattle.row_codec.specs.declared.fault.RowFault.{RowFault}
+use Rattle.row_codec.specs.declared.fault.RowFault.TheVariants.{NoMemory}
+use Rattle.row_codec.specs.Faults.{columns_fault}
 use Rattle.table_rows.specs.Held.{row_at, with_row, without_row}
 use Rattle.table_rows.specs.Spread.{Spread, IsSpread}
 use Rattle.table_rows.specs.Order.{row_key}
-use Rattle.table_rows.specs.Table.{Table, first_of, has_key, has_like, clashes, primary_key, deleted, updated, find_row, row_of_key, rows_between}
+use Rattle.table_rows.specs.Table.{Table, first_of, has_key, has_like, clashes, primary_key, duplicate_if, first_fault, row_fault, deleted, updated, find_row, row_of_key, rows_between}
 use Rattle.table_rows.specs.Keyed.{contents_of, IsKept}
 use Rattle.table_rows.specs.Standing.{keys_of, table_of, standing_table, first_place, rows_at, IsHeldAt, IsRowOfKey, IsStanding}
 use Rattle.table_rows.specs.declared.keyed.KeyedIndex.{KeyedIndex}
@@ -106,3 +111,42 @@ range_rows s ks i k from to spread is at =
     ap (λ (c : Contents). rows_at s.held (places_between from to c)) kept.contents
     ∙ range_is s.fields (keys_of ks) s.held k.columns from to spread.rising (first_apart s.held ks is.schema.some is.kept) kept.apart
     ∙ ap (λ columns. rows_between columns from to (standing_table s ks)) (sym (columns_at ks i k at))
+
+pub index_at : (ks : List KeyedIndex) (i : ℕ) (k : KeyedIndex) → i < length (keys_of ks) → k ≡ get_or ks i k → slice_get ks i ≡ Some k
+index_at ks i k within is = slice_get-get_or ks i k (subst (λ n. i < n) (length-map ks (λ (l : KeyedIndex). l.columns)) within) ∙ ap Some (sym is)
+
+-- ---- the vector of the indexes after a change
+
+pub items_after : {Z : Type 0} (v : Vec KeyedIndex Z) (ls : List KeyedIndex) → keys_of ls ≡ keys_of v.items → (with_items v ls).items ≡ ls
+items_after v ls keys =
+    let whole = v.ok.0 in
+    let after = length-map ls (λ (l : KeyedIndex). l.columns) in
+    let before = length-map v.items (λ (l : KeyedIndex). l.columns) in
+    let same = ap (length {A = List ℕ}) keys in
+    with_items_is v ls (omega arith)
+
+-- ---- an update
+
+module _ (s t : Spread) (ks ls : List KeyedIndex) (place : ℕ) (key : List ℕ) (row packed : List Value) (spread : IsSpread s) (is : IsStanding s ks) (of : IsRowOfKey s.held (first_of (keys_of ks)) key place) (packed_is : packed ≡ row) where
+  beside : clashes (keys_of ks) packed (map (λ e. e.1) (without_row s.held place)) ≡ has_like (deleted (standing_table s ks) key) row
+  beside = beside_is s ks place key packed spread is of ∙ ap (has_like (deleted (standing_table s ks) key)) packed_is
+
+  pub update_refused : (fault : RowFault) → columns_fault s.fields row ≡ None → (fault ≡ NoMemory) ⊎ (duplicate_if (clashes (keys_of ks) packed (map (λ e. e.1) (without_row s.held place))) ≡ Some fault)
+      → (fault ≡ NoMemory) ⊎ (row_fault (deleted (standing_table s ks) key) row ≡ Some fault)
+  update_refused fault fits why =
+      subst (λ (o : Option RowFault). (fault ≡ NoMemory) ⊎ (first_fault o (duplicate_if (has_like (deleted (standing_table s ks) key) row)) ≡ Some fault)) (sym fits)
+      (subst (λ b. (fault ≡ NoMemory) ⊎ (duplicate_if b ≡ Some fault)) beside why)
+
+  pub update_accepted : columns_fault s.fields row ≡ None → clashes (keys_of ks) packed (map (λ e. e.1) (without_row s.held place)) ≡ false → row_fault (deleted (standing_table s ks) key) row ≡ None
+  update_accepted fits free =
+      ap₂ (λ (o : Option RowFault) (b : Bool). first_fault o (duplicate_if b)) fits (sym beside ∙ free)
+
+  pub update_done : key ≡ row_key (first_of (keys_of ks)) row → t ≡ record s { held = with_row s.held place packed } → keys_of ls ≡ keys_of ks
+      → clashes (keys_of ks) packed (map (λ e. e.1) (without_row s.held place)) ≡ false → standing_table t ls ≡ updated (standing_table s ks) row
+  update_done key_is put keys free =
+      update_is s t ks ls place row spread is (subst (λ k. IsRowOfKey s.held (first_of (keys_of ks)) k place) key_is of)
+      (put ∙ ap (λ r. record s { held = with_row s.held place r }) packed_is) keys (ap (λ r. clashes (keys_of ks) r (map (λ (e : ℕ × List Value). e.1) (without_row s.held place))) (sym packed_is) ∙ free)
+
+pub never_missing : (s : Spread) (ks : List KeyedIndex) (place : ℕ) (key : List ℕ) → IsRowOfKey s.held (first_of (keys_of ks)) key place → row_of_key (standing_table s ks) key ≡ row_at s.held place
+    → row_of_key (standing_table s ks) key ≡ None → ⊥
+never_missing s ks place key of row none = cc (sym of.there ∙ sym row ∙ none)

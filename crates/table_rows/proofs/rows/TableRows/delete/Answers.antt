@@ -1,5 +1,6 @@
+use Rattle.std.proofs.Common.{ap, ◌∙◌}
 use Rattle.table_rows.specs.Standing.{standing_table}
-use Rattle.table_rows.proofs.ReadLemmas.{delete_is, none_deleted}
+use Rattle.table_rows.proofs.ReadLemmas.{items_after, delete_is, none_deleted}
 use Rattle.table_rows.proofs.rows.TableRows.delete.Goals as goal
 
 pub returns-in_ok-take_out-in-Some-clause-deleted : goal.returns-in_ok-take_out-in-Some-clause-deleted
@@ -7,7 +8,8 @@ returns-in_ok-take_out-in-Some-clause-deleted c =
     let held = rw c.as_slice.ensures.value at c.in-Some.ensures.held in
     let keys = rw c.as_mut_slice.ensures.value at c.take_out.ensures.keys in
     rw (← c.self.view_is)
-    (delete_is c.self.inside.slots c.take_out.new.slots c.self.inside.indexes.items c.take_out.new.indexes c.in-Some.place c.args.key.now
+    (ap (standing_table c.take_out.new.slots) (items_after c.self.inside.indexes c.take_out.new.indexes keys)
+    ∙ delete_is c.self.inside.slots c.take_out.new.slots c.self.inside.indexes.items c.take_out.new.indexes c.in-Some.place c.args.key.now
     c.place_of.ensures.spread c.self.invariant held c.in_ok-take_out-in-Some.ensures.taken keys)
 
 pub returns-in-None-clause-deleted : goal.returns-in-None-clause-deleted
