@@ -10,3 +10,4 @@ pub mod KeyedChanges
 pub mod TableChanges
 pub mod ChangeLemmas
 pub mod ReadLemmas
+pub mod BackLemmas

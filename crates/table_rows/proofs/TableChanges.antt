@@ -50,12 +50,12 @@ inserted_is fields keys held place row elsewhere others =
 
 -- ---- a row less
 
-All-map : {A B : Type 0} (P : B → Type 0) (f : A → B) (xs : List A) → AllByRecursion (λ x. P (f x)) xs → AllByRecursion P (map f xs)
+pub All-map : {A B : Type 0} (P : B → Type 0) (f : A → B) (xs : List A) → AllByRecursion (λ x. P (f x)) xs → AllByRecursion P (map f xs)
 All-map P f [] are = tt
 All-map P f (x ∷ xs) are = (are.0, All-map P f xs are.1)
 
 -- a row that doesn't agree with this one has another key
-other_key : (fields : List Field) (columns key : List ℕ) (old row : List Value) → IsRow fields old → IsRow fields row → has_key columns key old ≡ true → (row_cmp columns old row ≡ Equal → ⊥) → has_key columns key row ≡ false
+pub other_key : (fields : List Field) (columns key : List ℕ) (old row : List Value) → IsRow fields old → IsRow fields row → has_key columns key old ≡ true → (row_cmp columns old row ≡ Equal → ⊥) → has_key columns key row ≡ false
 other_key fields columns key old row is-old is-row has apart =
     ap (λ k. bytes_eq k (row_key columns row)) ((bytes_eq-Decides key (row_key columns old)).0 has)
     ∙ key_eq fields columns old row is-old is-row ∙ not_equal (row_cmp columns old row) apart

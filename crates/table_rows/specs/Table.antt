@@ -1,5 +1,5 @@
 -- A table: what its columns and keys are, and its rows in the order of the primary key.
-use Rattle.std.specs.Prelude.{◌≡◌, ℕ, Bool, true, false, nat_lt, ◌&&◌, ◌||◌, if◌then◌else◌, List, [], ◌∷◌, length, map, filter, Option, Some, None}
+use Rattle.std.specs.Prelude.{◌≡◌, ℕ, Bool, true, false, nat_lt, ◌&&◌, ◌||◌, if◌then◌else◌, List, [], ◌∷◌, length, map, filter, is_some, Option, Some, None}
 use Rattle.std.specs.List.{list_all, list_any, AllByRecursion}
 use Rattle.std.specs.BTreeSet.{insert_key}
 use Rattle.std.specs.Set.{remove_key}
@@ -107,6 +107,16 @@ find_row test (row ∷ rows) = if test row then Some row else find_row test rows
 -- the row whose primary key has a spelling
 abbrev pub row_of_key : Table → List ℕ → Option (List Value)
 row_of_key table key = find_row (has_key (primary_key table.schema) key) table.rows
+
+-- a row can be put in
+pub record CanInsert (table : Table) (row : List Value) : Type 0 where
+  pub count : length row ≡ length table.schema.fields
+  pub fault : row_fault table row ≡ None
+
+-- a row can be put in the place of the one that has its primary key
+pub record CanUpdate (table : Table) (row : List Value) : Type 0 where
+  pub held : is_some (row_of_key table (row_key (primary_key table.schema) row)) ≡ true
+  pub rest : CanInsert (deleted table (row_key (primary_key table.schema) row)) row
 
 -- the rows whose keys are in a range, in order of that key's columns
 abbrev pub rows_between : List ℕ → Option (List ℕ) → Option (List ℕ) → Table → List (List Value)

@@ -7,7 +7,8 @@ ghost use Rattle.row_codec.specs.Faults.{columns_fault};
 ghost use Rattle.row_codec.specs.Packing.{row_of, IsTuple};
 ghost use Rattle.table_rows.specs.Spread.{IsSpread};
 ghost use Rattle.table_rows.specs.Held.{row_at, with_row, without_row};
-ghost use Rattle.table_rows.specs.Table.{first_of, row_of_key, inserted, has_like, clashes, duplicate_if};
+ghost use Rattle.table_rows.specs.Order.{row_key};
+ghost use Rattle.table_rows.specs.Table.{first_of, row_of_key, inserted, deleted, has_like, clashes, duplicate_if};
 ghost use Rattle.table_rows.specs.Standing.{standing_table, keys_of, IsStanding, IsRowOfKey};
 
 use crate::keyed;
@@ -57,6 +58,8 @@ pub(crate) fn put_in(
     ensures standing { IsStanding slots.new indexes.new }
     ensures inserted { OnOk result (standing_table slots.new indexes.new
         ≡ inserted (standing_table slots.old indexes.old) (row_of slots.old.fields tuple.now)) }
+    ensures back { OnOk result (deleted (standing_table slots.new indexes.new)
+        (row_key (first_of (keys_of indexes.old)) (row_of slots.old.fields tuple.now)) ≡ standing_table slots.old indexes.old) }
     ensures free { OnOk result (has_like (standing_table slots.old indexes.old) (row_of slots.old.fields tuple.now) ≡ false) }
     ensures refused { IfErr result (λ fault. (fault ≡ RowFault.NoMemory)
         ⊎ (duplicate_if (has_like (standing_table slots.old indexes.old) (row_of slots.old.fields tuple.now)) ≡ Some fault)) }

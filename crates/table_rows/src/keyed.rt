@@ -1,12 +1,15 @@
 //! An index of a table with the keys of the row that changes.
 
 ghost use Rattle.std.specs.Prelude.{◌≡◌, ◌⊎◌, ◌++◌, Some, true, false, map, IfOk, OnOk, OnErr, IfErr};
+ghost use Rattle.std.specs.Prelude.{slice_get};
+ghost use Rattle.std.specs.Option.{unwrap_or};
 ghost use Rattle.std.specs.List.{list_all, list_any};
+ghost use Rattle.volt_value.specs.declared.value.Value.TheVariants.{Null};
 ghost use Rattle.volt_index.specs.Keys.{value_key};
 ghost use Rattle.row_codec.specs.Packing.{row_of, IsTuple};
 ghost use Rattle.row_codec.specs.Seen.{seen};
 ghost use Rattle.table_rows.specs.Order.{row_key};
-ghost use Rattle.table_rows.specs.Table.{has_columns, duplicate_if};
+ghost use Rattle.table_rows.specs.Table.{first_of, has_columns, duplicate_if};
 ghost use Rattle.table_rows.specs.Standing as standing;
 ghost use Rattle.table_rows.specs.Keyed.{new_index, coming, going, compared, entered, backed_out, left, is_taken, kept};
 
@@ -14,6 +17,7 @@ use row_codec::{Cell, RowFault, RowLayout};
 use std::alloc::{AllocError, Global};
 use volt_catalog::ColumnNos;
 use volt_index::{Index, IndexFault, Key};
+use volt_value::Value;
 
 /// The index of a key's columns, and beside it what a change of one row does to it.
 #[derive(Drop)]
@@ -56,6 +60,39 @@ fn spell(
         left = rest;
     }
     Ok(())
+}
+
+/// Adds a row's value in a column to a key.
+fn push_value(key: &mut Key, row: &[Value], column: u8) -> Result<(), AllocError>
+    ensures { OnOk result (key.new ≡ key.old ++ value_key (unwrap_or (slice_get row.now column) Null)) }
+{
+    match row.get(column as usize) {
+        Some(value) => key.push(value),
+        None => key.push_null(),
+    }
+}
+
+/// A row's values in some columns, spelled.
+fn key_in(alloc: Global, columns: &[u8], row: &[Value]) -> Result<Key, AllocError>
+    ensures { IfOk result (λ key. key ≡ row_key columns.now row.now) }
+{
+    let mut key = Key::new(alloc);
+    let mut left = columns;
+    while let [column, rest @ ..] = left {
+        push_value(&mut key, row, *column)?;
+        left = rest;
+    }
+    Ok(key)
+}
+
+/// A row's values in the columns of the first index, spelled.
+pub(crate) fn first_key(alloc: Global, indexes: &[KeyedIndex], row: &[Value]) -> Result<Key, AllocError>
+    ensures { IfOk result (λ key. key ≡ row_key (first_of (standing.keys_of indexes.now)) row.now) }
+{
+    match indexes {
+        [first, ..] => key_in(alloc, first.columns.as_slice(), row),
+        [] => Ok(Key::new(alloc)),
+    }
 }
 
 impl KeyedIndex {

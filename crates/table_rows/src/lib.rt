@@ -9,3 +9,6 @@ mod slots;
 
 pub use row::{Row, Rows};
 pub use rows::TableRows;
+
+#[cfg(test)]
+mod tests;

@@ -1,13 +1,13 @@
 //! The rows of a table with their indexes.
 
-ghost use Rattle.std.specs.Prelude.{◌≡◌, ◌⊎◌, ◌<◌, None, Some, Ok, Err, true, false, is_some, length, IfOk, OnOk, OnErr, IfErr};
+ghost use Rattle.std.specs.Prelude.{◌≡◌, ◌⊎◌, ◌<◌, None, Some, Ok, Err, true, false, is_some, length, IfOk, IfSome, OnOk, OnErr, IfErr};
 ghost use Rattle.std.specs.Option.{option_map, unwrap_or};
 ghost use Rattle.std.specs.Prelude.{[], slice_get};
 ghost use Rattle.row_codec.specs.declared.fault.RowFault.{RowFault};
 ghost use Rattle.row_codec.specs.Faults.{columns_fault};
 ghost use Rattle.row_codec.specs.Packing.{row_of, IsTuple};
 ghost use Rattle.table_rows.specs.Order.{row_key};
-ghost use Rattle.table_rows.specs.Table.{no_rows, inserted, deleted, updated, row_fault, row_of_key, rows_between, primary_key, duplicate_if, has_like, IsSchema};
+ghost use Rattle.table_rows.specs.Table.{no_rows, inserted, deleted, updated, row_fault, row_of_key, rows_between, primary_key, duplicate_if, has_like, CanInsert, CanUpdate, IsSchema};
 
 use crate::changes;
 use crate::keyed;
@@ -58,12 +58,35 @@ impl TableRows {
         })
     }
 
+    /// How its rows are packed, which tells its columns.
+    pub fn layout(&self) -> &RowLayout
+        ensures { result.now ≡ self.now.schema.fields }
+    {
+        self.slots.layout()
+    }
+
+    /// How many keys there are, one at least.
+    pub fn keys(&self) -> usize
+        ensures value { result ≡ length self.now.schema.keys }
+        ensures some { 0 < result }
+    {
+        self.indexes.len()
+    }
+
+    /// The primary key of a row, spelled.
+    pub fn key_of(&self, row: &[Value]) -> Result<Key, AllocError>
+        ensures { IfOk result (λ key. key ≡ row_key (primary_key self.now.schema) row.now) }
+    {
+        keyed::first_key(self.alloc, self.indexes.as_slice(), row)
+    }
+
     /// Puts a row in. It is refused, and the table stays as it was, for the first of these: NULL in a
     /// column that takes none, an integer out of its column's range, a text that is too long, and a
     /// row that has the same values in the columns of a key. `NoMemory` is free.
     pub fn insert(&mut self, row: &[Value]) -> Result<(), RowFault>
         requires { length row.now ≡ length self.old.schema.fields }
         ensures inserted { OnOk result (self.new ≡ inserted self.old row.now) }
+        ensures back { OnOk result (deleted self.new (row_key (primary_key self.old.schema) row.now) ≡ self.old) }
         ensures accepted { OnOk result (row_fault self.old row.now ≡ None) }
         ensures refused { IfErr result (λ fault.
             (fault ≡ RowFault.NoMemory) ⊎ (row_fault self.old row.now ≡ Some fault)) }
@@ -79,6 +102,8 @@ impl TableRows {
     /// the table stays as it was.
     pub fn delete(&mut self, key: &Key) -> Result<bool, AllocError>
         ensures deleted { OnOk result (self.new ≡ deleted self.old key.now) }
+        ensures back { result ≡ Ok true → IfSome (row_of_key self.old key.now)
+            (λ row. (inserted self.new row ≡ self.old) × CanInsert self.new row) }
         ensures held { IfOk result (λ held. held ≡ is_some (row_of_key self.old key.now)) }
         ensures kept { OnErr result (self.new ≡ self.old) }
     {
@@ -99,6 +124,8 @@ impl TableRows {
         requires stays { key.now ≡ row_key (primary_key self.old.schema) row.now }
         ensures held { IfOk result (λ held. held ≡ is_some (row_of_key self.old key.now)) }
         ensures updated { result ≡ Ok true → self.new ≡ updated self.old row.now }
+        ensures back { result ≡ Ok true → IfSome (row_of_key self.old key.now)
+            (λ row. (updated self.new row ≡ self.old) × CanUpdate self.new row) }
         ensures same { result ≡ Ok false → self.new ≡ self.old }
         ensures accepted { result ≡ Ok true → row_fault (deleted self.old key.now) row.now ≡ None }
         ensures refused { IfErr result (λ fault.

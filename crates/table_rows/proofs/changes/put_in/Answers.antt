@@ -1,6 +1,10 @@
 use Rattle.std.proofs.Common.{map, refl, ap, ◌∙◌, Some}
 use Rattle.std.proofs.lemmas.Result.{err_from_is_err_and}
 use Rattle.row_codec.specs.Packing.{row_of}
+use Rattle.table_rows.specs.Order.{row_key}
+use Rattle.table_rows.specs.Table.{Table, deleted, first_of}
+use Rattle.table_rows.specs.Standing.{keys_of}
+use Rattle.table_rows.proofs.BackLemmas.{insert_back}
 use Rattle.table_rows.specs.Spread.{Spread}
 use Rattle.table_rows.specs.Keyed.{coming, kept}
 use Rattle.table_rows.proofs.KeyedChanges.{all_unique, same_kept}
@@ -77,6 +81,33 @@ returns-clause-inserted c =
       place_free = c.accept.ensures.free;
       accepted = c.accept.ensures.accepted;
     })
+
+pub returns-clause-back : goal.returns-clause-back
+returns-clause-back c =
+    let row = row_of c.args.slots.now.fields c.args.tuple.now in
+    let all = c.args.indexes.now in
+    ap (λ (t : Table). deleted t (row_key (first_of (keys_of all)) row)) (put_in_table c.args.slots.now c.ready.new.self c.accept.new.self c.args.indexes.now c.come.new.indexes c.enter.new.indexes c.in_ok-place.place row (record {
+      spread = c.layout.ensures.rules;
+      standing = c.requires.standing;
+      fits = c.requires.tuple.row;
+      told_is = c.in_ok-come.ensures.told ∙ ap (λ fields. map (coming (row_of fields c.args.tuple.now)) c.args.indexes.now) c.layout.ensures.fields;
+      ready_is = c.in_ok-place.ensures.ready;
+      entered_is = c.in_ok-enter.ensures.entered;
+      free = c.in_ok-enter.ensures.free;
+      place_free = c.accept.ensures.free;
+      accepted = c.accept.ensures.accepted;
+    }))
+    ∙ insert_back c.args.slots.now all row c.layout.ensures.rules c.requires.standing c.requires.tuple.row (put_in_free c.args.slots.now c.ready.new.self c.accept.new.self c.args.indexes.now c.come.new.indexes c.enter.new.indexes c.in_ok-place.place row (record {
+      spread = c.layout.ensures.rules;
+      standing = c.requires.standing;
+      fits = c.requires.tuple.row;
+      told_is = c.in_ok-come.ensures.told ∙ ap (λ fields. map (coming (row_of fields c.args.tuple.now)) c.args.indexes.now) c.layout.ensures.fields;
+      ready_is = c.in_ok-place.ensures.ready;
+      entered_is = c.in_ok-enter.ensures.entered;
+      free = c.in_ok-enter.ensures.free;
+      place_free = c.accept.ensures.free;
+      accepted = c.accept.ensures.accepted;
+    }))
 
 pub returns-clause-free : goal.returns-clause-free
 returns-clause-free c =
