@@ -38,10 +38,10 @@ insert_back s ks row spread is fits free =
     let ordered = in_order_by (placed_cmp columns) s.held in
     let others : AreOthers columns row s.held = first_others (keys_of ks) row s.held is.schema.some (sym (rows_clash columns s.held (keys_of ks) row (first_apart s.held ks is.schema.some is.kept)) ∙ free) in
     let differ : AllByRecursion (λ (r : List Value). (has_key columns key r ≡ false) × (row_cmp columns row r ≡ Equal → ⊥)) (map (λ (e : ℕ × List Value). e.1) ordered)
-        = All-map (λ (r : List Value). (has_key columns key r ≡ false) × (row_cmp columns row r ≡ Equal → ⊥)) (λ (e : ℕ × List Value). e.1) ordered
-          (All-both (λ e. IsRow s.fields e.1) (λ e. row_cmp columns row e.1 ≡ Equal → ⊥) (λ e. (has_key columns key e.1 ≡ false) × (row_cmp columns row e.1 ≡ Equal → ⊥))
-           (λ e is-e other. (other_key s.fields columns key row e.1 fits is-e (own_key columns row) other, other)) ordered
-           (All-in_order columns (λ e. IsRow s.fields e.1) s.held (rows_fit s spread)) (All-in_order columns (λ e. row_cmp columns row e.1 ≡ Equal → ⊥) s.held others)) in
+    = All-map (λ (r : List Value). (has_key columns key r ≡ false) × (row_cmp columns row r ≡ Equal → ⊥)) (λ (e : ℕ × List Value). e.1) ordered
+    (All-both (λ e. IsRow s.fields e.1) (λ e. row_cmp columns row e.1 ≡ Equal → ⊥) (λ e. (has_key columns key e.1 ≡ false) × (row_cmp columns row e.1 ≡ Equal → ⊥))
+    (λ e is-e other. (other_key s.fields columns key row e.1 fits is-e (own_key columns row) other, other)) ordered
+    (All-in_order columns (λ e. IsRow s.fields e.1) s.held (rows_fit s spread)) (All-in_order columns (λ e. row_cmp columns row e.1 ≡ Equal → ⊥) s.held others)) in
     ap (λ (rows : List (List Value)). record { schema = record { fields = s.fields; keys = keys_of ks }; rows = rows })
     (remove_inserted (row_cmp columns) (has_key columns key) row (map (λ (e : ℕ × List Value). e.1) ordered) (own_key columns row) differ)
 
@@ -62,7 +62,7 @@ pub delete_back : (s : Spread) (ks : List KeyedIndex) (place : ℕ) (old : List 
     → inserted (table_of s.fields (keys_of ks) (without_row s.held place)) old ≡ standing_table s ks
 delete_back s ks place old spread is there =
     sym (inserted_is s.fields (keys_of ks) (without_row s.held place) place old (without_elsewhere s.held place spread.rising)
-      (others_without (first_of (keys_of ks)) s.held place old (first_apart s.held ks is.schema.some is.kept) there))
+    (others_without (first_of (keys_of ks)) s.held place old (first_apart s.held ks is.schema.some is.kept) there))
     ∙ ap (table_of s.fields (keys_of ks)) (with_back s.held place old spread.rising there)
 
 -- ---- a row in the place of another
@@ -73,14 +73,14 @@ out_again [] place row elsewhere = without_same place (place, row) [] refl
 out_again (e ∷ held) place row elsewhere = elim (cases_lt place e.0) [
   | inl lt ↦ ap (λ hs. without_row hs place) (with_first place row e held lt) ∙ without_same place (place, row) (e ∷ held) refl
   | inr le ↦ elim (cases_eq place e.0) [
-      | inl same ↦ absurd (elsewhere.0 same)
-      | inr other ↦
-          let gt : e.0 < place = omega arith in
-          ap (λ hs. without_row hs place) (with_later place row e held gt)
-          ∙ without_other place e (with_row held place row) other
-          ∙ ap (λ hs. e ∷ hs) (out_again held place row elsewhere.1)
-    ]
+    | inl same ↦ absurd (elsewhere.0 same)
+    | inr other ↦
+        let gt : e.0 < place = omega arith in
+        ap (λ hs. without_row hs place) (with_later place row e held gt)
+        ∙ without_other place e (with_row held place row) other
+        ∙ ap (λ hs. e ∷ hs) (out_again held place row elsewhere.1)
   ]
+]
 
 without_over : (held : Held) (place : ℕ) (old row : List Value) → AreRising held → row_at held place ≡ Some old → without_row (with_row held place row) place ≡ without_row held place
 without_over held place old row rising there =
@@ -124,15 +124,15 @@ module _ (s : Spread) (ks : List KeyedIndex) (place : ℕ) (row : List Value) (s
   pub update_back : updated (table_of s.fields (keys_of ks) after) of.row ≡ standing_table s ks
   update_back =
       sym (updated_is s.fields (keys_of ks) after place row of.row after_rising after_fit after_apart (at_with s.held place row) key_back
-        (subst (AreOthers columns of.row) (sym same_rest) (others_without columns s.held place of.row old_apart of.there)))
+      (subst (AreOthers columns of.row) (sym same_rest) (others_without columns s.held place of.row old_apart of.there)))
       ∙ ap (table_of s.fields (keys_of ks))
-        (sym (with_over after place of.row row after_rising (at_with s.held place row)) ∙ ap (λ hs. with_row hs place of.row) same_rest ∙ with_back s.held place of.row spread.rising of.there)
+      (sym (with_over after place of.row row after_rising (at_with s.held place row)) ∙ ap (λ hs. with_row hs place of.row) same_rest ∙ with_back s.held place of.row spread.rising of.there)
 
   pub update_free : has_like (deleted (table_of s.fields (keys_of ks) after) (row_key columns of.row)) of.row ≡ false
   update_free =
       ap (λ (t : Table). has_like t of.row)
-        (sym (deleted_is s.fields (keys_of ks) after place row (row_key columns of.row) after_rising after_fit after_apart (at_with s.held place row) key_back)
-         ∙ ap (table_of s.fields (keys_of ks)) same_rest)
+      (sym (deleted_is s.fields (keys_of ks) after place row (row_key columns of.row) after_rising after_fit after_apart (at_with s.held place row) key_back)
+      ∙ ap (table_of s.fields (keys_of ks)) same_rest)
       ∙ delete_free s ks place of.row is of.there
 
 -- ---- as the calls have them
@@ -142,14 +142,16 @@ pub delete_undone : (s t : Spread) (ks ls : List KeyedIndex) (place : ℕ) (key 
     → IfSome (row_of_key (standing_table s ks) key) (λ row. (inserted (standing_table t ls) row ≡ standing_table s ks) × CanInsert (standing_table t ls) row)
 delete_undone s t ks ls place key spread is of row_is taken keys =
     let whole : standing_table t ls ≡ table_of s.fields (keys_of ks) (without_row s.held place)
-        = ap (λ (v : Spread). standing_table v ls) taken ∙ ap (λ columns. table_of s.fields columns (without_row s.held place)) keys in
+    = ap (λ (v : Spread). standing_table v ls) taken ∙ ap (λ columns. table_of s.fields columns (without_row s.held place)) keys in
     let fits : IsRow s.fields of.row = All-row_at (λ e. IsRow s.fields e.1) s.held place of.row (rows_fit s spread) of.there in
     subst (λ (o : Option (List Value)). IfSome o (λ row. (inserted (standing_table t ls) row ≡ standing_table s ks) × CanInsert (standing_table t ls) row)) (sym (row_is ∙ of.there))
-    (subst (λ (after : Table). (inserted after of.row ≡ standing_table s ks) × CanInsert after of.row) (sym whole)
-    (delete_back s ks place of.row spread is of.there, record {
-      count = fits.count;
-      fault = ap₂ (λ (o : Option RowFault) (b : Bool). first_fault o (duplicate_if b)) fits.fits (delete_free s ks place of.row is of.there);
-    }))
+    (subst (λ (after : Table). (inserted after of.row ≡ standing_table s ks) × CanInsert after of.row) (sym whole) (
+      delete_back s ks place of.row spread is of.there,
+      record {
+        count = fits.count;
+        fault = ap₂ (λ (o : Option RowFault) (b : Bool). first_fault o (duplicate_if b)) fits.fits (delete_free s ks place of.row is of.there);
+      },
+    ))
 
 -- a row that is there is found by its key
 found_any : (test : List Value → Bool) (rows : List (List Value)) → is_some (find_row test rows) ≡ list_any test rows
@@ -165,7 +167,7 @@ any_there test [] place row there hit = absurd cc
 any_there test (e ∷ held) place row there hit = elim (cases_eq place e.0) [
   | inl same ↦ ap (λ b. b || list_any test (map (λ e. e.1) held)) (ap test (some_is (sym (at_same place e held same) ∙ there)) ∙ hit)
   | inr other ↦ ap (λ b. test e.1 || b) (any_there test held place row (sym (at_other place e held other) ∙ there) hit) ∙ or_true (test e.1)
-  ]
+]
   where
     some_is : {a b : List Value} → Some a ≡ Some b → a ≡ b
     some_is h = cc
@@ -183,16 +185,18 @@ update_undone s t ks ls place key row spread is of_key row_is key_is fits put ke
     let of : IsRowOfKey s.held columns (row_key columns row) place = subst (λ k. IsRowOfKey s.held columns k place) key_is of_key in
     let after = with_row s.held place row in
     let whole : standing_table t ls ≡ table_of s.fields (keys_of ks) after
-        = ap (λ (v : Spread). standing_table v ls) put ∙ ap (λ keys. table_of s.fields keys after) keys in
+    = ap (λ (v : Spread). standing_table v ls) put ∙ ap (λ keys. table_of s.fields keys after) keys in
     let old-fits : IsRow s.fields of.row = All-row_at (λ e. IsRow s.fields e.1) s.held place of.row (rows_fit s spread) of.there in
     subst (λ (o : Option (List Value)). IfSome o (λ old. (updated (standing_table t ls) old ≡ standing_table s ks) × CanUpdate (standing_table t ls) old)) (sym (row_is ∙ of.there))
-    (subst (λ (later : Table). (updated later of.row ≡ standing_table s ks) × CanUpdate later of.row) (sym whole)
-    (update_back s ks place row spread is of fits free, record {
-      held = found_any (has_key columns (row_key columns of.row)) (table_of s.fields (keys_of ks) after).rows
-        ∙ any-rows columns (has_key columns (row_key columns of.row)) after (after_apart s ks place row spread is of fits free)
-        ∙ any_there (has_key columns (row_key columns of.row)) after place row (at_with s.held place row) (key_back s ks place row spread is of fits free);
-      rest = record {
-        count = old-fits.count;
-        fault = ap₂ (λ (o : Option RowFault) (b : Bool). first_fault o (duplicate_if b)) old-fits.fits (update_free s ks place row spread is of fits free);
-      };
-    }))
+    (subst (λ (later : Table). (updated later of.row ≡ standing_table s ks) × CanUpdate later of.row) (sym whole) (
+      update_back s ks place row spread is of fits free,
+      record {
+        held = found_any (has_key columns (row_key columns of.row)) (table_of s.fields (keys_of ks) after).rows
+            ∙ any-rows columns (has_key columns (row_key columns of.row)) after (after_apart s ks place row spread is of fits free)
+            ∙ any_there (has_key columns (row_key columns of.row)) after place row (at_with s.held place row) (key_back s ks place row spread is of fits free);
+        rest = record {
+          count = old-fits.count;
+          fault = ap₂ (λ (o : Option RowFault) (b : Bool). first_fault o (duplicate_if b)) old-fits.fits (update_free s ks place row spread is of fits free);
+        };
+      },
+    ))

@@ -31,9 +31,9 @@ rows_fit s is = All-each (IsPlaced s.fields) (λ e. IsRow s.fields e.1) (λ e pl
 
 pub same_standing : (s t : Spread) (ks ls : List KeyedIndex) → IsStanding s ks → t.fields ≡ s.fields → t.held ≡ s.held → map kept ls ≡ map kept ks → IsStanding t ls
 same_standing s t ks ls is fields held same = record {
-    schema = subst IsSchema (ap₂ (λ (fs : List Field) (keys : List (List ℕ)). record { fields = fs; keys = keys }) (sym fields) (sym (same_keys ls ks same))) is.schema;
-    kept = subst (λ hs. AllKept hs ls) (sym held) (same_kept s.held ls ks same is.kept);
-  }
+  schema = subst IsSchema (ap₂ (λ (fs : List Field) (keys : List (List ℕ)). record { fields = fs; keys = keys }) (sym fields) (sym (same_keys ls ks same))) is.schema;
+  kept = subst (λ hs. AllKept hs ls) (sym held) (same_kept s.held ls ks same is.kept);
+}
 
 pub same_table : (s t : Spread) (ks ls : List KeyedIndex) → t.fields ≡ s.fields → t.held ≡ s.held → map kept ls ≡ map kept ks → standing_table t ls ≡ standing_table s ks
 same_table s t ks ls fields held same =
@@ -85,18 +85,18 @@ module _ (s t u : Spread) (ks ls ms : List KeyedIndex) (place : ℕ) (row : List
 
   pub put_in_standing : IsStanding u ms
   put_in_standing = record {
-      schema = subst IsSchema (ap₂ (λ (fs : List Field) (keys : List (List ℕ)). record { fields = fs; keys = keys }) (ap (λ (v : Spread). v.fields) (sym after)) (sym keys_after)) p.standing.schema;
-      kept = subst (λ (hs : Held). AllKept hs ms) (ap (λ (v : Spread). v.held) (sym after))
+    schema = subst IsSchema (ap₂ (λ (fs : List Field) (keys : List (List ℕ)). record { fields = fs; keys = keys }) (ap (λ (v : Spread). v.fields) (sym after)) (sym keys_after)) p.standing.schema;
+    kept = subst (λ (hs : Held). AllKept hs ms) (ap (λ (v : Spread). v.held) (sym after))
         (subst (AllKept (with_row s.held place row)) (sym indexes_after) (entered_kept s.fields s.held place row ks p.standing.kept (rows_fit s p.spread) p.fits elsewhere none_taken));
-    }
+  }
 
   pub put_in_table : standing_table u ms ≡ inserted (standing_table s ks) row
   put_in_table =
       ap (λ (v : Spread). standing_table v ms) after
       ∙ ap (λ keys. table_of s.fields keys (with_row s.held place row)) keys_after
       ∙ inserted_is s.fields (keys_of ks) s.held place row elsewhere
-        (first_others (keys_of ks) row s.held p.standing.schema.some
-         (sym (clashes_is s.fields s.held row ks p.standing.kept (rows_fit s p.spread) p.fits) ∙ none_taken))
+      (first_others (keys_of ks) row s.held p.standing.schema.some
+      (sym (clashes_is s.fields s.held row ks p.standing.kept (rows_fit s p.spread) p.fits) ∙ none_taken))
 
 -- ---- a row less
 
@@ -104,12 +104,14 @@ pub taken_standing : (s t : Spread) (ks ls ms : List KeyedIndex) (place : ℕ) (
     → ls ≡ map (going old) ks → t ≡ record s { held = without_row s.held place } → ms ≡ map (left place) ls → IsStanding t ms × (keys_of ms ≡ keys_of ks)
 taken_standing s t ks ls ms place old spread is there told taken gone =
     let indexes : ms ≡ map (left place) (map (going old) ks) = gone ∙ ap (map (left place)) told in
-    let keys : keys_of ms ≡ keys_of ks = ap keys_of indexes ∙ left_keys place old ks in
-    (record {
-      schema = subst IsSchema (ap₂ (λ (fs : List Field) (keys : List (List ℕ)). record { fields = fs; keys = keys }) (ap (λ (v : Spread). v.fields) (sym taken)) (sym keys)) is.schema;
-      kept = subst (λ (hs : Held). AllKept hs ms) (ap (λ (v : Spread). v.held) (sym taken))
-        (subst (AllKept (without_row s.held place)) (sym indexes) (left_kept s.fields s.held place old ks is.kept (rows_fit s spread) spread.rising there));
-    }, keys)
+    let keys : keys_of ms ≡ keys_of ks = ap keys_of indexes ∙ left_keys place old ks in (
+      record {
+        schema = subst IsSchema (ap₂ (λ (fs : List Field) (keys : List (List ℕ)). record { fields = fs; keys = keys }) (ap (λ (v : Spread). v.fields) (sym taken)) (sym keys)) is.schema;
+        kept = subst (λ (hs : Held). AllKept hs ms) (ap (λ (v : Spread). v.held) (sym taken))
+            (subst (AllKept (without_row s.held place)) (sym indexes) (left_kept s.fields s.held place old ks is.kept (rows_fit s spread) spread.rising there));
+      },
+      keys,
+    )
 
 -- ---- a row in the place of another
 
@@ -123,13 +125,15 @@ pub moved_standing : (s t : Spread) (ks ls ms ns : List KeyedIndex) (place : ℕ
     → IsStanding t ns × (keys_of ns ≡ keys_of ks)
 moved_standing s t ks ls ms ns place old row spread is there fits told free put in_is out_is =
     let indexes : ns ≡ map (left place) (map (entered place) (all_told row old ks)) = out_is ∙ ap (map (left place)) (in_is ∙ ap (map (entered place)) told) in
-    let keys : keys_of ns ≡ keys_of ks = ap keys_of indexes ∙ moved_keys place old row ks in
-    (record {
-      schema = subst IsSchema (ap₂ (λ (fs : List Field) (keys : List (List ℕ)). record { fields = fs; keys = keys }) (ap (λ (v : Spread). v.fields) (sym put)) (sym keys)) is.schema;
-      kept = subst (λ (hs : Held). AllKept hs ns) (ap (λ (v : Spread). v.held) (sym put))
-        (subst (AllKept (with_row s.held place row)) (sym indexes)
-         (moved_kept s.fields s.held place old row ks is.kept (rows_fit s spread) spread.rising there fits (ap (list_any is_taken) (sym told) ∙ free)));
-    }, keys)
+    let keys : keys_of ns ≡ keys_of ks = ap keys_of indexes ∙ moved_keys place old row ks in (
+      record {
+        schema = subst IsSchema (ap₂ (λ (fs : List Field) (keys : List (List ℕ)). record { fields = fs; keys = keys }) (ap (λ (v : Spread). v.fields) (sym put)) (sym keys)) is.schema;
+        kept = subst (λ (hs : Held). AllKept hs ns) (ap (λ (v : Spread). v.held) (sym put))
+            (subst (AllKept (with_row s.held place row)) (sym indexes)
+            (moved_kept s.fields s.held place old row ks is.kept (rows_fit s spread) spread.rising there fits (ap (list_any is_taken) (sym told) ∙ free)));
+      },
+      keys,
+    )
 
 -- where the place's row could not be written, each index is as it was told
 pub backed_kept : (s : Spread) (ks ls ms ns : List KeyedIndex) (place : ℕ) (old row : List Value) → IsStanding s ks → ls ≡ all_told row old ks → list_any is_taken ls ≡ false

@@ -49,7 +49,7 @@ elsewhere_none place [] none = tt
 elsewhere_none place (e ∷ held) none = elim (cases_eq place e.0) [
   | inl same ↦ absurd (is_some (sym (ap (λ b. cond b (Some e.1) (row_at held place)) (alike place e.0 same)) ∙ none))
   | inr other ↦ (other, elsewhere_none place held (sym (ap (λ b. cond b (Some e.1) (row_at held place)) (apart place e.0 other)) ∙ none))
-  ]
+]
   where
     is_some : Some e.1 ≡ None → ⊥
     is_some h = cc
@@ -97,12 +97,12 @@ AreRising-with_row [] place row rising = (tt, tt)
 AreRising-with_row (e ∷ held) place row rising = elim (cases_lt place e.0) [
   | inl lt ↦ subst AreRising (sym (with_first place row e held lt)) ((lt, behind_less place e.0 held lt rising.0), rising)
   | inr le ↦ elim (cases_eq place e.0) [
-      | inl same ↦ subst AreRising (sym (with_same place row e held same)) rising
-      | inr other ↦
-          let gt : e.0 < place = omega arith in
-          subst AreRising (sym (with_later place row e held gt)) (All-with_row (λ f. e.0 < f.0) held place row gt rising.0, AreRising-with_row held place row rising.1)
-    ]
+    | inl same ↦ subst AreRising (sym (with_same place row e held same)) rising
+    | inr other ↦
+        let gt : e.0 < place = omega arith in
+        subst AreRising (sym (with_later place row e held gt)) (All-with_row (λ f. e.0 < f.0) held place row gt rising.0, AreRising-with_row held place row rising.1)
   ]
+]
 
 pub AreRising-without_row : (held : List (ℕ × List Value)) (place : ℕ) → AreRising held → AreRising (without_row held place)
 AreRising-without_row [] place rising = tt
@@ -126,7 +126,7 @@ without_elsewhere [] place rising = tt
 without_elsewhere (e ∷ held) place rising = elim (cases_eq place e.0) [
   | inl same ↦ subst (AreElsewhere place) (sym (without_same place e held same)) (elsewhere_behind place held (subst (λ p. AreBehind p held) (sym same) rising.0))
   | inr other ↦ subst (AreElsewhere place) (sym (without_other place e held other)) (other, without_elsewhere held place rising.1)
-  ]
+]
 
 -- none to take out
 pub without_itself : (place : ℕ) (held : List (ℕ × List Value)) → AreElsewhere place held → without_row held place ≡ held
@@ -149,7 +149,7 @@ found_behind [] place low old behind is = absurd cc
 found_behind (f ∷ held) place low old behind is = elim (cases_eq place f.0) [
   | inl same ↦ omega (arith, behind.0)
   | inr other ↦ found_behind held place low old behind.1 (sym (at_other place f held other) ∙ is)
-  ]
+]
 
 -- it may be taken out first
 pub with_over : (held : List (ℕ × List Value)) (place : ℕ) (row old : List Value) → AreRising held → row_at held place ≡ Some old → with_row (without_row held place) place row ≡ with_row held place row
@@ -166,7 +166,7 @@ with_over (e ∷ held) place row old rising is = elim (cases_eq place e.0) [
       ∙ with_later place row e (without_row held place) gt
       ∙ ap (λ hs. e ∷ hs) (with_over held place row old rising.1 later)
       ∙ sym (with_later place row e held gt)
-  ]
+]
 
 with_itself : (held : List (ℕ × List Value)) (place : ℕ) (old : List Value) → AreRising held → row_at held place ≡ Some old → with_row held place old ≡ held
 with_itself [] place old rising is = absurd cc
@@ -175,7 +175,7 @@ with_itself (e ∷ held) place old rising is = elim (cases_eq place e.0) [
   | inr other ↦
       let later : row_at held place ≡ Some old = sym (at_other place e held other) ∙ is in
       with_later place old e held (found_behind held place e.0 old rising.0 later) ∙ ap (λ hs. e ∷ hs) (with_itself held place old rising.1 later)
-  ]
+]
   where
     some_is : {a b : List Value} → Some a ≡ Some b → a ≡ b
     some_is h = cc
@@ -190,7 +190,7 @@ All-row_at P [] place old are is = absurd cc
 All-row_at P (e ∷ held) place old are is = elim (cases_eq place e.0) [
   | inl same ↦ subst P (ap₂ (λ (p : ℕ) (r : List Value). (p, r)) (sym same) (some_is (sym (at_same place e held same) ∙ is))) are.0
   | inr other ↦ All-row_at P held place old are.1 (sym (at_other place e held other) ∙ is)
-  ]
+]
   where
     some_is : {a b : List Value} → Some a ≡ Some b → a ≡ b
     some_is h = cc
@@ -213,19 +213,19 @@ past_other q place first row old rest other = elim (cases_eq q place) [
   | inr elsewhere ↦
       let not_here : eqb q place ≡ false = apart q place elsewhere in
       ap (λ b. cond (eqb q first) (Some old) (cond b (Some row) rest)) not_here ∙ sym (ap (λ b. cond b (Some row) (cond (eqb q first) (Some old) rest)) not_here)
-  ]
+]
 
 pub row_at-with_row : (held : List (ℕ × List Value)) (place : ℕ) (row : List Value) (q : ℕ) → row_at (with_row held place row) q ≡ cond (eqb q place) (Some row) (row_at held q)
 row_at-with_row [] place row q = refl
 row_at-with_row (e ∷ held) place row q = elim (cases_lt place e.0) [
   | inl lt ↦ ap (λ hs. row_at hs q) (with_first place row e held lt)
   | inr le ↦ elim (cases_eq place e.0) [
-      | inl same ↦ ap (λ hs. row_at hs q) (with_same place row e held same) ∙ over_same q place e.0 row e.1 (row_at held q) same
-      | inr other ↦
-          let gt : e.0 < place = omega arith in
-          ap (λ hs. row_at hs q) (with_later place row e held gt) ∙ ap (cond (eqb q e.0) (Some e.1)) (row_at-with_row held place row q) ∙ past_other q place e.0 row e.1 (row_at held q) other
-    ]
+    | inl same ↦ ap (λ hs. row_at hs q) (with_same place row e held same) ∙ over_same q place e.0 row e.1 (row_at held q) same
+    | inr other ↦
+        let gt : e.0 < place = omega arith in
+        ap (λ hs. row_at hs q) (with_later place row e held gt) ∙ ap (cond (eqb q e.0) (Some e.1)) (row_at-with_row held place row q) ∙ past_other q place e.0 row e.1 (row_at held q) other
   ]
+]
 
 pub row_at-without_row : (held : List (ℕ × List Value)) (place q : ℕ) → AreRising held → row_at (without_row held place) q ≡ cond (eqb q place) None (row_at held q)
 row_at-without_row held place q rising = elim (cases_eq q place) [
@@ -233,11 +233,11 @@ row_at-without_row held place q rising = elim (cases_eq q place) [
       ap (row_at (without_row held place)) here ∙ none_elsewhere place (without_row held place) (without_elsewhere held place rising)
       ∙ sym (ap (λ b. cond b None (row_at held q)) (alike q place here))
   | inr elsewhere ↦ other_left held place q elsewhere ∙ sym (ap (λ b. cond b None (row_at held q)) (apart q place elsewhere))
-  ]
+]
   where
     other_left : (held : List (ℕ × List Value)) (place q : ℕ) → (q ≡ place → ⊥) → row_at (without_row held place) q ≡ row_at held q
     other_left [] place q elsewhere = refl
     other_left (e ∷ held) place q elsewhere = elim (cases_eq place e.0) [
       | inl same ↦ ap (λ hs. row_at hs q) (without_same place e held same) ∙ sym (at_other q e held (λ h. elsewhere (h ∙ sym same)))
       | inr other ↦ ap (λ hs. row_at hs q) (without_other place e held other) ∙ ap (cond (eqb q e.0) (Some e.1)) (other_left held place q elsewhere)
-      ]
+    ]

@@ -48,9 +48,9 @@ contents_with fields columns held place row rows is elsewhere others =
     let cmp = placed_cmp columns in
     let ordered = in_order_by cmp held in
     let same : AllByRecursion (λ e. entry_cmp (entry_of columns (place, row)) (entry_of columns e) ≡ cmp (place, row) e) ordered
-        = All-both (λ e. IsRow fields e.1) (λ e. row_cmp columns row e.1 ≡ Equal → ⊥) (λ e. entry_cmp (entry_of columns (place, row)) (entry_of columns e) ≡ cmp (place, row) e)
-          (λ e is-e apart. entry_order fields columns (place, row) e is is-e apart) ordered
-          (All-in_order columns (λ e. IsRow fields e.1) held rows) (All-in_order columns (λ e. row_cmp columns row e.1 ≡ Equal → ⊥) held others) in
+    = All-both (λ e. IsRow fields e.1) (λ e. row_cmp columns row e.1 ≡ Equal → ⊥) (λ e. entry_cmp (entry_of columns (place, row)) (entry_of columns e) ≡ cmp (place, row) e)
+    (λ e is-e apart. entry_order fields columns (place, row) e is is-e apart) ordered
+    (All-in_order columns (λ e. IsRow fields e.1) held rows) (All-in_order columns (λ e. row_cmp columns row e.1 ≡ Equal → ⊥) held others) in
     ap (λ (es : List (List ℕ × ℕ)). record { unique = true; entries = es })
     (sym (map-insert_key cmp entry_cmp (entry_of columns) (place, row) ordered same)
     ∙ ap (map (entry_of columns)) (sym (order_with columns held place row elsewhere others)))
@@ -98,15 +98,15 @@ pub contents_back : (fields : List Field) (columns : List ℕ) (held : Held) (pl
 contents_back fields columns held place old rising rows apart is =
     ap (contents_of columns) (back_is held place old rising is)
     ∙ sym (contents_with fields columns (without_row held place) place old (All-without_row (λ e. IsRow fields e.1) held place rows)
-      (All-row_at (λ e. IsRow fields e.1) held place old rows is) (without_elsewhere held place rising) (others_without columns held place old apart is))
+    (All-row_at (λ e. IsRow fields e.1) held place old rows is) (without_elsewhere held place rising) (others_without columns held place old apart is))
 
 pub contents_without : (fields : List Field) (columns : List ℕ) (held : Held) (place : ℕ) (old : List Value) → AreRising held → AreRows fields held → AreApart columns held → row_at held place ≡ Some old
     → without_entry (contents_of columns held) (row_key columns old) place ≡ contents_of columns (without_row held place)
 contents_without fields columns held place old rising rows apart is =
     ap (λ (c : Contents). without_entry c (row_key columns old) place) (contents_back fields columns held place old rising rows apart is)
     ∙ without_with (contents_of columns (without_row held place)) (row_key columns old) place
-      (free_of fields columns (without_row held place) old (All-without_row (λ e. IsRow fields e.1) held place rows)
-       (All-row_at (λ e. IsRow fields e.1) held place old rows is) (apart_without columns held place apart) (others_without columns held place old apart is))
+    (free_of fields columns (without_row held place) old (All-without_row (λ e. IsRow fields e.1) held place rows)
+    (All-row_at (λ e. IsRow fields e.1) held place old rows is) (apart_without columns held place apart) (others_without columns held place old apart is))
 
 -- ---- a row in the place of another
 
@@ -131,13 +131,13 @@ contents_moved fields columns held place old row rising rows apart is fits other
     let joined : with_entry (contents_of columns rest) (row_key columns row) place ≡ contents_of columns new = contents_with fields columns rest place row rest-rows fits elsewhere rest-others in
     ap (λ (c : Contents). without_entry (with_entry c (row_key columns row) place) (row_key columns old) place) (contents_back fields columns held place old rising rows apart is)
     ∙ ap (λ (es : List (List ℕ × ℕ)). without_entry (record { unique = true; entries = es }) (row_key columns old) place)
-      (insert_swap entry_total (row_key columns old, place) (row_key columns row, place) (contents_of columns rest).entries
-       (keys_apart fields columns old row place old-fits fits (turned_apart columns row old differ)))
+    (insert_swap entry_total (row_key columns old, place) (row_key columns row, place) (contents_of columns rest).entries
+    (keys_apart fields columns old row place old-fits fits (turned_apart columns row old differ)))
     ∙ ap (λ (c : Contents). without_entry (with_entry c (row_key columns old) place) (row_key columns old) place) joined
     ∙ without_with (contents_of columns new) (row_key columns old) place
-      (free_of fields columns new old (All-with_row (λ e. IsRow fields e.1) rest place row fits rest-rows) old-fits
-       (apart_with columns rest place row elsewhere rest-others (apart_without columns held place apart))
-       (All-with_row (λ e. row_cmp columns old e.1 ≡ Equal → ⊥) rest place row (turned_apart columns row old differ) old-others))
+    (free_of fields columns new old (All-with_row (λ e. IsRow fields e.1) rest place row fits rest-rows) old-fits
+    (apart_with columns rest place row elsewhere rest-others (apart_without columns held place apart))
+    (All-with_row (λ e. row_cmp columns old e.1 ≡ Equal → ⊥) rest place row (turned_apart columns row old differ) old-others))
     ∙ ap (contents_of columns) (with_over held place row old rising is)
   where
     keys_apart : (fields : List Field) (columns : List ℕ) (old row : List Value) (place : ℕ) → IsRow fields old → IsRow fields row → (row_cmp columns old row ≡ Equal → ⊥)
@@ -155,5 +155,5 @@ contents_same fields columns held place old row rising rows apart is fits same =
     contents_back fields columns held place old rising rows apart is
     ∙ ap (λ key. with_entry (contents_of columns rest) key place) (sym same)
     ∙ contents_with fields columns rest place row (All-without_row (λ e. IsRow fields e.1) held place rows) fits (without_elsewhere held place rising)
-      (others_alike columns rest row old (keys_agree fields columns row old fits old-fits same) (others_without columns held place old apart is))
+    (others_alike columns rest row old (keys_agree fields columns row old fits old-fits same) (others_without columns held place old apart is))
     ∙ ap (contents_of columns) (with_over held place row old rising is)

@@ -11,8 +11,21 @@ use Rattle.std.specs.declared.cmp.Ordering.TheVariants.{Less, Equal, Greater}
 -- two that differ may change places
 pub insert_swap : {K : Type 0} {R : K → K → Ordering} (o : IsTotalOrder R) (a x : K) (es : List K) → (R a x ≡ Equal → ⊥) → insert_key R (insert_key R es a) x ≡ insert_key R (insert_key R es x) a
 insert_swap {R = R} o a x [] apart = grind (arith, o.antisymm a x, o.antisymm x a, apart)
-insert_swap {R = R} o a x (e ∷ es) apart = grind (arith, apart, o.antisymm a x, o.antisymm x a, o.antisymm a e, o.antisymm x e, o.antisymm e x, o.antisymm e a,
-  o.trans x e a, o.trans a e x, o.congr a e x, o.congr x e a, insert_swap o a x es apart)
+insert_swap {R = R} o a x (e ∷ es) apart = grind (
+  arith,
+  apart,
+  o.antisymm a x,
+  o.antisymm x a,
+  o.antisymm a e,
+  o.antisymm x e,
+  o.antisymm e x,
+  o.antisymm e a,
+  o.trans x e a,
+  o.trans a e x,
+  o.congr a e x,
+  o.congr x e a,
+  insert_swap o a x es apart,
+)
 
 -- a function that keeps the order of what is put in to each that is there
 map_ordering : {A B : Type 0} (f : A → B) (r : Ordering) (x e : A) (es more : List A) (rest : List B) → map f more ≡ rest

@@ -42,9 +42,9 @@ entered_one fields held place row k is rows fits elsewhere free =
 left_one : (fields : List Field) (held : Held) (place : ℕ) (old : List Value) (k : KeyedIndex) → IsKept held k → AreRows fields held → AreRising held → row_at held place ≡ Some old
     → IsKept (without_row held place) (left place (going old k))
 left_one fields held place old k is rows rising there = record {
-    contents = ap (λ (c : Contents). without_entry c (row_key k.columns old) place) is.contents ∙ contents_without fields k.columns held place old rising rows is.apart there;
-    apart = apart_without k.columns held place is.apart;
-  }
+  contents = ap (λ (c : Contents). without_entry c (row_key k.columns old) place) is.contents ∙ contents_without fields k.columns held place old rising rows is.apart there;
+  apart = apart_without k.columns held place is.apart;
+}
 
 -- an index that was told the row that comes and the one that goes
 abbrev told : List Value → List Value → KeyedIndex → Bool → KeyedIndex
@@ -76,7 +76,7 @@ moved_at fields held place old row k false is rows rising there fits differ free
     let others : AreOthers k.columns row held = others_from k.columns row held (sym (taken_is fields held row k is rows fits) ∙ free) in
     record {
       contents = ap (λ (c : Contents). without_entry (with_entry c (row_key k.columns row) place) (row_key k.columns old) place) is.contents
-        ∙ contents_moved fields k.columns held place old row rising rows is.apart there fits others;
+          ∙ contents_moved fields k.columns held place old row rising rows is.apart there fits others;
       apart = rest_apart k.columns held place old row rising is.apart there (All-without_row (λ e. row_cmp k.columns row e.1 ≡ Equal → ⊥) held place others);
     }
 
@@ -92,7 +92,7 @@ agrees_without columns row (e ∷ held) place old there other = elim (cases_eq p
   | inr differ ↦
       ap (λ b. agree columns row e.1 || b) (agrees_without columns row held place old (sym (at_other place e held differ) ∙ there) other)
       ∙ ap (λ hs. agrees_with_one columns row (map (λ e. e.1) hs)) (sym (without_other place e held differ))
-  ]
+]
   where
     some_is : {a b : List Value} → Some a ≡ Some b → a ≡ b
     some_is h = cc
@@ -105,7 +105,7 @@ told_taken fields held place old row k true is rows there fits same =
 told_taken fields held place old row k false is rows there fits differ =
     taken_is fields held row k is rows fits
     ∙ agrees_without k.columns row held place old there
-      (sym (key_eq fields k.columns row old fits (All-row_at (λ e. IsRow fields e.1) held place old rows there)) ∙ differ)
+    (sym (key_eq fields k.columns row old fits (All-row_at (λ e. IsRow fields e.1) held place old rows there)) ∙ differ)
 
 told_keys : (row old : List Value) (place : ℕ) (k : KeyedIndex) (same : Bool) → (left place (entered place (told row old k same))).columns ≡ k.columns
 told_keys row old place k true = refl
@@ -153,9 +153,10 @@ pub moved_kept : (fields : List Field) (held : Held) (place : ℕ) (old row : Li
     → list_any is_taken (all_told row old ks) ≡ false → AllKept (with_row held place row) (map (left place) (map (entered place) (all_told row old ks)))
 moved_kept fields held place old row [] are rows rising there fits free = tt
 moved_kept fields held place old row (k ∷ ks) are rows rising there fits free =
-    let parts = or_parts (is_taken (compared (going old (coming row k)))) (list_any is_taken (all_told row old ks)) free in
-    (moved_at fields held place old row k (bytes_eq (row_key k.columns row) (row_key k.columns old)) are.0 rows rising there fits refl parts.0,
-     moved_kept fields held place old row ks are.1 rows rising there fits parts.1)
+    let parts = or_parts (is_taken (compared (going old (coming row k)))) (list_any is_taken (all_told row old ks)) free in (
+      moved_at fields held place old row k (bytes_eq (row_key k.columns row) (row_key k.columns old)) are.0 rows rising there fits refl parts.0,
+      moved_kept fields held place old row ks are.1 rows rising there fits parts.1,
+    )
 
 pub moved_clashes : (fields : List Field) (held : Held) (place : ℕ) (old row : List Value) (ks : List KeyedIndex) → AllKept held ks → AreRows fields held → row_at held place ≡ Some old → IsRow fields row
     → list_any is_taken (all_told row old ks) ≡ clashes (keys_of ks) row (map (λ e. e.1) (without_row held place))

@@ -63,27 +63,27 @@ order_with columns [] place row elsewhere others = refl
 order_with columns (e ∷ held) place row elsewhere others = elim (cases_lt place e.0) [
   | inl lt ↦ ap (in_order_by (placed_cmp columns)) (with_first place row e held lt)
   | inr le ↦ elim (cases_eq place e.0) [
-      | inl same ↦ absurd (elsewhere.0 same)
-      | inr other ↦
-          let gt : e.0 < place = omega arith in
-          ap (in_order_by (placed_cmp columns)) (with_later place row e held gt)
-          ∙ ap (λ es. insert_key (placed_cmp columns) es e) (order_with columns held place row elsewhere.1 others.1)
-          ∙ insert_swap (placed_total columns) (place, row) e (in_order_by (placed_cmp columns) held) others.0
-    ]
+    | inl same ↦ absurd (elsewhere.0 same)
+    | inr other ↦
+        let gt : e.0 < place = omega arith in
+        ap (in_order_by (placed_cmp columns)) (with_later place row e held gt)
+        ∙ ap (λ es. insert_key (placed_cmp columns) es e) (order_with columns held place row elsewhere.1 others.1)
+        ∙ insert_swap (placed_total columns) (place, row) e (in_order_by (placed_cmp columns) held) others.0
   ]
+]
 
 pub apart_with : (columns : List ℕ) (held : Held) (place : ℕ) (row : List Value) → AreElsewhere place held → AreOthers columns row held → AreApart columns held → AreApart columns (with_row held place row)
 apart_with columns [] place row elsewhere others apart = (tt, tt)
 apart_with columns (e ∷ held) place row elsewhere others apart = elim (cases_lt place e.0) [
   | inl lt ↦ subst (AreApart columns) (sym (with_first place row e held lt)) (others, apart)
   | inr le ↦ elim (cases_eq place e.0) [
-      | inl same ↦ absurd (elsewhere.0 same)
-      | inr other ↦
-          let gt : e.0 < place = omega arith in
-          subst (AreApart columns) (sym (with_later place row e held gt))
-          (All-with_row (λ f. placed_cmp columns e f ≡ Equal → ⊥) held place row (turned_apart columns row e.1 others.0) apart.0, apart_with columns held place row elsewhere.1 others.1 apart.1)
-    ]
+    | inl same ↦ absurd (elsewhere.0 same)
+    | inr other ↦
+        let gt : e.0 < place = omega arith in
+        subst (AreApart columns) (sym (with_later place row e held gt))
+        (All-with_row (λ f. placed_cmp columns e f ≡ Equal → ⊥) held place row (turned_apart columns row e.1 others.0) apart.0, apart_with columns held place row elsewhere.1 others.1 apart.1)
   ]
+]
 
 -- ---- a row less
 
@@ -106,7 +106,7 @@ others_without columns (e ∷ held) place old apart is = elim (cases_eq place e.
       let later : row_at held place ≡ Some old = sym (at_other place e held other) ∙ is in
       subst (AreOthers columns old) (sym (without_other place e held other))
       (turned_apart columns e.1 old (All-row_at (λ f. placed_cmp columns e f ≡ Equal → ⊥) held place old apart.0 later), others_without columns held place old apart.1 later)
-  ]
+]
   where
     some_is : {a b : List Value} → Some a ≡ Some b → a ≡ b
     some_is h = cc

@@ -1,5 +1,5 @@
 -- What is read of the table that rows and indexes stand for, and what it is without a row or with another.
-use Rattle.std.proofs.Common.{◌≡◌, ◌⊎◌, ℕ, Vec, get_or, arith, ◌<◌, zero, suc, Bool, true, false, cond, List, [], ◌∷◌, map, length, slice_get, Option, Some, None, is_some, IfSome, option_and_then, refl, sym, ap, ap₂, ◌∙◌, subst}
+use Rattle.std.proofs.Common.{◌≡◌, ◌⊎◌, ℕ, Vec, get_or, arith, ◌<◌, zero, suc, Bool, true, false, cond, List, [], ◌∷◌, map, length, slice_get, Option, Some, None, Result, Ok, Err, IfOk, is_some, IfSome, option_and_then, refl, sym, ap, ap₂, ◌∙◌, subst}
 use Rattle.std.proofs.lemmas.Bool.{false≢true}
 use Rattle.std.proofs.lemmas.List.{with_items_is, length-map}
 use Rattle.std.proofs.lemmas.Option.{slice_get-get_or}
@@ -12,14 +12,16 @@ use Rattle.volt_index.specs.Index.{Contents, place_of, places_between}
 use Rattle.row_codec.specs.declared.fault.RowFault.{RowFault}
 use Rattle.row_codec.specs.declared.fault.RowFault.TheVariants.{NoMemory}
 use Rattle.row_codec.specs.Faults.{columns_fault}
+use Rattle.tuple_block.specs.Tuples.{Tuples}
+use Rattle.pane_index.specs.Blocks.{all_slots}
 use Rattle.table_rows.specs.Held.{row_at, with_row, without_row}
-use Rattle.table_rows.specs.Spread.{Spread, IsSpread}
-use Rattle.table_rows.specs.Order.{row_key}
+use Rattle.table_rows.specs.Spread.{Spread, IsSpread, held_from}
+use Rattle.table_rows.specs.Order.{row_key, in_order}
 use Rattle.table_rows.specs.Table.{Table, first_of, has_key, has_like, clashes, primary_key, duplicate_if, first_fault, row_fault, deleted, updated, find_row, row_of_key, rows_between}
 use Rattle.table_rows.specs.Keyed.{contents_of, IsKept}
-use Rattle.table_rows.specs.Standing.{keys_of, table_of, standing_table, first_place, rows_at, IsHeldAt, IsRowOfKey, IsStanding}
+use Rattle.table_rows.specs.Standing.{keys_of, table_of, standing_table, first_place, rows_at, rows_in, IsHeldAt, IsRowOfKey, IsStanding}
 use Rattle.table_rows.specs.declared.keyed.KeyedIndex.{KeyedIndex}
-use Rattle.table_rows.proofs.PlacedOrder.{Held, AreOthers, apart_without}
+use Rattle.table_rows.proofs.PlacedOrder.{Held, rows_order, AreOthers, apart_without}
 use Rattle.table_rows.proofs.KeyedChanges.{AllKept, first_apart}
 use Rattle.table_rows.proofs.TableChanges.{first_others, deleted_is, updated_is, others_deleted, row_found, place_held, range_is, range_held}
 use Rattle.table_rows.proofs.ChangeLemmas.{rows_fit}
@@ -78,7 +80,7 @@ update_is s t ks ls place row spread is of put keys free =
     ap (λ (v : Spread). standing_table v ls) put
     ∙ ap (λ columns. table_of s.fields columns (with_row s.held place row)) keys
     ∙ updated_is s.fields (keys_of ks) s.held place of.row row spread.rising (rows_fit s spread) (first_apart s.held ks is.schema.some is.kept) of.there of.has
-      (first_others (keys_of ks) row (without_row s.held place) is.schema.some free)
+    (first_others (keys_of ks) row (without_row s.held place) is.schema.some free)
 
 -- ---- a range
 
@@ -150,3 +152,13 @@ module _ (s t : Spread) (ks ls : List KeyedIndex) (place : ℕ) (key : List ℕ)
 pub never_missing : (s : Spread) (ks : List KeyedIndex) (place : ℕ) (key : List ℕ) → IsRowOfKey s.held (first_of (keys_of ks)) key place → row_of_key (standing_table s ks) key ≡ row_at s.held place
     → row_of_key (standing_table s ks) key ≡ None → ⊥
 never_missing s ks place key of row none = cc (sym of.there ∙ sym row ∙ none)
+
+-- ---- a scan
+
+pub scan_is : (s : Spread) (ks : List KeyedIndex) (scan : List Tuples) → held_from s.fields 0 (all_slots scan) ≡ s.held → in_order (first_of (keys_of ks)) (rows_in s.fields scan) ≡ (standing_table s ks).rows
+scan_is s ks scan is = ap (λ (held : Held). in_order (first_of (keys_of ks)) (map (λ (e : ℕ × List Value). e.1) held)) is ∙ sym (rows_order (first_of (keys_of ks)) s.held)
+
+pub scan_given : {E : Type 0} (s : Spread) (ks : List KeyedIndex) (result : Result (List Tuples) E) → IfOk result (λ scan. held_from s.fields 0 (all_slots scan) ≡ s.held)
+    → IfOk result (λ scan. in_order (first_of (keys_of ks)) (rows_in s.fields scan) ≡ (standing_table s ks).rows)
+scan_given s ks (Ok scan) is = scan_is s ks scan is
+scan_given s ks (Err failed) is = tt

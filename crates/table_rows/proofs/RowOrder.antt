@@ -1,5 +1,5 @@
 -- The spellings of rows in some columns go as the rows do.
-use Rattle.std.proofs.Common.{◌≡◌, ℕ, zero, suc, ◌≤◌, Bool, true, false, cond, nat_le, List, [], ◌∷◌, length, ℤ, pos, negsuc, nat_abs, Option, Some, None, Result, Ok, Err, slice_get, refl, sym, ap, ◌∙◌, arith, FitsSigned}
+use Rattle.std.proofs.Common.{◌≡◌, ℕ, zero, suc, ◌≤◌, Bool, true, false, cond, List, [], ◌∷◌, length, ℤ, pos, negsuc, nat_abs, Option, Some, None, Result, Ok, Err, slice_get, refl, sym, ap, ◌∙◌, arith, FitsSigned}
 use Rattle.std.proofs.lemmas.Bool.{false≢true}
 use Rattle.std.proofs.lemmas.Bool.Decides.{nat_tests}
 use Rattle.std.proofs.lemmas.Int.{ints}
@@ -26,10 +26,10 @@ use Rattle.volt_value.specs.OrderLaws.{value_total}
 use Rattle.volt_index.specs.Keys.{IsHeld, AreHeld}
 use Rattle.volt_index.proofs.KeyOrder.{key_order}
 use Rattle.row_codec.specs.declared.field.Field.{Field}
-use Rattle.row_codec.specs.declared.fault.RowFault.{RowFault}
-use Rattle.row_codec.specs.Faults.{least, rank, value_fault, misfit_fault, columns_fault}
+use Rattle.row_codec.specs.Faults.{value_fault, misfit_fault, columns_fault}
 use Rattle.row_codec.specs.Packing.{IsRow}
 use Rattle.row_codec.proofs.CellLemmas.{fits_from_fault}
+use Rattle.row_codec.proofs.RowLemmas.{least_none}
 use Rattle.table_rows.specs.Order.{key_values, row_cmp, agree, row_key}
 use Rattle.table_rows.specs.Keyed.{placed_cmp}
 
@@ -51,21 +51,12 @@ value_held field Null h = tt
 value_held field (Int z) h = fits_held z field.kind (fits_from_fault field (Int z) h)
 value_held field (Text t) h = tt
 
-least_parts : (a b : Option RowFault) → least a b ≡ None → (a ≡ None) × (b ≡ None)
-least_parts None b h = (refl, h)
-least_parts (Some a) None h = absurd cc
-least_parts (Some a) (Some b) h = absurd (never (nat_le (rank a) (rank b)) h)
-  where
-    never : (c : Bool) → cond c (Some a) (Some b) ≡ None → ⊥
-    never true h = cc
-    never false h = cc
-
 values_held : (fields : List Field) (row : List Value) → length row ≡ length fields → columns_fault fields row ≡ None → AllByRecursion IsHeld row
 values_held [] [] count fits = tt
 values_held [] (v ∷ row) count fits = absurd cc
 values_held (f ∷ fields) [] count fits = absurd cc
 values_held (f ∷ fields) (v ∷ row) count fits =
-    let parts = least_parts (value_fault f v) (columns_fault fields row) fits in
+    let parts = least_none (value_fault f v) (columns_fault fields row) fits in
     (value_held f v parts.0, values_held fields row (cc) parts.1)
 
 value_at_held : (row : List Value) (column : ℕ) → AllByRecursion IsHeld row → IsHeld (unwrap_or (slice_get row column) Null)

@@ -99,7 +99,7 @@ pub slot_at-set : (slots : Slots) (i q : ℕ) (slot : Option (List ℕ)) → i <
 slot_at-set slots i q slot inside = elim (cases_eq q i) [
   | inl same ↦ ap (slot_at (slice_set slots i slot)) same ∙ get_or-set_same slots i slot None inside ∙ sym (ap (λ b. cond b slot (slot_at slots q)) (alike q i same))
   | inr other ↦ get_or-set_other slots i q slot None other ∙ sym (ap (λ b. cond b slot (slot_at slots q)) (apart q i other))
-  ]
+]
 
 cleared : (slots : Slots) (i : ℕ) → slot_at (slice_set slots i None) i ≡ None
 cleared [] i = refl
@@ -110,7 +110,7 @@ pub slot_at-clear : (slots : Slots) (i q : ℕ) → slot_at (slice_set slots i N
 slot_at-clear slots i q = elim (cases_eq q i) [
   | inl same ↦ ap (slot_at (slice_set slots i None)) same ∙ cleared slots i ∙ sym (ap (λ b. cond b None (slot_at slots q)) (alike q i same))
   | inr other ↦ get_or-set_other slots i q None None other ∙ sym (ap (λ b. cond b None (slot_at slots q)) (apart q i other))
-  ]
+]
 
 pub set_twice : (slots : Slots) (i : ℕ) (a b : Option (List ℕ)) → slice_set (slice_set slots i a) i b ≡ slice_set slots i b
 set_twice [] i a b = refl

@@ -65,7 +65,7 @@ slot_of_masked (Some p) slots i tuple is = chosen (eqb i p) (sym (slot_at-clear 
     chosen false h = h
 
 placed-slot : (fields : List Field) (place : ℕ) (tuple : List ℕ) → IsSlot fields place tuple → IsPlaced fields (place, row_of fields tuple)
-placed-slot fields place tuple slot = record { row = slot.fits.row; limit = slot.limit; }
+placed-slot fields place tuple slot = record { row = slot.fits.row; limit = slot.limit }
 
 from_zero : (fields : List Field) (place : ℕ) (tuple : List ℕ) → IsSlot fields place tuple → IsPlaced fields (0 + place, row_of fields tuple)
 from_zero fields place tuple slot = subst (λ p. IsPlaced fields (p, row_of fields tuple)) (omega arith) (placed-slot fields place tuple slot)
@@ -102,7 +102,7 @@ same_place : (q p : ℕ) → eqb q p ≡ true → q ≡ p
 same_place q p h = elim (cases_eq q p) [
   | inl same ↦ same
   | inr other ↦ absurd (apart_true (sym (apart q p other) ∙ h))
-  ]
+]
   where
     apart_true : false ≡ true → ⊥
     apart_true h = cc
@@ -163,7 +163,7 @@ ready-held fields slots place tuple = ap (held_from fields 0) (set_twice slots p
 pub ready-again : (fields : List Field) (rows : Rows) (place : ℕ) (tuple : List ℕ) → place < length rows.slots
     → spread_of fields (pane.with_row rows place (Some tuple)) (Some place) ≡ record (spread_of fields rows (Some place)) { ready = Some (place, row_of fields tuple) }
 ready-again fields rows place tuple inside =
-    ap₂ (λ (hs : List (ℕ × List Value)) (t : List ℕ). record { fields = fields; held = hs; ready = Some (place, row_of fields t); })
+    ap₂ (λ (hs : List (ℕ × List Value)) (t : List ℕ). record { fields = fields; held = hs; ready = Some (place, row_of fields t) })
     (ready-held fields rows.slots place tuple)
     (ap (λ o. unwrap_or o []) (slot_at-set rows.slots place place (Some tuple) inside ∙ ap (λ b. cond b (Some tuple) (slot_at rows.slots place)) (alike place place refl)))
 
@@ -176,7 +176,7 @@ pub ready-added : (fields : List Field) (rows : Rows) (place : ℕ) (tuple : Lis
 ready-added fields rows place tuple free held =
     let grown = (pane.with_place rows place).slots in
     let unchanged : slice_set grown place None ≡ grown = ap (slice_set grown place) (sym (slot_at-place rows place place ∙ free)) ∙ set_itself grown place in
-    ap₂ (λ (hs : List (ℕ × List Value)) (t : List ℕ). record { fields = fields; held = hs; ready = Some (place, row_of fields t); })
+    ap₂ (λ (hs : List (ℕ × List Value)) (t : List ℕ). record { fields = fields; held = hs; ready = Some (place, row_of fields t) })
     (ready-held fields grown place tuple ∙ ap (held_from fields 0) unchanged ∙ held_from-place fields rows place)
     (ap (λ o. unwrap_or o []) held)
 
@@ -192,7 +192,7 @@ pub stored-added : (fields : List Field) (rows : Rows) (place : ℕ) (tuple : Li
 stored-added fields rows place tuple stored held slot =
     let inside : place < length (pane.with_place rows place).slots = subst (λ n. place < n) (length-set (pane.with_place rows place).slots place (Some tuple)) (within (after_add rows place tuple).slots place tuple held) in
     let set = stored-set fields (pane.with_place rows place) None place tuple (stored-place fields rows place stored) inside slot in
-    record { width = set.width; slots = set.slots; held = subst IsSome (sym held) refl; }
+    record { width = set.width; slots = set.slots; held = subst IsSome (sym held) refl }
 
 -- ---- and is accepted
 
@@ -202,16 +202,17 @@ accepted fields rows place held = of (slot_at rows.slots place) refl held
   where
     put_back : (tuple : List ℕ) → slot_at rows.slots place ≡ Some tuple → slice_set (slice_set rows.slots place None) place (Some tuple) ≡ rows.slots
     put_back tuple is = set_twice rows.slots place None (Some tuple) ∙ ap (slice_set rows.slots place) (sym is) ∙ set_itself rows.slots place
+
     of : (slot : Option (List ℕ)) → slot_at rows.slots place ≡ slot → IsSome slot
-        → spread_of fields rows None ≡ record { fields = fields; held = with_row (held_from fields 0 (slice_set rows.slots place None)) place (row_of fields (unwrap_or slot [])); ready = None; }
+        → spread_of fields rows None ≡ record { fields = fields; held = with_row (held_from fields 0 (slice_set rows.slots place None)) place (row_of fields (unwrap_or slot [])); ready = None }
     of None is h = absurd (false≢true h)
     of (Some tuple) is h =
-        ap (λ (hs : List (ℕ × List Value)). record { fields = fields; held = hs; ready = None; })
+        ap (λ (hs : List (ℕ × List Value)). record { fields = fields; held = hs; ready = None })
         (ap (held_from fields 0) (sym (put_back tuple is))
         ∙ held_from-set fields 0 place place (slice_set rows.slots place None) tuple (omega arith) (subst (λ n. place < n) (sym (length-set rows.slots place None)) (within rows.slots place tuple is)))
 
 pub stored-accepted : (fields : List Field) (rows : Rows) (spare : Option ℕ) → IsStored fields rows spare → IsStored fields rows None
-stored-accepted fields rows spare stored = record { width = stored.width; slots = stored.slots; held = tt; }
+stored-accepted fields rows spare stored = record { width = stored.width; slots = stored.slots; held = tt }
 
 -- ---- a row in the place of another, and a place that is freed
 
@@ -234,7 +235,7 @@ kept-ready fields rows (Some p) place slot other = ap (λ o. Some (p, row_of fie
 pub put-held : (fields : List Field) (rows : Rows) (spare : Option ℕ) (place : ℕ) (tuple : List ℕ) → place < length rows.slots → IsOther spare place
     → spread_of fields (pane.with_row rows place (Some tuple)) spare ≡ record (spread_of fields rows spare) { held = with_row (spread_of fields rows spare).held place (row_of fields tuple) }
 put-held fields rows spare place tuple inside other =
-    ap₂ (λ (hs : List (ℕ × List Value)) (ready : Option (ℕ × List Value)). record { fields = fields; held = hs; ready = ready; })
+    ap₂ (λ (hs : List (ℕ × List Value)) (ready : Option (ℕ × List Value)). record { fields = fields; held = hs; ready = ready })
     (ap (held_from fields 0) (masked-set spare rows.slots place (Some tuple) other)
     ∙ held_from-set fields 0 place place (masked spare rows.slots) tuple (omega arith) (subst (λ n. place < n) (sym (length-masked spare rows.slots)) inside))
     (kept-ready fields rows spare place (Some tuple) other)
@@ -242,7 +243,7 @@ put-held fields rows spare place tuple inside other =
 pub take-held : (fields : List Field) (rows : Rows) (spare : Option ℕ) (place : ℕ) → IsOther spare place
     → spread_of fields (pane.with_row rows place None) spare ≡ record (spread_of fields rows spare) { held = without_row (spread_of fields rows spare).held place }
 take-held fields rows spare place other =
-    ap₂ (λ (hs : List (ℕ × List Value)) (ready : Option (ℕ × List Value)). record { fields = fields; held = hs; ready = ready; })
+    ap₂ (λ (hs : List (ℕ × List Value)) (ready : Option (ℕ × List Value)). record { fields = fields; held = hs; ready = ready })
     (ap (held_from fields 0) (masked-set spare rows.slots place None other) ∙ held_from-clear fields 0 place place (masked spare rows.slots) (omega arith))
     (kept-ready fields rows spare place None other)
 
@@ -284,7 +285,7 @@ over-slot : (fields : List Field) (rows new : Rows) (spare : Option ℕ) (place 
     → new ≡ pane.with_row rows q (Some tuple) → IsStored fields new spare
 over-slot fields rows new spare place q tuple stored held fits same is =
     subst (λ (r : Rows). IsStored fields r spare) (sym (is ∙ ap (λ p. pane.with_row rows p (Some tuple)) same))
-    (stored-set fields rows spare place tuple stored (within-held rows.slots place held) (record { fits = fits; limit = limit-held fields rows spare place stored held; }))
+    (stored-set fields rows spare place tuple stored (within-held rows.slots place held) (record { fits = fits; limit = limit-held fields rows spare place stored held }))
 
 pub put-stored : (fields : List Field) (rows new : Rows) (spare : Option ℕ) (place q : ℕ) (tuple : List ℕ) → IsStored fields rows spare → IsThere fields rows spare place → IsTuple fields tuple → q ≡ place
     → new ≡ pane.with_row rows q (Some tuple) → IsStored fields new spare
@@ -329,7 +330,7 @@ pub added-stored : (fields : List Field) (rows new : Rows) (spare : Option ℕ) 
 added-stored fields rows new spare place q tuple stored spare-is limit same fits is held =
     subst (λ p. IsStored fields new (Some p)) (sym same)
     (subst (λ (r : Rows). IsStored fields r (Some place)) (sym is)
-    (stored-added fields rows place tuple (subst (IsStored fields rows) spare-is stored) (subst (λ (r : Rows). slot_at r.slots place ≡ Some tuple) is held) (record { fits = fits; limit = subst (λ p. p < 2 ^ 28) same limit; })))
+    (stored-added fields rows place tuple (subst (IsStored fields rows) spare-is stored) (subst (λ (r : Rows). slot_at r.slots place ≡ Some tuple) is held) (record { fits = fits; limit = subst (λ p. p < 2 ^ 28) same limit })))
 
 pub added-is : (fields : List Field) (rows new : Rows) (spare : Option ℕ) (place q : ℕ) (tuple : List ℕ) → spare ≡ None → q ≡ place → slot_at rows.slots place ≡ None → new ≡ after_add rows place tuple → slot_at new.slots place ≡ Some tuple
     → spread_of fields new (Some q) ≡ record (spread_of fields rows spare) { ready = Some (q, row_of fields tuple) }
@@ -351,3 +352,22 @@ read-fits fields rows spare q result t stored is some = (stored.slots q t.now (s
 pub read-none : (fields : List Field) (rows : Rows) (spare : Option ℕ) (place q : ℕ) (result : Option (Bor (List ℕ))) → IsThere fields rows spare place → q ≡ place → option_copied result ≡ slot_at rows.slots q → result ≡ None → ⊥
 read-none fields rows spare place q result there same is none =
     false≢true (ap (λ (o : Option (List ℕ)). is_some o) (sym (ap option_copied none)) ∙ ap (λ (o : Option (List ℕ)). is_some o) is ∙ slot-there fields rows spare place q there same)
+
+-- ---- the spare place is freed
+
+pub spare-there : (fields : List Field) (rows : Rows) (spare : Option ℕ) (place q : ℕ) → IsStored fields rows spare → spare ≡ Some place → q ≡ place → IsSome (slot_at rows.slots q)
+spare-there fields rows spare place q stored is same = subst (λ p. IsSome (slot_at rows.slots p)) (sym same) (spare-held rows spare place is stored.held)
+
+pub freed-stored : (fields : List Field) (rows new : Rows) (spare : Option ℕ) (place q : ℕ) → IsStored fields rows spare → q ≡ place → new ≡ pane.with_row rows q None → IsStored fields new None
+freed-stored fields rows new spare place q stored same is =
+    subst (λ (r : Rows). IsStored fields r None) (sym (is ∙ ap (λ p. pane.with_row rows p None) same)) (stored-clear fields rows None place (stored-accepted fields rows spare stored) tt)
+
+pub freed-is : (fields : List Field) (rows new : Rows) (spare : Option ℕ) (place q : ℕ) → spare ≡ Some place → q ≡ place → new ≡ pane.with_row rows q None
+    → spread_of fields new None ≡ record (spread_of fields rows spare) { ready = None }
+freed-is fields rows new spare place q spare_is same is =
+    ap (λ (r : Rows). spread_of fields r None) (is ∙ ap (λ p. pane.with_row rows p None) same)
+    ∙ sym (ap (λ (o : Option ℕ). record (spread_of fields rows o) { ready = None }) spare_is)
+
+pub none-ready : (fields : List Field) (rows : Rows) (spare : Option ℕ) → (spread_of fields rows spare).ready ≡ None → held_from fields 0 rows.slots ≡ (spread_of fields rows spare).held
+none-ready fields rows None none = refl
+none-ready fields rows (Some p) none = absurd cc

@@ -70,14 +70,14 @@ deleted_is fields keys held place old key rising rows apart there has =
     let is-old : IsRow fields old = All-row_at (λ e. IsRow fields e.1) held place old rows there in
     let others : AreOthers columns old rest = others_without columns held place old apart there in
     let differ : AllByRecursion (λ (r : List Value). (has_key columns key r ≡ false) × (row_cmp columns old r ≡ Equal → ⊥)) (map (λ (e : ℕ × List Value). e.1) ordered)
-        = All-map (λ (r : List Value). (has_key columns key r ≡ false) × (row_cmp columns old r ≡ Equal → ⊥)) (λ (e : ℕ × List Value). e.1) ordered
-          (All-both (λ e. IsRow fields e.1) (λ e. row_cmp columns old e.1 ≡ Equal → ⊥) (λ e. (has_key columns key e.1 ≡ false) × (row_cmp columns old e.1 ≡ Equal → ⊥))
-           (λ e is-e other. (other_key fields columns key old e.1 is-old is-e has other, other)) ordered
-           (All-in_order columns (λ e. IsRow fields e.1) rest rest-rows) (All-in_order columns (λ e. row_cmp columns old e.1 ≡ Equal → ⊥) rest others)) in
+    = All-map (λ (r : List Value). (has_key columns key r ≡ false) × (row_cmp columns old r ≡ Equal → ⊥)) (λ (e : ℕ × List Value). e.1) ordered
+    (All-both (λ e. IsRow fields e.1) (λ e. row_cmp columns old e.1 ≡ Equal → ⊥) (λ e. (has_key columns key e.1 ≡ false) × (row_cmp columns old e.1 ≡ Equal → ⊥))
+    (λ e is-e other. (other_key fields columns key old e.1 is-old is-e has other, other)) ordered
+    (All-in_order columns (λ e. IsRow fields e.1) rest rest-rows) (All-in_order columns (λ e. row_cmp columns old e.1 ≡ Equal → ⊥) rest others)) in
     let whole : map (λ (e : ℕ × List Value). e.1) (in_order_by (placed_cmp columns) held) ≡ insert_key (row_cmp columns) (map (λ (e : ℕ × List Value). e.1) ordered) old
-        = ap (λ hs. map (λ (e : ℕ × List Value). e.1) (in_order_by (placed_cmp columns) hs)) (sym (with_back held place old rising there))
-          ∙ ap (map (λ (e : ℕ × List Value). e.1)) (order_with columns rest place old (without_elsewhere held place rising) others)
-          ∙ rows_insert columns ordered (place, old) in
+    = ap (λ hs. map (λ (e : ℕ × List Value). e.1) (in_order_by (placed_cmp columns) hs)) (sym (with_back held place old rising there))
+    ∙ ap (map (λ (e : ℕ × List Value). e.1)) (order_with columns rest place old (without_elsewhere held place rising) others)
+    ∙ rows_insert columns ordered (place, old) in
     ap (λ (rows : List (List Value)). record { schema = record { fields = fields; keys = keys }; rows = rows })
     (sym (ap (remove_key (has_key columns key)) whole
     ∙ remove_inserted (row_cmp columns) (has_key columns key) old (map (λ (e : ℕ × List Value). e.1) ordered) has differ))
@@ -108,10 +108,11 @@ AreThere held es = AllByRecursion (λ e. row_at held e.0 ≡ Some e.1) es
 
 pub all_there : (held : Held) → AreRising held → AreThere held held
 all_there [] rising = tt
-all_there (e ∷ held) rising =
-    (at_same e.0 e held refl,
-     All-both (λ f. e.0 < f.0) (λ f. row_at held f.0 ≡ Some f.1) (λ f. row_at (e ∷ held) f.0 ≡ Some f.1)
-     (λ f behind there. at_other f.0 e held (λ same. omega arith) ∙ there) held rising.0 (all_there held rising.1))
+all_there (e ∷ held) rising = (
+  at_same e.0 e held refl,
+  All-both (λ f. e.0 < f.0) (λ f. row_at held f.0 ≡ Some f.1) (λ f. row_at (e ∷ held) f.0 ≡ Some f.1)
+      (λ f behind there. at_other f.0 e held (λ same. omega arith) ∙ there) held rising.0 (all_there held rising.1),
+)
 
 found_step : (held : Held) (columns key : List ℕ) (es : Held) → AreThere held es → find_row (has_key columns key) (map (λ e. e.1) es) ≡ option_and_then (row_at held) (lookup (bytes_eq key) (map (entry_of columns) es))
 found_step held columns key [] there = refl
@@ -166,7 +167,7 @@ pub range_is : (fields : List Field) (keys : List (List ℕ)) (held : Held) (col
 range_is fields keys held columns from to rising first-apart apart =
     range_step held columns from to (in_order_by (placed_cmp columns) held) (All-in_order columns (λ e. row_at held e.0 ≡ Some e.1) held (all_there held rising))
     ∙ ap (filter (λ (row : List Value). in_range from to (row_key columns row)))
-      (ap (map (λ (e : ℕ × List Value). e.1)) (sym (order_again (first_of keys) columns held first-apart apart)) ∙ rows_order columns (in_order_by (placed_cmp (first_of keys)) held))
+    (ap (map (λ (e : ℕ × List Value). e.1)) (sym (order_again (first_of keys) columns held first-apart apart)) ∙ rows_order columns (in_order_by (placed_cmp (first_of keys)) held))
 
 -- a place of the range has a row
 pub range_held : (held : Held) (columns : List ℕ) (from to : Option (List ℕ)) → AreRising held → AllByRecursion (λ place. IsHeldAt held place) (places_between from to (contents_of columns held))

@@ -9,7 +9,9 @@ use Rattle.table_rows.specs.Held.{row_at}
 use Rattle.table_rows.specs.Order.{in_order_by}
 use Rattle.table_rows.specs.Table.{Schema, Table, IsSchema, first_of, has_key}
 use Rattle.table_rows.specs.Keyed.{placed_cmp, IsKept}
-use Rattle.table_rows.specs.Spread.{Spread}
+use Rattle.tuple_block.specs.Tuples.{Tuples}
+use Rattle.pane_index.specs.Blocks.{all_slots}
+use Rattle.table_rows.specs.Spread.{Spread, held_from}
 use Rattle.table_rows.specs.declared.keyed.KeyedIndex.{KeyedIndex}
 
 -- the columns of each index
@@ -40,6 +42,10 @@ pub record IsStanding (slots : Spread) (indexes : List KeyedIndex) : Type 0 wher
 -- the rows at some places, one after another
 abbrev pub rows_at : List (ℕ × List Value) → List ℕ → List (List Value)
 rows_at held places = map (λ place. unwrap_or (row_at held place) []) places
+
+-- the rows in blocks, in order of their places
+abbrev pub rows_in : List Field → List Tuples → List (List Value)
+rows_in fields blocks = map (λ e. e.1) (held_from fields 0 (all_slots blocks))
 
 -- a row is at this place
 abbrev pub IsHeldAt : List (ℕ × List Value) → ℕ → Type 0

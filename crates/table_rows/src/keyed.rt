@@ -43,12 +43,7 @@ fn push(key: &mut Key, cell: Cell<'_>) -> Result<(), AllocError>
 }
 
 /// Makes a key that of a tuple in some columns.
-fn spell(
-    key: &mut Key,
-    layout: &RowLayout,
-    columns: &[u8],
-    tuple: &[u8],
-) -> Result<(), AllocError>
+fn spell(key: &mut Key, layout: &RowLayout, columns: &[u8], tuple: &[u8]) -> Result<(), AllocError>
     requires columns { has_columns layout.now columns.now ≡ true }
     requires tuple { IsTuple layout.now tuple.now }
     ensures { OnOk result (key.new ≡ row_key columns.now (row_of layout.now tuple.now)) }
@@ -86,7 +81,11 @@ fn key_in(alloc: Global, columns: &[u8], row: &[Value]) -> Result<Key, AllocErro
 }
 
 /// A row's values in the columns of the first index, spelled.
-pub(crate) fn first_key(alloc: Global, indexes: &[KeyedIndex], row: &[Value]) -> Result<Key, AllocError>
+pub(crate) fn first_key(
+    alloc: Global,
+    indexes: &[KeyedIndex],
+    row: &[Value],
+) -> Result<Key, AllocError>
     ensures { IfOk result (λ key. key ≡ row_key (first_of (standing.keys_of indexes.now)) row.now) }
 {
     match indexes {

@@ -6,14 +6,15 @@ ghost use Rattle.std.specs.Prelude.{[], slice_get};
 ghost use Rattle.row_codec.specs.declared.fault.RowFault.{RowFault};
 ghost use Rattle.row_codec.specs.Faults.{columns_fault};
 ghost use Rattle.row_codec.specs.Packing.{row_of, IsTuple};
-ghost use Rattle.table_rows.specs.Order.{row_key};
+ghost use Rattle.table_rows.specs.Standing.{rows_in};
+ghost use Rattle.table_rows.specs.Order.{row_key, in_order};
 ghost use Rattle.table_rows.specs.Table.{no_rows, inserted, deleted, updated, row_fault, row_of_key, rows_between, primary_key, duplicate_if, has_like, CanInsert, CanUpdate, IsSchema};
 
-use crate::changes;
-use crate::keyed;
 use crate::keyed::KeyedIndex;
 use crate::row::{Row, Rows};
 use crate::slots::Slots;
+use crate::{changes, keyed};
+use cow_scan::CowScan;
 use row_codec::{RowFault, RowLayout};
 use std::alloc::{AllocError, Global};
 use std::marker::Model;
@@ -47,7 +48,11 @@ impl Model for TableRows {
 
 impl TableRows {
     /// A table without rows, of columns and keys.
-    pub fn new(alloc: Global, layout: RowLayout, keys: Vec<ColumnNos>) -> Result<TableRows, AllocError>
+    pub fn new(
+        alloc: Global,
+        layout: RowLayout,
+        keys: Vec<ColumnNos>,
+    ) -> Result<TableRows, AllocError>
         requires { IsSchema (record { fields = layout; keys = keys.items }) }
         ensures { IfOk result (λ table. table ≡ no_rows (record { fields = layout; keys = keys.items })) }
     {
@@ -95,7 +100,11 @@ impl TableRows {
     {
         let mut tuple = Vec::new(self.alloc);
         changes::pack(self.slots.layout(), row, &mut tuple)?;
-        changes::put_in(&mut self.slots, self.indexes.as_mut_slice(), tuple.as_slice())
+        changes::put_in(
+            &mut self.slots,
+            self.indexes.as_mut_slice(),
+            tuple.as_slice(),
+        )
     }
 
     /// Takes out the row whose primary key this is, and answers whether there was one. Out of memory,
@@ -172,5 +181,15 @@ impl TableRows {
             slots: &self.slots,
             places: self.indexes[number].index.range(from, to),
         }
+    }
+
+    /// A scan whose blocks have the rows as they stand, whatever is changed later. The table is the
+    /// same after it, also where it runs out of memory. No row is copied.
+    pub fn share(&mut self) -> Result<CowScan, AllocError>
+        ensures scan { IfOk result (λ scan.
+            in_order (primary_key self.old.schema) (rows_in self.old.schema.fields scan) ≡ self.old.rows) }
+        ensures kept { self.new ≡ self.old }
+    {
+        self.slots.share()
     }
 }

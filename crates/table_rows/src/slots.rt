@@ -4,9 +4,11 @@ ghost use Rattle.std.specs.Prelude.{◌≡◌, Some, None, IsSome, IfOk, IfSome,
 ghost use Rattle.row_codec.specs.Packing.{row_of, IsTuple};
 ghost use Rattle.table_rows.specs.Held.{row_at, with_row, without_row};
 ghost use Rattle.table_rows.specs.Spread as spread;
-ghost use Rattle.table_rows.specs.Spread.{IsSpread};
+ghost use Rattle.pane_index.specs.Blocks.{all_slots};
+ghost use Rattle.table_rows.specs.Spread.{IsSpread, held_from};
 
 use crate::row::Row;
+use cow_scan::CowScan;
 use pane_index::{Pane, Place};
 use row_codec::RowLayout;
 use std::alloc::{AllocError, Global};
@@ -128,5 +130,29 @@ impl Slots {
     {
         self.pane.take(Place::new(place))?;
         Ok(())
+    }
+
+    /// Frees the spare place. Out of memory, all is as before.
+    fn free_spare(&mut self) -> Result<(), AllocError>
+        ensures freed { OnOk result (self.new ≡ record self.old { ready = None }) }
+        ensures kept { OnErr result (self.new ≡ self.old) }
+    {
+        let Some(place) = self.spare else {
+            return Ok(());
+        };
+        self.pane.take(Place::new(place))?;
+        self.spare = None;
+        Ok(())
+    }
+
+    /// A scan whose blocks have the rows as they stand, at their places. The rows are the same after
+    /// it, also where it runs out of memory.
+    pub(crate) fn share(&mut self) -> Result<CowScan, AllocError>
+        ensures scan { IfOk result (λ scan. held_from self.old.fields 0 (all_slots scan) ≡ self.old.held) }
+        ensures fields { self.new.fields ≡ self.old.fields }
+        ensures held { self.new.held ≡ self.old.held }
+    {
+        self.free_spare()?;
+        self.pane.share()
     }
 }

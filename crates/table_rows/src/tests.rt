@@ -42,7 +42,13 @@ fn person(alloc: Global, id: i64, name: &str, sum: Value) -> Result<[Value; 3], 
 }
 
 /// Puts a person in.
-fn put(alloc: Global, table: &mut TableRows, id: i64, name: &str, sum: Value) -> Result<(), RowFault> {
+fn put(
+    alloc: Global,
+    table: &mut TableRows,
+    id: i64,
+    name: &str,
+    sum: Value,
+) -> Result<(), RowFault> {
     let row = person(alloc, id, name, sum)?;
     if table.layout().fields().len() != row.len() {
         return Err(RowFault::NoMemory);
@@ -51,7 +57,13 @@ fn put(alloc: Global, table: &mut TableRows, id: i64, name: &str, sum: Value) ->
 }
 
 /// Gives a person another name and sum.
-fn change(alloc: Global, table: &mut TableRows, id: i64, name: &str, sum: Value) -> Result<bool, RowFault> {
+fn change(
+    alloc: Global,
+    table: &mut TableRows,
+    id: i64,
+    name: &str,
+    sum: Value,
+) -> Result<bool, RowFault> {
     let row = person(alloc, id, name, sum)?;
     if table.layout().fields().len() != row.len() {
         return Err(RowFault::NoMemory);
@@ -111,14 +123,32 @@ fn faults_of_rows_come_in_order(rt: HostRuntime) -> Result<(), Fail> {
     let alloc = rt.alloc();
     let mut table = people(alloc)?;
     assert_eq!(rt; put(alloc, &mut table, 1, "b", Value::Int(5)), Ok(()));
-    assert_eq!(rt; put(alloc, &mut table, 1, "c", Value::Null), Err(RowFault::Duplicate));
-    assert_eq!(rt; put(alloc, &mut table, 2, "b", Value::Null), Err(RowFault::Duplicate));
-    assert_eq!(rt; put(alloc, &mut table, 1, "abcde", Value::Null), Err(RowFault::TooLong));
-    assert_eq!(rt; put(alloc, &mut table, 2147483648, "abcde", Value::Null), Err(RowFault::OutOfRange));
+    assert_eq!(rt;
+        put(alloc, &mut table, 1, "c", Value::Null),
+        Err(RowFault::Duplicate)
+    );
+    assert_eq!(rt;
+        put(alloc, &mut table, 2, "b", Value::Null),
+        Err(RowFault::Duplicate)
+    );
+    assert_eq!(rt;
+        put(alloc, &mut table, 1, "abcde", Value::Null),
+        Err(RowFault::TooLong)
+    );
+    assert_eq!(rt;
+        put(alloc, &mut table, 2147483648, "abcde", Value::Null),
+        Err(RowFault::OutOfRange)
+    );
     assert_eq!(rt; numbers(alloc, &table, 1, None, None)?, 1);
     assert_eq!(rt; put(alloc, &mut table, 2, "c", Value::Int(5)), Ok(()));
-    assert_eq!(rt; change(alloc, &mut table, 2, "b", Value::Null), Err(RowFault::Duplicate));
-    assert_eq!(rt; change(alloc, &mut table, 2, "abcde", Value::Null), Err(RowFault::TooLong));
+    assert_eq!(rt;
+        change(alloc, &mut table, 2, "b", Value::Null),
+        Err(RowFault::Duplicate)
+    );
+    assert_eq!(rt;
+        change(alloc, &mut table, 2, "abcde", Value::Null),
+        Err(RowFault::TooLong)
+    );
     assert_eq!(rt; numbers(alloc, &table, 2, None, None)?, 12);
     Ok(())
 }
@@ -130,7 +160,10 @@ fn rows_are_changed_and_taken_out(rt: HostRuntime) -> Result<(), Fail> {
     assert_eq!(rt; put(alloc, &mut table, 1, "b", Value::Int(5)), Ok(()));
     assert_eq!(rt; put(alloc, &mut table, 2, "c", Value::Int(6)), Ok(()));
     assert_eq!(rt; change(alloc, &mut table, 1, "d", Value::Int(5)), Ok(true));
-    assert_eq!(rt; change(alloc, &mut table, 3, "abcde", Value::Null), Ok(false));
+    assert_eq!(rt;
+        change(alloc, &mut table, 3, "abcde", Value::Null),
+        Ok(false)
+    );
     assert_eq!(rt; change(alloc, &mut table, 2, "b", Value::Int(4)), Ok(true));
     assert_eq!(rt; numbers(alloc, &table, 1, None, None)?, 21);
     assert_eq!(rt; numbers(alloc, &table, 2, None, None)?, 21);

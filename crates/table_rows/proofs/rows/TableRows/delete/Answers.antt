@@ -27,7 +27,7 @@ returns-in_ok-take_out-in-Some-clause-back c = λ done.
     let keys = rw c.as_mut_slice.ensures.value at c.take_out.ensures.keys in
     rw (← c.self.view_is)
     (subst (λ (ls : List KeyedIndex). IfSome (row_of_key (standing_table c.self.inside.slots c.self.inside.indexes.items) c.args.key.now)
-      (λ row. (inserted (standing_table c.take_out.new.slots ls) row ≡ standing_table c.self.inside.slots c.self.inside.indexes.items) × CanInsert (standing_table c.take_out.new.slots ls) row))
+    (λ row. (inserted (standing_table c.take_out.new.slots ls) row ≡ standing_table c.self.inside.slots c.self.inside.indexes.items) × CanInsert (standing_table c.take_out.new.slots ls) row))
     (sym (items_after c.self.inside.indexes c.take_out.new.indexes keys))
     (delete_undone c.self.inside.slots c.take_out.new.slots c.self.inside.indexes.items c.take_out.new.indexes c.in-Some.place c.args.key.now
     c.place_of.ensures.spread c.self.invariant held row c.in_ok-take_out-in-Some.ensures.taken keys))

@@ -73,7 +73,7 @@ returns-in_ok-put_over-in-Some-clause-back c = λ done.
     let stays = rw (← c.self.view_is) at c.requires.stays in
     rw (← c.self.view_is)
     (subst (λ (ls : List KeyedIndex). IfSome (row_of_key (standing_table c.self.inside.slots c.self.inside.indexes.items) c.args.key.now)
-      (λ row. (updated (standing_table c.put_over.new.slots ls) row ≡ standing_table c.self.inside.slots c.self.inside.indexes.items) × CanUpdate (standing_table c.put_over.new.slots ls) row))
+    (λ row. (updated (standing_table c.put_over.new.slots ls) row ≡ standing_table c.self.inside.slots c.self.inside.indexes.items) × CanUpdate (standing_table c.put_over.new.slots ls) row))
     (sym (items_after c.self.inside.indexes c.put_over.new.indexes keys))
     (update_undone c.self.inside.slots c.put_over.new.slots c.self.inside.indexes.items c.put_over.new.indexes c.in-Some.place c.args.key.now (row_of c.self.inside.slots.fields c.as_slice-in-Some.result.now)
     c.place_of.ensures.spread c.self.invariant held row (stays ∙ ap (row_key (first_of (keys_of c.self.inside.indexes.items))) (sym packed)) fits c.in_ok-put_over-in-Some.ensures.put keys free))
