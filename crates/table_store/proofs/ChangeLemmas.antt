@@ -21,9 +21,10 @@ IsNoted steps after tables now next = AreUndoable after now × (record { now = n
 
 noted : (steps after : List Step) (step : Step) (tables : List Table) (number : ℕ) (new next : Table) → after ≡ steps ++ step ∷ [] → undone step (with_table tables number new) ≡ tables
     → CanUndo step (with_table tables number new) → new ≡ next → AreUndoable steps tables → IsNoted steps after tables (with_table tables number new) (with_table tables number next)
-noted steps after step tables number new next after_is back can new_is are =
-    (noted_undoable steps after step tables (with_table tables number new) after_is back can are,
-     noted_store steps after step tables (with_table tables number new) (with_table tables number next) after_is back (ap (with_table tables number) new_is))
+noted steps after step tables number new next after_is back can new_is are = (
+  noted_undoable steps after step tables (with_table tables number new) after_is back can are,
+  noted_store steps after step tables (with_table tables number new) (with_table tables number next) after_is back (ap (with_table tables number) new_is),
+)
 
 still_within : (tables : List Table) (number : ℕ) (new : Table) → number < length tables → number < length (with_table tables number new)
 still_within tables number new within = subst (λ n. number < n) (sym (length-with tables number new)) within
@@ -73,9 +74,11 @@ update_done steps after tables number key old_key step row packed old held t u v
     let here_after = at_with tables number new within in
     noted steps after step tables number new (updated (table_at tables number) row) after_is
     (undone_is ∙ back_with (λ (x : Table). updated x packed) tables number new within (ap (updated new) packed_is ∙ undoes.0 ∙ at))
-    (can_is (still_within tables number new within,
-       subst (λ (x : Table). old_key ≡ row_key (primary_key x.schema) packed) (sym here_after) (key_is ∙ ap (λ x. row_key (primary_key x) packed) schema),
-       subst (λ (x : Table). CanUpdate x packed) (sym here_after) (subst (CanUpdate new) (sym packed_is) undoes.1)))
+    (can_is (
+      still_within tables number new within,
+      subst (λ (x : Table). old_key ≡ row_key (primary_key x.schema) packed) (sym here_after) (key_is ∙ ap (λ x. row_key (primary_key x) packed) schema),
+      subst (λ (x : Table). CanUpdate x packed) (sym here_after) (subst (CanUpdate new) (sym packed_is) undoes.1),
+    ))
     (new_is is ∙ ap (λ (x : Table). updated x row) at) are
 
 -- ---- what was there before

@@ -11,7 +11,7 @@ pub not_below : (m n : ℕ) → (m < n → false ≡ true) → n ≤ m
 not_below m n h = elim (cases_lt m n) [
   | inl lt ↦ absurd (false≢true (h lt))
   | inr le ↦ le
-  ]
+]
 
 pub popped : (steps before : List Step) (step : Step) (tables : List Table) → before ≡ steps ++ step ∷ [] → AreUndoable before tables → CanUndo step tables × AreUndoable steps (undone step tables)
 popped steps before step tables is are = undoable_pop steps step tables (subst (λ ss. AreUndoable ss tables) is are)

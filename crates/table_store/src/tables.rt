@@ -4,14 +4,19 @@ ghost use Rattle.std.specs.Prelude.{◌≡◌, ◌⊎◌, ◌+◌, ◌<◌, ◌�
 ghost use Rattle.row_codec.specs.declared.fault.RowFault.{RowFault};
 ghost use Rattle.table_rows.specs.Order.{row_key};
 ghost use Rattle.table_rows.specs.Table.{inserted, deleted, updated, row_fault, row_of_key, primary_key};
+ghost use Rattle.table_store.specs.Scans.{IsScanOf, AreScans};
+ghost use Rattle.table_store.specs.Schemas.{empty_tables};
 ghost use Rattle.table_store.specs.Steps.{table_at, with_table, changed, history};
 
+use crate::schema::empty_table;
 use crate::step::Step;
+use cow_scan::CowScan;
 use row_codec::RowFault;
 use std::alloc::{AllocError, Global};
 use std::marker::Model;
 use table_rows::TableRows;
 use undo_log::{Mark, Undo};
+use volt_catalog::Catalog;
 use volt_index::Key;
 use volt_value::Value;
 
@@ -44,6 +49,22 @@ impl Tables {
             tables,
             undo: Undo::new(alloc),
         }
+    }
+
+    /// The tables of a catalog, without rows, numbered as there.
+    pub fn new(alloc: Global, catalog: &Catalog) -> Result<Tables, AllocError>
+        ensures { IfOk result (λ tables. tables ≡ empty_tables catalog.now) }
+    {
+        let indexes = catalog.indexes();
+        let mut tables = Vec::new(alloc);
+        let mut left = catalog.tables();
+        let mut number = 0u16;
+        while let [table, rest @ ..] = left {
+            tables.push(empty_table(alloc, number, table, indexes)?)?;
+            number += 1;
+            left = rest;
+        }
+        Ok(Tables::of(alloc, tables))
     }
 
     /// How many tables there are.
@@ -132,6 +153,28 @@ impl Tables {
         ensures { result ≡ length self.now.past }
     {
         self.undo.mark()
+    }
+
+    /// A scan of the table at a place.
+    fn share(&mut self, at: usize) -> Result<CowScan, AllocError>
+        requires { at < length self.old.now }
+        ensures scan { IfOk result (IsScanOf (table_at self.old.now at)) }
+        ensures kept { self.new ≡ self.old }
+    {
+        self.tables[at].share()
+    }
+
+    /// A scan of each table, whose blocks have its rows as they stand, whatever is changed later. The
+    /// tables are the same after it, also where it runs out of memory. No row is copied.
+    pub fn share_blocks(&mut self) -> Result<Vec<CowScan>, AllocError>
+        ensures scans { IfOk result (λ scans. AreScans self.old.now scans.items) }
+        ensures kept { self.new ≡ self.old }
+    {
+        let mut scans = Vec::new(self.alloc);
+        for at in 0..self.tables.len() {
+            scans.push(self.share(at)?)?;
+        }
+        Ok(scans)
     }
 
     /// Undoes the newest change above a mark, and answers whether there was one. Out of memory, all

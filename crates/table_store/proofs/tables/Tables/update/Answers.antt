@@ -51,7 +51,7 @@ pub returns-clause-accepted : goal.returns-clause-accepted
 returns-clause-accepted c = λ done.
     let within = rw (← c.self.view_is) at c.requires.number in
     let is = held_true c.self.inside.tables.items c.args.number c.args.key.now c.in-Some.old c.in_ok-update.field-0 c.index_mut.result.now c.index.result.now
-      within c.index_mut.ensures.value c.index.ensures (sym c.in-Some.is ∙ c.get.ensures) c.in_ok-update.ensures.held in
+    within c.index_mut.ensures.value c.index.ensures (sym c.in-Some.is ∙ c.get.ensures) c.in_ok-update.ensures.held in
     rw (← c.self.view_is)
     (at_number (λ (t : Table). row_fault (deleted t c.args.key.now) c.args.row.now ≡ None) c.self.inside.tables.items c.args.number c.index_mut.result.now within c.index_mut.ensures.value
     (c.in_ok-update.ensures.accepted (ap Ok is)))
