@@ -16,7 +16,7 @@ use Rattle.row_codec.proofs.CellLemmas.{fits_from_fault, value_back, width_is}
 
 -- ---- the least fault
 
-least_none : (a b : Option RowFault) → least a b ≡ None → (a ≡ None) × (b ≡ None)
+pub least_none : (a b : Option RowFault) → least a b ≡ None → (a ≡ None) × (b ≡ None)
 least_none None b h = (refl, h)
 least_none (Some a) None h = absurd cc
 least_none (Some a) (Some b) h = absurd (never (nat_le (rank a) (rank b)) h)

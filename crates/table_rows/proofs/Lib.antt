@@ -1,0 +1,13 @@
+pub mod Inserts
+pub mod HeldLemmas
+pub mod SlotLemmas
+pub mod SpreadLemmas
+pub mod EntryLemmas
+pub mod RowOrder
+pub mod PlacedOrder
+pub mod IndexChanges
+pub mod KeyedChanges
+pub mod TableChanges
+pub mod ChangeLemmas
+pub mod ReadLemmas
+pub mod BackLemmas

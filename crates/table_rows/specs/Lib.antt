@@ -1,0 +1,6 @@
+pub mod Held
+pub mod Spread
+pub mod Order
+pub mod Table
+pub mod Keyed
+pub mod Standing

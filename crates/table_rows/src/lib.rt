@@ -1,0 +1,14 @@
+//! The rows of one table, in packed blocks with their indexes. `TableRows` is where to begin.
+#![tactic(auto)]
+
+mod changes;
+mod keyed;
+mod row;
+mod rows;
+mod slots;
+
+pub use row::{Row, Rows};
+pub use rows::TableRows;
+
+#[cfg(test)]
+mod tests;

@@ -1,0 +1,140 @@
+ghost use Rattle.std.specs.Prelude.{◌≡◌, IfOk};
+
+use super::*;
+use row_codec::{Field, RowFault, RowLayout};
+use std::alloc::{AllocError, Global};
+use std::test::*;
+use table_rows::{Rows, TableRows};
+use undo_log::Mark;
+use volt_catalog::ColumnNos;
+use volt_index::key_of;
+use volt_value::{ColType, Value};
+
+/// A column of integers.
+fn field(not_null: bool) -> Field
+    ensures { result ≡ record { kind = ColType.Big; not_null = not_null } }
+{
+    Field {
+        kind: ColType::Big,
+        not_null,
+    }
+}
+
+fn columns(alloc: Global, numbers: &[u8]) -> Result<ColumnNos, AllocError>
+    ensures { IfOk result (λ columns. columns ≡ numbers.now) }
+{
+    Ok(ColumnNos::from_vec(Vec::from_slice(alloc, numbers)?))
+}
+
+/// Pairs of integers, in which no two have the same first or the same second.
+fn pairs(alloc: Global) -> Result<TableRows, AllocError> {
+    let fields = [field(true), field(false)];
+    let layout = RowLayout::new(alloc, Vec::from_slice(alloc, &fields)?)?;
+    let mut keys = Vec::new(alloc);
+    keys.push(columns(alloc, &[0])?)?;
+    keys.push(columns(alloc, &[1])?)?;
+    TableRows::new(alloc, layout, keys)
+}
+
+/// Two tables of pairs.
+fn two_tables(alloc: Global) -> Result<Tables, AllocError> {
+    let mut tables = Vec::new(alloc);
+    tables.push(pairs(alloc)?)?;
+    tables.push(pairs(alloc)?)?;
+    Ok(Tables::of(alloc, tables))
+}
+
+/// Puts a pair into a table.
+fn put(tables: &mut Tables, number: u16, a: i64, b: i64) -> Result<(), RowFault> {
+    let row = [Value::Int(a), Value::Int(b)];
+    if number as usize >= tables.len()
+        || tables.table(number).layout().fields().len() != row.len()
+    {
+        return Err(RowFault::NoMemory);
+    }
+    tables.insert(number, &row)
+}
+
+/// Gives a pair another second.
+fn change(tables: &mut Tables, number: u16, a: i64, b: i64) -> Result<bool, RowFault> {
+    let row = [Value::Int(a), Value::Int(b)];
+    if number as usize >= tables.len()
+        || tables.table(number).layout().fields().len() != row.len()
+    {
+        return Err(RowFault::NoMemory);
+    }
+    let key = tables.table(number).key_of(&row)?;
+    tables.update(number, &key, &row)
+}
+
+/// Takes the pair with this first out.
+fn take(alloc: Global, tables: &mut Tables, number: u16, a: i64) -> Result<bool, AllocError> {
+    let key = key_of(alloc, &[Value::Int(a)])?;
+    if number as usize >= tables.len() {
+        return Err(AllocError);
+    }
+    tables.delete(number, &key)
+}
+
+/// The digits of the pairs.
+fn digits(alloc: Global, rows: Rows<'_>) -> Result<i64, AllocError> {
+    let mut digits = 0i64;
+    for row in rows {
+        if let [Value::Int(a), Value::Int(b)] = row.values(alloc)?.as_slice() {
+            digits = digits.saturating_mul(10).saturating_add(*a);
+            digits = digits.saturating_mul(10).saturating_add(*b);
+        }
+    }
+    Ok(digits)
+}
+
+/// The pairs of a table in order of their firsts or of their seconds.
+fn numbers(alloc: Global, tables: &Tables, number: u16, key: usize) -> Result<i64, AllocError> {
+    if number as usize >= tables.len() || key >= tables.table(number).keys() {
+        return Ok(-1);
+    }
+    digits(alloc, tables.table(number).range(key, None, None))
+}
+
+/// Rows and indexes are as they were at each mark.
+#[test]
+fn changes_are_undone(rt: HostRuntime) -> Result<(), Fail> {
+    let alloc = rt.alloc();
+    let mut tables = two_tables(alloc)?;
+    assert_eq!(rt; put(&mut tables, 0, 1, 5), Ok(()));
+    assert_eq!(rt; put(&mut tables, 1, 2, 3), Ok(()));
+    let mark = tables.begin_undo();
+    assert_eq!(rt; mark.below(), 2);
+    assert_eq!(rt; put(&mut tables, 0, 2, 4), Ok(()));
+    assert_eq!(rt; put(&mut tables, 0, 3, 4), Err(RowFault::Duplicate));
+    assert_eq!(rt; change(&mut tables, 0, 1, 6), Ok(true));
+    assert_eq!(rt; change(&mut tables, 0, 7, 6), Ok(false));
+    assert!(rt; take(alloc, &mut tables, 1, 2)?);
+    assert!(rt; !take(alloc, &mut tables, 1, 2)?);
+    assert_eq!(rt; put(&mut tables, 0, 3, 5), Ok(()));
+    assert_eq!(rt; numbers(alloc, &tables, 0, 0)?, 162435);
+    assert_eq!(rt; numbers(alloc, &tables, 0, 1)?, 243516);
+    assert_eq!(rt; numbers(alloc, &tables, 1, 0)?, 0);
+    tables.roll_back(mark)?;
+    assert_eq!(rt; numbers(alloc, &tables, 0, 0)?, 15);
+    assert_eq!(rt; numbers(alloc, &tables, 0, 1)?, 15);
+    assert_eq!(rt; numbers(alloc, &tables, 1, 1)?, 23);
+    tables.roll_back(Mark::above(0))?;
+    assert_eq!(rt; numbers(alloc, &tables, 0, 1)?, 0);
+    assert_eq!(rt; numbers(alloc, &tables, 1, 0)?, 0);
+    Ok(())
+}
+
+/// What was released stays.
+#[test]
+fn released_changes_stay(rt: HostRuntime) -> Result<(), Fail> {
+    let alloc = rt.alloc();
+    let mut tables = two_tables(alloc)?;
+    assert_eq!(rt; put(&mut tables, 0, 1, 5), Ok(()));
+    tables.release(Mark::above(0));
+    assert_eq!(rt; tables.begin_undo().below(), 0);
+    assert_eq!(rt; put(&mut tables, 0, 2, 4), Ok(()));
+    tables.roll_back(Mark::above(0))?;
+    assert_eq!(rt; numbers(alloc, &tables, 0, 0)?, 15);
+    Ok(())
+}
