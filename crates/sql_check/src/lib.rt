@@ -1,0 +1,18 @@
+//! Checks statements against a catalog: from the tree of a statement to its plan, with each column by
+//! its number and each parameter by its class. Begin with `prepare`.
+#![tactic(auto)]
+
+mod columns;
+mod distribution;
+mod from;
+mod groups;
+mod order;
+mod outputs;
+mod preparing;
+mod select;
+mod writes;
+
+pub use preparing::prepare;
+
+#[cfg(test)]
+mod tests;
