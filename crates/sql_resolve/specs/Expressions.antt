@@ -1,6 +1,6 @@
 -- What expressions stand for: values and truth values with each column by its number, and what is found
 -- out about them from left to right.
-use Rattle.std.specs.Prelude.{ℕ, Bool, true, false, if◌then◌else◌, List, [], ◌∷◌, ◌++◌, map, Option, Some, None}
+use Rattle.std.specs.Prelude.{ℕ, Bool, true, false, if◌then◌else◌, List, [], ◌∷◌, ◌++◌, map, is_some, Option, Some, None}
 use Rattle.volt_value.specs.declared.value.Value.TheVariants as v
 use Rattle.volt_value.specs.declared.column.Class.{Class}
 use Rattle.volt_value.specs.declared.column.Class.TheVariants as class
@@ -14,6 +14,8 @@ use Rattle.sql_plan.specs.declared.expression.Scalar.{Scalar}
 use Rattle.sql_plan.specs.declared.expression.Scalar.TheVariants as s
 use Rattle.sql_plan.specs.declared.expression.Cond.{Cond}
 use Rattle.sql_plan.specs.declared.expression.Cond.TheVariants as c
+use Rattle.sql_resolve.specs.declared.bound.Given.{Given}
+use Rattle.sql_resolve.specs.declared.bound.Given.TheVariants as g
 use Rattle.sql_resolve.specs.declared.fault.CheckFault.TheVariants.{NoSuchName, TypeMismatch, UnboundName}
 use Rattle.sql_resolve.specs.declared.names.FoundColumn.{FoundColumn}
 use Rattle.sql_resolve.specs.declared.notes.Notes.{Notes}
@@ -22,8 +24,8 @@ use Rattle.sql_resolve.specs.declared.resolved.Resolved.TheVariants as r
 use Rattle.sql_resolve.specs.declared.sort.Sort.{Sort}
 use Rattle.sql_resolve.specs.declared.sort.Sort.TheVariants.{Value, Null, Open, Truth}
 use Rattle.sql_resolve.specs.Named.{Tables}
-use Rattle.sql_resolve.specs.Names.{column_of}
-use Rattle.sql_resolve.specs.Notes.{blamed, fitted, with_param}
+use Rattle.sql_resolve.specs.Names.{column_of, variable_in, row_column_in, rows_in, first_in}
+use Rattle.sql_resolve.specs.Notes.{blamed, fitted, with_param, with_place, strayed}
 
 -- ---- what an expression gives
 
@@ -31,6 +33,11 @@ use Rattle.sql_resolve.specs.Notes.{blamed, fitted, with_param}
 abbrev pub sort_of_found : Option FoundColumn → Sort
 sort_of_found None = Value class.Int
 sort_of_found (Some column) = Value column.class
+
+-- a name of a program that stands for nothing is a fault; beside that it fits everywhere, as NULL does
+abbrev pub sort_of_given : Given → Sort
+sort_of_given (g.Value x class) = Value class
+sort_of_given _ = Null
 
 -- the class of a value, where it has one
 abbrev pub class_in : Sort → Option Class
@@ -170,22 +177,40 @@ joint resolve = record { sort = Truth; resolve = λ wanted. resolve; joint = res
 abbrev pub test : (Notes → Notes × Resolved) → Meaning
 test resolve = record { sort = Truth; resolve = λ wanted. resolve; joint = says_nothing; test = resolve }
 
--- a value of a program stands in no plain statement
-abbrev pub unbound : Meaning
-unbound = value class.Int (λ wanted notes. (blamed UnboundName notes, r.Null))
+-- the number of the parameter that a `?` is, where a value of a class is wanted; in a program it is none
+abbrev pub question : Bool → Class → Notes → Notes × Option ℕ
+question true wanted notes = (strayed notes, None)
+question false wanted notes = with (with_param wanted notes) (λ n notes. (notes, Some n))
+
+-- the number of the place that takes a value of a program, where one of a class is wanted
+abbrev pub taken : Given → Class → Notes → Notes × Option ℕ
+taken g.Unbound wanted notes = (blamed UnboundName notes, None)
+taken g.NoColumn wanted notes = (blamed NoSuchName notes, None)
+taken (g.Value x class) wanted notes = with (with_place x class (fitted class wanted notes)) (λ n notes. (notes, Some n))
+
+abbrev pub param_at : Option ℕ → Resolved
+param_at None = r.Null
+param_at (Some n) = r.Value (s.Param n)
+
+abbrev pub as_param : Option ℕ → Notes → Notes × Resolved
+as_param n notes = (notes, param_at n)
+
+-- a value of a program
+abbrev pub given : Given → Meaning
+given x = operand (sort_of_given x) (λ wanted notes. with (taken x wanted notes) as_param)
 
 -- an expression whose operands have their meaning already
 abbrev pub meaning_step : Tables → e Meaning → Meaning
 meaning_step names (e.Number z) = value class.Int (λ wanted notes. (fitted class.Int wanted notes, r.Value (s.Literal (v.Int z))))
 meaning_step names (e.Text t) = value class.Text (λ wanted notes. (fitted class.Text wanted notes, r.Value (s.Literal (v.Text t))))
 meaning_step names e.Null = operand Null (λ wanted notes. (notes, r.Null))
-meaning_step names e.Parameter = operand Open (λ wanted notes. with (with_param wanted notes) (λ n notes. (notes, r.Value (s.Param n))))
+meaning_step names e.Parameter = operand Open (λ wanted notes. with (question (is_some names.program) wanted notes) as_param)
 meaning_step names (e.Column name) = operand (sort_of_found (column_of names name)) (column_found (column_of names name))
 meaning_step names (e.Parenthesized inner) = operand inner.sort inner.resolve
-meaning_step names (e.Variable v) = unbound
-meaning_step names (e.RowColumn r c) = unbound
-meaning_step names (e.Rows r) = unbound
-meaning_step names (e.First r c) = unbound
+meaning_step names (e.Variable v) = given (variable_in names.program v)
+meaning_step names (e.RowColumn r c) = given (row_column_in names.program r c)
+meaning_step names (e.Rows r) = given (rows_in names.program r)
+meaning_step names (e.First r c) = given (first_in names.program r c)
 meaning_step names (e.Negate x) = value class.Int (λ wanted notes. with (scalar_in x class.Int (fitted class.Int wanted notes)) (λ x notes. (notes, r.Value (s.Negate x))))
 meaning_step names (e.Calculate op x y) = value class.Int (λ wanted notes. calculated op x y (fitted class.Int wanted notes))
 meaning_step names (e.Compare op x y) = test (comparing op x y)

@@ -1,5 +1,6 @@
 pub mod Faults
 pub mod Notes
+pub mod Bound
 pub mod Named
 pub mod Names
 pub mod Expressions

@@ -5,6 +5,10 @@ use Rattle.volt_value.specs.Columns.{class_of}
 use Rattle.volt_catalog.specs.declared.column.Column.{Column}
 use Rattle.volt_catalog.specs.Names.{same_name}
 use Rattle.sql_parse.specs.declared.expression.ColumnName.{ColumnName}
+use Rattle.sql_resolve.specs.declared.bound.Bound.{Bound}
+use Rattle.sql_resolve.specs.declared.bound.Given.{Given}
+use Rattle.sql_resolve.specs.declared.bound.Given.TheVariants.{Unbound}
+use Rattle.sql_resolve.specs.Bound as bound
 use Rattle.sql_resolve.specs.Named.{Named, Tables}
 use Rattle.sql_resolve.specs.declared.names.FoundColumn.{FoundColumn}
 use Rattle.sql_resolve.specs.declared.names.Fitting.{Fitting}
@@ -50,3 +54,21 @@ column_of tables name = only (columns_in 0 name tables.left ++ columns_in (width
 abbrev pub found_in : Fitting → Option FoundColumn
 found_in (One column) = Some column
 found_in _ = None
+
+-- ---- names of a program, which a statement outside of programs has none of
+
+abbrev pub variable_in : Option Bound → List ℕ → Given
+variable_in None name = Unbound
+variable_in (Some b) name = bound.variable b name
+
+abbrev pub row_column_in : Option Bound → List ℕ → List ℕ → Given
+row_column_in None row column = Unbound
+row_column_in (Some b) row column = bound.row_column b row column
+
+abbrev pub rows_in : Option Bound → List ℕ → Given
+rows_in None name = Unbound
+rows_in (Some b) name = bound.rows b name
+
+abbrev pub first_in : Option Bound → List ℕ → List ℕ → Given
+first_in None name column = Unbound
+first_in (Some b) name column = bound.first b name column

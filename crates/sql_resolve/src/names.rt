@@ -1,10 +1,11 @@
 //! What the names of columns stand for.
 
-ghost use Rattle.std.specs.Prelude.{◌≡◌, ◌+◌, ◌≤◌, ◌^◌, length};
+ghost use Rattle.std.specs.Prelude.{◌≡◌, ◌+◌, ◌≤◌, ◌^◌, length, is_some};
 ghost use Rattle.volt_catalog.specs.Names.{same_name};
 ghost use Rattle.sql_resolve.specs.Named as named;
 ghost use Rattle.sql_resolve.specs.Names as names;
 
+use crate::bound::{Bound, Given};
 use sql_parse::ColumnName;
 use std::marker::Model;
 use volt_catalog::{Column, Table};
@@ -18,11 +19,12 @@ pub struct NamedTable<'a> {
 }
 
 /// What names stand for where an expression stands: the columns of a FROM's first table, and of its
-/// second one, where they are there.
+/// second one, where they are there; and in a program what it bound before.
 #[derive(Drop)]
 pub struct Names<'a> {
     left: Option<NamedTable<'a>>,
     right: Option<NamedTable<'a>>,
+    program: Option<&'a Bound>,
 }
 
 impl<'a> Model for Names<'a> {
@@ -137,6 +139,7 @@ impl<'a> Names<'a> {
         Names {
             left: None,
             right: None,
+            program: None,
         }
     }
 
@@ -147,6 +150,65 @@ impl<'a> Names<'a> {
         Names {
             left: Some(left),
             right,
+            program: None,
+        }
+    }
+
+    /// The same in a program that has bound this, or in none.
+    pub fn in_program(self, program: Option<&'a Bound>) -> Names<'a>
+        ensures { result ≡ named.in_program (named.bound_in program.entry) self.entry }
+    {
+        Names {
+            left: self.left,
+            right: self.right,
+            program,
+        }
+    }
+
+    /// Whether it is in a program.
+    pub fn has_program(&self) -> bool
+        ensures { result ≡ is_some self.now.program }
+    {
+        self.program.is_some()
+    }
+
+    /// `:name`.
+    pub fn variable(&self, name: &Text) -> Given
+        ensures { result ≡ names.variable_in self.now.program name.now }
+    {
+        match self.program {
+            Some(bound) => bound.variable(name),
+            None => Given::Unbound,
+        }
+    }
+
+    /// `:row.column`.
+    pub(crate) fn row_column(&self, row: &Text, column: &Text) -> Given
+        ensures { result ≡ names.row_column_in self.now.program row.now column.now }
+    {
+        match self.program {
+            Some(bound) => bound.row_column(row, column),
+            None => Given::Unbound,
+        }
+    }
+
+    /// `ROWS(name)`.
+    pub(crate) fn rows(&self, name: &Text) -> Given
+        ensures { result ≡ names.rows_in self.now.program name.now }
+    {
+        match self.program {
+            Some(bound) => bound.rows(name),
+            None => Given::Unbound,
+        }
+    }
+
+    /// `FIRST(name.column)`.
+    pub(crate) fn first(&self, name: &Text, column: &Text) -> Given
+        ensures { result ≡ names.first_in self.now.program name.now column.now }
+    {
+        match self.program {
+            Some(bound) => bound.first(name, column),
+            None => Given::Unbound,
         }
     }
 

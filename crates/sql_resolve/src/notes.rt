@@ -6,15 +6,24 @@ ghost use Rattle.sql_resolve.specs.Notes as notes;
 
 use crate::fault::CheckFault;
 use crate::sort::Sort;
+use sql_plan::ProgramValue;
 use sqlite_items::Items;
 use std::alloc::{AllocError, Global};
 use volt_value::Class;
 
+/// How many `?` there may be.
+const MOST_QUESTIONS: usize = 32;
+
 /// What was found out about a statement so far, from the left.
 #[derive(Debug, Drop)]
 pub struct Notes {
-    /// The class of each parameter.
+    /// The class of each parameter: of each `?`, and in a program of each place that takes a value of
+    /// it.
     pub params: Items<Class>,
+    /// The values of the program, one for each such place.
+    pub args: Items<ProgramValue>,
+    /// How many `?` there are in a program, where each is a fault.
+    pub strays: usize,
     /// The fault of the least number.
     pub fault: Option<CheckFault>,
 }
@@ -26,6 +35,8 @@ impl Notes {
     {
         Notes {
             params: Items::new(alloc),
+            args: Items::new(alloc),
+            strays: 0,
             fault: None,
         }
     }
@@ -72,5 +83,27 @@ impl Notes {
         let number = self.params.len();
         self.params.push(class)?;
         Ok(number)
+    }
+
+    /// Notes one more place that takes a value of the program, and answers its number.
+    pub fn place(&mut self, value: ProgramValue, class: Class) -> Result<usize, AllocError>
+        ensures { IfOk result (λ number. (self.new, number) ≡ notes.with_place value class self.old) }
+    {
+        let number = self.params.len();
+        self.params.push(class)?;
+        self.args.push(value)?;
+        Ok(number)
+    }
+
+    /// Notes a `?` in a program.
+    pub(crate) fn stray(&mut self)
+        ensures { self.new ≡ notes.strayed self.old }
+    {
+        if self.strays < MOST_QUESTIONS {
+            self.strays += 1;
+            self.blame(CheckFault::UnboundName);
+        } else {
+            self.blame(CheckFault::TooMany);
+        }
     }
 }

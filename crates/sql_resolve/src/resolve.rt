@@ -1,10 +1,11 @@
 //! From an expression to the value or the truth value that it stands for.
 
-ghost use Rattle.std.specs.Prelude.{◌≡◌, map, IfOk, OnOk};
+ghost use Rattle.std.specs.Prelude.{◌≡◌, map, is_some, IfOk, OnOk};
 ghost use Rattle.sql_resolve.specs.Names.{column_of};
-ghost use Rattle.sql_resolve.specs.Notes.{fitted, with_param};
+ghost use Rattle.sql_resolve.specs.Notes.{fitted};
 ghost use Rattle.sql_resolve.specs.Expressions as spec;
 
+use crate::bound::Given;
 use crate::fault::CheckFault;
 use crate::names::Names;
 use crate::notes::Notes;
@@ -57,11 +58,64 @@ fn text_literal(
     Ok(Resolved::Value(Scalar::Literal(Value::Text(copy))))
 }
 
-/// A parameter of a class.
-fn parameter(notes: &mut Notes, class: Class) -> Result<Resolved, AllocError>
-    ensures { IfOk result (λ x. (notes.new, x) ≡ spec.with (with_param class notes.old) (λ n notes. (notes, Resolved.Value (Scalar.Param n)))) }
+/// The number of the parameter that a `?` is, where a value of a class is wanted. In a program it is
+/// none, and a fault.
+pub fn question(
+    names: &Names<'_>,
+    notes: &mut Notes,
+    class: Class,
+) -> Result<Option<usize>, AllocError>
+    ensures { IfOk result (λ x. (notes.new, x) ≡ spec.question (is_some names.now.program) class notes.old) }
 {
-    Ok(Resolved::Value(Scalar::Param(notes.param(class)?)))
+    if names.has_program() {
+        notes.stray();
+        return Ok(None);
+    }
+    Ok(Some(notes.param(class)?))
+}
+
+/// The number of the place that takes a value of a program, where one of a class is wanted.
+pub fn taken(notes: &mut Notes, value: Given, class: Class) -> Result<Option<usize>, AllocError>
+    ensures { IfOk result (λ x. (notes.new, x) ≡ spec.taken value class notes.old) }
+{
+    match value {
+        Given::Value(value, own) => {
+            notes.fit(own, class);
+            Ok(Some(notes.place(value, own)?))
+        }
+        Given::Unbound => {
+            notes.blame(CheckFault::UnboundName);
+            Ok(None)
+        }
+        Given::NoColumn => {
+            notes.blame(CheckFault::NoSuchName);
+            Ok(None)
+        }
+    }
+}
+
+/// The parameter of a number.
+fn param_at(number: Option<usize>) -> Resolved
+    ensures { result ≡ spec.param_at number }
+{
+    match number {
+        Some(number) => Resolved::Value(Scalar::Param(number)),
+        None => Resolved::Null,
+    }
+}
+
+/// A `?`, where a value of a class is wanted.
+fn parameter(names: &Names<'_>, notes: &mut Notes, class: Class) -> Result<Resolved, AllocError>
+    ensures { IfOk result (λ x. (notes.new, x) ≡ spec.with (spec.question (is_some names.now.program) class notes.old) spec.as_param) }
+{
+    Ok(param_at(question(names, notes, class)?))
+}
+
+/// A value of a program, where one of a class is wanted.
+fn given(notes: &mut Notes, value: Given, class: Class) -> Result<Resolved, AllocError>
+    ensures { IfOk result (λ x. (notes.new, x) ≡ spec.with (spec.taken value class notes.old) spec.as_param) }
+{
+    Ok(param_at(taken(notes, value, class)?))
 }
 
 fn negation(alloc: Global, x: Scalar) -> Result<Resolved, AllocError>
@@ -237,7 +291,7 @@ fn resolve(
         Expr::Number(n) => Ok(literal(notes, Value::Int(*n), Class::Int, class)),
         Expr::Text(text) => text_literal(alloc, notes, text, class),
         Expr::Null => Ok(Resolved::Null),
-        Expr::Parameter => parameter(notes, class),
+        Expr::Parameter => parameter(names, notes, class),
         Expr::Column(name) => Ok(column(names, notes, name, class)),
         Expr::Parenthesized(inner) => resolve(alloc, names, notes, inner.get(), class),
         Expr::Negate(x) => {
@@ -251,10 +305,13 @@ fn resolve(
             let right = scalar(alloc, names, notes, right.get(), Class::Int)?;
             chained(alloc, notes, *operation, left, right)
         }
-        Expr::Variable(_) | Expr::RowColumn { .. } | Expr::Rows(_) | Expr::First { .. } => {
-            notes.blame(CheckFault::UnboundName);
-            Ok(Resolved::Null)
-        }
+        Expr::Variable(name) => given(notes, names.variable(name), class),
+        Expr::RowColumn { row, column } => given(notes, names.row_column(row, column), class),
+        Expr::Rows(name) => given(notes, names.rows(name), class),
+        Expr::First {
+            result: made,
+            column,
+        } => given(notes, names.first(made, column), class),
         Expr::And(_, _) | Expr::Or(_, _) | Expr::Not(_) => joint(alloc, names, notes, e),
         Expr::Compare(_, _, _)
         | Expr::IsNull { .. }

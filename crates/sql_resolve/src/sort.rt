@@ -4,6 +4,7 @@ ghost use Rattle.std.specs.Prelude.{◌≡◌, [], ◌∷◌, map};
 ghost use Rattle.sql_resolve.specs.Names.{column_of};
 ghost use Rattle.sql_resolve.specs.Expressions as spec;
 
+use crate::bound::Given;
 use crate::names::Names;
 use sql_parse::{ColumnName, Expr};
 use volt_value::Class;
@@ -31,6 +32,16 @@ fn sort_of_column(names: &Names<'_>, name: &ColumnName) -> Sort
     }
 }
 
+/// What a value of a program is. A name that stands for none is a fault elsewhere.
+fn sort_of_given(value: Given) -> Sort
+    ensures { result ≡ spec.sort_of_given value }
+{
+    match value {
+        Given::Value(_, class) => Sort::Value(class),
+        Given::Unbound | Given::NoColumn => Sort::Null,
+    }
+}
+
 /// What an expression gives.
 pub fn sort_of(names: &Names<'_>, e: &Expr) -> Sort
     ensures { result ≡ spec.sort_of names.now e.now }
@@ -42,9 +53,13 @@ pub fn sort_of(names: &Names<'_>, e: &Expr) -> Sort
         Expr::Parameter => Sort::Open,
         Expr::Column(name) => sort_of_column(names, name),
         Expr::Parenthesized(inner) => sort_of(names, inner.get()),
-        Expr::Variable(_) | Expr::RowColumn { .. } | Expr::Rows(_) | Expr::First { .. } => {
-            Sort::Value(Class::Int)
-        }
+        Expr::Variable(name) => sort_of_given(names.variable(name)),
+        Expr::RowColumn { row, column } => sort_of_given(names.row_column(row, column)),
+        Expr::Rows(name) => sort_of_given(names.rows(name)),
+        Expr::First {
+            result: made,
+            column,
+        } => sort_of_given(names.first(made, column)),
         _ => Sort::Truth,
     }
 }
