@@ -19,8 +19,12 @@ use Rattle.sql_resolve.specs.declared.bound.Given.TheVariants as g
 use Rattle.sql_resolve.specs.declared.fault.CheckFault.TheVariants.{NoSuchName, TypeMismatch, UnboundName}
 use Rattle.sql_resolve.specs.declared.names.FoundColumn.{FoundColumn}
 use Rattle.sql_resolve.specs.declared.notes.Notes.{Notes}
+use Rattle.sql_resolve.specs.declared.operands.Operator.{Operator}
+use Rattle.sql_resolve.specs.declared.operands.Operator.TheVariants as operator
 use Rattle.sql_resolve.specs.declared.resolved.Resolved.{Resolved}
 use Rattle.sql_resolve.specs.declared.resolved.Resolved.TheVariants as r
+use Rattle.sql_resolve.specs.declared.resolved.RightSide.{RightSide}
+use Rattle.sql_resolve.specs.declared.resolved.RightSide.TheVariants as side
 use Rattle.sql_resolve.specs.declared.sort.Sort.{Sort}
 use Rattle.sql_resolve.specs.declared.sort.Sort.TheVariants.{Value, Null, Open, Truth}
 use Rattle.sql_resolve.specs.Named.{Tables}
@@ -82,12 +86,12 @@ as_cond (r.And xs) notes = (notes, c.And xs)
 as_cond (r.Or xs) notes = (notes, c.Or xs)
 as_cond _ notes = (blamed TypeMismatch notes, c.Unknown)
 
--- an expression: what it gives, and what it stands for where a value of a class is wanted; and again what an
--- AND, an OR or a NOT stands for, and what a test does, which of other expressions say nothing
+-- an expression: what it gives, and what it stands for where a value of a class is wanted; and again what one stands
+-- for that is no operator which groups to the left, and what a NOT or a test does, of which others say nothing
 pub record Meaning : Type 0 where
   pub sort : Sort
   pub resolve : Class → Notes → Notes × Resolved
-  pub joint : Notes → Notes × Resolved
+  pub single : Class → Notes → Notes × Resolved
   pub test : Notes → Notes × Resolved
 
 abbrev pub says_nothing : Notes → Notes × Resolved
@@ -146,8 +150,23 @@ abbrev pub negated_if : Bool → Cond → Cond
 negated_if true condition = c.Not condition
 negated_if false condition = condition
 
-abbrev pub calculated : Arithmetic → Meaning → Meaning → Notes → Notes × Resolved
-calculated op x y notes = with (x.resolve class.Int notes) (λ left notes. with (scalar_in y class.Int notes) (chained op left))
+-- an operator with its right operand
+abbrev pub right_side : Operator → Meaning → Notes → Notes × RightSide
+right_side (operator.Calculate op) right notes = with (scalar_in right class.Int notes) (λ x notes. (notes, side.Calculate op x))
+right_side operator.And right notes = with (cond_in right notes) (λ x notes. (notes, side.And x))
+right_side operator.Or right notes = with (cond_in right notes) (λ x notes. (notes, side.Or x))
+
+-- an operator with its right operand, behind what stands on its left
+abbrev pub joined_to : Resolved → RightSide → Notes → Notes × Resolved
+joined_to left (side.Calculate op x) = chained op left x
+joined_to left (side.And x) = conjoined left x
+joined_to left (side.Or x) = disjoined left x
+
+abbrev pub joined : Operator → Meaning → Resolved → Notes → Notes × Resolved
+joined operator right left notes = with (right_side operator right notes) (joined_to left)
+
+abbrev pub joined_at : Operator → Meaning → Meaning → Notes → Notes × Resolved
+joined_at operator left right notes = with (left.resolve class.Int notes) (joined operator right)
 
 abbrev pub comparing : Comparison → Meaning → Meaning → Notes → Notes × Resolved
 comparing op a b notes =
@@ -166,16 +185,16 @@ contained e items negated notes =
     with (scalar_in e class notes) (λ x notes. with (scalars_in items class notes) (λ xs notes. (notes, r.Truth (negated_if negated (c.In x xs)))))
 
 abbrev pub operand : Sort → (Class → Notes → Notes × Resolved) → Meaning
-operand sort resolve = record { sort = sort; resolve = resolve; joint = says_nothing; test = says_nothing }
+operand sort resolve = record { sort = sort; resolve = resolve; single = resolve; test = says_nothing }
 
 abbrev pub value : Class → (Class → Notes → Notes × Resolved) → Meaning
 value class = operand (Value class)
 
-abbrev pub joint : (Notes → Notes × Resolved) → Meaning
-joint resolve = record { sort = Truth; resolve = λ wanted. resolve; joint = resolve; test = says_nothing }
+abbrev pub operation : Sort → (Class → Notes → Notes × Resolved) → Meaning
+operation sort resolve = record { sort = sort; resolve = resolve; single = λ wanted. says_nothing; test = says_nothing }
 
 abbrev pub test : (Notes → Notes × Resolved) → Meaning
-test resolve = record { sort = Truth; resolve = λ wanted. resolve; joint = says_nothing; test = resolve }
+test resolve = record { sort = Truth; resolve = λ wanted. resolve; single = λ wanted. resolve; test = resolve }
 
 -- the number of the parameter that a `?` is, where a value of a class is wanted; in a program it is none
 abbrev pub question : Bool → Class → Notes → Notes × Option ℕ
@@ -212,14 +231,14 @@ meaning_step names (e.RowColumn r c) = given (row_column_in names.program r c)
 meaning_step names (e.Rows r) = given (rows_in names.program r)
 meaning_step names (e.First r c) = given (first_in names.program r c)
 meaning_step names (e.Negate x) = value class.Int (λ wanted notes. with (scalar_in x class.Int (fitted class.Int wanted notes)) (λ x notes. (notes, r.Value (s.Negate x))))
-meaning_step names (e.Calculate op x y) = value class.Int (λ wanted notes. calculated op x y (fitted class.Int wanted notes))
+meaning_step names (e.Calculate op x y) = operation (Value class.Int) (λ wanted notes. joined_at (operator.Calculate op) x y (fitted class.Int wanted notes))
 meaning_step names (e.Compare op x y) = test (comparing op x y)
 meaning_step names (e.IsNull x negated) = test (λ notes. with (alone_in x notes) (λ x notes. (notes, r.Truth (negated_if negated (c.IsNull x)))))
 meaning_step names (e.Between x low high negated) = test (between x low high negated)
 meaning_step names (e.In x items negated) = test (contained x items negated)
-meaning_step names (e.Not x) = joint (λ notes. with (cond_in x notes) (λ x notes. (notes, r.Truth (negated_if true x))))
-meaning_step names (e.And x y) = joint (λ notes. with (x.resolve class.Int notes) (λ left notes. with (cond_in y notes) (conjoined left)))
-meaning_step names (e.Or x y) = joint (λ notes. with (x.resolve class.Int notes) (λ left notes. with (cond_in y notes) (disjoined left)))
+meaning_step names (e.Not x) = test (λ notes. with (cond_in x notes) (λ x notes. (notes, r.Truth (negated_if true x))))
+meaning_step names (e.And x y) = operation Truth (λ wanted. joined_at operator.And x y)
+meaning_step names (e.Or x y) = operation Truth (λ wanted. joined_at operator.Or x y)
 
 abbrev pub meaning_of : Tables → Expr → Meaning
 meaning_of names = fold-Expr Meaning (meaning_step names)

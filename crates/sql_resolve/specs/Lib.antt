@@ -4,4 +4,5 @@ pub mod Bound
 pub mod Named
 pub mod Names
 pub mod Expressions
+pub mod Operands
 pub mod Tables

@@ -6,6 +6,7 @@ mod bound;
 mod fault;
 mod names;
 mod notes;
+mod operands;
 mod resolve;
 mod resolved;
 mod sort;
@@ -19,3 +20,6 @@ pub use resolve::{alone, condition, question, scalar, taken};
 pub use resolved::Resolved;
 pub use sort::{Sort, sort_of};
 pub use tables::{class_at, number_of, table_named};
+
+#[cfg(test)]
+mod tests;

@@ -1,15 +1,17 @@
 //! From an expression to the value or the truth value that it stands for.
 
-ghost use Rattle.std.specs.Prelude.{◌≡◌, map, is_some, IfOk, OnOk};
+ghost use Rattle.std.specs.Prelude.{◌≡◌, true, map, is_some, IfOk, OnOk};
 ghost use Rattle.sql_resolve.specs.Names.{column_of};
 ghost use Rattle.sql_resolve.specs.Notes.{fitted};
+ghost use Rattle.sql_resolve.specs.Operands.{is_operator};
 ghost use Rattle.sql_resolve.specs.Expressions as spec;
 
 use crate::bound::Given;
 use crate::fault::CheckFault;
 use crate::names::Names;
 use crate::notes::Notes;
-use crate::resolved::{Resolved, chained, conjoined, disjoined};
+use crate::operands::{Operator, operands};
+use crate::resolved::{Resolved, RightSide, join};
 use crate::sort::{common_among, common_of_three, common_of_two, sort_of};
 use sql_parse::{ColumnName, Expr};
 use sql_plan::{Cond, Scalar};
@@ -200,7 +202,7 @@ fn scalars(
     Ok(values)
 }
 
-/// What a test stands for.
+/// What a NOT or a test stands for.
 #[cycle(resolve)]
 fn test(
     alloc: Global,
@@ -233,6 +235,10 @@ fn test(
             let high = scalar(alloc, names, notes, high.get(), class)?;
             negatable(alloc, *negated, Cond::Between { value, low, high })
         }
+        Expr::Not(x) => {
+            let x = condition(alloc, names, notes, x.get())?;
+            negatable(alloc, true, x)
+        }
         Expr::In {
             value,
             items,
@@ -247,32 +253,84 @@ fn test(
     }
 }
 
-/// What an AND, an OR or a NOT stands for.
+/// What an operator with its right operand stands for.
 #[cycle(resolve)]
-fn joint(
+fn right_side(
+    alloc: Global,
+    names: &Names<'_>,
+    notes: &mut Notes,
+    operator: Operator,
+    right: &Expr,
+) -> Result<RightSide, AllocError>
+    ensures { IfOk result (λ x. (notes.new, x) ≡ spec.right_side operator (spec.meaning_of names.now right.now) notes.old) }
+{
+    match operator {
+        Operator::Calculate(operation) => {
+            let right = scalar(alloc, names, notes, right, Class::Int)?;
+            Ok(RightSide::Calculate(operation, right))
+        }
+        Operator::And => Ok(RightSide::And(condition(alloc, names, notes, right)?)),
+        Operator::Or => Ok(RightSide::Or(condition(alloc, names, notes, right)?)),
+    }
+}
+
+/// What operators that group to the left stand for, where a number or a truth value is wanted. The
+/// operands on their left are gone through by a loop, since an input may have thousands of them.
+#[cycle(resolve)]
+fn chain(
     alloc: Global,
     names: &Names<'_>,
     notes: &mut Notes,
     e: &Expr,
 ) -> Result<Resolved, AllocError>
-    ensures { IfOk result (λ x. (notes.new, x) ≡ (spec.meaning_of names.now e.now).joint notes.old) }
+    requires { is_operator e.now ≡ true }
+    ensures { IfOk result (λ x. (notes.new, x) ≡ (spec.meaning_of names.now e.now).resolve Class.Int notes.old) }
+{
+    let (first, mut behind) = operands(alloc, e)?;
+    let mut so_far = single(alloc, names, notes, first, Class::Int)?;
+    'onward: while let Some((operator, right)) = behind.pop() {
+        let right = right_side(alloc, names, notes, operator, right)?;
+        join(alloc, notes, &mut so_far, right)?;
+    }
+    Ok(so_far)
+}
+
+/// What an expression stands for that is no operator which groups to the left.
+#[cycle(resolve)]
+fn single(
+    alloc: Global,
+    names: &Names<'_>,
+    notes: &mut Notes,
+    e: &Expr,
+    class: Class,
+) -> Result<Resolved, AllocError>
+    ensures { IfOk result (λ x. (notes.new, x) ≡ (spec.meaning_of names.now e.now).single class notes.old) }
 {
     match e {
-        Expr::And(left, right) => {
-            let left = resolve(alloc, names, notes, left.get(), Class::Int)?;
-            let right = condition(alloc, names, notes, right.get())?;
-            conjoined(alloc, notes, left, right)
+        Expr::Number(n) => Ok(literal(notes, Value::Int(*n), Class::Int, class)),
+        Expr::Text(text) => text_literal(alloc, notes, text, class),
+        Expr::Null => Ok(Resolved::Null),
+        Expr::Parameter => parameter(names, notes, class),
+        Expr::Column(name) => Ok(column(names, notes, name, class)),
+        Expr::Parenthesized(inner) => resolve(alloc, names, notes, inner.get(), class),
+        Expr::Negate(x) => {
+            notes.fit(Class::Int, class);
+            let x = scalar(alloc, names, notes, x.get(), Class::Int)?;
+            negation(alloc, x)
         }
-        Expr::Or(left, right) => {
-            let left = resolve(alloc, names, notes, left.get(), Class::Int)?;
-            let right = condition(alloc, names, notes, right.get())?;
-            disjoined(alloc, notes, left, right)
-        }
-        Expr::Not(x) => {
-            let x = condition(alloc, names, notes, x.get())?;
-            negatable(alloc, true, x)
-        }
-        _ => Ok(Resolved::Null),
+        Expr::Variable(name) => given(notes, names.variable(name), class),
+        Expr::RowColumn { row, column } => given(notes, names.row_column(row, column), class),
+        Expr::Rows(name) => given(notes, names.rows(name), class),
+        Expr::First {
+            result: made,
+            column,
+        } => given(notes, names.first(made, column), class),
+        Expr::Not(_)
+        | Expr::Compare(_, _, _)
+        | Expr::IsNull { .. }
+        | Expr::Between { .. }
+        | Expr::In { .. } => test(alloc, names, notes, e),
+        Expr::Calculate(_, _, _) | Expr::And(_, _) | Expr::Or(_, _) => Ok(Resolved::Null),
     }
 }
 
@@ -288,34 +346,11 @@ fn resolve(
     ensures { IfOk result (λ x. (notes.new, x) ≡ (spec.meaning_of names.now e.now).resolve class notes.old) }
 {
     match e {
-        Expr::Number(n) => Ok(literal(notes, Value::Int(*n), Class::Int, class)),
-        Expr::Text(text) => text_literal(alloc, notes, text, class),
-        Expr::Null => Ok(Resolved::Null),
-        Expr::Parameter => parameter(names, notes, class),
-        Expr::Column(name) => Ok(column(names, notes, name, class)),
-        Expr::Parenthesized(inner) => resolve(alloc, names, notes, inner.get(), class),
-        Expr::Negate(x) => {
+        Expr::Calculate(_, _, _) => {
             notes.fit(Class::Int, class);
-            let x = scalar(alloc, names, notes, x.get(), Class::Int)?;
-            negation(alloc, x)
+            chain(alloc, names, notes, e)
         }
-        Expr::Calculate(operation, left, right) => {
-            notes.fit(Class::Int, class);
-            let left = resolve(alloc, names, notes, left.get(), Class::Int)?;
-            let right = scalar(alloc, names, notes, right.get(), Class::Int)?;
-            chained(alloc, notes, *operation, left, right)
-        }
-        Expr::Variable(name) => given(notes, names.variable(name), class),
-        Expr::RowColumn { row, column } => given(notes, names.row_column(row, column), class),
-        Expr::Rows(name) => given(notes, names.rows(name), class),
-        Expr::First {
-            result: made,
-            column,
-        } => given(notes, names.first(made, column), class),
-        Expr::And(_, _) | Expr::Or(_, _) | Expr::Not(_) => joint(alloc, names, notes, e),
-        Expr::Compare(_, _, _)
-        | Expr::IsNull { .. }
-        | Expr::Between { .. }
-        | Expr::In { .. } => test(alloc, names, notes, e),
+        Expr::And(_, _) | Expr::Or(_, _) => chain(alloc, names, notes, e),
+        _ => single(alloc, names, notes, e, class),
     }
 }

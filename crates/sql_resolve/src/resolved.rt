@@ -1,6 +1,6 @@
 //! What an expression stands for, while it is put together from the left.
 
-ghost use Rattle.std.specs.Prelude.{◌≡◌, [], ◌∷◌, IfOk};
+ghost use Rattle.std.specs.Prelude.{◌≡◌, [], ◌∷◌, IfOk, OnOk};
 ghost use Rattle.sql_resolve.specs.Expressions as spec;
 
 use crate::fault::CheckFault;
@@ -9,6 +9,7 @@ use sql_parse::Arithmetic;
 use sql_plan::{Cond, Scalar};
 use sqlite_items::{Boxed, Items};
 use std::alloc::{AllocError, Global};
+use std::mem::replace;
 use volt_value::Value;
 
 /// What an expression stands for. An operator that groups to the left may have more operands behind.
@@ -26,6 +27,14 @@ pub enum Resolved {
     Truth(Cond),
     And(Items<Cond>),
     Or(Items<Cond>),
+}
+
+/// An operator that groups to the left, with what its right operand stands for.
+#[derive(Debug, Drop)]
+pub enum RightSide {
+    Calculate(Arithmetic, Scalar),
+    And(Cond),
+    Or(Cond),
 }
 
 fn is_sum(operation: Arithmetic) -> bool
@@ -97,7 +106,7 @@ fn chain_of(
 }
 
 /// An operation behind what stands on its left.
-pub(crate) fn chained(
+fn chained(
     alloc: Global,
     notes: &mut Notes,
     operation: Arithmetic,
@@ -136,7 +145,7 @@ fn pair(alloc: Global, left: Cond, right: Cond) -> Result<Items<Cond>, AllocErro
 }
 
 /// An AND behind what stands on its left.
-pub(crate) fn conjoined(
+fn conjoined(
     alloc: Global,
     notes: &mut Notes,
     left: Resolved,
@@ -157,7 +166,7 @@ pub(crate) fn conjoined(
 }
 
 /// An OR behind what stands on its left.
-pub(crate) fn disjoined(
+fn disjoined(
     alloc: Global,
     notes: &mut Notes,
     left: Resolved,
@@ -175,4 +184,34 @@ pub(crate) fn disjoined(
             Ok(Resolved::Or(pair(alloc, left, right)?))
         }
     }
+}
+
+/// An operator with its right side, behind what stands on its left.
+fn joined(
+    alloc: Global,
+    notes: &mut Notes,
+    left: Resolved,
+    right: RightSide,
+) -> Result<Resolved, AllocError>
+    ensures { IfOk result (λ x. (notes.new, x) ≡ spec.joined_to left right notes.old) }
+{
+    match right {
+        RightSide::Calculate(operation, right) => chained(alloc, notes, operation, left, right),
+        RightSide::And(right) => conjoined(alloc, notes, left, right),
+        RightSide::Or(right) => disjoined(alloc, notes, left, right),
+    }
+}
+
+/// Puts an operator with its right side behind what stands on its left.
+pub(crate) fn join(
+    alloc: Global,
+    notes: &mut Notes,
+    left: &mut Resolved,
+    right: RightSide,
+) -> Result<(), AllocError>
+    ensures { OnOk result ((notes.new, left.new) ≡ spec.joined_to left.old right notes.old) }
+{
+    let before = replace(left, Resolved::Null);
+    *left = joined(alloc, notes, before, right)?;
+    Ok(())
 }
