@@ -4,7 +4,7 @@
 # belong to what `rt ci` proves.
 set -eu
 bench=$(CDPATH='' cd -- "$(dirname -- "$0")" && pwd)
-crates='volt_text volt_value sql_grammar sql_parse'
+crates='volt_text volt_value sql_grammar expr_parse sql_parse ddl_parse'
 room=$(mktemp -d)
 trap 'rm -rf "$room"' EXIT
 
@@ -12,7 +12,7 @@ mkdir -p "$room/crates/parse_bench/src"
 (cd "$bench/../../crates" && tar --exclude out -cf - $crates) | tar -C "$room/crates" -xf -
 cp "$bench/main.rt.in" "$room/crates/parse_bench/src/main.rt"
 for crate in $crates; do grep "^$crate:" "$bench/../../crates.txt"; done > "$room/crates.txt"
-echo 'parse_bench: volt_text sql_parse' >> "$room/crates.txt"
+echo 'parse_bench: volt_text ddl_parse' >> "$room/crates.txt"
 cp "$bench/../../HANDLES" "$room/HANDLES"
 (cd "$room/crates/parse_bench" && rt run < /dev/null > "$room/said" 2>&1) || { cat "$room/said" >&2; exit 1; }
 

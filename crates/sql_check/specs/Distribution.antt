@@ -1,8 +1,8 @@
 -- Which joins of two partitioned tables each partition can make by itself.
 use Rattle.std.specs.Prelude.{ℕ, ◌+◌, Bool, true, false, ◌&&◌, ◌||◌, ◌==◌, if◌then◌else◌, List, [], ◌∷◌, ◌++◌, flat_map, map, Option, Some, None}
 use Rattle.std.specs.List.{list_all}
-use Rattle.sql_parse.specs.declared.expression.Comparison.{Comparison}
-use Rattle.sql_parse.specs.declared.expression.Comparison.TheVariants as compare
+use Rattle.expr_parse.specs.declared.expression.Comparison.{Comparison}
+use Rattle.expr_parse.specs.declared.expression.Comparison.TheVariants as compare
 use Rattle.sql_plan.specs.declared.expression.Scalar.{Scalar, fold-Scalar}
 use Rattle.sql_plan.specs.declared.expression.Scalar.TheOpen.{Scalar-F as s}
 use Rattle.sql_plan.specs.declared.expression.Cond.{Cond, fold-Cond}

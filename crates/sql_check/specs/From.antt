@@ -3,7 +3,7 @@ use Rattle.std.specs.Prelude.{ℕ, ◌+◌, Bool, ◌||◌, if◌then◌else◌,
 use Rattle.volt_catalog.specs.declared.table.Table.{Table}
 use Rattle.volt_catalog.specs.Names.{same_name}
 use Rattle.volt_catalog.specs.Rules.{Contents}
-use Rattle.sql_parse.specs.declared.expression.Expr.{Expr}
+use Rattle.expr_parse.specs.declared.expression.Expr.{Expr}
 use Rattle.sql_parse.specs.declared.statement.SecondTable.{SecondTable}
 use Rattle.sql_parse.specs.declared.statement.SecondTable.TheVariants.{Listed, Joined}
 use Rattle.sql_parse.specs.declared.statement.TableName.{TableName}

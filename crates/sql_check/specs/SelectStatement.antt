@@ -3,8 +3,8 @@ use Rattle.std.specs.Prelude.{ℕ, ◌+◌, Bool, true, false, ◌==◌, ◌||�
 use Rattle.std.specs.List.{list_any, range_with_len}
 use Rattle.volt_catalog.specs.Rules.{Contents}
 use Rattle.volt_catalog.specs.declared.column.Column.{Column}
-use Rattle.sql_parse.specs.declared.expression.ColumnName.{ColumnName}
-use Rattle.sql_parse.specs.declared.expression.Expr.{Expr}
+use Rattle.expr_parse.specs.declared.expression.ColumnName.{ColumnName}
+use Rattle.expr_parse.specs.declared.expression.Expr.{Expr}
 use Rattle.sql_parse.specs.declared.statement.Output.{Output}
 use Rattle.sql_parse.specs.declared.statement.Outputs.{Outputs}
 use Rattle.sql_parse.specs.declared.statement.Outputs.TheVariants.{All, Listed}

@@ -7,9 +7,9 @@ use Rattle.volt_value.specs.Columns.{class_of}
 use Rattle.volt_catalog.specs.declared.column.Column.{Column}
 use Rattle.volt_catalog.specs.declared.table.Table.{Table}
 use Rattle.volt_catalog.specs.Names.{same_name}
-use Rattle.sql_parse.specs.declared.expression.ColumnName.{ColumnName}
-use Rattle.sql_parse.specs.declared.expression.Expr.{Expr, fold-Expr}
-use Rattle.sql_parse.specs.declared.expression.Expr.TheOpen.{Expr-F as e}
+use Rattle.expr_parse.specs.declared.expression.ColumnName.{ColumnName}
+use Rattle.expr_parse.specs.declared.expression.Expr.{Expr, fold-Expr}
+use Rattle.expr_parse.specs.declared.expression.Expr.TheOpen.{Expr-F as e}
 use Rattle.sql_parse.specs.declared.statement.Aggregate.{Aggregate}
 use Rattle.sql_parse.specs.declared.statement.Aggregate.TheVariants as kind
 use Rattle.sql_parse.specs.declared.statement.Limit.{Limit}

@@ -7,7 +7,7 @@ use Rattle.volt_value.specs.declared.column.Class.TheVariants as class
 use Rattle.volt_catalog.specs.declared.column.Column.{Column}
 use Rattle.volt_catalog.specs.declared.table.Table.{Table}
 use Rattle.volt_catalog.specs.Rules.{Contents}
-use Rattle.sql_parse.specs.declared.expression.Expr.{Expr}
+use Rattle.expr_parse.specs.declared.expression.Expr.{Expr}
 use Rattle.sql_parse.specs.declared.statement.Insert.{Insert}
 use Rattle.sql_parse.specs.declared.statement.Update.{Update}
 use Rattle.sql_parse.specs.declared.statement.Delete.{Delete}

@@ -1,8 +1,8 @@
 -- What trees mean, variant by variant.
 use Rattle.std.proofs.Common.{◌≡◌, ℕ, List, [], ◌∷◌, map, Option, Ok, Some, None, ap, ◌∙◌, refl}
 use Rattle.volt_value.specs.declared.value.Value.{Value}
-use Rattle.sql_parse.specs.declared.expression.Arithmetic.{Arithmetic}
-use Rattle.sql_parse.specs.declared.expression.Comparison.{Comparison}
+use Rattle.expr_parse.specs.declared.expression.Arithmetic.{Arithmetic}
+use Rattle.expr_parse.specs.declared.expression.Comparison.{Comparison}
 use Rattle.sql_plan.specs.declared.expression.Scalar.{Scalar}
 use Rattle.sql_plan.specs.declared.expression.Scalar.TheOpen.{Scalar-F as s}
 use Rattle.sql_plan.specs.declared.expression.Scalar.TheVariants as scalar

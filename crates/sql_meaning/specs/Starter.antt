@@ -9,8 +9,8 @@ use Rattle.volt_catalog.specs.declared.column.Column.{Column}
 use Rattle.volt_catalog.specs.declared.procedure.ProcDef.{ProcDef}
 use Rattle.volt_catalog.specs.declared.table.Table.{Table}
 use Rattle.volt_catalog.specs.Rules.{Contents}
-use Rattle.sql_parse.specs.declared.expression.Arithmetic.TheVariants.{Add, Subtract}
-use Rattle.sql_parse.specs.declared.expression.Comparison.TheVariants as compare
+use Rattle.expr_parse.specs.declared.expression.Arithmetic.TheVariants.{Add, Subtract}
+use Rattle.expr_parse.specs.declared.expression.Comparison.TheVariants as compare
 use Rattle.sql_plan.specs.declared.expression.Scalar.{Scalar}
 use Rattle.sql_plan.specs.declared.expression.Scalar.TheVariants.{Literal, Column as Col, Param, Chain}
 use Rattle.sql_plan.specs.declared.expression.Cond.{Cond}

@@ -6,10 +6,10 @@ use Rattle.volt_value.specs.declared.value.Value.{Value}
 use Rattle.volt_value.specs.declared.value.Value.TheVariants.{Null, Int, Text}
 use Rattle.volt_value.specs.Values.{is_bigint}
 use Rattle.volt_value.specs.Order.{value_cmp}
-use Rattle.sql_parse.specs.declared.expression.Arithmetic.{Arithmetic}
-use Rattle.sql_parse.specs.declared.expression.Arithmetic.TheVariants.{Add, Subtract, Multiply, Divide}
-use Rattle.sql_parse.specs.declared.expression.Comparison.{Comparison}
-use Rattle.sql_parse.specs.declared.expression.Comparison.TheVariants as compare
+use Rattle.expr_parse.specs.declared.expression.Arithmetic.{Arithmetic}
+use Rattle.expr_parse.specs.declared.expression.Arithmetic.TheVariants.{Add, Subtract, Multiply, Divide}
+use Rattle.expr_parse.specs.declared.expression.Comparison.{Comparison}
+use Rattle.expr_parse.specs.declared.expression.Comparison.TheVariants as compare
 use Rattle.sql_plan.specs.declared.fault.Fault.{Fault}
 use Rattle.sql_plan.specs.declared.fault.Fault.TheVariants.{Overflow, DivideByZero}
 use Rattle.sql_plan.specs.Rows.{Cells}

@@ -10,8 +10,8 @@ use Rattle.volt_value.specs.declared.column.Class.TheVariants as class
 use Rattle.volt_value.specs.Columns.{class_of}
 use Rattle.volt_catalog.specs.declared.table.Table.{Table}
 use Rattle.volt_catalog.specs.Rules.{Contents}
-use Rattle.sql_parse.specs.declared.expression.Comparison.{Comparison}
-use Rattle.sql_parse.specs.declared.expression.Comparison.TheVariants as compare
+use Rattle.expr_parse.specs.declared.expression.Comparison.{Comparison}
+use Rattle.expr_parse.specs.declared.expression.Comparison.TheVariants as compare
 use Rattle.sql_plan.specs.declared.expression.Scalar.{Scalar, fold-Scalar}
 use Rattle.sql_plan.specs.declared.expression.Scalar.TheOpen.{Scalar-F as s}
 use Rattle.sql_plan.specs.declared.expression.Cond.{Cond, fold-Cond}

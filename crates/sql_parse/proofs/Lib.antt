@@ -1,14 +1,1 @@
-pub mod CommaLists
-pub mod Cut
-pub mod DdlOk
-pub mod Deeper
-pub mod ExpressionsOk
-pub mod Halves
-pub mod Loops
-pub mod MoreSteps
-pub mod ProceduresOk
-pub mod Returned
-pub mod Standing
 pub mod StatementsOk
-pub mod Steps
-pub mod Whereabouts

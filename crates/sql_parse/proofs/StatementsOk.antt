@@ -3,11 +3,11 @@ use Rattle.std.proofs.Common.{◌≡◌, ℕ, zero, suc, true, false, List, [], 
 use Rattle.sql_grammar.specs.declared.kind.Kind.{Kind}
 use Rattle.sql_grammar.specs.declared.kind.Kind.TheVariants as k
 use Rattle.sql_grammar.specs.Grammar.{null, first, cont, ok, is_in}
-use Rattle.sql_parse.specs.Expressions.{column, inner_expr, deeper, max_nesting, after_whole}
-use Rattle.sql_parse.specs.declared.levels.Level.TheVariants.{Whole}
+use Rattle.expr_parse.specs.Expressions.{column, inner_expr, deeper, max_nesting, after_whole}
+use Rattle.expr_parse.specs.declared.levels.Level.TheVariants.{Whole}
 use Rattle.sql_parse.specs.declared.statement.Aggregate.{Aggregate}
 use Rattle.sql_parse.specs.Statements.{closed, behind, tail, named_columns, values, counted_value, least_or_greatest, output_name, alias, table, columns, groups, descending, key, keys, order, limit_value, limited, names, filter, inner_exprs, insert, assignment, assignments, update, delete, counted, aggregated, output_value, output, listed_outputs, outputs, joined, second_table, source, select, stmt, statement, after_statement}
-use Rattle.sql_parse.proofs.ExpressionsOk.{expr-ok, expr-null, expr-cont, expr-first, inner_expr-ok, inner_expr-null, inner_expr-cont, operands, level-first, level-null}
+use Rattle.expr_parse.proofs.ExpressionsOk.{expr-ok, expr-null, expr-cont, expr-first, inner_expr-ok, inner_expr-null, inner_expr-cont, operands, level-first, level-null}
 
 -- what may go on after parts of a statement, inside longer ones
 abbrev after_second : List Kind
@@ -27,7 +27,7 @@ closed-first (suc depth) = simp (level-first depth, level-null depth Whole)
 module _ (depth : ℕ) where
   filter-ok : ok (filter depth) ≡ true
   unfolding filter
-  filter-ok = simp (expr-ok depth, expr-null depth)
+  filter-ok = simp (expr-ok depth)
 
   filter-first : first (filter depth) ≡ k.Where ∷ []
   unfolding filter
@@ -43,7 +43,7 @@ module _ (depth : ℕ) where
 
   inner_exprs-ok : ok (inner_exprs depth) ≡ true
   unfolding inner_exprs
-  inner_exprs-ok = simp (inner_expr-ok depth, inner_expr-null depth, inner_expr-cont depth)
+  inner_exprs-ok = simp (inner_expr-ok depth, inner_expr-cont depth)
 
   inner_exprs-null : null (inner_exprs depth) ≡ false
   unfolding inner_exprs
@@ -55,7 +55,7 @@ module _ (depth : ℕ) where
 
   insert-ok : ok (insert depth) ≡ true
   unfolding insert named_columns values names
-  insert-ok = simp (inner_exprs-ok, inner_exprs-null, inner_exprs-cont)
+  insert-ok = simp (inner_exprs-ok, inner_exprs-cont)
 
   insert-cont : cont (insert depth) ≡ []
   unfolding insert named_columns values names
@@ -63,23 +63,15 @@ module _ (depth : ℕ) where
 
   assignments-ok : ok (assignments depth) ≡ true
   unfolding assignments assignment
-  assignments-ok = simp (expr-ok depth, expr-null depth, expr-cont depth)
+  assignments-ok = simp (expr-ok depth, expr-cont depth)
 
   assignment-cont : cont (assignment depth) ≡ after_whole
   unfolding assignment
   assignment-cont = simp (expr-cont depth)
 
-  assignment-null : null (assignment depth) ≡ false
-  unfolding assignment
-  assignment-null = refl
-
   assignments-cont : cont (assignments depth) ≡ k.Comma ∷ (after_whole ++ after_whole)
   unfolding assignments
-  assignments-cont = simp (assignment-cont, assignment-null)
-
-  assignments-null : null (assignments depth) ≡ false
-  unfolding assignments assignment
-  assignments-null = refl
+  assignments-cont = simp (assignment-cont)
 
   update-ok : ok (update depth) ≡ true
   unfolding update
@@ -87,11 +79,11 @@ module _ (depth : ℕ) where
 
   update-cont : cont (update depth) ≡ after_whole ++ k.Where ∷ k.Comma ∷ (after_whole ++ after_whole)
   unfolding update
-  update-cont = simp (assignments-cont, assignments-null, filter-null, filter-cont)
+  update-cont = simp (assignments-cont, filter-null, filter-cont)
 
   delete-ok : ok (delete depth) ≡ true
   unfolding delete
-  delete-ok = simp (filter-ok, filter-first)
+  delete-ok = simp (filter-ok)
 
   delete-cont : cont (delete depth) ≡ after_whole ++ k.Where ∷ []
   unfolding delete
@@ -165,13 +157,9 @@ module _ (depth : ℕ) where
   unfolding outputs listed_outputs
   outputs-cont = simp (output-cont, output-null)
 
-  outputs-null : null (outputs depth) ≡ false
-  unfolding outputs listed_outputs
-  outputs-null = simp (output-null)
-
   second_table-ok : ok (second_table depth) ≡ true
   unfolding second_table joined table alias
-  second_table-ok = simp (expr-ok depth, expr-null depth, expr-cont depth)
+  second_table-ok = simp (expr-ok depth)
 
   second_table-null : null (second_table depth) ≡ true
   unfolding second_table
@@ -183,19 +171,15 @@ module _ (depth : ℕ) where
 
   second_table-cont : cont (second_table depth) ≡ after_second
   unfolding second_table joined table alias
-  second_table-cont = simp (expr-cont depth, expr-null depth)
+  second_table-cont = simp (expr-cont depth)
 
   source-ok : ok (source depth) ≡ true
   unfolding source table alias
   source-ok = simp (second_table-ok, second_table-null, second_table-cont, second_table-first, filter-ok, filter-first)
 
-  source-null : null (source depth) ≡ false
-  unfolding source table alias
-  source-null = refl
-
   source-cont : cont (source depth) ≡ after_source
   unfolding source table alias
-  source-cont = simp (second_table-null, second_table-cont, second_table-first, filter-null, filter-cont)
+  source-cont = simp (second_table-null, second_table-cont, filter-null, filter-cont)
 
   tail-ok : ok tail ≡ true
   unfolding tail groups columns column order keys key descending limited limit_value
@@ -219,7 +203,7 @@ module _ (depth : ℕ) where
 
   select-cont : cont (select depth) ≡ after_tail ++ after_source
   unfolding select behind
-  select-cont = simp (outputs-null, outputs-cont, source-null, source-cont, tail-null, tail-cont)
+  select-cont = simp (source-cont, tail-null, tail-cont)
 
   pub stmt-ok : ok (stmt depth) ≡ true
   unfolding stmt

@@ -1,10 +1,1 @@
-pub mod Cursor
-pub mod Ddl
-pub mod Expressions
-pub mod Nests
-pub mod NestsSteps
-pub mod Procedures
-pub mod Reads
 pub mod Statements
-pub mod Types
-pub mod Words

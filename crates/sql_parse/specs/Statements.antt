@@ -5,8 +5,8 @@ use Rattle.std.specs.Prelude.{ℕ, Bool, true, false, List, [], ◌∷◌, Optio
 use Rattle.sql_grammar.specs.declared.kind.Kind.{Kind}
 use Rattle.sql_grammar.specs.declared.kind.Kind.TheVariants as k
 use Rattle.sql_grammar.specs.Grammar.{G, tok, pure, seq, alt, map, skip, guard, note, listed, opt, is}
-use Rattle.sql_parse.specs.declared.expression.ColumnName.{ColumnName}
-use Rattle.sql_parse.specs.declared.expression.Expr.{Expr}
+use Rattle.expr_parse.specs.declared.expression.ColumnName.{ColumnName}
+use Rattle.expr_parse.specs.declared.expression.Expr.{Expr}
 use Rattle.sql_parse.specs.declared.select.Origin.{Origin}
 use Rattle.sql_parse.specs.declared.select.Rest.{Rest}
 use Rattle.sql_parse.specs.declared.select.Behind.{Behind}
@@ -30,7 +30,7 @@ use Rattle.sql_parse.specs.declared.statement.SortKey.{SortKey}
 use Rattle.sql_parse.specs.declared.statement.Stmt.{Stmt}
 use Rattle.sql_parse.specs.declared.statement.Stmt.TheVariants as s
 use Rattle.sql_parse.specs.declared.statement.TableName.{TableName}
-use Rattle.sql_parse.specs.Expressions.{can_nest, name, number, column, before, parens, expr, inner_expr, max_nesting}
+use Rattle.expr_parse.specs.Expressions.{can_nest, name, number, column, before, parens, expr, inner_expr, max_nesting}
 
 -- Parts that hold no expression
 

@@ -4,22 +4,21 @@ ghost use Rattle.std.specs.Prelude.{◌≡◌, ◌<◌, ◌≤◌, ◌^◌, ℕ,
 ghost use Rattle.volt_text.specs.Tokens.{Reads as Lexes, Tokens as Lexed};
 ghost use Rattle.sql_grammar.specs.Grammar.{parse};
 ghost use Rattle.sql_grammar.specs.Reading.{IsRead, IsRefused};
-ghost use Rattle.sql_parse.specs.Cursor.{toks};
+ghost use Rattle.expr_parse.specs.Cursor.{toks};
 ghost use Rattle.sql_parse.specs.Statements.{statement};
-ghost use Rattle.sql_parse.specs.Reads.{Reads, refused_at};
+ghost use Rattle.expr_parse.specs.Reads.{Reads};
 ghost use Rattle.sql_parse.specs.Statements as spec;
 
-use crate::cursor::Tokens;
-use crate::fault::{Fault, ParseFault};
 use crate::select::select;
 use crate::statement::Stmt;
 use crate::writes::{delete, insert, update};
+use expr_parse::{Fault, ParseFault, Tokens};
 use sql_grammar::Kind;
 use std::alloc::Global;
 use volt_text::Token;
 
-/// A statement, where so many nestings are left.
-#[tactic(auto, using(crate::proofs::Steps::steps), unfolding(crate::specs::Statements::stmt))]
+/// Reads a statement, in which parentheses, NOT and unary minus may still nest so deep.
+#[tactic(auto, using(expr_parse::proofs::Steps::steps), unfolding(crate::specs::Statements::stmt))]
 pub fn stmt(alloc: Global, tokens: &mut Tokens<'_>, depth: usize) -> Result<Stmt, Fault>
     ensures { Reads (parse (spec.stmt depth) tokens.old) result tokens.new }
 {
@@ -38,19 +37,8 @@ pub fn stmt(alloc: Global, tokens: &mut Tokens<'_>, depth: usize) -> Result<Stmt
     Ok(Stmt::Select(select(alloc, tokens, depth)?))
 }
 
-/// How deep steps, parentheses, NOT and unary minus nest.
+/// How deep steps, parentheses, NOT and unary minus nest at most.
 pub const MAX_NESTING: usize = 100;
-
-/// The answer where reading ended at this token.
-pub fn refusal(fault: Fault, place: usize) -> ParseFault
-    requires { place < 2 ^ 32 }
-    ensures { result ≡ refused_at fault place }
-{
-    match fault {
-        Fault::Syntax => ParseFault::Syntax(place as u32),
-        Fault::NoMemory => ParseFault::NoMemory,
-    }
-}
 
 /// Reads the statement that is a prefix of a text's tokens from the token of this number
 /// on, and answers it with the number of the token behind it.
@@ -71,12 +59,11 @@ pub fn parse_statement(
     ensures read { IfOk result (λ r. IsRead statement (toks text.now tokens.now) from r.0 r.1) }
     ensures refused { (place : ℕ) → result ≡ Err (ParseFault.Syntax place) → IsRefused statement (toks text.now tokens.now) from place }
 {
-    let (_, ahead) = tokens.split_at(from);
-    let mut cursor = Tokens::new(text, ahead);
+    let mut cursor = Tokens::at(text, tokens, from);
     let read = stmt(alloc, &mut cursor, MAX_NESTING);
     let place = tokens.len().saturating_sub(cursor.left());
     match read {
         Ok(found) => Ok((found, place)),
-        Err(fault) => Err(refusal(fault, place)),
+        Err(fault) => Err(fault.at(place)),
     }
 }

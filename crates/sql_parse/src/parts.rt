@@ -2,67 +2,45 @@
 
 ghost use Rattle.std.specs.Prelude.{◌≡◌};
 ghost use Rattle.sql_grammar.specs.Grammar.{parse};
-ghost use Rattle.sql_parse.specs.Reads.{Reads};
+ghost use Rattle.expr_parse.specs.Reads.{Reads};
 ghost use Rattle.sql_parse.specs.Statements as spec;
 
-use crate::atoms::column;
-use crate::cursor::Tokens;
-use crate::expression::ColumnName;
-use crate::fault::Fault;
 use crate::statement::{Limit, SortKey, TableName};
+use expr_parse::{ColumnName, Fault, Tokens, column, comma_list};
 use sql_grammar::Kind;
 use sqlite_items::Items;
 use std::alloc::Global;
 use volt_value::Text;
 
 /// `name {"," name}`.
-#[tactic(auto, using(crate::proofs::Steps::steps), unfolding(crate::specs::Statements::names))]
+#[tactic(auto, unfolding(crate::specs::Statements::names))]
 pub fn names(alloc: Global, tokens: &mut Tokens<'_>) -> Result<Items<Text>, Fault>
     ensures { Reads (parse spec.names tokens.old) result tokens.new }
 {
-    let mut found = Items::new(alloc);
-    found.push(tokens.name(alloc)?)?;
-    for _turn in 0..tokens.left() {
-        if !tokens.eat(Kind::Comma) {
-            return Ok(found);
-        }
-        found.push(tokens.name(alloc)?)?;
-    }
-    Ok(found)
+    comma_list(alloc, tokens, |alloc, tokens| tokens.name(alloc))
 }
 
 /// `col {"," col}`.
-#[tactic(auto, using(crate::proofs::Steps::steps), unfolding(crate::specs::Statements::columns))]
+#[tactic(auto, unfolding(crate::specs::Statements::columns))]
 fn columns(alloc: Global, tokens: &mut Tokens<'_>) -> Result<Items<ColumnName>, Fault>
     ensures { Reads (parse spec.columns tokens.old) result tokens.new }
 {
-    let mut found = Items::new(alloc);
-    found.push(column(alloc, tokens)?)?;
-    for _turn in 0..tokens.left() {
-        if !tokens.eat(Kind::Comma) {
-            return Ok(found);
-        }
-        found.push(column(alloc, tokens)?)?;
-    }
-    Ok(found)
+    comma_list(alloc, tokens, |alloc, tokens| column(alloc, tokens))
 }
 
 /// `[[AS] name]`.
-#[tactic(auto, using(crate::proofs::Steps::steps), unfolding(crate::specs::Statements::alias))]
+#[tactic(auto, using(expr_parse::proofs::Steps::steps), unfolding(crate::specs::Statements::alias))]
 fn alias(alloc: Global, tokens: &mut Tokens<'_>) -> Result<Option<Text>, Fault>
     ensures { Reads (parse spec.alias tokens.old) result tokens.new }
 {
-    if tokens.eat(Kind::As) {
-        return Ok(Some(tokens.name(alloc)?));
-    }
-    if tokens.sees(Kind::Name) {
+    if tokens.eat(Kind::As) || tokens.sees(Kind::Name) {
         return Ok(Some(tokens.name(alloc)?));
     }
     Ok(None)
 }
 
 /// `name [[AS] name]`.
-#[tactic(auto, using(crate::proofs::Steps::steps), unfolding(crate::specs::Statements::table))]
+#[tactic(auto, using(expr_parse::proofs::Steps::steps), unfolding(crate::specs::Statements::table))]
 pub fn table(alloc: Global, tokens: &mut Tokens<'_>) -> Result<TableName, Fault>
     ensures { Reads (parse spec.table tokens.old) result tokens.new }
 {
@@ -72,7 +50,7 @@ pub fn table(alloc: Global, tokens: &mut Tokens<'_>) -> Result<TableName, Fault>
 }
 
 /// `[GROUP BY col {"," col}]`.
-#[tactic(auto, using(crate::proofs::Steps::steps), unfolding(crate::specs::Statements::groups))]
+#[tactic(auto, using(expr_parse::proofs::Steps::steps), unfolding(crate::specs::Statements::groups))]
 pub fn groups(alloc: Global, tokens: &mut Tokens<'_>) -> Result<Items<ColumnName>, Fault>
     ensures { Reads (parse spec.groups tokens.old) result tokens.new }
 {
@@ -84,7 +62,7 @@ pub fn groups(alloc: Global, tokens: &mut Tokens<'_>) -> Result<Items<ColumnName
 }
 
 /// `[ASC | DESC]`: whether it is DESC.
-#[tactic(auto, using(crate::proofs::Steps::steps), unfolding(crate::specs::Statements::descending))]
+#[tactic(auto, using(expr_parse::proofs::Steps::steps), unfolding(crate::specs::Statements::descending))]
 fn descending(tokens: &mut Tokens<'_>) -> bool
     ensures { parse spec.descending tokens.old ≡ Ok (result, tokens.new) }
 {
@@ -96,7 +74,7 @@ fn descending(tokens: &mut Tokens<'_>) -> bool
 }
 
 /// `col [ASC | DESC]`.
-#[tactic(auto, using(crate::proofs::Steps::steps), unfolding(crate::specs::Statements::key))]
+#[tactic(auto, using(expr_parse::proofs::Steps::steps), unfolding(crate::specs::Statements::key))]
 fn key(alloc: Global, tokens: &mut Tokens<'_>) -> Result<SortKey, Fault>
     ensures { Reads (parse spec.key tokens.old) result tokens.new }
 {
@@ -106,23 +84,15 @@ fn key(alloc: Global, tokens: &mut Tokens<'_>) -> Result<SortKey, Fault>
 }
 
 /// `key {"," key}`.
-#[tactic(auto, using(crate::proofs::Steps::steps), unfolding(crate::specs::Statements::keys))]
+#[tactic(auto, unfolding(crate::specs::Statements::keys))]
 fn keys(alloc: Global, tokens: &mut Tokens<'_>) -> Result<Items<SortKey>, Fault>
     ensures { Reads (parse spec.keys tokens.old) result tokens.new }
 {
-    let mut found = Items::new(alloc);
-    found.push(key(alloc, tokens)?)?;
-    for _turn in 0..tokens.left() {
-        if !tokens.eat(Kind::Comma) {
-            return Ok(found);
-        }
-        found.push(key(alloc, tokens)?)?;
-    }
-    Ok(found)
+    comma_list(alloc, tokens, key)
 }
 
 /// `[ORDER BY key {"," key}]`.
-#[tactic(auto, using(crate::proofs::Steps::steps), unfolding(crate::specs::Statements::order))]
+#[tactic(auto, using(expr_parse::proofs::Steps::steps), unfolding(crate::specs::Statements::order))]
 pub fn order(alloc: Global, tokens: &mut Tokens<'_>) -> Result<Items<SortKey>, Fault>
     ensures { Reads (parse spec.order tokens.old) result tokens.new }
 {
@@ -134,7 +104,7 @@ pub fn order(alloc: Global, tokens: &mut Tokens<'_>) -> Result<Items<SortKey>, F
 }
 
 /// A number, `?`, or `":" name`.
-#[tactic(auto, using(crate::proofs::Steps::steps), unfolding(crate::specs::Statements::limit_value))]
+#[tactic(auto, using(expr_parse::proofs::Steps::steps), unfolding(crate::specs::Statements::limit_value))]
 fn limit_value(alloc: Global, tokens: &mut Tokens<'_>) -> Result<Limit, Fault>
     ensures { Reads (parse spec.limit_value tokens.old) result tokens.new }
 {
@@ -149,7 +119,7 @@ fn limit_value(alloc: Global, tokens: &mut Tokens<'_>) -> Result<Limit, Fault>
 }
 
 /// `[LIMIT (number | "?" | ":" name)]`.
-#[tactic(auto, using(crate::proofs::Steps::steps), unfolding(crate::specs::Statements::limited))]
+#[tactic(auto, using(expr_parse::proofs::Steps::steps), unfolding(crate::specs::Statements::limited))]
 pub fn limited(alloc: Global, tokens: &mut Tokens<'_>) -> Result<Option<Limit>, Fault>
     ensures { Reads (parse spec.limited tokens.old) result tokens.new }
 {

@@ -2,18 +2,15 @@
 
 ghost use Rattle.std.specs.Prelude.{◌≡◌};
 ghost use Rattle.sql_grammar.specs.Grammar.{parse};
-ghost use Rattle.sql_parse.specs.Reads.{Reads};
+ghost use Rattle.expr_parse.specs.Reads.{Reads};
 ghost use Rattle.sql_parse.specs.Statements as spec;
 
-use crate::cursor::Tokens;
-use crate::expression::{ColumnName, Expr};
-use crate::fault::Fault;
-use crate::nested::{expr, inner_expr};
 use crate::parts::{groups, limited, order, table};
 use crate::statement::{
     Aggregate, Limit, Output, OutputValue, Outputs, SecondTable, Select, SortKey, TableName,
 };
 use crate::writes::filter;
+use expr_parse::{ColumnName, Expr, Fault, Tokens, comma_list, expr, inner_expr};
 use sql_grammar::Kind;
 use sqlite_items::Items;
 use std::alloc::Global;
@@ -68,7 +65,7 @@ fn select_of(outputs: Outputs, behind: Behind) -> Select
 }
 
 /// `expr ")"`, behind a parenthesis.
-#[tactic(auto, using(crate::proofs::Steps::steps), unfolding(crate::specs::Statements::closed))]
+#[tactic(auto, using(expr_parse::proofs::Steps::steps), unfolding(crate::specs::Statements::closed))]
 fn closed(alloc: Global, tokens: &mut Tokens<'_>, depth: usize) -> Result<Expr, Fault>
     ensures { Reads (parse (spec.closed depth) tokens.old) result tokens.new }
 {
@@ -78,7 +75,7 @@ fn closed(alloc: Global, tokens: &mut Tokens<'_>, depth: usize) -> Result<Expr, 
 }
 
 /// `"(" expr ")"`, behind SUM, MIN or MAX.
-#[tactic(auto, using(crate::proofs::Steps::steps), unfolding(crate::specs::Statements::aggregated))]
+#[tactic(auto, using(expr_parse::proofs::Steps::steps), unfolding(crate::specs::Statements::aggregated))]
 fn aggregated(
     alloc: Global,
     tokens: &mut Tokens<'_>,
@@ -93,7 +90,7 @@ fn aggregated(
 }
 
 /// `"*" ")" | expr ")"`, behind a parenthesis.
-#[tactic(auto, using(crate::proofs::Steps::steps), unfolding(crate::specs::Statements::counted_value))]
+#[tactic(auto, using(expr_parse::proofs::Steps::steps), unfolding(crate::specs::Statements::counted_value))]
 fn counted_value(alloc: Global, tokens: &mut Tokens<'_>, depth: usize) -> Result<OutputValue, Fault>
     ensures { Reads (parse (spec.counted_value depth) tokens.old) result tokens.new }
 {
@@ -106,7 +103,7 @@ fn counted_value(alloc: Global, tokens: &mut Tokens<'_>, depth: usize) -> Result
 }
 
 /// `"(" ("*" | expr) ")"`, behind COUNT.
-#[tactic(auto, using(crate::proofs::Steps::steps), unfolding(crate::specs::Statements::counted))]
+#[tactic(auto, using(expr_parse::proofs::Steps::steps), unfolding(crate::specs::Statements::counted))]
 fn counted(alloc: Global, tokens: &mut Tokens<'_>, depth: usize) -> Result<OutputValue, Fault>
     ensures { Reads (parse (spec.counted depth) tokens.old) result tokens.new }
 {
@@ -116,7 +113,7 @@ fn counted(alloc: Global, tokens: &mut Tokens<'_>, depth: usize) -> Result<Outpu
 }
 
 /// MIN or MAX of an expression, or an expression.
-#[tactic(auto, using(crate::proofs::Steps::steps), unfolding(crate::specs::Statements::least_or_greatest))]
+#[tactic(auto, using(expr_parse::proofs::Steps::steps), unfolding(crate::specs::Statements::least_or_greatest))]
 fn least_or_greatest(
     alloc: Global,
     tokens: &mut Tokens<'_>,
@@ -134,7 +131,7 @@ fn least_or_greatest(
 }
 
 /// An aggregate, or an expression.
-#[tactic(auto, using(crate::proofs::Steps::steps), unfolding(crate::specs::Statements::output_value))]
+#[tactic(auto, using(expr_parse::proofs::Steps::steps), unfolding(crate::specs::Statements::output_value))]
 fn output_value(alloc: Global, tokens: &mut Tokens<'_>, depth: usize) -> Result<OutputValue, Fault>
     ensures { Reads (parse (spec.output_value depth) tokens.old) result tokens.new }
 {
@@ -148,7 +145,7 @@ fn output_value(alloc: Global, tokens: &mut Tokens<'_>, depth: usize) -> Result<
 }
 
 /// `[AS name]`.
-#[tactic(auto, using(crate::proofs::Steps::steps), unfolding(crate::specs::Statements::output_name))]
+#[tactic(auto, using(expr_parse::proofs::Steps::steps), unfolding(crate::specs::Statements::output_name))]
 fn output_name(alloc: Global, tokens: &mut Tokens<'_>) -> Result<Option<Text>, Fault>
     ensures { Reads (parse spec.output_name tokens.old) result tokens.new }
 {
@@ -159,7 +156,7 @@ fn output_name(alloc: Global, tokens: &mut Tokens<'_>) -> Result<Option<Text>, F
 }
 
 /// An output and its name.
-#[tactic(auto, using(crate::proofs::Steps::steps), unfolding(crate::specs::Statements::output))]
+#[tactic(auto, using(expr_parse::proofs::Steps::steps), unfolding(crate::specs::Statements::output))]
 fn output(alloc: Global, tokens: &mut Tokens<'_>, depth: usize) -> Result<Output, Fault>
     ensures { Reads (parse (spec.output depth) tokens.old) result tokens.new }
 {
@@ -169,7 +166,7 @@ fn output(alloc: Global, tokens: &mut Tokens<'_>, depth: usize) -> Result<Output
 }
 
 /// `out {"," out}`.
-#[tactic(auto, using(crate::proofs::Steps::steps), unfolding(crate::specs::Statements::listed_outputs))]
+#[tactic(auto, unfolding(crate::specs::Statements::listed_outputs))]
 fn listed_outputs(
     alloc: Global,
     tokens: &mut Tokens<'_>,
@@ -177,19 +174,11 @@ fn listed_outputs(
 ) -> Result<Items<Output>, Fault>
     ensures { Reads (parse (spec.listed_outputs depth) tokens.old) result tokens.new }
 {
-    let mut found = Items::new(alloc);
-    found.push(output(alloc, tokens, depth)?)?;
-    for _turn in 0..tokens.left() {
-        if !tokens.eat(Kind::Comma) {
-            return Ok(found);
-        }
-        found.push(output(alloc, tokens, depth)?)?;
-    }
-    Ok(found)
+    comma_list(alloc, tokens, |alloc, tokens| output(alloc, tokens, depth))
 }
 
 /// `"*" | out {"," out}`.
-#[tactic(auto, using(crate::proofs::Steps::steps), unfolding(crate::specs::Statements::outputs))]
+#[tactic(auto, using(expr_parse::proofs::Steps::steps), unfolding(crate::specs::Statements::outputs))]
 fn outputs(alloc: Global, tokens: &mut Tokens<'_>, depth: usize) -> Result<Outputs, Fault>
     ensures { Reads (parse (spec.outputs depth) tokens.old) result tokens.new }
 {
@@ -200,7 +189,7 @@ fn outputs(alloc: Global, tokens: &mut Tokens<'_>, depth: usize) -> Result<Outpu
 }
 
 /// `name [[AS] name] ON expr`.
-#[tactic(auto, using(crate::proofs::Steps::steps), unfolding(crate::specs::Statements::joined))]
+#[tactic(auto, using(expr_parse::proofs::Steps::steps), unfolding(crate::specs::Statements::joined))]
 fn joined(alloc: Global, tokens: &mut Tokens<'_>, depth: usize) -> Result<SecondTable, Fault>
     ensures { Reads (parse (spec.joined depth) tokens.old) result tokens.new }
 {
@@ -211,7 +200,7 @@ fn joined(alloc: Global, tokens: &mut Tokens<'_>, depth: usize) -> Result<Second
 }
 
 /// The second table of a FROM, where there is one.
-#[tactic(auto, using(crate::proofs::Steps::steps), unfolding(crate::specs::Statements::second_table))]
+#[tactic(auto, using(expr_parse::proofs::Steps::steps), unfolding(crate::specs::Statements::second_table))]
 fn second_table(
     alloc: Global,
     tokens: &mut Tokens<'_>,
@@ -233,7 +222,7 @@ fn second_table(
 }
 
 /// What stands behind FROM, up to the condition of WHERE.
-#[tactic(auto, using(crate::proofs::Steps::steps), unfolding(crate::specs::Statements::source))]
+#[tactic(auto, using(expr_parse::proofs::Steps::steps), unfolding(crate::specs::Statements::source))]
 fn source(alloc: Global, tokens: &mut Tokens<'_>, depth: usize) -> Result<Origin, Fault>
     ensures { Reads (parse (spec.source depth) tokens.old) result tokens.new }
 {
@@ -248,7 +237,7 @@ fn source(alloc: Global, tokens: &mut Tokens<'_>, depth: usize) -> Result<Origin
 }
 
 /// `[GROUP BY ..] [ORDER BY ..] [LIMIT ..]`.
-#[tactic(auto, using(crate::proofs::Steps::steps), unfolding(crate::specs::Statements::tail))]
+#[tactic(auto, using(expr_parse::proofs::Steps::steps), unfolding(crate::specs::Statements::tail))]
 fn tail(alloc: Global, tokens: &mut Tokens<'_>) -> Result<Rest, Fault>
     ensures { Reads (parse spec.tail tokens.old) result tokens.new }
 {
@@ -263,7 +252,7 @@ fn tail(alloc: Global, tokens: &mut Tokens<'_>) -> Result<Rest, Fault>
 }
 
 /// FROM, and what stands behind it.
-#[tactic(auto, using(crate::proofs::Steps::steps), unfolding(crate::specs::Statements::behind))]
+#[tactic(auto, using(expr_parse::proofs::Steps::steps), unfolding(crate::specs::Statements::behind))]
 fn behind_outputs(alloc: Global, tokens: &mut Tokens<'_>, depth: usize) -> Result<Behind, Fault>
     ensures { Reads (parse (spec.behind depth) tokens.old) result tokens.new }
 {
@@ -274,7 +263,7 @@ fn behind_outputs(alloc: Global, tokens: &mut Tokens<'_>, depth: usize) -> Resul
 }
 
 /// What stands behind SELECT.
-#[tactic(auto, using(crate::proofs::Steps::steps), unfolding(crate::specs::Statements::select))]
+#[tactic(auto, using(expr_parse::proofs::Steps::steps), unfolding(crate::specs::Statements::select))]
 pub fn select(alloc: Global, tokens: &mut Tokens<'_>, depth: usize) -> Result<Select, Fault>
     ensures { Reads (parse (spec.select depth) tokens.old) result tokens.new }
 {

@@ -1,6 +1,6 @@
 //! Statements, as they are written.
 
-use crate::expression::{ColumnName, Expr};
+use expr_parse::{ColumnName, Expr};
 use sqlite_items::Items;
 use volt_value::Text;
 

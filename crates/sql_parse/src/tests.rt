@@ -3,6 +3,7 @@
 ghost use Rattle.std.specs.Prelude.{◌<◌, ◌^◌, length};
 
 use crate::*;
+use expr_parse::Tokens;
 use std::alloc::Global;
 use std::test::Fail;
 use volt_text::lex;
@@ -141,15 +142,6 @@ fn limits_hold(rt: HostRuntime) -> Result<(), Fail> {
     let deeper = nested(alloc, 101, "(", ")")?;
     assert!(rt; deeper.len() < 100_000);
     assert_eq!(rt; refusal_of(alloc, deeper.as_str())?, Some(104));
-    let inverted = nested(alloc, 101, "NOT ", "")?;
-    assert!(rt; inverted.len() < 100_000);
-    assert_eq!(rt; refusal_of(alloc, inverted.as_str())?, Some(104));
-    let long = nested(alloc, 2047, "1+", "")?;
-    assert!(rt; long.len() < 100_000);
-    assert_eq!(rt; end_of(alloc, long.as_str())?, Some(4099));
-    let longer = nested(alloc, 2048, "1+", "")?;
-    assert!(rt; longer.len() < 100_000);
-    assert_eq!(rt; refusal_of(alloc, longer.as_str())?, Some(4100));
     Ok(())
 }
 
@@ -191,65 +183,24 @@ fn each_part_is_refused_at_its_place(rt: HostRuntime) -> Result<(), Fail> {
     Ok(())
 }
 
-/// A statement whose condition is 4095 tokens of a sum behind these.
-fn summed(alloc: Global, prefix: &str) -> Result<String, Fail> {
-    let mut text = String::from_str(alloc, "DELETE FROM t WHERE ")?;
-    text.push_str(prefix)?;
-    for _turn in 0..2047 {
-        text.push_str("1+")?;
-    }
-    text.push_str("1")?;
-    Ok(text)
-}
-
 #[test]
-fn the_greatest_numbers_are_within_the_limits(rt: HostRuntime) -> Result<(), Fail> {
+fn rules_go_on_from_a_cursor(rt: HostRuntime) -> Result<(), Fail> {
     let alloc = rt.alloc();
-    let inverted = nested(alloc, 100, "NOT ", "")?;
-    assert!(rt; inverted.len() < 100_000);
-    assert_eq!(rt; end_of(alloc, inverted.as_str())?, Some(105));
-    let long = summed(alloc, "-")?;
-    assert!(rt; long.len() < 100_000);
-    assert_eq!(rt; end_of(alloc, long.as_str())?, Some(4100));
-    let longer = summed(alloc, "- -")?;
-    assert!(rt; longer.len() < 100_000);
-    assert_eq!(rt; refusal_of(alloc, longer.as_str())?, Some(4100));
-    Ok(())
-}
-
-/// Whether the expression is `(NOT a = b) AND (c + (d * (-e)))`.
-fn is_by_strength(expr: &Expr) -> bool {
-    let Expr::And(left, right) = expr else {
-        return false;
-    };
-    let Expr::Not(test) = left.get() else {
-        return false;
-    };
-    let Expr::Calculate(Arithmetic::Add, _, product) = right.get() else {
-        return false;
-    };
-    let Expr::Calculate(Arithmetic::Multiply, _, negated) = product.get() else {
-        return false;
-    };
-    matches!(test.get(), Expr::Compare(Comparison::Equal, _, _))
-        && matches!(negated.get(), Expr::Negate(_))
-}
-
-#[test]
-fn operators_bind_by_their_strength(rt: HostRuntime) -> Result<(), Fail> {
-    let alloc = rt.alloc();
-    let text = "DELETE FROM t WHERE NOT a = b AND c + d * -e";
+    let text = "a, b DELETE FROM t WHERE (1) = 1;";
     let tokens = lex(alloc, text)?;
-    let (tree, next) = parse_statement(alloc, text, tokens.as_slice(), 0)?;
-    assert_eq!(rt; next, 15);
-    let Stmt::Delete(delete) = tree else {
-        return Err(Fail::from("no DELETE"));
-    };
-    let Delete { table, filter } = delete;
-    assert_eq!(rt; table.as_str(), "t");
-    let Some(filter) = filter else {
-        return Err(Fail::from("no WHERE"));
-    };
-    assert!(rt; is_by_strength(&filter));
+    let mut cursor = Tokens::at(text, tokens.as_slice(), 0);
+    match names(alloc, &mut cursor) {
+        Ok(found) => assert_eq!(rt; found.len(), 2),
+        Err(_) => return Err(Fail::from("no names")),
+    }
+    assert_eq!(rt; cursor.left(), 10);
+    match stmt(alloc, &mut cursor, 1) {
+        Ok(Stmt::Delete(delete)) => assert_eq!(rt; delete.table.as_str(), "t"),
+        _ => return Err(Fail::from("no DELETE")),
+    }
+    assert_eq!(rt; cursor.left(), 1);
+    let mut shallow = Tokens::at(text, tokens.as_slice(), 3);
+    assert!(rt; stmt(alloc, &mut shallow, 0).is_err());
+    assert_eq!(rt; shallow.left(), 6);
     Ok(())
 }

@@ -2,22 +2,19 @@
 
 ghost use Rattle.std.specs.Prelude.{◌≡◌};
 ghost use Rattle.sql_grammar.specs.Grammar.{parse};
-ghost use Rattle.sql_parse.specs.Reads.{Reads};
+ghost use Rattle.expr_parse.specs.Reads.{Reads};
 ghost use Rattle.sql_parse.specs.Statements as spec;
 
-use crate::cursor::Tokens;
-use crate::expression::Expr;
-use crate::fault::Fault;
-use crate::nested::{expr, inner_expr};
 use crate::parts::names;
 use crate::statement::{Assignment, Delete, Insert, Update};
+use expr_parse::{Expr, Fault, Tokens, comma_list, expr, inner_expr};
 use sql_grammar::Kind;
 use sqlite_items::Items;
 use std::alloc::Global;
 use volt_value::Text;
 
 /// `[WHERE expr]`.
-#[tactic(auto, using(crate::proofs::Steps::steps), unfolding(crate::specs::Statements::filter))]
+#[tactic(auto, using(expr_parse::proofs::Steps::steps), unfolding(crate::specs::Statements::filter))]
 pub fn filter(alloc: Global, tokens: &mut Tokens<'_>, depth: usize) -> Result<Option<Expr>, Fault>
     ensures { Reads (parse (spec.filter depth) tokens.old) result tokens.new }
 {
@@ -28,23 +25,19 @@ pub fn filter(alloc: Global, tokens: &mut Tokens<'_>, depth: usize) -> Result<Op
 }
 
 /// `expr {"," expr}`, behind a parenthesis.
-#[tactic(auto, using(crate::proofs::Steps::steps), unfolding(crate::specs::Statements::inner_exprs))]
+#[tactic(auto, unfolding(crate::specs::Statements::inner_exprs))]
 fn inner_exprs(alloc: Global, tokens: &mut Tokens<'_>, depth: usize) -> Result<Items<Expr>, Fault>
     ensures { Reads (parse (spec.inner_exprs depth) tokens.old) result tokens.new }
 {
-    let mut found = Items::new(alloc);
-    found.push(inner_expr(alloc, tokens, depth)?)?;
-    for _turn in 0..tokens.left() {
-        if !tokens.eat(Kind::Comma) {
-            return Ok(found);
-        }
-        found.push(inner_expr(alloc, tokens, depth)?)?;
-    }
-    Ok(found)
+    comma_list(
+        alloc,
+        tokens,
+        |alloc, tokens| inner_expr(alloc, tokens, depth),
+    )
 }
 
 /// `["(" names ")"]`.
-#[tactic(auto, using(crate::proofs::Steps::steps), unfolding(crate::specs::Statements::named_columns))]
+#[tactic(auto, using(expr_parse::proofs::Steps::steps), unfolding(crate::specs::Statements::named_columns))]
 fn named_columns(
     alloc: Global,
     tokens: &mut Tokens<'_>,
@@ -62,7 +55,7 @@ fn named_columns(
 }
 
 /// `"(" expr {"," expr} ")"`.
-#[tactic(auto, using(crate::proofs::Steps::steps), unfolding(crate::specs::Statements::values))]
+#[tactic(auto, using(expr_parse::proofs::Steps::steps), unfolding(crate::specs::Statements::values))]
 fn values(alloc: Global, tokens: &mut Tokens<'_>, depth: usize) -> Result<Items<Expr>, Fault>
     ensures { Reads (parse (spec.values depth) tokens.old) result tokens.new }
 {
@@ -73,7 +66,7 @@ fn values(alloc: Global, tokens: &mut Tokens<'_>, depth: usize) -> Result<Items<
 }
 
 /// `name ["(" names ")"] VALUES "(" expr {"," expr} ")"`.
-#[tactic(auto, using(crate::proofs::Steps::steps), unfolding(crate::specs::Statements::insert))]
+#[tactic(auto, using(expr_parse::proofs::Steps::steps), unfolding(crate::specs::Statements::insert))]
 pub fn insert(alloc: Global, tokens: &mut Tokens<'_>, depth: usize) -> Result<Insert, Fault>
     ensures { Reads (parse (spec.insert depth) tokens.old) result tokens.new }
 {
@@ -89,7 +82,7 @@ pub fn insert(alloc: Global, tokens: &mut Tokens<'_>, depth: usize) -> Result<In
 }
 
 /// `name "=" expr`.
-#[tactic(auto, using(crate::proofs::Steps::steps), unfolding(crate::specs::Statements::assignment))]
+#[tactic(auto, using(expr_parse::proofs::Steps::steps), unfolding(crate::specs::Statements::assignment))]
 fn assignment(alloc: Global, tokens: &mut Tokens<'_>, depth: usize) -> Result<Assignment, Fault>
     ensures { Reads (parse (spec.assignment depth) tokens.old) result tokens.new }
 {
@@ -100,7 +93,7 @@ fn assignment(alloc: Global, tokens: &mut Tokens<'_>, depth: usize) -> Result<As
 }
 
 /// `name "=" expr {"," name "=" expr}`.
-#[tactic(auto, using(crate::proofs::Steps::steps), unfolding(crate::specs::Statements::assignments))]
+#[tactic(auto, unfolding(crate::specs::Statements::assignments))]
 fn assignments(
     alloc: Global,
     tokens: &mut Tokens<'_>,
@@ -108,19 +101,15 @@ fn assignments(
 ) -> Result<Items<Assignment>, Fault>
     ensures { Reads (parse (spec.assignments depth) tokens.old) result tokens.new }
 {
-    let mut found = Items::new(alloc);
-    found.push(assignment(alloc, tokens, depth)?)?;
-    for _turn in 0..tokens.left() {
-        if !tokens.eat(Kind::Comma) {
-            return Ok(found);
-        }
-        found.push(assignment(alloc, tokens, depth)?)?;
-    }
-    Ok(found)
+    comma_list(
+        alloc,
+        tokens,
+        |alloc, tokens| assignment(alloc, tokens, depth),
+    )
 }
 
 /// `name SET name "=" expr {"," name "=" expr} [WHERE expr]`.
-#[tactic(auto, using(crate::proofs::Steps::steps), unfolding(crate::specs::Statements::update))]
+#[tactic(auto, using(expr_parse::proofs::Steps::steps), unfolding(crate::specs::Statements::update))]
 pub fn update(alloc: Global, tokens: &mut Tokens<'_>, depth: usize) -> Result<Update, Fault>
     ensures { Reads (parse (spec.update depth) tokens.old) result tokens.new }
 {
@@ -136,7 +125,7 @@ pub fn update(alloc: Global, tokens: &mut Tokens<'_>, depth: usize) -> Result<Up
 }
 
 /// `name [WHERE expr]`.
-#[tactic(auto, using(crate::proofs::Steps::steps), unfolding(crate::specs::Statements::delete))]
+#[tactic(auto, using(expr_parse::proofs::Steps::steps), unfolding(crate::specs::Statements::delete))]
 pub fn delete(alloc: Global, tokens: &mut Tokens<'_>, depth: usize) -> Result<Delete, Fault>
     ensures { Reads (parse (spec.delete depth) tokens.old) result tokens.new }
 {

@@ -1,6 +1,6 @@
 //! Expressions.
 
-use sql_parse::{Arithmetic, Comparison};
+use expr_parse::{Arithmetic, Comparison};
 use sqlite_items::{Boxed, Items};
 use volt_value::Value;
 

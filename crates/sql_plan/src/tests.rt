@@ -20,7 +20,7 @@ fn delete(alloc: Global) -> Result<Prepared, AllocError> {
         action: Action::Delete(DeletePlan {
             table: 3,
             filter: Cond::Compare(
-                sql_parse::Comparison::Equal,
+                expr_parse::Comparison::Equal,
                 Scalar::Column(1),
                 Scalar::Param(0),
             ),

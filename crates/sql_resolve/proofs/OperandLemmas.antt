@@ -1,7 +1,7 @@
 -- Operators that group to the left, with the first one of the text taken off or put on.
 use Rattle.std.proofs.Common.{◌≡◌, refl, ℕ, ◌<◌, List, [], ◌∷◌, ◌++◌}
 use denote.Ref.{Bor}
-use Rattle.sql_parse.specs.declared.expression.Expr.{Expr, size-Expr}
+use Rattle.expr_parse.specs.declared.expression.Expr.{Expr, size-Expr}
 use Rattle.sql_resolve.specs.declared.notes.Notes.{Notes}
 use Rattle.sql_resolve.specs.declared.operands.Operator.{Operator}
 use Rattle.sql_resolve.specs.declared.resolved.Resolved.{Resolved}

@@ -4,12 +4,12 @@ use Rattle.std.specs.Prelude.{ℕ, Bool, true, false, if◌then◌else◌, List,
 use Rattle.volt_value.specs.declared.value.Value.TheVariants as v
 use Rattle.volt_value.specs.declared.column.Class.{Class}
 use Rattle.volt_value.specs.declared.column.Class.TheVariants as class
-use Rattle.sql_parse.specs.declared.expression.Arithmetic.{Arithmetic}
-use Rattle.sql_parse.specs.declared.expression.Arithmetic.TheVariants as op
-use Rattle.sql_parse.specs.declared.expression.Comparison.{Comparison}
-use Rattle.sql_parse.specs.declared.expression.ColumnName.{ColumnName}
-use Rattle.sql_parse.specs.declared.expression.Expr.{Expr, fold-Expr}
-use Rattle.sql_parse.specs.declared.expression.Expr.TheOpen.{Expr-F as e}
+use Rattle.expr_parse.specs.declared.expression.Arithmetic.{Arithmetic}
+use Rattle.expr_parse.specs.declared.expression.Arithmetic.TheVariants as op
+use Rattle.expr_parse.specs.declared.expression.Comparison.{Comparison}
+use Rattle.expr_parse.specs.declared.expression.ColumnName.{ColumnName}
+use Rattle.expr_parse.specs.declared.expression.Expr.{Expr, fold-Expr}
+use Rattle.expr_parse.specs.declared.expression.Expr.TheOpen.{Expr-F as e}
 use Rattle.sql_plan.specs.declared.expression.Scalar.{Scalar}
 use Rattle.sql_plan.specs.declared.expression.Scalar.TheVariants as s
 use Rattle.sql_plan.specs.declared.expression.Cond.{Cond}

@@ -4,7 +4,7 @@ use Rattle.volt_value.specs.declared.column.Class.{Class}
 use Rattle.volt_value.specs.Columns.{class_of}
 use Rattle.volt_catalog.specs.declared.column.Column.{Column}
 use Rattle.volt_catalog.specs.Names.{same_name}
-use Rattle.sql_parse.specs.declared.expression.ColumnName.{ColumnName}
+use Rattle.expr_parse.specs.declared.expression.ColumnName.{ColumnName}
 use Rattle.sql_resolve.specs.declared.bound.Bound.{Bound}
 use Rattle.sql_resolve.specs.declared.bound.Given.{Given}
 use Rattle.sql_resolve.specs.declared.bound.Given.TheVariants.{Unbound}

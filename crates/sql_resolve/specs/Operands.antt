@@ -1,8 +1,8 @@
 -- Operators that group to the left, from the leftmost operand on.
 use Rattle.std.specs.Prelude.{ℕ, ◌<◌, Bool, true, false, List, [], ◌∷◌}
 use denote.Ref.{Bor}
-use Rattle.sql_parse.specs.declared.expression.Expr.{Expr, fold-Expr, size-Expr}
-use Rattle.sql_parse.specs.declared.expression.Expr.TheOpen.{Expr-F as e}
+use Rattle.expr_parse.specs.declared.expression.Expr.{Expr, fold-Expr, size-Expr}
+use Rattle.expr_parse.specs.declared.expression.Expr.TheOpen.{Expr-F as e}
 use Rattle.sql_resolve.specs.declared.notes.Notes.{Notes}
 use Rattle.sql_resolve.specs.declared.operands.Operator.{Operator}
 use Rattle.sql_resolve.specs.declared.resolved.Resolved.{Resolved}

@@ -6,7 +6,7 @@ ghost use Rattle.sql_resolve.specs.Named as named;
 ghost use Rattle.sql_resolve.specs.Names as names;
 
 use crate::bound::{Bound, Given};
-use sql_parse::ColumnName;
+use expr_parse::ColumnName;
 use std::marker::Model;
 use volt_catalog::{Column, Table};
 use volt_value::{Class, Text};

@@ -2,13 +2,13 @@
 
 ghost use Rattle.std.specs.Prelude.{◌≡◌, ◌<◌, true, false, IfOk, None};
 ghost use Rattle.std.specs.Option.{IfSome};
-ghost use Rattle.sql_parse.specs.declared.expression.Expr.{size-Expr};
+ghost use Rattle.expr_parse.specs.declared.expression.Expr.{size-Expr};
 ghost use Rattle.sql_resolve.specs.declared.notes.Notes.{Notes};
 ghost use Rattle.sql_resolve.specs.Expressions.{joined_at, meaning_of};
 ghost use Rattle.sql_resolve.specs.Named.{Tables};
 ghost use Rattle.sql_resolve.specs.Operands as spec;
 
-use sql_parse::{Arithmetic, Expr};
+use expr_parse::{Arithmetic, Expr};
 use std::alloc::{AllocError, Global};
 use volt_value::Class;
 

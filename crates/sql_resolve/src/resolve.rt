@@ -13,7 +13,7 @@ use crate::notes::Notes;
 use crate::operands::{Operator, operands};
 use crate::resolved::{Resolved, RightSide, join};
 use crate::sort::{common_among, common_of_three, common_of_two, sort_of};
-use sql_parse::{ColumnName, Expr};
+use expr_parse::{ColumnName, Expr};
 use sql_plan::{Cond, Scalar};
 use sqlite_items::{Boxed, Items};
 use std::alloc::{AllocError, Global};

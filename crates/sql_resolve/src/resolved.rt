@@ -5,7 +5,7 @@ ghost use Rattle.sql_resolve.specs.Expressions as spec;
 
 use crate::fault::CheckFault;
 use crate::notes::Notes;
-use sql_parse::Arithmetic;
+use expr_parse::Arithmetic;
 use sql_plan::{Cond, Scalar};
 use sqlite_items::{Boxed, Items};
 use std::alloc::{AllocError, Global};

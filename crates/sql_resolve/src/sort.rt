@@ -6,7 +6,7 @@ ghost use Rattle.sql_resolve.specs.Expressions as spec;
 
 use crate::bound::Given;
 use crate::names::Names;
-use sql_parse::{ColumnName, Expr};
+use expr_parse::{ColumnName, Expr};
 use volt_value::Class;
 
 /// What an expression gives, as far as its form tells.

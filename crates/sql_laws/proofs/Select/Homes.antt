@@ -13,7 +13,7 @@ use Rattle.volt_value.proofs.OrderLemmas.{value_cmp-equal}
 use Rattle.volt_catalog.specs.declared.table.Table.{Table}
 use Rattle.volt_catalog.specs.Rules.{Contents}
 use Rattle.volt_catalog.specs.Catalog.{IsCatalog}
-use Rattle.sql_parse.specs.declared.expression.Comparison.TheVariants as compare
+use Rattle.expr_parse.specs.declared.expression.Comparison.TheVariants as compare
 use Rattle.sql_plan.specs.declared.expression.Cond.{Cond}
 use Rattle.sql_plan.specs.declared.select.JoinPlan.{JoinPlan}
 use Rattle.sql_plan.specs.declared.select.SelectPlan.{SelectPlan}

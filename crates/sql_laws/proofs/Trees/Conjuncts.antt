@@ -7,9 +7,9 @@ use Rattle.std.proofs.lemmas.Bool.{cases_Bool, and_parts, or_cases, eqb-true, an
 use Rattle.volt_value.specs.declared.value.Value.{Value}
 use Rattle.volt_value.specs.declared.value.Value.TheVariants.{Null, Int, Text}
 use Rattle.volt_value.specs.Order.{value_cmp}
-use Rattle.sql_parse.specs.declared.expression.Arithmetic.{Arithmetic}
-use Rattle.sql_parse.specs.declared.expression.Comparison.{Comparison}
-use Rattle.sql_parse.specs.declared.expression.Comparison.TheVariants as compare
+use Rattle.expr_parse.specs.declared.expression.Arithmetic.{Arithmetic}
+use Rattle.expr_parse.specs.declared.expression.Comparison.{Comparison}
+use Rattle.expr_parse.specs.declared.expression.Comparison.TheVariants as compare
 use Rattle.sql_plan.specs.declared.fault.Fault.{Fault}
 use Rattle.sql_plan.specs.declared.expression.Scalar.{Scalar, roll-Scalar, map-Scalar}
 use Rattle.sql_plan.specs.declared.expression.Scalar.TheOpen.{Scalar-F as s}

@@ -1,20 +1,9 @@
-use Rattle.std.proofs.Common.{◌≡◌, true, false, rules}
-use Rattle.sql_grammar.specs.declared.kind.Kind.TheVariants as k
-use Rattle.sql_grammar.specs.Grammar.{parse, at, skip, joined}
-use Rattle.sql_parse.specs.Expressions.{name}
-use Rattle.sql_parse.proofs.Loops.{turned, ended, eaten_at, eaten_read}
+use Rattle.std.proofs.Common.{rules}
+use Rattle.sql_grammar.specs.Grammar.{parse}
+use Rattle.expr_parse.specs.Expressions.{name}
+use Rattle.sql_parse.specs.Statements.{names}
 use Rattle.sql_parse.proofs.parts.names.Goals as goal
 
-pub loop-turn-preserved : goal.loop-turn-preserved
-loop-turn-preserved c =
-    let h = name in
-    let yes : c.eat.result ≡ true = search rules in
-    turned joined (at (skip k.Comma h)) (parse (skip k.Comma h)) _ _ c.loop-turn._turn c.loop-turn.found c.loop-turn.tokens c.in_ok-name-2.field-0 _ _
-    c.loop-turn-test.true c.loop-turn.invariant (eaten_at k.Comma h c.loop-turn.tokens _ c.eat.result yes c.eat.ensures)
-    (eaten_read k.Comma h c.loop-turn.tokens _ _ c.eat.result c.in_ok-name-2.field-0 yes c.eat.ensures c.in_ok-name-2.ensures) c.in_ok-push-2.ensures.ok
-
-pub returns-then-not-eat : goal.returns-then-not-eat
-returns-then-not-eat c =
-    let none : c.eat.result ≡ false = search rules in
-    ended joined k.Comma (name) _ _ c.loop-turn._turn c.loop-turn.found c.loop-turn.tokens c.eat.new.self c.eat.result
-    c.loop-turn-test.true c.loop-turn.invariant none c.eat.ensures
+pub returns : goal.returns
+unfolding names
+returns c = c.comma_list.ensures (parse name) (λ alloc old new r post. search rules)

@@ -1,6 +1,6 @@
 use Rattle.std.proofs.Common.{◌≡◌, ◌≤◌, ◌<◌, ◌⊎◌, true}
 use Rattle.volt_value.specs.declared.column.Class.TheVariants as class
-use Rattle.sql_parse.specs.declared.expression.Expr.{size-Expr}
+use Rattle.expr_parse.specs.declared.expression.Expr.{size-Expr}
 use Rattle.sql_resolve.specs.declared.notes.Notes.{Notes}
 use Rattle.sql_resolve.specs.Expressions.{meaning_of}
 use Rattle.sql_resolve.specs.Named.{Tables}

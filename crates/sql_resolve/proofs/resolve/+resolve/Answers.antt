@@ -1,5 +1,5 @@
 use Rattle.std.proofs.Common.{◌≡◌, ◌∙◌, sym, ap, arith}
-use Rattle.sql_parse.specs.declared.expression.Expr.{size-Expr}
+use Rattle.expr_parse.specs.declared.expression.Expr.{size-Expr}
 use Rattle.sql_resolve.specs.Expressions.{with, joined_to}
 use Rattle.sql_resolve.specs.Operands.{joined_all, AreBelow}
 use Rattle.sql_resolve.proofs.OperandLemmas.{joined_all_append, AreBelow_front, AreBelow_last}

@@ -1,6 +1,6 @@
 use Rattle.std.proofs.Common.{◌≡◌, ◌++◌, drop, map, vec_len}
 use Rattle.volt_value.specs.declared.column.Class.TheVariants as class
-use Rattle.sql_parse.specs.declared.expression.Expr.{size-Expr}
+use Rattle.expr_parse.specs.declared.expression.Expr.{size-Expr}
 use Rattle.sql_resolve.specs.Expressions.{meaning_of, scalars_in}
 use Rattle.sql_resolve.specs.Operands.{joined_all, AreBelow}
 use Rattle.sql_resolve.proofs.resolve.+resolve.Given as goal

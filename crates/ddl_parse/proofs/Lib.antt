@@ -1,0 +1,4 @@
+pub mod DdlOk
+pub mod MoreSteps
+pub mod ProceduresOk
+pub mod Returned

@@ -1,0 +1,24 @@
+use Rattle.std.proofs.Common.{arith, ◌≡◌, Err, ap, sym, ◌∙◌, subst}
+use Rattle.sql_grammar.specs.Grammar.{parse}
+use Rattle.expr_parse.specs.Reads.{Reads, refused_at}
+use Rattle.expr_parse.specs.declared.fault.ParseFault.TheVariants as fault
+use Rattle.expr_parse.proofs.Standing.{few}
+use Rattle.expr_parse.proofs.Whereabouts.{read_there, refused_there}
+use Rattle.ddl_parse.specs.Ddl.{ddl}
+use Rattle.ddl_parse.proofs.DdlOk.{ddl-ok}
+use Rattle.ddl_parse.proofs.read_ddl.parse_ddl.Goals as goal
+
+pub at-requires : goal.at-requires
+at-requires c = omega (arith, few c.args.text.now c.args.tokens.now c.requires.lexed)
+
+pub returns-in-Ok-clause-read : goal.returns-in-Ok-clause-read
+returns-in-Ok-clause-read c =
+    read_there ddl ddl-ok c.args.text.now c.args.tokens.now c.args.from c.requires.within c.in-Ok.found c.ddl-read.new.tokens c.saturating_sub-place.result
+    (ap (parse ddl) (sym c.at-cursor.ensures) ∙ c.in-Ok.ensures) (omega arith)
+
+pub returns-in-Err-clause-refused : goal.returns-in-Err-clause-refused
+returns-in-Err-clause-refused c = λ place e.
+    let named : refused_at c.in-Err.fault c.saturating_sub-place.result ≡ fault.Syntax place = cc in
+    let reads : Reads (parse ddl c.at-cursor.result) (Err c.in-Err.fault) c.ddl-read.new.tokens = c.in-Err.ensures in
+    refused_there ddl ddl-ok c.args.text.now c.args.tokens.now c.args.from c.requires.within c.in-Err.fault c.saturating_sub-place.result place c.ddl-read.new.tokens named
+    (subst (λ ts. Reads (parse ddl ts) (Err c.in-Err.fault) c.ddl-read.new.tokens) c.at-cursor.ensures reads) (omega arith)

@@ -1,0 +1,4 @@
+pub mod Ddl
+pub mod NestsSteps
+pub mod Procedures
+pub mod Types

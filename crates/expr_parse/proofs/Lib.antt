@@ -1,0 +1,9 @@
+pub mod CommaLists
+pub mod Cut
+pub mod Deeper
+pub mod ExpressionsOk
+pub mod Halves
+pub mod Loops
+pub mod Standing
+pub mod Steps
+pub mod Whereabouts

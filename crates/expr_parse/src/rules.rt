@@ -1,0 +1,311 @@
+//! The rules of expressions.
+
+ghost use Rattle.std.specs.Prelude.{◌≡◌};
+ghost use Rattle.sql_grammar.specs.Grammar.{parse, at};
+ghost use Rattle.expr_parse.specs.Reads.{Reads, applied};
+ghost use Rattle.expr_parse.specs.Nests.{Nests};
+ghost use Rattle.expr_parse.specs.Expressions as spec;
+
+use crate::atoms::{begins_literal, literal, named};
+use crate::cursor::Tokens;
+use crate::expression::Expr;
+use crate::fault::Fault;
+use crate::levels::Level;
+use crate::lists::comma_list;
+use crate::operators::{
+    adding, between, both, calculate, compare, comparing, either, invert, is_in, is_null, negate,
+    parenthesize, scaling,
+};
+use sql_grammar::Kind;
+use sqlite_items::Items;
+use std::alloc::Global;
+
+/// The rules where so many nestings are left. They take the function that reads what nests in them
+/// as a value, so that each is proved by itself.
+#[derive(Clone, Copy)]
+pub struct Rules<F> {
+    pub alloc: Global,
+    pub depth: usize,
+    pub level: F,
+}
+
+impl<F: Fn(Global, &mut Tokens<'_>, usize, Level) -> Result<Expr, Fault>> Rules<F> {
+    /// What nests one further in.
+    fn inner(&self, tokens: &mut Tokens<'_>, level: Level) -> Result<Expr, Fault>
+        requires { Nests self.now.depth (F.pre self.now.level) (F.post self.now.level) }
+        ensures { Reads (parse (spec.deeper self.now.depth level) tokens.old) result tokens.new }
+    {
+        if self.depth == 0 {
+            return Err(Fault::Syntax);
+        }
+        (self.level)(self.alloc, tokens, self.depth - 1, level)
+    }
+
+    /// `"(" expr ")"`.
+    #[tactic(auto, using(crate::proofs::Steps::steps), unfolding(crate::specs::Expressions::parenthesized))]
+    fn parenthesized(&self, tokens: &mut Tokens<'_>) -> Result<Expr, Fault>
+        requires { Nests self.now.depth (F.pre self.now.level) (F.post self.now.level) }
+        ensures { Reads (parse (spec.parenthesized self.now.depth (spec.deeper self.now.depth)) tokens.old) result tokens.new }
+    {
+        tokens.open(self.depth, Kind::LeftParen)?;
+        let inner = self.inner(tokens, Level::Whole)?;
+        tokens.expect(Kind::RightParen)?;
+        Ok(parenthesize(self.alloc, inner)?)
+    }
+
+    /// An expression in parentheses, a literal, or what begins with a name, `":"`, ROWS or FIRST.
+    #[tactic(auto, using(crate::proofs::Steps::steps), unfolding(crate::specs::Expressions::atom, crate::specs::Expressions::parenthesized))]
+    fn atom(&self, tokens: &mut Tokens<'_>) -> Result<Expr, Fault>
+        requires { Nests self.now.depth (F.pre self.now.level) (F.post self.now.level) }
+        ensures { Reads (parse (spec.atom self.now.depth (spec.deeper self.now.depth)) tokens.old) result tokens.new }
+    {
+        if tokens.begins(self.depth, Kind::LeftParen) {
+            return self.parenthesized(tokens);
+        }
+        if begins_literal(tokens) {
+            return literal(self.alloc, tokens);
+        }
+        named(self.alloc, tokens, self.depth)
+    }
+
+    /// `"-" signed`.
+    #[tactic(auto, using(crate::proofs::Steps::steps), unfolding(crate::specs::Expressions::minus))]
+    fn minus(&self, tokens: &mut Tokens<'_>) -> Result<Expr, Fault>
+        requires { Nests self.now.depth (F.pre self.now.level) (F.post self.now.level) }
+        ensures { Reads (parse (spec.minus self.now.depth (spec.deeper self.now.depth)) tokens.old) result tokens.new }
+    {
+        tokens.open(self.depth, Kind::Minus)?;
+        let operand = self.inner(tokens, Level::Sign)?;
+        Ok(negate(self.alloc, operand)?)
+    }
+
+    /// Unary `-` over atoms.
+    #[tactic(auto, using(crate::proofs::Steps::steps), unfolding(crate::specs::Expressions::signed, crate::specs::Expressions::minus))]
+    fn signed(&self, tokens: &mut Tokens<'_>) -> Result<Expr, Fault>
+        requires { Nests self.now.depth (F.pre self.now.level) (F.post self.now.level) }
+        ensures { Reads (parse (spec.signed self.now.depth (spec.deeper self.now.depth)) tokens.old) result tokens.new }
+    {
+        if tokens.begins(self.depth, Kind::Minus) {
+            return self.minus(tokens);
+        }
+        self.atom(tokens)
+    }
+
+    /// `*` and `/` over unary `-`.
+    #[tactic(auto, using(crate::proofs::Steps::steps), unfolding(crate::specs::Expressions::product))]
+    fn product(&self, tokens: &mut Tokens<'_>) -> Result<Expr, Fault>
+        requires { Nests self.now.depth (F.pre self.now.level) (F.post self.now.level) }
+        ensures { Reads (parse (spec.product self.now.depth (spec.deeper self.now.depth)) tokens.old) result tokens.new }
+    {
+        let mut left = self.signed(tokens)?;
+        for _turn in 0..tokens.left() {
+            let Some(operator) = scaling(tokens) else {
+                return Ok(left);
+            };
+            let right = self.signed(tokens)?;
+            left = calculate(self.alloc, operator, left, right)?;
+        }
+        Ok(left)
+    }
+
+    /// `+` and `-` over `*` and `/`.
+    #[tactic(auto, using(crate::proofs::Steps::steps), unfolding(crate::specs::Expressions::sum))]
+    fn sum(&self, tokens: &mut Tokens<'_>) -> Result<Expr, Fault>
+        requires { Nests self.now.depth (F.pre self.now.level) (F.post self.now.level) }
+        ensures { Reads (parse (spec.sum self.now.depth (spec.deeper self.now.depth)) tokens.old) result tokens.new }
+    {
+        let mut left = self.product(tokens)?;
+        for _turn in 0..tokens.left() {
+            let Some(operator) = adding(tokens) else {
+                return Ok(left);
+            };
+            let right = self.product(tokens)?;
+            left = calculate(self.alloc, operator, left, right)?;
+        }
+        Ok(left)
+    }
+
+    /// `[NOT] NULL`, behind IS.
+    #[tactic(auto, using(crate::proofs::Steps::steps), unfolding(crate::specs::Expressions::null_test))]
+    fn null_test(&self, tokens: &mut Tokens<'_>, value: Expr) -> Result<Expr, Fault>
+        requires { Nests self.now.depth (F.pre self.now.level) (F.post self.now.level) }
+        ensures { Reads (applied value (parse (spec.null_test self.now.depth (spec.deeper self.now.depth)) tokens.old)) result tokens.new }
+    {
+        let negated = tokens.eat(Kind::Not);
+        tokens.expect(Kind::Null)?;
+        Ok(is_null(self.alloc, value, negated)?)
+    }
+
+    /// `sum AND sum`, behind BETWEEN.
+    #[tactic(auto, using(crate::proofs::Steps::steps), unfolding(crate::specs::Expressions::between))]
+    fn between(&self, tokens: &mut Tokens<'_>, value: Expr, negated: bool) -> Result<Expr, Fault>
+        requires { Nests self.now.depth (F.pre self.now.level) (F.post self.now.level) }
+        ensures { Reads (applied value (parse (spec.between self.now.depth (spec.deeper self.now.depth) negated) tokens.old)) result tokens.new }
+    {
+        let low = self.sum(tokens)?;
+        tokens.expect(Kind::And)?;
+        let high = self.sum(tokens)?;
+        Ok(between(self.alloc, value, low, high, negated)?)
+    }
+
+    /// `sum {"," sum}`.
+    #[tactic(auto, unfolding(crate::specs::Expressions::sums))]
+    fn sums(&self, tokens: &mut Tokens<'_>) -> Result<Items<Expr>, Fault>
+        requires { Nests self.now.depth (F.pre self.now.level) (F.post self.now.level) }
+        ensures { Reads (parse (spec.sums self.now.depth (spec.deeper self.now.depth)) tokens.old) result tokens.new }
+    {
+        comma_list(
+            self.alloc,
+            tokens,
+            |_alloc, tokens| self.inner(tokens, Level::Sum),
+        )
+    }
+
+    /// `"(" sum {"," sum} ")"`, behind IN.
+    #[tactic(auto, using(crate::proofs::Steps::steps), unfolding(crate::specs::Expressions::among))]
+    fn among(&self, tokens: &mut Tokens<'_>, value: Expr, negated: bool) -> Result<Expr, Fault>
+        requires { Nests self.now.depth (F.pre self.now.level) (F.post self.now.level) }
+        ensures { Reads (applied value (parse (spec.among self.now.depth (spec.deeper self.now.depth) negated) tokens.old)) result tokens.new }
+    {
+        tokens.open(self.depth, Kind::LeftParen)?;
+        let items = self.sums(tokens)?;
+        tokens.expect(Kind::RightParen)?;
+        Ok(is_in(self.alloc, value, items, negated)?)
+    }
+
+    /// BETWEEN or IN with what follows it, behind NOT.
+    #[tactic(auto, using(crate::proofs::Steps::steps), unfolding(crate::specs::Expressions::excluded))]
+    fn excluded(&self, tokens: &mut Tokens<'_>, value: Expr) -> Result<Expr, Fault>
+        requires { Nests self.now.depth (F.pre self.now.level) (F.post self.now.level) }
+        ensures { Reads (applied value (parse (spec.excluded self.now.depth (spec.deeper self.now.depth)) tokens.old)) result tokens.new }
+    {
+        if tokens.eat(Kind::Between) {
+            return self.between(tokens, value, true);
+        }
+        tokens.expect(Kind::In)?;
+        self.among(tokens, value, true)
+    }
+
+    /// `[cmp sum]`.
+    #[tactic(auto, using(crate::proofs::Steps::steps), unfolding(crate::specs::Expressions::compared))]
+    fn compared(&self, tokens: &mut Tokens<'_>, value: Expr) -> Result<Expr, Fault>
+        requires { Nests self.now.depth (F.pre self.now.level) (F.post self.now.level) }
+        ensures { Reads (applied value (parse (spec.compared self.now.depth (spec.deeper self.now.depth)) tokens.old)) result tokens.new }
+    {
+        let Some(operator) = comparing(tokens) else {
+            return Ok(value);
+        };
+        let right = self.sum(tokens)?;
+        Ok(compare(self.alloc, operator, value, right)?)
+    }
+
+    /// BETWEEN or IN with what follows it, or a comparison, or nothing.
+    #[tactic(auto, using(crate::proofs::Steps::steps), unfolding(crate::specs::Expressions::contained))]
+    fn contained(&self, tokens: &mut Tokens<'_>, value: Expr) -> Result<Expr, Fault>
+        requires { Nests self.now.depth (F.pre self.now.level) (F.post self.now.level) }
+        ensures { Reads (applied value (parse (spec.contained self.now.depth (spec.deeper self.now.depth)) tokens.old)) result tokens.new }
+    {
+        if tokens.eat(Kind::Between) {
+            return self.between(tokens, value, false);
+        }
+        if tokens.eat(Kind::In) {
+            return self.among(tokens, value, false);
+        }
+        self.compared(tokens, value)
+    }
+
+    /// What a test says of the sum before it, where it says something.
+    #[tactic(auto, using(crate::proofs::Steps::steps), unfolding(crate::specs::Expressions::tested))]
+    fn tested(&self, tokens: &mut Tokens<'_>, value: Expr) -> Result<Expr, Fault>
+        requires { Nests self.now.depth (F.pre self.now.level) (F.post self.now.level) }
+        ensures { Reads (applied value (parse (spec.tested self.now.depth (spec.deeper self.now.depth)) tokens.old)) result tokens.new }
+    {
+        if tokens.eat(Kind::Is) {
+            return self.null_test(tokens, value);
+        }
+        if tokens.eat(Kind::Not) {
+            return self.excluded(tokens, value);
+        }
+        self.contained(tokens, value)
+    }
+
+    /// A sum, compared or tested.
+    #[tactic(auto, using(crate::proofs::Steps::steps), unfolding(crate::specs::Expressions::test))]
+    fn test(&self, tokens: &mut Tokens<'_>) -> Result<Expr, Fault>
+        requires { Nests self.now.depth (F.pre self.now.level) (F.post self.now.level) }
+        ensures { Reads (parse (spec.test self.now.depth (spec.deeper self.now.depth)) tokens.old) result tokens.new }
+    {
+        let value = self.sum(tokens)?;
+        self.tested(tokens, value)
+    }
+
+    /// `NOT negation`.
+    #[tactic(auto, using(crate::proofs::Steps::steps), unfolding(crate::specs::Expressions::inverted))]
+    fn inverted(&self, tokens: &mut Tokens<'_>) -> Result<Expr, Fault>
+        requires { Nests self.now.depth (F.pre self.now.level) (F.post self.now.level) }
+        ensures { Reads (parse (spec.inverted self.now.depth (spec.deeper self.now.depth)) tokens.old) result tokens.new }
+    {
+        tokens.open(self.depth, Kind::Not)?;
+        let operand = self.inner(tokens, Level::Negation)?;
+        Ok(invert(self.alloc, operand)?)
+    }
+
+    /// NOT over tests.
+    #[tactic(auto, using(crate::proofs::Steps::steps), unfolding(crate::specs::Expressions::negation, crate::specs::Expressions::inverted))]
+    fn negation(&self, tokens: &mut Tokens<'_>) -> Result<Expr, Fault>
+        requires { Nests self.now.depth (F.pre self.now.level) (F.post self.now.level) }
+        ensures { Reads (parse (spec.negation self.now.depth (spec.deeper self.now.depth)) tokens.old) result tokens.new }
+    {
+        if tokens.begins(self.depth, Kind::Not) {
+            return self.inverted(tokens);
+        }
+        self.test(tokens)
+    }
+
+    /// AND over NOT.
+    #[tactic(auto, using(crate::proofs::Steps::steps), unfolding(crate::specs::Expressions::conjunction))]
+    fn conjunction(&self, tokens: &mut Tokens<'_>) -> Result<Expr, Fault>
+        requires { Nests self.now.depth (F.pre self.now.level) (F.post self.now.level) }
+        ensures { Reads (parse (spec.conjunction self.now.depth (spec.deeper self.now.depth)) tokens.old) result tokens.new }
+    {
+        let mut left = self.negation(tokens)?;
+        for _turn in 0..tokens.left() {
+            if !tokens.eat(Kind::And) {
+                return Ok(left);
+            }
+            let right = self.negation(tokens)?;
+            left = both(self.alloc, left, right)?;
+        }
+        Ok(left)
+    }
+
+    /// OR over AND.
+    #[tactic(auto, using(crate::proofs::Steps::steps), unfolding(crate::specs::Expressions::disjunction))]
+    fn disjunction(&self, tokens: &mut Tokens<'_>) -> Result<Expr, Fault>
+        requires { Nests self.now.depth (F.pre self.now.level) (F.post self.now.level) }
+        ensures { Reads (parse (spec.disjunction self.now.depth (spec.deeper self.now.depth)) tokens.old) result tokens.new }
+    {
+        let mut left = self.conjunction(tokens)?;
+        for _turn in 0..tokens.left() {
+            if !tokens.eat(Kind::Or) {
+                return Ok(left);
+            }
+            let right = self.conjunction(tokens)?;
+            left = either(self.alloc, left, right)?;
+        }
+        Ok(left)
+    }
+
+    /// The rule of this level.
+    pub fn at_level(&self, tokens: &mut Tokens<'_>, level: Level) -> Result<Expr, Fault>
+        requires { Nests self.now.depth (F.pre self.now.level) (F.post self.now.level) }
+        ensures { Reads (parse (spec.by_level self.now.depth (spec.deeper self.now.depth) level) tokens.old) result tokens.new }
+    {
+        match level {
+            Level::Whole => self.disjunction(tokens),
+            Level::Negation => self.negation(tokens),
+            Level::Sum => self.sum(tokens),
+            Level::Sign => self.signed(tokens),
+        }
+    }
+}

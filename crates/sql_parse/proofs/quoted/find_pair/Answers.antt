@@ -1,6 +1,0 @@
-use Rattle.std.proofs.Common.{arith}
-use Rattle.sql_parse.proofs.Halves.{none}
-use Rattle.sql_parse.proofs.quoted.find_pair.Goals as goal
-
-pub returns : goal.returns
-returns c = none c.args.text.now c.loop-at.at (omega arith) c.loop-at.invariant.so_far

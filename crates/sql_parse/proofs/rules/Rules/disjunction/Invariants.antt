@@ -1,9 +1,0 @@
-use Rattle.std.proofs.Common.{◌≡◌, ◌-◌}
-use Rattle.sql_grammar.specs.declared.kind.Kind.TheVariants as k
-use Rattle.sql_grammar.specs.Grammar.{parse, loop, at, skip}
-use Rattle.sql_parse.specs.Expressions.{disjunction, conjunction, deeper}
-use Rattle.sql_parse.specs.declared.expression.Expr.TheVariants.{Or}
-use Rattle.sql_parse.proofs.rules.Rules.disjunction.Given as goal
-
-abbrev pub invariant-loop-turn : goal.invariant-loop-turn
-invariant-loop-turn g l = parse (disjunction l.self.depth (deeper l.self.depth)) l.fn.tokens ≡ loop Or (at (skip k.Or (conjunction l.self.depth (deeper l.self.depth)))) (parse (skip k.Or (conjunction l.self.depth (deeper l.self.depth)))) (l._turn-end - l._turn) l.left l.tokens

@@ -1,8 +1,0 @@
-use Rattle.std.proofs.Common.{◌≡◌, ◌-◌}
-use Rattle.sql_grammar.specs.Grammar.{parse}
-use Rattle.sql_parse.specs.Ddl.{table_items, table_item}
-use Rattle.sql_parse.proofs.CommaLists.{Turns}
-use Rattle.sql_parse.proofs.tables.table_items.Given as goal
-
-abbrev pub invariant-loop-turn : goal.invariant-loop-turn
-invariant-loop-turn l = parse table_items l.fn.tokens ≡ Turns table_item (l._turn-end - l._turn) l.found l.tokens
