@@ -163,6 +163,10 @@ pub(crate) fn limited_to(
         None => Ok(None),
         Some(Limit::Number(n)) => Ok(Some(RowLimit::Number(*n))),
         Some(Limit::Parameter) => Ok(limit_at(question(names, notes, Class::Int)?)),
-        Some(Limit::Variable(name)) => Ok(limit_at(taken(notes, names.variable(name), Class::Int)?)),
+        Some(Limit::Variable(name)) => Ok(limit_at(taken(
+            notes,
+            names.variable(name),
+            Class::Int,
+        )?)),
     }
 }

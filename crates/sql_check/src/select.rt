@@ -8,11 +8,11 @@ ghost use Rattle.sql_check.specs.Writes.{filtered};
 
 use crate::columns::all_columns;
 use crate::distribution::tell_parts;
+use crate::examined::{Examined, finish};
 use crate::from::{Source, Sources, find_sources, on_of};
 use crate::groups::{Grouping, group_columns, group_outputs};
 use crate::order::{limited_to, ordered, with_groups, with_key};
 use crate::outputs::{all_heads, have_aggregate, heads_of_outputs, row_outputs};
-use crate::examined::{Examined, finish};
 use crate::writes::filtered;
 use sql_parse::{Expr, Output, Outputs, Select, SortKey};
 use sql_plan::{Action, Cond, JoinPlan, Order, Scalar, SelectPlan, Shape};
@@ -110,7 +110,10 @@ fn shape_of(
             if select.groups.len() != 0 {
                 notes.blame(CheckFault::NoSuchName);
             }
-            let values = all_columns(alloc, names.left_columns().len() + names.right_columns().len())?;
+            let values = all_columns(
+                alloc,
+                names.left_columns().len() + names.right_columns().len(),
+            )?;
             rows_of(alloc, names, notes, heads, select.order.as_slice(), values)
         }
         Outputs::Listed(outputs) => {

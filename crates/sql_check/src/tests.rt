@@ -4,8 +4,12 @@ ghost use Rattle.std.specs.Prelude.{◌<◌, ◌^◌, length};
 
 use crate::*;
 use sql_parse::{ParseFault, parse_statement};
-use sql_plan::{Action, Cond, GroupOutput, Order, OrderBy, Prepared, RowLimit, Scalar, Scope, Shape};
-use sql_resolve::CheckFault;
+use sql_plan::{
+    Action, Cond, GroupOutput, Order, OrderBy, Prepared, ProgramValue, RowLimit, Scalar, Scope,
+    Shape,
+};
+use sql_resolve::{Bound, CheckFault};
+use sqlite_items::Items;
 use std::alloc::{AllocError, Global};
 use std::test::Fail;
 use volt_catalog::{Catalog, Column, ColumnNos, Columns, Table};
@@ -42,9 +46,24 @@ fn add(
 fn tables(alloc: Global) -> Result<Catalog, Fail> {
     let mut catalog = Catalog::new(alloc);
     let text = ColType::Varchar(9);
-    add(alloc, &mut catalog, "a", &[("id", ColType::Big), ("n", ColType::Big), ("t", text)])?;
-    add(alloc, &mut catalog, "b", &[("id", ColType::Big), ("v", ColType::Big)])?;
-    add(alloc, &mut catalog, "r", &[("k", text), ("x", ColType::Big)])?;
+    add(
+        alloc,
+        &mut catalog,
+        "a",
+        &[("id", ColType::Big), ("n", ColType::Big), ("t", text)],
+    )?;
+    add(
+        alloc,
+        &mut catalog,
+        "b",
+        &[("id", ColType::Big), ("v", ColType::Big)],
+    )?;
+    add(
+        alloc,
+        &mut catalog,
+        "r",
+        &[("k", text), ("x", ColType::Big)],
+    )?;
     if catalog.partition(0, 0).is_err() || catalog.partition(1, 0).is_err() {
         return Err(Fail::from(CheckFault::NoMemory));
     }
@@ -83,7 +102,10 @@ fn writes_are_checked(rt: HostRuntime) -> Result<(), Fail> {
     assert_eq!(rt; code(alloc, "INSERT INTO a VALUES (1, 2, 3)")?, 14);
     assert_eq!(rt; code(alloc, "INSERT INTO a VALUES (1, n, 'x')")?, 9);
     assert_eq!(rt; code(alloc, "INSERT INTO a VALUES (:v, 1, 'x')")?, 19);
-    assert_eq!(rt; code(alloc, "UPDATE a SET n = n + 1, t = ? WHERE a.id = ?")?, 0);
+    assert_eq!(rt;
+        code(alloc, "UPDATE a SET n = n + 1, t = ? WHERE a.id = ?")?,
+        0
+    );
     assert_eq!(rt; code(alloc, "UPDATE a SET id = 1")?, 16);
     assert_eq!(rt; code(alloc, "UPDATE a SET id = 'x'")?, 14);
     assert_eq!(rt; code(alloc, "UPDATE a SET id = 'x', m = 1")?, 9);
@@ -97,31 +119,55 @@ fn writes_are_checked(rt: HostRuntime) -> Result<(), Fail> {
 #[test]
 fn selects_are_checked(rt: HostRuntime) -> Result<(), Fail> {
     let alloc = rt.alloc();
-    assert_eq!(rt; code(alloc, "SELECT (n), t AS x FROM a ORDER BY x, n DESC LIMIT ?")?, 0);
+    assert_eq!(rt;
+        code(
+            alloc,
+            "SELECT (n), t AS x FROM a ORDER BY x, n DESC LIMIT ?"
+        )?,
+        0
+    );
     assert_eq!(rt; code(alloc, "SELECT n = 1 FROM a")?, 14);
     assert_eq!(rt; code(alloc, "SELECT ? FROM a")?, 14);
     assert_eq!(rt; code(alloc, "SELECT n FROM a ORDER BY m")?, 9);
-    assert_eq!(rt; code(alloc, "SELECT t, COUNT(*) FROM a GROUP BY t ORDER BY t")?, 0);
+    assert_eq!(rt;
+        code(alloc, "SELECT t, COUNT(*) FROM a GROUP BY t ORDER BY t")?,
+        0
+    );
     assert_eq!(rt; code(alloc, "SELECT n, COUNT(*) FROM a GROUP BY t")?, 9);
     assert_eq!(rt; code(alloc, "SELECT (n), COUNT(*) FROM a GROUP BY t")?, 9);
-    assert_eq!(rt; code(alloc, "SELECT n + 1, COUNT(*) FROM a GROUP BY n")?, 14);
+    assert_eq!(rt;
+        code(alloc, "SELECT n + 1, COUNT(*) FROM a GROUP BY n")?,
+        14
+    );
     assert_eq!(rt; code(alloc, "SELECT COUNT(n), SUM(t) FROM a")?, 14);
     assert_eq!(rt; code(alloc, "SELECT * FROM a GROUP BY t")?, 9);
-    assert_eq!(rt; code(alloc, "SELECT COUNT(*) FROM a GROUP BY t ORDER BY a.t")?, 9);
+    assert_eq!(rt;
+        code(alloc, "SELECT COUNT(*) FROM a GROUP BY t ORDER BY a.t")?,
+        9
+    );
     Ok(())
 }
 
 #[test]
 fn joins_are_checked(rt: HostRuntime) -> Result<(), Fail> {
     let alloc = rt.alloc();
-    assert_eq!(rt; code(alloc, "SELECT n FROM a, b WHERE a.id = b.id AND n / v = 1")?, 0);
+    assert_eq!(rt;
+        code(alloc, "SELECT n FROM a, b WHERE a.id = b.id AND n / v = 1")?,
+        0
+    );
     assert_eq!(rt; code(alloc, "SELECT n FROM a JOIN b ON b.id = a.id")?, 0);
-    assert_eq!(rt; code(alloc, "SELECT n FROM a, b WHERE n / v = 1 AND a.id = b.id")?, 15);
+    assert_eq!(rt;
+        code(alloc, "SELECT n FROM a, b WHERE n / v = 1 AND a.id = b.id")?,
+        15
+    );
     assert_eq!(rt; code(alloc, "SELECT n FROM a, b WHERE a.id IN (b.id)")?, 15);
     assert_eq!(rt; code(alloc, "SELECT n FROM a, r WHERE k = t")?, 0);
     assert_eq!(rt; code(alloc, "SELECT id FROM a, b WHERE a.id = b.id")?, 9);
     assert_eq!(rt; code(alloc, "SELECT n FROM a, b AS A")?, 9);
-    assert_eq!(rt; code(alloc, "SELECT x.n FROM a AS x, a AS y WHERE x.id = y.id")?, 0);
+    assert_eq!(rt;
+        code(alloc, "SELECT x.n FROM a AS x, a AS y WHERE x.id = y.id")?,
+        0
+    );
     Ok(())
 }
 
@@ -142,7 +188,11 @@ fn gives(plan: &Prepared, place: usize, name: &str, class: Class) -> bool {
 fn plan_has_scope_parameters_and_columns(rt: HostRuntime) -> Result<(), Fail> {
     let alloc = rt.alloc();
     let catalog = tables(alloc)?;
-    let plan = prepared(alloc, &catalog, "SELECT n, n + ? AS m, t, n * 2 FROM a WHERE ? = t")?;
+    let plan = prepared(
+        alloc,
+        &catalog,
+        "SELECT n, n + ? AS m, t, n * 2 FROM a WHERE ? = t",
+    )?;
     assert!(rt; plan.scope() == Scope::AllPartitions);
     assert!(rt; takes(&plan, &[Class::Int, Class::Text]));
     assert_eq!(rt; plan.columns().len(), 4);
@@ -154,7 +204,11 @@ fn plan_has_scope_parameters_and_columns(rt: HostRuntime) -> Result<(), Fail> {
     assert!(rt; plan.scope() == Scope::Replicated);
     assert!(rt; takes(&plan, &[Class::Text]));
     assert!(rt; gives(&plan, 0, "modified_tuples", Class::Int));
-    let plan = prepared(alloc, &catalog, "SELECT * FROM r, a AS b WHERE k = t AND ? < ?")?;
+    let plan = prepared(
+        alloc,
+        &catalog,
+        "SELECT * FROM r, a AS b WHERE k = t AND ? < ?",
+    )?;
     assert!(rt; takes(&plan, &[Class::Int, Class::Int]));
     assert_eq!(rt; plan.columns().len(), 5);
     assert!(rt; gives(&plan, 0, "k", Class::Text));
@@ -209,9 +263,18 @@ fn each_fault_comes_alone(rt: HostRuntime) -> Result<(), Fail> {
     assert_eq!(rt; code(alloc, "SELECT n, COUNT(*) FROM a")?, 9);
     assert_eq!(rt; code(alloc, "UPDATE a SET t = n")?, 14);
     assert_eq!(rt; code(alloc, "SELECT n FROM a, b WHERE a.id = b.v")?, 15);
-    assert_eq!(rt; code(alloc, "SELECT n FROM a, b WHERE a.id = b.id OR n = 1")?, 15);
-    assert_eq!(rt; code(alloc, "SELECT n FROM a, b WHERE -a.id = 1 AND a.id = b.id")?, 15);
-    assert_eq!(rt; code(alloc, "SELECT n FROM a, b WHERE n + 0 = 1 AND b.id = a.id")?, 15);
+    assert_eq!(rt;
+        code(alloc, "SELECT n FROM a, b WHERE a.id = b.id OR n = 1")?,
+        15
+    );
+    assert_eq!(rt;
+        code(alloc, "SELECT n FROM a, b WHERE -a.id = 1 AND a.id = b.id")?,
+        15
+    );
+    assert_eq!(rt;
+        code(alloc, "SELECT n FROM a, b WHERE n + 0 = 1 AND b.id = a.id")?,
+        15
+    );
     assert_eq!(rt; code(alloc, "UPDATE a SET n = 1, id = 2")?, 16);
     assert_eq!(rt; code(alloc, "SELECT :v FROM a")?, 19);
     assert_eq!(rt; code(alloc, "SELECT n FROM a WHERE n = ROWS(r)")?, 19);
@@ -231,7 +294,13 @@ fn least_of_two_faults_counts(rt: HostRuntime) -> Result<(), Fail> {
     assert_eq!(rt; code(alloc, "SELECT m FROM a, b")?, 9);
     assert_eq!(rt; code(alloc, "UPDATE a SET id = 1, m = 1")?, 9);
     assert_eq!(rt; code(alloc, "SELECT m FROM a WHERE n = :v")?, 9);
-    let text = repeated(alloc, "SELECT n FROM a WHERE n = 'x' OR n IN (1", ", ?", 33, ")")?;
+    let text = repeated(
+        alloc,
+        "SELECT n FROM a WHERE n = 'x' OR n IN (1",
+        ", ?",
+        33,
+        ")",
+    )?;
     assert_eq!(rt; code_of(alloc, text)?, 13);
     let text = repeated(alloc, "SELECT n FROM a, b WHERE n IN (1", ", ?", 33, ")")?;
     assert_eq!(rt; code_of(alloc, text)?, 13);
@@ -297,18 +366,35 @@ fn order_is_by_outputs_and_then_by_columns(rt: HostRuntime) -> Result<(), Fail> 
     assert!(rt; begins(&plan, OrderBy::Output(1), false, 2));
     let plan = prepared(alloc, &catalog, "SELECT id AS n, n FROM a ORDER BY n")?;
     assert!(rt; begins(&plan, OrderBy::Output(0), false, 2));
-    let plan = prepared(alloc, &catalog, "SELECT n FROM a, b WHERE a.id = b.id ORDER BY v")?;
+    let plan = prepared(
+        alloc,
+        &catalog,
+        "SELECT n FROM a, b WHERE a.id = b.id ORDER BY v",
+    )?;
     assert!(rt; begins(&plan, OrderBy::Column(4), false, 3));
     let plan = prepared(alloc, &catalog, "SELECT x, t FROM r, a WHERE k = t")?;
     assert!(rt; begins(&plan, OrderBy::Column(0), false, 2));
-    let plan = prepared(alloc, &catalog, "SELECT t, COUNT(*) AS c FROM a GROUP BY t ORDER BY c DESC")?;
+    let plan = prepared(
+        alloc,
+        &catalog,
+        "SELECT t, COUNT(*) AS c FROM a GROUP BY t ORDER BY c DESC",
+    )?;
     assert!(rt; begins(&plan, OrderBy::Output(1), true, 2));
     let plan = prepared(alloc, &catalog, "SELECT COUNT(*) FROM a GROUP BY t, n")?;
     assert!(rt; begins(&plan, OrderBy::Column(0), false, 2));
-    assert_eq!(rt; code(alloc, "SELECT COUNT(*) FROM a GROUP BY t ORDER BY t")?, 9);
+    assert_eq!(rt;
+        code(alloc, "SELECT COUNT(*) FROM a GROUP BY t ORDER BY t")?,
+        9
+    );
     assert_eq!(rt; code(alloc, "SELECT id FROM a, b WHERE a.id = b.id")?, 9);
-    assert_eq!(rt; code(alloc, "SELECT n FROM a, b WHERE a.id = b.id ORDER BY id")?, 9);
-    assert_eq!(rt; code(alloc, "SELECT a.id FROM a, b WHERE a.id = b.id ORDER BY id")?, 0);
+    assert_eq!(rt;
+        code(alloc, "SELECT n FROM a, b WHERE a.id = b.id ORDER BY id")?,
+        9
+    );
+    assert_eq!(rt;
+        code(alloc, "SELECT a.id FROM a, b WHERE a.id = b.id ORDER BY id")?,
+        0
+    );
     Ok(())
 }
 
@@ -400,7 +486,11 @@ fn groups_and_limits_stand_in_the_plan(rt: HostRuntime) -> Result<(), Fail> {
 fn conjuncts_are_one_and(rt: HostRuntime) -> Result<(), Fail> {
     let alloc = rt.alloc();
     let catalog = tables(alloc)?;
-    let plan = prepared(alloc, &catalog, "DELETE FROM a WHERE n = 1 AND n = 2 AND NOT n = 3 OR n = 4")?;
+    let plan = prepared(
+        alloc,
+        &catalog,
+        "DELETE FROM a WHERE n = 1 AND n = 2 AND NOT n = 3 OR n = 4",
+    )?;
     let Action::Delete(delete) = &plan.action else {
         return Err(Fail::from(CheckFault::NoMemory));
     };
@@ -413,6 +503,73 @@ fn conjuncts_are_one_and(rt: HostRuntime) -> Result<(), Fail> {
         },
         _ => assert!(rt; false),
     }
+    Ok(())
+}
+
+/// A program with the integer `n` and the text `s`.
+fn program(alloc: Global) -> Result<Bound, AllocError> {
+    let mut variables = Items::new(alloc);
+    variables.push((Text::of(alloc, "n")?, Class::Int))?;
+    variables.push((Text::of(alloc, "s")?, Class::Text))?;
+    Ok(Bound {
+        variables,
+        results: Items::new(alloc),
+        rows: Items::new(alloc),
+    })
+}
+
+/// A statement of such a program with its faults, where its tables are there.
+fn examined(alloc: Global, text: &str) -> Result<Option<Examined>, Fail>
+    requires { length text.now < 2 ^ 32 }
+{
+    let catalog = tables(alloc)?;
+    let program = program(alloc)?;
+    let tokens = lex(alloc, text)?;
+    let (statement, _) = parse_statement(alloc, text, tokens.as_slice(), 0)?;
+    Ok(examine(alloc, &catalog, Some(&program), &statement, true)?)
+}
+
+/// The number of the least fault of such a statement: 0 without one, 9 where a table isn't there.
+fn code_in_program(alloc: Global, text: &str) -> Result<u8, Fail>
+    requires { length text.now < 2 ^ 32 }
+{
+    match examined(alloc, text)? {
+        Some(found) => match found.fault {
+            Some(fault) => Ok(fault.code()),
+            None => Ok(0),
+        },
+        None => Ok(9),
+    }
+}
+
+#[test]
+fn statements_of_a_program_take_its_values(rt: HostRuntime) -> Result<(), Fail> {
+    let alloc = rt.alloc();
+    let text = "SELECT n FROM a WHERE t = :s AND :n < 3 LIMIT :n";
+    let Some(found) = examined(alloc, text)? else {
+        return Err(Fail::from(CheckFault::NoMemory));
+    };
+    assert!(rt; found.fault.is_none());
+    assert!(rt; takes(&found.prepared, &[Class::Text, Class::Int, Class::Int]));
+    let args = [
+        ProgramValue::Variable(1),
+        ProgramValue::Variable(0),
+        ProgramValue::Variable(0),
+    ];
+    assert!(rt; found.args.as_slice() == args.as_slice());
+    assert!(rt; found.prepared.scope() == Scope::OnePartition);
+    assert_eq!(rt; code_in_program(alloc, "DELETE FROM c WHERE n = :u")?, 9);
+    assert_eq!(rt; code_in_program(alloc, "DELETE FROM a WHERE n = :s")?, 14);
+    assert_eq!(rt; code_in_program(alloc, "DELETE FROM a WHERE n = ?")?, 19);
+    assert_eq!(rt; code_in_program(alloc, "DELETE FROM a WHERE t = :u")?, 19);
+    assert_eq!(rt; code_in_program(alloc, "SELECT n FROM a LIMIT :s")?, 14);
+    assert_eq!(rt; code_in_program(alloc, "SELECT n FROM a LIMIT ?")?, 19);
+    let text = repeated(alloc, "DELETE FROM a WHERE n IN (:n", ", :n", 254, ")")?;
+    assert!(rt; text.len() < 100_000);
+    assert_eq!(rt; code_in_program(alloc, text.as_str())?, 0);
+    let text = repeated(alloc, "DELETE FROM a WHERE n IN (:n", ", :n", 255, ")")?;
+    assert!(rt; text.len() < 100_000);
+    assert_eq!(rt; code_in_program(alloc, text.as_str())?, 13);
     Ok(())
 }
 

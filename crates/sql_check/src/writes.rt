@@ -89,12 +89,7 @@ fn put(row: &mut Items<Scalar>, place: usize, value: Scalar)
 }
 
 /// A value that is put into no column.
-fn unplaced(
-    alloc: Global,
-    names: &Names<'_>,
-    notes: &mut Notes,
-    e: &Expr,
-) -> Result<(), AllocError>
+fn unplaced(alloc: Global, names: &Names<'_>, notes: &mut Notes, e: &Expr) -> Result<(), AllocError>
     ensures { OnOk result (notes.new ≡ spec.unplaced names.now e.now notes.old) }
 {
     let _value = scalar(alloc, names, notes, e, Class::Int)?;
@@ -149,7 +144,15 @@ fn filled(
     let mut row = row;
     let mut ahead = places;
     for value in values {
-        fill_one(alloc, names, notes, columns, ahead.first().copied(), value, &mut row)?;
+        fill_one(
+            alloc,
+            names,
+            notes,
+            columns,
+            ahead.first().copied(),
+            value,
+            &mut row,
+        )?;
         ahead = behind(ahead);
     }
     Ok(row)
@@ -172,7 +175,15 @@ pub(crate) fn insert(
         notes.blame(CheckFault::TypeMismatch);
     }
     let row = nulls(alloc, columns.len())?;
-    let values = filled(alloc, names, notes, columns, places.as_slice(), insert.values.as_slice(), row)?;
+    let values = filled(
+        alloc,
+        names,
+        notes,
+        columns,
+        places.as_slice(),
+        insert.values.as_slice(),
+        row,
+    )?;
     Ok(Action::Insert(InsertPlan {
         table: number,
         values,

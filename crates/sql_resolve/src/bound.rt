@@ -83,7 +83,10 @@ impl Bound {
     pub fn result_named(&self, name: &Text) -> Option<usize>
         ensures { result ≡ spec.result_named self.now name.now }
     {
-        self.results.as_slice().iter().position(|made| is_same(name, &made.0))
+        self.results
+            .as_slice()
+            .iter()
+            .position(|made| is_same(name, &made.0))
     }
 
     /// `:name`.

@@ -24,7 +24,9 @@ pub fn table_named<'a>(catalog: &'a Catalog, name: &Text) -> Option<(u16, &'a Ta
 pub fn number_of(columns: &[Column], name: &Text) -> Option<usize>
     ensures { result ≡ tables.number_of columns.now name.now }
 {
-    columns.iter().position(|column| is_same(name, &column.name))
+    columns
+        .iter()
+        .position(|column| is_same(name, &column.name))
 }
 
 /// The class of a column.

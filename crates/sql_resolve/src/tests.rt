@@ -4,8 +4,8 @@ ghost use Rattle.std.specs.Prelude.{◌<◌, ◌^◌, length};
 
 use crate::*;
 use sql_parse::{Arithmetic, ColumnName, Expr, Stmt, parse_statement};
-use sql_plan::{Cond, Scalar};
-use sqlite_items::Boxed;
+use sql_plan::{Cond, ProgramValue, Scalar};
+use sqlite_items::{Boxed, Items};
 use std::alloc::{AllocError, Global};
 use std::mem::forget;
 use std::test::Fail;
@@ -32,7 +32,11 @@ fn table(alloc: Global, name: &str, columns: &[(&str, ColType)]) -> Result<Table
 
 /// `a (id BIGINT, t VARCHAR)`.
 fn first(alloc: Global) -> Result<Table, AllocError> {
-    table(alloc, "a", &[("id", ColType::Big), ("t", ColType::Varchar(9))])
+    table(
+        alloc,
+        "a",
+        &[("id", ColType::Big), ("t", ColType::Varchar(9))],
+    )
 }
 
 /// `b (id BIGINT, v SMALLINT)`.
@@ -67,7 +71,11 @@ fn named(alloc: Global, table: Option<&str>, column: &str) -> Result<ColumnName,
 }
 
 /// The number and the class of a column of both tables, of which the second one goes by `x`.
-fn place(alloc: Global, table: Option<&str>, column: &str) -> Result<Option<FoundColumn>, AllocError> {
+fn place(
+    alloc: Global,
+    table: Option<&str>,
+    column: &str,
+) -> Result<Option<FoundColumn>, AllocError> {
     let (a, b) = (first(alloc)?, second(alloc)?);
     let (left, right) = (Text::of(alloc, "a")?, Text::of(alloc, "x")?);
     let left = NamedTable {
@@ -178,7 +186,10 @@ fn conditions_are_resolved(rt: HostRuntime) -> Result<(), Fail> {
     assert_eq!(rt; fault(alloc, "DELETE FROM a WHERE t = 1")?, 14);
     assert_eq!(rt; fault(alloc, "DELETE FROM a WHERE v = 1")?, 9);
     assert_eq!(rt; fault(alloc, "DELETE FROM a WHERE id = :v")?, 19);
-    assert_eq!(rt; fault(alloc, "DELETE FROM a WHERE id = :v AND id = 'x'")?, 14);
+    assert_eq!(rt;
+        fault(alloc, "DELETE FROM a WHERE id = :v AND id = 'x'")?,
+        14
+    );
     assert_eq!(rt; fault(alloc, "DELETE FROM a WHERE id")?, 14);
     assert_eq!(rt; fault(alloc, "DELETE FROM a WHERE NULL OR NOT NULL")?, 0);
     Ok(())
@@ -220,6 +231,90 @@ fn least_fault_is_noted(rt: HostRuntime) -> Result<(), Fail> {
     assert_eq!(rt; notes.param(Class::Int)?, 0);
     assert_eq!(rt; notes.param(Class::Text)?, 1);
     assert_eq!(rt; CheckFault::NotDistributable.code(), 15);
+    Ok(())
+}
+
+/// A program with the parameter `n`, the variable `s`, the result `r (c, d)`, and in a FOR over it one
+/// over no result, whose row has the same name.
+fn program(alloc: Global) -> Result<Bound, AllocError> {
+    let mut variables = Items::new(alloc);
+    variables.push((Text::of(alloc, "n")?, Class::Int))?;
+    variables.push((Text::of(alloc, "s")?, Class::Text))?;
+    let mut heads = Items::new(alloc);
+    heads.push((Text::of(alloc, "c")?, Class::Int))?;
+    heads.push((Text::of(alloc, "d")?, Class::Text))?;
+    let mut results = Items::new(alloc);
+    results.push((Text::of(alloc, "r")?, heads))?;
+    let mut rows = Items::new(alloc);
+    rows.push((Text::of(alloc, "x")?, None))?;
+    rows.push((Text::of(alloc, "X")?, Some(0)))?;
+    Ok(Bound {
+        variables,
+        results,
+        rows,
+    })
+}
+
+#[test]
+fn values_of_a_program_are_taken(rt: HostRuntime) -> Result<(), Fail> {
+    let alloc = rt.alloc();
+    let program = program(alloc)?;
+    assert_eq!(rt; program.variable_named(&Text::of(alloc, "S")?), Some(1));
+    assert_eq!(rt; program.result_named(&Text::of(alloc, "R")?), Some(0));
+    assert_eq!(rt; program.result_named(&Text::of(alloc, "n")?), None);
+    let names = Names::none().in_program(Some(&program));
+    let mut notes = Notes::new(alloc);
+    let e = filter(
+        alloc,
+        "DELETE FROM a WHERE :n + FIRST(r.c) > ROWS(r) AND :x.d = :s",
+    )?;
+    let _made = condition(alloc, &names, &mut notes, &e)?;
+    assert!(rt; notes.fault.is_none());
+    let classes = [Class::Int, Class::Int, Class::Int, Class::Text, Class::Text];
+    assert!(rt; notes.params.as_slice() == classes.as_slice());
+    let args = [
+        ProgramValue::Variable(0),
+        ProgramValue::First {
+            result: 0,
+            column: 0,
+        },
+        ProgramValue::Rows(0),
+        ProgramValue::Column { row: 1, column: 1 },
+        ProgramValue::Variable(1),
+    ];
+    assert!(rt; notes.args.as_slice() == args.as_slice());
+    let heads = program.variables.as_slice();
+    assert_eq!(rt; head_place(heads, &Text::of(alloc, "s")?), Some(1));
+    assert!(rt; head_named(heads, &Text::of(alloc, "N")?) == Some((0, Class::Int)));
+    Ok(())
+}
+
+#[test]
+fn names_of_a_program_are_refused(rt: HostRuntime) -> Result<(), Fail> {
+    let alloc = rt.alloc();
+    let program = program(alloc)?;
+    let names = Names::none().in_program(Some(&program));
+    assert!(rt; names.has_program() && !Names::none().has_program());
+    let mut notes = Notes::new(alloc);
+    let none = names.variable(&Text::of(alloc, "r")?);
+    assert!(rt; none == Given::Unbound);
+    assert!(rt; taken(&mut notes, none, Class::Text)?.is_none());
+    assert!(rt; notes.fault == Some(CheckFault::UnboundName));
+    let value = names.variable(&Text::of(alloc, "s")?);
+    assert_eq!(rt; taken(&mut notes, value, Class::Text)?, Some(0));
+    assert!(rt; notes.fault == Some(CheckFault::UnboundName));
+    assert_eq!(rt; taken(&mut notes, value, Class::Int)?, Some(1));
+    assert!(rt; notes.fault == Some(CheckFault::TypeMismatch));
+    assert!(rt; taken(&mut notes, Given::NoColumn, Class::Int)?.is_none());
+    assert!(rt; notes.fault == Some(CheckFault::NoSuchName));
+    let mut notes = Notes::new(alloc);
+    assert!(rt; question(&names, &mut notes, Class::Int)?.is_none());
+    assert!(rt; notes.fault == Some(CheckFault::UnboundName));
+    assert_eq!(rt; question(&Names::none(), &mut notes, Class::Int)?, Some(0));
+    let e = filter(alloc, "DELETE FROM a WHERE :u = 'x' AND :x.e = 1")?;
+    let mut notes = Notes::new(alloc);
+    let _made = condition(alloc, &names, &mut notes, &e)?;
+    assert!(rt; notes.fault == Some(CheckFault::NoSuchName));
     Ok(())
 }
 
