@@ -1,5 +1,5 @@
 -- Which joins of two partitioned tables each partition can make by itself.
-use Rattle.std.specs.Prelude.{ℕ, ◌+◌, Bool, true, false, ◌&&◌, ◌||◌, ◌==◌, if◌then◌else◌, List, [], ◌∷◌, ◌++◌, flat_map, map, Option, Some, None}
+use Rattle.std.specs.Prelude.{ℕ, Bool, true, false, ◌&&◌, ◌||◌, ◌==◌, if◌then◌else◌, List, [], ◌∷◌}
 use Rattle.std.specs.List.{list_all}
 use Rattle.expr_parse.specs.declared.expression.Comparison.{Comparison}
 use Rattle.expr_parse.specs.declared.expression.Comparison.TheVariants as compare

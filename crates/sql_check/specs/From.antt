@@ -1,5 +1,5 @@
 -- The tables of a FROM.
-use Rattle.std.specs.Prelude.{ℕ, ◌+◌, Bool, ◌||◌, if◌then◌else◌, List, is_some, Option, Some, None}
+use Rattle.std.specs.Prelude.{ℕ, Bool, ◌||◌, if◌then◌else◌, List, is_some, Option, Some, None}
 use Rattle.volt_catalog.specs.declared.table.Table.{Table}
 use Rattle.volt_catalog.specs.Names.{same_name}
 use Rattle.volt_catalog.specs.Rules.{Contents}

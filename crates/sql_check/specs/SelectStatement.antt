@@ -1,10 +1,7 @@
 -- What a SELECT is checked to be.
-use Rattle.std.specs.Prelude.{ℕ, ◌+◌, Bool, true, false, ◌==◌, ◌||◌, not, if◌then◌else◌, List, [], ◌∷◌, ◌++◌, length, map, Option, Some, None, Result, Ok, Err}
+use Rattle.std.specs.Prelude.{ℕ, ◌+◌, Bool, true, false, ◌==◌, ◌||◌, not, if◌then◌else◌, List, [], ◌++◌, length, map, Option, Some, None}
 use Rattle.std.specs.List.{list_any, range_with_len}
 use Rattle.volt_catalog.specs.Rules.{Contents}
-use Rattle.volt_catalog.specs.declared.column.Column.{Column}
-use Rattle.expr_parse.specs.declared.expression.ColumnName.{ColumnName}
-use Rattle.expr_parse.specs.declared.expression.Expr.{Expr}
 use Rattle.sql_parse.specs.declared.statement.Output.{Output}
 use Rattle.sql_parse.specs.declared.statement.Outputs.{Outputs}
 use Rattle.sql_parse.specs.declared.statement.Outputs.TheVariants.{All, Listed}
@@ -26,7 +23,7 @@ use Rattle.sql_resolve.specs.declared.notes.Notes.{Notes}
 use Rattle.sql_check.specs.Distribution.{tell_parts}
 use Rattle.sql_resolve.specs.Expressions.{with}
 use Rattle.sql_check.specs.From.{FromTable, FromTables, from_tables, tables_from, part_in, names_partitioned, on_of}
-use Rattle.sql_resolve.specs.Named.{Named, Tables, columns_of, key_of, in_program}
+use Rattle.sql_resolve.specs.Named.{Tables, columns_of, key_of, in_program}
 use Rattle.sql_resolve.specs.Names.{width}
 use Rattle.sql_resolve.specs.Notes.{nothing, blamed}
 use Rattle.sql_check.specs.Selects.{Heads, heads_from, heads_of_columns, row_outputs, group_columns, group_outputs, no_outputs, is_aggregate, ordered, ascending, limited_to}

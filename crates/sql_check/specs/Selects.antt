@@ -1,11 +1,9 @@
 -- SELECT.
-use Rattle.std.specs.Prelude.{ℕ, ◌+◌, Bool, true, false, ◌==◌, ◌||◌, if◌then◌else◌, List, [], ◌∷◌, ◌++◌, length, map, position, decimal, codes, is_some, Option, Some, None, option_map}
-use Rattle.std.specs.List.{list_any, range_with_len}
+use Rattle.std.specs.Prelude.{ℕ, ◌+◌, Bool, true, false, ◌==◌, List, [], ◌∷◌, ◌++◌, length, map, position, decimal, codes, is_some, Option, Some, None}
 use Rattle.volt_value.specs.declared.column.Class.{Class}
 use Rattle.volt_value.specs.declared.column.Class.TheVariants as class
 use Rattle.volt_value.specs.Columns.{class_of}
 use Rattle.volt_catalog.specs.declared.column.Column.{Column}
-use Rattle.volt_catalog.specs.declared.table.Table.{Table}
 use Rattle.volt_catalog.specs.Names.{same_name}
 use Rattle.expr_parse.specs.declared.expression.ColumnName.{ColumnName}
 use Rattle.expr_parse.specs.declared.expression.Expr.{Expr, fold-Expr}
@@ -22,7 +20,6 @@ use Rattle.sql_plan.specs.declared.expression.Scalar.{Scalar}
 use Rattle.sql_plan.specs.declared.expression.Scalar.TheVariants as s
 use Rattle.sql_plan.specs.declared.select.Aggregated.{Aggregated}
 use Rattle.sql_plan.specs.declared.select.Aggregated.TheVariants as agg
-use Rattle.sql_plan.specs.declared.select.GroupOutput.{GroupOutput}
 use Rattle.sql_plan.specs.declared.select.GroupOutput.TheVariants as given
 use Rattle.sql_plan.specs.declared.select.Order.{Order}
 use Rattle.sql_plan.specs.declared.select.OrderBy.{OrderBy}
@@ -34,7 +31,7 @@ use Rattle.sql_resolve.specs.declared.names.FoundColumn.{FoundColumn}
 use Rattle.sql_resolve.specs.declared.notes.Notes.{Notes}
 use Rattle.sql_check.specs.declared.groups.Grouping.{Grouping}
 use Rattle.sql_resolve.specs.Named.{Named, Tables}
-use Rattle.sql_resolve.specs.Names.{column_of, width, variable_in}
+use Rattle.sql_resolve.specs.Names.{column_of, variable_in}
 use Rattle.sql_resolve.specs.Notes.{blamed}
 use Rattle.sql_resolve.specs.Expressions.{with, question, taken, scalar_in, alone_in, noted_alone, own_class, meaning_of, sort_of}
 

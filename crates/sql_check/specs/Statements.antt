@@ -1,21 +1,18 @@
 -- What statements are checked to be.
-use Rattle.std.specs.Prelude.{◌≡◌, ℕ, Bool, true, false, ◌||◌, nat_lt, if◌then◌else◌, List, [], ◌∷◌, length, codes, is_some, Option, Some, None, Result, Ok, Err}
+use Rattle.std.specs.Prelude.{ℕ, Bool, if◌then◌else◌, List, [], ◌∷◌, length, codes, is_some, Option, Some, None}
 use Rattle.volt_value.specs.declared.column.Class.{Class}
 use Rattle.volt_value.specs.declared.column.Class.TheVariants as class
 use Rattle.volt_catalog.specs.declared.table.Table.{Table}
 use Rattle.volt_catalog.specs.Rules.{Contents}
-use Rattle.sql_parse.specs.declared.statement.Stmt.{Stmt}
-use Rattle.sql_parse.specs.declared.statement.Stmt.TheVariants as stmt
 use Rattle.sql_parse.specs.declared.statement.Insert.{Insert}
 use Rattle.sql_parse.specs.declared.statement.Update.{Update}
 use Rattle.sql_parse.specs.declared.statement.Delete.{Delete}
 use Rattle.sql_plan.specs.declared.prepared.Action.{Action}
-use Rattle.sql_plan.specs.declared.prepared.Prepared.{Prepared}
 use Rattle.sql_plan.specs.declared.prepared.Scope.{Scope}
 use Rattle.sql_plan.specs.declared.prepared.Scope.TheVariants.{OnePartition, AllPartitions, Replicated}
 use Rattle.sql_resolve.specs.declared.bound.Bound.{Bound}
 use Rattle.sql_resolve.specs.declared.notes.Notes.{Notes}
-use Rattle.sql_resolve.specs.Named.{Tables, no_tables, tables, named, in_program}
+use Rattle.sql_resolve.specs.Named.{no_tables, tables, named, in_program}
 use Rattle.sql_resolve.specs.Notes.{nothing, limited, most_questions}
 use Rattle.sql_resolve.specs.Tables.{table_named}
 use Rattle.sql_check.specs.declared.examined.Examined.{Examined}

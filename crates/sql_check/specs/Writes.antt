@@ -1,12 +1,10 @@
 -- Statements that change a table.
-use Rattle.std.specs.Prelude.{ℕ, ◌+◌, Bool, true, false, not, ◌==◌, nat_lt, if◌then◌else◌, List, [], ◌∷◌, ◌++◌, length, map, slice_get, slice_set, drop, codes, Option, Some, None, Result, Ok, Err}
+use Rattle.std.specs.Prelude.{ℕ, ◌==◌, if◌then◌else◌, List, [], ◌∷◌, ◌++◌, length, map, slice_get, slice_set, drop, Option, Some, None}
 use Rattle.std.specs.List.{range_with_len}
 use Rattle.volt_value.specs.declared.value.Value.TheVariants as v
-use Rattle.volt_value.specs.declared.column.Class.{Class}
 use Rattle.volt_value.specs.declared.column.Class.TheVariants as class
 use Rattle.volt_catalog.specs.declared.column.Column.{Column}
 use Rattle.volt_catalog.specs.declared.table.Table.{Table}
-use Rattle.volt_catalog.specs.Rules.{Contents}
 use Rattle.expr_parse.specs.declared.expression.Expr.{Expr}
 use Rattle.sql_parse.specs.declared.statement.Insert.{Insert}
 use Rattle.sql_parse.specs.declared.statement.Update.{Update}
@@ -23,7 +21,7 @@ use Rattle.sql_resolve.specs.declared.notes.Notes.{Notes}
 use Rattle.sql_check.specs.declared.writes.NewRow.{NewRow}
 use Rattle.sql_resolve.specs.Named.{Tables}
 use Rattle.sql_resolve.specs.Notes.{blamed}
-use Rattle.sql_resolve.specs.Expressions.{Meaning, with, scalar_in, cond_in, meaning_of}
+use Rattle.sql_resolve.specs.Expressions.{with, scalar_in, cond_in, meaning_of}
 use Rattle.sql_resolve.specs.Tables.{class_at}
 use Rattle.sql_check.specs.Columns.{place_of, is_among, columns_to, numbers_to}
 

@@ -2,7 +2,7 @@
 use Rattle.std.proofs.Common.{◌≡◌, refl, List, [], ◌∷◌, ◌++◌}
 use Rattle.sql_resolve.specs.declared.names.FoundColumn.{FoundColumn}
 use Rattle.sql_resolve.specs.declared.names.Fitting.{Fitting}
-use Rattle.sql_resolve.specs.declared.names.Fitting.TheVariants.{Nothing, One, Several}
+use Rattle.sql_resolve.specs.declared.names.Fitting.TheVariants.{Nothing, Several}
 use Rattle.sql_resolve.specs.Names.{with_fitting, with_all, only, found_in}
 
 pub with_all_append : (found : Fitting) (xs ys : List FoundColumn) → with_all (with_all found xs) ys ≡ with_all found (xs ++ ys)

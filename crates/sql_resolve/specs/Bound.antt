@@ -3,7 +3,6 @@ use Rattle.std.specs.Prelude.{ℕ, ◌+◌, if◌then◌else◌, List, [], ◌�
 use Rattle.volt_value.specs.declared.column.Class.{Class}
 use Rattle.volt_value.specs.declared.column.Class.TheVariants as class
 use Rattle.volt_catalog.specs.Names.{same_name}
-use Rattle.sql_plan.specs.declared.program.ProgramValue.{ProgramValue}
 use Rattle.sql_plan.specs.declared.program.ProgramValue.TheVariants as value
 use Rattle.sql_resolve.specs.declared.bound.Bound.{Bound}
 use Rattle.sql_resolve.specs.declared.bound.Given.{Given}

@@ -7,7 +7,6 @@ use Rattle.volt_value.specs.declared.column.Class.TheVariants as class
 use Rattle.expr_parse.specs.declared.expression.Arithmetic.{Arithmetic}
 use Rattle.expr_parse.specs.declared.expression.Arithmetic.TheVariants as op
 use Rattle.expr_parse.specs.declared.expression.Comparison.{Comparison}
-use Rattle.expr_parse.specs.declared.expression.ColumnName.{ColumnName}
 use Rattle.expr_parse.specs.declared.expression.Expr.{Expr, fold-Expr}
 use Rattle.expr_parse.specs.declared.expression.Expr.TheOpen.{Expr-F as e}
 use Rattle.sql_plan.specs.declared.expression.Scalar.{Scalar}

@@ -1,6 +1,5 @@
 -- What the names of columns stand for.
 use Rattle.std.specs.Prelude.{ℕ, ◌+◌, Bool, true, if◌then◌else◌, List, [], ◌∷◌, ◌++◌, length, Option, Some, None}
-use Rattle.volt_value.specs.declared.column.Class.{Class}
 use Rattle.volt_value.specs.Columns.{class_of}
 use Rattle.volt_catalog.specs.declared.column.Column.{Column}
 use Rattle.volt_catalog.specs.Names.{same_name}

@@ -1,6 +1,6 @@
 -- What is found out about a statement on the way through it, from the left: the class of each parameter,
 -- and the fault of the least number. In a program the parameters are the places that take a value of it.
-use Rattle.std.specs.Prelude.{◌≡◌, ℕ, ◌+◌, List, [], ◌∷◌, ◌++◌, length, nat_lt, if◌then◌else◌, Option, Some, None, Result, Ok, Err}
+use Rattle.std.specs.Prelude.{ℕ, ◌+◌, [], ◌∷◌, ◌++◌, length, nat_lt, if◌then◌else◌, Some, None}
 use Rattle.volt_value.specs.declared.column.Class.{Class}
 use Rattle.sql_plan.specs.declared.program.ProgramValue.{ProgramValue}
 use Rattle.volt_value.specs.declared.column.Class.TheVariants as class

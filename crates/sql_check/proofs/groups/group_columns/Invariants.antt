@@ -1,4 +1,4 @@
-use Rattle.std.proofs.Common.{◌≡◌, ◌+◌, ◌-◌, [], ◌++◌, drop, map}
+use Rattle.std.proofs.Common.{◌≡◌, [], drop}
 use Rattle.sql_check.specs.Selects as spec
 use Rattle.sql_check.proofs.groups.group_columns.Given as goal
 

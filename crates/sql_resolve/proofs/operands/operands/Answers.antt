@@ -1,4 +1,4 @@
-use Rattle.std.proofs.Common.{◌≡◌, ◌∙◌, refl, sym, ap, inl, inr, arith}
+use Rattle.std.proofs.Common.{◌∙◌, refl, sym, ap, inl, inr, arith}
 use Rattle.volt_value.specs.declared.column.Class.TheVariants as class
 use Rattle.sql_resolve.specs.Expressions.{meaning_of}
 use Rattle.std.proofs.lemmas.Bool.{both_ways}

@@ -1,7 +1,7 @@
-use Rattle.std.proofs.Common.{◌≡◌, ◌∙◌, sym, ap, arith}
+use Rattle.std.proofs.Common.{◌∙◌, sym, ap, arith}
 use Rattle.expr_parse.specs.declared.expression.Expr.{size-Expr}
 use Rattle.sql_resolve.specs.Expressions.{with, joined_to}
-use Rattle.sql_resolve.specs.Operands.{joined_all, AreBelow}
+use Rattle.sql_resolve.specs.Operands.{joined_all}
 use Rattle.sql_resolve.proofs.OperandLemmas.{joined_all_append, AreBelow_front, AreBelow_last}
 use Rattle.sql_resolve.proofs.resolve.+resolve.Goals as goal
 
