@@ -3,7 +3,7 @@
 ghost use Rattle.std.specs.Prelude.{◌<◌, ◌^◌, length};
 
 use crate::*;
-use sql_parse::{ParseFault, parse_statement};
+use sql_parse::{Stmt, parse_statement};
 use sql_plan::{
     Action, Cond, GroupOutput, Order, OrderBy, Prepared, ProgramValue, RowLimit, Scalar, Scope,
     Shape,
@@ -70,11 +70,19 @@ fn tables(alloc: Global) -> Result<Catalog, Fail> {
     Ok(catalog)
 }
 
-fn prepared(alloc: Global, catalog: &Catalog, text: &str) -> Result<Prepared, Fail>
+/// The tree of a statement.
+fn parsed(alloc: Global, text: &str) -> Result<Stmt, Fail>
     requires { length text.now < 2 ^ 32 }
 {
     let tokens = lex(alloc, text)?;
     let (statement, _) = parse_statement(alloc, text, tokens.as_slice(), 0)?;
+    Ok(statement)
+}
+
+fn prepared(alloc: Global, catalog: &Catalog, text: &str) -> Result<Prepared, Fail>
+    requires { length text.now < 2 ^ 32 }
+{
+    let statement = parsed(alloc, text)?;
     Ok(prepare(alloc, catalog, &statement, false)?)
 }
 
@@ -83,8 +91,7 @@ fn code(alloc: Global, text: &str) -> Result<u8, Fail>
     requires { length text.now < 2 ^ 32 }
 {
     let catalog = tables(alloc)?;
-    let tokens = lex(alloc, text)?;
-    let (statement, _) = parse_statement(alloc, text, tokens.as_slice(), 0)?;
+    let statement = parsed(alloc, text)?;
     match prepare(alloc, &catalog, &statement, false) {
         Ok(_) => Ok(0),
         Err(CheckFault::NoMemory) => Err(Fail::from(CheckFault::NoMemory)),
@@ -407,8 +414,7 @@ fn scope_is_of_the_tables_that_are_named(rt: HostRuntime) -> Result<(), Fail> {
     let plan = prepared(alloc, &catalog, "SELECT y.x FROM r, r AS y")?;
     assert!(rt; plan.scope() == Scope::Replicated);
     let text = "INSERT INTO a VALUES (1, 2, 'x')";
-    let tokens = lex(alloc, text)?;
-    let (statement, _) = parse_statement(alloc, text, tokens.as_slice(), 0)?;
+    let statement = parsed(alloc, text)?;
     let plan = prepare(alloc, &catalog, &statement, true)?;
     assert!(rt; plan.scope() == Scope::OnePartition);
     assert!(rt; plan.writes());
@@ -524,22 +530,27 @@ fn examined(alloc: Global, text: &str) -> Result<Option<Examined>, Fail>
 {
     let catalog = tables(alloc)?;
     let program = program(alloc)?;
-    let tokens = lex(alloc, text)?;
-    let (statement, _) = parse_statement(alloc, text, tokens.as_slice(), 0)?;
+    let statement = parsed(alloc, text)?;
     Ok(examine(alloc, &catalog, Some(&program), &statement, true)?)
 }
 
-/// The number of the least fault of such a statement: 0 without one, 9 where a table isn't there.
+/// The number of the least fault: 0 without one, 9 where a table isn't there.
+fn least_of(found: &Option<Examined>) -> u8 {
+    match found {
+        Some(found) => match found.fault {
+            Some(fault) => fault.code(),
+            None => 0,
+        },
+        None => 9,
+    }
+}
+
+/// The number of the least fault of such a statement.
 fn code_in_program(alloc: Global, text: &str) -> Result<u8, Fail>
     requires { length text.now < 2 ^ 32 }
 {
-    match examined(alloc, text)? {
-        Some(found) => match found.fault {
-            Some(fault) => Ok(fault.code()),
-            None => Ok(0),
-        },
-        None => Ok(9),
-    }
+    let found = examined(alloc, text)?;
+    Ok(least_of(&found))
 }
 
 #[test]
