@@ -79,11 +79,17 @@ fn parsed(alloc: Global, text: &str) -> Result<Stmt, Fail>
     Ok(statement)
 }
 
+/// The plan of a statement's tree.
+fn plan_of(alloc: Global, catalog: &Catalog, statement: &Stmt) -> Result<Prepared, Fail> {
+    prepare(alloc, catalog, statement, false).map_err(Fail::from)
+}
+
+/// The plan of a statement.
 fn prepared(alloc: Global, catalog: &Catalog, text: &str) -> Result<Prepared, Fail>
     requires { length text.now < 2 ^ 32 }
 {
     let statement = parsed(alloc, text)?;
-    Ok(prepare(alloc, catalog, &statement, false)?)
+    plan_of(alloc, catalog, &statement)
 }
 
 /// The number of the fault for which a statement is refused: 0 where it is accepted.
@@ -528,10 +534,16 @@ fn program(alloc: Global) -> Result<Bound, AllocError> {
 fn examined(alloc: Global, text: &str) -> Result<Option<Examined>, Fail>
     requires { length text.now < 2 ^ 32 }
 {
+    let statement = parsed(alloc, text)?;
+    examined_of(alloc, &statement)
+}
+
+/// The same of its tree.
+fn examined_of(alloc: Global, statement: &Stmt) -> Result<Option<Examined>, Fail> {
     let catalog = tables(alloc)?;
     let program = program(alloc)?;
-    let statement = parsed(alloc, text)?;
-    Ok(examine(alloc, &catalog, Some(&program), &statement, true)?)
+    let found = examine(alloc, &catalog, Some(&program), statement, true);
+    found.map_err(Fail::from)
 }
 
 /// The number of the least fault: 0 without one, 9 where a table isn't there.

@@ -1,9 +1,9 @@
 //! What names and expressions stand for, each public call on its happy path.
 
-ghost use Rattle.std.specs.Prelude.{◌<◌, ◌^◌, length};
+ghost use Rattle.std.specs.Prelude.{◌<◌, ◌^◌, ◌≡◌, IfOk, None, length};
 
 use crate::*;
-use sql_parse::{Arithmetic, ColumnName, Expr, Stmt, parse_statement};
+use sql_parse::{Arithmetic, ColumnName, Delete, Expr, Stmt, parse_statement};
 use sql_plan::{Cond, ProgramValue, Scalar};
 use sqlite_items::{Boxed, Items};
 use std::alloc::{AllocError, Global};
@@ -13,7 +13,10 @@ use volt_catalog::{Catalog, Column, ColumnNos, Columns, Table};
 use volt_text::lex;
 use volt_value::{Class, ColType, Text};
 
-fn table(alloc: Global, name: &str, columns: &[(&str, ColType)]) -> Result<Table, AllocError> {
+/// A table that isn't partitioned, with its first column as key.
+fn table(alloc: Global, name: &str, columns: &[(&str, ColType)]) -> Result<Table, AllocError>
+    ensures { IfOk result (λ table. table.part ≡ None) }
+{
     let mut made = Vec::new(alloc);
     for (name, kind) in columns {
         made.push(Column {
@@ -31,7 +34,9 @@ fn table(alloc: Global, name: &str, columns: &[(&str, ColType)]) -> Result<Table
 }
 
 /// `a (id BIGINT, t VARCHAR)`.
-fn first(alloc: Global) -> Result<Table, AllocError> {
+fn first(alloc: Global) -> Result<Table, AllocError>
+    ensures { IfOk result (λ table. table.part ≡ None) }
+{
     table(
         alloc,
         "a",
@@ -40,22 +45,43 @@ fn first(alloc: Global) -> Result<Table, AllocError> {
 }
 
 /// `b (id BIGINT, v SMALLINT)`.
-fn second(alloc: Global) -> Result<Table, AllocError> {
+fn second(alloc: Global) -> Result<Table, AllocError>
+    ensures { IfOk result (λ table. table.part ≡ None) }
+{
     table(alloc, "b", &[("id", ColType::Big), ("v", ColType::Small)])
+}
+
+/// The tree of a statement.
+fn parsed(alloc: Global, text: &str) -> Result<Stmt, Fail>
+    requires { length text.now < 2 ^ 32 }
+{
+    let tokens = lex(alloc, text)?;
+    let (statement, _) = parse_statement(alloc, text, tokens.as_slice(), 0)?;
+    Ok(statement)
+}
+
+fn filter_of(delete: Delete) -> Option<Expr> {
+    let Delete {
+        table: _table,
+        filter,
+    } = delete;
+    filter
+}
+
+fn filter_in(statement: Stmt) -> Option<Expr> {
+    match statement {
+        Stmt::Delete(delete) => filter_of(delete),
+        _ => None,
+    }
 }
 
 /// The condition of a DELETE.
 fn filter(alloc: Global, text: &str) -> Result<Expr, Fail>
     requires { length text.now < 2 ^ 32 }
 {
-    let tokens = lex(alloc, text)?;
-    let (statement, _) = parse_statement(alloc, text, tokens.as_slice(), 0)?;
-    match statement {
-        Stmt::Delete(delete) => match delete.filter {
-            Some(e) => Ok(e),
-            None => Err(Fail::from(CheckFault::NoMemory)),
-        },
-        _ => Err(Fail::from(CheckFault::NoMemory)),
+    match filter_in(parsed(alloc, text)?) {
+        Some(e) => Ok(e),
+        None => Err(Fail::from(CheckFault::NoMemory)),
     }
 }
 
@@ -256,19 +282,33 @@ fn program(alloc: Global) -> Result<Bound, AllocError> {
 }
 
 #[test]
-fn values_of_a_program_are_taken(rt: HostRuntime) -> Result<(), Fail> {
+fn names_of_a_program_are_found(rt: HostRuntime) -> Result<(), Fail> {
     let alloc = rt.alloc();
     let program = program(alloc)?;
     assert_eq!(rt; program.variable_named(&Text::of(alloc, "S")?), Some(1));
     assert_eq!(rt; program.result_named(&Text::of(alloc, "R")?), Some(0));
     assert_eq!(rt; program.result_named(&Text::of(alloc, "n")?), None);
+    let heads = program.variables.as_slice();
+    assert_eq!(rt; head_place(heads, &Text::of(alloc, "s")?), Some(1));
+    assert!(rt; head_named(heads, &Text::of(alloc, "N")?) == Some((0, Class::Int)));
+    Ok(())
+}
+
+/// What is found out about a condition in such a program.
+fn notes_of(alloc: Global, e: &Expr) -> Result<Notes, AllocError> {
+    let program = program(alloc)?;
     let names = Names::none().in_program(Some(&program));
     let mut notes = Notes::new(alloc);
-    let e = filter(
-        alloc,
-        "DELETE FROM a WHERE :n + FIRST(r.c) > ROWS(r) AND :x.d = :s",
-    )?;
-    let _made = condition(alloc, &names, &mut notes, &e)?;
+    let _made = condition(alloc, &names, &mut notes, e)?;
+    Ok(notes)
+}
+
+#[test]
+fn values_of_a_program_are_taken(rt: HostRuntime) -> Result<(), Fail> {
+    let alloc = rt.alloc();
+    let text = "DELETE FROM a WHERE :n + FIRST(r.c) > ROWS(r) AND :x.d = :s";
+    let e = filter(alloc, text)?;
+    let notes = notes_of(alloc, &e)?;
     assert!(rt; notes.fault.is_none());
     let classes = [Class::Int, Class::Int, Class::Int, Class::Text, Class::Text];
     assert!(rt; notes.params.as_slice() == classes.as_slice());
@@ -283,9 +323,6 @@ fn values_of_a_program_are_taken(rt: HostRuntime) -> Result<(), Fail> {
         ProgramValue::Variable(1),
     ];
     assert!(rt; notes.args.as_slice() == args.as_slice());
-    let heads = program.variables.as_slice();
-    assert_eq!(rt; head_place(heads, &Text::of(alloc, "s")?), Some(1));
-    assert!(rt; head_named(heads, &Text::of(alloc, "N")?) == Some((0, Class::Int)));
     Ok(())
 }
 
